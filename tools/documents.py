@@ -25,7 +25,7 @@ PLACEHOLDER = re.compile(r"rattle-kit-|std/|.*\.\.|.*-[A-Z]+$|.*(NAME|SCRIPT|FIL
 WORD = re.compile(r"[A-Za-z_]\w*(?:[-'][\w]+)*'*")
 SPAN = re.compile(r"(?<!`)`([^`\n]+)`(?!`)")
 LINK = re.compile(r"\[[^\]\n]*\]\(([^)\s]+)\)")
-FILE = re.compile(r"[\w./*{},-]*[\w*]\.(?:rt|antt|md|py|sh|dscli|out|status|edit|txt)")
+FILE = re.compile(r"[\w./*{},-]*[\w*]\.(?:rt|antt|md|py|sh|dscli|out|status|words|edit|txt)")
 
 
 def paths(patterns):

@@ -22,7 +22,8 @@ def answers_of(name):
             answers = {}
             for line in path.read_text().splitlines():
                 number, _, answer = line.partition(" ")
-                answers.setdefault(int(number), []).append(answer)
+                if number.isdigit():  # the lines of an image have no number
+                    answers.setdefault(int(number), []).append(answer)
             return answers, (folder / f"{name}.dscli").read_text().split("\n")
     return None, None
 

@@ -1,5 +1,6 @@
 pub mod Costs
 pub mod Ends
+pub mod ImageLengths
 pub mod Issued
 pub mod Lists
 pub mod Options

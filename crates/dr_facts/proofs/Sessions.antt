@@ -1,7 +1,11 @@
--- A session that is found in the table, and the table where no server went off.
-use Rattle.std.proofs.Common.{◌≡◌, refl, Option, Some, None, ℕ, true, false, cond, List, [], ◌∷◌, sym, ◌∙◌, ap, ◌==◌, Bool, not, ◌&&◌, nat_lt, filter, option_map}
+-- A session that is found in the table, the table where no server went off, and how long the table is.
+use Rattle.std.proofs.Common.{◌≡◌, refl, Option, Some, None, ℕ, true, false, cond, List, [], ◌∷◌, sym, ◌∙◌, ap, ◌==◌, Bool, not, ◌&&◌, nat_lt, nat_le, filter, option_map, ◌++◌, ◌≤◌, ◌<◌, ◌+◌, length, arith}
+use Rattle.std.proofs.lemmas.List.{length-append}
+use Rattle.std.proofs.lemmas.Bool.Decides.{nat_tests}
+use Rattle.dr_ids.specs.declared.refusal.Refusal.TheVariants.{Limit}
+use Rattle.dr_ids.specs.declared.refusal.Which.TheVariants as limit
 use Rattle.std.proofs.lemmas.Bool.{eqb-true}
-use Rattle.dr_model.specs.Sessions.{Session, Mirror, in_session, session_in, all_low, mirror_lost_since, lost_since}
+use Rattle.dr_model.specs.Sessions.{Session, Mirror, in_session, session_in, all_low, mirror_lost_since, lost_since, changed, without_session, is_only, left_by, leaves, left, joined_by, new_session, joins, joined, join_refusal}
 use Rattle.dr_model.specs.Phases as phases
 use Rattle.dr_ids.specs.declared.names.Member.{Member}
 use Rattle.dr_facts.proofs.Lists.{from-filter, all-each, each-all}
@@ -38,3 +42,51 @@ lost-none on (x ∷ ss) = λ i. record x { mirror = mirrors x.mirror i } ∷ los
     mirrors : (o : Option Mirror) → option_map (mirror_lost_since on on) o ≡ o
     mirrors None = refl
     mirrors (Some r) = ap (λ q. Some q) (same-mirror r)
+
+-- ---- how many sessions there are
+
+pub length-changed : (s : ℕ) (f : Session → Session) (ss : List Session) → length (changed s f ss) ≤ length ss
+unfolding changed
+length-changed s f [] = omega arith
+length-changed s f (x ∷ ss) = by (x.number == s) (length-changed s f ss)
+  where
+    by : (b : Bool) → length (changed s f ss) ≤ length ss → length (cond b (f x ∷ ss) (x ∷ changed s f ss)) ≤ length (x ∷ ss)
+    by true le = omega arith
+    by false le = omega arith
+
+pub changed-twice : (s : ℕ) (f g : Session → Session) (ss : List Session) → length (changed s f (changed s g ss)) ≤ length ss
+changed-twice s f g ss =
+    let one : length (changed s g ss) ≤ length ss = length-changed s g ss in
+    let two : length (changed s f (changed s g ss)) ≤ length (changed s g ss) = length-changed s f (changed s g ss) in omega arith
+
+without-fewer : (s : ℕ) (ss : List Session) → length (without_session s ss) ≤ length ss
+unfolding without_session
+without-fewer s [] = omega arith
+without-fewer s (x ∷ ss) = by (x.number == s) (without-fewer s ss)
+  where
+    by : (b : Bool) → length (without_session s ss) ≤ length ss → length (cond b ss (x ∷ without_session s ss)) ≤ length (x ∷ ss)
+    by true le = omega arith
+    by false le = omega arith
+
+pub length-left : (ss : List Session) (s l : ℕ) → length (left s l ss) ≤ length ss
+length-left ss s l = by (session_in ss s)
+  where
+    by : (o : Option Session) → length (leaves o s l ss) ≤ length ss
+    by None = omega arith
+    by (Some x) = only (is_only l x)
+      where
+        only : (b : Bool) → length (cond b (without_session s ss) (changed s (left_by l) ss)) ≤ length ss
+        only true = without-fewer s ss
+        only false = length-changed s (left_by l) ss
+
+-- a session is made only where there are fewer than four
+pub joined-few : (ss : List Session) (s l : ℕ) → length ss ≤ 4 → join_refusal (session_in ss s) l ss ≡ None → length (joined s l ss) ≤ 4
+joined-few ss s l le free = by (session_in ss s) free
+  where
+    new : (b : Bool) → nat_le 4 (length ss) ≡ b → cond b (Some (Limit limit.Sessions)) None ≡ None → length ss < 4
+    new true is none = absurd cc
+    new false is none = grind (arith, nat_tests, is)
+
+    by : (o : Option Session) → join_refusal o l ss ≡ None → length (joins o s l ss) ≤ 4
+    by None none = let lt : length ss < 4 = new (nat_le 4 (length ss)) refl none in let e : length (ss ++ new_session s l ∷ []) ≡ length ss + 1 = length-append ss (new_session s l ∷ []) in omega arith
+    by (Some x) none = let few : length (changed s (joined_by l) ss) ≤ length ss = length-changed s (joined_by l) ss in omega arith

@@ -1,15 +1,14 @@
 -- Sets of tracks, and choices.
 use Rattle.std.proofs.Common.{ℕ, ◌≡◌, ◌≢◌, ◌<◌, ◌+◌, zero, suc, inl, inr, refl, ap, sym, ◌∙◌, Bool, true, false, cond, not, ◌&&◌, ◌||◌, nat_eq, arith, rules, Option, Some, None, subst}
 use Rattle.std.proofs.lemmas.Bool.Decides.{nat_tests, eqb_tells}
-use Rattle.std.proofs.lemmas.Bool.{or_cases, or_parts, not-true, and_parts, eqb-true}
+use Rattle.std.proofs.lemmas.Bool.{or_cases, or_parts, and_parts}
 use Rattle.std.specs.Ordering.{nat_cmp}
 use Rattle.std.specs.List.{range_with_len, list_any}
 use Rattle.std.specs.Cmp.{unsigned_tied, nat_cmp_total}
-use Rattle.std.specs.FinSet.{union, contains-union, difference, contains, insert, remove, empty, empty_of_len, members, is_subset-contains, contains-from_list_nat, contains-difference}
+use Rattle.std.specs.FinSet.{union, contains-union, difference, contains, insert, remove, empty, members, is_subset-contains, contains-from_list_nat, contains-difference}
 use Rattle.dr_model.specs.Layout.{Tracks}
-use Rattle.dr_model.specs.Relations.{all_tracks, is_whole, rest, is_bare}
+use Rattle.dr_model.specs.Relations.{all_tracks, is_whole, rest}
 use Rattle.dr_logic.proofs.Sets.{in_difference}
-use Rattle.dr_facts.proofs.Tracks.{empty_has}
 
 pub none_from : (o : Option ℕ) → ((s : ℕ) → o ≡ Some s → ⊥) → o ≡ None
 none_from None h = refl

@@ -1,5 +1,5 @@
 -- Texts without their zeros at the end, and lines with their ends.
-use Rattle.std.proofs.Common.{◌≡◌, ◌+◌, ℕ, List, [], ◌∷◌, ◌++◌, refl, ap, false, ◌∙◌, nat_eq, sym, append_assoc}
+use Rattle.std.proofs.Common.{◌≡◌, ℕ, List, [], ◌∷◌, ◌++◌, refl, ap, false, ◌∙◌, nat_eq, sym, append_assoc}
 use Rattle.std.specs.Prelude.{if◌then◌else◌}
 use Rattle.dr_model.specs.Text.{trimmed, before_trimmed}
 use Rattle.dr_model.specs.PlantImage.{ended}

@@ -1,5 +1,5 @@
 -- The words of an image's lines have neither spaces nor line feeds.
-use Rattle.std.proofs.Common.{ℕ, ◌≡◌, ◌<◌, ◌/◌, ◌%◌, ◌^◌, List, [], ◌∷◌, ◌++◌, map, refl, ap, ◌∙◌, sym, arith, Bool, true, false, not, nat_lt, append-nil}
+use Rattle.std.proofs.Common.{ℕ, ◌≡◌, ◌<◌, ◌/◌, ◌%◌, ◌^◌, List, [], ◌∷◌, ◌++◌, map, refl, ap, ◌∙◌, arith, true, false, not, nat_lt, append-nil}
 use Rattle.std.specs.Prelude.{All, codes}
 use Rattle.std.specs.Fmt.{decimal}
 use Rattle.std.specs.Char.{digit_value}
@@ -14,7 +14,7 @@ use Rattle.std.proofs.lemmas.Bool.{not-true}
 use Rattle.dr_ids.specs.Spelling.{upper_digit, hex2, hex4}
 use Rattle.dr_model.specs.LineText.{bytes_text, spaced}
 use Rattle.dr_model.specs.Text.{trimmed}
-use Rattle.dr_model.specs.Lines.{is_space, words}
+use Rattle.dr_model.specs.PlantImage.{is_space, words}
 use Rattle.dr_model.specs.PlantImage.{Kept, Volume, IsKept, is_line_feed, volume_line, block_line, block_lines, image_lines}
 use Rattle.dr_image.specs.Sound.{IsSoundImage, IsSoundVolume}
 use Rattle.dr_image.proofs.StepLaws.{all_from_test}

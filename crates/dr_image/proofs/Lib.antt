@@ -18,6 +18,7 @@
 --   argument.
 -- - `sum_by` doesn't compute on a list's first element: a recursion of your own does.
 pub mod OrderLemmas
+pub mod PlaceLemmas
 pub mod HeldLemmas
 pub mod SpaceLemmas
 pub mod ResultLemmas

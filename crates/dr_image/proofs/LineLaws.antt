@@ -5,7 +5,6 @@ use Rattle.std.specs.Fmt.{decimal}
 use Rattle.std.specs.List.{slice_get, join_with_byte}
 use Rattle.std.specs.Str.{bytes_eq}
 use Rattle.std.proofs.lemmas.Bool.Decides.{nat_tests}
-use Rattle.std.proofs.lemmas.Slice.Eq.{bytes_eq-Decides}
 use Rattle.std.proofs.lemmas.List.Splits.{join_with_byte-slice_split}
 use Rattle.std.proofs.lemmas.Bool.{and_parts}
 use Rattle.std.proofs.lemmas.Option.{same_Some}
@@ -13,7 +12,7 @@ use Rattle.dr_ids.specs.Spelling.{hex4}
 use Rattle.dr_model.specs.LineText.{bytes_text, spaced}
 use Rattle.dr_model.specs.LineWords.{◌>>=◌}
 use Rattle.dr_model.specs.Text.{trimmed}
-use Rattle.dr_model.specs.Lines.{words}
+use Rattle.dr_model.specs.PlantImage.{words}
 use Rattle.dr_model.specs.PlantImage.{Volume, Placed, Stage, Start, Listing, Filling, Ended, Bad, State, volume_line, block_line, id_word, plain_word, kept_word, volume_said, block_said, can_join, join, place_of, can_fill, fill, with_block, is_listing, by_words, by_line, by_stage, after_line}
 use Rattle.dr_image.proofs.WordLaws.{passed, IsBlock, id_word-is, plain_word-is, kept_word-is}
 use Rattle.dr_facts.proofs.Options.{bound}

@@ -70,10 +70,12 @@ all_above k (b ∷ bs) h =
     let is_above : nat_lt k b.index ≡ true = grind (arith, nat_tests, first) in
     ap (λ v. cond v (b ∷ above k bs) (above k bs)) is_above ∙ ap (λ t. b ∷ t) (all_above k bs (λ i d within. h (suc i) d (omega arith)))
 
-place-below : (k : ℕ) (b : Kept) (bs : List Kept) → b.index < k → place k (b ∷ bs) ≡ suc (place k bs)
+-- a block before the number puts the place one on
+pub place-below : (k : ℕ) (b : Kept) (bs : List Kept) → b.index < k → place k (b ∷ bs) ≡ suc (place k bs)
 place-below k b bs lt = let no : nat_le k b.index ≡ false = grind (arith, nat_tests) in ap (λ v. cond (not v) (1 + place k bs) 0) no ∙ one_more (place k bs)
 
-place-first : (k : ℕ) (b : Kept) (bs : List Kept) → k ≤ b.index → place k (b ∷ bs) ≡ 0
+-- one that doesn't come before it is the place
+pub place-first : (k : ℕ) (b : Kept) (bs : List Kept) → k ≤ b.index → place k (b ∷ bs) ≡ 0
 place-first k b bs le = let yes' : nat_le k b.index ≡ true = grind (arith, nat_tests) in ap (λ v. cond (not v) (1 + place k bs) 0) yes'
 
 -- the blocks below a number stand at the front

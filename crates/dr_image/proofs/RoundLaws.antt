@@ -13,7 +13,7 @@ use Rattle.dr_ids.specs.Spelling.{hex4}
 use Rattle.dr_model.specs.LineText.{bytes_text}
 use Rattle.dr_model.specs.LineWords.{◌>>=◌}
 use Rattle.dr_model.specs.Text.{trimmed}
-use Rattle.dr_model.specs.Lines.{words}
+use Rattle.dr_model.specs.PlantImage.{words}
 use Rattle.dr_model.specs.PlantImage.{Kept, Volume, Placed, Listing, Filling, Ended, Bad, State, IsKept, IsVolume, IsLaid, IsImage, agrees, can_join, join, place_of, can_fill, fill, fill_at, with_block, plain_word, kept_word, volume_of, volume_said, block_said, is_listing, by_words, by_line, by_stage, after_line, or_bad, step, begin, has_source, sourced, checked, finished, is_line_feed, reads, reading, volume_line, block_line, block_lines, image_lines, image_text, ended}
 use Rattle.dr_image.specs.Sound.{IsSoundImage, IsSoundVolume}
 use Rattle.dr_image.proofs.OrderLemmas.{InOrder, order_head, order_tail, pairs_head, pairs_tail}
@@ -225,7 +225,8 @@ unfolding with_block
 filled_between [] x back b = refl
 filled_between (w ∷ ws) x back b = ap (λ r. w ∷ r) (filled_between ws x back b)
 
-other : (w v : Volume) → agrees w v ≡ true → nat_eq w.volume v.volume ≡ false
+-- two that agree have different numbers
+pub other : (w v : Volume) → agrees w v ≡ true → nat_eq w.volume v.volume ≡ false
 other w v e = let n = not-true (nat_eq v.volume w.volume) (and_parts (not (nat_eq v.volume w.volume)) _ e).0 in grind (arith, nat_tests, n)
 
 differs : (v : Volume) (front : List Volume) → All (λ w. agrees w v ≡ true) front → All (λ w. nat_eq w.volume v.volume ≡ false) front

@@ -1,11 +1,9 @@
 -- A line is cut at its first space.
-use Rattle.std.proofs.Common.{ℕ, suc, ◌≡◌, ◌≤◌, ◌+◌, ◌-◌, List, [], ◌∷◌, take, drop, length, refl, ap, ◌∙◌, arith, Bool, true, false, not, cond, nat_lt, Some, None}
+use Rattle.std.proofs.Common.{ℕ, ◌≡◌, ◌+◌, List, [], ◌∷◌, take, drop, length, refl, ap, ◌∙◌, arith, Bool, true, false, cond, nat_lt, Some, None}
 use Rattle.std.proofs.lemmas.Bool.Decides.{nat_tests}
-use Rattle.std.proofs.lemmas.Grind.{common_steps}
-use Rattle.std.proofs.lemmas.List.Splits.{slice_split_first, slice_split-cons_no}
+use Rattle.std.proofs.lemmas.List.Splits.{slice_split_first}
 use Rattle.std.specs.List.{position, position_or_len, slice_split, onto_first}
-use Rattle.std.proofs.lemmas.List.{take_all}
-use Rattle.dr_model.specs.Lines.{is_space, words}
+use Rattle.dr_model.specs.PlantImage.{is_space, words}
 use Rattle.dr_image.specs.Lines.{only}
 use Rattle.dr_logic.proofs.Choices.{not_chosen, chosen}
 use Rattle.dr_logic.proofs.Lists.{uncut}

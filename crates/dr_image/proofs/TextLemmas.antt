@@ -1,6 +1,6 @@
 -- The pieces of an image's text.
-use Rattle.std.proofs.Common.{◌≡◌, ◌≢◌, ◌<◌, ◌+◌, ℕ, false, List, [], ◌∷◌, ◌++◌, length, map, take, drop, drop-cons, add-one, get_or, refl, ap, sym, ◌∙◌, arith, append_assoc, nat_eq}
-use Rattle.std.specs.Prelude.{codes, if◌then◌else◌}
+use Rattle.std.proofs.Common.{◌≡◌, ◌≢◌, ◌<◌, ◌+◌, ℕ, false, List, [], ◌∷◌, ◌++◌, length, map, take, drop, drop-cons, add-one, get_or, ap, sym, ◌∙◌, arith, append_assoc, nat_eq}
+use Rattle.std.specs.Prelude.{codes}
 use Rattle.std.specs.List.{flat_map}
 use Rattle.std.proofs.lemmas.Bool.Decides.{nat_tests}
 use Rattle.std.proofs.lemmas.List.{take_more}
@@ -8,7 +8,7 @@ use Rattle.dr_model.specs.LineText.{spaced}
 use Rattle.dr_model.specs.PlantImage.{Volume, volume_line, block_lines, ended, image_text}
 use Rattle.dr_image.specs.declared.held.Held.{Held}
 use Rattle.dr_image.specs.Shown.{shown, all_shown}
-use Rattle.dr_model.specs.Text.{trimmed, before_trimmed}
+use Rattle.dr_model.specs.Text.{trimmed}
 use Rattle.dr_facts.proofs.Texts.{trimmed-zero, trimmed-kept, ended-append}
 
 left_to_right : (t command a b c : List ℕ) → (((((((t ++ command) ++ codes " ") ++ a) ++ codes " ") ++ b) ++ codes " ") ++ c) ++ 10 ∷ []

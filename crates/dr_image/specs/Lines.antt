@@ -2,7 +2,7 @@
 use Rattle.std.specs.Prelude.{◌≡◌, ℕ, Bool, List, [], ◌∷◌, Option, Some, None, Result, Ok, Err}
 use Rattle.std.specs.declared.alloc.AllocError.{AllocError}
 use Rattle.std.specs.Option.{is_some}
-use Rattle.dr_model.specs.Lines.{words}
+use Rattle.dr_model.specs.PlantImage.{words}
 use Rattle.dr_model.specs.PlantImage.{Placed, Stage, Start, Listing, Filling, Ended, Bad, State}
 use Rattle.dr_image.specs.declared.state.Stage.{Stage as Seen}
 use Rattle.dr_image.specs.declared.state.Stage.TheVariants.{Start as SeenStart, Listing as SeenListing, Filling as SeenFilling, Ended as SeenEnded, Bad as SeenBad}

@@ -58,6 +58,11 @@ block_of_one (Some v) k = block_in v.blocks k
 abbrev pub block_at : List Volume → ℕ → ℕ → List ℕ
 block_at vs i k = block_of_one (slice_get vs i) k
 
+-- the bytes of a block, if there is one and it is the one of the number; else zeros
+abbrev pub bytes_of : Option Kept → ℕ → List ℕ
+bytes_of None k = zeros
+bytes_of (Some b) k = if nat_eq b.index k then b.bytes else zeros
+
 -- the place of the first block that doesn't come before a number
 abbrev pub place : ℕ → List Kept → ℕ
 place k bs = position_or_len (λ b. nat_le k b.index) bs

@@ -1,10 +1,11 @@
 //! The volumes of an image as they are kept: small steps on nested vectors.
 
-ghost use Rattle.std.specs.Prelude.{◌≡◌, ◌<◌, ◌++◌, ◌∷◌, [], nat_le, nat_lt, ◌≤◌, suc, take, drop, vec_len, AllPairs, OnOk, OnErr};
-ghost use Rattle.std.specs.List.{list_all, position};
+ghost use Rattle.std.specs.Prelude.{◌≡◌, ◌<◌, ◌++◌, ◌∷◌, [], nat_lt, ◌≤◌, suc, take, drop, vec_len, AllPairs, OnOk, OnErr};
+ghost use Rattle.std.specs.List.{list_all, slice_get};
+ghost use Rattle.std.specs.Option.{option_map};
 ghost use Rattle.dr_logic.specs.Bytes.{zeros};
 ghost use Rattle.dr_model.specs.PlantImage.{block_in, with_block};
-ghost use Rattle.dr_image.specs.Shown.{all_kept, all_shown, bare, is_zero, if_kept, place, stands_at, put, put_last};
+ghost use Rattle.dr_image.specs.Shown.{all_kept, block_at, bytes_of, kept, all_shown, bare, is_zero, if_kept, place, stands_at, put, put_last};
 ghost use Rattle.dr_image.specs.Sound.{IsSoundImage};
 
 use dr_ids::VolumeId;
@@ -74,6 +75,43 @@ pub fn block_in(blocks: &[KeptBlock], index: u16) -> [u8; 64]
     zero_block()
 }
 
+/// A block of the device of the volume at a place; zeros where none is kept.
+pub fn block_at(volumes: &[Held], place: usize, index: u16) -> [u8; 64]
+    requires { IsSoundImage (all_shown volumes.now) }
+    ensures { result ≡ block_at (all_shown volumes.now) place index }
+{
+    if place < volumes.len() {
+        find_block(&volumes[place].blocks, index)
+    } else {
+        zero_block()
+    }
+}
+
+/// A block by its number, among blocks in order.
+fn find_block(blocks: &[KeptBlock], index: u16) -> [u8; 64]
+    requires { AllPairs (λ b c. b.index < c.index) (all_kept blocks.now) }
+    ensures { result ≡ block_in (all_kept blocks.now) index }
+{
+    bytes_of(kept_at(blocks, place_from(blocks, index)), index)
+}
+
+/// The block at a place.
+fn kept_at(blocks: &[KeptBlock], at: usize) -> Option<KeptBlock>
+    ensures { result ≡ slice_get blocks.now at }
+{
+    blocks.get(at).copied()
+}
+
+/// The bytes of a block, where it is the one of the number; else zeros.
+fn bytes_of(block: Option<KeptBlock>, index: u16) -> [u8; 64]
+    ensures { result ≡ bytes_of (option_map kept block) index }
+{
+    match block {
+        Some(block) if block.index == index => block.bytes,
+        _ => zero_block(),
+    }
+}
+
 /// The block comes behind all that are kept.
 pub fn is_behind(blocks: &[KeptBlock], index: u32) -> bool
     requires { AllPairs (λ b c. b.index < c.index) (all_kept blocks.now) }
@@ -137,18 +175,14 @@ pub fn put_block(
 
 /// The place of the first block that doesn't come before the number.
 fn place_from(blocks: &[KeptBlock], index: u16) -> usize
+    requires { AllPairs (λ b c. b.index < c.index) (all_kept blocks.now) }
     ensures { result ≡ place index (all_kept blocks.now) }
 {
-    match first_from(blocks, index) {
-        Some(at) => at,
-        None => blocks.len(),
-    }
-}
-
-fn first_from(blocks: &[KeptBlock], index: u16) -> Option<usize>
-    ensures { result ≡ position (λ b. nat_le index b.index) blocks.now }
-{
-    blocks.iter().position(|block| index <= block.index)
+    blocks.partition_point(
+        |block: &KeptBlock| -> bool
+            ensures { result ≡ nat_lt block.now.index index }
+        { block.index < index },
+    )
 }
 
 /// The block at a place is that of the number.

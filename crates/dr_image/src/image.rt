@@ -6,7 +6,7 @@ ghost use Rattle.std.specs.Option.{option_map};
 ghost use Rattle.dr_image.specs.Shown.{bare, owned, block_at, put_last};
 
 pub use crate::held::ImageVolume;
-use crate::held::{Held, block_in, push_held, put_last, zero_block};
+use crate::held::{Held, block_at, push_held, put_last};
 use std::alloc::{AllocError, Global};
 use std::marker::Model;
 
@@ -71,11 +71,7 @@ impl Image {
     pub fn block(&self, i: usize, index: u16) -> [u8; 64]
         ensures { result ≡ block_at self.now i index }
     {
-        if i < self.volumes.len() {
-            block_in(&self.volumes[i].blocks, index)
-        } else {
-            zero_block()
-        }
+        block_at(&self.volumes, i, index)
     }
 
     /// Adds a volume whose blocks are all zero.

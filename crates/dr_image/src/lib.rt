@@ -8,7 +8,8 @@
 //! does (`proper`). `ImageReader` gives the same for every way to cut a text: `new` and `feed` say what the text will
 //! read as, whatever comes (`reads`), and `finish` says what it did; it answers want of memory exactly where a `feed`
 //! had none. `Image` is a list of volumes with their blocks: `len`, `volume`, `block` read it, `push_volume` and
-//! `push_block` change it (`ok`, `err`). The program doesn't use this crate yet.
+//! `push_block` change it (`ok`, `err`). `push_id`, `push_number`, `push_decimal`, `push_kept` and `trimmed` are the pieces of
+//! its lines, for texts that name volumes and blocks in the same way. The program doesn't use this crate yet.
 #![tactic(auto)]
 
 mod fault;
@@ -22,6 +23,7 @@ mod words;
 mod writer;
 
 pub use fault::ImageFault;
+pub use held::zero_block;
 pub use image::{Image, ImageVolume};
 pub use reader::{ImageReader, read_image};
-pub use writer::write_image;
+pub use writer::{push_decimal, push_id, push_kept, push_number, trimmed, write_image};

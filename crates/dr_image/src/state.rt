@@ -2,7 +2,7 @@
 
 ghost use Rattle.std.specs.Prelude.{◌≡◌, ◌<◌, ◌^◌, true, vec_len, AllPairs, IfSome, nat_eq, length, OnOk, OnErr};
 ghost use Rattle.std.specs.List.{list_all, position};
-ghost use Rattle.dr_model.specs.Lines.{words};
+ghost use Rattle.dr_model.specs.PlantImage.{words};
 ghost use Rattle.dr_model.specs.PlantImage.{agrees, can_join, place_of, can_fill, begin, join, fill, by_words, by_line, after_line, step};
 ghost use Rattle.dr_image.specs.Shown.{bare, shown, all_kept, all_shown};
 ghost use Rattle.dr_image.specs.Sound.{IsRead};

@@ -3,7 +3,7 @@
 ghost use Rattle.std.specs.Prelude.{◌≡◌, ◌≤◌, ◌*◌, ◌-◌, ◌++◌, ◌∷◌, length, replicate};
 ghost use Rattle.std.specs.List.{position};
 ghost use Rattle.std.specs.Option.{option_copied, option_map};
-ghost use Rattle.dr_model.specs.Lines.{is_space, words};
+ghost use Rattle.dr_model.specs.PlantImage.{is_space, words};
 ghost use Rattle.dr_model.specs.PlantImage.{upper_value, upper_pair, upper_bytes, id_word, has_leading_zero, plain_word, kept_word};
 ghost use Rattle.dr_image.specs.Lines.{words_after, only, IsNextOf};
 

@@ -23,8 +23,8 @@ fn push_byte(text: &mut Text, byte: u8) -> Result<(), AllocError>
     text.append(&digits)
 }
 
-/// Adds a space and a volume's number.
-fn push_id(text: &mut Text, id: u16) -> Result<(), AllocError>
+/// Adds a space and a volume's number in four hexadecimal digits.
+pub fn push_id(text: &mut Text, id: u16) -> Result<(), AllocError>
     ensures { OnOk result (text.new ≡ text.old ++ codes " " ++ hex4 id) }
 {
     text.append(b" ")?;
@@ -32,13 +32,20 @@ fn push_id(text: &mut Text, id: u16) -> Result<(), AllocError>
     push_byte(text, (id % 256) as u8)
 }
 
-/// Adds a space and a number in decimal digits.
-fn push_number(alloc: Global, text: &mut Text, n: u32) -> Result<(), AllocError>
-    ensures { OnOk result (text.new ≡ text.old ++ codes " " ++ decimal n) }
+/// Adds a number in decimal digits.
+pub fn push_decimal(alloc: Global, text: &mut Text, n: u32) -> Result<(), AllocError>
+    ensures { OnOk result (text.new ≡ text.old ++ decimal n) }
 {
     let digits = n.to_string(alloc)?;
-    text.append(b" ")?;
     text.append(digits.as_bytes())
+}
+
+/// Adds a space and a number in decimal digits.
+pub fn push_number(alloc: Global, text: &mut Text, n: u32) -> Result<(), AllocError>
+    ensures { OnOk result (text.new ≡ text.old ++ codes " " ++ decimal n) }
+{
+    text.append(b" ")?;
+    push_decimal(alloc, text, n)
 }
 
 #[tactic(auto, unfolding(dr_model::specs::PlantImage::volume_line))]
@@ -53,7 +60,7 @@ fn push_volume(alloc: Global, text: &mut Text, held: &Held) -> Result<(), AllocE
 }
 
 /// Bytes without the zeros at their end.
-fn trimmed(bytes: &[u8]) -> &[u8]
+pub fn trimmed(bytes: &[u8]) -> &[u8]
     ensures { result.now ≡ trimmed bytes.now }
 {
     let mut end = bytes.len();
@@ -72,8 +79,8 @@ fn push_bytes(text: &mut Text, bytes: &[u8]) -> Result<(), AllocError>
     Ok(())
 }
 
-/// Adds a space and the bytes of a block without the zeros at their end.
-fn push_kept(text: &mut Text, bytes: &[u8]) -> Result<(), AllocError>
+/// Adds a space and the bytes of a block in hexadecimal digits, without the zeros at their end.
+pub fn push_kept(text: &mut Text, bytes: &[u8]) -> Result<(), AllocError>
     ensures { OnOk result (text.new ≡ text.old ++ codes " " ++ bytes_text (trimmed bytes.now)) }
 {
     text.append(b" ")?;

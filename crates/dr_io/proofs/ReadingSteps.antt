@@ -30,7 +30,7 @@ some_bytes bytes some = grind (arith, nat_tests, some)
 pub none_left : (bytes : List ℕ) → true ≡ nat_eq (length bytes) 0 → length bytes ≡ 0
 none_left bytes none = grind (arith, nat_tests, none)
 
-positive : (n : ℕ) → (n ≡ 0 → ⊥) → 0 < n
+pub positive : (n : ℕ) → (n ≡ 0 → ⊥) → 0 < n
 positive n some = elim (leb_tells 1 n) [ inl at ↦ at.1 | inr at ↦ absurd (some (omega (arith, at.1))) ]
 
 -- where the limit is passed, one byte was taken

@@ -2,4 +2,5 @@ pub mod Faults
 pub mod Given
 pub mod Memory
 pub mod Lines
+pub mod Pieces
 pub mod Reading

@@ -61,6 +61,13 @@ impl Ahead {
         self.start += n;
     }
 
+    /// Drops all bytes.
+    pub fn clear(&mut self)
+        ensures { self.new ≡ [] }
+    {
+        self.start = self.end;
+    }
+
     /// Takes the next piece, of at most `room` bytes, in place of what is ahead; 0 is the end of the input.
     pub fn fill<S: Source>(&mut self, source: &mut S, room: usize) -> Result<usize, Failed>
         requires some { 0 < room }

@@ -5,16 +5,17 @@ ghost use Rattle.std.specs.List.{position};
 ghost use Rattle.dr_io.specs.Lines.{IsNext, Reads, end_answer, begun, is_line_end, most_bytes, most_lines};
 ghost use Rattle.dr_io.specs.Reading.{CutsLine};
 
-use crate::ahead::{Ahead, MOST_PIECE};
+use crate::ahead::Ahead;
 use crate::kept::Front;
+use crate::limits::{SCRIPT_LIMITS, room_after};
 use crate::streams::{Failed, Source};
 use std::marker::Model;
 
 /// The most bytes that a script may have.
-const MOST_BYTES: usize = 16_777_216;
+const MOST_BYTES: usize = SCRIPT_LIMITS.bytes as usize;
 
 /// The most lines that a script may have.
-const MOST_LINES: u32 = 100_000;
+const MOST_LINES: u32 = SCRIPT_LIMITS.lines;
 
 /// What was taken from a source.
 #[derive(Clone, Copy)]
@@ -103,7 +104,7 @@ impl LineReader {
             self.over = Some(ReadingEnd::PastLimit);
             return Ok(Taken::TooLong);
         }
-        let Ok(n) = self.ahead.fill(source, room_after(self.taken)) else {
+        let Ok(n) = self.ahead.fill(source, room_after(MOST_BYTES, self.taken)) else {
             self.over = Some(ReadingEnd::ByFault);
             return Err(Failed);
         };
@@ -125,7 +126,7 @@ impl LineReader {
     {
         self.kept.clear();
         while !cut_line(&mut self.ahead, &mut self.kept) {
-            let Ok(n) = self.ahead.fill(source, room_after(self.taken)) else {
+            let Ok(n) = self.ahead.fill(source, room_after(MOST_BYTES, self.taken)) else {
                 self.over = Some(ReadingEnd::ByFault);
                 return Err(Failed);
             };
@@ -157,21 +158,6 @@ fn answer(over: ReadingEnd) -> Result<Taken, Failed>
         ReadingEnd::AtEnd => Ok(Taken::End),
         ReadingEnd::PastLimit => Ok(Taken::TooLong),
         ReadingEnd::ByFault => Err(Failed),
-    }
-}
-
-/// The most bytes of the next piece: one past the limit is taken alone, to see that it is passed.
-fn room_after(taken: usize) -> usize
-    requires { taken ≤ most_bytes }
-    ensures some { 0 < result }
-    ensures piece { result ≤ 4096 }
-    ensures within { taken + result ≤ most_bytes + 1 }
-    ensures alone { taken + result ≡ most_bytes + 1 → result ≡ 1 }
-{
-    if taken < MOST_BYTES {
-        (MOST_BYTES - taken).min(MOST_PIECE)
-    } else {
-        1
     }
 }
 

@@ -14,7 +14,7 @@ use Rattle.dr_laws_freezes.specs.InSync.{DuplexInSync}
 use Rattle.dr_laws_freezes.proofs.Chains.{act_tag, CountsFin, fairly_next, Fairly, act-runs, EndFin, PlanFin}
 use Rattle.dr_laws_freezes.proofs.FairPlans.{Between}
 use Rattle.dr_laws_freezes.proofs.FairCases.{rows-between, answers-between, loses-between, Fair}
-use Rattle.dr_laws_freezes.proofs.FairSteps.{between-nothing, fair-case}
+use Rattle.dr_laws_freezes.proofs.FairSteps.{between-nothing, fair-case, fair-ending}
 use Rattle.dr_logic.proofs.Truth.{false_true}
 
 -- entries that are fair come to such an end
@@ -63,7 +63,7 @@ between-task w t k =
     let x : Part = (course w t).last in
     let u : World = (carried_out x.world x.plan).0 in
     answers-between x.world u t.line (answered x.plan u.control (carried_out x.world x.plan).1)
-    (carried-between x.world x.plan (fair-case x.world (last-plan Between between-part w t k) t.line x.plan (course-case w t)))
+    (carried-between x.world x.plan (fair-ending x.world (last-plan Between between-part w t k) t.line x.plan (course-case w t)))
 
 between-tasks : (w : World) (ts : List Task) → Between w → Between (after_tasks w ts)
 unfolding after_tasks

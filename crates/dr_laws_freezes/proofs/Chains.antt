@@ -14,7 +14,7 @@ use Rattle.dr_model.specs.Moves.{Move, Hold, is_write}
 use Rattle.dr_model.specs.Carry.{Act, Make, OpenAttempt, Redo, Acknowledge, Drop, EndFreeze, EndThaw, EndRecovery, Turn, Next, Pass, Do, End, Entry, Outcome, continue, go, carry, dropped, frozen, thawed, recovered}
 use Rattle.dr_model.specs.Plans.{Plan, plan, only_says}
 use Rattle.dr_model.specs.Forming.{Part, Way, goes_on, after_part, part_refusal, form_said}
-use Rattle.dr_model.specs.Runs.{Task, Course, run_asked, course_of, course, answered_part, masters_lost, begun, finish, answered, said, after_plan, after_task, Apart, Groups, Volumes, compared}
+use Rattle.dr_model.specs.Runs.{Task, Course, own_course, course_of, course, answered_part, masters_lost, begun, finish, answered, said, after_plan, after_task, OwnCourse, Groups, Volumes, compared, Devices, imaged}
 use Rattle.dr_model.specs.Table.{table, waiting}
 use Rattle.dr_model.specs.Laws.{SoundRows, AllPending}
 use Rattle.dr_model.specs.Allowed.{May, MayOpen, Runs}
@@ -26,8 +26,8 @@ use Rattle.dr_laws_freezes.proofs.Fair.{Fair, tag_after, come, come-open}
 use Rattle.dr_laws_freezes.proofs.KeepsWindow.{AllSilent}
 use Rattle.dr_laws_freezes.proofs.KeepsStep.{Step, Does, Stops, Acks, Others, Passes, Acknowledges, Unchanged}
 use Rattle.dr_laws_freezes.proofs.Windows.{Good, Chain, Last, Then}
-use Rattle.dr_laws_sound.proofs.Cases.{Case, Says, plan-case}
-use Rattle.dr_laws_sound.proofs.Parts.{Comes, Ways, way-formed, compared-case}
+use Rattle.dr_laws_sound.proofs.Cases.{Says, plan-case}
+use Rattle.dr_laws_sound.proofs.Parts.{Comes, Ways, way-formed, compared-case, Ending, OnePlan, imaged-case}
 use Rattle.dr_logic.proofs.Truth.{false_true}
 
 -- what an act asks where it comes
@@ -242,7 +242,7 @@ module _ (K : World → Type 0) (rows : (w : World) → K w → SoundRows (table
         subst (λ us. Chain None first (begun first p ∷ us)) (sym (append_assoc (worlds (begun first p) p.entries) (worlds_after o.0 o.1 p.follows) _)) (plan-chain k fair)
 
   -- a run whose plans are fair
-  module _ (loses : (first w : World) → K w → K (masters_lost first w)) (each : (w : World) (line : ℕ) (p : Plan) → Case w.control w.events line p → K w → PlanFair w p) where
+  module _ (loses : (first w : World) → K w → K (masters_lost first w)) (each : (w : World) (line : ℕ) (p : Plan) → Ending w.control w.events line p → K w → PlanFair w p) where
     -- what comes after a way, by the world that it led to and the refusal that ended it
     abbrev After : Type 0
     After = World → Option Refusal → List World
@@ -267,7 +267,7 @@ module _ (K : World → Type 0) (rows : (w : World) → K w → SoundRows (table
     one-chains : (w : World) (p : Plan) → Comes w p → WayChains w (record { parts = record { world = w; plan = p } ∷ []; world = after_part w p; refusal = part_refusal w p })
     unfolding parts_moments
     one-chains w p comes more follows k =
-        let fair : PlanFair w p = each w 0 p (comes.case 0) k in
+        let fair : PlanFair w p = each w 0 p (OnePlan p (comes.case 0)) k in
         let r : Option Refusal = part_refusal w p in
         subst (λ us. Chain None w us) (sym (append_assoc (plan_moments w p) (after_part w p ∷ []) (more (after_part w p) r)))
         (moments-chain w p fair.last (λ u r. masters_lost w u) (lost-closes w) (λ u r k. loses w u k) (λ v. more v r) (λ v k. follows v r k) k fair)
@@ -293,7 +293,7 @@ module _ (K : World → Type 0) (rows : (w : World) → K w → SoundRows (table
     ways = record { stands = stands-chains; one = one-chains; then = then-chains }
 
     -- the last plan of a step
-    last-chain : (line : ℕ) (x : Part) → Case x.world.control x.world.events line x.plan → (more : World → List World) → ((v : World) → K v → Chain None v (more v)) → K x.world
+    last-chain : (line : ℕ) (x : Part) → Ending x.world.control x.world.events line x.plan → (more : World → List World) → ((v : World) → K v → Chain None v (more v)) → K x.world
         → Chain None x.world (part_moments x ++ (answered_part line x ∷ more (answered_part line x)))
     unfolding after_plan
     last-chain line x case more goes_on k =
@@ -306,17 +306,18 @@ module _ (K : World → Type 0) (rows : (w : World) → K w → SoundRows (table
     task-chain w t k more goes_on =
         let x : Part = (course w t).last in
         subst (λ us. Chain None w us) (sym (append_assoc (parts_moments (course w t).before) (part_moments x ++ after_task w t ∷ []) (more (after_task w t)) ∙ ap (λ us. parts_moments (course w t).before ++ us) (append_assoc (part_moments x) (after_task w t ∷ []) (more (after_task w t)))))
-        (by (run_asked t.asked))
+        (by (own_course t.asked))
       where
         ended_by : Part → List World
         ended_by x = part_moments x ++ (answered_part t.line x ∷ more (answered_part t.line x))
 
-        by : (o : Option Apart) → let c : Course = course_of w t o in Chain None w (parts_moments c.before ++ ended_by c.last)
-        by None = last-chain t.line (record { world = w; plan = plan w.control w.events t.line t.asked }) (plan-case w.control w.events t.line t.asked) more goes_on k
+        by : (o : Option OwnCourse) → let c : Course = course_of w t o in Chain None w (parts_moments c.before ++ ended_by c.last)
+        by None = last-chain t.line (record { world = w; plan = plan w.control w.events t.line t.asked }) (OnePlan _ (plan-case w.control w.events t.line t.asked)) more goes_on k
         by (Some (Groups s n)) =
             way-formed WayChains ways w s n (λ v r. ended_by (record { world = v; plan = only_says (form_said s v.control r) }))
-            (λ v r k. last-chain t.line (record { world = v; plan = only_says (form_said s v.control r) }) (Says (form_said s v.control r)) more goes_on k) k
-        by (Some (Volumes v u)) = last-chain t.line (record { world = w; plan = compared w v u }) (compared-case w t.line v u) more goes_on k
+            (λ v r k. last-chain t.line (record { world = v; plan = only_says (form_said s v.control r) }) (OnePlan _ (Says (form_said s v.control r))) more goes_on k) k
+        by (Some (Volumes v u)) = last-chain t.line (record { world = w; plan = compared w v u }) (OnePlan _ (compared-case w t.line v u)) more goes_on k
+        by (Some Devices) = last-chain t.line (record { world = w; plan = imaged w t.listed }) (imaged-case w t.line t.listed) more goes_on k
 
     pub run-chain : (tasks : List Task) (w : World) → K w → Chain None w (moments_from w tasks)
     unfolding moments_from

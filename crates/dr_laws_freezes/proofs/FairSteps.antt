@@ -18,8 +18,8 @@ use Rattle.dr_model.specs.Runs.{Task}
 use Rattle.dr_laws_freezes.specs.Moments.{moments_from}
 use Rattle.dr_laws_freezes.specs.Windows.{FreezeCut}
 use Rattle.dr_laws_closed.proofs.Regroups.{regroups-same}
-use Rattle.dr_laws_sound.proofs.Cases.{Case, Says, DefinesServer, DefinesVolume, SetsLink, Issues, Writes, Applies, Shows, Stops, Arms, Starts, MakesFlash, RemovesFlash, ResyncsFlash, ReversesFlash, Copies, MakesPath, RemovesPath, MakesPair, RemovesPair, PausesPair, ResumesPair, FailsOver, FailsBack, Compares, Drains, Expires, Freezes, Unfreezes, MakesSession, RemovesSession, MakesMirror, PausesMirror, RemovesMirror, Aborts, AddsMember, RemovesMember, Exchanges, Recovers, Settles, added, expelled, aborted, ordered}
-use Rattle.dr_laws_sound.proofs.Steps.{sound-nothing, case-holds}
+use Rattle.dr_laws_sound.proofs.Cases.{Case, Says, DefinesServer, DefinesVolume, SetsLink, Issues, Writes, Applies, Lists, Shows, Stops, Arms, Starts, MakesFlash, RemovesFlash, ResyncsFlash, ReversesFlash, Copies, MakesPath, RemovesPath, MakesPair, RemovesPair, PausesPair, ResumesPair, FailsOver, FailsBack, Compares, Drains, Expires, Freezes, Unfreezes, MakesSession, RemovesSession, MakesMirror, PausesMirror, RemovesMirror, Aborts, AddsMember, RemovesMember, Exchanges, Recovers, Settles, added, expelled, aborted, ordered}
+use Rattle.dr_laws_sound.proofs.Steps.{sound-nothing, case-holds, ending-holds}
 use Rattle.dr_laws_sound.proofs.FitsMembers.{orders-added, orders-expelled}
 use Rattle.dr_laws_sound.proofs.FitsOrders.{orders-ordered}
 use Rattle.dr_laws_sound.proofs.FitsRecovery.{along-recover, along-settle}
@@ -31,7 +31,10 @@ use Rattle.dr_laws_freezes.proofs.Windows.{Chain, freeze-cut}
 use Rattle.dr_laws_freezes.proofs.Chains.{run-chain}
 use Rattle.dr_laws_freezes.proofs.FairPlans.{Between}
 use Rattle.dr_laws_freezes.proofs.FairCases.{rows-between, answers-between, loses-between, Fair, fair-flash, fair-withdraw, fair-resync, fair-reverse, fair-freeze, fair-thaw, fair-expire, fair-pause, fair-resume, fair-failover, fair-failback, fair-compare, fair-remove}
-use Rattle.dr_laws_freezes.proofs.FairTables.{fair-says, fair-defines, fair-links, fair-shows, fair-stops, fair-arms, fair-paths, fair-unpaths, fair-adds, fair-issues}
+use Rattle.dr_laws_freezes.proofs.FairTables.{fair-says, fair-defines, fair-links, fair-shows, fair-stops, fair-arms, fair-paths, fair-unpaths, fair-adds, fair-issues, fair-lists}
+use Rattle.dr_model.specs.Runs.{image_told}
+use Rattle.dr_laws_sound.proofs.Listed.{image-lines}
+use Rattle.dr_laws_sound.proofs.Parts.{Ending, OnePlan, Imaged}
 use Rattle.dr_laws_freezes.proofs.FairPairs.{fair-pair}
 use Rattle.dr_laws_freezes.proofs.FairCopy.{fair-copy}
 use Rattle.dr_laws_freezes.proofs.FairDrain.{fair-drain}
@@ -61,6 +64,7 @@ fair-case w k line _ (SetsLink a b up) = fair-links w k line a b up
 fair-case w k line _ (Issues v t offset len bytes free) = fair-issues w k line v t offset len bytes free
 fair-case w k line _ (Writes v t offset len bytes free) = fair-writes w k v t offset len bytes free
 fair-case w k line _ (Applies n p found) = fair-applies w k n p found
+fair-case w k line _ (Lists told ls few) = fair-lists w k line told ls (case-holds w k.sound line _ (Lists told ls few))
 fair-case w k line _ (Shows v t there) = fair-shows w k line v t there
 fair-case w k line _ (Stops x on) = fair-stops w k line x on
 fair-case w k line _ (Arms writes torn x) = fair-arms w k line writes torn x
@@ -108,9 +112,13 @@ fair-case w k line _ (Exchanges i server reply x r o allowed) =
     by true k = (_, refl)
     by false k = (_, refl)
 
+pub fair-ending : (w : World) (k : Between w) (line : ℕ) (p : Plan) → Ending w.control w.events line p → Fair w p
+fair-ending w k line _ (OnePlan p c) = fair-case w k line p c
+fair-ending w k line _ (Imaged vs) = fair-lists w k line (image_told vs) (image-lines vs) (ending-holds w k.sound line _ (Imaged vs))
+
 -- the moments of a run
 pub chain-of : (tasks : List Task) → Chain None nothing (moments_from nothing tasks)
-chain-of tasks = run-chain Between rows-between answers-between loses-between (λ w line p case k. fair-case w k line p case) tasks nothing between-nothing
+chain-of tasks = run-chain Between rows-between answers-between loses-between (λ w line p case k. fair-ending w k line p case) tasks nothing between-nothing
 
 pub cut-run : (tasks : List Task) → FreezeCut tasks
 cut-run tasks = freeze-cut tasks None (chain-of tasks)

@@ -24,7 +24,11 @@ use Rattle.dr_laws_sound.proofs.Cases.{Case, Says, DefinesServer, DefinesVolume,
 use Rattle.dr_laws_sound.proofs.KeepsSound.{StepHolds, RowsAt, MayDo, keeps-sound}
 use Rattle.dr_laws_sound.proofs.Steps.{case-holds}
 use Rattle.dr_laws_freezes.proofs.Fair.{Unacked}
-use Rattle.dr_laws_freezes.proofs.KeepsWindow.{AllSilent}
+use Rattle.dr_model.specs.declared.said.Addition.TheVariants.{Alone}
+use Rattle.dr_model.specs.declared.said.Said.TheVariants.{Done}
+use Rattle.dr_laws_freezes.proofs.KeepsWindow.{Silent, AllSilent}
+use Rattle.dr_model.specs.Listings.{lists as listing_plan}
+use Rattle.dr_laws_sound.proofs.Listed.{IsLine, AllLines, each-line, all-lines, lines-lists}
 use Rattle.dr_laws_freezes.proofs.KeepsStep.{Unchanged}
 use Rattle.dr_laws_freezes.proofs.KeepsMirror.{still-unacked}
 use Rattle.dr_laws_freezes.proofs.Tidy.{Clean, Free, Fresh, Tidy, tidy-same, fresh-told}
@@ -81,6 +85,18 @@ module _ (w : World) (k : Between w) where
 
     pub fair-links : (a b : ℕ) (up : Bool) → Fair w (link_done a b up)
     fair-links a b up = fair-told _ [] _ (holds _ (SetsLink a b up)) tt none-told (λ n. refl) refl refl refl refl (λ j h. h)
+
+    lines-silent : (told : List Event) → AllLines told → AllSilent told
+    lines-silent = all-lines AllSilent tt (λ e es l rest. (each-line Silent (λ line v u state kind k. tt) (λ line s t sequence previous state flags own. tt) (λ line s a b c state. tt) (λ line s server phase n paused. tt) tt (λ v server tracks. tt) (λ v index bytes. tt) tt e l, rest))
+
+    lines-unacked : (n : ℕ) (told : List Event) → AllLines told → list_any (is_ack n) told ≡ false
+    lines-unacked n = all-lines (λ es. list_any (is_ack n) es ≡ false) refl (λ e es l rest. ap (λ b. b || list_any (is_ack n) es) (none e l) ∙ rest)
+      where
+        none : (e : Event) → IsLine e → is_ack n e ≡ false
+        none = each-line (λ e. is_ack n e ≡ false) (λ line v u state kind k. refl) (λ line s t sequence previous state flags own. refl) (λ line s a b c state. refl) (λ line s server phase n paused. refl) refl (λ v server tracks. refl) (λ v index bytes. refl) refl
+
+    pub fair-lists : (told : List Event) → AllLines told → StepHolds w (listing_plan told) → Fair w (listing_plan told)
+    fair-lists told ls holds = fair-told same told (Done Alone) holds (lines-silent told ls) (lines-lists w.events told ls) (λ n. lines-unacked n told ls) refl refl refl refl (λ j h. h)
 
     pub fair-shows : (v t : ℕ) → (there : show_refusal w.control v t ≡ None) → Fair w (show_done w.events line v t)
     fair-shows v t there = let e : Event = Shown line v t (image_at w.events v t) in fair-told same (e ∷ []) _ (holds _ (Shows v t there)) (tt, tt) (histories-append w.events (e ∷ [])) (λ n. refl) refl refl refl refl (λ j h. h)

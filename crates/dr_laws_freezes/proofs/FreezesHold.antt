@@ -1,11 +1,11 @@
 -- A freeze that isn't refused leaves its primaries long busy, and no write lands on one until it is let go.
-use Rattle.std.proofs.Common.{ℕ, ◌≡◌, ◌<◌, ◌+◌, ◌⊎◌, inl, inr, refl, ap, sym, ◌∙◌, subst, arith, Bool, true, false, cond, not, ◌&&◌, ◌||◌, nat_eq, nat_lt, List, [], ◌∷◌, Option, Some, None, Ok}
+use Rattle.std.proofs.Common.{ℕ, ◌≡◌, ◌<◌, ◌+◌, ◌⊎◌, inl, inr, refl, ap, sym, ◌∙◌, subst, arith, Bool, true, false, cond, ◌&&◌, ◌||◌, nat_eq, nat_lt, List, [], ◌∷◌, Option, Some, None, Ok}
 use Rattle.std.specs.List.{list_any}
 use Rattle.std.proofs.lemmas.Bool.{and_parts, eq-eqb}
 use Rattle.std.proofs.lemmas.Bool.Decides.{nat_tests, eqb_tells}
 use Rattle.std.proofs.Math.Bool.{or-true}
 use Rattle.dr_ids.specs.declared.refusal.Refusal.{Refusal}
-use Rattle.dr_ids.specs.declared.refusal.Refusal.TheVariants.{NotBuilt, JournalFull}
+use Rattle.dr_ids.specs.declared.refusal.Refusal.TheVariants.{JournalFull}
 use Rattle.dr_model.specs.declared.event.Event.{Event}
 use Rattle.dr_model.specs.declared.event.Event.TheVariants.{Ack}
 use Rattle.dr_model.specs.declared.said.Addition.{Addition}
@@ -21,7 +21,7 @@ use Rattle.dr_model.specs.Entries.{fields_at, is_running, subsystem}
 use Rattle.dr_model.specs.WriteEntries.{is_between, freeze_entries}
 use Rattle.dr_model.specs.Histories.{histories}
 use Rattle.dr_model.specs.Laws.{AllPending, Waits}
-use Rattle.dr_model.specs.Plans.{Plan, plan_of, freeze_refusal, freeze_done, refuses, unless, on_owner, owner_of, is_built, has_room}
+use Rattle.dr_model.specs.Plans.{Plan, plan_of, freeze_refusal, freeze_done, refuses, unless, on_owner, owner_of, has_room}
 use Rattle.dr_model.specs.Runs.{Task, begun, finish, carried_out, answered, after_plan, after_task, after_tasks, run}
 use Rattle.dr_facts.proofs.Lists.{any-some}
 use Rattle.dr_facts.proofs.Tables.{IsOrNot, at_cases, at_part}
@@ -127,18 +127,17 @@ module _ (l m v : ℕ) where
         by (u, None) leads h = freezes w.control.volumes (begun w p) u (record { there = s.there; between = s.between }) (inl s.there) leads
         by (u, Some r) leads h = absurd cc
 
-    task-held : (line : ℕ) (devs : Devs) → let t : Task = record { line = line; asked = Ok (Freeze devs l m) } in (x : Addition) → said_in w t ≡ Done x → Held (after_task w t).control
+    task-held : (line : ℕ) (devs : Devs) → let t : Task = record { line = line; asked = Ok (Freeze devs l m); listed = [] } in (x : Addition) → said_in w t ≡ Done x → Held (after_task w t).control
     unfolding after_plan
     task-held line devs x h = let y = planned x h in record { stands = record { there = y.stands.there; between = y.stands.between }; busy = y.busy }
       where
-        planned : P (cond (not (is_built (Freeze devs l m))) (refuses NotBuilt) (cond (has_room w.events) (plan_of w.control w.events line (Freeze devs l m)) (refuses JournalFull)))
+        planned : P (cond (has_room w.events) (plan_of w.control w.events line (Freeze devs l m)) (refuses JournalFull))
         planned =
-            if-plan P refused (not (is_built (Freeze devs l m))) (refuses NotBuilt) (cond (has_room w.events) (plan_of w.control w.events line (Freeze devs l m)) (refuses JournalFull)) (refused NotBuilt)
-            (if-plan P refused (has_room w.events) (plan_of w.control w.events line (Freeze devs l m)) (refuses JournalFull)
+            if-plan P refused (has_room w.events) (plan_of w.control w.events line (Freeze devs l m)) (refuses JournalFull)
             (owner-plan P refused (owner_of w.control l) (λ x. on_owner (owner_of w.control m) (λ y. unless (freeze_refusal w.control devs l m x y) (freeze_done w.control l m)))
             (λ x. owner-plan P refused (owner_of w.control m) (λ y. unless (freeze_refusal w.control devs l m x y) (freeze_done w.control l m))
             (λ y. unless-plan P refused (freeze_refusal w.control devs l m x y) (freeze_done w.control l m) freeze-held)))
-            (refused JournalFull))
+            (refused JournalFull)
 
 pending-in : (P : Pending → Type 0) (ps : List Pending) → AllPending P ps → (p : Pending) → In p ps → P p
 pending-in P [] all p none = absurd none
@@ -183,7 +182,7 @@ pub freezes-hold : (tasks : List Task) → FreezesHold tasks
 freezes-hold tasks before later behind t devs l m v said is asked says there between stay =
     let w : World = run before in
     let u : World = after_task w t in
-    let same : t ≡ record { line = t.line; asked = Ok (Freeze devs l m) } = λ i. record t { asked = asked i } in
+    let same : t ≡ record { line = t.line; asked = Ok (Freeze devs l m); listed = t.listed } = λ i. record t { asked = asked i } in
     let held : Held l m v u.control = subst (λ t. said_in w t ≡ Done said → Held l m v (after_task w t).control) (sym same) (task-held l m v w (record { there = there; between = between }) t.line devs said) says in
     let k = lasts v (fields_at u.control v).primary_partner (u.control.volume v).server u.events later u stay (begins u l m v (between-task w t (between-run before)) held) in
     record { busy = k.rooted.busy.busy; acknowledged = k.silent.acked; waits = λ p here. pending-in _ _ k.silent.waits p here }

@@ -1,7 +1,7 @@
 -- Each step keeps a primary long busy that no step lets go, and no write lands on it.
 use Rattle.std.proofs.Common.{ℕ, ◌≡◌, ◌≢◌, ◌<◌, ◌+◌, inl, inr, refl, ap, sym, ◌∙◌, subst, arith, Bool, true, false, cond, not, ◌&&◌, ◌||◌, nat_eq, nat_lt, List, [], ◌∷◌, ◌++◌, map, Option, Some, None, Result, Ok, Err}
 use Rattle.std.specs.Prelude.{is_some, ◌==◌, option_map}
-use Rattle.std.specs.List.{find, list_any}
+use Rattle.std.specs.List.{find, list_any, flat_map}
 use Rattle.std.specs.Option.{option_or}
 use Rattle.std.proofs.lemmas.Bool.{and_parts, and_from, eq-eqb, eqb-true}
 use Rattle.std.proofs.lemmas.Bool.Decides.{eqb_tells}
@@ -11,7 +11,7 @@ use Rattle.std.proofs.lemmas.List.Folds.{list_any-append}
 use Rattle.dr_ids.specs.declared.names.Member.{Member}
 use Rattle.dr_ids.specs.declared.refusal.Decision.{Decision}
 use Rattle.dr_ids.specs.declared.refusal.Refusal.{Refusal}
-use Rattle.dr_ids.specs.declared.refusal.Refusal.TheVariants.{NotBuilt, OutOfOrder}
+use Rattle.dr_ids.specs.declared.refusal.Refusal.TheVariants.{JournalFull, OutOfOrder}
 use Rattle.dr_ids.specs.declared.refusal.PhaseName.TheVariants as phase
 use Rattle.dr_ids.specs.declared.refusal.Kind.TheVariants.{Server as OfServer}
 use Rattle.dr_model.specs.declared.said.Addition.TheVariants.{Alone}
@@ -22,11 +22,11 @@ use Rattle.dr_model.specs.declared.state.PairState.TheVariants.{Suspended as Sus
 use Rattle.dr_model.specs.declared.step.Devs.{Devs}
 use Rattle.dr_model.specs.declared.step.Name.{Name}
 use Rattle.dr_model.specs.declared.step.Step.{Step}
-use Rattle.dr_model.specs.declared.step.Step.TheVariants.{Server, Volume, Link, Stop, StopAfter, Start, Issue, Write, Apply, Show, MakeFlash, RemoveFlash, ResyncFlash, ReverseFlash, Copy, MakePath, RemovePath, MakePair, RemovePair, PausePair, ResumePair, Failover, Failback, Drain, Expire, Freeze, Unfreeze, MakeSession, RemoveSession, AddMember, RemoveMember, MakeMirror, PauseMirror, ResumeMirror, RemoveMirror, Abort, Exchange, Compare, Recover, CommitFlash, RevertFlash}
+use Rattle.dr_model.specs.declared.step.Step.TheVariants.{Server, Volume, Link, Stop, StopAfter, Start, Issue, Write, Apply, Show, MakeFlash, RemoveFlash, ResyncFlash, ReverseFlash, Copy, MakePath, RemovePath, MakePair, RemovePair, PausePair, ResumePair, Failover, Failback, Drain, Expire, Freeze, Unfreeze, MakeSession, RemoveSession, AddMember, RemoveMember, MakeMirror, PauseMirror, ResumeMirror, RemoveMirror, Abort, Exchange, Compare, Recover, CommitFlash, RevertFlash, Image, ListPairs, ListFlashes, ListSession, ShowMirror}
 use Rattle.dr_model.specs.Refusals.{unknown, server_off, duplicate}
 use Rattle.dr_ids.specs.declared.refusal.Kind.TheVariants.{Write as OfWrite}
 use Rattle.dr_model.specs.Control.{Control}
-use Rattle.dr_model.specs.Layout.{is_part, part_of}
+use Rattle.dr_model.specs.Layout.{is_part, kind_of}
 use Rattle.dr_model.specs.Pairs.{first_state, held}
 use Rattle.dr_model.specs.Entries.{is_at, fields_at, is_running, relation_state, share_server, share_size, is_no_target, is_settled, pair_state, subsystem}
 use Rattle.dr_model.specs.PairEntries.{first_differing, are_linked, reach_refusal, refuse_if, differs_at, two_servers, stands_free, may_follow, make_entries, leads_to, belongs_to, let_go, remove_both, may_pause, tell_paused, may_resume, may_take_over, leads_as, fall_back_on, yield_on, follow_on, resume_on, tracks_to_send, is_copying}
@@ -49,9 +49,13 @@ use Rattle.dr_model.specs.Control.{Pending, Volume as VolumeOf, World, new_volum
 use Rattle.dr_model.specs.Groups.{In}
 use Rattle.dr_model.specs.Moves.{Move, Relate, Withdraw, Resync, Reverse, Suspend, MakeSecondary, MakePrimary, DropPrimary, DropSecondary, Follow, TakeOver, Thaw, Lift, RaiseAttempt, RaiseFloor, Leave, is_write}
 use Rattle.dr_model.specs.Carry.{Make, Next, Pass, Do, Entry, now, check}
-use Rattle.dr_model.specs.Plans.{step_plan, is_built, has_room, write_done, apply_done, apply_on, has_landed, acknowledge_if, acknowledge_on, start_plan, start_on, remove_pair_plan, pause_pair_plan, resume_pair_plan, failover_plan, failback_plan, compare_plan, yield_refusal, with_pending}
+use Rattle.dr_model.specs.Plans.{step_plan, has_room, has_room_for, write_done, apply_done, apply_on, has_landed, acknowledge_if, acknowledge_on, start_plan, start_on, remove_pair_plan, pause_pair_plan, resume_pair_plan, failover_plan, failback_plan, compare_plan, yield_refusal, with_pending}
 use Rattle.dr_model.specs.Forming.{Part as StepPart, after_part, formed, form_said}
-use Rattle.dr_model.specs.Runs.{compared, Task, course, begun, carried_out, answered, answered_part, after_plan, after_task, masters_lost, said}
+use Rattle.dr_model.specs.Runs.{compared, Task, course, begun, carried_out, answered, answered_part, after_plan, after_task, masters_lost, said, image_plan, image_told, imaged}
+use Rattle.dr_model.specs.Limits.{image_events}
+use Rattle.dr_model.specs.PlantImage.{Volume as ListedVolume}
+use Rattle.dr_model.specs.Listings.{pair_lines, flash_lines, member_lines, mirror_lines, sessions_of, lists, listing_refusal}
+use Rattle.dr_laws_sound.proofs.Listed.{AllLines, lines-lists, lines-plain, pair-lines, flash-lines, session-lines, mirrors-lines, image-lines}
 use Rattle.dr_model.specs.WriteEntries.{partner_of, start_entries}
 use Rattle.dr_model.proofs.Images.{histories-push}
 use Rattle.dr_facts.proofs.Issued.{with-told}
@@ -183,6 +187,9 @@ module _ (v b s : ℕ) (base : List Event) (w : World) (k : Frozen v b s none ba
       → C p.entries → ((q : ℕ) → C (p.follows q)) → ((u : World) → K u → K (record u { control = p.last u.control })) → P p
   tells p rooted issued pending writes acks entries follows last =
       plan-kept v b s none base w p (frozen-told v b s none base w (begun w p) p.told refl writes issued acks pending rooted k) entries follows last
+
+  lines-kept : (told : List Event) → AllLines told → P (lists told)
+  lines-kept told ls = tells (lists told) k.rooted refl refl (ap (λ (h : Histories). h.write) (lines-lists w.events told ls)) (lines-plain told ls).none empty (λ q. empty) (λ u j. j)
 
   stays : (j : Control) → j.volume ≡ c.volume → j.volumes ≡ c.volumes → Rooted v b s none j
   stays j volume volumes = record {
@@ -502,12 +509,12 @@ module _ (v b s : ℕ) (base : List Event) (w : World) (k : Frozen v b s none ba
     step-kept (RemovePath devs src tgt force) stay = owned src (λ x. on_owner (owner_of c tgt) (λ y. unless (unpath_refusal c devs src tgt x y force) (remove_path_done src tgt)))
         (λ x. owned tgt (λ y. unless (unpath_refusal c devs src tgt x y force) (remove_path_done src tgt)) (λ y. one (unpath_refusal c devs src tgt x y force) (remove_path_done src tgt)
         (tells (remove_path_done src tgt) (stays _ refl refl) refl refl (with-told w [] refl) refl empty (λ q. empty) (λ u j. j))))
-    step-kept (MakePair devs a x kind full) stay = pair-kept devs a x (part_of kind) full _
+    step-kept (MakePair devs a x kind full) stay = pair-kept devs a x (kind_of kind) full _
     step-kept (RemovePair devs a x source_only) stay = remove-kept devs a x source_only (not-same a v stay)
     step-kept (PausePair devs a x) stay = pause-kept devs a x
-    step-kept (ResumePair devs a x kind) stay = resume-kept devs a x (part_of kind) (not-same a v stay)
-    step-kept (Failover devs x a kind) stay = failover-kept devs x a (part_of kind)
-    step-kept (Failback devs x y kind) stay = failback-kept devs x y (part_of kind) (not-same y v stay)
+    step-kept (ResumePair devs a x kind) stay = resume-kept devs a x (kind_of kind) (not-same a v stay)
+    step-kept (Failover devs x a kind) stay = failover-kept devs x a (kind_of kind)
+    step-kept (Failback devs x y kind) stay = failback-kept devs x y (kind_of kind) (not-same y v stay)
     step-kept (Drain a most) stay = drain-kept a most
     step-kept (Expire name) stay = by (server_named c (name_bytes name)) stay
       where
@@ -538,12 +545,19 @@ module _ (v b s : ℕ) (base : List Event) (w : World) (k : Frozen v b s none ba
     step-kept (Recover i) stay = recovers i
     step-kept (CommitFlash devs source sequence) stay = by-hand devs.dev lets_commit source
     step-kept (RevertFlash devs source sequence) stay = by-hand devs.dev lets_revert source
-    step-kept step stay = refused NotBuilt
+    step-kept (ListPairs devs x) stay = one (listing_refusal c devs.dev x) (lists (pair_lines line x (fields_at c x))) (lines-kept (pair_lines line x (fields_at c x)) (pair-lines line x (fields_at c x)))
+    step-kept (ListFlashes devs x) stay = one (listing_refusal c devs.dev x) (lists (flash_lines c line x)) (lines-kept (flash_lines c line x) (flash-lines c line x))
+    step-kept (ListSession devs l) stay =
+        let told : List Event = flat_map (member_lines c line l) (sessions_of c l) in
+        owned l (λ owner. unless (name_refusal c devs.dev owner) (lists told)) (λ owner. one (name_refusal c devs.dev owner) (lists told) (lines-kept told (session-lines c line l)))
+    step-kept (ShowMirror devs l) stay =
+        let told : List Event = flat_map (λ x. mirror_lines line x.number x.mirror) (sessions_of c l) in
+        owned l (λ owner. unless (name_refusal c devs.dev owner) (lists told)) (λ owner. one (name_refusal c devs.dev owner) (lists told) (lines-kept told (mirrors-lines c line l)))
+    step-kept step stay = says-kept (Done Alone)
 
     plan-of-kept : (step : Step) → lets_go c (Ok step) v ≡ false → P (step_plan c w.events line step)
     plan-of-kept step stay =
-        if-plan P refused (not (is_built step)) (refuses NotBuilt) (cond (has_room w.events) (plan_of c w.events line step) (refuses JournalFull)) (refused NotBuilt)
-        (if-plan P refused (has_room w.events) (plan_of c w.events line step) (refuses JournalFull) (step-kept step stay) (refused JournalFull))
+        if-plan P refused (has_room w.events) (plan_of c w.events line step) (refuses JournalFull) (step-kept step stay) (refused JournalFull)
 
   -- ---- comparisons
 
@@ -555,6 +569,11 @@ module _ (v b s : ℕ) (base : List Event) (w : World) (k : Frozen v b s none ba
   pub compared-kept : (x y : ℕ) → P (compared w x y)
   compared-kept x y =
       if-plan P refused (has_room w.events) (compare_plan c w.contents x y) (refuses JournalFull) (compare-kept w.contents x y) (refused JournalFull)
+
+  -- ---- images
+
+  pub imaged-kept : (vs : List ListedVolume) → P (imaged w vs)
+  imaged-kept vs = if-plan P refused (has_room_for image_events w.events) (image_plan vs) (refuses JournalFull) (lines-kept (image_told vs) (image-lines vs)) (refused JournalFull)
 
 -- ---- every step
 
@@ -582,11 +601,12 @@ module _ (v b s : ℕ) (base : List Event) where
   pub task-kept : (w : World) (t : Task) → lets_go w.control t.asked v ≡ false → Long w → Long (after_task w t)
   task-kept w t stay k = by t.asked stay
     where
-      by : (asked : Result Step ℕ) → lets_go w.control asked v ≡ false → Long (after_task w (record { line = t.line; asked = asked }))
+      by : (asked : Result Step ℕ) → lets_go w.control asked v ≡ false → Long (after_task w (record { line = t.line; asked = asked; listed = t.listed }))
       by (Ok (Run i n)) stay =
-          let run : Task = record { line = t.line; asked = Ok (Run i n) } in
+          let run : Task = record { line = t.line; asked = Ok (Run i n); listed = t.listed } in
           let x : StepPart = (course w run).last in
           answered-kept t.line x (says-kept v b s base x.world (last-plan Long part-kept w run k) (form_said i x.world.control (formed w i n).refusal))
       by (Ok (Compare x y)) stay = answered-kept t.line (record { world = w; plan = compared w x y }) (compared-kept v b s base w k x y)
+      by (Ok Image) stay = answered-kept t.line (record { world = w; plan = imaged w t.listed }) (imaged-kept v b s base w k t.listed)
       by (Ok step) stay = answered-kept t.line (record { world = w; plan = step_plan w.control w.events t.line step }) (plan-of-kept v b s base w k t.line step stay)
       by (Err column) stay = answered-kept t.line (record { world = w; plan = only_says (Refused (Syntax column)) }) (says-kept v b s base w k (Refused (Syntax column)))

@@ -22,7 +22,7 @@ use Rattle.dr_laws_attempts.proofs.Facts.{Update, each, committed-parts, is-comm
 use Rattle.dr_laws_attempts.proofs.Reports.{numbers-one, as-reported, commit-tells, commit-holds, nothing-tells, nobody-tells, never-impossible}
 use Rattle.dr_laws_attempts.proofs.Tables.{counts-here}
 use Rattle.dr_laws_attempts.proofs.Orders.{seen-moves, seen-target}
-use Rattle.dr_laws_recovery.specs.Recovered.{decided_over, common}
+use Rattle.dr_model.specs.Recovery.{decided_over, common}
 
 -- ---- two lists that tell the same are decided alike
 

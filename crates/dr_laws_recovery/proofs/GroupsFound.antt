@@ -33,7 +33,8 @@ use Rattle.dr_laws_targets.proofs.Places.{committed-stands}
 use Rattle.dr_laws_sound.specs.Acknowledged.{said_in}
 use Rattle.dr_laws_sound.proofs.Steps.{sound-run, sound-task}
 use Rattle.dr_laws_sound.proofs.Riders.{rides-task}
-use Rattle.dr_laws_recovery.specs.Recovered.{decided_over, common, recovered_in}
+use Rattle.dr_model.specs.Recovery.{decided_over, common}
+use Rattle.dr_laws_recovery.specs.Recovered.{recovered_in}
 use Rattle.dr_laws_recovery.specs.RecoveryAnswers.{AnswersForCause}
 use Rattle.dr_laws_recovery.specs.Formed.{FindsNewest, FindsNone, RecoveryFinds, GroupsAreFound}
 use Rattle.dr_laws_recovery.proofs.CountedAlong.{Counts, counts-ride, counts-run}
@@ -163,7 +164,7 @@ said-none d e (Some m) is = cc
 
 module _ (w : World) (sound : Sound w) (k : Counts w) (line s : ℕ) where
   abbrev t : Task
-  t = record { line = line; asked = Ok (Recover s) }
+  t = record { line = line; asked = Ok (Recover s); listed = [] }
 
   abbrev u : World
   u = after_task w t
@@ -213,8 +214,8 @@ module _ (w : World) (sound : Sound w) (k : Counts w) (line s : ℕ) where
 
 pub found-task : (w : World) (t : Task) → Sound w → Counts w → RecoveryFinds w t
 found-task w t sound k = record {
-  group = λ s n d asked said. subst (λ a. said_in w (record { line = t.line; asked = a }) ≡ Done (InGroup n d) → FindsNewest w (after_task w (record { line = t.line; asked = a })) s n) (sym asked) (finds w sound k t.line s n d) said;
-  none = λ s d asked said. subst (λ a. said_in w (record { line = t.line; asked = a }) ≡ Refused (NoGroup d) → FindsNone w (after_task w (record { line = t.line; asked = a })) s) (sym asked) (none w sound k t.line s d) said;
+  group = λ s n d asked said. subst (λ a. said_in w (record { line = t.line; asked = a; listed = t.listed }) ≡ Done (InGroup n d) → FindsNewest w (after_task w (record { line = t.line; asked = a; listed = t.listed })) s n) (sym asked) (finds w sound k t.line s n d) said;
+  none = λ s d asked said. subst (λ a. said_in w (record { line = t.line; asked = a; listed = t.listed }) ≡ Refused (NoGroup d) → FindsNone w (after_task w (record { line = t.line; asked = a; listed = t.listed })) s) (sym asked) (none w sound k t.line s d) said;
 }
 
 pub found-run : (tasks : List Task) → GroupsAreFound tasks

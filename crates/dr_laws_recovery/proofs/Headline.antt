@@ -42,7 +42,8 @@ use Rattle.dr_laws_targets.specs.Counted.{CountsAsTarget, MemberHas, TargetsShow
 use Rattle.dr_laws_targets.proofs.Places.{in-group, committed-found, committed-stands}
 use Rattle.dr_laws_targets.proofs.Held.{held-stored}
 use Rattle.dr_laws_recovery.specs.Decided.{shown_on}
-use Rattle.dr_laws_recovery.specs.Recovered.{VolumeRecords, Recovery, decided_over, goes_back, remains_in, number_after, view_before, common, recovered_in, recovered_on, SameRecovery, HoldsTracks}
+use Rattle.dr_model.specs.Recovery.{VolumeRecords, Recovery, decided_over, goes_back, remains_in, number_after, view_before, common}
+use Rattle.dr_laws_recovery.specs.Recovered.{recovered_in, recovered_on, SameRecovery, HoldsTracks}
 use Rattle.dr_laws_recovery.specs.Headline.{IsOfGroup, GivesCut, GivesNewest}
 use Rattle.dr_laws_recovery.proofs.TakenAt.{holds-all}
 use Rattle.dr_laws_recovery.specs.Stored.{MirroredIsStored, StoredAtCuts}

@@ -9,7 +9,6 @@ use Rattle.dr_laws_recovery.specs.Headline.{Headline}
 use Rattle.dr_laws_sound.proofs.Steps.{sound-run}
 use Rattle.dr_laws_recovery.proofs.Begins.{begins-run}
 use Rattle.dr_laws_recovery.proofs.CountedAlong.{Counts, counts-run}
-use Rattle.dr_laws_recovery.specs.Stored.{StoredAtCuts}
 use Rattle.dr_laws_recovery.proofs.Stored.{stored-run}
 use Rattle.dr_laws_recovery.proofs.OnTracks.{tracked-run}
 use Rattle.dr_laws_recovery.proofs.Headline.{headline-on}

@@ -6,7 +6,7 @@ use Rattle.dr_model.specs.declared.event.Event.{Event}
 use Rattle.dr_model.specs.declared.event.Event.TheVariants.{Volume as VolumeDefined, Mirrored, Sent, Flashed, Reverted, Set, Back, Blanked}
 use Rattle.dr_model.specs.declared.said.Said.{Said}
 use Rattle.dr_model.specs.declared.step.Step.{Step}
-use Rattle.dr_model.specs.declared.step.Step.TheVariants.{Run, Compare}
+use Rattle.dr_model.specs.declared.step.Step.TheVariants.{Run, Compare, Image}
 use Rattle.dr_ids.specs.declared.refusal.Refusal.TheVariants.{Syntax}
 use Rattle.dr_model.specs.declared.said.Said.TheVariants.{Refused}
 use Rattle.dr_model.specs.Groups.{In}
@@ -17,12 +17,12 @@ use Rattle.dr_model.specs.Control.{Control, World}
 use Rattle.dr_model.specs.Plans.{Plan, only_says, step_plan}
 use Rattle.dr_model.specs.Forming.{Way, formed, form_said}
 use Rattle.dr_model.specs.Carried.{carried_out, answered, after_plan}
-use Rattle.dr_model.specs.Runs.{Task, run_asked, course_of, answered_part, after_task, run, compared}
+use Rattle.dr_model.specs.Runs.{Task, own_course, course_of, answered_part, after_task, run, compared, imaged}
 use Rattle.dr_model.specs.TakenWrites.{takes_from, StepKeeps, KeepsWrites}
 use Rattle.dr_model.proofs.Images.{histories-push}
 use Rattle.dr_laws_targets.proofs.Held.{stays-or}
 use Rattle.dr_laws_recovery.proofs.Spared.{Spares, AllSpared, Told, told-more}
-use Rattle.dr_laws_recovery.proofs.SparedSteps.{Tells, says-told, step-told, compared-told}
+use Rattle.dr_laws_recovery.proofs.SparedSteps.{Tells, says-told, step-told, compared-told, imaged-told}
 use Rattle.dr_laws_recovery.proofs.SparedRuns.{run-told}
 
 -- ---- what a step tells
@@ -42,13 +42,14 @@ told-on Q es fs gs first rest = subst (Told Q es) (sym rest.is) (told-more Q es 
 pub told-task : (w : World) (t : Task) → Told (MayTake w.control t.asked) w.events (after_task w t).events
 told-task w t = by t.asked
   where
-    by : (asked : Result Step ℕ) → Told (MayTake w.control asked) w.events (answered_part t.line (course_of w (record { line = t.line; asked = asked }) (run_asked asked)).last).events
+    by : (asked : Result Step ℕ) → Told (MayTake w.control asked) w.events (answered_part t.line (course_of w (record { line = t.line; asked = asked; listed = t.listed }) (own_course asked)).last).events
     by (Ok (Run s n)) =
         let x : Way = formed w s n in
         let a : Said = form_said s x.world.control x.refusal in
         let Q : ℕ → Type 0 = MayTake w.control (Ok (Run s n)) in
         told-on Q w.events x.world.events _ (run-told w s n) (plan-told x.world Q t.line (only_says a) (says-told x.world Q a))
     by (Ok (Compare v u)) = plan-told w (MayTake w.control (Ok (Compare v u))) t.line (compared w v u) (compared-told w t.line v u)
+    by (Ok Image) = plan-told w (MayTake w.control (Ok Image)) t.line (imaged w t.listed) (imaged-told w t.line t.listed)
     by (Err column) = let Q : ℕ → Type 0 = MayTake w.control (Err column) in plan-told w Q t.line (only_says (Refused (Syntax column))) (says-told w Q (Refused (Syntax column)))
     by (Ok step) = plan-told w (MayTake w.control (Ok step)) t.line (step_plan w.control w.events t.line step) (step-told w t.line step)
 

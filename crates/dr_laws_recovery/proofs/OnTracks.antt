@@ -4,7 +4,6 @@ use Rattle.std.specs.List.{list_any}
 use Rattle.std.proofs.lemmas.List.{append-nil}
 use Rattle.std.proofs.lemmas.Bool.{or_parts}
 use Rattle.std.proofs.lemmas.List.Folds.{list_any-append}
-use Rattle.dr_logic.specs.Tables.{at}
 use Rattle.dr_model.specs.declared.event.Event.{Event}
 use Rattle.dr_model.specs.declared.event.Event.TheVariants.{Issue, Ack, Mirrored, Blanked, Restored, Stopped, Suspended, Frozen, Thawed, Recovered, Begin, Cut}
 use Rattle.dr_model.specs.Histories.{Write, Histories, joined, after_event, histories}

@@ -12,7 +12,7 @@ use Rattle.dr_model.specs.Rows.{after, next_row, next_due, volumes_of}
 use Rattle.dr_model.specs.Laws.{SoundRows, fields, shown}
 use Rattle.dr_model.specs.Allowed.{Allowed}
 use Rattle.dr_laws_recovery.specs.BothViews.{IsRevertible, set_aside, Settles}
-use Rattle.dr_laws_recovery.specs.Recovered.{goes_back, remains_in, number_after, image_after}
+use Rattle.dr_model.specs.Recovery.{goes_back, remains_in, number_after, image_after}
 use Rattle.dr_laws_sound.proofs.Views.{shown-due, own-shows, others-stay}
 use Rattle.dr_laws_recovery.proofs.BothViews.{both-stay, commit-shows, revert-shows}
 use Rattle.dr_logic.proofs.Truth.{false_true}

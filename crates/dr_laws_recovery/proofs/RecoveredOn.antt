@@ -15,7 +15,8 @@ use Rattle.dr_model.specs.Laws.{Sound, sizes}
 use Rattle.dr_model.specs.Fits.{Fits, on_device}
 use Rattle.dr_facts.proofs.Lists.{from-filter, any-some}
 use Rattle.dr_laws_recovery.specs.Decided.{record_on}
-use Rattle.dr_laws_recovery.specs.Recovered.{VolumeRecords, decided_over, goes_back, remains_in, number_after, view_before, common, recovered_in, recovered_on, TellsRecovery, SameRecovery, HoldsTracks}
+use Rattle.dr_model.specs.Recovery.{VolumeRecords, decided_over, goes_back, remains_in, number_after, view_before, common}
+use Rattle.dr_laws_recovery.specs.Recovered.{recovered_in, recovered_on, TellsRecovery, SameRecovery, HoldsTracks}
 use Rattle.dr_laws_recovery.proofs.Decided.{on-record}
 use Rattle.dr_laws_sound.proofs.Views.{shown-due}
 use Rattle.dr_laws_recovery.proofs.RecoverySame.{filter-same, map-same, is-revertible}

@@ -40,7 +40,8 @@ use Rattle.dr_laws_sessions.specs.Frames.{Moves}
 use Rattle.dr_facts.proofs.Lists.{found as found-one}
 use Rattle.dr_laws_sessions.proofs.Changes.{session-found}
 use Rattle.dr_laws_recovery.specs.BothViews.{Settles}
-use Rattle.dr_laws_recovery.specs.Recovered.{decided_over, remains_in, number_after, recovered_in, SameRecovery, KeepsRecovery}
+use Rattle.dr_model.specs.Recovery.{decided_over, remains_in, number_after}
+use Rattle.dr_laws_recovery.specs.Recovered.{recovered_in, SameRecovery, KeepsRecovery}
 use Rattle.dr_facts.proofs.Tables.{at_cases}
 use Rattle.dr_laws_sound.proofs.Turns.{next_of, carried_in, done, done_in_stop, after_act}
 use Rattle.dr_laws_sound.proofs.RowsAfter.{table-done, table-stop}

@@ -25,7 +25,8 @@ use Rattle.dr_laws_sessions.proofs.Changes.{session-found}
 use Rattle.dr_laws_attempts.proofs.Recover.{nothing-plain, nobody-plain}
 use Rattle.dr_laws_attempts.proofs.Tables.{session-possible}
 use Rattle.dr_laws_attempts.proofs.Orders.{unflashed-plain}
-use Rattle.dr_laws_recovery.specs.Recovered.{decided_over, goes_back, remains_in, number_after, common, recovered_in, HasRecovered, view_before}
+use Rattle.dr_model.specs.Recovery.{decided_over, goes_back, remains_in, number_after, common, view_before}
+use Rattle.dr_laws_recovery.specs.Recovered.{recovered_in, HasRecovered}
 use Rattle.dr_model.specs.Views.{view}
 use Rattle.dr_facts.proofs.Tables.{at_cases}
 use Rattle.dr_laws_sound.proofs.Turns.{next_of, carried_in, done}

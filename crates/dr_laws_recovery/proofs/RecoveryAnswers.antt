@@ -17,7 +17,8 @@ use Rattle.dr_model.specs.Sessions.{Session, session_in}
 use Rattle.dr_model.specs.Groups.{In}
 use Rattle.dr_model.specs.Laws.{Sound}
 use Rattle.dr_facts.proofs.Lists.{not-found}
-use Rattle.dr_laws_recovery.specs.Recovered.{decided_over, recovered_in}
+use Rattle.dr_model.specs.Recovery.{decided_over}
+use Rattle.dr_laws_recovery.specs.Recovered.{recovered_in}
 use Rattle.dr_laws_recovery.specs.RecoveryAnswers.{secondary_server, FirstOff, Stops, IsCarriedOut, FirstServerIsOff, AnswersForCause}
 use Rattle.dr_laws_sound.proofs.Turns.{server_at, next_of, carried_in, done, done_in_stop, not_done, turn_by, turn-by}
 use Rattle.dr_laws_sound.proofs.FitsFlash.{as_begun}

@@ -18,7 +18,8 @@ use Rattle.dr_laws_sessions.specs.Frames.{Moves}
 use Rattle.dr_facts.proofs.Lists.{from-filter}
 use Rattle.dr_laws_attempts.proofs.Tables.{counts-here}
 use Rattle.dr_laws_recovery.specs.BothViews.{IsRevertible}
-use Rattle.dr_laws_recovery.specs.Recovered.{decided_over, goes_back, remains_in, number_after, view_before, common, recovery_by, SameRecovery}
+use Rattle.dr_model.specs.Recovery.{decided_over, goes_back, remains_in, number_after, view_before, common, recovery_by}
+use Rattle.dr_laws_recovery.specs.Recovered.{SameRecovery}
 use Rattle.dr_model.specs.Views.{view}
 use Rattle.dr_laws_sound.proofs.Turns.{next_of, carried_in}
 use Rattle.dr_laws_recovery.proofs.Recovered.{Alike}

@@ -459,13 +459,13 @@ ends-stands w line a i l = record { session = l.session; found = ap (λ ss. sess
 
 pub forms-task : (w : World) (t : Task) → Sound w → Counts w → RunForms w t
 unfolding ends-stands
-forms-task w t sound k = record { formed = λ s n answer asked is. subst (λ a. said_in w (record { line = t.line; asked = a }) ≡ Done answer → SaysNewest (after_task w (record { line = t.line; asked = a })) s answer) (sym asked) (forms s n answer) is }
+forms-task w t sound k = record { formed = λ s n answer asked is. subst (λ a. said_in w (record { line = t.line; asked = a; listed = t.listed }) ≡ Done answer → SaysNewest (after_task w (record { line = t.line; asked = a; listed = t.listed })) s answer) (sym asked) (forms s n answer) is }
   where
-    forms : (s n : ℕ) (a : Addition) → said_in w (record { line = t.line; asked = Ok (Run s n) }) ≡ Done a → SaysNewest (after_task w (record { line = t.line; asked = Ok (Run s n) })) s a
+    forms : (s n : ℕ) (a : Addition) → said_in w (record { line = t.line; asked = Ok (Run s n); listed = t.listed }) ≡ Done a → SaysNewest (after_task w (record { line = t.line; asked = Ok (Run s n); listed = t.listed })) s a
     forms s n a is = by (formed w s n).refusal refl (sym (only-said (formed w s n).world (form_said s (formed w s n).world.control (formed w s n).refusal)) ∙ is)
       where
         u : World
-        u = after_task w (record { line = t.line; asked = Ok (Run s n) })
+        u = after_task w (record { line = t.line; asked = Ok (Run s n); listed = t.listed })
 
         of : (y : Session) → y.number ≡ s → (m : Option Mirror) → y.mirror ≡ m → phase_of m ≡ phase.Idle → ((r : Mirror) → m ≡ Some r → r.master.number ≡ y.last) → NewestGroup u.events s y.last → mirror_phase m ≡ Done a → SaysNewest u s a
         of y number None mirror idle last newest says = absurd cc
@@ -485,8 +485,8 @@ forms-task w t sound k = record { formed = λ s n answer asked is. subst (λ a. 
             let h : HasFormed v s = way-forms w s n sound e in
             let y : Session = h.stands.session in
             let l : LastStands u s = ends-stands v t.line (form_said s v.control (formed w s n).refusal) s h.stands in
-            let sound_u : Sound u = sound-task w (record { line = t.line; asked = Ok (Run s n) }) sound in
-            let counts_u : Counts u = rides-task Counts counts-ride w (record { line = t.line; asked = Ok (Run s n) }) sound k in
+            let sound_u : Sound u = sound-task w (record { line = t.line; asked = Ok (Run s n); listed = t.listed }) sound in
+            let counts_u : Counts u = rides-task Counts counts-ride w (record { line = t.line; asked = Ok (Run s n); listed = t.listed }) sound k in
             let there = session-found u.control.sessions s l.session l.found in
             of y there.1 y.mirror refl (ap phase_of (sym (ap mirror_in h.stands.found)) ∙ h.idle) (λ r m. (sound_u.groups.each l.session there.0).sound.number r m)
             (newest-stands u sound_u counts_u s l) (sym (ap session_phase h.stands.found) ∙ says)

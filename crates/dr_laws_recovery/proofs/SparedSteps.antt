@@ -1,7 +1,7 @@
 -- Each step of one plan takes writes from those volumes alone from which it may.
 use Rattle.std.proofs.Common.{ℕ, ◌≡◌, refl, ap, sym, ◌∙◌, subst, Bool, true, false, cond, not, ◌&&◌, ◌||◌, List, [], ◌∷◌, ◌++◌, map, Option, Some, None, nat_eq, nat_lt}
 use Rattle.std.specs.Prelude.{is_some, ◌==◌, Ok}
-use Rattle.std.specs.List.{find, list_any}
+use Rattle.std.specs.List.{find, list_any, flat_map}
 use Rattle.std.specs.Option.{option_or}
 use Rattle.std.proofs.Math.Bool.{or-true}
 use Rattle.std.proofs.lemmas.Bool.{and_from, and_parts, eq-eqb, eqb-true}
@@ -9,7 +9,7 @@ use Rattle.dr_ids.specs.declared.names.Member.{Member}
 use Rattle.dr_ids.specs.declared.refusal.Decision.{Decision}
 use Rattle.dr_ids.specs.declared.refusal.Decision.TheVariants.{NoMember, Nothing, RevertAll, CommitRest, RevertSome, Impossible}
 use Rattle.dr_ids.specs.declared.refusal.Refusal.{Refusal}
-use Rattle.dr_ids.specs.declared.refusal.Refusal.TheVariants.{NotBuilt, JournalFull}
+use Rattle.dr_ids.specs.declared.refusal.Refusal.TheVariants.{JournalFull}
 use Rattle.dr_model.specs.declared.event.Event.{Event}
 use Rattle.dr_model.specs.declared.said.Said.{Said}
 use Rattle.dr_model.specs.declared.said.Said.TheVariants.{Done, Refused}
@@ -19,8 +19,8 @@ use Rattle.dr_model.specs.declared.state.PairState.TheVariants.{Suspended as Sus
 use Rattle.dr_model.specs.declared.step.Name.{Name}
 use Rattle.dr_model.specs.declared.step.Devs.{Devs}
 use Rattle.dr_model.specs.declared.step.Step.{Step}
-use Rattle.dr_model.specs.declared.step.Step.TheVariants.{Server, Volume, Link, Stop, StopAfter, Start, Issue, Write, Apply, Show, MakeFlash, RemoveFlash, ResyncFlash, ReverseFlash, Copy, MakePath, RemovePath, MakePair, RemovePair, PausePair, ResumePair, Failover, Failback, Compare, Drain, Expire, Freeze, Unfreeze, MakeSession, RemoveSession, AddMember, RemoveMember, MakeMirror, PauseMirror, ResumeMirror, RemoveMirror, Abort, Exchange, Recover, CommitFlash, RevertFlash}
-use Rattle.dr_model.specs.Layout.{Fields, is_part, part_of}
+use Rattle.dr_model.specs.declared.step.Step.TheVariants.{Server, Volume, Link, Stop, StopAfter, Start, Issue, Write, Apply, Show, MakeFlash, RemoveFlash, ResyncFlash, ReverseFlash, Copy, MakePath, RemovePath, MakePair, RemovePair, PausePair, ResumePair, Failover, Failback, Compare, Drain, Expire, Freeze, Unfreeze, MakeSession, RemoveSession, AddMember, RemoveMember, MakeMirror, PauseMirror, ResumeMirror, RemoveMirror, Abort, Exchange, Recover, CommitFlash, RevertFlash, Image, ListPairs, ListFlashes, ListSession, ShowMirror}
+use Rattle.dr_model.specs.Layout.{Fields, is_part, kind_of}
 use Rattle.dr_model.specs.Control.{Control, Pending, World}
 use Rattle.dr_model.specs.Contents.{image_at}
 use Rattle.dr_model.specs.Groups.{In}
@@ -40,16 +40,20 @@ use Rattle.dr_ids.specs.declared.refusal.Refusal.TheVariants.{OutOfOrder}
 use Rattle.dr_ids.specs.declared.refusal.PhaseName.TheVariants as phase
 use Rattle.dr_ids.specs.declared.refusal.Kind.TheVariants.{Server as OfServer, Volume as OfVolume, Lss as OfLss, Session as OfSession}
 use Rattle.dr_model.specs.Refusals.{unknown, duplicate, server_off}
-use Rattle.dr_model.specs.Plans.{Plan, same, none_follow, always, entries_plan, only_says, refuses, unless, on_named, on_server, name_bytes, server_named, on_owner, owner_of, on_session, server_refusal, server_done, volume_refusal, volume_done, link_between, link_done, issue_refusal, issue_done, write_done, apply_on, show_refusal, show_done, stop_on, stop_done, arm_on, start_on, start_plan, acknowledge_on, acknowledge_if, landed_on, expire_on, expire_plan, copy_plan, found_pair, found_volumes, is_defined, is_owner, differ, is_no_source, has_few_targets, is_plain_target, is_recorded_target, is_lone_restore, may_return, may_copy, may_give_back, at_most, left_to_copy, counted_refusal, restore_refusal, left_by, path_refusal, make_path_done, unpath_refusal, remove_path_done, freeze_refusal, freeze_done, thaw_refusal, unfreeze_done, make_pair_plan, remove_pair_plan, pause_pair_plan, resume_pair_plan, failover_plan, yield_refusal, failback_plan, member_refusal, drain_plan, plan_of, step_plan, is_built, has_room, compare_plan}
+use Rattle.dr_model.specs.Plans.{Plan, same, none_follow, always, entries_plan, only_says, refuses, unless, on_named, on_server, name_bytes, server_named, on_owner, owner_of, on_session, server_refusal, server_done, volume_refusal, volume_done, link_between, link_done, issue_refusal, issue_done, write_done, apply_on, show_refusal, show_done, stop_on, stop_done, arm_on, start_on, start_plan, acknowledge_on, acknowledge_if, landed_on, expire_on, expire_plan, copy_plan, found_pair, found_volumes, is_defined, is_owner, differ, is_no_source, has_few_targets, is_plain_target, is_recorded_target, is_lone_restore, may_return, may_copy, may_give_back, at_most, left_to_copy, counted_refusal, restore_refusal, left_by, path_refusal, make_path_done, unpath_refusal, remove_path_done, freeze_refusal, freeze_done, thaw_refusal, unfreeze_done, make_pair_plan, remove_pair_plan, pause_pair_plan, resume_pair_plan, failover_plan, yield_refusal, failback_plan, member_refusal, drain_plan, plan_of, step_plan, has_room_for, has_room, compare_plan}
 use Rattle.dr_model.specs.TakenWrites.{takes_from, sends_write, sends_pending, is_target_in}
 use Rattle.dr_facts.proofs.Lists.{found, from-filter, any-some}
 use Rattle.dr_facts.proofs.Parts.{global-part, metro-part}
 use Rattle.dr_facts.proofs.Refusals.{none-both}
 use Rattle.dr_logic.proofs.Truth.{false_true}
-use Rattle.dr_model.specs.Runs.{compared}
+use Rattle.dr_model.specs.Runs.{compared, image_plan, image_told, imaged}
+use Rattle.dr_model.specs.Limits.{image_events}
+use Rattle.dr_model.specs.PlantImage.{Volume as ListedVolume}
+use Rattle.dr_model.specs.Listings.{pair_lines, flash_lines, member_lines, mirror_lines, sessions_of, lists, listing_refusal}
+use Rattle.dr_laws_sound.proofs.Listed.{AllLines, each-line, all-lines, pair-lines, flash-lines, session-lines, mirrors-lines, image-lines}
 use Rattle.dr_laws_sound.proofs.Cases.{is-new, added as added_plan, expelled}
 use Rattle.dr_laws_recovery.proofs.Went.{fine-none, fine-then, fine-append, fine-choice}
-use Rattle.dr_laws_recovery.proofs.Spared.{OkBy, AllSpared, Told, told-more, told-none, Takes, act-told, carry-kept, finish-kept, check-kept}
+use Rattle.dr_laws_recovery.proofs.Spared.{OkBy, Spares, AllSpared, Told, told-more, told-none, Takes, act-told, carry-kept, finish-kept, check-kept}
 use Rattle.dr_laws_recovery.proofs.SparedEntries.{Fair, FairNext, fair-check, fair-refuse, fair-drop, fair-now, fair-one, fair-map, fair-members, fair-choice, fair-times, fair-found, Easy, keep-fair, copy-fair, suspend-fair, sends-fair, order-fair}
 
 -- ---- entries, by the volumes that their moves take from
@@ -213,6 +217,10 @@ module _ (w : World) (Q : ℕ → Type 0) where
 
   tables-told : (first : Control → Control) (told : List Event) (says : Control → Said) → AllSpared Q told → Tells (record { first = first; told = told; entries = []; follows = none_follow; last = same; says = says })
   tables-told first told says all = moves-told (record { first = first; told = told; entries = []; follows = none_follow; last = same; says = says }) all (fine-none (OkBy (Takes Q))) (λ s. fine-none (OkBy (Takes Q)))
+
+  -- listings and images
+  lines-told : (told : List Event) → AllLines told → Tells (lists told)
+  lines-told told ls = tables-told same told (always (Done Alone)) (all-lines (AllSpared Q) tt (λ e es l rest. (each-line (Spares Q) (λ line v u state kind k. tt) (λ line s t sequence previous state flags own. tt) (λ line s a b c state. tt) (λ line s server phase n paused. tt) tt (λ v server tracks. tt) (λ v index bytes. tt) tt e l, rest)) told ls)
 
   pub says-told : (a : Said) → Tells (only_says a)
   says-told a = tables-told same [] (always a) tt
@@ -487,12 +495,12 @@ module _ (w : World) (line : ℕ) where
   of-step (RemovePath devs src tgt force) =
       where-owned w _ (owner_of j src) (λ s. on_owner (owner_of j tgt) (λ u. unless (unpath_refusal j devs src tgt s u force) (remove_path_done src tgt)))
       (λ s. where-owned w _ (owner_of j tgt) (λ u. unless (unpath_refusal j devs src tgt s u force) (remove_path_done src tgt)) (λ u. where-none w _ (unpath_refusal j devs src tgt s u force) (remove_path_done src tgt) (λ free. tables-told w _ _ _ _ tt)))
-  of-step (MakePair devs a b kind full) = pair-fits (MakePair devs a b kind full) devs a b (part_of kind) full
+  of-step (MakePair devs a b kind full) = pair-fits (MakePair devs a b kind full) devs a b (kind_of kind) full
   of-step (RemovePair devs a b source_only) = remove-fits (RemovePair devs a b source_only) devs a b source_only
   of-step (PausePair devs a b) = pause-fits (PausePair devs a b) devs a b
-  of-step (ResumePair devs a b kind) = resume-fits (ResumePair devs a b kind) devs a b (part_of kind)
-  of-step (Failover devs b a kind) = failover-fits (Failover devs b a kind) devs b a (part_of kind)
-  of-step (Failback devs x y kind) = failback-fits (Failback devs x y kind) devs x y (part_of kind)
+  of-step (ResumePair devs a b kind) = resume-fits (ResumePair devs a b kind) devs a b (kind_of kind)
+  of-step (Failover devs b a kind) = failover-fits (Failover devs b a kind) devs b a (kind_of kind)
+  of-step (Failback devs x y kind) = failback-fits (Failback devs x y kind) devs x y (kind_of kind)
   of-step (Drain a most) = drain-told w (MayTake j (Drain a most)) a most (λ part. (and_from (is_part (fields_at j a).primary) _ part ((eq-eqb (fields_at j a).primary_partner (fields_at j a).primary_partner refl))))
   of-step (Expire name) = where-named w _ (server_named j (name_bytes name)) (expire_on j) (λ s.
       if w _ (j.on s) (expire_plan j s) (refuses (server_off s)) (λ on. entries-told w (MayTake j (Expire name)) _ _ (fair-map _ (lift_on s) (λ v k. choice _ k (belongs k s v && held (fields_at k v)) (Do (Make (Lift v))) Pass tt tt) j.volumes)) (λ off. says-told w _ _))
@@ -517,12 +525,19 @@ module _ (w : World) (line : ℕ) where
   of-step (Recover s) = recover-fits (Recover s) s (λ m here. (session-target j s m here))
   of-step (CommitFlash devs source sequence) = settle-fits (CommitFlash devs source sequence) devs.dev lets_commit source (λ t d is yes no. absurd (false_true no yes))
   of-step (RevertFlash devs source sequence) = settle-fits (RevertFlash devs source sequence) devs.dev lets_revert source (λ t d is yes no. (subst (λ o. is_at o t ≡ true) (sym is) ((eq-eqb t t refl))))
-  of-step step = says-told w (MayTake j step) (Refused NotBuilt)
+  of-step (ListPairs devs v) = where-none w _ (listing_refusal j devs.dev v) (lists (pair_lines line v (fields_at j v))) (λ there. lines-told w _ (pair_lines line v (fields_at j v)) (pair-lines line v (fields_at j v)))
+  of-step (ListFlashes devs v) = where-none w _ (listing_refusal j devs.dev v) (lists (flash_lines j line v)) (λ there. lines-told w _ (flash_lines j line v) (flash-lines j line v))
+  of-step (ListSession devs l) =
+      let told : List Event = flat_map (member_lines j line l) (sessions_of j l) in
+      where-owned w _ (owner_of j l) _ (λ owner. where-none w _ (name_refusal j devs.dev owner) (lists told) (λ named. lines-told w _ told (session-lines j line l)))
+  of-step (ShowMirror devs l) =
+      let told : List Event = flat_map (λ x. mirror_lines line x.number x.mirror) (sessions_of j l) in
+      where-owned w _ (owner_of j l) _ (λ owner. where-none w _ (name_refusal j devs.dev owner) (lists told) (λ named. lines-told w _ told (mirrors-lines j line l)))
+  of-step step = says-told w (MayTake j step) (Done Alone)
 
   pub step-told : (step : Step) → Fits step (step_plan j es line step)
   step-told step =
-      if w (MayTake j step) (not (is_built step)) (refuses NotBuilt) (cond (has_room es) (plan_of j es line step) (refuses JournalFull)) (λ none. says-told w _ (Refused NotBuilt))
-      (λ built. if w (MayTake j step) (has_room es) (plan_of j es line step) (refuses JournalFull) (λ room. of-step step) (λ full. says-told w _ (Refused JournalFull)))
+      if w (MayTake j step) (has_room es) (plan_of j es line step) (refuses JournalFull) (λ room. of-step step) (λ full. says-told w _ (Refused JournalFull))
 
   -- a comparison takes nothing
   pub compared-told : (v u : ℕ) → Fits (Compare v u) (compared w v u)
@@ -531,3 +546,9 @@ module _ (w : World) (line : ℕ) where
       if w Q (has_room es) (compare_plan j w.contents v u) (refuses JournalFull) (λ room. entries-told w Q _ _ (fair-check (Takes Q) (is_defined v) _ _ (fair-check (Takes Q) (is_defined u) _ _ (fair-check (Takes Q) (is_running v) _ _ (fair-check (Takes Q) (is_running u) _ _
       (fair-check (Takes Q) (share_size v u) _ _ (fair-refuse (Takes Q) (differs_at (first_differing w.contents (j.volume v).tracks v u)) _ (fine-none _))))))))
       (λ full. says-told w Q (Refused JournalFull))
+
+  -- nor does an image
+  pub imaged-told : (vs : List ListedVolume) → Fits Image (imaged w vs)
+  imaged-told vs =
+      let Q : ℕ → Type 0 = MayTake j Image in
+      if w Q (has_room_for image_events es) (image_plan vs) (refuses JournalFull) (λ room. lines-told w Q (image_told vs) (image-lines vs)) (λ full. says-told w Q (Refused JournalFull))

@@ -17,7 +17,8 @@ use Rattle.dr_model.specs.HeldWrites.{IsStoredOn}
 use Rattle.dr_model.specs.Runs.{Task, run}
 use Rattle.dr_laws_recovery.specs.Decided.{shown_on}
 use Rattle.dr_laws_recovery.specs.Held.{HoldsAll}
-use Rattle.dr_laws_recovery.specs.Recovered.{Recovery, recovered_on}
+use Rattle.dr_model.specs.Recovery.{Recovery}
+use Rattle.dr_laws_recovery.specs.Recovered.{recovered_on}
 
 -- volume v is the target of a member of session x whose primary stands in the group of attempt n
 pub record IsOfGroup (w : World) (x : Session) (n v : ℕ) : Type 0 where

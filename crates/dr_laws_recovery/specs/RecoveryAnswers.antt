@@ -11,7 +11,8 @@ use Rattle.dr_model.specs.PlanParts.{Plan, refuses}
 use Rattle.dr_model.specs.RecoveryPlans.{recover_plan, says_group}
 use Rattle.dr_model.specs.Carry.{carry}
 use Rattle.dr_model.specs.Carried.{begun}
-use Rattle.dr_laws_recovery.specs.Recovered.{decided_over, recovered_in}
+use Rattle.dr_model.specs.Recovery.{decided_over}
+use Rattle.dr_laws_recovery.specs.Recovered.{recovered_in}
 
 -- the server of a member's secondary
 abbrev pub secondary_server : Control → Member → ℕ

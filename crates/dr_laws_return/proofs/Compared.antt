@@ -192,7 +192,7 @@ module _ (w : World) (v u : ℕ) where
 pub compared-run : (tasks : List Task) (device : ℕ → Blocks) → HoldsTracks (run tasks) device → ComparesDevices tasks device
 compared-run tasks device holds before t v u is asked =
     let w : World = run before in
-    let same : t ≡ record { line = t.line; asked = Ok (Compare v u) } = λ i. record t { asked = asked i } in
-    let leads : run tasks ≡ after_task w (record { line = t.line; asked = Ok (Compare v u) }) = ap run is ∙ run-more before t ∙ ap (after_task w) same in
+    let same : t ≡ record { line = t.line; asked = Ok (Compare v u); listed = t.listed } = λ i. record t { asked = asked i } in
+    let leads : run tasks ≡ after_task w (record { line = t.line; asked = Ok (Compare v u); listed = t.listed }) = ap run is ∙ run-more before t ∙ ap (after_task w) same in
     subst (λ (t : Task). Tells (run tasks).control (on_device (run tasks).control device) v u (said_in w t)) (sym same)
-    (subst (λ (x : World). HoldsTracks x device → Tells x.control (on_device x.control device) v u (said_in w (record { line = t.line; asked = Ok (Compare v u) }))) (sym leads) (room-says w v u t.line device (has_room w.events)) holds)
+    (subst (λ (x : World). HoldsTracks x device → Tells x.control (on_device x.control device) v u (said_in w (record { line = t.line; asked = Ok (Compare v u); listed = t.listed }))) (sym leads) (room-says w v u t.line device (has_room w.events)) holds)

@@ -253,7 +253,7 @@ module _ (w : World) (s : Sound w) (x y : ℕ) (can : CanDrain w.control x y) wh
   module _ (t : Task) (asked : t.asked ≡ Ok (Drain x None)) (room : has_room w.events ≡ true) where
     answers : said_in w t ≡ part_answer (record { world = w; plan = p })
     answers =
-        let is : t ≡ record { line = t.line; asked = Ok (Drain x None) } = λ i. record t { asked = asked i } in
+        let is : t ≡ record { line = t.line; asked = Ok (Drain x None); listed = t.listed } = λ i. record t { asked = asked i } in
         ap (said_in w) is ∙ ap (λ b. part_answer (record { world = w; plan = cond b p (refuses JournalFull) })) room
 
     step-ends : EndsOrStops w (after_task w t) x (said_in w t)

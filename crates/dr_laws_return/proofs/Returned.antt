@@ -1,9 +1,9 @@
 -- A failback and a drain behind it, both answered ok, leave a pair turned round and equal, whatever came before.
-use Rattle.std.proofs.Common.{ℕ, ◌≡◌, ◌≢◌, ◌≤◌, refl, ap, sym, ◌∙◌, subst, append_assoc, arith, Bool, true, false, cond, not, List, [], ◌∷◌, ◌++◌, Option, Some, None, Ok}
+use Rattle.std.proofs.Common.{ℕ, ◌≡◌, ◌≢◌, ◌≤◌, refl, ap, sym, ◌∙◌, subst, append_assoc, arith, Bool, true, false, cond, List, [], ◌∷◌, ◌++◌, Option, Some, None, Ok}
 use Rattle.std.proofs.lemmas.Bool.{and_parts, and_from, eqb-true, eq-eqb, false_from_ne_true}
 use Rattle.std.specs.FinSet.{contains, len}
 use Rattle.dr_ids.specs.declared.refusal.Refusal.{Refusal}
-use Rattle.dr_ids.specs.declared.refusal.Refusal.TheVariants.{NotBuilt, JournalFull}
+use Rattle.dr_ids.specs.declared.refusal.Refusal.TheVariants.{JournalFull}
 use Rattle.dr_model.specs.declared.said.Addition.{Addition}
 use Rattle.dr_model.specs.declared.said.Said.{Said}
 use Rattle.dr_model.specs.declared.said.Said.TheVariants.{Done, Refused}
@@ -12,7 +12,7 @@ use Rattle.dr_model.specs.declared.state.Part.TheVariants.{Absent, Metro, Global
 use Rattle.dr_model.specs.declared.state.PairState.TheVariants.{FullDuplex, CopyPending}
 use Rattle.dr_model.specs.declared.step.Devs.{Devs}
 use Rattle.dr_model.specs.declared.step.Step.TheVariants.{Failback, Drain}
-use Rattle.dr_model.specs.Layout.{Blocks, Fields, Tracks, is_part, part_of}
+use Rattle.dr_model.specs.Layout.{Blocks, Fields, Tracks, is_part, kind_of}
 use Rattle.dr_model.specs.Relations.{is_bare}
 use Rattle.dr_model.specs.Pairs.{primary_of, secondary_of, is_primary_of, is_secondary_of, is_kind, is_metro, is_full_duplex}
 use Rattle.dr_model.specs.Control.{Control, Fuse, Volume, World, is_volume}
@@ -20,7 +20,7 @@ use Rattle.dr_model.specs.Fits.{Fits}
 use Rattle.dr_model.specs.Carry.{Entry, Outcome, carry}
 use Rattle.dr_model.specs.Entries.{fields_at, is_running}
 use Rattle.dr_model.specs.PairEntries.{is_copying, sends, tracks_to_send}
-use Rattle.dr_model.specs.Plans.{Plan, same, refuses, is_defined, has_room, is_built, failback_plan, drain_plan}
+use Rattle.dr_model.specs.Plans.{Plan, same, refuses, is_defined, has_room, failback_plan, drain_plan}
 use Rattle.dr_model.specs.Carried.{finish, carried_out, answered}
 use Rattle.dr_model.specs.Runs.{Task, answered_part, after_task, run}
 use Rattle.dr_model.specs.Laws.{Sound}
@@ -79,10 +79,8 @@ module _ (w : World) (line : ℕ) (a : Addition) (ds : List Entry) where
           record { led = u; leads = is; volume = ap (λ (x : World). x.control.volume) after; on = ap (λ (x : World). x.control.on) after }
       by (u, Some r) is = let bad : Refused r ≡ Done a = sym (ap (λ (o : Outcome). answered p (finish p o.0 o.1).control o.1) is) ∙ h in absurd cc
 
-  step-goes : (built : Bool) (p : Plan) → Goes p → Goes (cond (not built) (refuses NotBuilt) (cond (has_room w.events) p (refuses JournalFull)))
-  step-goes built p goes =
-      if-plan Goes refused-goes (not built) (refuses NotBuilt) (cond (has_room w.events) p (refuses JournalFull)) (refused-goes NotBuilt)
-      (if-plan Goes refused-goes (has_room w.events) p (refuses JournalFull) goes (refused-goes JournalFull))
+  step-goes : (p : Plan) → Goes p → Goes (cond (has_room w.events) p (refuses JournalFull))
+  step-goes p goes = if-plan Goes refused-goes (has_room w.events) p (refuses JournalFull) goes (refused-goes JournalFull)
 
 -- ---- the pair, step by step
 
@@ -203,20 +201,20 @@ module _ (x y : ℕ) (kind : Part) where
 pub drain-goes : (w : World) (t : Task) (x : ℕ) (a : Addition) → t.asked ≡ Ok (Drain x None) → said_in w t ≡ Done a → Ends w (drain_plan w.control x None).entries (after_task w t)
 drain-goes w t x a asked says =
     let p : Plan = drain_plan w.control x None in
-    let is : t ≡ record { line = t.line; asked = Ok (Drain x None) } = λ i. record t { asked = asked i } in
-    subst (λ (t : Task). said_in w t ≡ Done a → Ends w p.entries (after_task w t)) (sym is) (step-goes w t.line a p.entries true p (plan-goes w t.line a p.entries p.follows p.says)) says
+    let is : t ≡ record { line = t.line; asked = Ok (Drain x None); listed = t.listed } = λ i. record t { asked = asked i } in
+    subst (λ (t : Task). said_in w t ≡ Done a → Ends w p.entries (after_task w t)) (sym is) (step-goes w t.line a p.entries p (plan-goes w t.line a p.entries p.follows p.says)) says
 
 home-tasks : (w : World) (t s : Task) (devs : Devs) (x y kind : ℕ) (a b : Addition) → Sound w → Sound (after_task w t) → t.asked ≡ Ok (Failback devs x y kind) → s.asked ≡ Ok (Drain x None)
-    → said_in w t ≡ Done a → said_in (after_task w t) s ≡ Done b → Home x y (part_of kind) (after_task (after_task w t) s)
+    → said_in w t ≡ Done a → said_in (after_task w t) s ≡ Done b → Home x y (kind_of kind) (after_task (after_task w t) s)
 home-tasks w t s devs x y kind a b sound then asked drains says answers =
     let u : World = after_task w t in
-    let p : Plan = failback_plan w.control devs x y (part_of kind) in
-    let t_is : t ≡ record { line = t.line; asked = Ok (Failback devs x y kind) } = λ i. record t { asked = asked i } in
+    let p : Plan = failback_plan w.control devs x y (kind_of kind) in
+    let t_is : t ≡ record { line = t.line; asked = Ok (Failback devs x y kind); listed = t.listed } = λ i. record t { asked = asked i } in
     let one : Ends w p.entries u =
-    subst (λ (t : Task). said_in w t ≡ Done a → Ends w p.entries (after_task w t)) (sym t_is) (step-goes w t.line a p.entries (is_built (Failback devs x y kind)) p (plan-goes w t.line a p.entries p.follows p.says)) says in
-    let faces : Facing x y (part_of kind) u =
-    subst (λ (vs : ℕ → Volume). Faces x y (part_of kind) (vs x).fields (vs y).fields) (sym one.volume) (turned-faces x y (part_of kind) one.led (failback-leaves w sound devs x y (part_of kind) one.led one.leads)) in
-    drained-home x y (part_of kind) u (after_task u s) then faces (drain-goes u s x b drains answers)
+    subst (λ (t : Task). said_in w t ≡ Done a → Ends w p.entries (after_task w t)) (sym t_is) (step-goes w t.line a p.entries p (plan-goes w t.line a p.entries p.follows p.says)) says in
+    let faces : Facing x y (kind_of kind) u =
+    subst (λ (vs : ℕ → Volume). Faces x y (kind_of kind) (vs x).fields (vs y).fields) (sym one.volume) (turned-faces x y (kind_of kind) one.led (failback-leaves w sound devs x y (kind_of kind) one.led one.leads)) in
+    drained-home x y (kind_of kind) u (after_task u s) then faces (drain-goes u s x b drains answers)
 
 pub returned-run : (tasks : List Task) (on : ℕ → Bool) (fuse : ℕ → Option Fuse) (device : ℕ → Blocks) → Fits (run tasks) on fuse device → HoldsTracks (run tasks) device → Returns tasks device
 returned-run tasks on fuse device fits holds before t s devs x y kind a b is asked drains says answers =
@@ -224,9 +222,9 @@ returned-run tasks on fuse device fits holds before t s devs x y kind a b is ask
     let middle : run (before ++ t ∷ []) ≡ after_task w t = run-more before t in
     let split : tasks ≡ (before ++ t ∷ []) ++ s ∷ [] = is ∙ sym (append_assoc before (t ∷ []) (s ∷ [])) in
     let end : run tasks ≡ after_task (after_task w t) s = ap run split ∙ run-more (before ++ t ∷ []) s ∙ ap (λ v. after_task v s) middle in
-    let home : Home x y (part_of kind) (after_task (after_task w t) s) =
+    let home : Home x y (kind_of kind) (after_task (after_task w t) s) =
     home-tasks w t s devs x y kind a b (sound-run before) (subst Sound middle (sound-run (before ++ t ∷ []))) asked drains says (sym (ap (λ v. said_in v s) middle) ∙ answers) in
-    returned-on x y (part_of kind) (run tasks) (sound-run tasks) (subst (Home x y (part_of kind)) (sym end) home) on fuse device fits holds
+    returned-on x y (kind_of kind) (run tasks) (sound-run tasks) (subst (Home x y (kind_of kind)) (sym end) home) on fuse device fits holds
 
 -- ---- a drain, whatever came before
 

@@ -6,7 +6,7 @@ use Rattle.dr_model.specs.declared.said.Said.TheVariants.{Done}
 use Rattle.dr_model.specs.declared.state.Part.{Part}
 use Rattle.dr_model.specs.declared.step.Devs.{Devs}
 use Rattle.dr_model.specs.declared.step.Step.TheVariants.{Failback, Drain}
-use Rattle.dr_model.specs.Layout.{Blocks, part_of}
+use Rattle.dr_model.specs.Layout.{Blocks, kind_of}
 use Rattle.dr_model.specs.Contents.{image_at}
 use Rattle.dr_model.specs.Control.{World, is_volume}
 use Rattle.dr_model.specs.Pairs.{is_primary_of, is_secondary_of, is_kind, is_metro, is_full_duplex}
@@ -37,7 +37,7 @@ pub record IsReturned (w : World) (device : ℕ → Blocks) (x y : ℕ) (kind : 
 abbrev pub Returns : List Task → (ℕ → Blocks) → Type 0
 Returns tasks device =
     (before : List Task) (t s : Task) (devs : Devs) (x y kind : ℕ) (a b : Addition) → tasks ≡ before ++ t ∷ s ∷ [] → t.asked ≡ Ok (Failback devs x y kind) → s.asked ≡ Ok (Drain x None)
-    → said_in (run before) t ≡ Done a → said_in (run (before ++ t ∷ [])) s ≡ Done b → IsReturned (run tasks) device x y (part_of kind)
+    → said_in (run before) t ≡ Done a → said_in (run (before ++ t ∷ [])) s ≡ Done b → IsReturned (run tasks) device x y (kind_of kind)
 
 -- By the record on its device x has nothing out of sync. So where it doesn't record, and y is its secondary by the records on both devices, each
 -- track of both contains the same.

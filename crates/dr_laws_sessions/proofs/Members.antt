@@ -212,8 +212,11 @@ places-differ k m stands other = record {
 }
 
 -- a session has no more members than there are volumes
-pub members-few : (k : Control) (s : ℕ) (x : Session) → Groups k → session_in k.sessions s ≡ Some x → length x.members ≤ length k.volumes
-members-few k s x groups found =
-    let fits = session-fits k s x groups found in
+pub session-few : (k : Control) (x : Session) → Groups k → In x k.sessions → length x.members ≤ length k.volumes
+session-few k x groups here =
+    let fits = groups.each x here in
     let few : length (primaries x.members) ≤ length k.volumes = once-few (primaries x.members) k.volumes fits.once (λ v i. let o = from-map (λ (m : Member). m.a.0) x.members v i in subst (λ u. In u k.volumes) (sym o.is) (is-met o.from.a.0 k.volumes (fits.stands o.from o.here).a)) in
     subst (λ n. n ≤ length k.volumes) (length-map x.members (λ (m : Member). m.a.0)) few
+
+pub members-few : (k : Control) (s : ℕ) (x : Session) → Groups k → session_in k.sessions s ≡ Some x → length x.members ≤ length k.volumes
+members-few k s x groups found = session-few k x groups (session-found k.sessions s x found).0

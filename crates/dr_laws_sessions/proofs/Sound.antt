@@ -1,5 +1,5 @@
 -- What stays true of a session by itself, and of its master.
-use Rattle.std.proofs.Common.{ℕ, zero, suc, ◌≡◌, ◌≢◌, ◌<◌, ◌⊎◌, inl, inr, refl, ap, sym, ◌∙◌, subst, max, ◌+◌, Bool, true, cond, not, ◌||◌, nat_eq, nat_lt, List, [], ◌∷◌, ◌++◌, map, filter, Option, None, Some, option_map, arith, ◌==◌}
+use Rattle.std.proofs.Common.{ℕ, zero, suc, ◌≡◌, ◌≢◌, ◌<◌, ◌⊎◌, inl, inr, refl, ap, sym, ◌∙◌, subst, max, ◌+◌, Bool, true, cond, not, ◌||◌, nat_eq, nat_lt, List, [], ◌∷◌, ◌++◌, map, Option, None, Some, option_map, arith, ◌==◌}
 use Rattle.std.specs.List.{list_any, range_with_len}
 use Rattle.std.proofs.lemmas.Bool.{ltb-true, eq-eqb, ne_eqb}
 use Rattle.std.proofs.lemmas.Bool.Decides.{eqb_tells}
@@ -14,7 +14,7 @@ use Rattle.dr_model.specs.Control.{Control}
 use Rattle.dr_model.specs.Sessions.{Session, Mirror, IsSoundSession, servers_of, all_low, with_mirror, with_members, raised, begun, mirrored_by, unmirrored, busy, unless_idle, drop_refusal, new_session}
 use Rattle.dr_model.specs.Groups.{In, MemberStands, MasterStands, OwesServers, SessionFits}
 use Rattle.dr_laws_sessions.specs.Frames.{Quiet}
-use Rattle.dr_facts.proofs.Lists.{in-joined, from-filter, to-filter, any-some, all-each, each-all}
+use Rattle.dr_facts.proofs.Lists.{in-joined, to-filter, any-some, all-each, each-all}
 use Rattle.dr_facts.proofs.Tables.{IsOrNot}
 use Rattle.dr_logic.proofs.Options.{none_some}
 

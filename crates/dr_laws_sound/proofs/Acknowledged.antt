@@ -5,7 +5,7 @@ use Rattle.std.specs.List.{find, list_any}
 use Rattle.std.specs.FinSet.{contains}
 use Rattle.std.proofs.lemmas.List.{append-nil}
 use Rattle.dr_ids.specs.declared.refusal.Refusal.{Refusal}
-use Rattle.dr_ids.specs.declared.refusal.Refusal.TheVariants.{Syntax, NotBuilt, JournalFull, Stopped as StoppedIn}
+use Rattle.dr_ids.specs.declared.refusal.Refusal.TheVariants.{Syntax, JournalFull, Stopped as StoppedIn}
 use Rattle.dr_model.specs.declared.event.Event.{Event}
 use Rattle.dr_model.specs.declared.event.Event.TheVariants.{Ack, Mirrored, Stopped}
 use Rattle.dr_model.specs.declared.said.Addition.TheVariants.{Alone, Wrote, Acked}
@@ -13,7 +13,7 @@ use Rattle.dr_model.specs.declared.said.Said.{Said}
 use Rattle.dr_model.specs.declared.said.Said.TheVariants.{Done, Held, Refused}
 use Rattle.dr_model.specs.declared.step.Name.{Name}
 use Rattle.dr_model.specs.declared.step.Step.{Step}
-use Rattle.dr_model.specs.declared.step.Step.TheVariants.{Start, Write, Apply, Run, Compare}
+use Rattle.dr_model.specs.declared.step.Step.TheVariants.{Start, Write, Apply, Run, Compare, Image}
 use Rattle.dr_model.specs.Answers.{answer}
 use Rattle.dr_model.specs.Refusals.{unknown}
 use Rattle.dr_ids.specs.declared.refusal.Kind.TheVariants.{Write as OfWrite}
@@ -26,9 +26,11 @@ use Rattle.dr_model.specs.Entries.{fields_at, copies_from, is_running, is_no_sec
 use Rattle.dr_model.specs.PairEntries.{send_refusal, suspend_where, store_on, strike_on, suspend_after}
 use Rattle.dr_model.specs.WriteEntries.{partner_of, is_grouped, is_parted, land_mirrored, land_parted, land_entries, landing, send_first, sends_first, where_sent, waits, says_written, after_write, part_after, part_running, belongs, redo_on, restart_on, start_entries}
 use Rattle.dr_model.specs.PlanParts.{Plan, only_says, refuses, server_named, name_bytes}
-use Rattle.dr_model.specs.Plans.{plan, plan_of, is_built, has_room, issue_refusal, write_done, apply_done, apply_on, landed_on, acknowledge_if, acknowledge_on, says_acked, start_plan, start_on, compare_plan}
+use Rattle.dr_model.specs.Plans.{plan, plan_of, has_room, has_room_for, issue_refusal, write_done, apply_done, apply_on, landed_on, acknowledge_if, acknowledge_on, says_acked, start_plan, start_on, compare_plan}
 use Rattle.dr_model.specs.Forming.{Part, formed, form_said}
-use Rattle.dr_model.specs.Runs.{Task, course, begun, finish, carried_out, answered, said, after_plan, run, run_asked, compared}
+use Rattle.dr_model.specs.Runs.{Task, course, begun, finish, carried_out, answered, said, after_plan, run, own_course, compared, image_plan, image_told, imaged}
+use Rattle.dr_model.specs.Limits.{image_events}
+use Rattle.dr_laws_sound.proofs.Listed.{image-lines}
 use Rattle.dr_model.specs.Sessions.{session_in}
 use Rattle.dr_model.specs.Groups.{In}
 use Rattle.dr_model.proofs.CarryLemmas.{carry-none, carry-first, carry-skips, carry-passed, carry-refused, carry-goes, onward, carry-append, act-drop, act-acknowledge}
@@ -39,7 +41,7 @@ use Rattle.dr_laws_sound.specs.Acknowledged.{acknowledgements, wrote, acked, ack
 use Rattle.dr_laws_sound.proofs.Turns.{act-cases, after_act, done_in_stop, server_at, server_of}
 use Rattle.dr_laws_sound.proofs.Parts as parts
 use Rattle.dr_laws_sound.proofs.Hushed.{mirrors, cuts_any, Unheard, unheard-none, mirrors-then, uncut-then, HasStop, Mute, Turned, act-turned, none-then, Mum, mum-same, mum-then, StaysPending, pending-same, Hush, AllHush, none-hush, then-hush, Comes, carry-hushed}
-use Rattle.dr_laws_sound.proofs.HushedPlans.{HushedPlan, NotHeld, done-not, refused-not, phase-not, says-hush, choice-hush, last-hush, move-hush, keep-hush, keeps-hush, where-suspended, suspend-hush, acknowledges, step-hush, if-plan, unless-plan, named-plan, compare-hush}
+use Rattle.dr_laws_sound.proofs.HushedPlans.{HushedPlan, NotHeld, done-not, refused-not, phase-not, says-hush, choice-hush, last-hush, move-hush, keep-hush, keeps-hush, where-suspended, suspend-hush, acknowledges, step-hush, if-plan, unless-plan, named-plan, compare-hush, lines-hush}
 
 -- what is acknowledged where a plan ends well
 abbrev if_well : Option Refusal → List ℕ → List ℕ
@@ -540,7 +542,7 @@ module _ (w : World) (name : Name) (s : ℕ) where
 
 -- the plan of a step that is no run of groups
 module _ (w : World) (line : ℕ) where
-  step-answers : (step : Step) → run_asked (Ok step) ≡ None → Answers (Ok step) w (plan_of w.control w.events line step)
+  step-answers : (step : Step) → own_course (Ok step) ≡ None → Answers (Ok step) w (plan_of w.control w.events line step)
   step-answers (Write v t offset len bytes) alone =
       unless-plan (Answers (Ok (Write v t offset len bytes)) w) (refused-answers (Ok (Write v t offset len bytes)) (λ r. refl) w) (issue_refusal w.control v t) (write_done w.control v t offset len bytes) (write-answers w v t offset len bytes)
   step-answers (Apply n) alone = by (find (is_write n) w.control.pending) refl
@@ -569,10 +571,9 @@ module _ (w : World) (line : ℕ) where
   none-refused (Start name) r = refl
   none-refused step r = refl
 
-  plan-answers : (step : Step) → run_asked (Ok step) ≡ None → Answers (Ok step) w (plan w.control w.events line (Ok step))
+  plan-answers : (step : Step) → own_course (Ok step) ≡ None → Answers (Ok step) w (plan w.control w.events line (Ok step))
   plan-answers step alone =
-      if-plan (Answers (Ok step) w) (refused-answers (Ok step) (none-refused step) w) (not (is_built step)) (refuses NotBuilt) (cond (has_room w.events) (plan_of w.control w.events line step) (refuses JournalFull)) (refused-answers (Ok step) (none-refused step) w NotBuilt)
-      (if-plan (Answers (Ok step) w) (refused-answers (Ok step) (none-refused step) w) (has_room w.events) (plan_of w.control w.events line step) (refuses JournalFull) (step-answers step alone) (refused-answers (Ok step) (none-refused step) w JournalFull))
+      if-plan (Answers (Ok step) w) (refused-answers (Ok step) (none-refused step) w) (has_room w.events) (plan_of w.control w.events line step) (refuses JournalFull) (step-answers step alone) (refused-answers (Ok step) (none-refused step) w JournalFull)
 
 -- the last plan of a step in the world to which its other plans led, as the step ends
 pub record StepTold (w : World) (t : Task) : Type 0 where
@@ -605,11 +606,11 @@ pub told-task : (w : World) (t : Task) → StepTold w t
 unfolding hushed-answers
 told-task w t = by t.asked
   where
-    by : (asked : Result Step ℕ) → StepTold w (record { line = t.line; asked = asked })
+    by : (asked : Result Step ℕ) → StepTold w (record { line = t.line; asked = asked; listed = t.listed })
     by (Ok (Run s n)) =
         let x = formed w s n in
         let said : Said = form_said s x.world.control x.refusal in
-        let run : Task = record { line = t.line; asked = Ok (Run s n) } in
+        let run : Task = record { line = t.line; asked = Ok (Run s n); listed = t.listed } in
         let m : Mum false w x.world = run-mum w run in
         let a : Answers (Ok (Run s n)) x.world (only_says said) = hushed-answers (Ok (Run s n)) (λ a. refl) x.world (only_says said) (says-hush said (form-not s x.world.control x.refusal)) in
         answers-task w run a m (inl (mirrors-then m.added a.told m.silent.plain ∙ (hushed-told x.world (only_says said) (says-hush said (form-not s x.world.control x.refusal))).silent.plain))
@@ -618,9 +619,15 @@ told-task w t = by t.asked
         let a : Answers asked w (compared w v u) =
         if-plan (Answers asked w) (refused-answers asked (λ r. refl) w) (has_room w.events) (compare_plan w.control w.contents v u) (refuses JournalFull)
         (hushed-answers asked (λ a. refl) w (compare_plan w.control w.contents v u) (compare-hush w.control w.contents v u)) (refused-answers asked (λ r. refl) w JournalFull) in
-        answers-task w (record { line = t.line; asked = asked }) a (record { added = []; events = sym (append-nil w.events); silent = unheard-none false }) a.way
-    by (Ok step) = let a = plan-answers w t.line step refl in answers-task w (record { line = t.line; asked = Ok step }) a (record { added = []; events = sym (append-nil w.events); silent = unheard-none false }) a.way
-    by (Err column) = let a = refused-answers (Err column) (λ r. refl) w (Syntax column) in answers-task w (record { line = t.line; asked = Err column }) a (record { added = []; events = sym (append-nil w.events); silent = unheard-none false }) a.way
+        answers-task w (record { line = t.line; asked = asked; listed = t.listed }) a (record { added = []; events = sym (append-nil w.events); silent = unheard-none false }) a.way
+    by (Ok Image) =
+        let asked : Result Step ℕ = Ok Image in
+        let a : Answers asked w (imaged w t.listed) =
+        if-plan (Answers asked w) (refused-answers asked (λ r. refl) w) (has_room_for image_events w.events) (image_plan t.listed) (refuses JournalFull)
+        (hushed-answers asked (λ a. refl) w (image_plan t.listed) (lines-hush (image_told t.listed) (image-lines t.listed))) (refused-answers asked (λ r. refl) w JournalFull) in
+        answers-task w (record { line = t.line; asked = asked; listed = t.listed }) a (record { added = []; events = sym (append-nil w.events); silent = unheard-none false }) a.way
+    by (Ok step) = let a = plan-answers w t.line step refl in answers-task w (record { line = t.line; asked = Ok step; listed = t.listed }) a (record { added = []; events = sym (append-nil w.events); silent = unheard-none false }) a.way
+    by (Err column) = let a = refused-answers (Err column) (λ r. refl) w (Syntax column) in answers-task w (record { line = t.line; asked = Err column; listed = t.listed }) a (record { added = []; events = sym (append-nil w.events); silent = unheard-none false }) a.way
 
 pub acked-task : (w : World) (t : Task) → AcknowledgesAnswered w t
 acked-task w t = (told-task w t).answers

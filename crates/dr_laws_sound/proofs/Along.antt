@@ -1,15 +1,17 @@
 -- For any law: what each act keeps where it may come, every plan keeps whose acts may come where they come: where it
 -- ends, at every stop, at every moment, and where servers go off by themselves.
-use Rattle.std.proofs.Common.{ℕ, zero, suc, ◌≡◌, inl, inr, refl, sym, subst, Bool, true, false, cond, List, [], ◌∷◌, take, Option, Some, None}
+use Rattle.std.proofs.Common.{ℕ, zero, suc, ◌≡◌, inl, inr, refl, ap, sym, subst, Bool, true, false, cond, List, [], ◌∷◌, ◌++◌, take, Option, Some, None}
 use Rattle.dr_ids.specs.declared.refusal.Refusal.{Refusal}
 use Rattle.dr_ids.specs.declared.refusal.Refusal.TheVariants.{Stopped as StoppedIn}
 use Rattle.dr_model.specs.Control.{Control, World, Fuse}
+use Rattle.dr_model.specs.Refusals.{stopped}
 use Rattle.dr_model.specs.Moves.{Move}
 use Rattle.dr_model.specs.Carry.{Act, Make, OpenAttempt, Redo, Acknowledge, Drop, EndFreeze, EndThaw, EndRecovery, act, Turn, Next, Pass, Do, End, Entry, Outcome, continue, go, carry, check, now}
 use Rattle.dr_model.specs.Plans.{Plan}
 use Rattle.dr_model.specs.Runs.{begun, finish, carried_out}
 use Rattle.dr_model.specs.Allowed.{Runs}
 use Rattle.dr_model.specs.ReadStops.{GoesOff, IsEnd, EndsTurn, EndsNext, Ends, gone_off}
+use Rattle.dr_laws_sound.specs.Calm.{Carries, ComesTo}
 use Rattle.dr_laws_sound.proofs.Turns.{done, done_in_stop, opened_in_stop, not_done, place, server_of, after_act, Writes, Counts, act-cases}
 use Rattle.dr_logic.proofs.Truth.{false_true}
 
@@ -93,6 +95,24 @@ module _ (J I E : World → Type 0) (May : World → Act → Type 0) where
     unfolding carry Along
     along w [] j a = a
     along w (d ∷ ds) j a = next-keeps w (d w.control) (λ v. carry v ds) (λ v. Along v ds) (λ v. along v ds) j a
+
+    -- where entries come to a move, J holds, and the move may come
+    next-comes : (w : World) (x : Next) (rest : World → Outcome) (more : World → Type 0) (v : World) (P : Type 0) → ((u : World) → J u → more u → rest u ≡ (v, None) → P) → J w → along_next J I May w x more → go w x rest ≡ (v, None) → P
+    next-comes w Pass rest more v P on j a leads = on w j a leads
+    next-comes w (End r) rest more v P on j a leads = let none : Some r ≡ None = ap (λ (o : Outcome). o.1) leads in absurd cc
+    next-comes w (Do x) rest more v P on j a leads =
+        act-keeps J I May keeps w x (λ t. continue t.0 t.1 rest ≡ (v, None) → P) j a.0 (λ f k leads. on _ k (a.1 f k) leads) (λ u s i leads. let none : Some (stopped s) ≡ None = ap (λ (o : Outcome). o.1) leads in absurd cc) leads
+
+    comes-at : (w v : World) (before : List Entry) (d : Entry) (rest : List Entry) (m : Move) → J w → Along w (before ++ d ∷ rest) → carry w before ≡ (v, None) → d v.control ≡ Do (Make m) → J v × May v (Make m)
+    unfolding carry Along
+    comes-at w v [] d rest m j a leads decides =
+        let same : w ≡ v = ap (λ (o : Outcome). o.0) leads in
+        subst (λ v. d v.control ≡ Do (Make m) → J v × May v (Make m)) same (λ is. (j, (along-comes w d rest _ is a).0)) decides
+    comes-at w v (e ∷ es) d rest m j a leads decides =
+        next-comes w (e w.control) (λ u. carry u es) (λ u. Along u (es ++ d ∷ rest)) v (J v × May v (Make m)) (λ u j a leads. comes-at u v es d rest m j a leads decides) j a leads
+
+    pub along-comes_to : (w : World) (ds : List Entry) (v : World) (m : Move) → J w → Along w ds → ComesTo Carries w ds v m → J v × May v (Make m)
+    along-comes_to w ds v m j a at = comes-at w v at.before at.entry at.rest m j (subst (Along w) at.placed a) at.leads at.decides
 
 -- and where servers whose read fuses are armed go off between its acts
 module _ (J I : World → Type 0) (May : World → Act → Type 0) (keeps : Keeps J I May) (armed : ℕ → Bool) (goes_off : (w : World) (s : ℕ) → J w → w.control.on s ≡ true → armed s ≡ true → I (gone_off w s)) (u : World) (r : Option Refusal) where

@@ -1,4 +1,4 @@
--- No entry of a step ends its plan with a refusal that says a stop.
+-- No entry of a step ends its plan with a refusal that says a stop, or that the step isn't built.
 use Rattle.std.proofs.Common.{ℕ, ◌≡◌, ◌+◌, not, ◌&&◌, ◌||◌, nat_eq, nat_lt, List, [], ◌∷◌, ◌++◌, refl, ap, ◌∙◌, sym, Bool, true, false, cond, Option, Some, None}
 use Rattle.std.specs.Prelude.{is_some, option_map}
 use Rattle.std.specs.Option.{option_or}
@@ -21,9 +21,9 @@ use Rattle.dr_model.specs.PairEntries.{link_down, are_linked, has_path, reach_re
 use Rattle.dr_model.specs.WriteEntries.{land_entries, landing}
 use Rattle.dr_ids.specs.declared.refusal.Decision.{Decision}
 use Rattle.dr_model.specs.Plans.{counted_refusal, secondary_refusal, leaves_all, forbidden_unless, decided_in, restore_refusal, member_from, restores_refusal, yield_refusal, compare_entries, left_by, member_refusal, Plan, found_volumes, named_pair, is_defined, is_owner, differ, is_no_source, has_few_targets, is_plain_target, is_recorded_target, is_lone_restore, may_return, may_give_back, may_copy, at_most, left_to_copy}
-use Rattle.dr_laws_sound.specs.Stops.{refused_stop}
 use Rattle.dr_model.specs.RecoveryPlans.{decided_in, settle_on}
-use Rattle.dr_laws_sound.proofs.Cases.{Case, Says, DefinesServer, DefinesVolume, SetsLink, Issues, Writes, Applies, Shows, Stops, Arms, Starts, MakesFlash, RemovesFlash, ResyncsFlash, ReversesFlash, Copies, MakesPath, RemovesPath, MakesPair, RemovesPair, PausesPair, ResumesPair, FailsOver, FailsBack, Compares, Drains, Expires, Freezes, Unfreezes, MakesSession, RemovesSession, MakesMirror, PausesMirror, RemovesMirror, Aborts, AddsMember, RemovesMember, Exchanges, Recovers, Settles}
+use Rattle.dr_laws_sound.proofs.Parts.{Ending, OnePlan, Imaged}
+use Rattle.dr_laws_sound.proofs.Cases.{Case, Says, DefinesServer, DefinesVolume, SetsLink, Issues, Writes, Applies, Lists, Shows, Stops, Arms, Starts, MakesFlash, RemovesFlash, ResyncsFlash, ReversesFlash, Copies, MakesPath, RemovesPath, MakesPair, RemovesPair, PausesPair, ResumesPair, FailsOver, FailsBack, Compares, Drains, Expires, Freezes, Unfreezes, MakesSession, RemovesSession, MakesMirror, PausesMirror, RemovesMirror, Aborts, AddsMember, RemovesMember, Exchanges, Recovers, Settles}
 use Rattle.std.specs.List.{find}
 use Rattle.dr_ids.specs.declared.names.Member.{Member}
 use Rattle.dr_model.specs.Sessions.{Session, session_in, members_in, in_session, is_member}
@@ -31,14 +31,14 @@ use Rattle.dr_model.specs.Phases.{Work, Hold, Release as ReleaseWork, Seal, Flas
 use Rattle.dr_model.specs.SessionEntries.{may_hold, hold_refusal, stale_refusal, hold_on, void_refusal, free_on, is_drained, seal_refusal, seal_on, is_flashed, may_flash, flash_refusal, flash_on, is_committed, commit_refusal, commit_on, revert_on, is_past, finish_on, member_entries, members_on, order_entries}
 use Rattle.dr_model.specs.SessionPlans.{member_with}
 use Rattle.dr_laws_sound.proofs.Endless.{Goes, Endless, pass-goes, do-goes, choice-goes, keep-goes, settle-goes, map-endless, times-endless, start-endless, freeze-endless, thaw-endless, expire-endless, lands-endless, copy-endless, recover-endless, add-endless}
-use Rattle.dr_laws_sound.proofs.StopsTold.{Calm, Unstopped, none-calm, then-calm}
+use Rattle.dr_laws_sound.proofs.StopsTold.{is_calm, Calm, Unstopped, none-calm, then-calm}
 
 -- the entries of every step are such
-check-by : (b : Bool) (other r : Refusal) → refused_stop (Some other) ≡ None → cond b Pass (End other) ≡ End r → refused_stop (Some r) ≡ None
+check-by : (b : Bool) (other r : Refusal) → is_calm other ≡ true → cond b Pass (End other) ≡ End r → is_calm r ≡ true
 check-by true other r calm e = absurd cc
-check-by false other r calm e = let is : other ≡ r = cc in ap (λ r. refused_stop (Some r)) (sym is) ∙ calm
+check-by false other r calm e = let is : other ≡ r = cc in ap is_calm (sym is) ∙ calm
 
-checked-calm : (ok : Control → Bool) (other : Refusal) (ds : List Entry) → refused_stop (Some other) ≡ None → Unstopped ds → Unstopped (check ok other ∷ ds)
+checked-calm : (ok : Control → Bool) (other : Refusal) (ds : List Entry) → is_calm other ≡ true → Unstopped ds → Unstopped (check ok other ∷ ds)
 checked-calm ok other ds calm rest = then-calm (check ok other) ds (λ k r e. check-by (ok k) other r calm e) rest
 
 goes-calm : (d : Entry) → ((k : Control) → Goes (d k)) → Calm d
@@ -58,7 +58,7 @@ unfolding Unstopped
 append-calm [] es p q = q
 append-calm (d ∷ ds) es p q = (p.0, append-calm ds es p.1 q)
 
-drop-calm : (n : ℕ) (ok : Control → Bool) (other : Refusal) (ds : List Entry) → refused_stop (Some other) ≡ None → Unstopped ds → Unstopped (check_or_drop n ok other ++ ds)
+drop-calm : (n : ℕ) (ok : Control → Bool) (other : Refusal) (ds : List Entry) → is_calm other ≡ true → Unstopped ds → Unstopped (check_or_drop n ok other ++ ds)
 drop-calm n ok other ds calm rest = then-calm (drop_unless n ok) _ (goes-calm (drop_unless n ok) (λ k. choice-goes (ok k) Pass (Do (Drop n)) pass-goes (do-goes _))) (checked-calm ok other ds calm rest)
 
 landing-calm : (k : Control) (n v t : ℕ) → Unstopped (landing k n v t)
@@ -70,30 +70,34 @@ named-calm k dev s t ds rest = checked-calm (is_defined s) _ _ refl (checked-cal
 now-calm : (m : Move) → Unstopped (now m ∷ [])
 now-calm m = last-calm (now m) (λ k. do-goes (Make m))
 
--- what may be refused by an entry is no stop
-abbrev Mild : Option Refusal → Type 0
-Mild o = (r : Refusal) → o ≡ Some r → refused_stop (Some r) ≡ None
+-- what may be refused by an entry is calm
+abbrev pub Mild : Option Refusal → Type 0
+Mild o = (r : Refusal) → o ≡ Some r → is_calm r ≡ true
 
-mild-none : Mild None
+pub mild-none : Mild None
 mild-none r e = absurd cc
 
-mild-some : (other : Refusal) → refused_stop (Some other) ≡ None → Mild (Some other)
-mild-some other calm r e = let is : other ≡ r = cc in ap (λ r. refused_stop (Some r)) (sym is) ∙ calm
+pub mild-some : (other : Refusal) → is_calm other ≡ true → Mild (Some other)
+mild-some other calm r e = let is : other ≡ r = cc in ap is_calm (sym is) ∙ calm
 
-mild-choice : (b : Bool) (x y : Option Refusal) → Mild x → Mild y → Mild (cond b x y)
+pub mild-choice : (b : Bool) (x y : Option Refusal) → Mild x → Mild y → Mild (cond b x y)
 mild-choice true x y p q = p
 mild-choice false x y p q = q
 
-mild-or : (x y : Option Refusal) → Mild x → Mild y → Mild (option_or x y)
+pub mild-or : (x y : Option Refusal) → Mild x → Mild y → Mild (option_or x y)
 mild-or None y p q = q
 mild-or (Some r) y p q = p
 
 refused-calm : (why : Control → Option Refusal) (ds : List Entry) → ((k : Control) → Mild (why k)) → Unstopped ds → Unstopped (refuse_if why ∷ ds)
 refused-calm why ds mild rest = then-calm (refuse_if why) ds (λ k r. by (why k) r (mild k)) rest
   where
-    by : (o : Option Refusal) (r : Refusal) → Mild o → end_if o ≡ End r → refused_stop (Some r) ≡ None
+    by : (o : Option Refusal) (r : Refusal) → Mild o → end_if o ≡ End r → is_calm r ≡ true
     by None r m e = absurd cc
     by (Some x) r m e = m r (let is : x ≡ r = cc in ap (λ r. Some r) is)
+
+pub session-mild : (o : Option Session) → Mild (in_session o)
+session-mild None = mild-none
+session-mild (Some x) = mild-some _ refl
 
 module _ (a b : ℕ) where
   reach-mild : (k : Control) → Mild (reach_refusal a b k)
@@ -101,15 +105,11 @@ module _ (a b : ℕ) where
       mild-choice (not (has_path a b k)) _ _ (mild-some _ refl) (mild-choice (not (is_running b k)) _ _ (mild-some (server_off (k.volume b).server) refl)
       (mild-choice (not (are_linked a b k)) _ _ (mild-some (link_down (k.volume a).server (k.volume b).server) refl) mild-none))
 
-  send-mild : (k : Control) → Mild (send_refusal a b k)
+  pub send-mild : (k : Control) → Mild (send_refusal a b k)
   send-mild k = mild-or (reach_refusal a b k) _ (reach-mild k) (mild-choice (belongs_to a b k) None _ mild-none (mild-some (pair_state k b) refl))
 
   flashed-mild : (k : Control) → Mild (flashed_refusal b k)
   flashed-mild k = mild-choice (stands_in is_revertible k b) _ None (mild-some (relation_state k b) refl) mild-none
-
-  session-mild : (o : Option Session) → Mild (in_session o)
-  session-mild None = mild-none
-  session-mild (Some x) = mild-some _ refl
 
   member-mild : (k : Control) → Mild (member_refusal a b k)
   member-mild k = mild-or (in_session (find (is_member a) k.sessions)) (in_session (find (is_member b) k.sessions)) (session-mild (find (is_member a) k.sessions)) (session-mild (find (is_member b) k.sessions))
@@ -205,22 +205,22 @@ module _ (s n : ℕ) where
 counted-mild : (t : ℕ) (k : Control) → Mild (counted_refusal t k)
 counted-mild t k = mild-choice (fields_at k t).member (Some (InSession (record { 0 = (fields_at k t).session }))) None (mild-some (InSession (record { 0 = (fields_at k t).session })) refl) mild-none
 
-restore-mild : (t : ℕ) (k : Control) → Mild (restore_refusal t k)
-restore-mild t k = mild-choice (fields_at k t).member _ None (mild-or (secondary_refusal ms k) _ (off (find (λ m. not (is_running m.b.0 k)) ms)) (forbidden (leaves_all (decided_in s k)) (decided_in s k))) mild-none
+pub secondary-mild : (ms : List Member) (k : Control) → Mild (secondary_refusal ms k)
+secondary-mild ms k = by (find (λ m. not (is_running m.b.0 k)) ms)
   where
-    s : ℕ
-    s = (fields_at k t).session
+    by : (o : Option Member) → Mild (option_map (λ m. server_off (k.volume m.b.0).server) o)
+    by None = mild-none
+    by (Some m) = mild-some (server_off (k.volume m.b.0).server) refl
 
-    ms : List Member
-    ms = members_in (session_in k.sessions s)
+pub forbidden-mild : (b : Bool) (d : Decision) → Mild (forbidden_unless b d)
+forbidden-mild true d = mild-none
+forbidden-mild false d = mild-some (Forbidden d) refl
 
-    off : (o : Option Member) → Mild (option_map (λ m. server_off (k.volume m.b.0).server) o)
-    off None = mild-none
-    off (Some m) = mild-some (server_off (k.volume m.b.0).server) refl
-
-    forbidden : (b : Bool) (d : Decision) → Mild (forbidden_unless b d)
-    forbidden true d = mild-none
-    forbidden false d = mild-some (Forbidden d) refl
+restore-mild : (t : ℕ) (k : Control) → Mild (restore_refusal t k)
+restore-mild t k =
+    let s : ℕ = (fields_at k t).session in
+    let ms : List Member = members_in (session_in k.sessions s) in
+    mild-choice (fields_at k t).member _ None (mild-or (secondary_refusal ms k) _ (secondary-mild ms k) (forbidden-mild (leaves_all (decided_in s k)) (decided_in s k))) mild-none
 
 -- a pair goes the other way
 restores-mild : (o : Option ℕ) (k : Control) → Mild (restores_refusal o k)
@@ -248,6 +248,7 @@ case-calm k events line _ (DefinesServer name free) = none-calm
 case-calm k events line _ (DefinesVolume v s tracks here free) = none-calm
 case-calm k events line _ (SetsLink a b up) = none-calm
 case-calm k events line _ (Issues v t offset len bytes free) = none-calm
+case-calm k events line _ (Lists told ls few) = none-calm
 case-calm k events line _ (Shows v t there) = none-calm
 case-calm k events line _ (Stops s on) = none-calm
 case-calm k events line _ (Arms writes torn s) = none-calm
@@ -288,3 +289,7 @@ case-calm k events line _ (RemovesMember s a x m found is idle on) = now-calm (L
 case-calm k events line _ (Recovers s x found on) = endless-calm _ (recover-endless s (decided_in s k) x.members)
 case-calm k events line _ (Settles s x m found here on free) = last-calm (settle_on s (decided_in s k) m) (settle-goes s (decided_in s k) m)
 case-calm k events line _ (Exchanges s server reply x r o allowed) = order-calm s o.number o.work (members_on server x.members)
+
+pub ending-calm : (k : Control) (events : List Event) (line : ℕ) (p : Plan) → Ending k events line p → Unstopped p.entries
+ending-calm k events line _ (OnePlan p c) = case-calm k events line p c
+ending-calm k events line _ (Imaged vs) = none-calm

@@ -1,14 +1,14 @@
 -- What each step comes to, by cases: an answer, or one of the plans of the step table behind its tests.
 use Rattle.std.proofs.Common.{ℕ, ◌≡◌, ◌<◌, ◌≤◌, refl, ap, ◌∙◌, Bool, true, false, cond, not, ◌||◌, List, [], ◌∷◌, Option, Some, None, Result, Ok, Err, nat_eq, nat_lt, nat_le, arith}
 use Rattle.std.specs.Prelude.{length, is_some, if◌then◌else◌, ◌==◌}
-use Rattle.std.specs.List.{find}
+use Rattle.std.specs.List.{find, flat_map}
 use Rattle.std.specs.Option.{option_or}
 use Rattle.std.specs.Str.{bytes_eq}
 use Rattle.std.proofs.lemmas.List.Quantifiers.{position-Some}
 use Rattle.std.proofs.lemmas.Bool.Decides.{nat_tests}
 use Rattle.std.proofs.lemmas.Bool.{or_parts, eqb-true, ltb-true, not-false}
 use Rattle.dr_ids.specs.declared.refusal.Refusal.{Refusal}
-use Rattle.dr_ids.specs.declared.refusal.Refusal.TheVariants.{NotBuilt, JournalFull, Syntax}
+use Rattle.dr_ids.specs.declared.refusal.Refusal.TheVariants.{JournalFull, Syntax}
 use Rattle.dr_ids.specs.declared.refusal.Kind.TheVariants.{Server as OfServer, Volume as OfVolume, Lss as OfLss, Track as OfTrack, Write as OfWrite, Session as OfSession}
 use Rattle.dr_ids.specs.declared.refusal.Which.TheVariants.{Servers, Volumes, Tracks, Pending as PendingWrites}
 use Rattle.dr_model.specs.declared.event.Event.{Event}
@@ -17,11 +17,12 @@ use Rattle.dr_model.specs.declared.said.Said.{Said}
 use Rattle.dr_model.specs.declared.said.Said.TheVariants.{Done, Refused}
 use Rattle.dr_model.specs.declared.step.Name.{Name}
 use Rattle.dr_model.specs.declared.state.Part.{Part}
+use Rattle.dr_model.specs.declared.state.Part.TheVariants.{Metro, Global}
 use Rattle.dr_model.specs.declared.step.Devs.{Devs}
 use Rattle.dr_model.specs.declared.step.TornWord.{TornWord}
 use Rattle.dr_model.specs.declared.step.Step.{Step}
-use Rattle.dr_model.specs.declared.step.Step.TheVariants.{Server, Volume, Link, Stop, StopAfter, Start, Issue, Write, Apply, Show, MakeFlash, RemoveFlash, ResyncFlash, ReverseFlash, Copy, MakePath, RemovePath, MakePair, RemovePair, PausePair, ResumePair, Failover, Failback, Drain, Expire, Freeze, Unfreeze, MakeSession, RemoveSession, AddMember, RemoveMember, MakeMirror, PauseMirror, ResumeMirror, RemoveMirror, Abort, Exchange, Recover, CommitFlash, RevertFlash}
-use Rattle.dr_model.specs.Layout.{is_part, part_of}
+use Rattle.dr_model.specs.declared.step.Step.TheVariants.{Server, Volume, Link, Stop, StopAfter, Start, Issue, Write, Apply, Show, MakeFlash, RemoveFlash, ResyncFlash, ReverseFlash, Copy, MakePath, RemovePath, MakePair, RemovePair, PausePair, ResumePair, Failover, Failback, Drain, Expire, Freeze, Unfreeze, MakeSession, RemoveSession, AddMember, RemoveMember, MakeMirror, PauseMirror, ResumeMirror, RemoveMirror, Abort, Exchange, Recover, CommitFlash, RevertFlash, ListPairs, ListFlashes, ListSession, ShowMirror}
+use Rattle.dr_model.specs.Layout.{is_part, kind_of}
 use Rattle.dr_model.specs.Limits.{most_servers, most_volumes, most_tracks, most_pending}
 use Rattle.dr_model.specs.Refusals.{server_off, unknown, duplicate, over}
 use Rattle.dr_model.specs.Control.{Control, Pending, is_volume}
@@ -36,8 +37,10 @@ use Rattle.dr_model.specs.SessionPlans.{with_sessions, table_plan, says_phase, n
 use Rattle.dr_ids.specs.declared.refusal.Decision.{Decision}
 use Rattle.dr_model.specs.RecoveryPlans.{decided_in, secondary_refusal, untaken_refusal, forbidden_unless, lets_commit, lets_revert, settle_on, recover_done, recover_plan, member_of_target, revertible_target, settle_refusal, settle_member, settle_target, settle_plan}
 use Rattle.dr_facts.proofs.Lists.{found}
-use Rattle.dr_model.specs.Groups.{In}
-use Rattle.dr_model.specs.Plans.{Plan, entries_plan, plan, step_plan, plan_of, is_built, has_room, same, none_follow, always, on_session, is_defined, only_says, refuses, unless, on_named, on_server, name_bytes, server_named, server_refusal, server_done, volume_refusal, volume_done, link_between, link_done, track_refusal, issue_refusal, issue_done, write_done, apply_on, apply_done, show_refusal, show_done, is_foreign, stop_on, stop_done, arm_on, start_on, start_plan, make_flash_plan, remove_flash_plan, resync_flash_plan, reverse_flash_plan, copy_plan, on_owner, owner_of, path_refusal, make_path_done, unpath_refusal, remove_path_done, make_pair_plan, remove_pair_plan, pause_pair_plan, resume_pair_plan, failover_plan, failback_plan, compare_plan, drain_plan, expire_on, expire_plan, freeze_refusal, freeze_done, thaw_refusal, unfreeze_done}
+use Rattle.dr_model.specs.Groups.{In, Groups}
+use Rattle.dr_model.specs.Listings.{pair_lines, flash_lines, member_lines, mirror_lines, sessions_of, lists, listing_refusal}
+use Rattle.dr_laws_sound.proofs.Listed.{AllLines, pair-lines, flash-lines, session-lines, mirrors-lines, pair-few, flash-few, session-few, mirrors-few}
+use Rattle.dr_model.specs.Plans.{Plan, entries_plan, plan, step_plan, plan_of, has_room, same, none_follow, always, on_session, is_defined, only_says, refuses, unless, on_named, on_server, name_bytes, server_named, server_refusal, server_done, volume_refusal, volume_done, link_between, link_done, track_refusal, issue_refusal, issue_done, write_done, apply_on, apply_done, show_refusal, show_done, is_foreign, stop_on, stop_done, arm_on, start_on, start_plan, make_flash_plan, remove_flash_plan, resync_flash_plan, reverse_flash_plan, copy_plan, on_owner, owner_of, path_refusal, make_path_done, unpath_refusal, remove_path_done, make_pair_plan, remove_pair_plan, pause_pair_plan, resume_pair_plan, failover_plan, failback_plan, compare_plan, drain_plan, expire_on, expire_plan, freeze_refusal, freeze_done, thaw_refusal, unfreeze_done}
 use Rattle.dr_facts.proofs.Refusals.{none-both, met}
 
 -- a member is added, and removed; a master is aborted, and an order is carried out
@@ -100,6 +103,7 @@ pub data Case (k : Control) (events : List Event) (line : ℕ) : Plan → Type 0
   Issues : (v t offset len : ℕ) → (bytes : List ℕ) → issue_refusal k v t ≡ None → Case k events line (issue_done k v t offset len bytes)
   Writes : (v t offset len : ℕ) → (bytes : List ℕ) → issue_refusal k v t ≡ None → Case k events line (write_done k v t offset len bytes)
   Applies : (n : ℕ) → (p : Pending) → find (is_write n) k.pending ≡ Some p → Case k events line (apply_done k p)
+  Lists : (told : List Event) → AllLines told → (Groups k → length k.sessions ≤ 4 → length k.volumes ≤ 64 → length told ≤ 256) → Case k events line (lists told)
   Shows : (v t : ℕ) → show_refusal k v t ≡ None → Case k events line (show_done events line v t)
   Stops : (s : ℕ) → k.on s ≡ true → Case k events line (stop_done s)
   Arms : (writes : ℕ) → (torn : TornWord) → (s : ℕ) → Case k events line (arm_on writes torn s)
@@ -133,6 +137,14 @@ pub data Case (k : Control) (events : List Event) (line : ℕ) : Plan → Type 0
   Exchanges : (s server : ℕ) → (reply : Bool) → (x : Session) → (r : Mirror) → (o : phases.Order) → Ordered k s server x r o → Case k events line (ordered s server reply (members_on server x.members) o)
   Recovers : (s : ℕ) → (x : Session) → session_in k.sessions s ≡ Some x → secondary_refusal x.members k ≡ None → Case k events line (recover_done s (decided_in s k) x.members)
   Settles : (s : ℕ) → (x : Session) → (m : Member) → session_in k.sessions s ≡ Some x → In m x.members → secondary_refusal x.members k ≡ None → untaken_refusal x.members k ≡ None → Case k events line (entries_plan (settle_on s (decided_in s k) m ∷ []) (Done Alone))
+
+-- a step names Metro Mirror or Global Copy
+is-kind : (n : ℕ) → is_part (kind_of n) ≡ true
+is-kind n = by (nat_eq n 1)
+  where
+    by : (b : Bool) → is_part (cond b Metro Global) ≡ true
+    by true = refl
+    by false = refl
 
 -- what the tests that passed tell
 pub one-passed : (b : Bool) (r : Refusal) (o : Option Refusal) → cond b (Some r) o ≡ None → (b ≡ false) × (o ≡ None)
@@ -281,63 +293,69 @@ module _ (k : Control) (events : List Event) (line : ℕ) where
   settle-case dev lets b = where-volume b _ (λ there.
       where-none (option_or (name_refusal k dev (k.volume b).server) (off_refusal k (k.volume b).server)) (settle_target k lets b (revertible_target k b)) (λ named. settle-by lets b (revertible_target k b)))
 
-  of-case : (step : Step) → is_built step ≡ true → Is (plan_of k events line step)
-  of-case (Server name) built = where-none (server_refusal k (name_bytes name)) (server_done k name) (DefinesServer name)
-  of-case (Volume v name tracks) built =
+  of-case : (step : Step) → Is (plan_of k events line step)
+  of-case (Server name) = where-none (server_refusal k (name_bytes name)) (server_done k name) (DefinesServer name)
+  of-case (Volume v name tracks) =
       where-placed (server_named k (name_bytes name)) (λ s. unless (volume_refusal k v s tracks) (volume_done v s tracks))
       (λ s is. where-none (volume_refusal k v s tracks) (volume_done v s tracks) (DefinesVolume v s tracks (position-Some (bytes_eq (name_bytes name)) k.servers s [] is).0))
-  of-case (Link a b up) built = where-named (server_named k (name_bytes a)) (λ x. on_server k b (λ y. link_between x y up)) (λ x. where-named (server_named k (name_bytes b)) (λ y. link_between x y up) (λ y. link-case x y up))
-  of-case (Issue v t offset len bytes) built = where-none (issue_refusal k v t) (issue_done k v t offset len bytes) (Issues v t offset len bytes)
-  of-case (Write v t offset len bytes) built = where-none (issue_refusal k v t) (write_done k v t offset len bytes) (Writes v t offset len bytes)
-  of-case (Apply n) built = apply-case n _ refl
-  of-case (Stop name) built = where-named (server_named k (name_bytes name)) (stop_on k) stop-case
-  of-case (StopAfter name writes torn) built = where-named (server_named k (name_bytes name)) (arm_on writes torn) (Arms writes torn)
-  of-case (Start name) built = where-named (server_named k (name_bytes name)) (start_on k) start-case
-  of-case (Show v t) built = where-none (show_refusal k v t) (show_done events line v t) (Shows v t)
-  of-case (MakeFlash devs s t nocopy persistent recorded inhibited sequence) built = MakesFlash devs.dev s t _
-  of-case (RemoveFlash devs s t sequence) built = RemovesFlash devs.dev s t
-  of-case (ResyncFlash devs s t nocopy persistent recorded inhibited sequence) built = ResyncsFlash devs.dev s t sequence
-  of-case (ReverseFlash devs s t tgtpprc sequence) built = ReversesFlash devs.dev s t
-  of-case (Copy t most) built = Copies t most
-  of-case (MakePath devs src tgt group) built =
+  of-case (Link a b up) = where-named (server_named k (name_bytes a)) (λ x. on_server k b (λ y. link_between x y up)) (λ x. where-named (server_named k (name_bytes b)) (λ y. link_between x y up) (λ y. link-case x y up))
+  of-case (Issue v t offset len bytes) = where-none (issue_refusal k v t) (issue_done k v t offset len bytes) (Issues v t offset len bytes)
+  of-case (Write v t offset len bytes) = where-none (issue_refusal k v t) (write_done k v t offset len bytes) (Writes v t offset len bytes)
+  of-case (Apply n) = apply-case n _ refl
+  of-case (Stop name) = where-named (server_named k (name_bytes name)) (stop_on k) stop-case
+  of-case (StopAfter name writes torn) = where-named (server_named k (name_bytes name)) (arm_on writes torn) (Arms writes torn)
+  of-case (Start name) = where-named (server_named k (name_bytes name)) (start_on k) start-case
+  of-case (Show v t) = where-none (show_refusal k v t) (show_done events line v t) (Shows v t)
+  of-case (MakeFlash devs s t nocopy persistent recorded inhibited sequence) = MakesFlash devs.dev s t _
+  of-case (RemoveFlash devs s t sequence) = RemovesFlash devs.dev s t
+  of-case (ResyncFlash devs s t nocopy persistent recorded inhibited sequence) = ResyncsFlash devs.dev s t sequence
+  of-case (ReverseFlash devs s t tgtpprc sequence) = ReversesFlash devs.dev s t
+  of-case (Copy t most) = Copies t most
+  of-case (MakePath devs src tgt group) =
       where-owned (owner_of k src) (λ s. on_owner (owner_of k tgt) (λ u. unless (path_refusal k devs s u) (make_path_done src tgt group)))
       (λ s. where-owned (owner_of k tgt) (λ u. unless (path_refusal k devs s u) (make_path_done src tgt group)) (λ u. where-none (path_refusal k devs s u) (make_path_done src tgt group) (λ free. MakesPath src tgt group)))
-  of-case (RemovePath devs src tgt force) built =
+  of-case (RemovePath devs src tgt force) =
       where-owned (owner_of k src) (λ s. on_owner (owner_of k tgt) (λ u. unless (unpath_refusal k devs src tgt s u force) (remove_path_done src tgt)))
       (λ s. where-owned (owner_of k tgt) (λ u. unless (unpath_refusal k devs src tgt s u force) (remove_path_done src tgt)) (λ u. where-none (unpath_refusal k devs src tgt s u force) (remove_path_done src tgt) (λ free. RemovesPath src tgt)))
-  of-case (MakePair devs a b kind full) built = MakesPair devs a b (part_of kind) full built
-  of-case (RemovePair devs a b source_only) built = RemovesPair devs a b source_only
-  of-case (PausePair devs a b) built = PausesPair devs a b
-  of-case (ResumePair devs a b kind) built = ResumesPair devs a b (part_of kind)
-  of-case (Failover devs b a kind) built = FailsOver devs b a (part_of kind)
-  of-case (Failback devs x y kind) built = FailsBack devs x y (part_of kind)
-  of-case (Drain a most) built = Drains a most
-  of-case (Expire name) built = where-named (server_named k (name_bytes name)) (expire_on k) expire-case
-  of-case (Freeze devs l m) built =
+  of-case (MakePair devs a b kind full) = MakesPair devs a b (kind_of kind) full (is-kind kind)
+  of-case (RemovePair devs a b source_only) = RemovesPair devs a b source_only
+  of-case (PausePair devs a b) = PausesPair devs a b
+  of-case (ResumePair devs a b kind) = ResumesPair devs a b (kind_of kind)
+  of-case (Failover devs b a kind) = FailsOver devs b a (kind_of kind)
+  of-case (Failback devs x y kind) = FailsBack devs x y (kind_of kind)
+  of-case (Drain a most) = Drains a most
+  of-case (Expire name) = where-named (server_named k (name_bytes name)) (expire_on k) expire-case
+  of-case (Freeze devs l m) =
       where-owned (owner_of k l) (λ s. on_owner (owner_of k m) (λ u. unless (freeze_refusal k devs l m s u) (freeze_done k l m)))
       (λ s. where-owned (owner_of k m) (λ u. unless (freeze_refusal k devs l m s u) (freeze_done k l m)) (λ u. where-none (freeze_refusal k devs l m s u) (freeze_done k l m) (λ free. Freezes l m)))
-  of-case (Unfreeze devs l m) built =
+  of-case (Unfreeze devs l m) =
       where-owned (owner_of k l) (λ s. on_owner (owner_of k m) (λ u. unless (thaw_refusal k devs s u) (unfreeze_done k l m)))
       (λ s. where-owned (owner_of k m) (λ u. unless (thaw_refusal k devs s u) (unfreeze_done k l m)) (λ u. where-none (thaw_refusal k devs s u) (unfreeze_done k l m) (λ free. Unfreezes l m)))
-  of-case (MakeSession devs l s) built = join-case devs.dev l s
-  of-case (RemoveSession devs l s) built = leave-case devs.dev l s
-  of-case (AddMember devs l a s) built = add-case devs.dev l a s
-  of-case (RemoveMember devs l a s) built = expel-case devs.dev l a s
-  of-case (MakeMirror devs l s cginterval coordinate drain) built = mirror-case devs.dev l s
-  of-case (PauseMirror devs l s) built = pause-case devs.dev l s true
-  of-case (ResumeMirror devs l s cginterval coordinate drain) built = pause-case devs.dev l s false
-  of-case (RemoveMirror devs l s) built = unmirror-case devs.dev l s
-  of-case (Abort s) built = abort-case s
-  of-case (Exchange s name reply) built = exchange-case s name reply
-  of-case (Recover s) built = recover-case s
-  of-case (CommitFlash devs source sequence) built = settle-case devs.dev lets_commit source
-  of-case (RevertFlash devs source sequence) built = settle-case devs.dev lets_revert source
-  of-case _ built = Says (Refused NotBuilt)
+  of-case (MakeSession devs l s) = join-case devs.dev l s
+  of-case (RemoveSession devs l s) = leave-case devs.dev l s
+  of-case (AddMember devs l a s) = add-case devs.dev l a s
+  of-case (RemoveMember devs l a s) = expel-case devs.dev l a s
+  of-case (MakeMirror devs l s cginterval coordinate drain) = mirror-case devs.dev l s
+  of-case (PauseMirror devs l s) = pause-case devs.dev l s true
+  of-case (ResumeMirror devs l s cginterval coordinate drain) = pause-case devs.dev l s false
+  of-case (RemoveMirror devs l s) = unmirror-case devs.dev l s
+  of-case (Abort s) = abort-case s
+  of-case (Exchange s name reply) = exchange-case s name reply
+  of-case (Recover s) = recover-case s
+  of-case (CommitFlash devs source sequence) = settle-case devs.dev lets_commit source
+  of-case (RevertFlash devs source sequence) = settle-case devs.dev lets_revert source
+  of-case (ListPairs devs v) = where-none (listing_refusal k devs.dev v) (lists (pair_lines line v (fields_at k v))) (λ there. Lists (pair_lines line v (fields_at k v)) (pair-lines line v (fields_at k v)) (λ groups sessions volumes. pair-few line v (fields_at k v)))
+  of-case (ListFlashes devs v) = where-none (listing_refusal k devs.dev v) (lists (flash_lines k line v)) (λ there. Lists (flash_lines k line v) (flash-lines k line v) (λ groups sessions volumes. flash-few k line v volumes))
+  of-case (ListSession devs l) =
+      where-owned (owner_of k l) _ (λ owner. where-none (name_refusal k devs.dev owner) (lists (flat_map (member_lines k line l) (sessions_of k l)))
+      (λ named. Lists (flat_map (member_lines k line l) (sessions_of k l)) (session-lines k line l) (session-few k line l)))
+  of-case (ShowMirror devs l) =
+      where-owned (owner_of k l) _ (λ owner. where-none (name_refusal k devs.dev owner) (lists (flat_map (λ x. mirror_lines line x.number x.mirror) (sessions_of k l)))
+      (λ named. Lists (flat_map (λ x. mirror_lines line x.number x.mirror) (sessions_of k l)) (mirrors-lines k line l) (λ groups sessions volumes. mirrors-few k line l sessions)))
+  of-case _ = Says (Done Alone)
 
   step-case : (step : Step) → Is (step_plan k events line step)
-  step-case step =
-      choice (not (is_built step)) (refuses NotBuilt) (cond (has_room events) (plan_of k events line step) (refuses JournalFull)) (λ none. Says _)
-      (λ built. choice (has_room events) (plan_of k events line step) (refuses JournalFull) (λ room. of-case step (not-false (is_built step) built)) (λ full. Says _))
+  step-case step = choice (has_room events) (plan_of k events line step) (refuses JournalFull) (λ room. of-case step) (λ full. Says _)
 
   pub plan-case : (asked : Result Step ℕ) → Is (plan k events line asked)
   plan-case (Ok step) = step-case step

@@ -1,7 +1,7 @@
 -- After copy first over all volumes each target of v holds track t, but one that is restored onto v, which holds it before.
 use Rattle.std.proofs.Common.{ℕ, ◌≡◌, ◌≢◌, ◌<◌, inl, inr, refl, ap, sym, ◌∙◌, subst, Bool, true, false, cond, not, ◌&&◌, ◌||◌, nat_eq, List, [], ◌∷◌, ◌++◌, map, filter, Option, Some, None}
 use Rattle.std.proofs.lemmas.List.{append-nil}
-use Rattle.std.proofs.lemmas.Bool.{and_parts, and_from, ne_eqb, eq-eqb, false≢true, eqb-true}
+use Rattle.std.proofs.lemmas.Bool.{ne_eqb, false≢true}
 use Rattle.std.proofs.lemmas.Bool.Decides.{eqb_tells}
 use Rattle.std.specs.List.{list_any}
 use Rattle.std.specs.FinSet.{contains, insert, empty}
@@ -23,7 +23,7 @@ use Rattle.dr_facts.proofs.Sets.{not_turned}
 use Rattle.dr_laws_sound.proofs.RowsAfter.{idle}
 use Rattle.dr_laws_sound.proofs.Turns.{done}
 use Rattle.dr_laws_sound.proofs.KeepsSound.{Along, Then, decides}
-use Rattle.dr_logic.proofs.Choices.{chosen, choose_some}
+use Rattle.dr_logic.proofs.Choices.{chosen}
 use Rattle.dr_logic.proofs.Sets.{in_insert}
 use Rattle.dr_facts.proofs.Relations.{from-copies, copies-from}
 use Rattle.dr_logic.proofs.Truth.{false_true}

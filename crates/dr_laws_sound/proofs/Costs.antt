@@ -1,19 +1,14 @@
 -- How many events entries tell: each act costs what it tells, where it comes; a stop tells one more.
-use Rattle.std.proofs.Common.{ℕ, zero, suc, ◌≡◌, ◌≤◌, ◌+◌, List, [], ◌∷◌, ◌++◌, length, map, filter, refl, sym, subst, arith, Bool, true, false, cond, Option}
-use Rattle.std.proofs.lemmas.List.{length-append, length-map}
-use Rattle.std.proofs.lemmas.List.FromFn.{length-range_with_len}
-use Rattle.std.specs.List.{range_with_len}
-use Rattle.std.specs.FinSet.{contains}
+use Rattle.std.proofs.Common.{ℕ, zero, suc, ◌≡◌, ◌≤◌, ◌+◌, List, [], ◌∷◌, ◌++◌, length, map, refl, sym, subst, arith, Bool, true, false, cond, Option}
+use Rattle.std.proofs.lemmas.List.{length-append}
 use Rattle.dr_ids.specs.declared.refusal.Refusal.{Refusal}
 use Rattle.dr_model.specs.declared.event.Event.{Event}
-use Rattle.dr_model.specs.declared.event.Event.TheVariants.{Blanked, Restored, Stopped}
-use Rattle.dr_model.specs.Layout.{Tracks}
-use Rattle.dr_model.specs.Relations.{rest, in_order, is_bare}
+use Rattle.dr_model.specs.declared.event.Event.TheVariants.{Stopped}
+use Rattle.dr_model.specs.Relations.{rest}
 use Rattle.dr_model.specs.Control.{Control, Fuse, Volume, World}
-use Rattle.dr_model.specs.Moves.{Move, Land, Overwrite, LandBoth, Hold, target, told, told_in_stop, told_blank, told_restored, landed}
+use Rattle.dr_model.specs.Moves.{Move, Land, Overwrite, LandBoth, Hold, target, told, told_in_stop, landed}
 use Rattle.dr_model.specs.Carry.{Act, Make, OpenAttempt, Redo, Acknowledge, Drop, EndFreeze, EndThaw, EndRecovery, Next, Pass, Do, End, Entry, Outcome, carry, continue, go, check, now}
 use Rattle.dr_laws_sound.proofs.Turns.{act-cases, Counts, after_act, server_of, done}
-use Rattle.dr_facts.proofs.Costs.{blanks-few}
 
 -- no more tracks stand in order than a volume has
 -- what an act tells

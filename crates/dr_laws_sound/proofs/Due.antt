@@ -13,7 +13,7 @@ use Rattle.dr_model.specs.declared.event.Event.TheVariants.{Ack, Mirrored, Set, 
 use Rattle.dr_model.specs.Contents.{image, with_write}
 use Rattle.dr_model.specs.Layout.{Tracks}
 use Rattle.dr_model.specs.Relations.{rest, in_order, is_bare}
-use Rattle.dr_model.specs.Histories.{Write, Histories, after_event}
+use Rattle.dr_model.specs.Histories.{Histories, after_event}
 use Rattle.dr_model.specs.Control.{Pending}
 use Rattle.dr_model.specs.Moves.{is_write, is_other, marked, told_blank, told_restored}
 use Rattle.dr_model.specs.Rows.{emptied}

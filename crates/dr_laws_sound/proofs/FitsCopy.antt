@@ -1,6 +1,5 @@
 -- The background copy of a target, and its restore onto its source, are allowed along.
-use Rattle.std.proofs.Common.{ℕ, zero, suc, ◌≡◌, ◌≢◌, ◌<◌, ◌⊎◌, inl, inr, refl, ap, sym, ◌∙◌, subst, Bool, true, false, cond, not, ◌&&◌, ◌||◌, List, [], ◌∷◌, ◌++◌, append_assoc, map, filter, Option, Some, None}
-use Rattle.std.specs.Prelude.{slice_get}
+use Rattle.std.proofs.Common.{ℕ, zero, suc, ◌≡◌, ◌≢◌, ◌<◌, ◌⊎◌, inl, inr, refl, ap, sym, ◌∙◌, subst, Bool, true, false, cond, not, ◌&&◌, ◌||◌, List, [], ◌∷◌, ◌++◌, append_assoc, map, Option, Some, None}
 use Rattle.std.proofs.lemmas.Bool.{and_parts, eq-eqb, not-true}
 use Rattle.std.specs.List.{range_with_len}
 use Rattle.std.specs.FinSet.{contains, insert, empty}
@@ -22,8 +21,8 @@ use Rattle.dr_laws_sound.proofs.KeepsSound.{Along, Then, StepHolds, over, decide
 use Rattle.dr_laws_sound.proofs.CopyFirst.{Still, from, copy-first}
 use Rattle.dr_laws_sound.proofs.FitsFlash.{as_begun, sound-begun, holds-entries, runs-source}
 use Rattle.dr_logic.proofs.Choices.{choose_some}
-use Rattle.dr_logic.proofs.Lists.{filter-none, first-held}
-use Rattle.dr_facts.proofs.Tracks.{empty_has, empty-lowest}
+use Rattle.dr_logic.proofs.Lists.{first-held}
+use Rattle.dr_facts.proofs.Tracks.{empty-lowest}
 use Rattle.dr_logic.proofs.Options.{none_some}
 use Rattle.dr_logic.proofs.Tables.{at_same, at_other}
 

@@ -2,12 +2,12 @@
 use Rattle.std.proofs.Common.{ℕ, zero, suc, ◌≡◌, not, ◌&&◌, nat_eq, nat_lt, List, [], ◌∷◌, ◌++◌, refl, Bool, true, false, cond, map, Option, Some, None}
 use Rattle.std.specs.Prelude.{is_some, ◌==◌}
 use Rattle.std.specs.FinSet.{contains}
-use Rattle.std.specs.List.{find}
+use Rattle.std.specs.List.{find, flat_map}
 use Rattle.std.specs.Option.{option_or}
 use Rattle.dr_ids.specs.declared.names.Member.{Member}
 use Rattle.dr_ids.specs.declared.refusal.Decision.{Decision}
 use Rattle.dr_ids.specs.declared.refusal.Refusal.{Refusal}
-use Rattle.dr_ids.specs.declared.refusal.Refusal.TheVariants.{NotBuilt, OutOfOrder}
+use Rattle.dr_ids.specs.declared.refusal.Refusal.TheVariants.{OutOfOrder}
 use Rattle.dr_ids.specs.declared.refusal.PhaseName.TheVariants as phase
 use Rattle.dr_ids.specs.declared.refusal.Kind.TheVariants.{Server as OfServer, Lss as OfLss, Session as OfSession, Volume as OfVolume}
 use Rattle.dr_model.specs.declared.event.Event.{Event}
@@ -20,10 +20,10 @@ use Rattle.dr_model.specs.declared.state.PairState.TheVariants.{Suspended as Sus
 use Rattle.dr_model.specs.declared.step.Devs.{Devs}
 use Rattle.dr_model.specs.declared.step.Name.{Name}
 use Rattle.dr_model.specs.declared.step.Step.{Step}
-use Rattle.dr_model.specs.declared.step.Step.TheVariants.{Server, Volume, Link, Stop, StopAfter, Start, Issue, Write, Apply, Show, MakeFlash, RemoveFlash, ResyncFlash, ReverseFlash, Copy, MakePath, RemovePath, MakePair, RemovePair, PausePair, ResumePair, Failover, Failback, Drain, Expire, Freeze, Unfreeze, MakeSession, RemoveSession, AddMember, RemoveMember, MakeMirror, PauseMirror, ResumeMirror, RemoveMirror, Abort, Exchange, Recover, CommitFlash, RevertFlash}
+use Rattle.dr_model.specs.declared.step.Step.TheVariants.{Server, Volume, Link, Stop, StopAfter, Start, Issue, Write, Apply, Show, MakeFlash, RemoveFlash, ResyncFlash, ReverseFlash, Copy, MakePath, RemovePath, MakePair, RemovePair, PausePair, ResumePair, Failover, Failback, Drain, Expire, Freeze, Unfreeze, MakeSession, RemoveSession, AddMember, RemoveMember, MakeMirror, PauseMirror, ResumeMirror, RemoveMirror, Abort, Exchange, Recover, CommitFlash, RevertFlash, ListPairs, ListFlashes, ListSession, ShowMirror}
 use Rattle.dr_model.specs.Refusals.{unknown, server_off, duplicate}
 use Rattle.dr_model.specs.Control.{Control}
-use Rattle.dr_model.specs.Layout.{Fields, is_part, part_of}
+use Rattle.dr_model.specs.Layout.{Fields, is_part, kind_of}
 use Rattle.dr_model.specs.Pairs.{first_state, held, records}
 use Rattle.dr_model.specs.Moves.{Move, Keep, Note, Withdraw, Fetch, Resync, Reverse, Restore, Release, Suspend, MakeSecondary, MakePrimary, DropPrimary, DropSecondary, Follow, TakeOver, Thaw, Lift, Free, Seal as SealMove, RaiseAttempt, RaiseFloor, Leave, Flash as FlashMove, Commit as CommitMove, Revert as RevertMove, Finish as FinishMove, Hold as HoldMove}
 use Rattle.dr_model.specs.Carry.{Make, OpenAttempt, check, now, Next, Pass, Do, End, Entry}
@@ -38,6 +38,8 @@ use Rattle.dr_model.specs.SessionPlans.{table_plan, mirror_phase, session_phase,
 use Rattle.dr_model.specs.Plans.{Plan, plan_of, same, none_follow, always, tables_plan, entries_plan, only_says, refuses, unless, on_named, on_owner, on_session, is_defined, is_owner, server_named, name_bytes, counted_refusal, restore_refusal, yield_refusal, left_by, member_refusal, found_volumes, found_pair, differ, is_no_source, has_few_targets, is_plain_target, is_recorded_target, is_lone_restore, may_return, may_give_back, may_copy, at_most, left_to_copy, drain_plan, stop_on, stop_done, arm_on, expire_on, link_between, link_done, on_server, owner_of, server_refusal, server_done, volume_refusal, volume_done, issue_refusal, issue_done, show_refusal, show_done, expire_plan, path_refusal, make_path_done, unpath_refusal, remove_path_done, freeze_refusal, freeze_done, thaw_refusal, unfreeze_done, compare_plan}
 use Rattle.dr_laws_sound.specs.Acknowledged.{acknowledgements}
 use Rattle.dr_laws_sound.proofs.RecoveryEntries.{settle-cases}
+use Rattle.dr_model.specs.Listings.{pair_lines, flash_lines, member_lines, mirror_lines, sessions_of, lists, listing_refusal}
+use Rattle.dr_laws_sound.proofs.Listed.{AllLines, Plain, lines-plain, pair-lines, flash-lines, session-lines, mirrors-lines}
 use Rattle.dr_laws_sound.proofs.Cases.{added, expelled, aborted}
 use Rattle.dr_laws_sound.proofs.Hushed.{mirrors, Unheard, unheard-none, MuteMove, Mute, MuteNext, Hush, AllHush, none-hush, then-hush, append-hush}
 
@@ -223,6 +225,10 @@ tables-hush first last told says none not = record { told = none; entries = none
 pub says-hush : (a : Said) → NotHeld a → HushedPlan (only_says a)
 says-hush a not = tables-hush same same [] (always a) (unheard-none false) (λ k. not)
 
+-- listings and images
+pub lines-hush : (told : List Event) → AllLines told → HushedPlan (lists told)
+lines-hush told ls = let p : Plain told = lines-plain told ls in tables-hush same same told (always (Done Alone)) (record { none = p.none; plain = p.plain; uncut = λ h. absurd cc }) (λ k. done-not Alone)
+
 entries-hush : (ds : List Entry) (x : Addition) → AllHush false ds → HushedPlan (entries_plan ds (Done x))
 entries-hush ds x hush = record { told = unheard-none false; entries = hush; follows = λ s. none-hush; says = λ k. done-not x }
 
@@ -317,6 +323,9 @@ module _ (k : Control) (events : List Event) (line : ℕ) where
   tables : (first : Control → Control) (told : List Event) (x : Addition) → acknowledgements told ≡ [] → mirrors told ≡ [] → H (tables_plan first told (Done x))
   tables first told x none plain = tables-hush first same told (always (Done x)) (record { none = none; plain = plain; uncut = λ h. absurd cc }) (λ j. done-not x)
 
+  lines : (told : List Event) → AllLines told → H (lists told)
+  lines told ls = lines-hush told ls
+
   target-hush : (s a b : ℕ) (x : Session) (o : Option ℕ) → H (add_target k s x a b o)
   target-hush s a b x None = refusal-hush (relation_state k b)
   target-hush s a b x (Some c) = one (in_session (find (has_place_of (member_with k a c)) k.sessions)) (added k s x (member_with k a c))
@@ -389,12 +398,12 @@ module _ (k : Control) (events : List Event) (line : ℕ) where
       (λ s. owned tgt (λ u. unless (path_refusal k devs s u) (make_path_done src tgt group)) (λ u. one (path_refusal k devs s u) (make_path_done src tgt group) (tables _ _ Alone refl refl)))
   step-hush (RemovePath devs src tgt force) other = owned src (λ s. on_owner (owner_of k tgt) (λ u. unless (unpath_refusal k devs src tgt s u force) (remove_path_done src tgt)))
       (λ s. owned tgt (λ u. unless (unpath_refusal k devs src tgt s u force) (remove_path_done src tgt)) (λ u. one (unpath_refusal k devs src tgt s u force) (remove_path_done src tgt) (tables _ _ Alone refl refl)))
-  step-hush (MakePair devs a b kind full) other = entries-hush _ _ (pair-hush a b k devs (part_of kind) full _)
+  step-hush (MakePair devs a b kind full) other = entries-hush _ _ (pair-hush a b k devs (kind_of kind) full _)
   step-hush (RemovePair devs a b source_only) other = entries-hush _ _ (remove-hush a b k devs source_only)
   step-hush (PausePair devs a b) other = entries-hush _ _ (pause-hush a b k devs)
-  step-hush (ResumePair devs a b kind) other = entries-hush _ _ (resume-hush a b k devs (part_of kind))
-  step-hush (Failover devs b a kind) other = entries-hush _ _ (failover-hush b a k devs (part_of kind))
-  step-hush (Failback devs x y kind) other = entries-hush _ _ (failback-hush x y k devs (yield_refusal y) (part_of kind))
+  step-hush (ResumePair devs a b kind) other = entries-hush _ _ (resume-hush a b k devs (kind_of kind))
+  step-hush (Failover devs b a kind) other = entries-hush _ _ (failover-hush b a k devs (kind_of kind))
+  step-hush (Failback devs x y kind) other = entries-hush _ _ (failback-hush x y k devs (yield_refusal y) (kind_of kind))
   step-hush (Drain a most) other = drain-hush k a most
   step-hush (Expire name) other = named (server_named k (name_bytes name)) (expire_on k) expires
   step-hush (Freeze devs l m) other = owned l (λ s. on_owner (owner_of k m) (λ u. unless (freeze_refusal k devs l m s u) (freeze_done k l m)))
@@ -419,4 +428,12 @@ module _ (k : Control) (events : List Event) (line : ℕ) where
   step-hush (Recover s) other = recovers s
   step-hush (CommitFlash devs source sequence) other = by-hand devs.dev lets_commit source
   step-hush (RevertFlash devs source sequence) other = by-hand devs.dev lets_revert source
-  step-hush step other = refusal-hush NotBuilt
+  step-hush (ListPairs devs v) other = one (listing_refusal k devs.dev v) (lists (pair_lines line v (fields_at k v))) (lines (pair_lines line v (fields_at k v)) (pair-lines line v (fields_at k v)))
+  step-hush (ListFlashes devs v) other = one (listing_refusal k devs.dev v) (lists (flash_lines k line v)) (lines (flash_lines k line v) (flash-lines k line v))
+  step-hush (ListSession devs l) other =
+      let told : List Event = flat_map (member_lines k line l) (sessions_of k l) in
+      owned l (λ owner. unless (name_refusal k devs.dev owner) (lists told)) (λ owner. one (name_refusal k devs.dev owner) (lists told) (lines told (session-lines k line l)))
+  step-hush (ShowMirror devs l) other =
+      let told : List Event = flat_map (λ x. mirror_lines line x.number x.mirror) (sessions_of k l) in
+      owned l (λ owner. unless (name_refusal k devs.dev owner) (lists told)) (λ owner. one (name_refusal k devs.dev owner) (lists told) (lines told (mirrors-lines k line l)))
+  step-hush step other = says-hush (Done Alone) (done-not Alone)

@@ -3,7 +3,7 @@ use Rattle.std.proofs.Common.{ℕ, ◌≡◌, ◌≤◌, ◌<◌, ◌+◌, List,
 use Rattle.std.specs.List.{list_any}
 use Rattle.std.proofs.lemmas.List.Sums.{fold-append}
 use Rattle.std.proofs.lemmas.List.Folds.{list_any-append}
-use Rattle.std.proofs.lemmas.List.{append-nil, length-append}
+use Rattle.std.proofs.lemmas.List.{append-nil, length-append, length-map}
 use Rattle.dr_logic.specs.Tables.{at}
 use Rattle.dr_ids.specs.declared.refusal.Refusal.{Refusal}
 use Rattle.dr_ids.specs.declared.refusal.Refusal.TheVariants.{Stopped as StoppedIn}
@@ -23,14 +23,18 @@ use Rattle.dr_model.specs.Moves.{Move, Land, Overwrite, Keep, Note, Relate, With
 use Rattle.dr_model.specs.Carry.{Act, Make, OpenAttempt, Redo, Acknowledge, Drop, EndFreeze, EndThaw, EndRecovery, act, Next, Pass, Do, End, Entry, Outcome, carry, continue, go, follow}
 use Rattle.dr_model.specs.Plans.{Plan, entries_plan, name_bytes, same, always, none_follow, server_done, volume_done, link_done, with_pending, issue_done, show_done, stop_done, arm_on, starting, start_plan, make_path_done, remove_path_done}
 use Rattle.dr_model.specs.Forming.{Part, after_part}
-use Rattle.dr_model.specs.Runs.{Task, course, begun, finish, carried_out, answered, after_plan, after_task, after_tasks, run}
-use Rattle.dr_model.specs.Sessions.{Session, joined, left, changed, mirrored_by, paused, unmirrored}
-use Rattle.dr_model.specs.SessionEntries.{members_on}
-use Rattle.dr_model.specs.SessionPlans.{with_sessions, table_plan, says_phase, answered_by}
+use Rattle.dr_model.specs.Runs.{Task, course, masters_lost, image_told, begun, finish, carried_out, answered, after_plan, after_task, after_tasks, run}
+use Rattle.dr_model.specs.Phases as phases
+use Rattle.dr_ids.specs.declared.names.Member.{Member}
+use Rattle.dr_model.specs.Sessions.{Session, joined, left, changed, begun as attempted, mirrored_by, paused, unmirrored, raised, with_master, with_member, without_member}
+use Rattle.dr_model.specs.SessionEntries.{members_on, first_number, reply_after}
+use Rattle.dr_model.specs.SessionPlans.{with_sessions, table_plan, says_phase, answered_by, member_with}
 use Rattle.dr_laws_sound.specs.Limits.{IsWithin}
+use Rattle.dr_facts.proofs.Sessions.{length-changed, changed-twice, length-left, joined-few}
 use Rattle.dr_model.specs.RecoveryPlans.{decided_in, recover_done}
-use Rattle.dr_laws_sound.proofs.Cases.{Case, Says, DefinesServer, DefinesVolume, SetsLink, Issues, Writes, Applies, Shows, Stops, Arms, Starts, MakesFlash, RemovesFlash, ResyncsFlash, ReversesFlash, Copies, MakesPath, RemovesPath, MakesPair, RemovesPair, PausesPair, ResumesPair, FailsOver, FailsBack, Compares, Drains, Expires, Freezes, Unfreezes, MakesSession, RemovesSession, MakesMirror, PausesMirror, RemovesMirror, Aborts, AddsMember, RemovesMember, Exchanges, Recovers, Settles, aborted, servers-left, is-new, may-issue}
-use Rattle.dr_laws_sound.proofs.Parts.{Comes, course-case, last-plan}
+use Rattle.dr_laws_sound.proofs.Cases.{Case, Says, DefinesServer, DefinesVolume, SetsLink, Issues, Writes, Applies, Lists, Shows, Stops, Arms, Starts, MakesFlash, RemovesFlash, ResyncsFlash, ReversesFlash, Copies, MakesPath, RemovesPath, MakesPair, RemovesPair, PausesPair, ResumesPair, FailsOver, FailsBack, Compares, Drains, Expires, Freezes, Unfreezes, MakesSession, RemovesSession, MakesMirror, PausesMirror, RemovesMirror, Aborts, AddsMember, RemovesMember, Exchanges, Recovers, Settles, aborted, servers-left, is-new, may-issue}
+use Rattle.dr_laws_sound.proofs.Listed.{lines-plain, image-lines}
+use Rattle.dr_laws_sound.proofs.Parts.{Comes, Ending, OnePlan, Imaged, course-case, last-plan}
 use Rattle.dr_facts.proofs.Tables.{at_cases, at_part}
 use Rattle.dr_laws_sound.proofs.Turns.{act-cases, Counts, after_act, server_of}
 use Rattle.dr_logic.proofs.Lists.{filter-shorter}
@@ -43,6 +47,7 @@ pub record Stays (j k : Control) : Type 0 where
   pub volumes : k.volumes ≡ j.volumes
   pub issued : k.issued ≡ j.issued
   pub pending : length k.pending ≤ length j.pending
+  pub sessions : length k.sessions ≤ length j.sessions
 
 -- no answer is among them
 abbrev pub Silent : List Event → Type 0
@@ -59,10 +64,10 @@ pub record Onward (w u : World) : Type 0 where
   pub silent : Silent added
 
 stays-same : (k : Control) → Stays k k
-stays-same k = record { servers = refl; tracks = λ v. refl; volumes = refl; issued = refl; pending = omega arith }
+stays-same k = record { servers = refl; tracks = λ v. refl; volumes = refl; issued = refl; pending = omega arith; sessions = omega arith }
 
-stays-sessions : (f : List Session → List Session) (k : Control) → Stays k (with_sessions f k)
-stays-sessions f k = record { servers = refl; tracks = λ v. refl; volumes = refl; issued = refl; pending = omega arith }
+stays-sessions : (f : List Session → List Session) (k : Control) → length (f k.sessions) ≤ length k.sessions → Stays k (with_sessions f k)
+stays-sessions f k few = record { servers = refl; tracks = λ v. refl; volumes = refl; issued = refl; pending = omega arith; sessions = few }
 
 stays-then : (i j k : Control) → Stays i j → Stays j k → Stays i k
 stays-then i j k p q = record {
@@ -71,6 +76,7 @@ stays-then i j k p q = record {
   volumes = q.volumes ∙ p.volumes;
   issued = q.issued ∙ p.issued;
   pending = let a : length j.pending ≤ length i.pending = p.pending in let b : length k.pending ≤ length j.pending = q.pending in omega arith;
+  sessions = let a : length j.sessions ≤ length i.sessions = p.sessions in let b : length k.sessions ≤ length j.sessions = q.sessions in omega arith;
 }
 
 onward-same : (w : World) → Onward w w
@@ -176,22 +182,22 @@ move-tracks w m y e v = at_part (λ (x : Volume). x.tracks) w.control.volume (ta
 done-onward : (w : World) (a : Act) (f : Option Fuse) → Onward w (after_act w a f)
 done-onward w (Make m) f =
     let u : Volume = w.control.volume (target m) in
-    record { stays = record { servers = refl; tracks = move-tracks w m _ refl; volumes = refl; issued = refl; pending = settled-fewer m w.control.pending }; added = told m u; events = refl; silent = tells-silent m u }
+    record { stays = record { servers = refl; tracks = move-tracks w m _ refl; volumes = refl; issued = refl; pending = settled-fewer m w.control.pending; sessions = omega arith }; added = told m u; events = refl; silent = tells-silent m u }
 done-onward w (OpenAttempt v s n) f =
     let m : Move = Hold v s n true in
-    let u : Volume = w.control.volume v in record { stays = record { servers = refl; tracks = move-tracks w m _ refl; volumes = refl; issued = refl; pending = omega arith }; added = told m u; events = refl; silent = tells-silent m u }
-done-onward w (Redo v) f = record { stays = record { servers = refl; tracks = λ v. refl; volumes = refl; issued = refl; pending = omega arith }; added = []; events = sym (append-nil w.events); silent = refl }
-done-onward w (Acknowledge n) f = record { stays = record { servers = refl; tracks = λ v. refl; volumes = refl; issued = refl; pending = filter-shorter (is_other n) w.control.pending }; added = Ack n ∷ []; events = refl; silent = refl }
-done-onward w (Drop n) f = record { stays = record { servers = refl; tracks = λ v. refl; volumes = refl; issued = refl; pending = filter-shorter (is_other n) w.control.pending }; added = []; events = sym (append-nil w.events); silent = refl }
-done-onward w (EndFreeze l m) f = record { stays = record { servers = refl; tracks = λ v. refl; volumes = refl; issued = refl; pending = omega arith }; added = Frozen l m ∷ []; events = refl; silent = refl }
-done-onward w (EndThaw l m) f = record { stays = record { servers = refl; tracks = λ v. refl; volumes = refl; issued = refl; pending = omega arith }; added = Thawed l m ∷ []; events = refl; silent = refl }
-done-onward w (EndRecovery s n) f = record { stays = record { servers = refl; tracks = λ v. refl; volumes = refl; issued = refl; pending = omega arith }; added = Recovered s n ∷ []; events = refl; silent = refl }
+    let u : Volume = w.control.volume v in record { stays = record { servers = refl; tracks = move-tracks w m _ refl; volumes = refl; issued = refl; pending = omega arith; sessions = length-changed s attempted w.control.sessions }; added = told m u; events = refl; silent = tells-silent m u }
+done-onward w (Redo v) f = record { stays = record { servers = refl; tracks = λ v. refl; volumes = refl; issued = refl; pending = omega arith; sessions = omega arith }; added = []; events = sym (append-nil w.events); silent = refl }
+done-onward w (Acknowledge n) f = record { stays = record { servers = refl; tracks = λ v. refl; volumes = refl; issued = refl; pending = filter-shorter (is_other n) w.control.pending; sessions = omega arith }; added = Ack n ∷ []; events = refl; silent = refl }
+done-onward w (Drop n) f = record { stays = record { servers = refl; tracks = λ v. refl; volumes = refl; issued = refl; pending = filter-shorter (is_other n) w.control.pending; sessions = omega arith }; added = []; events = sym (append-nil w.events); silent = refl }
+done-onward w (EndFreeze l m) f = record { stays = record { servers = refl; tracks = λ v. refl; volumes = refl; issued = refl; pending = omega arith; sessions = omega arith }; added = Frozen l m ∷ []; events = refl; silent = refl }
+done-onward w (EndThaw l m) f = record { stays = record { servers = refl; tracks = λ v. refl; volumes = refl; issued = refl; pending = omega arith; sessions = omega arith }; added = Thawed l m ∷ []; events = refl; silent = refl }
+done-onward w (EndRecovery s n) f = record { stays = record { servers = refl; tracks = λ v. refl; volumes = refl; issued = refl; pending = omega arith; sessions = omega arith }; added = Recovered s n ∷ []; events = refl; silent = refl }
 
 counts-onward : (w : World) (a : Act) → Counts w a (λ t. Onward w t.0)
 counts-onward w (Make m) = λ f.
     let u : Volume = w.control.volume (target m) in
     record {
-      stays = record { servers = refl; tracks = move-tracks w m _ refl; volumes = refl; issued = refl; pending = stop-fewer m w.control.pending };
+      stays = record { servers = refl; tracks = move-tracks w m _ refl; volumes = refl; issued = refl; pending = stop-fewer m w.control.pending; sessions = omega arith };
       added = told_in_stop m u ++ Stopped u.server (landed m) ∷ [];
       events = refl;
       silent = silent-append (told_in_stop m u) (Stopped u.server (landed m) ∷ []) (in_stop-silent m u) refl;
@@ -200,7 +206,7 @@ counts-onward w (OpenAttempt v s n) = λ f.
     let m : Move = Hold v s n true in
     let u : Volume = w.control.volume v in
     record {
-      stays = record { servers = refl; tracks = move-tracks w m _ refl; volumes = refl; issued = refl; pending = omega arith };
+      stays = record { servers = refl; tracks = move-tracks w m _ refl; volumes = refl; issued = refl; pending = omega arith; sessions = length-changed s attempted w.control.sessions };
       added = told_in_stop m u ++ Stopped u.server 0 ∷ [];
       events = refl;
       silent = silent-append (told_in_stop m u) (Stopped u.server 0 ∷ []) (in_stop-silent m u) refl;
@@ -214,7 +220,7 @@ counts-onward w (EndRecovery s n) = tt
 
 act-onward : (w : World) (a : Act) → Onward w (act w a).0
 act-onward w a = act-cases w a (λ t. Onward w t.0) (λ d off. onward-same w) (done-onward w a) (counts-onward w a)
-    (λ d f. record { stays = record { servers = refl; tracks = λ v. refl; volumes = refl; issued = refl; pending = omega arith }; added = Stopped (server_of w a) 0 ∷ []; events = refl; silent = refl })
+    (λ d f. record { stays = record { servers = refl; tracks = λ v. refl; volumes = refl; issued = refl; pending = omega arith; sessions = omega arith }; added = Stopped (server_of w a) 0 ∷ []; events = refl; silent = refl })
 
 continue-onward : (w u : World) (server : Option ℕ) (next : World → Outcome) → ((v : World) → Onward v (next v).0) → Onward w u → Onward w (continue u server next).0
 continue-onward w u None next each on = onward-then w u _ on (each u)
@@ -280,7 +286,7 @@ module _ (k : Control) where
   modest first told entries says one within hush = record { one = one; within = within; last = stays-same; silent = hush }
 
   abbrev Unmoved : Control → Type 0
-  Unmoved j = (length j.servers ≡ length k.servers) × ((length j.volumes ≡ length k.volumes) × ((length j.pending ≡ length k.pending) × ((v : ℕ) → (j.volume v).tracks ≡ (k.volume v).tracks)))
+  Unmoved j = (length j.sessions ≤ length k.sessions) × ((length j.servers ≡ length k.servers) × ((length j.volumes ≡ length k.volumes) × ((length j.pending ≡ length k.pending) × ((v : ℕ) → (j.volume v).tracks ≡ (k.volume v).tracks))))
 
   -- the tables with limits stay
   quiet : (first : Control → Control) (told : List Event) (entries : List Entry) (says : Control → Said) → (first k).issued ≡ k.issued → Unmoved (first k) → Silent told
@@ -289,14 +295,19 @@ module _ (k : Control) where
     where
       within : IsWithin k → IsWithin (first k)
       within h = record {
-        servers = subst (λ n. n ≤ most_servers) (sym stays.0) h.servers;
-        volumes = subst (λ n. n ≤ most_volumes) (sym stays.1.0) h.volumes;
-        pending = subst (λ n. n ≤ most_pending) (sym stays.1.1.0) h.pending;
-        tracks = λ v. subst (λ n. n ≤ most_tracks) (sym (stays.1.1.1 v)) (h.tracks v);
+        servers = subst (λ n. n ≤ most_servers) (sym stays.1.0) h.servers;
+        volumes = subst (λ n. n ≤ most_volumes) (sym stays.1.1.0) h.volumes;
+        pending = subst (λ n. n ≤ most_pending) (sym stays.1.1.1.0) h.pending;
+        tracks = λ v. subst (λ n. n ≤ most_tracks) (sym (stays.1.1.1.1 v)) (h.tracks v);
+        sessions = (let a : length (first k).sessions ≤ length k.sessions = stays.0 in let b : length k.sessions ≤ 4 = h.sessions in omega arith);
       }
 
   unmoved : Unmoved k
-  unmoved = (refl, (refl, (refl, λ v. refl)))
+  unmoved = (omega arith, (refl, (refl, (refl, λ v. refl))))
+
+  -- the table of sessions changes, and has no more of them
+  retabled : (f : List Session → List Session) → length (f k.sessions) ≤ length k.sessions → Unmoved (with_sessions f k)
+  retabled f few = (few, (refl, (refl, (refl, λ v. refl))))
 
   entries-modest : (entries : List Entry) (said : Said) → Modest k (entries_plan entries said)
   entries-modest entries said = quiet same [] entries (always said) refl unmoved refl
@@ -307,7 +318,7 @@ module _ (k : Control) where
   issue-modest : (v t offset len : ℕ) (bytes : List ℕ) → length k.pending < most_pending → Modest k (issue_done k v t offset len bytes)
   issue-modest v t offset len bytes left =
       modest (with_pending v t) (Issue (k.issued + 1) v t offset len bytes ∷ []) [] (always (Done (Wrote (k.issued + 1)))) (omega arith)
-      (λ h. record { servers = h.servers; volumes = h.volumes; pending = room-more k.pending (record { w = k.issued + 1; volume = v; track = t; landed = false }) most_pending left; tracks = h.tracks }) refl
+      (λ h. record { servers = h.servers; volumes = h.volumes; pending = room-more k.pending (record { w = k.issued + 1; volume = v; track = t; landed = false }) most_pending left; tracks = h.tracks; sessions = h.sessions }) refl
 
   -- a volume is defined, which isn't too large
   sizes-within : (v s tracks : ℕ) → tracks ≤ most_tracks → IsWithin k → (u : ℕ) → (at k.volume v (new_volume s tracks) u).tracks ≤ most_tracks
@@ -317,16 +328,17 @@ module _ (k : Control) where
   case-modest events line _ (Says a) = quiet same [] [] (always a) refl unmoved refl
   case-modest events line _ (DefinesServer name free) =
       modest (server_done k name).first (server_done k name).told [] (always (Done Alone)) (omega arith)
-      (λ h. record { servers = room-more k.servers (name_bytes name) most_servers (servers-left k (name_bytes name) free); volumes = h.volumes; pending = h.pending; tracks = h.tracks }) refl
+      (λ h. record { servers = room-more k.servers (name_bytes name) most_servers (servers-left k (name_bytes name) free); volumes = h.volumes; pending = h.pending; tracks = h.tracks; sessions = h.sessions }) refl
   case-modest events line _ (DefinesVolume v s tracks here free) =
       let new = is-new k v s tracks free in
       modest (volume_done v s tracks).first (volume_done v s tracks).told [] (always (Done Alone)) (omega arith)
-      (λ h. record { servers = h.servers; volumes = room-more k.volumes v most_volumes new.left; pending = h.pending; tracks = sizes-within v s tracks new.small h }) refl
+      (λ h. record { servers = h.servers; volumes = room-more k.volumes v most_volumes new.left; pending = h.pending; tracks = sizes-within v s tracks new.small h; sessions = h.sessions }) refl
   case-modest events line _ (SetsLink a b up) = quiet (link_done a b up).first [] [] (always (Done Alone)) refl unmoved refl
   case-modest events line _ (Issues v t offset len bytes free) = issue-modest v t offset len bytes (may-issue k v t free).1
   case-modest events line _ (Writes v t offset len bytes free) =
       let issues : Modest k (issue_done k v t offset len bytes) = issue-modest v t offset len bytes (may-issue k v t free).1 in record { one = issues.one; within = issues.within; last = issues.last; silent = issues.silent }
   case-modest events line _ (Applies n p found) = record { one = omega arith; within = λ h. h; last = stays-same; silent = refl }
+  case-modest events line _ (Lists told ls few) = quiet same told [] (always (Done Alone)) refl unmoved (lines-plain told ls).silent
   case-modest events line _ (Shows v t there) = quiet same (show_done events line v t).told [] (always (Done Showed)) refl unmoved refl
   case-modest events line _ (Stops s on) = quiet (stop_done s).first (Stopped s 0 ∷ []) [] (always (Done Alone)) refl unmoved refl
   case-modest events line _ (Arms writes torn s) = quiet (arm_on writes torn s).first [] [] (always (Done Alone)) refl unmoved refl
@@ -349,28 +361,40 @@ module _ (k : Control) where
   case-modest events line _ (Expires s on) = entries-modest _ _
   case-modest events line _ (Freezes l m) = entries-modest _ _
   case-modest events line _ (Unfreezes l m) = entries-modest _ _
-  case-modest events line _ (MakesSession l s free) = quiet (table_plan (joined s l)).first [] [] (always (Done Alone)) refl unmoved refl
-  case-modest events line _ (RemovesSession l s x found free) = quiet (table_plan (left s l)).first [] [] (always (Done Alone)) refl unmoved refl
-  case-modest events line _ (MakesMirror owner s x found free l owned) = quiet (table_plan (changed s (mirrored_by owner))).first [] [] (always (Done Alone)) refl unmoved refl
-  case-modest events line _ (PausesMirror s on) = quiet (table_plan (changed s (paused on))).first [] [] (always (Done Alone)) refl unmoved refl
-  case-modest events line _ (RemovesMirror s x found free) = quiet (table_plan (changed s unmirrored)).first [] [] (always (Done Alone)) refl unmoved refl
-  case-modest events line _ (Aborts s x found free) = quiet (aborted s).first [] [] (says_phase s) refl unmoved refl
-  case-modest events line _ (AddsMember s a c x joins) = record { one = omega arith; within = λ h. h; last = stays-sessions _; silent = refl }
-  case-modest events line _ (RemovesMember s a x m found is idle on) = record { one = omega arith; within = λ h. h; last = stays-sessions _; silent = refl }
+  case-modest events line _ (MakesSession l s free) = modest (table_plan (joined s l)).first [] [] (always (Done Alone)) (omega arith)
+      (λ h. record { servers = h.servers; volumes = h.volumes; pending = h.pending; tracks = h.tracks; sessions = joined-few k.sessions s l h.sessions free }) refl
+  case-modest events line _ (RemovesSession l s x found free) = quiet (table_plan (left s l)).first [] [] (always (Done Alone)) refl (retabled (left s l) (length-left k.sessions s l)) refl
+  case-modest events line _ (MakesMirror owner s x found free l owned) = quiet (table_plan (changed s (mirrored_by owner))).first [] [] (always (Done Alone)) refl (retabled (changed s (mirrored_by owner)) (length-changed s (mirrored_by owner) k.sessions)) refl
+  case-modest events line _ (PausesMirror s on) = quiet (table_plan (changed s (paused on))).first [] [] (always (Done Alone)) refl (retabled (changed s (paused on)) (length-changed s (paused on) k.sessions)) refl
+  case-modest events line _ (RemovesMirror s x found free) = quiet (table_plan (changed s unmirrored)).first [] [] (always (Done Alone)) refl (retabled (changed s unmirrored) (length-changed s unmirrored k.sessions)) refl
+  case-modest events line _ (Aborts s x found free) = quiet (aborted s).first [] [] (says_phase s) refl (retabled (changed s (with_master phases.aborted)) (length-changed s (with_master phases.aborted) k.sessions)) refl
+  case-modest events line _ (AddsMember s a c x joins) =
+      let m : Member = member_with k a c in
+      let n : ℕ = first_number k x.last m in
+      record { one = omega arith; within = λ h. h; last = λ j. stays-sessions (λ ss. changed s (with_member m) (changed s (raised n) ss)) j (changed-twice s (with_member m) (raised n) j.sessions); silent = refl }
+  case-modest events line _ (RemovesMember s a x m found is idle on) = record { one = omega arith; within = λ h. h; last = λ j. stays-sessions (changed s (without_member m.a.0)) j (length-changed s (without_member m.a.0) j.sessions); silent = refl }
   case-modest events line _ (Recovers s x found on) = quiet same [] (recover_done s (decided_in s k) x.members).entries (recover_done s (decided_in s k) x.members).says refl unmoved refl
   case-modest events line _ (Settles s x m found here on free) = entries-modest _ _
   case-modest events line _ (Exchanges s server reply x r o allowed) = record { one = omega arith; within = λ h. h; last = by reply; silent = refl }
     where
       by : (b : Bool) (j : Control) → Stays j (cond b (answered_by s server o.work (members_on server x.members)) same j)
-      by true j = record { servers = refl; tracks = λ v. refl; volumes = refl; issued = refl; pending = omega arith }
+      by true j = record { servers = refl; tracks = λ v. refl; volumes = refl; issued = refl; pending = omega arith; sessions = length-changed s (with_master (λ m. phases.taken m server (reply_after s o.work (members_on server x.members) j))) j.sessions }
       by false j = stays-same j
+
+pub ending-modest : (k : Control) (events : List Event) (line : ℕ) (p : Plan) → Ending k events line p → Modest k p
+ending-modest k events line _ (OnePlan p c) = case-modest k events line p c
+ending-modest k events line _ (Imaged vs) = quiet k same (image_told vs) [] (always (Done Alone)) refl (unmoved k) (lines-plain (image_told vs) (image-lines vs)).silent
+
+-- masters are lost as a step ends, and sessions are as many
+pub few-lost : (w u : World) (k : Control) → length u.control.sessions ≤ length k.sessions → length (masters_lost w u).control.sessions ≤ length k.sessions
+few-lost w u k le = let e : length (masters_lost w u).control.sessions ≡ length u.control.sessions = length-map _ _ in omega arith
 
 -- a plan before the last one of its step adds to the journal, and no answer
 pub onward-part : (w : World) (p : Plan) → Comes w p → Onward w (after_part w p)
 onward-part w p comes =
     let goes : Onward (begun w p) (carried_out w p).0 = carried_out-onward w p (case-modest w.control w.events 0 p (comes.case 0)) in
     record {
-      stays = subst (λ k. Stays k (after_part w p).control) (comes.first w.control) (record { servers = goes.stays.servers; tracks = goes.stays.tracks; volumes = goes.stays.volumes; issued = goes.stays.issued; pending = goes.stays.pending });
+      stays = subst (λ k. Stays k (after_part w p).control) (comes.first w.control) (record { servers = goes.stays.servers; tracks = goes.stays.tracks; volumes = goes.stays.volumes; issued = goes.stays.issued; pending = goes.stays.pending; sessions = few-lost w (carried_out w p).0 (begun w p).control goes.stays.sessions });
       added = goes.added;
       events = goes.events ∙ ap (λ es. es ++ goes.added) (ap (λ es. w.events ++ es) comes.told ∙ append-nil w.events);
       silent = goes.silent;
@@ -380,7 +404,7 @@ pub onward-last : (w : World) (t : Task) → Onward w (course w t).last.world
 onward-last w t = last-plan (Onward w) (λ u p comes on. onward-then w u _ on (onward-part u p comes)) w t (onward-same w)
 
 pub modest-last : (w : World) (t : Task) → let x : Part = (course w t).last in Modest x.world.control x.plan
-modest-last w t = let x : Part = (course w t).last in case-modest x.world.control x.world.events t.line x.plan (course-case w t)
+modest-last w t = let x : Part = (course w t).last in ending-modest x.world.control x.world.events t.line x.plan (course-case w t)
 
 pub after_task-ends : (w : World) (t : Task) → EndsAnswered w t.line (after_task w t)
 after_task-ends w t =

@@ -1,5 +1,5 @@
 -- Each kind of move keeps what a revertible target would show if it went back.
-use Rattle.std.proofs.Common.{ℕ, ◌≡◌, Bool, true, false, cond, not, ◌&&◌, Some, None}
+use Rattle.std.proofs.Common.{ℕ, ◌≡◌, Bool, true, not, ◌&&◌, Some}
 use Rattle.std.specs.FinSet.{insert}
 use Rattle.dr_logic.specs.Tables.{at}
 use Rattle.dr_model.specs.Histories.{Write}
@@ -12,7 +12,7 @@ use Rattle.dr_model.specs.Allowed.{Allowed}
 use Rattle.dr_facts.proofs.Tables.{linked-at}
 use Rattle.dr_laws_sound.proofs.KeepsStructure.{no_loop, no_targets, revertible-not, ended-loop}
 use Rattle.dr_laws_sound.proofs.KeepsParts.{unrelated}
-use Rattle.dr_facts.proofs.Sets.{still_related, not_turned}
+use Rattle.dr_facts.proofs.Sets.{not_turned}
 use Rattle.dr_logic.proofs.Choices.{chosen}
 use Rattle.dr_logic.proofs.Truth.{false_true}
 use Rattle.dr_logic.proofs.Options.{none_some}

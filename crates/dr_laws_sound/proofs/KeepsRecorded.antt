@@ -13,7 +13,7 @@ use Rattle.dr_model.specs.Allowed.{Allowed, Kept}
 use Rattle.dr_facts.proofs.Tables.{at_cases, linked-at}
 use Rattle.dr_laws_sound.proofs.KeepsStructure.{no_loop, no_targets, ended-loop}
 use Rattle.dr_laws_sound.proofs.KeepsParts.{unrelated}
-use Rattle.dr_facts.proofs.Sets.{insert_other, not_in_empty, not_in_more, still_related}
+use Rattle.dr_facts.proofs.Sets.{insert_other, not_in_empty, not_in_more}
 use Rattle.dr_logic.proofs.Choices.{chosen}
 use Rattle.dr_logic.proofs.Sets.{in_insert}
 use Rattle.dr_facts.proofs.Tracks.{from_difference}

@@ -29,6 +29,10 @@
 -- - what sessions and records of volumes say together (numbers differ, one place for a volume, who records, the master's
 --   server and phase): fields `groups` and `housed` of `SoundBut`, each kind of change by `dr_laws_sessions`; plans by
 --   `FitsSessions.antt`, `FitsMembers.antt`, `FitsOrders.antt`, `FitsRecovery.antt` (`KeepsGroups.antt`, `Steps.antt`)
+-- - no volume has two places in the sessions: `are-lone` (`Places.antt`), from `once` and `lone` of `groups`; it rides along
+-- - where a volume takes a track back it is at rest: `calm-run`, `calm-reads` (`Restores.antt`). What holds where entries come to a
+--   move is `along-comes_to` (`Along.antt`); of each plan of a step, `rides-comes` (`Riders.antt`): the rows fit, the move is
+--   allowed, and what rides along holds
 -- **A law that rides.** A law on the rows and the journal that needs `Sound` where acts come, and that `Sound` doesn't
 -- need, is no field of `Sound`. It is a `Rider` (`Riders.antt`): what its acts keep, those of a start, what no list
 -- hears of, a write that is issued, a volume that is defined, and another table of sessions (`regroups`: members stay in
@@ -58,6 +62,7 @@
 --   step for each kind of order, and `Answers` at the end, which is all that the reply rests on. A new order is a step
 --   that gives `May` from the lemma of its checks, and hands `done-..` to the next member.
 -- - **A set of numbers below n has no more than n** (`len-low`, `Spends.antt`): by `len-remove` and `same_set`.
+pub mod Listed
 pub mod Cases
 pub mod Turns
 pub mod Due
@@ -128,3 +133,5 @@ pub mod Shows
 pub mod Unissued
 pub mod Rides
 pub mod Riders
+pub mod Places
+pub mod Restores

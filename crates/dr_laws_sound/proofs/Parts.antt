@@ -8,6 +8,9 @@ use Rattle.dr_ids.specs.declared.refusal.Refusal.TheVariants.{OutOfOrder, Journa
 use Rattle.dr_ids.specs.declared.refusal.Kind.TheVariants.{Session as OfSession}
 use Rattle.dr_model.specs.declared.said.Said.TheVariants.{Refused}
 use Rattle.dr_model.specs.Control.{Control, World}
+use Rattle.dr_model.specs.declared.event.Event.{Event}
+use Rattle.dr_model.specs.Limits.{image_events}
+use Rattle.dr_model.specs.PlantImage.{Volume}
 use Rattle.dr_model.specs.Groups.{In}
 use Rattle.dr_model.specs.Phases as phases
 use Rattle.dr_model.specs.PairEntries.{is_copying}
@@ -16,9 +19,9 @@ use Rattle.dr_model.specs.Refusals.{unknown}
 use Rattle.dr_model.specs.SessionEntries.{members_on}
 use Rattle.dr_model.specs.SessionPlans.{asking, exchange_on, exchange_done, exchange_refusal, order_of}
 use Rattle.dr_model.specs.Sessions.{Session, Mirror, session_in, mirror_in, members_in}
-use Rattle.dr_model.specs.Plans.{drain_plan, has_room, compare_plan}
+use Rattle.dr_model.specs.Plans.{drain_plan, has_room, has_room_for, compare_plan}
 use Rattle.dr_model.specs.Forming.{Part, Way, stays, ends, goes_on, unless_refused, after_part, part_refusal, part, drains, is_draining, ask, next_asked, master_in, phase_in, has_committed, still_left, turn_by, turns, most_turns, form_refusal, form_in, formed}
-use Rattle.dr_model.specs.Runs.{Task, run_asked, course_of, course, plans_of, Apart, Groups, Volumes, compared}
+use Rattle.dr_model.specs.Runs.{Task, own_course, course_of, course, plans_of, OwnCourse, Groups, Volumes, Devices, compared, image_plan, imaged}
 use Rattle.dr_laws_sound.proofs.Cases.{Case, Says, Drains, on-case, plan-case, Compares}
 use Rattle.dr_laws_sound.proofs.HushedPlans.{HushedPlan, drain-hush, exchange-hush}
 
@@ -165,16 +168,22 @@ leads = record {
 
 -- its plans before the last one, and the last one
 pub course-goes : (w : World) (t : Task) → Goes w (course w t).before (course w t).last.world
-course-goes w t = by (run_asked t.asked)
+course-goes w t = by (own_course t.asked)
   where
-    by : (o : Option Apart) → Goes w (course_of w t o).before (course_of w t o).last.world
+    by : (o : Option OwnCourse) → Goes w (course_of w t o).before (course_of w t o).last.world
     by None = Nothing w
     by (Some (Groups s n)) = way-formed Leads leads w s n
     by (Some (Volumes v u)) = Nothing w
+    by (Some Devices) = Nothing w
+
+-- what the last plan of a step comes to: a plan of the step table, or an image
+pub data Ending (k : Control) (events : List Event) (line : ℕ) : Plan → Type 0 where
+  OnePlan : (p : Plan) → Case k events line p → Ending k events line p
+  Imaged : (vs : List Volume) → Ending k events line (image_plan vs)
 
 -- what a part comes to, as a plan of a step
-abbrev pub CaseOf : ℕ → Part → Type 0
-CaseOf line x = Case x.world.control x.world.events line x.plan
+abbrev pub EndingOf : ℕ → Part → Type 0
+EndingOf line x = Ending x.world.control x.world.events line x.plan
 
 -- a comparison, where the journal has room
 pub compared-case : (w : World) (line v u : ℕ) → Case w.control w.events line (compared w v u)
@@ -184,13 +193,32 @@ compared-case w line v u = by (has_room w.events)
     by true = Compares w.contents v u
     by false = Says _
 
-pub course-case : (w : World) (t : Task) → CaseOf t.line (course w t).last
-course-case w t = by (run_asked t.asked)
+-- an image, where the journal has room
+pub imaged-case : (w : World) (line : ℕ) (vs : List Volume) → Ending w.control w.events line (imaged w vs)
+imaged-case w line vs = by (has_room_for image_events w.events)
   where
-    by : (o : Option Apart) → CaseOf t.line (course_of w t o).last
-    by None = plan-case w.control w.events t.line t.asked
-    by (Some (Groups s n)) = Says _
-    by (Some (Volumes v u)) = compared-case w t.line v u
+    by : (room : Bool) → Ending w.control w.events line (cond room (image_plan vs) (refuses JournalFull))
+    by true = Imaged vs
+    by false = OnePlan _ (Says _)
+
+pub course-case : (w : World) (t : Task) → EndingOf t.line (course w t).last
+course-case w t = by (own_course t.asked)
+  where
+    by : (o : Option OwnCourse) → EndingOf t.line (course_of w t o).last
+    by None = OnePlan _ (plan-case w.control w.events t.line t.asked)
+    by (Some (Groups s n)) = OnePlan _ (Says _)
+    by (Some (Volumes v u)) = OnePlan _ (compared-case w t.line v u)
+    by (Some Devices) = imaged-case w t.line t.listed
+
+-- a step that is no image ends in a plan of the step table
+pub plain-case : (w : World) (t : Task) → (own_course t.asked ≡ Some Devices → ⊥) → let x : Part = (course w t).last in Case x.world.control x.world.events t.line x.plan
+plain-case w t = by (own_course t.asked)
+  where
+    by : (o : Option OwnCourse) → (o ≡ Some Devices → ⊥) → let x : Part = (course_of w t o).last in Case x.world.control x.world.events t.line x.plan
+    by None other = plan-case w.control w.events t.line t.asked
+    by (Some (Groups s n)) other = Says _
+    by (Some (Volumes v u)) other = compared-case w t.line v u
+    by (Some Devices) other = absurd (other refl)
 
 in-either : {A : Type 0} (x y : A) (xs : List A) → In x (xs ++ y ∷ []) → In x xs ⊎ (x ≡ y)
 in-either x y [] (inl is) = inr is
@@ -202,10 +230,10 @@ in-either x y (z ∷ zs) (inr there) = elim (in-either x y zs there) [
 ]
 
 -- what each plan but the last keeps holds as each plan begins
-pub each-plan : (K : World → Type 0) → ((w : World) (p : Plan) → Comes w p → K w → K (after_part w p)) → (w : World) (t : Task) → K w → (x : Part) → In x (plans_of w t) → K x.world × CaseOf t.line x
+pub each-plan : (K : World → Type 0) → ((w : World) (p : Plan) → Comes w p → K w → K (after_part w p)) → (w : World) (t : Task) → K w → (x : Part) → In x (plans_of w t) → K x.world × EndingOf t.line x
 each-plan K keeps w t k x h = elim (in-either x (course w t).last (course w t).before h) [
-  | inl before ↦ let b = goes-each K keeps w _ _ (course-goes w t) k x before in (b.holds, b.comes.case t.line)
-  | inr is ↦ subst (λ x. K x.world × CaseOf t.line x) (sym is) (goes-keep K keeps w _ _ (course-goes w t) k, course-case w t)
+  | inl before ↦ let b = goes-each K keeps w _ _ (course-goes w t) k x before in (b.holds, OnePlan _ (b.comes.case t.line))
+  | inr is ↦ subst (λ x. K x.world × EndingOf t.line x) (sym is) (goes-keep K keeps w _ _ (course-goes w t) k, course-case w t)
 ]
 
 -- and as the last one begins

@@ -1,11 +1,11 @@
 -- Plans carried out where servers may go off by themselves: where no read fuse is armed nothing new comes, and the rows
 -- of the volumes are kept in any case.
-use Rattle.std.proofs.Common.{ℕ, ◌≡◌, inl, inr, Bool, true, List, [], ◌∷◌, refl, sym, subst, Option, Some, None}
+use Rattle.std.proofs.Common.{ℕ, ◌≡◌, inl, inr, Bool, true, List, [], ◌∷◌, sym, Option, Some, None}
 use Rattle.dr_ids.specs.declared.refusal.Refusal.{Refusal}
 use Rattle.dr_model.specs.declared.event.Event.TheVariants.{Stopped}
 use Rattle.dr_model.specs.Refusals.{stopped}
 use Rattle.dr_model.specs.Control.{World}
-use Rattle.dr_model.specs.Carry.{Act, act, Turn, Next, Pass, Do, End, Entry, Outcome, carry, continue, go}
+use Rattle.dr_model.specs.Carry.{act, Turn, Next, Pass, Do, End, Entry, Outcome, carry, continue, go}
 use Rattle.dr_model.specs.Plans.{Plan}
 use Rattle.dr_model.specs.Groups.{In}
 use Rattle.dr_model.specs.Forming.{Part}
@@ -16,7 +16,7 @@ use Rattle.dr_model.specs.Laws.{SoundRows, Sound}
 use Rattle.dr_model.proofs.Images.{histories-append}
 use Rattle.dr_laws_sound.proofs.KeepsSound.{StepHolds, RowsAt, rows-told}
 use Rattle.dr_laws_sound.proofs.Parts.{each-plan}
-use Rattle.dr_laws_sound.proofs.Steps.{case-holds, sound-part}
+use Rattle.dr_laws_sound.proofs.Steps.{ending-holds, sound-part}
 use Rattle.dr_laws_sound.proofs.Along as along
 
 -- where no server went off by itself, a plan ends as it is carried out
@@ -55,5 +55,5 @@ pub rows-ends : (armed : ℕ → Bool) (w u : World) (r : Option Refusal) (t : T
 rows-ends armed w u r t x s there e =
     let b = each-plan Sound sound-part w t s x there in
     let p : Plan = x.plan in
-    let holds : StepHolds x.world p = case-holds x.world b.0 t.line p b.1 in
+    let holds : StepHolds x.world p = ending-holds x.world b.0 t.line p b.1 in
     along.ends-weaker holds.inner Sound holds.ends RowsAt holds.may holds.within (λ v x. x.rows) holds.complete holds.keeps armed (λ v x j on is. rows-gone v x (holds.within v j)) u r (begun x.world p) p.entries holds.begins holds.entries e

@@ -7,7 +7,7 @@ use Rattle.dr_ids.specs.declared.refusal.Refusal.TheVariants.{OutOfOrder, Journa
 use Rattle.dr_ids.specs.declared.refusal.Kind.TheVariants.{Session as OfSession}
 use Rattle.dr_model.specs.declared.said.Said.TheVariants.{Refused}
 use Rattle.dr_model.specs.declared.step.Step.{Step}
-use Rattle.dr_model.specs.declared.step.Step.TheVariants.{Run, Compare}
+use Rattle.dr_model.specs.declared.step.Step.TheVariants.{Run, Compare, Image}
 use Rattle.dr_model.specs.Control.{World}
 use Rattle.dr_model.specs.Carry.{carry}
 use Rattle.dr_model.specs.Refusals.{unknown}
@@ -16,14 +16,16 @@ use Rattle.dr_model.specs.Sessions.{Session, session_in, members_in}
 use Rattle.dr_model.specs.SessionEntries.{members_on}
 use Rattle.dr_model.specs.SessionPlans.{asking}
 use Rattle.dr_model.specs.PlanParts.{Plan, only_says}
-use Rattle.dr_model.specs.Plans.{drain_plan, has_room, step_plan}
+use Rattle.dr_model.specs.Plans.{drain_plan, has_room, has_room_for, step_plan}
 use Rattle.dr_model.specs.Carried.{carried_out, said, masters_lost}
 use Rattle.dr_model.specs.Forming.{Part, Way, stays, ends, goes_on, unless_refused, after_part, part_refusal, refusal_said, part, drains, is_draining, ask, next_asked, master_in, phase_in, has_committed, still_left, turn_by, turns, most_turns, form_refusal, form_in, formed, form_said, form_answer}
-use Rattle.dr_model.specs.Runs.{Task, run, compared}
+use Rattle.dr_model.specs.Runs.{Task, run, compared, imaged}
+use Rattle.dr_model.specs.Limits.{image_events}
+use Rattle.dr_model.specs.PlantImage.{Volume as ListedVolume}
 use Rattle.dr_laws_sound.specs.Stops.{refused_stop}
 use Rattle.dr_laws_sound.specs.RefusedSteps.{HasFormed, Stays, Drains, Asks, DrainEnds, AskEnds, StaysRefused, RefusedStay}
 use Rattle.dr_laws_sound.proofs.ChecksFirst.{on-stays}
-use Rattle.dr_laws_sound.proofs.RefusedPlans.{Refuses, still-says, phase-accepts, Still, still-choice, still-compare}
+use Rattle.dr_laws_sound.proofs.RefusedPlans.{Refuses, still-says, phase-accepts, Still, still-choice, still-tables, still-compare}
 use Rattle.dr_laws_sound.proofs.RefusedWrites.{drain-left, asking-left}
 use Rattle.dr_laws_sound.proofs.RefusedSteps.{step-left, lost-stays, after-refused, one-stays}
 
@@ -123,8 +125,8 @@ module _ (s : ℕ) where
       by None h = let none : None ≡ Some r = sym (phase-accepts (session_in x.world.control.sessions s)) ∙ h in absurd cc
       by (Some q) h = h
 
-run-stays : (w : World) (line s n : ℕ) → StaysRefused w (record { line = line; asked = Ok (Run s n) })
-run-stays w line s n r e other =
+run-stays : (w : World) (line : ℕ) (vs : List ListedVolume) (s n : ℕ) → StaysRefused w (record { line = line; asked = Ok (Run s n); listed = vs })
+run-stays w line vs s n r e other =
     let x : Way = formed w s n in
     let p : Plan = only_says (form_said s x.world.control x.refusal) in
     let same : (carried_out x.world p).0 ≡ x.world = still-says (form_said s x.world.control x.refusal) x.world r (record { says = e; other = other }) in
@@ -135,26 +137,35 @@ run-stays w line s n r e other =
     }
 
 -- a comparison
-compare-stays : (w : World) (line v u : ℕ) → StaysRefused w (record { line = line; asked = Ok (Compare v u) })
-compare-stays w line v u r e other =
+compare-stays : (w : World) (line : ℕ) (vs : List ListedVolume) (v u : ℕ) → StaysRefused w (record { line = line; asked = Ok (Compare v u); listed = vs })
+compare-stays w line vs v u r e other =
     let p : Plan = compared w v u in
     let still : Still p = still-choice (has_room w.events) _ _ (still-compare w.control w.contents v u) (still-says _) in
     let same : (carried_out w p).0 ≡ w = still w r (record { says = e; other = other }) in
     record { left = w; leaves = refl; after = after-refused w line p r e (ap (λ (x : World). x.control.on) same) ∙ ap (λ x. said x line (Refused r)) same }
 
+-- an image
+image-stays : (w : World) (line : ℕ) (vs : List ListedVolume) → StaysRefused w (record { line = line; asked = Ok Image; listed = vs })
+image-stays w line vs r e other =
+    let p : Plan = imaged w vs in
+    let still : Still p = still-choice (has_room_for image_events w.events) _ _ (still-tables _ _ _) (still-says _) in
+    let same : (carried_out w p).0 ≡ w = still w r (record { says = e; other = other }) in
+    record { left = w; leaves = refl; after = after-refused w line p r e (ap (λ (x : World). x.control.on) same) ∙ ap (λ x. said x line (Refused r)) same }
+
 -- each step
-asked-stays : (w : World) (line : ℕ) (asked : Result Step ℕ) → StaysRefused w (record { line = line; asked = asked })
-asked-stays w line (Err column) r e other =
+asked-stays : (w : World) (line : ℕ) (vs : List ListedVolume) (asked : Result Step ℕ) → StaysRefused w (record { line = line; asked = asked; listed = vs })
+asked-stays w line vs (Err column) r e other =
     let x = one-stays w line (Err column) (only_says (Refused (Syntax column))) refl (still-says (Refused (Syntax column)) w) r (record { says = e; other = other }) in
     record { left = x.0; leaves = x.1.0; after = x.1.1 }
-asked-stays w line (Ok (Run s n)) r e other = run-stays w line s n r e other
-asked-stays w line (Ok (Compare v u)) r e other = compare-stays w line v u r e other
-asked-stays w line (Ok step) r e other =
+asked-stays w line vs (Ok (Run s n)) r e other = run-stays w line vs s n r e other
+asked-stays w line vs (Ok (Compare v u)) r e other = compare-stays w line vs v u r e other
+asked-stays w line vs (Ok Image) r e other = image-stays w line vs r e other
+asked-stays w line vs (Ok step) r e other =
     let x = one-stays w line (Ok step) (step_plan w.control w.events line step) refl (step-left w line step refl) r (record { says = e; other = other }) in
     record { left = x.0; leaves = x.1.0; after = x.1.1 }
 
 pub refused-step : (w : World) (t : Task) → StaysRefused w t
-refused-step w t = asked-stays w t.line t.asked
+refused-step w t = asked-stays w t.line t.listed t.asked
 
 -- and each step of a run
 pub refused-run : (tasks : List Task) → RefusedStay tasks

@@ -1,19 +1,20 @@
 -- A step that is refused, but by the stop of a server, changes nothing but what `Leaves` names: by the plan of each step.
-use Rattle.std.proofs.Common.{ℕ, ◌+◌, ◌≡◌, inl, inr, refl, ap, sym, ◌∙◌, subst, not, ◌||◌, Bool, true, false, cond, List, [], Option, Some, None, Result, Ok, nat_eq}
+use Rattle.std.proofs.Common.{ℕ, ◌+◌, ◌≡◌, inl, inr, refl, ap, sym, ◌∙◌, subst, ◌||◌, Bool, true, false, cond, List, [], Option, Some, None, Result, Ok, nat_eq}
 use Rattle.std.specs.Prelude.{◌==◌}
 use Rattle.std.specs.List.{find}
 use Rattle.std.specs.Option.{option_or}
 use Rattle.dr_ids.specs.declared.names.Member.{Member}
 use Rattle.dr_ids.specs.declared.refusal.Decision.{Decision}
 use Rattle.dr_ids.specs.declared.refusal.Refusal.{Refusal}
-use Rattle.dr_ids.specs.declared.refusal.Refusal.TheVariants.{NotBuilt, JournalFull, NoGroup}
+use Rattle.dr_ids.specs.declared.refusal.Refusal.TheVariants.{JournalFull, NoGroup}
 use Rattle.dr_model.specs.declared.said.Said.{Said}
 use Rattle.dr_model.specs.declared.said.Said.TheVariants.{Refused}
 use Rattle.dr_model.specs.declared.said.Addition.TheVariants.{Alone}
 use Rattle.dr_model.specs.declared.step.Name.{Name}
 use Rattle.dr_model.specs.declared.step.Step.{Step}
-use Rattle.dr_model.specs.declared.step.Step.TheVariants.{Server, Volume, Link, Stop, StopAfter, Start, Issue, Write, Apply, Show, MakeFlash, RemoveFlash, ResyncFlash, ReverseFlash, Copy, MakePath, RemovePath, MakePair, RemovePair, PausePair, ResumePair, Failover, Failback, Drain, Expire, Freeze, Unfreeze, MakeSession, RemoveSession, AddMember, RemoveMember, MakeMirror, PauseMirror, ResumeMirror, RemoveMirror, Abort, Exchange, Recover, CommitFlash, RevertFlash, Run}
-use Rattle.dr_model.specs.Layout.{part_of}
+use Rattle.dr_model.specs.declared.step.Step.TheVariants.{Server, Volume, Link, Stop, StopAfter, Start, Issue, Write, Apply, Show, MakeFlash, RemoveFlash, ResyncFlash, ReverseFlash, Copy, MakePath, RemovePath, MakePair, RemovePair, PausePair, ResumePair, Failover, Failback, Drain, Expire, Freeze, Unfreeze, MakeSession, RemoveSession, AddMember, RemoveMember, MakeMirror, PauseMirror, ResumeMirror, RemoveMirror, Abort, Exchange, Recover, CommitFlash, RevertFlash, Run, ListPairs, ListFlashes, ListSession, ShowMirror}
+use Rattle.dr_model.specs.Layout.{kind_of}
+use Rattle.dr_model.specs.Listings.{listing_refusal}
 use Rattle.dr_model.specs.Control.{Control, World}
 use Rattle.dr_model.specs.Sessions.{Session, session_in, lost_since, has_place_of, left, changed, paused, unmirrored, busy, in_session, not_in_session, join_refusal, make_refusal, abort_refusal}
 use Rattle.dr_model.specs.Carry.{dropped}
@@ -22,10 +23,10 @@ use Rattle.dr_model.specs.SessionEntries.{first_number}
 use Rattle.dr_model.specs.PlanParts.{Plan, refuses, unless, on_session, on_owner, owner_of, server_named, name_bytes, is_defined}
 use Rattle.dr_model.specs.SessionPlans.{table_plan, name_refusal, off_refusal, outside_refusal, master_refusal, place_refusal, taken_refusal, copy_refusal, member_target, member_with, add_target, expel_found, abort_plan, add_plan, expel_plan}
 use Rattle.dr_model.specs.RecoveryPlans.{decided_in, lets_commit, lets_revert, settle_on, member_of_target, revertible_target, settle_refusal, settle_member, settle_target, settle_plan}
-use Rattle.dr_model.specs.Plans.{plan_of, step_plan, is_built, has_room, server_refusal, volume_refusal, issue_refusal, show_refusal, start_plan, landed_on, says_acked, path_refusal, unpath_refusal, freeze_refusal, thaw_refusal}
+use Rattle.dr_model.specs.Plans.{plan_of, step_plan, has_room, server_refusal, volume_refusal, issue_refusal, show_refusal, start_plan, landed_on, says_acked, path_refusal, unpath_refusal, freeze_refusal, thaw_refusal}
 use Rattle.dr_model.specs.Carried.{carried_out, answered, said, masters_lost, after_plan}
 use Rattle.dr_model.specs.Forming.{refusal_said, part_refusal}
-use Rattle.dr_model.specs.Runs.{run_asked}
+use Rattle.dr_model.specs.Runs.{own_course}
 use Rattle.dr_facts.proofs.Sessions.{lost-none}
 use Rattle.dr_laws_sound.specs.RefusedSteps.{is_by_volume, is_off, with_issued, Leaves}
 use Rattle.dr_laws_sound.proofs.Endless.{last-endless, settle-goes, start-endless, freeze-endless, thaw-endless, expire-endless, now-endless, add-endless}
@@ -88,7 +89,7 @@ module _ (k : Control) where
 abbrev pub Left : World → Step → Plan → Type 0
 Left w step p = (r : Refusal) → Refuses w p r → Leaves w (Ok step) r (carried_out w p).0
 
-plan-left : (w : World) (line : ℕ) (step : Step) → run_asked (Ok step) ≡ None → Left w step (plan_of w.control w.events line step)
+plan-left : (w : World) (line : ℕ) (step : Step) → own_course (Ok step) ≡ None → Left w step (plan_of w.control w.events line step)
 plan-left w line (Server name) one = λ r refused. still-unless (server_refusal w.control (name_bytes name)) _ (still-tables _ _ _) w r refused
 plan-left w line (Volume v name tracks) one = still-named (server_named w.control (name_bytes name)) _ (λ s. still-unless (volume_refusal w.control v s tracks) _ (still-tables _ _ _)) w
 plan-left w line (Link a b up) one = still-named (server_named w.control (name_bytes a)) _ (λ x. still-named (server_named w.control (name_bytes b)) _ (λ y. still-choice (nat_eq x y) _ _ (still-says _) (still-tables _ _ _))) w
@@ -106,12 +107,12 @@ plan-left w line (ReverseFlash devs s t tgtpprc sequence) one = still-reverse w.
 plan-left w line (Copy t most) one = still-copy w.control t most w
 plan-left w line (MakePath devs src tgt group) one = still-owner (owner_of w.control src) _ (λ s. still-owner (owner_of w.control tgt) _ (λ u. still-unless (path_refusal w.control devs s u) _ (still-tables _ _ _))) w
 plan-left w line (RemovePath devs src tgt force) one = still-owner (owner_of w.control src) _ (λ s. still-owner (owner_of w.control tgt) _ (λ u. still-unless (unpath_refusal w.control devs src tgt s u force) _ (still-tables _ _ _))) w
-plan-left w line (MakePair devs a b kind full) one = still-pair a b w.control devs w.events (part_of kind) full w
+plan-left w line (MakePair devs a b kind full) one = still-pair a b w.control devs w.events (kind_of kind) full w
 plan-left w line (RemovePair devs a b source_only) one = still-remove a b w.control devs source_only w
 plan-left w line (PausePair devs a b) one = still-pause a b w.control devs w
-plan-left w line (ResumePair devs a b kind) one = still-resume a b w.control devs (part_of kind) w
-plan-left w line (Failover devs b a kind) one = still-failover b a w.control devs (part_of kind) w
-plan-left w line (Failback devs x y kind) one = still-failback x y w.control devs (part_of kind) w
+plan-left w line (ResumePair devs a b kind) one = still-resume a b w.control devs (kind_of kind) w
+plan-left w line (Failover devs b a kind) one = still-failover b a w.control devs (kind_of kind) w
+plan-left w line (Failback devs x y kind) one = still-failback x y w.control devs (kind_of kind) w
 plan-left w line (Drain a most) one = drain-left w a most
 plan-left w line (Expire name) one = still-named (server_named w.control (name_bytes name)) _ (λ s. still-choice (w.control.on s) _ _ (still-entries _ _ (first-done _ (expire-endless s w.control.volumes))) (still-says _)) w
 plan-left w line (Freeze devs l m) one = still-owner (owner_of w.control l) _ (λ s. still-owner (owner_of w.control m) _ (λ u. still-unless (freeze_refusal w.control devs l m s u) _ (still-entries _ _ (first-done _ (freeze-endless l m w.control.volumes))))) w
@@ -129,20 +130,15 @@ plan-left w line (Exchange s name reply) one = λ r. exchange-left w s reply r n
 plan-left w line (Recover s) one = recover-left w s
 plan-left w line (CommitFlash devs source sequence) one = still-settle w.control devs.dev lets_commit source w
 plan-left w line (RevertFlash devs source sequence) one = still-settle w.control devs.dev lets_revert source w
+plan-left w line (ListPairs devs v) one = still-unless (listing_refusal w.control devs.dev v) _ (still-tables _ _ _) w
+plan-left w line (ListFlashes devs v) one = still-unless (listing_refusal w.control devs.dev v) _ (still-tables _ _ _) w
+plan-left w line (ListSession devs l) one = still-owner (owner_of w.control l) _ (λ owner. still-unless (name_refusal w.control devs.dev owner) _ (still-tables _ _ _)) w
+plan-left w line (ShowMirror devs l) one = still-owner (owner_of w.control l) _ (λ owner. still-unless (name_refusal w.control devs.dev owner) _ (still-tables _ _ _)) w
 plan-left w line (Run s n) one = absurd cc
 plan-left w line _ one = still-says _ w
 
--- a form that isn't built, and a step without room
-kept-unbuilt : (w : World) (step : Step) → run_asked (Ok step) ≡ None → Leaves w (Ok step) NotBuilt w
-kept-unbuilt w (Write v t offset len bytes) one = refl
-kept-unbuilt w (Apply n) one = refl
-kept-unbuilt w (Drain a most) one = inl refl
-kept-unbuilt w (Exchange s name reply) one = inl refl
-kept-unbuilt w (Recover s) one = refl
-kept-unbuilt w (Run s n) one = absurd cc
-kept-unbuilt w _ one = refl
-
-kept-full : (w : World) (step : Step) → run_asked (Ok step) ≡ None → Leaves w (Ok step) JournalFull w
+-- a step without room
+kept-full : (w : World) (step : Step) → own_course (Ok step) ≡ None → Leaves w (Ok step) JournalFull w
 kept-full w (Write v t offset len bytes) one = refl
 kept-full w (Apply n) one = refl
 kept-full w (Drain a most) one = inl refl
@@ -154,18 +150,17 @@ kept-full w _ one = refl
 refused-left : (w : World) (step : Step) (q : Refusal) → Leaves w (Ok step) q w → Left w step (refuses q)
 refused-left w step q kept = λ r. says-left w q r (λ u. Leaves w (Ok step) r u) (λ e. subst (λ q. Leaves w (Ok step) q w) e kept)
 
-pub step-left : (w : World) (line : ℕ) (step : Step) → run_asked (Ok step) ≡ None → Left w step (step_plan w.control w.events line step)
-step-left w line step one = by (is_built step) (has_room w.events)
+pub step-left : (w : World) (line : ℕ) (step : Step) → own_course (Ok step) ≡ None → Left w step (step_plan w.control w.events line step)
+step-left w line step one = by (has_room w.events)
   where
-    by : (built room : Bool) → Left w step (cond (not built) (refuses NotBuilt) (cond room (plan_of w.control w.events line step) (refuses JournalFull)))
-    by false room = refused-left w step NotBuilt (kept-unbuilt w step one)
-    by true true = plan-left w line step one
-    by true false = refused-left w step JournalFull (kept-full w step one)
+    by : (room : Bool) → Left w step (cond room (plan_of w.control w.events line step) (refuses JournalFull))
+    by true = plan-left w line step one
+    by false = refused-left w step JournalFull (kept-full w step one)
 
 -- ---- and with its answer
 
 -- what is left has the servers on that were on
-pub left-on : (w : World) (asked : Result Step ℕ) → run_asked asked ≡ None → (r : Refusal) (u : World) → Leaves w asked r u → u.control.on ≡ w.control.on
+pub left-on : (w : World) (asked : Result Step ℕ) → own_course asked ≡ None → (r : Refusal) (u : World) → Leaves w asked r u → u.control.on ≡ w.control.on
 left-on w (Ok (Write v t offset len bytes)) one r u is = ap (λ (x : World). x.control.on) is ∙ by (is_by_volume r) (is_off r)
   where
     x : World
@@ -209,7 +204,7 @@ after-refused w line p r e on =
     ∙ ap (said (carried_out w p).0 line) (refused-says (answered p (carried_out w p).0.control (carried_out w p).1) r e)
 
 -- a step of one plan
-pub one-stays : (w : World) (line : ℕ) (asked : Result Step ℕ) (p : Plan) → run_asked asked ≡ None → ((r : Refusal) → Refuses w p r → Leaves w asked r (carried_out w p).0)
+pub one-stays : (w : World) (line : ℕ) (asked : Result Step ℕ) (p : Plan) → own_course asked ≡ None → ((r : Refusal) → Refuses w p r → Leaves w asked r (carried_out w p).0)
     → (r : Refusal) → Refuses w p r → (u : World) × (Leaves w asked r u × (masters_lost w (after_plan w line p) ≡ said u line (Refused r)))
 one-stays w line asked p one leaves r refused =
     let x : Leaves w asked r (carried_out w p).0 = leaves r refused in

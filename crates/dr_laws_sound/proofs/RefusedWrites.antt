@@ -22,7 +22,7 @@ use Rattle.dr_model.specs.Refusals.{unknown, over, server_off}
 use Rattle.dr_model.specs.Phases as phases
 use Rattle.dr_model.specs.Sessions.{Session, Mirror, session_in, mirror_in, members_in}
 use Rattle.dr_model.specs.Moves.{is_write, Suspend}
-use Rattle.dr_model.specs.Carry.{Make, Drop, act, Pass, Do, End, Entry, Outcome, carry, check, dropped}
+use Rattle.dr_model.specs.Carry.{Make, Drop, Pass, Do, End, Entry, Outcome, carry, check, dropped}
 use Rattle.dr_model.specs.Entries.{fields_at, is_running, relation_state, pair_state, is_no_secondary, is_open, is_settled, drop_unless, check_or_drop, copy_first, keep_on}
 use Rattle.dr_model.specs.PairEntries.{end_if, reach_refusal, send_refusal, flashed_refusal, suspend_where, refuse_if, store_on, strike_on, send_entries, sends, tracks_to_send, is_copying}
 use Rattle.dr_model.specs.WriteEntries.{landing, land_entries, waits, says_written}

@@ -1,26 +1,32 @@
 -- A law on the rows of volumes and on the journal that each act keeps rides along every step, and so along every run.
-use Rattle.std.proofs.Common.{ℕ, ◌≡◌, ◌<◌, ◌+◌, refl, ap, ◌∙◌, true, false, List, [], ◌∷◌, ◌++◌, length, nat_eq}
+use Rattle.std.proofs.Common.{ℕ, zero, suc, ◌≡◌, ◌⊎◌, ◌<◌, ◌+◌, inl, inr, refl, ap, ◌∙◌, Bool, true, false, List, [], ◌∷◌, ◌++◌, length, take, nat_eq, Some, None}
 use Rattle.std.proofs.lemmas.List.{append-nil}
 use Rattle.std.specs.List.{list_any}
+use Rattle.dr_ids.specs.declared.refusal.Refusal.{Refusal}
 use Rattle.dr_model.specs.declared.event.Event.{Event}
 use Rattle.dr_model.specs.declared.event.Event.TheVariants.{Server as ServerDefined, Started, Stopped, Shown}
+use Rattle.dr_model.specs.declared.said.Addition.TheVariants.{Alone}
 use Rattle.dr_model.specs.declared.said.Said.{Said}
+use Rattle.dr_model.specs.declared.said.Said.TheVariants.{Done}
 use Rattle.dr_model.specs.Answers.{answer}
 use Rattle.dr_model.specs.Contents.{image_at}
-use Rattle.dr_model.specs.Histories.{histories}
+use Rattle.dr_model.specs.Histories.{Write, histories}
 use Rattle.dr_model.specs.Control.{Control, World, is_volume}
+use Rattle.dr_model.specs.Moves.{Move, Restart}
 use Rattle.dr_model.specs.Carry.{Entry, carry}
+use Rattle.dr_model.specs.ReadStops.{Ends}
 use Rattle.dr_model.specs.Phases as phases
 use Rattle.dr_model.specs.Sessions.{Session, joined, left, changed, mirrored_by, paused, unmirrored, with_master, lost_since}
-use Rattle.dr_model.specs.Groups.{Groups}
+use Rattle.dr_model.specs.Groups.{In, Groups}
 use Rattle.dr_model.specs.Attempts.{Attempts}
 use Rattle.dr_model.specs.SessionEntries.{members_on}
 use Rattle.dr_model.specs.SessionPlans.{with_sessions, member_with, answered_by}
 use Rattle.dr_model.specs.Plans.{Plan, same, always, none_follow, entries_plan, write_done, apply_done, drain_plan, start_plan}
 use Rattle.dr_model.specs.Forming.{Part, after_part}
-use Rattle.dr_model.specs.Runs.{Task, course, begun, carried_out, answered, said, after_plan, after_task, after_tasks, masters_lost}
-use Rattle.dr_model.specs.Table.{table, due_by, aside_by}
-use Rattle.dr_model.specs.Laws.{Sound}
+use Rattle.dr_model.specs.Runs.{Task, course, plans_of, begun, carried_out, answered, said, after_plan, after_task, after_tasks, masters_lost, image_told}
+use Rattle.dr_model.specs.Table.{Table, table, due_by, aside_by}
+use Rattle.dr_model.specs.Laws.{SoundRows, Sound}
+use Rattle.dr_model.specs.Allowed.{Allowed}
 use Rattle.dr_model.proofs.Images.{histories-append}
 use Rattle.dr_laws_cuts.specs.Once.{NoCuts}
 use Rattle.dr_laws_sessions.proofs.PlanTables.{no-maker, owned-volume}
@@ -29,8 +35,12 @@ use Rattle.dr_laws_attempts.proofs.Tables.{with-joined, with-left, with-mirrored
 use Rattle.dr_laws_closed.specs.Regroups.{Regroups}
 use Rattle.dr_laws_closed.specs.Silent.{AllStill}
 use Rattle.dr_laws_closed.proofs.Regroups.{regroups-same, regroups-joined, regroups-left, regroups-mirrored, regroups-paused, regroups-unmirrored, regroups-aborted, regroups-lost}
-use Rattle.dr_laws_sound.proofs.Cases.{Case, Says, DefinesServer, DefinesVolume, SetsLink, Issues, Writes, Applies, Shows, Stops, Arms, Starts, MakesFlash, RemovesFlash, ResyncsFlash, ReversesFlash, Copies, MakesPath, RemovesPath, MakesPair, RemovesPair, PausesPair, ResumesPair, FailsOver, FailsBack, Compares, Drains, Expires, Freezes, Unfreezes, MakesSession, RemovesSession, MakesMirror, PausesMirror, RemovesMirror, Aborts, AddsMember, RemovesMember, Exchanges, Recovers, Settles, added, expelled, ordered, is-new, may-issue}
-use Rattle.dr_laws_sound.proofs.KeepsSound.{Along, StepHolds, RowsAt, MayDo, keeps-sound, over}
+use Rattle.dr_model.specs.Listings.{lists}
+use Rattle.dr_laws_sound.specs.Calm.{Carries, ComesTo}
+use Rattle.dr_laws_sound.proofs.Listed.{AllLines, Plain, lines-plain, lines-lists, image-lines}
+use Rattle.dr_laws_sound.proofs.Cases.{Case, Says, DefinesServer, DefinesVolume, SetsLink, Issues, Writes, Applies, Lists, Shows, Stops, Arms, Starts, MakesFlash, RemovesFlash, ResyncsFlash, ReversesFlash, Copies, MakesPath, RemovesPath, MakesPair, RemovesPair, PausesPair, ResumesPair, FailsOver, FailsBack, Compares, Drains, Expires, Freezes, Unfreezes, MakesSession, RemovesSession, MakesMirror, PausesMirror, RemovesMirror, Aborts, AddsMember, RemovesMember, Exchanges, Recovers, Settles, added, expelled, ordered, is-new, may-issue}
+use Rattle.dr_laws_sound.proofs.KeepsSound.{Along, StepHolds, RowsAt, MayDo, keeps-sound, sound-gone, over}
+use Rattle.dr_laws_sound.proofs.Along as along
 use Rattle.dr_laws_sound.proofs.FitsFlash.{as_begun, sound-begun, along-flash, along-withdraw, along-resync, along-reverse}
 use Rattle.dr_laws_sound.proofs.FitsCopy.{along-copy}
 use Rattle.dr_laws_sound.proofs.FitsPairs.{along-pair, along-remove, along-pause, along-resume}
@@ -46,9 +56,9 @@ use Rattle.dr_laws_sound.proofs.Issues.{issued, sound-issued, one-new}
 use Rattle.dr_laws_sound.proofs.Lands.{found-alone}
 use Rattle.dr_laws_sound.proofs.Defines.{with_volume}
 use Rattle.dr_laws_sound.proofs.Starts as starts
-use Rattle.dr_laws_sound.proofs.Parts.{Comes, course-case, last-plan}
-use Rattle.dr_laws_sound.proofs.Steps.{case-holds, sound-carried, sound-plan, sound-part, sound-task}
-use Rattle.dr_laws_sound.proofs.Rides.{Rides, Both, plan-rides}
+use Rattle.dr_laws_sound.proofs.Parts.{Comes, Ending, OnePlan, Imaged, course-case, each-plan, last-plan}
+use Rattle.dr_laws_sound.proofs.Steps.{case-holds, ending-holds, sound-carried, sound-plan, sound-part, sound-task}
+use Rattle.dr_laws_sound.proofs.Rides.{Rides, Both, plan-rides, moments-ride, rides-comes_to}
 
 -- From w to u these events were told, of which no list hears and no group, and which cut no volume; the rows of volumes, what waits and
 -- the sessions are as they were.
@@ -109,6 +119,31 @@ start-hold x w s = record {
   last = λ v i. i;
 }
 
+-- where there are no entries nothing changes
+none-change : (P : World → Type 0) (w : World) (n : ℕ) → P w → P (carry w (take n [])).0
+unfolding carry
+none-change P w zero p = p
+none-change P w (suc n) p = p
+
+-- and no move comes
+pub none-comes : (w v : World) (m : Move) → ComesTo Carries w [] v m → ⊥
+none-comes w v m at = by at.before at.placed
+  where
+    by : (before : List Entry) → [] ≡ before ++ at.entry ∷ at.rest → ⊥
+    by [] is = absurd cc
+    by (d ∷ ds) is = absurd cc
+
+-- a start makes no move but to let volumes go on
+start-allowed : (x : ℕ) (write : ℕ → Write) (T : Table) (w : World) (m : Move) → starts.MayMove x w m → Allowed write T m
+start-allowed x write T w (Restart v) may = tt
+start-allowed x write T w m may = absurd may
+
+-- A move comes where the rows of volumes fit and its kind is allowed, and where K holds.
+pub record MoveComes (K : World → Type 0) (w : World) (m : Move) : Type 0 where
+  pub rows : SoundRows (table w)
+  pub allowed : Allowed (histories w.events).write (table w) m
+  pub law : K w
+
 module _ (K : World → Type 0) (rider : Rider K) where
   none-told : (w : World) → histories (w.events ++ []) ≡ histories w.events
   none-told w = ap histories (append-nil w.events)
@@ -123,17 +158,27 @@ module _ (K : World → Type 0) (rider : Rider K) where
   event w u e k events quiet still lists contents volume volumes pending issued sessions = rider.unheard w u (e ∷ []) k (unheard w u (e ∷ []) events quiet still lists contents volume volumes pending issued sessions)
 
   module _ (w : World) (s : Sound w) (k : K w) (line : ℕ) where
+    -- What is known of a plan: K holds as it ends, and after each of its entries; the rows fit, and K holds, where its entries come to a
+    -- move, which is allowed there; and where a server stopped in them the world is sound, or nothing follows.
     record Carried (p : Plan) : Type 0 where
       holds : K (carried_out w p).0
+      moments : (n : ℕ) → K (carry (begun w p) (take n p.entries)).0
+      comes : (v : World) (m : Move) → ComesTo Carries (begun w p) p.entries v m → MoveComes K v m
+      gone : (armed : ℕ → Bool) (u : World) (r : Refusal) → Ends armed u (Some r) (begun w p) p.entries → Sound u ⊎ ((q : ℕ) → p.follows q ≡ [])
 
     -- a plan without entries
     tables : (first : Control → Control) (told : List Event) (says : Control → Said) → let p : Plan = record { first = first; told = told; entries = []; follows = none_follow; last = same; says = says } in K (begun w p) → Carried p
     unfolding carry
-    tables first told says begun = record { holds = begun }
+    tables first told says begun = record { holds = begun; moments = λ n. none-change K _ n begun; comes = λ v m at. absurd (none-comes _ v m at); gone = λ armed u r e. inr (λ q. refl) }
 
     -- one whose acts may come as they do but where a server starts
     moves : (p : Plan) (o : Orders w p) → K (begun w p) → ((v : World) → o.ends v → K v → K (record v { control = p.last v.control })) → Carried p
-    moves p o begun last = record { holds = plan-rides Sound RowsAt K MayDo w p (orders-hold w p o) rider.acts begun last keeps-sound rider.acts }
+    moves p o begun last = record {
+      holds = plan-rides Sound RowsAt K MayDo w p (orders-hold w p o) rider.acts begun last keeps-sound rider.acts;
+      moments = moments-ride Sound RowsAt K MayDo w p (orders-hold w p o) rider.acts begun last keeps-sound rider.acts;
+      comes = λ v m at. let here = rides-comes_to Sound RowsAt K MayDo w p (orders-hold w p o) rider.acts begun last v m at in record { rows = here.0.0.rows; allowed = here.1.allowed; law = here.0.1 };
+      gone = λ armed u r e. inl (along.ends-weaker Sound Sound o.ends Sound MayDo (λ v s. s) (λ v s. s) o.complete keeps-sound armed (λ v q s on is. sound-gone None v q s) u (Some r) _ p.entries o.begins o.entries e);
+    }
 
     begins : K (as_begun w)
     begins = silently w (as_begun w) k refl refl refl refl refl refl refl
@@ -146,6 +191,12 @@ module _ (K : World → Type 0) (rider : Rider K) where
     sessions f says groups attempts turn =
         let first : World = as_begun w in
         tables (with_sessions f) [] says (rider.regroups first (f w.control.sessions) (sound-begun w s) (sound-sessions first (f w.control.sessions) groups attempts (sound-begun w s)) turn begins)
+
+    rides-lines : (told : List Event) → AllLines told → Carried (lists told)
+    rides-lines told ls =
+        let u : World = begun w (lists told) in
+        let plain : Plain told = lines-plain told ls in
+        tables same told (always (Done Alone)) (rider.unheard w u told k (unheard w u told refl plain.cuts plain.still (lines-lists w.events told ls) refl refl refl refl refl refl))
 
     case-rides : (p : Plan) → Case w.control w.events line p → Carried p
     case-rides _ (Says a) = tables same [] (always a) begins
@@ -176,11 +227,20 @@ module _ (K : World → Type 0) (rider : Rider K) where
           last = λ v i. i;
           turns = λ v i. regroups-same v.control.sessions;
         }) begins (λ v e k. k)
+    case-rides _ (Lists told ls few) = rides-lines told ls
     case-rides _ (Shows v t there) = tables _ _ _ (event w _ (Shown line v t (image_at w.events v t)) k refl (tt, tt) (tt, tt) (histories-append w.events _) refl refl refl refl refl refl)
     case-rides _ (Stops x on) = tables _ _ _ (event w _ (Stopped x 0) k refl (tt, tt) (tt, tt) (histories-append w.events _) refl refl refl refl refl refl)
     case-rides _ (Arms writes torn x) = tables _ _ _ (silently w _ k refl refl refl refl refl refl refl)
     case-rides _ (Starts x off) =
-        record { holds = plan-rides Sound RowsAt K MayDo w (start_plan w.control x) (start-hold x w s) (rider.start_acts x) (event w _ (Started x) k refl (tt, tt) (tt, tt) (histories-append w.events _) refl refl refl refl refl refl) (λ v e k. k) keeps-sound rider.acts }
+        let begun = event w _ (Started x) k refl (tt, tt) (tt, tt) (histories-append w.events _) refl refl refl refl refl refl in
+        record {
+          holds = plan-rides Sound RowsAt K MayDo w (start_plan w.control x) (start-hold x w s) (rider.start_acts x) begun (λ v e k. k) keeps-sound rider.acts;
+          moments = moments-ride Sound RowsAt K MayDo w (start_plan w.control x) (start-hold x w s) (rider.start_acts x) begun (λ v e k. k) keeps-sound rider.acts;
+          comes = λ v m at.
+              let here = rides-comes_to Sound RowsAt K MayDo w (start_plan w.control x) (start-hold x w s) (rider.start_acts x) begun (λ v e k. k) v m at in
+              record { rows = here.0.0.sound.rows; allowed = start-allowed x _ _ v m here.1; law = here.0.1 };
+          gone = λ armed u r e. inr (λ q. refl);
+        }
     case-rides _ (MakesFlash dev v t choices) = entries _ _ (along-flash w s dev v t choices)
     case-rides _ (RemovesFlash dev v t) = entries _ _ (along-withdraw w s dev v t)
     case-rides _ (ResyncsFlash dev v t sequence) = entries _ _ (along-resync w s dev v t sequence)
@@ -222,13 +282,17 @@ module _ (K : World → Type 0) (rider : Rider K) where
         moves (ordered i server true (members_on server x.members) o) a begins (λ v e k. rider.regroups v (answered_by i server o.work (members_on server x.members) v.control).sessions (a.complete v e) (a.last v e) (a.turns v e) k)
     case-rides _ (Exchanges i server false x r o allowed) = moves (ordered i server false (members_on server x.members) o) (orders-ordered w s i server x r o allowed false) begins (λ v e k. k)
 
+    ending-rides : (p : Plan) → Ending w.control w.events line p → Carried p
+    ending-rides _ (OnePlan p c) = case-rides p c
+    ending-rides _ (Imaged vs) = rides-lines (image_told vs) (image-lines vs)
+
     -- the step, as it is answered
-    rides-plan : (p : Plan) → Case w.control w.events line p → K (after_plan w line p)
+    rides-plan : (p : Plan) → Ending w.control w.events line p → K (after_plan w line p)
     unfolding after_plan
     rides-plan p c =
         let u : World = (carried_out w p).0 in
         let a : Said = answered p u.control (carried_out w p).1 in
-        event u (said u line a) (answer line a) (case-rides p c).holds refl (tt, tt) (tt, tt) (histories-append u.events (answer line a ∷ [])) refl refl refl refl refl refl
+        event u (said u line a) (answer line a) (ending-rides p c).holds refl (tt, tt) (tt, tt) (histories-append u.events (answer line a ∷ [])) refl refl refl refl refl refl
 
   -- masters are lost as a step ends
   lost : (w u : World) → Sound u → K u → K (masters_lost w u)
@@ -241,11 +305,29 @@ module _ (K : World → Type 0) (rider : Rider K) where
       let sound : Sound u = sound-carried w p (case-holds w j.0 0 p (comes.case 0)) in
       (sound-part w p comes j.0, lost w u sound (case-rides w j.0 j.1 0 p (comes.case 0)).holds)
 
+  -- of each plan of a step: after each entry
+  pub rides-moments : (w : World) (t : Task) (x : Part) (n : ℕ) → Sound w → K w → In x (plans_of w t) → K (carry (begun x.world x.plan) (take n x.plan.entries)).0
+  rides-moments w t x n s k there =
+      let b = each-plan (Both Sound K) rides-part w t (s, k) x there in
+      (ending-rides x.world b.0.0 b.0.1 t.line x.plan b.1).moments n
+
+  -- where its entries come to a move
+  pub rides-comes : (w : World) (t : Task) (x : Part) → Sound w → K w → In x (plans_of w t) → (v : World) (m : Move) → ComesTo Carries (begun x.world x.plan) x.plan.entries v m → MoveComes K v m
+  rides-comes w t x s k there =
+      let b = each-plan (Both Sound K) rides-part w t (s, k) x there in
+      (ending-rides x.world b.0.0 b.0.1 t.line x.plan b.1).comes
+
+  -- and where a server stopped in them
+  pub rides-gone : (w : World) (t : Task) (x : Part) → Sound w → K w → In x (plans_of w t) → (armed : ℕ → Bool) (u : World) (r : Refusal) → Ends armed u (Some r) (begun x.world x.plan) x.plan.entries → Sound u ⊎ ((q : ℕ) → x.plan.follows q ≡ [])
+  rides-gone w t x s k there =
+      let b = each-plan (Both Sound K) rides-part w t (s, k) x there in
+      (ending-rides x.world b.0.0 b.0.1 t.line x.plan b.1).gone
+
   pub rides-task : (w : World) (t : Task) → Sound w → K w → K (after_task w t)
   rides-task w t s k =
       let x : Part = (course w t).last in
       let j : Both Sound K x.world = last-plan (Both Sound K) rides-part w t (s, k) in
-      lost x.world _ (sound-plan x.world t.line x.plan (case-holds x.world j.0 t.line x.plan (course-case w t))) (rides-plan x.world j.0 j.1 t.line x.plan (course-case w t))
+      lost x.world _ (sound-plan x.world t.line x.plan (ending-holds x.world j.0 t.line x.plan (course-case w t))) (rides-plan x.world j.0 j.1 t.line x.plan (course-case w t))
 
   pub rides-tasks : (w : World) (tasks : List Task) → Sound w → K w → K (after_tasks w tasks)
   unfolding after_tasks

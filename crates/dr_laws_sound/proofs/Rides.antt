@@ -1,11 +1,12 @@
 -- A law rides along plans: where each act that may come keeps it, beside the laws by which the act comes, it holds wherever plans
 -- come to. Nothing is shown of a plan anew.
-use Rattle.std.proofs.Common.{ℕ, refl, List, [], ◌∷◌, Option}
+use Rattle.std.proofs.Common.{ℕ, refl, List, [], ◌∷◌, take, Option}
 use Rattle.dr_model.specs.Control.{World, Fuse}
 use Rattle.dr_model.specs.Moves.{Move}
-use Rattle.dr_model.specs.Carry.{Act, Make, OpenAttempt, Next, Pass, Do, End, Entry}
+use Rattle.dr_model.specs.Carry.{Act, Make, OpenAttempt, Next, Pass, Do, End, Entry, carry}
 use Rattle.dr_model.specs.Plans.{Plan}
 use Rattle.dr_model.specs.Runs.{begun, carried_out}
+use Rattle.dr_laws_sound.specs.Calm.{Carries, ComesTo}
 use Rattle.dr_laws_sound.proofs.Turns.{done_in_stop, opened_in_stop, not_done, server_of, after_act, Writes}
 use Rattle.dr_laws_sound.proofs.Along as along
 
@@ -63,3 +64,12 @@ module _ (I W K : World → Type 0) (May : World → Act → Type 0) (w : World)
 
   pub plan-rides : along.Keeps I I May → Rides I K May → K (carried_out w p).0
   plan-rides each acts = (along.plan-keeps (Both I K) K May (keeps-with I K May I each acts) (λ v i. i.1) w p holds-with).1
+
+  pub moments-ride : along.Keeps I I May → Rides I K May → (n : ℕ) → K (carry (begun w p) (take n p.entries)).0
+  moments-ride each acts n = along.plan-moment (Both I K) K May (keeps-with I K May I each acts) (λ v i. i.1) w p n holds-with
+
+  -- where its entries come to a move, K holds beside, and the move may come
+  pub rides-comes_to : (v : World) (m : Move) → ComesTo Carries (begun w p) p.entries v m → Both holds.inner K v × holds.may v (Make m)
+  rides-comes_to v m at =
+      along.along-comes_to (Both holds.inner K) (Both I K) (Both holds.ends K) holds.may (keeps-with holds.inner K holds.may I holds.keeps rides) (begun w p) p.entries v m
+      (holds.begins, begins) (along-with holds.inner I holds.ends K holds.may (begun w p) p.entries begins holds.entries) at

@@ -3,7 +3,7 @@ use Rattle.std.proofs.Common.{ℕ, ◌≡◌, ◌<◌, refl, ap, sym, ◌∙◌,
 use Rattle.std.specs.Option.{option_or}
 use Rattle.std.proofs.lemmas.Bool.Decides.{nat_tests}
 use Rattle.dr_ids.specs.declared.refusal.Refusal.{Refusal}
-use Rattle.dr_ids.specs.declared.refusal.Refusal.TheVariants.{NotBuilt, JournalFull}
+use Rattle.dr_ids.specs.declared.refusal.Refusal.TheVariants.{JournalFull}
 use Rattle.dr_model.specs.declared.event.Event.TheVariants.{Shown}
 use Rattle.dr_model.specs.declared.said.Addition.{Addition}
 use Rattle.dr_model.specs.declared.said.Addition.TheVariants.{Showed}
@@ -17,7 +17,7 @@ use Rattle.dr_model.specs.Control.{Control, Fuse, Volume, World, is_volume}
 use Rattle.dr_model.specs.Entries.{is_running}
 use Rattle.dr_model.specs.Laws.{Sound}
 use Rattle.dr_model.specs.Fits.{Fits}
-use Rattle.dr_model.specs.Plans.{Plan, same, refuses, unless, show_refusal, show_done, plan_of, has_room, is_built}
+use Rattle.dr_model.specs.Plans.{Plan, same, refuses, unless, show_refusal, show_done, plan_of, has_room}
 use Rattle.dr_model.specs.Runs.{Task, carried_out, answered, answered_part, after_task, run}
 use Rattle.dr_model.proofs.CarryLemmas.{plan-tables}
 use Rattle.dr_model.proofs.Images.{histories-append}
@@ -82,12 +82,11 @@ module _ (w : World) (line v q : ℕ) where
       by (Some r) free = refused-shows r
 
   abbrev t : Task
-  t = record { line = line; asked = Ok (Show v q) }
+  t = record { line = line; asked = Ok (Show v q); listed = [] }
 
   task-shows : (x : Addition) → said_in w t ≡ Done x → WasShown (after_task w t)
   task-shows =
-      if-plan Shows refused-shows (not (is_built (Show v q))) (refuses NotBuilt) (cond (has_room w.events) (plan_of w.control w.events line (Show v q)) (refuses JournalFull)) (refused-shows NotBuilt)
-      (if-plan Shows refused-shows (has_room w.events) (plan_of w.control w.events line (Show v q)) (refuses JournalFull) plan-shows (refused-shows JournalFull))
+      if-plan Shows refused-shows (has_room w.events) (plan_of w.control w.events line (Show v q)) (refuses JournalFull) plan-shows (refused-shows JournalFull)
 
 -- what was shown is what the track reads as on devices that fit
 reads-shown : (w u : World) (line v q : ℕ) → Sound u → WasShown w line v q u → (on : ℕ → Bool) (fuse : ℕ → Option Fuse) (device : ℕ → Blocks) → Fits u on fuse device → reads_as u.control device v q ≡ image_at w.events v q
@@ -103,7 +102,7 @@ pub shown-run : (tasks : List Task) (on : ℕ → Bool) (fuse : ℕ → Option F
 shown-run tasks on fuse device fits before t v q said is asked says =
     let w : World = run before in
     let u : World = run tasks in
-    let same : t ≡ record { line = t.line; asked = Ok (Show v q) } = λ i. record t { asked = asked i } in
-    let leads : after_task w (record { line = t.line; asked = Ok (Show v q) }) ≡ u = ap (after_task w) (sym same) ∙ sym (ap run is ∙ run-more before t) in
+    let same : t ≡ record { line = t.line; asked = Ok (Show v q); listed = t.listed } = λ i. record t { asked = asked i } in
+    let leads : after_task w (record { line = t.line; asked = Ok (Show v q); listed = t.listed }) ≡ u = ap (after_task w) (sym same) ∙ sym (ap run is ∙ run-more before t) in
     let shown : WasShown w t.line v q u = subst (WasShown w t.line v q) leads (task-shows w t.line v q said (subst (λ t. said_in w t ≡ Done said) same says)) in
     shown.events ∙ ap (λ bytes. w.events ++ Shown t.line v q bytes ∷ answer t.line (Done Showed) ∷ []) (sym (reads-shown w u t.line v q (sound-run tasks) shown on fuse device fits))

@@ -23,7 +23,7 @@ use Rattle.dr_model.specs.Forming.{after_part}
 use Rattle.dr_model.specs.Runs.{begun, finish, after_plan}
 use Rattle.dr_model.specs.Laws.{Sound}
 use Rattle.dr_laws_sound.specs.Limits.{IsWithin}
-use Rattle.dr_laws_sound.proofs.Cases.{Case, Says, DefinesServer, DefinesVolume, SetsLink, Issues, Writes, Applies, Shows, Stops, Arms, Starts, MakesFlash, RemovesFlash, ResyncsFlash, ReversesFlash, Copies, MakesPath, RemovesPath, MakesPair, RemovesPair, PausesPair, ResumesPair, FailsOver, FailsBack, Compares, Drains, Expires, Freezes, Unfreezes, MakesSession, RemovesSession, MakesMirror, PausesMirror, RemovesMirror, Aborts, AddsMember, RemovesMember, Exchanges, Recovers, Settles}
+use Rattle.dr_laws_sound.proofs.Cases.{Case, Says, DefinesServer, DefinesVolume, SetsLink, Issues, Writes, Applies, Lists, Shows, Stops, Arms, Starts, MakesFlash, RemovesFlash, ResyncsFlash, ReversesFlash, Copies, MakesPath, RemovesPath, MakesPair, RemovesPair, PausesPair, ResumesPair, FailsOver, FailsBack, Compares, Drains, Expires, Freezes, Unfreezes, MakesSession, RemovesSession, MakesMirror, PausesMirror, RemovesMirror, Aborts, AddsMember, RemovesMember, Exchanges, Recovers, Settles}
 use Rattle.dr_facts.proofs.Sets.{not_removed, rest_low}
 use Rattle.dr_laws_sound.proofs.Costs.{Costs, costs-nil, costs-check, costs-last, carry-adds, Small, Light, AllLight, light-none, light-then, light-costs, small-pass, small-do}
 use Rattle.dr_laws_sound.proofs.CopyCosts.{rounds}
@@ -156,7 +156,7 @@ module _ (w : World) (x : Sound w) (h : IsWithin w.control) where
   entries-spends : (entries : List Entry) (said : Said) (n : ℕ) → Costs n (record w { events = w.events ++ [] }) entries → n + 2 ≤ step_events → Spends w (entries_plan entries said)
   entries-spends entries said n c few = record { spends = n; costs = c; after = 0; follows = none-adds; few = omega arith }
 
-  tables-spends : (first : Control → Control) (told : List Event) (said : Said) → length told ≤ 1 → Spends w (tables_plan first told said)
+  tables-spends : (first : Control → Control) (told : List Event) (said : Said) → length told ≤ 256 → Spends w (tables_plan first told said)
   tables-spends first told said le = record { spends = 0; costs = costs-nil 0 _; after = 0; follows = none-adds; few = omega arith }
 
   pub case-spends : (line : ℕ) (p : Plan) → Case w.control w.events line p → Spends w p
@@ -174,6 +174,7 @@ module _ (w : World) (x : Sound w) (h : IsWithin w.control) where
   }
   case-spends line _ (Applies n p found) =
       record { spends = 139; costs = brief-costs 139 _ (brief-landing most_volumes w.control h.volumes p.w p.volume p.track) _; after = 2; follows = λ s u. after_write-few w.control p.volume p.track s u; few = omega arith }
+  case-spends line _ (Lists told ls few) = let le : length told ≤ 256 = few x.groups h.sessions h.volumes in tables-spends _ _ _ (omega arith)
   case-spends line _ (Shows v t there) = tables-spends _ _ _ (omega arith)
   case-spends line _ (Stops s on) = tables-spends _ _ _ (omega arith)
   case-spends line _ (Arms writes torn s) = tables-spends _ _ _ (omega arith)

@@ -7,7 +7,9 @@ use Rattle.dr_ids.specs.Links.{joins}
 use Rattle.dr_ids.specs.Paths.{Path, with_path, without_path}
 use Rattle.dr_model.specs.declared.event.Event.{Event}
 use Rattle.dr_model.specs.declared.event.Event.TheVariants.{Server as ServerDefined, Stopped, Shown}
+use Rattle.dr_model.specs.declared.said.Addition.TheVariants.{Alone}
 use Rattle.dr_model.specs.declared.said.Said.{Said}
+use Rattle.dr_model.specs.declared.said.Said.TheVariants.{Done}
 use Rattle.dr_model.specs.Answers.{answer}
 use Rattle.dr_model.specs.Contents.{image, image_at}
 use Rattle.dr_model.specs.Histories.{histories, after_event}
@@ -16,7 +18,7 @@ use Rattle.dr_model.specs.Moves.{is_write}
 use Rattle.dr_model.specs.Carry.{carry}
 use Rattle.dr_model.specs.Plans.{Plan, same, only_says, tables_plan, name_bytes, issue_done, write_done, apply_done, torn_bytes}
 use Rattle.dr_model.specs.Forming.{Part, after_part}
-use Rattle.dr_model.specs.Runs.{Task, course, plans_of, begun, carried_out, said, after_plan, after_task, after_tasks, run}
+use Rattle.dr_model.specs.Runs.{Task, course, plans_of, begun, carried_out, said, after_plan, after_task, after_tasks, run, image_told}
 use Rattle.dr_model.specs.Groups.{In, Housed}
 use Rattle.dr_model.specs.Table.{table}
 use Rattle.dr_model.specs.Laws.{SoundRows, Sound}
@@ -24,8 +26,10 @@ use Rattle.dr_model.proofs.Images.{histories-append}
 use Rattle.dr_model.proofs.LawfulLemmas.{lawful-no_fields}
 use Rattle.dr_laws_sessions.proofs.Housed.{housed-none, housed-server}
 use Rattle.dr_laws_attempts.proofs.Volumes.{attempts-none}
-use Rattle.dr_laws_sound.proofs.Cases.{Case, Says, DefinesServer, DefinesVolume, SetsLink, Issues, Writes, Applies, Shows, Stops, Arms, Starts, MakesFlash, RemovesFlash, ResyncsFlash, ReversesFlash, Copies, MakesPath, RemovesPath, MakesPair, RemovesPair, PausesPair, ResumesPair, FailsOver, FailsBack, Compares, Drains, Expires, Freezes, Unfreezes, MakesSession, RemovesSession, MakesMirror, PausesMirror, RemovesMirror, Aborts, AddsMember, RemovesMember, Exchanges, Recovers, Settles, IsTrack, servers-left, is-new, may-issue}
-use Rattle.dr_laws_sound.proofs.Parts.{Comes, course-case, each-plan, last-plan}
+use Rattle.dr_model.specs.Listings.{lists}
+use Rattle.dr_laws_sound.proofs.Listed.{AllLines, lines-plain, lines-lists, image-lines}
+use Rattle.dr_laws_sound.proofs.Cases.{Case, Says, DefinesServer, DefinesVolume, SetsLink, Issues, Writes, Applies, Lists, Shows, Stops, Arms, Starts, MakesFlash, RemovesFlash, ResyncsFlash, ReversesFlash, Copies, MakesPath, RemovesPath, MakesPair, RemovesPair, PausesPair, ResumesPair, FailsOver, FailsBack, Compares, Drains, Expires, Freezes, Unfreezes, MakesSession, RemovesSession, MakesMirror, PausesMirror, RemovesMirror, Aborts, AddsMember, RemovesMember, Exchanges, Recovers, Settles, IsTrack, servers-left, is-new, may-issue}
+use Rattle.dr_laws_sound.proofs.Parts.{Comes, Ending, OnePlan, Imaged, course-case, each-plan, last-plan}
 use Rattle.dr_laws_sound.proofs.KeepsQueue.{Quiet, AllQuiet, goes-off}
 use Rattle.dr_laws_sound.proofs.KeepsSound.{StepHolds, RowsAt, MayDo, holds-moves, keeps-sound, sound-told, over}
 use Rattle.dr_laws_sound.proofs.Issues.{issued, sound-issued, one-new}
@@ -107,6 +111,9 @@ module _ (w : World) (s : Sound w) (n : ℕ) (p : Pending) (found : find (is_wri
 
 -- whatever a step comes to
 module _ (w : World) (s : Sound w) (line : ℕ) where
+  holds-lines : (told : List Event) → AllLines told → StepHolds w (lists told)
+  holds-lines told ls = holds-told w w.control.servers w.control.on w.control.fuse w.control.link w.control.paths told (Done Alone) s.housed s (lines-lists w.events told ls) ((lines-plain told ls).quiet _) (λ j h. h) same refl
+
   pub case-holds : (p : Plan) → Case w.control w.events line p → StepHolds w p
   case-holds _ (Says a) = holds-says w a s
   case-holds _ (DefinesServer name free) =
@@ -117,6 +124,7 @@ module _ (w : World) (s : Sound w) (line : ℕ) where
   case-holds _ (Issues v t offset len bytes free) = let there = (may-issue w.control v t free).0 in holds-issue w s v t offset len bytes there
   case-holds _ (Writes v t offset len bytes free) = holds-write w s v t offset len bytes (may-issue w.control v t free).0
   case-holds _ (Applies n p found) = holds-apply w s n p found
+  case-holds _ (Lists told ls few) = holds-lines told ls
   case-holds _ (Shows v t there) = holds-event w w.control.servers w.control.on (Shown line v t (image_at w.events v t)) _ s.housed s refl tt (λ j h. h) same refl
   case-holds _ (Stops x on) =
       holds-event w w.control.servers (at w.control.on x false) (Stopped x 0) _ s.housed s refl tt (goes-off None w s.queue w.control.on x) (λ k. record k { on = at k.on x false }) refl
@@ -154,6 +162,10 @@ module _ (w : World) (s : Sound w) (line : ℕ) where
   case-holds _ (Recovers i x found on) = holds-moves w _ (sound-begun w s) (along-recover w s i x found on) (λ q v y. over v y) (λ v y. y)
   case-holds _ (Settles i x m found here on free) = holds-entries w _ _ s (along-settle w s i x found on free m here)
 
+  pub ending-holds : (p : Plan) → Ending w.control w.events line p → StepHolds w p
+  ending-holds _ (OnePlan p c) = case-holds p c
+  ending-holds _ (Imaged vs) = holds-lines (image_told vs) (image-lines vs)
+
 pub sound-carried : (w : World) (p : Plan) → StepHolds w p → Sound (carried_out w p).0
 sound-carried w p holds = along.plan-keeps Sound RowsAt MayDo keeps-sound (λ v s. s.rows) w p holds
 
@@ -171,7 +183,7 @@ sound-last w t s = last-plan Sound sound-part w t s
 pub sound-task : (w : World) (t : Task) → Sound w → Sound (after_task w t)
 sound-task w t s =
     let x : Part = (course w t).last in
-    sound-lost x.world _ (sound-plan x.world t.line x.plan (case-holds x.world (sound-last w t s) t.line x.plan (course-case w t)))
+    sound-lost x.world _ (sound-plan x.world t.line x.plan (ending-holds x.world (sound-last w t s) t.line x.plan (course-case w t)))
 
 pub sound-tasks : (w : World) (tasks : List Task) → Sound w → Sound (after_tasks w tasks)
 unfolding after_tasks
@@ -225,4 +237,4 @@ sound-run tasks = sound-tasks nothing tasks sound-nothing
 pub rows-moment : (w : World) (t : Task) (x : Part) (n : ℕ) → Sound w → In x (plans_of w t) → SoundRows (table (carry (begun x.world x.plan) (take n x.plan.entries)).0)
 rows-moment w t x n s there =
     let b = each-plan Sound sound-part w t s x there in
-    along.plan-moment Sound RowsAt MayDo keeps-sound (λ v s. s.rows) x.world x.plan n (case-holds x.world b.0 t.line x.plan b.1)
+    along.plan-moment Sound RowsAt MayDo keeps-sound (λ v s. s.rows) x.world x.plan n (ending-holds x.world b.0 t.line x.plan b.1)

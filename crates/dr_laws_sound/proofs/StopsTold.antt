@@ -4,6 +4,7 @@ use Rattle.std.proofs.Common.{ℕ, ◌≡◌, List, [], ◌∷◌, ◌++◌, ref
 use Rattle.std.proofs.lemmas.List.{append-nil}
 use Rattle.std.specs.Option.{option_or}
 use Rattle.dr_ids.specs.declared.refusal.Refusal.{Refusal}
+use Rattle.dr_ids.specs.declared.refusal.Refusal.TheVariants.{NotBuilt, Stopped as StoppedIn}
 use Rattle.dr_model.specs.declared.event.Event.{Event}
 use Rattle.dr_model.specs.declared.event.Event.TheVariants.{Ack, Blanked, Restored, Stopped, Suspended, Frozen, Thawed, Recovered, Begin, Cut}
 use Rattle.dr_model.specs.Control.{Control, Fuse, Volume as VolumeRow, World}
@@ -119,9 +120,19 @@ act-tells : (w : World) (a : Act) → StopsTold w (act w a).0 (act w a).1
 act-tells w a = act-cases w a (λ t. StopsTold w t.0 t.1) (λ d off. record { events = []; told = sym (append-nil w.events); tells = refl })
     (done-tells w a) (counts-tells w a) (λ d f. record { events = Stopped (server_of w a) 0 ∷ []; told = refl; tells = refl })
 
--- entries that end a plan with other refusals than a stop
+-- a refusal that says neither a stop, nor that a step isn't built
+abbrev pub is_calm : Refusal → Bool
+is_calm (StoppedIn s) = false
+is_calm NotBuilt = false
+is_calm _ = true
+
+calm-stops : (r : Refusal) → is_calm r ≡ true → refused_stop (Some r) ≡ None
+calm-stops (StoppedIn s) e = absurd cc
+calm-stops r e = refl
+
+-- entries that end a plan with such refusals alone
 abbrev pub Calm : Entry → Type 0
-Calm d = (k : Control) (r : Refusal) → d k ≡ End r → refused_stop (Some r) ≡ None
+Calm d = (k : Control) (r : Refusal) → d k ≡ End r → is_calm r ≡ true
 
 unfoldable pub Unstopped : List Entry → Type 0
 Unstopped [] = Unit {0}
@@ -147,10 +158,10 @@ continue-tells : (w : World) (t : Turn) (next : World → Outcome) → StopsTold
 continue-tells w (v, None) next first rest = tells-then w v _ _ first (rest v)
 continue-tells w (v, Some s) next first rest = first
 
-go-tells : (w : World) (x : Next) (next : World → Outcome) → ((r : Refusal) → x ≡ End r → refused_stop (Some r) ≡ None) → ((v : World) → StopsTold v (next v).0 (refused_stop (next v).1))
+go-tells : (w : World) (x : Next) (next : World → Outcome) → ((r : Refusal) → x ≡ End r → is_calm r ≡ true) → ((v : World) → StopsTold v (next v).0 (refused_stop (next v).1))
     → StopsTold w (go w x next).0 (refused_stop (go w x next).1)
 go-tells w Pass next other rest = rest w
-go-tells w (End r) next other rest = record { events = []; told = sym (append-nil w.events); tells = sym (other r refl) }
+go-tells w (End r) next other rest = record { events = []; told = sym (append-nil w.events); tells = sym (calm-stops r (other r refl)) }
 go-tells w (Do a) next other rest = continue-tells w (act w a) next (act-tells w a) rest
 
 pub carry-tells : (w : World) (ds : List Entry) → Unstopped ds → StopsTold w (carry w ds).0 (refused_stop (carry w ds).1)

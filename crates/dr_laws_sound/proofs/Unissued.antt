@@ -1,17 +1,11 @@
 -- No act of a step issues a write: the writes that a journal tells of are as they were before its entries.
-use Rattle.std.proofs.Common.{ℕ, ◌≡◌, List, [], ◌∷◌, ◌++◌, map, refl, ap, ◌∙◌, Bool, true, false, cond, Option, Some, None}
-use Rattle.std.specs.List.{fold}
+use Rattle.std.proofs.Common.{◌≡◌, List, [], ◌∷◌, ◌++◌, refl, ap, ◌∙◌, true, Option, Some, None}
 use Rattle.std.proofs.lemmas.List.Sums.{fold-append}
-use Rattle.dr_model.specs.declared.event.Event.{Event}
-use Rattle.dr_model.specs.declared.event.Event.TheVariants.{Blanked, Restored, Stopped, Ack, Suspended, Frozen, Thawed, Recovered, Begin, Cut}
-use Rattle.dr_model.specs.Layout.{Tracks}
-use Rattle.dr_model.specs.Relations.{rest, in_order, is_bare, turned, given_up}
+use Rattle.dr_model.specs.declared.event.Event.TheVariants.{Stopped, Ack, Frozen, Thawed, Recovered}
 use Rattle.dr_model.specs.Histories.{Histories, histories, after_event}
 use Rattle.dr_model.specs.Control.{Fuse, Volume, World}
-use Rattle.dr_model.specs.Pairs.{is_suspended}
-use Rattle.dr_model.specs.Moves.{Move, Land, Overwrite, Withdraw, Reverse, Release, Suspend, LandBoth, Hold, target, told, told_in_stop, told_blank, landed}
+use Rattle.dr_model.specs.Moves.{Move, Hold, target, told, told_in_stop, landed}
 use Rattle.dr_model.specs.Carry.{Act, Make, OpenAttempt, Redo, Acknowledge, Drop, EndFreeze, EndThaw, EndRecovery, Next, Pass, Do, End, Entry, Turn, Outcome, act, carry, continue, go}
-use Rattle.dr_model.proofs.Images.{histories-append}
 use Rattle.dr_facts.proofs.Issued.{Alike, with-told, told-writes, stop-writes, act-writes}
 use Rattle.dr_laws_sound.proofs.Turns.{after_act}
 

@@ -6,3 +6,5 @@ pub mod RefusedSteps
 pub mod Stops
 pub mod Acknowledged
 pub mod Showing
+pub mod Places
+pub mod Calm

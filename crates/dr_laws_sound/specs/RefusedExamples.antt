@@ -28,12 +28,12 @@ inhibited = one_volume true (record no_fields { related = true; source = 6; inhi
 
 -- line 9 writes on it, copies it, or recovers the session
 abbrev pub writes : Task
-writes = record { line = 9; asked = Ok (Write 5 0 0 1 (7 ∷ [])) }
+writes = record { line = 9; asked = Ok (Write 5 0 0 1 (7 ∷ [])); listed = [] }
 
 -- of a volume that isn't defined
 abbrev pub copies : Task
-copies = record { line = 9; asked = Ok (Copy 6 None) }
+copies = record { line = 9; asked = Ok (Copy 6 None); listed = [] }
 
 -- over no member
 abbrev pub recovers : Task
-recovers = record { line = 9; asked = Ok (Recover 1) }
+recovers = record { line = 9; asked = Ok (Recover 1); listed = [] }

@@ -35,6 +35,7 @@ ghost use Rattle.dr_model.specs.Laws.{SoundRows, Sound, shown};
 ghost use Rattle.dr_model.specs.Allowed.{Allowed};
 ghost use Rattle.dr_model.specs.Groups.{In};
 ghost use Rattle.dr_model.specs.Limits.{most_events};
+ghost use Rattle.dr_model.specs.Listed.{Lists};
 ghost use Rattle.dr_laws_sound.specs.Limits.{IsWithin};
 ghost use Rattle.dr_model.specs.declared.event.Event.TheVariants as event;
 ghost use Rattle.dr_model.specs.declared.said.Said.TheVariants as answer;
@@ -45,6 +46,8 @@ ghost use Rattle.dr_laws_sound.specs.RefusedExamples.{stopped, inhibited, writes
 ghost use Rattle.dr_laws_sound.specs.Acknowledged.{AcknowledgesAnswered, AcknowledgedIsAnswered};
 ghost use Rattle.dr_laws_sound.specs.Showing.{ShowsDevices};
 ghost use Rattle.dr_laws_sound.specs.Stops.{StopsTold, refused_stop};
+ghost use Rattle.dr_laws_sound.specs.Places.{AreLone};
+ghost use Rattle.dr_laws_sound.specs.Calm.{MayEnd, RestoresCalmly, CalmRestores};
 
 /// Every run leaves a sound world: its volumes' records fit each other, each track shows what the host writes say, and
 /// each pending write is the one that was with_issued. A volume has at most one part in a pair, as its primary or as its
@@ -162,14 +165,29 @@ pub fn what_is_shown_is_on_the_devices()
     ensures { (tasks : List Task) (on : ℕ → Bool) (fuse : ℕ → Option Fuse) (device : ℕ → Blocks) → Fits (run tasks) on fuse device → ShowsDevices tasks device }
 {}
 
-/// Every run stays within the limits of servers, volumes and pending writes, and of the tracks of a volume.
+/// Every run stays within the limits of servers, volumes, pending writes and sessions, and of the tracks of a volume.
 pub fn runs_stay_within_limits()
     ensures { (tasks : List Task) → IsWithin (run tasks).control }
 {}
 
 /// A step adds to the journal, its answer at least, and in a sound world within the limits a journal that has fewer events
-/// than its limit stays within it.
+/// than its limit stays within it, where an image lists as it may.
 pub fn journals_fit()
     ensures grows { (w : World) (t : Task) → length w.events < length (after_task w t).events }
-    ensures fits { (w : World) (t : Task) → Sound w → IsWithin w.control → length w.events < most_events → length (after_task w t).events ≤ most_events }
+    ensures fits { (w : World) (t : Task) → Lists w t → Sound w → IsWithin w.control → length w.events < most_events → length (after_task w t).events ≤ most_events }
+{}
+
+/// No volume has a second place in the sessions: none is twice among the primaries, secondaries and targets of the members of all
+/// sessions, as each run ends, and after each entry of each plan of a step from a sound world.
+pub fn sessions_are_lone()
+    ensures runs { (tasks : List Task) → AreLone (run tasks).control.sessions }
+    ensures moments { (w : World) (t : Task) (x : Part) (n : ℕ) → Sound w → In x (plans_of w t) → AreLone (carry (begun x.world x.plan) (take n x.plan.entries)).0.control.sessions }
+{}
+
+/// Restores are calm: wherever a step of a run has a source take a track back from its target, at that moment the source doesn't record
+/// for an attempt, is no secondary, and is the source of no revertible target. It is so in each step from a sound world, also where
+/// servers go off by themselves between the acts.
+pub fn restores_are_calm()
+    ensures runs { (tasks : List Task) → CalmRestores tasks }
+    ensures reads { (armed : ℕ → Bool) (w : World) (task : Task) → Sound w → RestoresCalmly (MayEnd armed) w task }
 {}

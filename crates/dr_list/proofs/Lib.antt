@@ -1,3 +1,3 @@
--- Read first: `TextLemmas.antt`: the text event by event; `TextChecks.antt`: answers as they print.
+-- Read first: `TextLemmas.antt`: the text event by event; `TextChecks.antt`: answers and listings as they print.
 pub mod TextLemmas
 pub mod TextChecks

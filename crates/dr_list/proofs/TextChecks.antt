@@ -1,13 +1,13 @@
--- The text of a few answers.
-use Rattle.std.proofs.Common.{ℕ, ◌≡◌, ◌<◌, ◌%◌, refl, ap, List, [], ◌∷◌, ◌++◌, arith, Some, None}
+-- The text of a few answers, and of lines of listings and images.
+use Rattle.std.proofs.Common.{ℕ, ◌≡◌, ◌<◌, ◌%◌, refl, ap, List, [], ◌∷◌, ◌++◌, arith, Some, None, true, false}
 use Rattle.std.specs.Prelude.{codes, nat_eq, if◌then◌else◌, replicate, take, drop}
 use Rattle.std.specs.Fmt.{digits}
 use Rattle.std.specs.List.{fold}
 use Rattle.dr_logic.specs.Bytes.{zeros}
 use Rattle.dr_ids.specs.Spelling.{hex2, hex4}
 use Rattle.dr_model.specs.declared.event.Event.{Event}
-use Rattle.dr_model.specs.declared.event.Event.TheVariants.{Server, Shown, Answer}
-use Rattle.dr_model.specs.Text.{Heard, said_text, untold, heard, text, text_from, volume_digits, session_digits}
+use Rattle.dr_model.specs.declared.event.Event.TheVariants.{Server, Shown, PairLine, FlashLine, SessionLine, MirrorLine, ImageStart, ImageVolume, ImageBlock, ImageEnd, Answer}
+use Rattle.dr_model.specs.Text.{Heard, said_text, line_text, untold, heard, text, text_from, volume_digits, session_digits}
 
 -- two servers are defined
 abbrev defined : Heard
@@ -112,3 +112,37 @@ volume-whole n lt = ap hex4 (let e : n % 65536 ≡ n = omega arith in e)
 
 session-whole : (n : ℕ) → n < 256 → session_digits n ≡ hex2 n
 session-whole n lt = ap hex2 (let e : n % 256 ≡ n = omega arith in e)
+
+-- a primary says how much is unsent, and a secondary doesn't; its primary stands first in both
+primary : line_text untold (PairLine 9 4096 8192 0 2 17) ≡ codes "9 1000:2000 Copy Pending Global Copy 17\n"
+unfolding digits
+primary = refl
+
+secondary : line_text untold (PairLine 9 8192 4096 4 1 17) ≡ codes "9 1000:2000 Target Full Duplex Metro Mirror -\n"
+unfolding digits
+secondary = refl
+
+relationship : line_text untold (FlashLine 12 8192 12288 3 2 0 13 256) ≡ codes "12 2000:3000 3 2 Revertible NRI 256\n"
+unfolding digits
+relationship = refl
+
+no_flags : line_text untold (FlashLine 12 8192 12288 0 0 2 0 0) ≡ codes "12 2000:3000 0 0 Established - 0\n"
+unfolding digits
+no_flags = refl
+
+member : line_text untold (SessionLine 4 1 4096 8192 12288 2) ≡ codes "4 01 1000:2000:3000 Suspended\n"
+unfolding digits
+member = refl
+
+master : line_text defined (MirrorLine 5 1 0 3 7 false) ≡ codes "5 01 A Releasing 7 running\n"
+unfolding digits
+master = refl
+
+paused_master : line_text defined (MirrorLine 5 1 1 1 0 true) ≡ codes "5 01 B Idle 0 paused\n"
+unfolding digits
+paused_master = refl
+
+-- the lines of an image have no number, and the answer behind them has one
+image : text_from untold (ImageStart ∷ ImageVolume 4096 0 1 ∷ ImageBlock 4096 13 (75 ∷ 0 ∷ 10 ∷ 0 ∷ []) ∷ ImageEnd ∷ Answer 6 0 0 0 0 ∷ []) ≡ codes "image 1\nvolume 1000 0 1\nblock 1000 13 4B000A\nend\n6 ok\n"
+unfolding digits
+image = refl

@@ -1,12 +1,13 @@
 -- Laws of the printed text.
-use Rattle.std.proofs.Common.{ℕ, zero, suc, ◌≡◌, ◌<◌, ◌≤◌, ◌+◌, ◌-◌, List, [], ◌∷◌, ◌++◌, length, get_or, take, refl, ap, ◌∙◌, sym, cond, false, arith, nat_eq, drop, replicate}
+use Rattle.std.proofs.Common.{ℕ, zero, suc, ◌≡◌, ◌<◌, ◌≤◌, ◌+◌, ◌-◌, List, [], ◌∷◌, ◌++◌, length, get_or, take, refl, ap, ◌∙◌, sym, false, arith, nat_eq, drop, replicate, append_assoc}
 use Rattle.std.proofs.lemmas.Grind.{common_steps}
 use Rattle.std.proofs.lemmas.List.{take_more, take_rest}
-use Rattle.std.specs.Prelude.{slice_get, slice_index_or, Option, Some, None}
+use Rattle.std.specs.Prelude.{codes, slice_get, slice_index_or, Option, None}
 use Rattle.std.specs.List.{fold}
 use Rattle.dr_model.specs.declared.event.Event.{Event}
 use Rattle.dr_model.specs.declared.step.Name.{Name}
 use Rattle.dr_model.specs.Text.{Heard, heard, text_from, trimmed, before_trimmed}
+use Rattle.dr_model.specs.LineText.{spaced}
 use Rattle.dr_list.specs.At.{heard_at, line_told}
 use Rattle.dr_list.specs.Seen.{name_of, names_of}
 use Rattle.dr_facts.proofs.Texts.{trimmed-zero, trimmed-kept}
@@ -68,3 +69,23 @@ same_at entry n s = grind (arith, common_steps)
 
 pub none-named : (n s : ℕ) → names_of (replicate n None) s ≡ None
 none-named n s = ap name_of (same_at None n s)
+
+parts : (t session a b c word : List ℕ) → ((((((((t ++ session) ++ codes " ") ++ a) ++ codes ":") ++ b) ++ codes ":") ++ c) ++ codes " ") ++ word
+    ≡ t ++ (session ++ (codes " " ++ (a ++ (codes ":" ++ (b ++ (codes ":" ++ (c ++ (codes " " ++ word))))))))
+parts t session a b c word = simp append_assoc
+
+-- a member that is written part by part
+pub member-written : (t t1 t2 t3 t4 t5 t6 session a b c word : List ℕ) → t1 ≡ t ++ session → t2 ≡ t1 ++ codes " " → t3 ≡ t2 ++ a ++ codes ":" ++ b → t4 ≡ t3 ++ codes ":" → t5 ≡ t4 ++ c → t6 ≡ t5 ++ codes " " ++ word
+    → t6 ≡ t ++ (session ++ (codes " " ++ (a ++ (codes ":" ++ (b ++ (codes ":" ++ (c ++ (codes " " ++ word))))))))
+member-written t t1 t2 t3 t4 t5 t6 session a b c word e1 e2 e3 e4 e5 e6 =
+    e6 ∙ ap (λ x. x ++ codes " " ++ word) (e5 ∙ ap (λ x. x ++ c) (e4 ∙ ap (λ x. x ++ codes ":") (e3 ∙ ap (λ x. x ++ a ++ codes ":" ++ b) (e2 ∙ ap (λ x. x ++ codes " ") e1))))
+    ∙ parts t session a b c word
+
+line : (t word a b c : List ℕ) → (((((((t ++ word) ++ codes " ") ++ a) ++ codes " ") ++ b) ++ codes " ") ++ c) ++ 10 ∷ [] ≡ t ++ (word ++ spaced (a ∷ b ∷ c ∷ []) ++ 10 ∷ [])
+line t word a b c = simp append_assoc
+
+-- three words behind another one, that are written in two calls
+pub words-written : (t t1 t2 t3 word a b c : List ℕ) → t1 ≡ t ++ word ++ codes " " ++ a ++ codes " " ++ b → t2 ≡ t1 ++ codes " " ++ c → t3 ≡ t2 ++ 10 ∷ []
+    → t3 ≡ t ++ (word ++ spaced (a ∷ b ∷ c ∷ []) ++ 10 ∷ [])
+words-written t t1 t2 t3 word a b c e1 e2 e3 =
+    e3 ∙ ap (λ x. x ++ 10 ∷ []) (e2 ∙ ap (λ x. x ++ codes " " ++ c) e1) ∙ line t word a b c

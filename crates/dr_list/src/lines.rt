@@ -1,15 +1,70 @@
-ghost use Rattle.std.specs.Prelude.{◌≡◌, ◌-◌, ◌<◌, ◌≤◌, ◌++◌, length, take, drop, slice_get, OnOk, IfOk};
+ghost use Rattle.std.specs.Prelude.{◌≡◌, ◌-◌, ◌<◌, ◌≤◌, ◌++◌, false, length, take, drop, slice_get, OnOk, IfOk, codes};
+ghost use Rattle.std.specs.Fmt.{decimal};
 ghost use Rattle.std.specs.List.{fold};
-ghost use Rattle.dr_model.specs.declared.event.Event.TheVariants.{Answer};
-ghost use Rattle.dr_model.specs.Text.{untold, heard, line_text, text_from};
+ghost use Rattle.dr_model.specs.Text.{untold, heard, told_name, pair_text, flash_text, member_text, mirror_text, said_text, numbered, line_text, text_from};
 ghost use Rattle.dr_list.specs.At.{line_told, heard_at};
+ghost use Rattle.dr_list.specs.Numbered.{is_answer, is_of_volumes};
 ghost use Rattle.dr_list.specs.Seen.{heard_seen};
 
-use crate::pieces::push_number;
+use crate::images::push_image_line;
+use crate::listings::{
+    FlashNumbers, MemberNumbers, MirrorNumbers, PairNumbers, push_flash, push_member, push_mirror,
+    push_pair,
+};
+use crate::pieces::{end_line, push_number};
 use crate::said::push_said;
 use crate::told::Heard;
 use dr_model::{AnswerNumbers, Event, Journal};
 use std::alloc::{AllocError, Global};
+
+/// Adds a line's number, with a space behind it.
+fn push_line_number(out: &mut Vec<u8>, line: u32) -> Result<(), AllocError>
+    ensures { OnOk result (out.new.items ≡ out.old.items ++ decimal line ++ codes " ") }
+{
+    push_number(out, line)?;
+    out.extend_from_slice(b" ")
+}
+
+/// Adds the line of a pair.
+fn push_pair_line(out: &mut Vec<u8>, line: u32, of: PairNumbers) -> Result<(), AllocError>
+    ensures { OnOk result (out.new.items ≡ out.old.items ++ numbered line (pair_text of.volume of.partner of.state of.kind of.unsent)) }
+{
+    push_line_number(out, line)?;
+    push_pair(out, of)?;
+    end_line(out)
+}
+
+/// Adds the line of a FlashCopy relationship.
+fn push_flash_line(out: &mut Vec<u8>, line: u32, of: FlashNumbers) -> Result<(), AllocError>
+    ensures { OnOk result (out.new.items ≡ out.old.items ++ numbered line (flash_text of.source of.target of.sequence of.previous of.state of.flags of.own)) }
+{
+    push_line_number(out, line)?;
+    push_flash(out, of)?;
+    end_line(out)
+}
+
+/// Adds the line of a session's member.
+fn push_member_line(out: &mut Vec<u8>, line: u32, of: MemberNumbers) -> Result<(), AllocError>
+    ensures { OnOk result (out.new.items ≡ out.old.items ++ numbered line (member_text of.session of.primary of.secondary of.target of.state)) }
+{
+    push_line_number(out, line)?;
+    push_member(out, of)?;
+    end_line(out)
+}
+
+/// Adds the line of a session's master.
+fn push_mirror_line(
+    out: &mut Vec<u8>,
+    told: &Heard,
+    line: u32,
+    of: MirrorNumbers,
+) -> Result<(), AllocError>
+    ensures { OnOk result (out.new.items ≡ out.old.items ++ numbered line (mirror_text (told_name (heard_seen told.now) of.server) of.session of.phase of.n of.paused)) }
+{
+    push_line_number(out, line)?;
+    push_mirror(out, told.name(u32::from(of.server)), of)?;
+    end_line(out)
+}
 
 /// Adds the line of an answer.
 fn push_answer(
@@ -18,36 +73,118 @@ fn push_answer(
     line: u32,
     says: AnswerNumbers,
 ) -> Result<(), AllocError>
-    ensures { OnOk result (out.new.items ≡ out.old.items ++ line_text (heard_seen told.now) (Answer line says.code says.a says.b says.c)) }
+    ensures { OnOk result (out.new.items ≡ out.old.items ++ numbered line (said_text (heard_seen told.now) says.code says.a says.b says.c)) }
 {
-    push_number(out, line)?;
-    out.extend_from_slice(b" ")?;
+    push_line_number(out, line)?;
     push_said(out, told, says)?;
-    out.extend_from_slice(b"\n")?;
-    Ok(())
+    end_line(out)
+}
+
+/// Adds the line of a session's member or master, or of an image.
+fn push_session_line(out: &mut Vec<u8>, told: &Heard, event: &Event) -> Result<(), AllocError>
+    requires { is_of_volumes event.now ≡ false }
+    ensures { OnOk result (out.new.items ≡ out.old.items ++ line_text (heard_seen told.now) event.now) }
+{
+    match *event {
+        Event::SessionLine {
+            line,
+            session,
+            a,
+            b,
+            c,
+            state,
+        } => {
+            let of = MemberNumbers {
+                session,
+                primary: a,
+                secondary: b,
+                target: c,
+                state,
+            };
+            push_member_line(out, line, of)
+        }
+        Event::MirrorLine {
+            line,
+            session,
+            server,
+            phase,
+            n,
+            paused,
+        } => {
+            let of = MirrorNumbers {
+                session,
+                server,
+                phase,
+                n,
+                paused,
+            };
+            push_mirror_line(out, told, line, of)
+        }
+        _ => push_image_line(out, event),
+    }
+}
+
+/// Adds the line that an event prints, unless it is an answer.
+fn push_listed(out: &mut Vec<u8>, told: &Heard, event: &Event) -> Result<(), AllocError>
+    requires { is_answer event.now ≡ false }
+    ensures { OnOk result (out.new.items ≡ out.old.items ++ line_text (heard_seen told.now) event.now) }
+{
+    match *event {
+        Event::PairLine {
+            line,
+            volume,
+            partner,
+            state,
+            kind,
+            k,
+        } => {
+            let of = PairNumbers {
+                volume,
+                partner,
+                state,
+                kind,
+                unsent: k,
+            };
+            push_pair_line(out, line, of)
+        }
+        Event::FlashLine {
+            line,
+            source,
+            target,
+            sequence,
+            previous,
+            state,
+            flags,
+            own,
+        } => {
+            let of = FlashNumbers {
+                source,
+                target,
+                sequence,
+                previous,
+                state,
+                flags,
+                own,
+            };
+            push_flash_line(out, line, of)
+        }
+        _ => push_session_line(out, told, event),
+    }
 }
 
 /// Adds the line that an event prints; most print none.
 fn push_event(out: &mut Vec<u8>, told: &Heard, event: &Event) -> Result<(), AllocError>
     ensures { OnOk result (out.new.items ≡ out.old.items ++ line_text (heard_seen told.now) event.now) }
 {
-    match event {
+    match *event {
         Event::Answer {
             line,
             code,
             a,
             b,
             c,
-        } => {
-            let says = AnswerNumbers {
-                code: *code,
-                a: *a,
-                b: *b,
-                c: *c,
-            };
-            push_answer(out, told, *line, says)
-        }
-        _ => Ok(()),
+        } => push_answer(out, told, line, AnswerNumbers { code, a, b, c }),
+        _ => push_listed(out, told, event),
     }
 }
 
@@ -92,8 +229,9 @@ fn hear_between(told: &mut Heard, journal: &Journal, from: usize, to: usize)
 /// them told; it looks at none of those. What `out` held is gone. Fails where there is no memory. In either
 /// case `told` has heard all events then.
 ///
-/// Each answer gives one line: the decimal number of its script line, a space, what it says, and a line
-/// feed. No other event gives one.
+/// Each answer and each line of a listing (pairs, FlashCopy relationships, members, masters) gives one line:
+/// the decimal number of its script line, a space, what it says, and a line feed. An image's first line, its
+/// volumes, its blocks and its end give one each without a number. No other event gives one.
 pub fn text_on(
     told: &mut Heard,
     journal: &Journal,

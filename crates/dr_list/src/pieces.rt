@@ -1,6 +1,6 @@
-//! Numbers, volumes, sessions and tracks, as answers show them.
+//! Numbers, volumes, sessions and bytes, as lines show them.
 
-ghost use Rattle.std.specs.Prelude.{◌≡◌, ◌≤◌, ◌∷◌, ◌++◌, length, take, OnOk, codes};
+ghost use Rattle.std.specs.Prelude.{◌≡◌, ◌≤◌, [], ◌∷◌, ◌++◌, length, take, OnOk, codes};
 ghost use Rattle.std.specs.List.{flat_map};
 ghost use Rattle.std.specs.Fmt.{decimal};
 ghost use Rattle.dr_ids.specs.Spelling.{hex2, hex4};
@@ -16,6 +16,13 @@ pub(crate) fn push_number(out: &mut Vec<u8>, n: u32) -> Result<(), AllocError>
 {
     let mut buffer = Buffer::new();
     out.extend_from_slice(buffer.format(n).as_bytes())
+}
+
+/// Ends a line.
+pub(crate) fn end_line(out: &mut Vec<u8>) -> Result<(), AllocError>
+    ensures { OnOk result (out.new.items ≡ out.old.items ++ 10 ∷ []) }
+{
+    out.extend_from_slice(b"\n")
 }
 
 /// Adds a word behind a space.
@@ -35,7 +42,7 @@ pub(crate) fn push_count(out: &mut Vec<u8>, n: u32) -> Result<(), AllocError>
 }
 
 /// Adds two upper-case hexadecimal digits.
-fn push_hex2(out: &mut Vec<u8>, n: u8) -> Result<(), AllocError>
+pub(crate) fn push_hex2(out: &mut Vec<u8>, n: u8) -> Result<(), AllocError>
     ensures { OnOk result (out.new.items ≡ out.old.items ++ hex2 n) }
 {
     let digits = [upper_hex(n / 16), upper_hex(n % 16)];
@@ -43,7 +50,7 @@ fn push_hex2(out: &mut Vec<u8>, n: u8) -> Result<(), AllocError>
 }
 
 /// Adds four upper-case hexadecimal digits.
-fn push_hex4(out: &mut Vec<u8>, n: u16) -> Result<(), AllocError>
+pub(crate) fn push_hex4(out: &mut Vec<u8>, n: u16) -> Result<(), AllocError>
     ensures { OnOk result (out.new.items ≡ out.old.items ++ hex4 n) }
 {
     push_hex2(out, (n / 256) as u8)?;
@@ -85,6 +92,13 @@ fn push_hex(out: &mut Vec<u8>, bytes: &[u8]) -> Result<(), AllocError>
         push_hex2(out, *b)?;
     }
     Ok(())
+}
+
+/// Adds bytes without the zeros at their end, two hexadecimal digits each.
+pub(crate) fn push_trimmed(out: &mut Vec<u8>, bytes: &[u8]) -> Result<(), AllocError>
+    ensures { OnOk result (out.new.items ≡ out.old.items ++ flat_map hex2 (trimmed bytes.now)) }
+{
+    push_hex(out, &bytes[..trimmed_len(bytes)])
 }
 
 /// Adds a track as it is shown: hexadecimal without the zero bytes at its end, or a dash.

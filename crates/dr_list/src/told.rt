@@ -8,7 +8,7 @@ ghost use Rattle.dr_list.specs.Seen.{heard_seen, names_of};
 
 use dr_model::{Event, Name};
 
-/// What the events of a journal told so far, as far as answers print it: the first name of each server,
+/// What the events of a journal told so far, as far as lines print it: the first name of each server,
 /// and the track that the step at hand has shown.
 #[derive(Drop)]
 pub struct Heard {

@@ -1,4 +1,4 @@
-//! The words of answers and of the values in them, by their numbers. Another number has no word.
+//! The words of answers and listings, by their numbers. Another number has no word, but where one says so.
 
 ghost use Rattle.std.specs.Prelude.{◌≡◌};
 ghost use Rattle.dr_model.specs.Text as words;
@@ -70,6 +70,28 @@ pub(crate) fn pair_words(state: u32) -> &'static [u8]
         5 => b"Target Suspended",
         6 => b"none",
         _ => b"",
+    }
+}
+
+/// The kind of a pair.
+pub(crate) fn type_words(kind: u32) -> &'static [u8]
+    ensures { result.now ≡ words.type_words kind }
+{
+    match kind {
+        1 => b"Metro Mirror",
+        2 => b"Global Copy",
+        _ => b"",
+    }
+}
+
+/// The state of a FlashCopy relationship that a listing shows; a number past the others has the last word.
+pub(crate) fn flash_word(state: u32) -> &'static [u8]
+    ensures { result.now ≡ words.flash_word state }
+{
+    match state {
+        0 => b"Revertible",
+        1 => b"Reversing",
+        _ => b"Established",
     }
 }
 

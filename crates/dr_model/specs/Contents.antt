@@ -1,5 +1,5 @@
 -- What a track contains, by the writes that it holds.
-use Rattle.std.specs.Prelude.{ℕ, ◌+◌, ◌-◌, List, map, length, replicate, ◌&&◌, nat_le, nat_lt, if◌then◌else◌}
+use Rattle.std.specs.Prelude.{ℕ, ◌+◌, ◌-◌, List, map, length, ◌&&◌, nat_le, nat_lt, if◌then◌else◌}
 use Rattle.std.specs.List.{fold, flat_map, range_with_len, slice_index_or}
 use Rattle.std.specs.Option.{unwrap_or}
 use Rattle.dr_logic.specs.Bytes.{zeros}

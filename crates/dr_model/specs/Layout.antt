@@ -66,6 +66,10 @@ bit n k = nat_eq ((n / 2 ^ k) % 2) 1
 abbrev pub part_of : ℕ → Part
 part_of n = if nat_eq n 1 then Metro else if nat_eq n 2 then Global else Absent
 
+-- the kind of pair that the number in a step names: 1 is Metro Mirror, any other Global Copy; a line gives 1 or 2
+abbrev pub kind_of : ℕ → Part
+kind_of n = if nat_eq n 1 then Metro else Global
+
 -- there is a part
 abbrev pub is_part : Part → Bool
 is_part Absent = false

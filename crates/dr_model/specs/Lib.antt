@@ -22,10 +22,13 @@ pub mod PlanParts
 pub mod SessionEntries
 pub mod SessionPlans
 pub mod RecoveryPlans
+pub mod Listings
 pub mod Plans
 pub mod Carried
 pub mod Forming
+pub mod PlantImage
 pub mod Runs
+pub mod Listed
 pub mod Text
 pub mod Table
 pub mod Rows
@@ -38,6 +41,7 @@ pub mod ClosedCuts
 pub mod NewestGroup
 pub mod HeldWrites
 pub mod TakenWrites
+pub mod Recovery
 pub mod Fits
 pub mod Limits
 pub mod LineWords
@@ -49,4 +53,4 @@ pub mod LineText
 pub mod Decisions
 pub mod Phases
 pub mod Sessions
-pub mod PlantImage
+pub mod Offline

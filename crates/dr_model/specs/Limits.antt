@@ -9,6 +9,10 @@ most_events = 1000000
 abbrev pub step_events : ℕ
 step_events = 4096
 
+-- and that an image needs
+abbrev pub image_events : ℕ
+image_events = 20000
+
 -- the most servers
 abbrev pub most_servers : ℕ
 most_servers = 8

@@ -1,22 +1,13 @@
 -- The steps of a script, line by line.
-use Rattle.std.specs.Prelude.{ℕ, ◌+◌, Bool, List, [], ◌∷◌, ◌++◌, map, nat_eq, Result, Ok, Err}
-use Rattle.std.specs.List.{slice_split}
+use Rattle.std.specs.Prelude.{ℕ, ◌+◌, List, [], ◌∷◌, ◌++◌, map, Result, Ok, Err}
 use Rattle.std.specs.Str.Lines.{lines}
 use Rattle.dr_model.specs.declared.step.Step.{Step}
 use Rattle.dr_model.specs.Grammar.{line_of}
 use Rattle.dr_model.specs.Runs.{Task}
 
--- the words of an image's line: what stands between its spaces
-abbrev pub is_space : ℕ → Bool
-is_space b = nat_eq b 32
-
--- the words of an image's line
-abbrev pub words : List ℕ → List (List ℕ)
-words line = slice_split is_space line
-
--- a step of the line with that number
+-- a step of the line with that number; a script doesn't say what an image is going to list
 abbrev pub task : ℕ → Result Step ℕ → Task
-task number asked = record { line = number; asked = asked }
+task number asked = record { line = number; asked = asked; listed = [] }
 
 -- the steps that were read in a line, in order; a line with a fault is one step
 abbrev pub tasks_read : ℕ → Result (List Step) ℕ → List Task

@@ -8,7 +8,7 @@ use Rattle.dr_ids.specs.Links.{joins}
 use Rattle.dr_ids.specs.Paths.{path_in, with_path, without_path}
 use Rattle.dr_ids.specs.declared.refusal.Refusal.{Refusal}
 use Rattle.dr_ids.specs.declared.names.Member.{Member}
-use Rattle.dr_ids.specs.declared.refusal.Refusal.TheVariants.{InSession, NotBuilt, JournalFull, Syntax}
+use Rattle.dr_ids.specs.declared.refusal.Refusal.TheVariants.{InSession, JournalFull, Syntax}
 use Rattle.dr_ids.specs.declared.refusal.Kind.TheVariants.{Server as OfServer, Volume as OfVolume, Lss as OfLss, Path as OfPath, Write as OfWrite, Track as OfTrack}
 use Rattle.dr_ids.specs.declared.refusal.Which.TheVariants.{Servers, Volumes, Tracks, Pending as Writes, Targets, Size, Server as OneServer}
 use Rattle.dr_model.specs.Limits.{most_servers, most_volumes, most_tracks, most_pending, most_targets, most_events, step_events}
@@ -26,19 +26,20 @@ pub use Rattle.dr_model.specs.PlanParts.{Plan, same, none_follow, always, tables
 pub use Rattle.dr_model.specs.RecoveryPlans.{decided_in, secondary_refusal, leaves_all, forbidden_unless}
 use Rattle.dr_model.specs.RecoveryPlans.{member_of_target, lets_commit, lets_revert, recover_plan, settle_plan}
 use Rattle.dr_model.specs.SessionPlans.{join_plan, leave_plan, add_plan, expel_plan, mirror_plan, pause_mirror_plan, unmirror_plan, abort_plan, exchange_plan}
+use Rattle.dr_model.specs.Listings.{list_pairs_plan, list_flashes_plan, list_session_plan, show_mirror_plan}
 use Rattle.dr_model.specs.declared.said.Addition.TheVariants.{Alone, Wrote, Acked, Counted, Showed}
 use Rattle.dr_model.specs.declared.said.Said.{Said}
 use Rattle.dr_model.specs.declared.said.Said.TheVariants.{Done}
 use Rattle.dr_model.specs.declared.event.Event.{Event}
 use Rattle.dr_model.specs.declared.event.Event.TheVariants.{Server as ServerDefined, Volume as VolumeDefined, Issue, Stopped, Started, Shown}
 use Rattle.dr_model.specs.declared.state.Part.{Part}
-use Rattle.dr_model.specs.Layout.{is_part, part_of}
+use Rattle.dr_model.specs.Layout.{kind_of}
 use Rattle.dr_model.specs.declared.step.Name.{Name}
 use Rattle.dr_model.specs.declared.step.Devs.{Devs}
 use Rattle.dr_model.specs.declared.step.TornWord.{TornWord}
 use Rattle.dr_model.specs.declared.step.TornWord.TheVariants.{Same, Fill, Bytes}
 use Rattle.dr_model.specs.declared.step.Step.{Step}
-use Rattle.dr_model.specs.declared.step.Step.TheVariants.{Server, Volume, Link, Stop, StopAfter, Start, Issue as IssueWrite, Write, Apply, Show, MakeFlash, RemoveFlash, ResyncFlash, ReverseFlash, Copy, MakePath, RemovePath, MakePair, RemovePair, PausePair, ResumePair, Failover, Failback, Drain, Expire, Freeze, Unfreeze, MakeSession, RemoveSession, AddMember, RemoveMember, MakeMirror, PauseMirror, ResumeMirror, RemoveMirror, Abort, Exchange, Recover, CommitFlash, RevertFlash}
+use Rattle.dr_model.specs.declared.step.Step.TheVariants.{Server, Volume, Link, Stop, StopAfter, Start, Issue as IssueWrite, Write, Apply, Show, MakeFlash, RemoveFlash, ResyncFlash, ReverseFlash, Copy, MakePath, RemovePath, MakePair, RemovePair, PausePair, ResumePair, Failover, Failback, Drain, Expire, Freeze, Unfreeze, MakeSession, RemoveSession, AddMember, RemoveMember, MakeMirror, PauseMirror, ResumeMirror, RemoveMirror, Abort, Exchange, Recover, CommitFlash, RevertFlash, ListPairs, ListFlashes, ListSession, ShowMirror}
 
 -- a server is defined; it is on
 abbrev pub server_done : Control → Name → Plan
@@ -517,7 +518,7 @@ drain_plan k a most =
       says = always (Done (Counted (length ts)));
     }
 
--- what a step comes to whose form is built as one plan, with room in the journal
+-- What a step comes to, with room in the journal. Steps that have a course of their own (`own_course`) aren't looked up here.
 abbrev pub plan_of : Control → List Event → ℕ → Step → Plan
 plan_of k events line (Server name) = server_plan k name
 plan_of k events line (Volume v name tracks) = volume_plan k v name tracks
@@ -537,12 +538,12 @@ plan_of k events line (ReverseFlash devs s t tgtpprc sequence) = reverse_flash_p
 plan_of k events line (Copy t most) = copy_plan k t most
 plan_of k events line (MakePath devs src tgt group) = path_plan k devs src tgt group
 plan_of k events line (RemovePath devs src tgt force) = unpath_plan k devs src tgt force
-plan_of k events line (MakePair devs a b kind full) = make_pair_plan k events devs a b (part_of kind) full
+plan_of k events line (MakePair devs a b kind full) = make_pair_plan k events devs a b (kind_of kind) full
 plan_of k events line (RemovePair devs a b source_only) = remove_pair_plan k devs a b source_only
 plan_of k events line (PausePair devs a b) = pause_pair_plan k devs a b
-plan_of k events line (ResumePair devs a b kind) = resume_pair_plan k devs a b (part_of kind)
-plan_of k events line (Failover devs b a kind) = failover_plan k devs b a (part_of kind)
-plan_of k events line (Failback devs x y kind) = failback_plan k devs x y (part_of kind)
+plan_of k events line (ResumePair devs a b kind) = resume_pair_plan k devs a b (kind_of kind)
+plan_of k events line (Failover devs b a kind) = failover_plan k devs b a (kind_of kind)
+plan_of k events line (Failback devs x y kind) = failback_plan k devs x y (kind_of kind)
 plan_of k events line (Drain a most) = drain_plan k a most
 plan_of k events line (Expire name) = on_server k name (expire_on k)
 plan_of k events line (Freeze devs l m) = freeze_plan k devs l m
@@ -560,62 +561,23 @@ plan_of k events line (Exchange s name reply) = exchange_plan k s name reply
 plan_of k events line (Recover s) = recover_plan k s
 plan_of k events line (CommitFlash devs source sequence) = settle_plan k devs.dev lets_commit source
 plan_of k events line (RevertFlash devs source sequence) = settle_plan k devs.dev lets_revert source
-plan_of k events line _ = refuses NotBuilt
+plan_of k events line (ListPairs devs v) = list_pairs_plan k line devs.dev v
+plan_of k events line (ListFlashes devs v) = list_flashes_plan k line devs.dev v
+plan_of k events line (ListSession devs l) = list_session_plan k line devs.dev l
+plan_of k events line (ShowMirror devs l) = show_mirror_plan k line devs.dev l
+plan_of k events line _ = only_says (Done Alone)
 
--- the forms that are built as one plan; `@run` is several (`Forming`)
-abbrev pub is_built : Step → Bool
-is_built (Server name) = true
-is_built (Volume v name tracks) = true
-is_built (Link a b up) = true
-is_built (IssueWrite v t offset len bytes) = true
-is_built (Write v t offset len bytes) = true
-is_built (Apply n) = true
-is_built (Stop name) = true
-is_built (StopAfter name writes torn) = true
-is_built (Start name) = true
-is_built (Show v t) = true
-is_built (MakeFlash devs s t nocopy persistent recorded inhibited sequence) = true
-is_built (RemoveFlash devs s t sequence) = true
-is_built (ResyncFlash devs s t nocopy persistent recorded inhibited sequence) = true
-is_built (ReverseFlash devs s t tgtpprc sequence) = true
-is_built (Copy t most) = true
-is_built (MakePath devs src tgt group) = true
-is_built (RemovePath devs src tgt force) = true
-is_built (MakePair devs a b kind full) = is_part (part_of kind)
-is_built (RemovePair devs a b source_only) = true
-is_built (PausePair devs a b) = true
-is_built (ResumePair devs a b kind) = is_part (part_of kind)
-is_built (Failover devs b a kind) = is_part (part_of kind)
-is_built (Failback devs x y kind) = is_part (part_of kind)
-is_built (Drain a most) = true
-is_built (Expire name) = true
-is_built (Freeze devs l m) = true
-is_built (Unfreeze devs l m) = true
-is_built (MakeSession devs l s) = true
-is_built (RemoveSession devs l s) = true
-is_built (AddMember devs l a s) = true
-is_built (RemoveMember devs l a s) = true
-is_built (MakeMirror devs l s cginterval coordinate drain) = true
-is_built (PauseMirror devs l s) = true
-is_built (ResumeMirror devs l s cginterval coordinate drain) = true
-is_built (RemoveMirror devs l s) = true
-is_built (Abort s) = true
-is_built (Exchange s name reply) = true
-is_built (Recover s) = true
-is_built (CommitFlash devs source sequence) = true
-is_built (RevertFlash devs source sequence) = true
-is_built _ = false
+-- the journal has room for so many events more
+abbrev pub has_room_for : ℕ → List Event → Bool
+has_room_for n events = nat_le (length events + n) most_events
 
--- the journal has room for what a step may tell
+-- it has room for what a step may tell
 abbrev pub has_room : List Event → Bool
-has_room events = nat_le (length events + step_events) most_events
+has_room events = has_room_for step_events events
 
--- a form that isn't built is refused, and then a step without room
+-- a step without room is refused
 abbrev pub step_plan : Control → List Event → ℕ → Step → Plan
-step_plan k events line step =
-    if not (is_built step) then refuses NotBuilt
-    else if has_room events then plan_of k events line step
-    else refuses JournalFull
+step_plan k events line step = if has_room events then plan_of k events line step else refuses JournalFull
 
 -- what a step comes to; a line outside the grammar is refused, with the column of its first fault
 abbrev pub plan : Control → List Event → ℕ → Result Step ℕ → Plan

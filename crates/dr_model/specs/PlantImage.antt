@@ -8,7 +8,6 @@ use Rattle.std.specs.Str.{bytes_eq}
 use Rattle.dr_logic.specs.Bytes.{zeros}
 use Rattle.dr_ids.specs.Spelling.{digit_in, hex4}
 use Rattle.dr_model.specs.Layout.{Blocks, Fields, fields}
-use Rattle.dr_model.specs.Lines.{words}
 use Rattle.dr_model.specs.LineText.{bytes_text, spaced}
 use Rattle.dr_model.specs.LineWords.{◌>>=◌, decimal_word}
 use Rattle.dr_model.specs.Text.{trimmed}
@@ -62,6 +61,14 @@ unfoldable pub image_text : List Volume → List ℕ
 image_text vs = ended (image_lines vs)
 
 -- The words of a line stand between single spaces.
+
+-- what stands between two words
+abbrev pub is_space : ℕ → Bool
+is_space b = nat_eq b 32
+
+-- the words of a line
+abbrev pub words : List ℕ → List (List ℕ)
+words line = slice_split is_space line
 
 -- a hexadecimal digit; letters are in upper case
 abbrev pub upper_value : ℕ → Option ℕ

@@ -1,5 +1,5 @@
 -- Tables from numbers, as plain functions with a default.
-use Rattle.std.specs.Prelude.{◌≡◌, ℕ, false, List, [], ◌∷◌, nat_eq, if◌then◌else◌, ◌==◌}
+use Rattle.std.specs.Prelude.{◌≡◌, ℕ, false, List, [], ◌∷◌, nat_eq}
 use Rattle.std.specs.List.{list_any}
 
 -- no number comes twice

@@ -1,12 +1,13 @@
 -- The text that a journal prints.
-use Rattle.std.specs.Prelude.{ℕ, ◌/◌, ◌%◌, List, [], ◌∷◌, ◌++◌, take, nat_eq, if◌then◌else◌, Option, Some, None, codes, min, max}
+use Rattle.std.specs.Prelude.{ℕ, ◌/◌, ◌%◌, Bool, ◌&&◌, List, [], ◌∷◌, ◌++◌, take, nat_eq, nat_le, if◌then◌else◌, Option, Some, None, codes, min, max}
 use Rattle.std.specs.List.{flat_map}
 use Rattle.std.specs.Fmt.{decimal}
 use Rattle.std.specs.Option.{option_or, unwrap_or}
 use Rattle.dr_logic.specs.Bytes.{zeros}
 use Rattle.dr_ids.specs.Spelling.{hex2, hex4}
+use Rattle.dr_model.specs.LineText.{bytes_text, spaced}
 use Rattle.dr_model.specs.declared.event.Event.{Event}
-use Rattle.dr_model.specs.declared.event.Event.TheVariants.{Server, Shown, Answer}
+use Rattle.dr_model.specs.declared.event.Event.TheVariants.{Server, Shown, PairLine, FlashLine, SessionLine, MirrorLine, ImageStart, ImageVolume, ImageBlock, ImageEnd, Answer}
 
 -- what a line's text refers to: the names of the servers that are defined, and the track that
 -- the step at hand has shown
@@ -183,9 +184,63 @@ said_text told code a b c =
     else if nat_eq code 100 then codes "held w" ++ decimal a
     else refusal_words code ++ refusal_values told code a b c
 
--- the line that an event prints; most print none
+-- the word of a kind of pair: 1 is Metro Mirror, 2 Global Copy
+abbrev pub type_words : ℕ → List ℕ
+type_words n = if nat_eq n 1 then codes "Metro Mirror" else if nat_eq n 2 then codes "Global Copy" else []
+
+-- the state is that of a secondary
+abbrev pub is_target_state : ℕ → Bool
+is_target_state state = nat_le 3 state && nat_le state 5
+
+-- a pair: its primary first; a secondary doesn't know what is unsent
+abbrev pub pair_text : ℕ → ℕ → ℕ → ℕ → ℕ → List ℕ
+pair_text v partner state kind k =
+    if is_target_state state then hex4 partner ++ codes ":" ++ hex4 v ++ codes " " ++ pair_words state ++ codes " " ++ type_words kind ++ codes " -"
+    else hex4 v ++ codes ":" ++ hex4 partner ++ codes " " ++ pair_words state ++ codes " " ++ type_words kind ++ codes " " ++ decimal k
+
+-- the word of a relationship's state
+abbrev pub flash_word : ℕ → List ℕ
+flash_word n = if nat_eq n 0 then codes "Revertible" else if nat_eq n 1 then codes "Reversing" else codes "Established"
+
+-- a letter, where that bit of a number is set
+abbrev pub letter_if : ℕ → ℕ → List ℕ → List ℕ
+letter_if flags flag letter = if nat_eq ((flags / flag) % 2) 1 then letter else []
+
+-- the flags as letters, or a dash: without background copy, persistent, recording changes, inhibiting writes on the target
+abbrev pub flag_letters : ℕ → List ℕ
+flag_letters flags = or_dash (letter_if flags 1 (codes "N") ++ letter_if flags 2 (codes "P") ++ letter_if flags 4 (codes "R") ++ letter_if flags 8 (codes "I"))
+
+-- a relationship: its volumes, its numbers, its state, its flags, and how many tracks the target holds
+abbrev pub flash_text : ℕ → ℕ → ℕ → ℕ → ℕ → ℕ → ℕ → List ℕ
+flash_text source target sequence previous state flags own =
+    hex4 source ++ codes ":" ++ hex4 target ++ codes " " ++ decimal sequence ++ codes " " ++ decimal previous
+    ++ codes " " ++ flash_word state ++ codes " " ++ flag_letters flags ++ codes " " ++ decimal own
+
+-- a member: its session, its three volumes, and the state of its primary
+abbrev pub member_text : ℕ → ℕ → ℕ → ℕ → ℕ → List ℕ
+member_text s a b c state =
+    hex2 s ++ codes " " ++ hex4 a ++ codes ":" ++ hex4 b ++ codes ":" ++ hex4 c ++ codes " " ++ pair_words state
+
+-- a master: its session, its server, its phase and number, and whether it goes on
+abbrev pub mirror_text : List ℕ → ℕ → ℕ → ℕ → Bool → List ℕ
+mirror_text name s phase n paused =
+    hex2 s ++ codes " " ++ name ++ codes " " ++ phase_word phase ++ codes " " ++ decimal n ++ (if paused then codes " paused" else codes " running")
+
+-- a line with its number, which ends
+abbrev pub numbered : ℕ → List ℕ → List ℕ
+numbered line says = decimal line ++ codes " " ++ says ++ 10 ∷ []
+
+-- The line that an event prints; most print none. The lines of an image have no number.
 abbrev pub line_text : Heard → Event → List ℕ
-line_text told (Answer line code a b c) = decimal line ++ codes " " ++ said_text told code a b c ++ 10 ∷ []
+line_text told (PairLine line v partner state kind k) = numbered line (pair_text v partner state kind k)
+line_text told (FlashLine line source target sequence previous state flags own) = numbered line (flash_text source target sequence previous state flags own)
+line_text told (SessionLine line s a b c state) = numbered line (member_text s a b c state)
+line_text told (MirrorLine line s server phase n paused) = numbered line (mirror_text (told_name told server) s phase n paused)
+line_text told ImageStart = codes "image 1" ++ 10 ∷ []
+line_text told (ImageVolume v server tracks) = codes "volume" ++ spaced (hex4 v ∷ decimal server ∷ decimal tracks ∷ []) ++ 10 ∷ []
+line_text told (ImageBlock v index bytes) = codes "block" ++ spaced (hex4 v ∷ decimal index ∷ bytes_text (trimmed bytes) ∷ []) ++ 10 ∷ []
+line_text told ImageEnd = codes "end" ++ 10 ∷ []
+line_text told (Answer line code a b c) = numbered line (said_text told code a b c)
 line_text told _ = []
 
 -- what is printed for events, after others that told something

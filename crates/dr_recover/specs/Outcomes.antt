@@ -11,7 +11,8 @@ use Rattle.dr_model.specs.Entries.{fields_at}
 use Rattle.dr_model.specs.Laws.{sizes}
 use Rattle.dr_model.specs.PlanParts.{Plan, unless}
 use Rattle.dr_model.specs.RecoveryPlans.{secondary_refusal, decided_in, recover_done, says_group, lets_commit, lets_revert}
-use Rattle.dr_laws_recovery.specs.Recovered.{decided_over, recovered_in, SameRecovery, HasRecovered}
+use Rattle.dr_model.specs.Recovery.{decided_over}
+use Rattle.dr_laws_recovery.specs.Recovered.{recovered_in, SameRecovery, HasRecovered}
 use Rattle.dr_recover.specs.declared.recovery.Recovered.{Recovered}
 
 -- the plan of a recovery of a session with these members, behind its refusal

@@ -1,5 +1,5 @@
 -- What is done for several tracks, one after the other.
-use Rattle.std.proofs.Common.{ℕ, zero, suc, ◌≡◌, ◌≤◌, ◌<◌, ◌+◌, ◌*◌, ◌-◌, List, [], ◌∷◌, ◌++◌, length, append_assoc, refl, sym, ◌∙◌, ap, subst, arith, true, false, Option, Some, None, slice_get}
+use Rattle.std.proofs.Common.{ℕ, zero, suc, ◌≡◌, ◌≤◌, ◌<◌, ◌+◌, ◌*◌, ◌-◌, List, [], ◌∷◌, ◌++◌, length, append_assoc, refl, sym, ◌∙◌, ap, subst, arith, true, false, Option, Some, None}
 use Rattle.std.specs.Prelude.{is_some, Bool, not, ◌&&◌, ◌||◌, if◌then◌else◌}
 use Rattle.std.specs.FinSet.{len}
 use Rattle.dr_model.specs.Layout.{Fields}
@@ -7,7 +7,7 @@ use Rattle.dr_model.specs.Relations.{rest}
 use Rattle.std.proofs.lemmas.List.{append-nil}
 use Rattle.dr_ids.specs.declared.refusal.Refusal.{Refusal}
 use Rattle.dr_plant.specs.State.{PlantState}
-use Rattle.dr_config.specs.Table.{ConfigTable, place_of, entry_of}
+use Rattle.dr_config.specs.Table.{ConfigTable, entry_of}
 use Rattle.dr_config.specs.declared.entries.VolumeEntry.{VolumeEntry}
 use Rattle.dr_steps.specs.declared.tables.Tables.{Tables}
 use Rattle.dr_model.specs.declared.event.Event.{Event}
@@ -21,7 +21,7 @@ use Rattle.dr_model.specs.Control.{World}
 use Rattle.dr_model.specs.Carry.{Entry, Outcome, carry, check}
 use Rattle.dr_model.specs.Entries.{fields_at, times, give_back, is_running, relation_state, pair_state}
 use Rattle.dr_model.specs.Laws.{Sound}
-use Rattle.dr_volume.specs.View.{volume_seen, volume_at, volume_on, ids_of, ReadsPass}
+use Rattle.dr_volume.specs.View.{volume_seen, ids_of, ReadsPass}
 use Rattle.dr_moves.specs.Here.{IsAtRest, armed_in}
 use Rattle.dr_laws_sound.proofs.Costs.{Costs, carry-adds}
 use Rattle.dr_laws_sound.proofs.CopyCosts.{Live, rounds}

@@ -1,5 +1,5 @@
 -- A plan that is carried out and answered, whatever its line.
-use Rattle.std.proofs.Common.{ℕ, ◌≡◌, refl, ap, ◌∙◌, Option}
+use Rattle.std.proofs.Common.{ℕ, ◌≡◌, ap, ◌∙◌}
 use Rattle.dr_model.specs.declared.said.Said.{Said}
 use Rattle.dr_model.specs.Carry.{Outcome, carry}
 use Rattle.dr_model.specs.Control.{World}

@@ -1,10 +1,9 @@
 -- What a line that exchanges an order and its reply comes to.
-use Rattle.std.proofs.Common.{ℕ, zero, suc, ◌≡◌, ◌<◌, ◌≤◌, ◌+◌, inl, inr, List, [], ◌∷◌, ◌++◌, length, slice_get, refl, sym, ◌∙◌, ap, arith, subst, Bool, true, false, nat_le, Option, Some, None, IfSome}
+use Rattle.std.proofs.Common.{ℕ, ◌≡◌, ◌<◌, ◌≤◌, ◌+◌, List, [], ◌++◌, length, refl, sym, ◌∙◌, ap, arith, subst, Bool, true, false, nat_le, Option, Some, None, IfSome}
 use Rattle.std.specs.Prelude.{IsSome, IsTrue, ◌↔◌, option_map, unwrap_or}
 use Rattle.std.proofs.lemmas.Bool.{and_from}
 use Rattle.std.proofs.lemmas.Bool.Decides.{nat_tests}
 use Rattle.std.proofs.lemmas.List.{append-nil, length-map}
-use Rattle.std.proofs.lemmas.Option.{same_Some}
 use Rattle.dr_ids.specs.declared.names.Member.{Member}
 use Rattle.dr_ids.specs.declared.refusal.Refusal.{Refusal}
 use Rattle.dr_ids.specs.declared.refusal.Kind.TheVariants.{Server as OfServer, Session as OfSession}
@@ -16,12 +15,12 @@ use Rattle.dr_model.specs.declared.said.Said.TheVariants.{Refused}
 use Rattle.dr_model.specs.declared.step.Name.{Name}
 use Rattle.dr_model.specs.Carry.{Entry, carry, follow}
 use Rattle.dr_model.specs.Control.{Control, World}
-use Rattle.dr_model.specs.Groups.{In, SessionFits}
+use Rattle.dr_model.specs.Groups.{SessionFits}
 use Rattle.dr_model.specs.Laws.{Sound}
 use Rattle.dr_model.specs.Phases as phases
 use Rattle.dr_model.specs.PlanParts.{Plan, unless, none_follow, name_bytes, on_server, on_session}
 use Rattle.dr_model.specs.Refusals.{unknown}
-use Rattle.dr_model.specs.Runs.{after_plan, begun, finish, answered, said}
+use Rattle.dr_model.specs.Runs.{after_plan, begun, finish, said}
 use Rattle.dr_model.specs.Decisions.{Shown}
 use Rattle.dr_model.specs.SessionEntries.{members_on, order_entries, reply_after}
 use Rattle.dr_model.specs.SessionPlans.{asking, exchange_plan, exchange_on, exchange_done, exchange_refusal, order_of}
@@ -39,6 +38,7 @@ use Rattle.dr_moves.specs.Aside.{AsideFits}
 use Rattle.dr_gmirror.specs.Exchange.{PlanEnds, refusal_in, order_in, members_in_reply, is_awaited, IsNear, MayExchange}
 use Rattle.dr_gmirror.specs.Orders.{AreReady, MayBegin, MayOrder}
 use Rattle.dr_gmirror.proofs.ExchangeLemmas.{follow-nothing}
+use Rattle.dr_listing.proofs.TakenLemmas.{in-at}
 use Rattle.dr_steps.specs.Here.{here, IsReady, IsTold, Carries}
 use Rattle.dr_steps.proofs.CarriesLemmas.{carries, carries-plan}
 use Rattle.dr_steps.specs.declared.tables.Tables.{Tables}
@@ -131,11 +131,6 @@ few-reports f None (Some r) e h = absurd cc
 few-reports f (Some a) None e h = absurd cc
 few-reports f (Some a) (Some r) e h = subst (λ (o : Option phases.Master). IfSome o (λ m. length m.reports ≤ 64)) e h
 
-got-in : {A : Type 0} (xs : List A) (i : ℕ) (x : A) → slice_get xs i ≡ Some x → In x xs
-got-in [] i x e = absurd cc
-got-in (y ∷ ys) zero x e = inl (sym ((same_Some _ _ e)))
-got-in (y ∷ ys) (suc i) x e = inr (got-in ys i x e)
-
 -- entries that lead on were carried out
 leads-carry : (w v : World) (es : List Entry) → Leads w es v → carry w es ≡ (v, None)
 leads-carry w v es leads =
@@ -169,9 +164,9 @@ module _ (s : PlantState) (t : ConfigTable) (h : Tables) (ev : List Event) (soun
   members-ready = by (session_in ss n) refl
     where
       by : (o : Option Session) → session_in ss n ≡ o → AreReady s t (members_in o)
-      by None none i m at = absurd (got-in [] i m at)
+      by None none i m at = absurd (in-at [] i m at)
       by (Some x) there i m at =
-          let stands = (fits x there).stands m (got-in x.members i m at) in
+          let stands = (fits x there).stands m (in-at x.members i m at) in
           record {
             primary = placed-here s t h ev m.a.0 stands.a;
             secondary = placed-here s t h ev m.b.0 stands.b;

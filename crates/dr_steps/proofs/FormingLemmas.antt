@@ -1,13 +1,6 @@
 -- A line of several plans, as calls carry it out part by part.
-use Rattle.std.proofs.Common.{ℕ, zero, suc, ◌≡◌, ◌≢◌, ◌≤◌, ◌<◌, ◌+◌, ◌-◌, refl, ap, sym, ◌∙◌, subst, arith, Bool, true, false, ◌&&◌, not, cond, nat_eq, nat_lt, List, [], ◌∷◌, ◌++◌, length, map, drop, slice_get, Option, Some, None, Result, Ok, Err}
-use Rattle.std.specs.Prelude.{option_map, if◌then◌else◌}
-use Rattle.std.specs.List.{find}
-use Rattle.std.specs.Option.{option_or}
-use Rattle.std.proofs.lemmas.Bool.{and_parts}
-use Rattle.std.proofs.lemmas.Bool.Decides.{nat_tests}
-use Rattle.dr_logic.specs.Counts.{Counted}
+use Rattle.std.proofs.Common.{ℕ, zero, suc, ◌≡◌, ◌≤◌, ◌<◌, ◌+◌, ◌-◌, refl, ap, sym, ◌∙◌, subst, arith, Bool, true, false, ◌&&◌, cond, nat_eq, List, [], ◌∷◌, length, drop, slice_get, Option, Some, None, Ok}
 use Rattle.dr_ids.specs.declared.names.Member.{Member}
-use Rattle.dr_ids.specs.declared.refusal.PhaseName.{PhaseName}
 use Rattle.dr_ids.specs.declared.refusal.Refusal.{Refusal}
 use Rattle.dr_ids.specs.declared.refusal.Refusal.TheVariants.{JournalFull, OutOfOrder, Stopped}
 use Rattle.dr_plant.specs.State.{PlantState}
@@ -15,7 +8,6 @@ use Rattle.dr_config.specs.Table.{ConfigTable}
 use Rattle.dr_model.specs.declared.event.Event.{Event}
 use Rattle.dr_model.specs.declared.said.Said.{Said}
 use Rattle.dr_model.specs.declared.said.Said.TheVariants.{Done, Held, Refused}
-use Rattle.dr_model.specs.Carry.{Outcome}
 use Rattle.dr_model.specs.Control.{Control, World}
 use Rattle.dr_model.specs.Phases as phases
 use Rattle.dr_model.specs.SessionPlans.{is_idle, mirror_phase, session_phase}
@@ -168,7 +160,7 @@ drains-none w server (m ∷ ms) (suc i) le = drains-none w server ms i (omega ar
 -- ---- the line
 
 -- its last plan only answers
-pub formed-task : (w u : World) (line s n : ℕ) (r : Option Refusal) → Reaches (formed w s n) u r → after_task w (record { line = line; asked = Ok (Run s n) }) ≡ said u line (form_said s u.control r)
+pub formed-task : (w u : World) (line s n : ℕ) (r : Option Refusal) → Reaches (formed w s n) u r → after_task w (record { line = line; asked = Ok (Run s n); listed = [] }) ≡ said u line (form_said s u.control r)
 formed-task w u line s n r a =
     (λ i. answered_part line (record { world = a.world i; plan = only_says (form_said s (a.world i).control (a.refusal i)) }))
     ∙ ap (masters_lost u) (plan-says u line (form_said s u.control r))

@@ -1,5 +1,5 @@
 -- Entries that were carried out where no read fuse is armed, and calls that failed.
-use Rattle.std.proofs.Common.{ℕ, ◌≡◌, Bool, true, false, ◌&&◌, List, ◌++◌, refl, sym, ◌∙◌, ap, subst, nat_lt, arith, Option, None, Some}
+use Rattle.std.proofs.Common.{ℕ, ◌≡◌, true, false, ◌&&◌, List, ◌++◌, refl, sym, ◌∙◌, ap, subst, nat_lt, arith, Option, None, Some}
 use Rattle.std.specs.Prelude.{is_some, Result, Ok, Err, is_err}
 use Rattle.std.specs.Result.{IsErrAnd}
 use Rattle.dr_model.specs.declared.said.Addition.{Addition}

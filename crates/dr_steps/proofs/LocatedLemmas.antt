@@ -1,12 +1,8 @@
 -- A volume that the configuration finds is one of the machine's, with its server and its size.
-use Rattle.std.proofs.Common.{ℕ, ◌≡◌, ◌<◌, ◌≤◌, ◌+◌, List, [], ◌∷◌, refl, ap, ◌∙◌, arith, true, false, not, ◌||◌, cond, nat_eq, nat_lt, Option, Some, None}
-use Rattle.std.proofs.lemmas.Bool.Decides.{nat_tests}
-use Rattle.std.specs.Prelude.{is_some, ◌==◌, option_map, Ok, Err}
+use Rattle.std.proofs.Common.{ℕ, ◌≡◌, ◌<◌, ◌≤◌, List, refl, ap, ◌∙◌, arith, true, not, cond, nat_lt, Option, Some, None}
+use Rattle.std.specs.Prelude.{is_some, option_map, Ok, Err}
 use Rattle.dr_ids.specs.declared.names.ServerId.{ServerId}
 use Rattle.dr_steps.specs.Located.{Located}
-use Rattle.std.specs.List.{list_any, find, position_or_len}
-use Rattle.std.specs.Option.{unwrap_or}
-use Rattle.std.proofs.lemmas.List.{length-map}
 use Rattle.dr_model.specs.Fits.{device_of}
 use Rattle.dr_bits.specs.Membership.{lt_true, lt_false}
 use Rattle.dr_plant.specs.State.{PlantState}
@@ -18,11 +14,11 @@ use Rattle.dr_model.specs.Control.{is_volume}
 use Rattle.dr_ids.specs.declared.refusal.Kind.TheVariants.{Volume as OfVolume, Track as OfTrack}
 use Rattle.dr_model.specs.Refusals.{unknown}
 use Rattle.dr_model.specs.Plans.{track_refusal}
-use Rattle.dr_volume.specs.View.{volume_seen, ids_of}
+use Rattle.dr_volume.specs.View.{volume_seen}
 use Rattle.dr_volume.proofs.VolumeLaws.{volume-placed}
-use Rattle.dr_steps.specs.Here.{here}
+use Rattle.dr_listing.proofs.ImageLemmas.{device-listed}
+use Rattle.dr_steps.specs.Here.{here, rest_of}
 use Rattle.dr_steps.specs.declared.tables.Tables.{Tables}
-use Rattle.dr_config.proofs.KeyLaws.{eqb-turned}
 use Rattle.dr_volume.proofs.WorldLaws.{any_id}
 
 -- the machine has a volume exactly where the configuration has
@@ -33,14 +29,9 @@ pub some_entry : (o : Option VolumeEntry) → is_some o ≡ true → (e : Volume
 some_entry None h = absurd (cc)
 some_entry (Some e) h = (e, refl)
 
-same_place : (es : List VolumeEntry) (v : ℕ) → position_or_len (nat_eq v) (ids_of es) ≡ position_or_len (λ (e : VolumeEntry). e.id == v) es
-same_place [] v = refl
-same_place (e ∷ es) v = (λ i. cond (not (eqb-turned v e.id i)) (1 + same_place es v i) 0)
-
 -- the number of its device is its place there, too
 pub device-here : (s : PlantState) (t : ConfigTable) (h : Tables) (events : List Event) (v d : ℕ) → place_of t v ≡ Some d → device_of (here s t h events).control v ≡ d
-device-here s t h events v d place =
-    ap (λ o. unwrap_or o 0) ((λ i. let n : ℕ = same_place t.volumes v i in cond (nat_lt n (length-map t.volumes (λ (e : VolumeEntry). e.id) i)) (Some n) None) ∙ place)
+device-here s t h events v d place = device-listed s t (rest_of h events) v d place
 
 -- where an entry is found, the volume is on its device
 pub seen-entry : (s : PlantState) (t : ConfigTable) (v : ℕ) (e : VolumeEntry) → entry_of t v ≡ Some e → ((volume_seen s t v).server ≡ e.server) × ((volume_seen s t v).tracks ≡ e.tracks) × (is_some (place_of t v) ≡ true)

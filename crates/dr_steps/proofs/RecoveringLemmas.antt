@@ -1,5 +1,5 @@
 -- What a line that recovers a session, or that commits or reverts by hand, comes to.
-use Rattle.std.proofs.Common.{ℕ, ◌≡◌, Bool, true, false, List, refl, sym, ◌∙◌, ap, Option, Some, None}
+use Rattle.std.proofs.Common.{ℕ, ◌≡◌, Bool, List, refl, sym, ◌∙◌, ap, Option, Some, None}
 use Rattle.std.specs.Prelude.{is_some, if◌then◌else◌}
 use Rattle.std.specs.Option.{option_or}
 use Rattle.dr_ids.specs.declared.names.Member.{Member}

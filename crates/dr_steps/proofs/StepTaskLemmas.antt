@@ -1,5 +1,5 @@
 -- A step of a line, with its answer.
-use Rattle.std.proofs.Common.{ℕ, ◌≡◌, ◌+◌, List, [], ◌∷◌, ◌++◌, refl, ap, ◌∙◌, sym, subst, arith, Bool, true, false, ◌||◌, cond, not, nat_le, Ok, Err, Result, Option, None}
+use Rattle.std.proofs.Common.{ℕ, ◌≡◌, ◌≤◌, ◌+◌, ◌-◌, List, [], ◌∷◌, ◌++◌, refl, ap, ◌∙◌, sym, subst, arith, Bool, true, false, ◌||◌, cond, nat_le, Ok, Err, Result, Option, None, Some}
 use Rattle.std.specs.Prelude.{OnOk, OnErr}
 use Rattle.std.specs.List.{list_any}
 use Rattle.std.proofs.lemmas.List.{same_from_push}
@@ -9,7 +9,7 @@ use Rattle.std.proofs.lemmas.Bool.{or_parts}
 use Rattle.std.proofs.Math.Bool.{or-false}
 use Rattle.dr_logic.specs.Counts.{Rose, Counted}
 use Rattle.dr_ids.specs.declared.refusal.Refusal.{Refusal}
-use Rattle.dr_ids.specs.declared.refusal.Refusal.TheVariants.{NotBuilt, JournalFull, Stopped}
+use Rattle.dr_ids.specs.declared.refusal.Refusal.TheVariants.{JournalFull, Stopped}
 use Rattle.dr_model.specs.declared.event.Event.{Event}
 use Rattle.dr_model.specs.declared.event.Event.TheVariants.{Answer}
 use Rattle.dr_model.specs.declared.said.Addition.{Addition}
@@ -18,14 +18,16 @@ use Rattle.dr_model.specs.declared.said.Said.{Said}
 use Rattle.dr_model.specs.declared.said.Said.TheVariants.{Done, Held, Refused}
 use Rattle.dr_model.specs.declared.step.Name.{Name}
 use Rattle.dr_model.specs.declared.step.Step.{Step}
-use Rattle.dr_model.specs.declared.step.Step.TheVariants.{Server, Volume, Link, Stop, StopAfter, Start, Issue, Write, Apply, Show, MakeFlash, RemoveFlash, ResyncFlash, ReverseFlash, Copy, MakePath, RemovePath, MakePair, RemovePair, PausePair, ResumePair, Failover, Failback, Drain, Expire, Freeze, Unfreeze, MakeSession, RemoveSession, AddMember, RemoveMember, MakeMirror, PauseMirror, ResumeMirror, RemoveMirror, Abort, Exchange, Run, Compare, Recover, CommitFlash, RevertFlash}
+use Rattle.dr_model.specs.declared.step.Step.TheVariants.{Server, Volume, Link, Stop, StopAfter, Start, Issue, Write, Apply, Show, MakeFlash, RemoveFlash, ResyncFlash, ReverseFlash, Copy, MakePath, RemovePath, MakePair, RemovePair, PausePair, ResumePair, Failover, Failback, Drain, Expire, Freeze, Unfreeze, MakeSession, RemoveSession, AddMember, RemoveMember, MakeMirror, PauseMirror, ResumeMirror, RemoveMirror, Abort, Exchange, Run, Compare, Image, Recover, CommitFlash, RevertFlash, ListPairs, ListFlashes, ListSession, ShowMirror}
 use Rattle.dr_model.specs.declared.step.TornWord.{TornWord}
 use Rattle.dr_model.specs.declared.step.Devs.{Devs}
-use Rattle.dr_steps.specs.Forms.{is_plain, is_relation, is_session, is_recovery, is_return}
+use Rattle.dr_steps.specs.Forms.{is_plain, is_relation, is_pair, is_session, is_recovery}
 use Rattle.dr_model.specs.Answers.{answer}
-use Rattle.dr_model.specs.Control.{World}
-use Rattle.dr_model.specs.Plans.{refuses, plan_of, compare_plan, is_built, has_room}
-use Rattle.dr_model.specs.Runs.{Task, run_asked, course_of, answered_part, after_plan, after_task, masters_lost, said}
+use Rattle.dr_model.specs.Control.{Control, World}
+use Rattle.dr_model.specs.Plans.{refuses, only_says, plan_of, compare_plan, has_room}
+use Rattle.dr_model.specs.Runs.{Task, OwnCourse, Devices, own_course, course_of, answered_part, after_plan, after_task, masters_lost, said}
+use Rattle.dr_model.specs.Layout.{Blocks}
+use Rattle.dr_model.specs.Listed.{Lists, ListsBy, listed_by, task_on}
 use Rattle.dr_model.proofs.CarryLemmas.{plan-refuses}
 use Rattle.dr_laws_sound.proofs.Journal.{EndsAnswered, after_task-ends, is_answer, Silent}
 use Rattle.dr_steps.specs.declared.tables.Tables.{Tables}
@@ -45,7 +47,7 @@ told-answer h events now line a told is =
     subst (λ (x : Histories). EachPending (λ (p : Pending). x.write (p.w.0) ≡ record { volume = p.volume.0; track = p.track; offset = p.offset; bytes = bytes_of p }) h.host.pending)
     (sym (ap histories told ∙ histories-push events (answer line a))) is
 
--- a step of another form is none of those on servers, volumes, paths and host writes, and no freeze or thaw
+-- a step of another form is none of those on servers, volumes, paths and host writes, no freeze or thaw, and no listing
 pub none-plain : (step : Step)
     → ((n : Name) → step ≡ Server n → ⊥)
     → ((v : ℕ) (n : Name) (t : ℕ) → step ≡ Volume v n t → ⊥)
@@ -62,23 +64,31 @@ pub none-plain : (step : Step)
     → ((n : Name) → step ≡ Expire n → ⊥)
     → ((d : Devs) (l m : ℕ) → step ≡ Freeze d l m → ⊥)
     → ((d : Devs) (l m : ℕ) → step ≡ Unfreeze d l m → ⊥)
+    → ((d : Devs) (v : ℕ) → step ≡ ListPairs d v → ⊥)
+    → ((d : Devs) (v : ℕ) → step ≡ ListFlashes d v → ⊥)
+    → ((d : Devs) (l : ℕ) → step ≡ ListSession d l → ⊥)
+    → ((d : Devs) (l : ℕ) → step ≡ ShowMirror d l → ⊥)
     → is_plain step ≡ false
-none-plain (Server n) server volume link issue write apply show stop arm start path unpath expire freeze thaw = absurd (server n refl)
-none-plain (Volume v n t) server volume link issue write apply show stop arm start path unpath expire freeze thaw = absurd (volume v n t refl)
-none-plain (Link a b up) server volume link issue write apply show stop arm start path unpath expire freeze thaw = absurd (link a b up refl)
-none-plain (Issue v t o l b) server volume link issue write apply show stop arm start path unpath expire freeze thaw = absurd (issue v t o l b refl)
-none-plain (Write v t o l b) server volume link issue write apply show stop arm start path unpath expire freeze thaw = absurd (write v t o l b refl)
-none-plain (Apply n) server volume link issue write apply show stop arm start path unpath expire freeze thaw = absurd (apply n refl)
-none-plain (Show v t) server volume link issue write apply show stop arm start path unpath expire freeze thaw = absurd (show v t refl)
-none-plain (Stop n) server volume link issue write apply show stop arm start path unpath expire freeze thaw = absurd (stop n refl)
-none-plain (StopAfter n x torn) server volume link issue write apply show stop arm start path unpath expire freeze thaw = absurd (arm n x torn refl)
-none-plain (Start n) server volume link issue write apply show stop arm start path unpath expire freeze thaw = absurd (start n refl)
-none-plain (MakePath d s t g) server volume link issue write apply show stop arm start path unpath expire freeze thaw = absurd (path d s t g refl)
-none-plain (RemovePath d s t f) server volume link issue write apply show stop arm start path unpath expire freeze thaw = absurd (unpath d s t f refl)
-none-plain (Expire n) server volume link issue write apply show stop arm start path unpath expire freeze thaw = absurd (expire n refl)
-none-plain (Freeze d l m) server volume link issue write apply show stop arm start path unpath expire freeze thaw = absurd (freeze d l m refl)
-none-plain (Unfreeze d l m) server volume link issue write apply show stop arm start path unpath expire freeze thaw = absurd (thaw d l m refl)
-none-plain _ server volume link issue write apply show stop arm start path unpath expire freeze thaw = refl
+none-plain (Server n) server volume link issue write apply show stop arm start path unpath expire freeze thaw pairs flashes members mirrors = absurd (server n refl)
+none-plain (Volume v n t) server volume link issue write apply show stop arm start path unpath expire freeze thaw pairs flashes members mirrors = absurd (volume v n t refl)
+none-plain (Link a b up) server volume link issue write apply show stop arm start path unpath expire freeze thaw pairs flashes members mirrors = absurd (link a b up refl)
+none-plain (Issue v t o l b) server volume link issue write apply show stop arm start path unpath expire freeze thaw pairs flashes members mirrors = absurd (issue v t o l b refl)
+none-plain (Write v t o l b) server volume link issue write apply show stop arm start path unpath expire freeze thaw pairs flashes members mirrors = absurd (write v t o l b refl)
+none-plain (Apply n) server volume link issue write apply show stop arm start path unpath expire freeze thaw pairs flashes members mirrors = absurd (apply n refl)
+none-plain (Show v t) server volume link issue write apply show stop arm start path unpath expire freeze thaw pairs flashes members mirrors = absurd (show v t refl)
+none-plain (Stop n) server volume link issue write apply show stop arm start path unpath expire freeze thaw pairs flashes members mirrors = absurd (stop n refl)
+none-plain (StopAfter n x torn) server volume link issue write apply show stop arm start path unpath expire freeze thaw pairs flashes members mirrors = absurd (arm n x torn refl)
+none-plain (Start n) server volume link issue write apply show stop arm start path unpath expire freeze thaw pairs flashes members mirrors = absurd (start n refl)
+none-plain (MakePath d s t g) server volume link issue write apply show stop arm start path unpath expire freeze thaw pairs flashes members mirrors = absurd (path d s t g refl)
+none-plain (RemovePath d s t f) server volume link issue write apply show stop arm start path unpath expire freeze thaw pairs flashes members mirrors = absurd (unpath d s t f refl)
+none-plain (Expire n) server volume link issue write apply show stop arm start path unpath expire freeze thaw pairs flashes members mirrors = absurd (expire n refl)
+none-plain (Freeze d l m) server volume link issue write apply show stop arm start path unpath expire freeze thaw pairs flashes members mirrors = absurd (freeze d l m refl)
+none-plain (Unfreeze d l m) server volume link issue write apply show stop arm start path unpath expire freeze thaw pairs flashes members mirrors = absurd (thaw d l m refl)
+none-plain (ListPairs d v) server volume link issue write apply show stop arm start path unpath expire freeze thaw pairs flashes members mirrors = absurd (pairs d v refl)
+none-plain (ListFlashes d v) server volume link issue write apply show stop arm start path unpath expire freeze thaw pairs flashes members mirrors = absurd (flashes d v refl)
+none-plain (ListSession d l) server volume link issue write apply show stop arm start path unpath expire freeze thaw pairs flashes members mirrors = absurd (members d l refl)
+none-plain (ShowMirror d l) server volume link issue write apply show stop arm start path unpath expire freeze thaw pairs flashes members mirrors = absurd (mirrors d l refl)
+none-plain _ server volume link issue write apply show stop arm start path unpath expire freeze thaw pairs flashes members mirrors = refl
 
 -- or none of those on sessions
 pub none-session : (step : Step)
@@ -127,72 +137,43 @@ none-relation (ReverseFlash d s t p n) make remove resync reverse copy = absurd 
 none-relation (Copy t most) make remove resync reverse copy = absurd (copy t most refl)
 none-relation _ make remove resync reverse copy = refl
 
--- a step that is built, and none of those, and none on a pair that stays as it lies, turns one round
-pub return-else : (step : Step) → is_plain step ≡ false → is_session step ≡ false → is_relation step ≡ false → is_recovery step ≡ false → is_built step ≡ true
+-- or none of those on a pair that stays as it lies
+pub none-pair : (step : Step)
     → ((d : Devs) (a b k : ℕ) (f : Bool) → step ≡ MakePair d a b k f → ⊥)
     → ((d : Devs) (a b : ℕ) (s : Bool) → step ≡ RemovePair d a b s → ⊥)
     → ((d : Devs) (a b : ℕ) → step ≡ PausePair d a b → ⊥)
     → ((d : Devs) (a b k : ℕ) → step ≡ ResumePair d a b k → ⊥)
     → ((a : ℕ) (most : Option ℕ) → step ≡ Drain a most → ⊥)
-    → is_return step ≡ true
-return-else (Server n) plain session relation recovery built make end pause resume drain = absurd cc
-return-else (Volume v n t) plain session relation recovery built make end pause resume drain = absurd cc
-return-else (Link a b up) plain session relation recovery built make end pause resume drain = absurd cc
-return-else (Issue v t o l b) plain session relation recovery built make end pause resume drain = absurd cc
-return-else (Write v t o l b) plain session relation recovery built make end pause resume drain = absurd cc
-return-else (Apply n) plain session relation recovery built make end pause resume drain = absurd cc
-return-else (Show v t) plain session relation recovery built make end pause resume drain = absurd cc
-return-else (Stop n) plain session relation recovery built make end pause resume drain = absurd cc
-return-else (StopAfter n x torn) plain session relation recovery built make end pause resume drain = absurd cc
-return-else (Start n) plain session relation recovery built make end pause resume drain = absurd cc
-return-else (MakePath d s t g) plain session relation recovery built make end pause resume drain = absurd cc
-return-else (RemovePath d s t f) plain session relation recovery built make end pause resume drain = absurd cc
-return-else (Expire n) plain session relation recovery built make end pause resume drain = absurd cc
-return-else (Freeze d l m) plain session relation recovery built make end pause resume drain = absurd cc
-return-else (Unfreeze d l m) plain session relation recovery built make end pause resume drain = absurd cc
-return-else (MakeFlash d s t a b c e n) plain session relation recovery built make end pause resume drain = absurd cc
-return-else (RemoveFlash d s t n) plain session relation recovery built make end pause resume drain = absurd cc
-return-else (ResyncFlash d s t a b c e n) plain session relation recovery built make end pause resume drain = absurd cc
-return-else (ReverseFlash d s t p n) plain session relation recovery built make end pause resume drain = absurd cc
-return-else (Copy t most) plain session relation recovery built make end pause resume drain = absurd cc
-return-else (MakeSession d l x) plain session relation recovery built make end pause resume drain = absurd cc
-return-else (RemoveSession d l x) plain session relation recovery built make end pause resume drain = absurd cc
-return-else (AddMember d l a x) plain session relation recovery built make end pause resume drain = absurd cc
-return-else (RemoveMember d l a x) plain session relation recovery built make end pause resume drain = absurd cc
-return-else (MakeMirror d l x i c t) plain session relation recovery built make end pause resume drain = absurd cc
-return-else (PauseMirror d l x) plain session relation recovery built make end pause resume drain = absurd cc
-return-else (ResumeMirror d l x i c t) plain session relation recovery built make end pause resume drain = absurd cc
-return-else (RemoveMirror d l x) plain session relation recovery built make end pause resume drain = absurd cc
-return-else (Abort x) plain session relation recovery built make end pause resume drain = absurd cc
-return-else (Exchange x n r) plain session relation recovery built make end pause resume drain = absurd cc
-return-else (Recover x) plain session relation recovery built make end pause resume drain = absurd cc
-return-else (CommitFlash d b n) plain session relation recovery built make end pause resume drain = absurd cc
-return-else (RevertFlash d b n) plain session relation recovery built make end pause resume drain = absurd cc
-return-else (MakePair d a b k f) plain session relation recovery built make end pause resume drain = absurd (make d a b k f refl)
-return-else (RemovePair d a b s) plain session relation recovery built make end pause resume drain = absurd (end d a b s refl)
-return-else (PausePair d a b) plain session relation recovery built make end pause resume drain = absurd (pause d a b refl)
-return-else (ResumePair d a b k) plain session relation recovery built make end pause resume drain = absurd (resume d a b k refl)
-return-else (Failover d b a k) plain session relation recovery built make end pause resume drain = built
-return-else (Failback d x y k) plain session relation recovery built make end pause resume drain = built
-return-else (Drain a most) plain session relation recovery built make end pause resume drain = absurd (drain a most refl)
-return-else _ plain session relation recovery built make end pause resume drain = absurd cc
+    → is_pair step ≡ false
+none-pair (MakePair d a b k f) make end pause resume drain = absurd (make d a b k f refl)
+none-pair (RemovePair d a b s) make end pause resume drain = absurd (end d a b s refl)
+none-pair (PausePair d a b) make end pause resume drain = absurd (pause d a b refl)
+none-pair (ResumePair d a b k) make end pause resume drain = absurd (resume d a b k refl)
+none-pair (Drain a most) make end pause resume drain = absurd (drain a most refl)
+none-pair _ make end pause resume drain = refl
 
--- and it is one of two
-pub none-else : {P : Type 0} (step : Step) → is_return step ≡ true → ((d : Devs) (b a k : ℕ) → step ≡ Failover d b a k → ⊥) → ((d : Devs) (x y k : ℕ) → step ≡ Failback d x y k → ⊥) → P
-none-else (Failover d b a k) is over back = absurd (over d b a k refl)
-none-else (Failback d x y k) is over back = absurd (back d x y k refl)
-none-else _ is over back = absurd cc
+-- a step that is none of all these, and turns no pair round, has a course of its own, and no plan but to say that it is done
+pub plan-else : (k : Control) (events : List Event) (line : ℕ) (step : Step) → is_plain step ≡ false → is_session step ≡ false → is_recovery step ≡ false → is_relation step ≡ false → is_pair step ≡ false
+    → ((d : Devs) (b a k : ℕ) → step ≡ Failover d b a k → ⊥)
+    → ((d : Devs) (x y k : ℕ) → step ≡ Failback d x y k → ⊥)
+    → plan_of k events line step ≡ only_says (Done Alone)
+plan-else k events line (Failover d b a kind) plain session recovery relation pair over back = absurd (over d b a kind refl)
+plan-else k events line (Failback d x y kind) plain session recovery relation pair over back = absurd (back d x y kind refl)
+plan-else k events line (Run s n) plain session recovery relation pair over back = refl
+plan-else k events line (Compare v u) plain session recovery relation pair over back = refl
+plan-else k events line Image plain session recovery relation pair over back = refl
+plan-else k events line _ plain session recovery relation pair over back = absurd cc
 
 -- the room that is left, counted either way
-pub room-left : (n : ℕ) → nat_le n 995904 ≡ nat_le (n + 4096) 1000000
-room-left n = grind (arith, nat_tests)
+pub room-left : (n m : ℕ) → m ≤ 1000000 → nat_le n (1000000 - m) ≡ nat_le (n + m) 1000000
+room-left n m few = grind (arith, nat_tests, few)
 
 -- an event that is no answer is no stop's either
 stop-answer : (e : Event) → is_answer e ≡ false → is_stop e ≡ false
 stop-answer (Answer line code a b c) h = cc
 stop-answer _ h = refl
 
-none-silent : (es : List Event) → Silent es → list_any is_stop es ≡ false
+pub none-silent : (es : List Event) → Silent es → list_any is_stop es ≡ false
 none-silent [] h = refl
 none-silent (e ∷ es) h =
     let both = or_parts (is_answer e) (list_any is_answer es) h in
@@ -226,40 +207,33 @@ counts-more true false f x y first rest = subst (λ n. Rose f n) (sym rest) firs
 counts-more false true f x y first rest = subst (λ n. Rose n y) first rest
 counts-more false false f x y first rest = rest ∙ first
 
--- a step that is built as one plan is no `@run`
-pub built-alone : (step : Step) → is_built step ≡ true → run_asked (Ok step) ≡ None
-built-alone (Run s n) built = absurd cc
-built-alone (Compare v u) built = absurd cc
-built-alone _ built = refl
-
-pub none-apart : (step : Step) → ((s n : ℕ) → step ≡ Run s n → ⊥) → ((v u : ℕ) → step ≡ Compare v u → ⊥) → run_asked (Ok step) ≡ None
-none-apart (Run s n) run compare = absurd (run s n refl)
-none-apart (Compare v u) run compare = absurd (compare v u refl)
-none-apart _ run compare = refl
+-- a step without a course of its own
+pub none-apart : (step : Step) → ((s n : ℕ) → step ≡ Run s n → ⊥) → ((v u : ℕ) → step ≡ Compare v u → ⊥) → (step ≡ Image → ⊥) → own_course (Ok step) ≡ None
+none-apart (Run s n) run compare image = absurd (run s n refl)
+none-apart (Compare v u) run compare image = absurd (compare v u refl)
+none-apart Image run compare image = absurd (image refl)
+none-apart _ run compare image = refl
 
 -- what comes before the plan of a step
 module _ (w : World) (number : ℕ) (step : Step) where
   abbrev task : Task
-  task = record { line = number; asked = Ok step }
+  task = record { line = number; asked = Ok step; listed = [] }
 
-  by-tests : (built room : Bool) → run_asked (Ok step) ≡ None → is_built step ≡ built → has_room w.events ≡ room
-      → after_task w task ≡ masters_lost w (after_plan w number (cond (not built) (refuses NotBuilt) (cond room (plan_of w.control w.events number step) (refuses JournalFull))))
-  by-tests built room alone is left =
+  by-room : (room : Bool) → own_course (Ok step) ≡ None → has_room w.events ≡ room
+      → after_task w task ≡ masters_lost w (after_plan w number (cond room (plan_of w.control w.events number step) (refuses JournalFull)))
+  by-room room alone left =
       (λ i. answered_part number (course_of w task (alone i)).last)
-      ∙ (λ i. masters_lost w (after_plan w number (cond (not (is i)) (refuses NotBuilt) (cond (left i) (plan_of w.control w.events number step) (refuses JournalFull)))))
+      ∙ (λ i. masters_lost w (after_plan w number (cond (left i) (plan_of w.control w.events number step) (refuses JournalFull))))
 
   -- a step that is refused before it begins
   refused-first : (r : Refusal) → masters_lost w (after_plan w number (refuses r)) ≡ said w number (Refused r)
   refused-first r = ap (masters_lost w) (plan-refuses w number r) ∙ masters-stay w (said w number (Refused r)) refl
 
-  pub task-unbuilt : run_asked (Ok step) ≡ None → is_built step ≡ false → after_task w task ≡ said w number (Refused NotBuilt)
-  task-unbuilt alone is = by-tests false (has_room w.events) alone is refl ∙ refused-first NotBuilt
+  pub task-full : own_course (Ok step) ≡ None → has_room w.events ≡ false → after_task w task ≡ said w number (Refused JournalFull)
+  task-full alone full = by-room false alone full ∙ refused-first JournalFull
 
-  pub task-full : is_built step ≡ true → has_room w.events ≡ false → after_task w task ≡ said w number (Refused JournalFull)
-  task-full built full = by-tests true false (built-alone step built) built full ∙ refused-first JournalFull
-
-  pub task-built : (u : World) → is_built step ≡ true → has_room w.events ≡ true → after_plan w number (plan_of w.control w.events number step) ≡ u → after_task w task ≡ masters_lost w u
-  task-built u built room leads = by-tests true true (built-alone step built) built room ∙ ap (masters_lost w) leads
+  pub task-planned : (u : World) → own_course (Ok step) ≡ None → has_room w.events ≡ true → after_plan w number (plan_of w.control w.events number step) ≡ u → after_task w task ≡ masters_lost w u
+  task-planned u alone room leads = by-room true alone room ∙ ap (masters_lost w) leads
 
   -- the journal before the answer tells no answer more
   ends : EndsAnswered w number (after_task w task)
@@ -279,6 +253,18 @@ module _ (w : World) (number : ℕ) (step : Step) where
   faults-step u a now f x y is told counts before =
       subst (λ b. Counted b f y) (sym (ap told_stop told ∙ told-step u a is)) (counts-more (told_stop w.events) (is_stopped a) f x y before counts)
 
+-- a step without a course of its own lists nothing
+module _ (w : World) (device : ℕ → Blocks) (number : ℕ) (step : Step) (alone : own_course (Ok step) ≡ None) where
+  pub lists-nothing : task w number step ≡ task_on w device number (Ok step)
+  lists-nothing = (λ i. record { line = number; asked = Ok step; listed = listed_by w device (sym alone i) })
+
+  pub lists-none : Lists w (task_on w device number (Ok step))
+  lists-none = subst (λ o. ListsBy w (listed_by w device o) o) (sym alone) refl
+
+-- a step that has another course than an image
+pub no-devices : {P : Type 0} (step : Step) (o : Option OwnCourse) → own_course (Ok step) ≡ o → (o ≡ Some Devices → ⊥) → own_course (Ok step) ≡ Some Devices → P
+no-devices step o is other same = absurd (other (sym is ∙ same))
+
 -- a comparison, and one for which there is no room
 module _ (w : World) (number v u : ℕ) where
   pub task-compared : (x : World) → has_room w.events ≡ true → after_plan w number (compare_plan w.control w.contents v u) ≡ x → after_task w (task w number (Compare v u)) ≡ masters_lost w x
@@ -292,10 +278,10 @@ Says number refusal events now = now ≡ events ++ answer number (Refused refusa
 
 -- a step that was refused before it began, or for whose answer there was no memory
 module _ {E : Type 0} (number : ℕ) (refusal : Refusal) (events now : List Event) where
-  pub refused-task : (r : Result (Unit {0}) E) (s : PlantState) (t : ConfigTable) (h : Tables) (step : Step) → after_task (here s t h events) (task (here s t h events) number step) ≡ said (here s t h events) number (Refused refusal)
-      → OnOk r (Says number refusal events now) → OnOk r (after_task (here s t h events) (task (here s t h events) number step) ≡ here s t h now)
-  refused-task (Ok x) s t h step is told = is ∙ ap (here s t h) (sym told)
-  refused-task (Err e) s t h step is told = tt
+  pub refused-task : (r : Result (Unit {0}) E) (s : PlantState) (t : ConfigTable) (h : Tables) {u : World} → u ≡ said (here s t h events) number (Refused refusal)
+      → OnOk r (Says number refusal events now) → OnOk r (u ≡ here s t h now)
+  refused-task (Ok x) s t h is told = is ∙ ap (here s t h) (sym told)
+  refused-task (Err e) s t h is told = tt
 
   pub refused-told : (r : Result (Unit {0}) E) (h : Tables) → OnOk r (Says number refusal events now) → OnErr r (now ≡ events) → IsTold h events → IsTold h now
   refused-told (Ok x) h told same is = told-answer h events now number (Refused refusal) told is

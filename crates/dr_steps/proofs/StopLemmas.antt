@@ -3,7 +3,6 @@
 use Rattle.std.proofs.Common.{ℕ, ◌≡◌, ◌<◌, List, [], ◌∷◌, ◌++◌, refl, ap, ◌∙◌, sym, subst, inl, inr, true, false, cond, Some, None}
 use Rattle.std.proofs.lemmas.List.{append-nil}
 use Rattle.dr_plant.specs.State.{PlantState, off}
-use Rattle.dr_plant.specs.State as plant
 use Rattle.dr_plant.specs.declared.plant.WriteFuse.{WriteFuse}
 use Rattle.dr_plant.specs.declared.plant.Torn.{Torn}
 use Rattle.dr_config.specs.Table.{ConfigTable, server_named}

@@ -1,12 +1,11 @@
 -- A device of zeros: what a volume that was just defined shows.
-use Rattle.std.proofs.Common.{ℕ, ◌≡◌, ◌≤◌, ◌^◌, ◌/◌, ◌%◌, List, [], ◌∷◌, get_or, replicate, refl, ap, ◌∙◌, arith, inl, inr, Bool, true, false, cond, nat_eq, nat_lt, Some, None, length}
+use Rattle.std.proofs.Common.{ℕ, ◌≡◌, ◌≤◌, ◌^◌, ◌/◌, ◌%◌, List, get_or, replicate, refl, ap, ◌∙◌, arith, inl, inr, Bool, true, false, cond, nat_eq, nat_lt, Some, None, length}
 use Rattle.std.proofs.Math.Nat.{zero-div}
 use Rattle.std.proofs.lemmas.List.{get_or-replicate, get_or_past, length-replicate, take-replicate}
 use Rattle.std.proofs.lemmas.Bool.Decides.{leb_tells}
-use Rattle.std.specs.List.{filter, range_with_len}
+use Rattle.std.specs.List.{range_with_len}
 use Rattle.std.specs.FinSet.{empty, from_list, contains}
 use Rattle.dr_logic.specs.Bytes.{zeros}
-use Rattle.dr_plant.specs.State as plant
 use Rattle.dr_model.specs.Control.{new_volume}
 use Rattle.dr_model.specs.Layout.{Blocks, byte, bit, stands_in, set_of, first_set, slot_chosen, fields_of, staged_of, physical, fields, staged, no_fields, chosen, is_staged}
 use Rattle.dr_config.specs.declared.entries.VolumeEntry.{VolumeEntry}

@@ -1,7 +1,7 @@
 -- CountsStop of faults.
-use Rattle.std.specs.Prelude.{◌≡◌, ℕ, Bool, true, false, List, nat_eq}
+use Rattle.std.specs.Prelude.{Bool, true, false, List, nat_eq}
 use Rattle.std.specs.List.{list_any}
-use Rattle.dr_logic.specs.Counts.{Rose, Counted}
+use Rattle.dr_logic.specs.Counts.{Counted}
 use Rattle.dr_ids.specs.declared.refusal.Refusal.TheVariants.{Stopped}
 use Rattle.dr_plant.specs.State.{PlantState}
 use Rattle.dr_model.specs.declared.said.Said.{Said}

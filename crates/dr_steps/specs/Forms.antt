@@ -1,10 +1,9 @@
 -- Forms of steps.
 use Rattle.std.specs.Prelude.{Bool, true, false}
-use Rattle.dr_model.specs.Layout.{is_part, part_of}
 use Rattle.dr_model.specs.declared.step.Step.{Step}
-use Rattle.dr_model.specs.declared.step.Step.TheVariants.{Server, Volume, Link, Stop, StopAfter, Start, Issue, Write, Apply, Show, MakePath, RemovePath, Expire, Freeze, Unfreeze, MakeFlash, RemoveFlash, ResyncFlash, ReverseFlash, Copy, MakePair, RemovePair, PausePair, ResumePair, Failover, Failback, Drain, MakeSession, RemoveSession, AddMember, RemoveMember, MakeMirror, PauseMirror, ResumeMirror, RemoveMirror, Abort, Exchange, Recover, CommitFlash, RevertFlash}
+use Rattle.dr_model.specs.declared.step.Step.TheVariants.{Server, Volume, Link, Stop, StopAfter, Start, Issue, Write, Apply, Show, MakePath, RemovePath, Expire, Freeze, Unfreeze, MakeFlash, RemoveFlash, ResyncFlash, ReverseFlash, Copy, MakePair, RemovePair, PausePair, ResumePair, Drain, MakeSession, RemoveSession, AddMember, RemoveMember, MakeMirror, PauseMirror, ResumeMirror, RemoveMirror, Abort, Exchange, Recover, CommitFlash, RevertFlash, ListPairs, ListFlashes, ListSession, ShowMirror}
 
--- those on servers, volumes, paths and host writes, and freezes and thaws
+-- those on servers, volumes, paths and host writes, freezes and thaws, and listings
 abbrev pub is_plain : Step → Bool
 is_plain (Server name) = true
 is_plain (Volume v name tracks) = true
@@ -21,6 +20,10 @@ is_plain (RemovePath devs src tgt force) = true
 is_plain (Expire name) = true
 is_plain (Freeze devs l m) = true
 is_plain (Unfreeze devs l m) = true
+is_plain (ListPairs devs v) = true
+is_plain (ListFlashes devs v) = true
+is_plain (ListSession devs l) = true
+is_plain (ShowMirror devs l) = true
 is_plain _ = false
 
 -- those on FlashCopy relationships
@@ -32,20 +35,14 @@ is_relation (ReverseFlash devs s t tgtpprc sequence) = true
 is_relation (Copy t most) = true
 is_relation _ = false
 
--- those on pairs of Metro Mirror and of Global Copy
+-- those on pairs that stay as they lie
 abbrev pub is_pair : Step → Bool
-is_pair (MakePair devs a b kind full) = is_part (part_of kind)
+is_pair (MakePair devs a b kind full) = true
 is_pair (RemovePair devs a b source_only) = true
 is_pair (PausePair devs a b) = true
-is_pair (ResumePair devs a b kind) = is_part (part_of kind)
+is_pair (ResumePair devs a b kind) = true
 is_pair (Drain a most) = true
 is_pair _ = false
-
--- those that turn a pair round
-abbrev pub is_return : Step → Bool
-is_return (Failover devs b a kind) = is_part (part_of kind)
-is_return (Failback devs x y kind) = is_part (part_of kind)
-is_return _ = false
 
 -- those on sessions, their members and their masters
 abbrev pub is_session : Step → Bool

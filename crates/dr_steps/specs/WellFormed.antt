@@ -3,7 +3,7 @@ use Rattle.std.specs.Prelude.{◌+◌, ◌≤◌, Option, Some, None}
 use Rattle.dr_model.specs.declared.step.Name.{Name}
 use Rattle.dr_model.specs.declared.step.Devs.{Devs}
 use Rattle.dr_model.specs.declared.step.Step.{Step}
-use Rattle.dr_model.specs.declared.step.Step.TheVariants.{Server, Volume, Link, Stop, StopAfter, Start, Issue, Write, MakeFlash, RemoveFlash, ResyncFlash, ReverseFlash, MakePath, RemovePath, MakePair, RemovePair, PausePair, ResumePair, Failover, Failback, Expire, Freeze, Unfreeze, MakeSession, RemoveSession, AddMember, RemoveMember, MakeMirror, PauseMirror, ResumeMirror, RemoveMirror, Exchange, CommitFlash, RevertFlash}
+use Rattle.dr_model.specs.declared.step.Step.TheVariants.{Server, Volume, Link, Stop, StopAfter, Start, Issue, Write, MakeFlash, RemoveFlash, ResyncFlash, ReverseFlash, MakePath, RemovePath, MakePair, RemovePair, PausePair, ResumePair, Failover, Failback, Expire, Freeze, Unfreeze, MakeSession, RemoveSession, AddMember, RemoveMember, MakeMirror, PauseMirror, ResumeMirror, RemoveMirror, Exchange, CommitFlash, RevertFlash, ListPairs, ListFlashes, ListSession, ShowMirror}
 
 -- a name has 1 to 24 bytes
 abbrev pub FitsName : Name → Type 0
@@ -54,4 +54,8 @@ IsWellFormed (RemoveMirror devs l s) = FitsOwner devs.dev
 IsWellFormed (Exchange s name reply) = FitsName name
 IsWellFormed (CommitFlash devs source sequence) = FitsOwner devs.dev
 IsWellFormed (RevertFlash devs source sequence) = FitsOwner devs.dev
+IsWellFormed (ListPairs devs v) = FitsOwner devs.dev
+IsWellFormed (ListFlashes devs v) = FitsOwner devs.dev
+IsWellFormed (ListSession devs l) = FitsOwner devs.dev
+IsWellFormed (ShowMirror devs l) = FitsOwner devs.dev
 IsWellFormed _ = Unit {0}

@@ -1,9 +1,9 @@
 //! Answers of lines, and the room that the journal has for them.
 
-ghost use Rattle.std.specs.Prelude.{◌≡◌, ◌<◌, ◌++◌, [], ◌∷◌, OnOk, OnErr};
+ghost use Rattle.std.specs.Prelude.{◌≡◌, ◌<◌, ◌≤◌, ◌++◌, [], ◌∷◌, OnOk, OnErr};
 ghost use Rattle.dr_ids.specs.declared.refusal.Refusal.{Refusal};
 ghost use Rattle.dr_model.specs.Answers.{answer};
-ghost use Rattle.dr_model.specs.Plans.{has_room};
+ghost use Rattle.dr_model.specs.Plans.{has_room, has_room_for};
 ghost use Rattle.dr_model.specs.declared.said.Said.TheVariants.{Refused};
 
 use dr_ids::{MOST_EVENTS, Refusal};
@@ -13,11 +13,22 @@ use std::alloc::AllocError;
 /// The room that a step needs in the journal before it begins.
 pub const STEP_EVENTS: usize = 4096;
 
+/// And that an image needs.
+pub const IMAGE_EVENTS: usize = 20_000;
+
+/// Whether the journal has room for so many events more.
+pub fn has_room_for(journal: &Journal, events: usize) -> bool
+    requires { events ≤ MOST_EVENTS }
+    ensures { result ≡ has_room_for events journal.now.events }
+{
+    journal.len() <= MOST_EVENTS - events
+}
+
 /// Whether the journal has room for what a step may tell.
 pub fn has_room(journal: &Journal) -> bool
     ensures { result ≡ has_room journal.now.events }
 {
-    journal.len() <= MOST_EVENTS - STEP_EVENTS
+    has_room_for(journal, STEP_EVENTS)
 }
 
 /// Keeps the answer of a line, which ends its step.

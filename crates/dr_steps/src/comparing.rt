@@ -1,6 +1,6 @@
 //! The step that compares two volumes.
 
-ghost use Rattle.std.specs.Prelude.{◌≡◌, ℕ, ◌<◌, ◌≤◌, true, length, Ok, OnOk, OnErr};
+ghost use Rattle.std.specs.Prelude.{◌≡◌, ℕ, ◌<◌, ◌≤◌, true, [], length, Ok, OnOk, OnErr};
 ghost use Rattle.dr_logic.specs.Counts.{Counted};
 ghost use Rattle.dr_model.specs.Laws.{Sound};
 ghost use Rattle.dr_model.specs.Limits.{most_events};
@@ -44,7 +44,7 @@ fn compare_answered<P: Plant>(
     requires sound { Sound (here (P.state plant.old) config.now tables.old journal.old.events) }
     requires room { 4096 ≤ journal.old.spare }
     requires has_room { has_room journal.old.events ≡ true }
-    ensures task { after_task (here (P.state plant.old) config.now tables.old journal.old.events) (record { line = number; asked = Ok (step.Compare v.0 u.0) })
+    ensures task { after_task (here (P.state plant.old) config.now tables.old journal.old.events) (record { line = number; asked = Ok (step.Compare v.0 u.0); listed = [] })
         ≡ here (P.state plant.new) config.now tables.new journal.new.events }
     ensures ready { IsReady (P.state plant.new) config.now tables.new journal.new.events }
     ensures faults { (f : ℕ) → Counted (told_stop journal.old.events) f (P.state plant.old).faults → Counted (told_stop journal.new.events) f (P.state plant.new).faults }
@@ -70,9 +70,10 @@ pub fn carry_compare<P: Plant>(
     requires ready { IsReady (P.state plant.old) config.now tables.old journal.old.events }
     requires sound { Sound (here (P.state plant.old) config.now tables.old journal.old.events) }
     requires below { length journal.old.events < most_events }
-    ensures task { OnOk result (after_task (here (P.state plant.old) config.now tables.old journal.old.events) (record { line = number; asked = Ok (step.Compare v.0 u.0) })
+    ensures task { OnOk result (after_task (here (P.state plant.old) config.now tables.old journal.old.events) (record { line = number; asked = Ok (step.Compare v.0 u.0); listed = [] })
         ≡ here (P.state plant.new) config.now tables.new journal.new.events) }
     ensures same { OnErr result (here (P.state plant.new) config.now tables.new journal.new.events ≡ here (P.state plant.old) config.now tables.old journal.old.events) }
+    ensures same_plant { OnErr result (P.state plant.new ≡ P.state plant.old) }
     ensures ready { IsReady (P.state plant.new) config.now tables.new journal.new.events }
     ensures faults { (f : ℕ) → Counted (told_stop journal.old.events) f (P.state plant.old).faults → Counted (told_stop journal.new.events) f (P.state plant.new).faults }
     ensures host { tables.new.host ≡ tables.old.host }

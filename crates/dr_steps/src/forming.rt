@@ -1,7 +1,7 @@
 //! The step that forms consistency groups one after another. Its drains and exchanges are carried out in turn, each with room of
 //! its own in the journal, and the line is answered once.
 
-ghost use Rattle.std.specs.Prelude.{◌≡◌, ℕ, ◌+◌, ◌<◌, ◌≤◌, true, false, List, Some, None, length, nat_eq, slice_get, option_map, if◌then◌else◌, Ok, OnOk, OnErr, IfSome};
+ghost use Rattle.std.specs.Prelude.{◌≡◌, ℕ, ◌+◌, ◌<◌, ◌≤◌, true, false, List, Some, None, length, nat_eq, slice_get, option_map, if◌then◌else◌, Ok, OnOk, OnErr, IfSome, []};
 ghost use Rattle.dr_logic.specs.Counts.{Counted};
 ghost use Rattle.dr_ids.specs.declared.refusal.Refusal.{Refusal};
 ghost use Rattle.dr_model.specs.Forming as plans;
@@ -436,9 +436,10 @@ pub fn carry_run<P: Plant>(
     requires sound { Sound (here (P.state plant.old) config.now tables.old journal.old.events) }
     requires few { length config.now.volumes ≤ 64 }
     requires below { length journal.old.events < most_events }
-    ensures task { OnOk result (after_task (here (P.state plant.old) config.now tables.old journal.old.events) (record { line = number; asked = Ok (step.Run s.0 groups) })
+    ensures task { OnOk result (after_task (here (P.state plant.old) config.now tables.old journal.old.events) (record { line = number; asked = Ok (step.Run s.0 groups); listed = [] })
         ≡ here (P.state plant.new) config.now tables.new journal.new.events) }
     ensures same { OnErr result (here (P.state plant.new) config.now tables.new journal.new.events ≡ here (P.state plant.old) config.now tables.old journal.old.events) }
+    ensures same_plant { OnErr result (P.state plant.new ≡ P.state plant.old) }
     ensures ready { IsReady (P.state plant.new) config.now tables.new journal.new.events }
     ensures faults { (f : ℕ) → Counted (told_stop journal.old.events) f (P.state plant.old).faults → Counted (told_stop journal.new.events) f (P.state plant.new).faults }
     ensures host { tables.new.host ≡ tables.old.host }

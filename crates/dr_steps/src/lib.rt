@@ -3,13 +3,14 @@
 //! `carry_task` is the step of the machine, with its answer (`task`), or changes nothing (`same`) for want of memory;
 //! it reserves the journal's room before the step begins. `carry_run` is an `@run`: its drains and exchanges one after
 //! another as the machine's turns say (`task`), each only where the journal has room; it takes all the room that the
-//! journal may still need before it begins, so want of memory never cuts it short (`same`). `define_server`,
+//! journal may still need before it begins, so want of memory never cuts it short (`same`). `carry_image` is an `@image`: it
+//! lists the plant's own devices (`lists`) and writes none (`still`). `define_server`,
 //! `define_volume`, `set_link`, `issue`, `write`, `apply`, `show`, `stop`, `arm`, `start`, `make_flash`,
 //! `remove_flash`, `resync_flash`, `reverse_flash`, `copy`, `make_path`, `remove_path`, `make_pair`, `remove_pair`,
 //! `pause_pair`, `resume_pair`, `fail_over`, `fail_back`, `compare`, `drain`, `expire`, `freeze`, `thaw`, `make_session`, `remove_session`,
 //! `make_mirror`, `pause_mirror`, `remove_mirror`, `abort_attempt`, `add_member`, `remove_member`, `exchange`,
-//! `recover_session`, `commit_flash` and `revert_flash` are their steps, each with its answer (`step`); `show` gives
-//! the bytes that the host writes of the journal say. `fetch_tracks` and `restore_tracks` are the background copy and
+//! `recover_session`, `commit_flash`, `revert_flash`, `list_pairs`, `list_flashes`, `list_session` and `show_mirror` are
+//! their steps, each with its answer (`step`); `show` gives the bytes that the host writes of the journal say. `fetch_tracks` and `restore_tracks` are the background copy and
 //! the restore of several tracks (`carried`), also where reads may fail.
 #![tactic(auto)]
 
@@ -21,8 +22,9 @@ mod exchanges;
 mod expiry;
 mod flash;
 mod forming;
-mod forms;
 mod freezing;
+mod imaging;
+mod listing;
 mod locate;
 mod masters;
 mod members;

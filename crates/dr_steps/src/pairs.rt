@@ -16,7 +16,6 @@ ghost use Rattle.dr_steps.specs.Faults.{CountsStop};
 ghost use Rattle.dr_steps.specs.Here.{said_of, here, IsReady, Carries};
 ghost use Rattle.dr_steps.specs.WellFormed.{FitsDevs};
 
-use crate::forms::METRO_MIRROR;
 use crate::locate::found_volumes;
 use crate::tables::Tables;
 use dr_config::Config;
@@ -62,10 +61,12 @@ fn found_free(
     member_refusal(tables, a, b)
 }
 
-/// The kind of pair that a step names.
+/// The number of Metro Mirror in a step.
+const METRO_MIRROR: u8 = 1;
+
+/// The kind of pair that a step names: Global Copy, where it isn't Metro Mirror.
 pub(crate) fn kind_of(kind: u8) -> CopyKind
-    requires { part.is_part (part.part_of kind) ≡ true }
-    ensures { part_of result ≡ part.part_of kind }
+    ensures { part_of result ≡ part.kind_of kind }
 {
     if kind == METRO_MIRROR {
         CopyKind::Metro
@@ -89,10 +90,9 @@ pub fn make_pair<P: Plant>(
     requires ready { IsReady (P.state plant.old) config.now tables.now journal.old.events }
     requires sound { Sound (here (P.state plant.old) config.now tables.now journal.old.events) }
     requires short { FitsDevs devs.now }
-    requires kind { part.is_part (part.part_of kind) ≡ true }
     requires room { 512 ≤ journal.old.spare }
     ensures step { (line : ℕ) → after_plan (here (P.state plant.old) config.now tables.now journal.old.events) line
-        (plans.make_pair_plan (here (P.state plant.old) config.now tables.now journal.old.events).control journal.old.events devs.now a.0 b.0 (part.part_of kind) full)
+        (plans.make_pair_plan (here (P.state plant.old) config.now tables.now journal.old.events).control journal.old.events devs.now a.0 b.0 (part.kind_of kind) full)
         ≡ said (here (P.state plant.new) config.now tables.now journal.new.events) line (said_of result) }
     ensures faults { CountsStop (said_of result) (P.state plant.old) (P.state plant.new) }
     ensures ready { IsReady (P.state plant.new) config.now tables.now journal.new.events }
@@ -182,10 +182,9 @@ pub fn resume_pair<P: Plant>(
     requires ready { IsReady (P.state plant.old) config.now tables.now journal.old.events }
     requires sound { Sound (here (P.state plant.old) config.now tables.now journal.old.events) }
     requires short { FitsDevs devs.now }
-    requires kind { part.is_part (part.part_of kind) ≡ true }
     requires room { 512 ≤ journal.old.spare }
     ensures step { (line : ℕ) → after_plan (here (P.state plant.old) config.now tables.now journal.old.events) line
-        (plans.resume_pair_plan (here (P.state plant.old) config.now tables.now journal.old.events).control devs.now a.0 b.0 (part.part_of kind))
+        (plans.resume_pair_plan (here (P.state plant.old) config.now tables.now journal.old.events).control devs.now a.0 b.0 (part.kind_of kind))
         ≡ said (here (P.state plant.new) config.now tables.now journal.new.events) line (said_of result) }
     ensures faults { CountsStop (said_of result) (P.state plant.old) (P.state plant.new) }
     ensures ready { IsReady (P.state plant.new) config.now tables.now journal.new.events }

@@ -1,13 +1,13 @@
 //! The steps on the way back: a secondary is taken over, and a pair goes on the other way round.
 
-ghost use Rattle.std.specs.Prelude.{◌≡◌, ℕ, ◌≤◌, true, length};
+ghost use Rattle.std.specs.Prelude.{◌≡◌, ℕ, ◌≤◌, false, length};
 ghost use Rattle.dr_model.specs.Laws.{Sound};
 ghost use Rattle.dr_model.specs.Layout as part;
 ghost use Rattle.dr_model.specs.Plans as plans;
 ghost use Rattle.dr_model.specs.Runs.{after_plan, said};
 ghost use Rattle.dr_volume.specs.View.{track_seen};
 ghost use Rattle.dr_steps.specs.Faults.{CountsStop};
-ghost use Rattle.dr_steps.specs.Forms.{is_return};
+ghost use Rattle.dr_steps.specs.Forms.{is_plain, is_relation, is_pair, is_session, is_recovery};
 ghost use Rattle.dr_steps.specs.Here.{said_of, here, StepLeads, IsReady};
 ghost use Rattle.dr_steps.specs.WellFormed.{FitsDevs, IsWellFormed};
 
@@ -34,10 +34,9 @@ pub fn fail_over<P: Plant>(
     requires ready { IsReady (P.state plant.old) config.now tables.now journal.old.events }
     requires sound { Sound (here (P.state plant.old) config.now tables.now journal.old.events) }
     requires short { FitsDevs devs.now }
-    requires kind { part.is_part (part.part_of kind) ≡ true }
     requires room { 512 ≤ journal.old.spare }
     ensures step { (line : ℕ) → after_plan (here (P.state plant.old) config.now tables.now journal.old.events) line
-        (plans.failover_plan (here (P.state plant.old) config.now tables.now journal.old.events).control devs.now b.0 a.0 (part.part_of kind))
+        (plans.failover_plan (here (P.state plant.old) config.now tables.now journal.old.events).control devs.now b.0 a.0 (part.kind_of kind))
         ≡ said (here (P.state plant.new) config.now tables.now journal.new.events) line (said_of result) }
     ensures faults { CountsStop (said_of result) (P.state plant.old) (P.state plant.new) }
     ensures ready { IsReady (P.state plant.new) config.now tables.now journal.new.events }
@@ -67,11 +66,10 @@ pub fn fail_back<P: Plant>(
     requires ready { IsReady (P.state plant.old) config.now tables.now journal.old.events }
     requires sound { Sound (here (P.state plant.old) config.now tables.now journal.old.events) }
     requires short { FitsDevs devs.now }
-    requires kind { part.is_part (part.part_of kind) ≡ true }
     requires few { length config.now.volumes ≤ 64 }
     requires room { 512 ≤ journal.old.spare }
     ensures step { (line : ℕ) → after_plan (here (P.state plant.old) config.now tables.now journal.old.events) line
-        (plans.failback_plan (here (P.state plant.old) config.now tables.now journal.old.events).control devs.now x.0 y.0 (part.part_of kind))
+        (plans.failback_plan (here (P.state plant.old) config.now tables.now journal.old.events).control devs.now x.0 y.0 (part.kind_of kind))
         ≡ said (here (P.state plant.new) config.now tables.now journal.new.events) line (said_of result) }
     ensures faults { CountsStop (said_of result) (P.state plant.old) (P.state plant.new) }
     ensures ready { IsReady (P.state plant.new) config.now tables.now journal.new.events }
@@ -122,7 +120,7 @@ pub fn compare<P: Plant>(
     }
 }
 
-/// Carries out a step that turns a pair round.
+/// Carries out a step that turns a pair round. One with a course of its own comes to no plan: nothing is done.
 pub fn carry_return<P: Plant>(
     plant: &mut P,
     config: &Config,
@@ -135,7 +133,11 @@ pub fn carry_return<P: Plant>(
     requires fits { IsWellFormed step.now }
     requires few { length config.now.volumes ≤ 64 }
     requires room { 4096 ≤ journal.old.spare }
-    requires form { is_return step.now ≡ true }
+    requires form { is_plain step.now ≡ false }
+    requires session { is_session step.now ≡ false }
+    requires recovery { is_recovery step.now ≡ false }
+    requires other { is_relation step.now ≡ false }
+    requires pair { is_pair step.now ≡ false }
     ensures step { (line : ℕ) → StepLeads (here (P.state plant.old) config.now tables.now journal.old.events) line step.now
         (here (P.state plant.new) config.now tables.now journal.new.events) (said_of result) }
     ensures faults { CountsStop (said_of result) (P.state plant.old) (P.state plant.new) }
@@ -163,6 +165,6 @@ pub fn carry_return<P: Plant>(
             VolumeId(y),
             kind,
         ),
-        _ => Err(Refusal::NotBuilt),
+        _ => Ok(Addition::Alone),
     }
 }

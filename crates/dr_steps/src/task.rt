@@ -1,14 +1,15 @@
 //! One step of a line: whether it may be carried out, what it comes to, and its answer.
 
-ghost use Rattle.std.specs.Prelude.{◌≡◌, ℕ, ◌+◌, ◌<◌, ◌≤◌, ◌++◌, ◌^◌, true, false, [], ◌∷◌, length, Ok, OnOk, OnErr};
+ghost use Rattle.std.specs.Prelude.{◌≡◌, ℕ, ◌+◌, ◌<◌, ◌≤◌, ◌++◌, ◌^◌, true, false, [], ◌∷◌, length, Some, None, Ok, OnOk, OnErr};
 ghost use Rattle.dr_logic.specs.Counts.{Counted};
 ghost use Rattle.dr_ids.specs.declared.refusal.Refusal.{Refusal};
 ghost use Rattle.dr_model.specs.Answers.{answer};
 ghost use Rattle.dr_model.specs.Laws.{Sound};
 ghost use Rattle.dr_model.specs.Limits.{most_events};
 ghost use Rattle.dr_model.specs.LineText.{IsWritten};
-ghost use Rattle.dr_model.specs.Plans.{is_built, has_room, plan_of};
-ghost use Rattle.dr_model.specs.Runs.{run_asked, after_plan, after_task};
+ghost use Rattle.dr_model.specs.Plans.{has_room, plan_of};
+ghost use Rattle.dr_model.specs.Listed.{Lists, task_on};
+ghost use Rattle.dr_model.specs.Runs.{Devices, own_course, after_plan, after_task};
 ghost use Rattle.dr_model.specs.declared.said.Said.TheVariants.{Refused};
 ghost use Rattle.dr_model.specs.declared.step.Step.{Step};
 ghost use Rattle.dr_steps.specs.Faults.{CountsStop, told_stop};
@@ -24,8 +25,9 @@ use crate::exchanges::exchange;
 use crate::expiry::expire;
 use crate::flash::{make_flash, remove_flash, resync_flash, reverse_flash};
 use crate::forming::carry_run;
-use crate::forms::is_built;
 use crate::freezing::{freeze, unfreeze};
+use crate::imaging::carry_image;
+use crate::listing::{list_flashes, list_pairs, list_session, show_mirror};
 use crate::masters::{lose_masters, servers_on};
 use crate::members::{add_member, remove_member};
 use crate::pairs::{drain, make_pair, pause_pair, remove_pair, resume_pair};
@@ -101,7 +103,6 @@ fn carry_relation<P: Plant>(
     requires form { is_plain step.now ≡ false }
     requires session { is_session step.now ≡ false }
     requires recovery { is_recovery step.now ≡ false }
-    requires built { is_built step.now ≡ true }
     ensures step { (line : ℕ) → StepLeads (here (P.state plant.old) config.now tables.now journal.old.events) line step.now
         (here (P.state plant.new) config.now tables.now journal.new.events) (said_of result) }
     ensures faults { CountsStop (said_of result) (P.state plant.old) (P.state plant.new) }
@@ -184,7 +185,7 @@ fn carry_relation<P: Plant>(
     }
 }
 
-/// Carries out a step on a pair whose form is built.
+/// Carries out a step on a pair.
 fn carry_pair<P: Plant>(
     plant: &mut P,
     config: &Config,
@@ -201,7 +202,6 @@ fn carry_pair<P: Plant>(
     requires session { is_session step.now ≡ false }
     requires recovery { is_recovery step.now ≡ false }
     requires other { is_relation step.now ≡ false }
-    requires built { is_built step.now ≡ true }
     ensures step { (line : ℕ) → StepLeads (here (P.state plant.old) config.now tables.now journal.old.events) line step.now
         (here (P.state plant.new) config.now tables.now journal.new.events) (said_of result) }
     ensures faults { CountsStop (said_of result) (P.state plant.old) (P.state plant.new) }
@@ -282,7 +282,6 @@ fn carry_recovery<P: Plant>(
     requires room { 4096 ≤ journal.old.spare }
     requires form { is_plain step.now ≡ false }
     requires session { is_session step.now ≡ false }
-    requires built { is_built step.now ≡ true }
     ensures step { (line : ℕ) → StepLeads (here (P.state plant.old) config.now tables.now journal.old.events) line step.now
         (here (P.state plant.new) config.now tables.now journal.new.events) (said_of result) }
     ensures faults { CountsStop (said_of result) (P.state plant.old) (P.state plant.new) }
@@ -327,7 +326,6 @@ fn carry_session<P: Plant>(
     requires few { length config.now.volumes ≤ 64 }
     requires room { 4096 ≤ journal.old.spare }
     requires form { is_plain step.now ≡ false }
-    requires built { is_built step.now ≡ true }
     ensures step { OnAnswer result (λ a. (line : ℕ) → StepLeads (here (P.state plant.old) config.now tables.old journal.old.events) line step.now
         (here (P.state plant.new) config.now tables.new journal.new.events) a) }
     ensures faults { OnAnswer result (λ a. CountsStop a (P.state plant.old) (P.state plant.new)) }
@@ -458,7 +456,7 @@ fn carry_session<P: Plant>(
     }
 }
 
-/// Carries out a step whose form is built. Where there is no memory nothing has changed.
+/// Carries out a step that is one plan. Where there is no memory nothing has changed.
 fn carry_out<P: Plant>(
     plant: &mut P,
     config: &mut Config,
@@ -473,7 +471,6 @@ fn carry_out<P: Plant>(
     requires few { length config.old.volumes ≤ 64 }
     requires room { 4096 ≤ journal.old.spare }
     requires count { tables.old.host.issued + 1 < 2 ^ 32 }
-    requires built { is_built step.now ≡ true }
     ensures step { OnSaid result (λ a. StepLeads (here (P.state plant.old) config.old tables.old journal.old.events) line step.now
         (here (P.state plant.new) config.new tables.new journal.new.events) a) }
     ensures faults { OnSaid result (λ a. CountsStop a (P.state plant.old) (P.state plant.new)) }
@@ -585,6 +582,42 @@ fn carry_out<P: Plant>(
             Lss(l),
             Lss(m),
         )),
+        Step::ListPairs { devs, volume } => widened(list_pairs(
+            plant,
+            config,
+            tables,
+            journal,
+            line,
+            &devs.dev,
+            VolumeId(volume),
+        )),
+        Step::ListFlashes { devs, volume } => widened(list_flashes(
+            plant,
+            config,
+            tables,
+            journal,
+            line,
+            &devs.dev,
+            VolumeId(volume),
+        )),
+        Step::ListSession { devs, lss } => widened(list_session(
+            plant,
+            config,
+            tables,
+            journal,
+            line,
+            &devs.dev,
+            Lss(lss),
+        )),
+        Step::ShowMirror { devs, lss } => widened(show_mirror(
+            plant,
+            config,
+            tables,
+            journal,
+            line,
+            &devs.dev,
+            Lss(lss),
+        )),
         _ => all_done(carry_session(plant, config, tables, journal, step)),
     }
 }
@@ -602,7 +635,7 @@ fn asked(volume: u16, track: u32, offset: u8, len: u8, bytes: [u8; 64]) -> HostW
     }
 }
 
-/// Carries out a step whose form is built, for which the journal has room, and answers it. What its end makes of the
+/// Carries out a step that is one plan, for which the journal has room, and answers it. What its end makes of the
 /// masters is still to come. Where there is no memory nothing has changed.
 fn carry_answered<P: Plant>(
     plant: &mut P,
@@ -618,12 +651,13 @@ fn carry_answered<P: Plant>(
     requires few { length config.old.volumes ≤ 64 }
     requires room { 4096 ≤ journal.old.spare }
     requires count { tables.old.host.issued + 1 < 2 ^ 32 }
-    requires built { is_built step.now ≡ true }
+    requires alone { own_course (Ok step.now) ≡ None }
     requires has_room { has_room journal.old.events ≡ true }
     ensures plan { OnOk result (after_plan (here (P.state plant.old) config.old tables.old journal.old.events) number
         (plan_of (here (P.state plant.old) config.old tables.old journal.old.events).control journal.old.events number step.now)
         ≡ here (P.state plant.new) config.new tables.new journal.new.events) }
     ensures same { OnErr result (here (P.state plant.new) config.new tables.new journal.new.events ≡ here (P.state plant.old) config.old tables.old journal.old.events) }
+    ensures same_plant { OnErr result (P.state plant.new ≡ P.state plant.old) }
     ensures ready { IsReady (P.state plant.new) config.new tables.new journal.new.events }
     ensures faults { (f : ℕ) → Counted (told_stop journal.old.events) f (P.state plant.old).faults → Counted (told_stop journal.new.events) f (P.state plant.new).faults }
     ensures issued { tables.new.host.issued ≤ tables.old.host.issued + 1 }
@@ -641,9 +675,9 @@ fn carry_answered<P: Plant>(
     }
 }
 
-/// Carries out a step whose form is built, for which the journal has room, and answers it: each master whose
+/// Carries out a step that is one plan, for which the journal has room, and answers it: each master whose
 /// server stopped in it is lost as it ends. Where there is no memory nothing has changed.
-fn carry_built<P: Plant>(
+fn carry_planned<P: Plant>(
     plant: &mut P,
     config: &mut Config,
     tables: &mut Tables,
@@ -657,11 +691,12 @@ fn carry_built<P: Plant>(
     requires few { length config.old.volumes ≤ 64 }
     requires room { 4096 ≤ journal.old.spare }
     requires count { tables.old.host.issued + 1 < 2 ^ 32 }
-    requires built { is_built step.now ≡ true }
+    requires alone { own_course (Ok step.now) ≡ None }
     requires has_room { has_room journal.old.events ≡ true }
-    ensures task { OnOk result (after_task (here (P.state plant.old) config.old tables.old journal.old.events) (record { line = number; asked = Ok step.now })
+    ensures task { OnOk result (after_task (here (P.state plant.old) config.old tables.old journal.old.events) (record { line = number; asked = Ok step.now; listed = [] })
         ≡ here (P.state plant.new) config.new tables.new journal.new.events) }
     ensures same { OnErr result (here (P.state plant.new) config.new tables.new journal.new.events ≡ here (P.state plant.old) config.old tables.old journal.old.events) }
+    ensures same_plant { OnErr result (P.state plant.new ≡ P.state plant.old) }
     ensures ready { IsReady (P.state plant.new) config.new tables.new journal.new.events }
     ensures faults { (f : ℕ) → Counted (told_stop journal.old.events) f (P.state plant.old).faults → Counted (told_stop journal.new.events) f (P.state plant.new).faults }
     ensures issued { tables.new.host.issued ≤ tables.old.host.issued + 1 }
@@ -676,8 +711,8 @@ fn carry_built<P: Plant>(
     }
 }
 
-/// Carries out a step that is one plan, and answers it: a form that isn't built is refused, and then a step for which the journal
-/// has no room. Where there is no memory nothing has changed.
+/// Carries out a step that is one plan, and answers it. It is refused where the journal has no room. Where there is no memory
+/// nothing has changed.
 fn carry_alone<P: Plant>(
     plant: &mut P,
     config: &mut Config,
@@ -692,26 +727,24 @@ fn carry_alone<P: Plant>(
     requires few { length config.old.volumes ≤ 64 }
     requires count { tables.old.host.issued + 1 < 2 ^ 32 }
     requires below { length journal.old.events < most_events }
-    requires alone { run_asked (Ok step.now) ≡ None }
-    ensures task { OnOk result (after_task (here (P.state plant.old) config.old tables.old journal.old.events) (record { line = number; asked = Ok step.now })
+    requires alone { own_course (Ok step.now) ≡ None }
+    ensures task { OnOk result (after_task (here (P.state plant.old) config.old tables.old journal.old.events) (record { line = number; asked = Ok step.now; listed = [] })
         ≡ here (P.state plant.new) config.new tables.new journal.new.events) }
     ensures same { OnErr result (here (P.state plant.new) config.new tables.new journal.new.events ≡ here (P.state plant.old) config.old tables.old journal.old.events) }
+    ensures same_plant { OnErr result (P.state plant.new ≡ P.state plant.old) }
     ensures ready { IsReady (P.state plant.new) config.new tables.new journal.new.events }
     ensures faults { (f : ℕ) → Counted (told_stop journal.old.events) f (P.state plant.old).faults → Counted (told_stop journal.new.events) f (P.state plant.new).faults }
     ensures issued { tables.new.host.issued ≤ tables.old.host.issued + 1 }
 {
-    if !is_built(step) {
-        return refuse(journal, number, Refusal::NotBuilt);
-    }
     if !has_room(journal) {
         return refuse(journal, number, Refusal::JournalFull);
     }
     journal.reserve(STEP_EVENTS)?;
-    carry_built(plant, config, tables, journal, number, step)
+    carry_planned(plant, config, tables, journal, number, step)
 }
 
-/// Carries out a step, and answers it. A form that isn't built is refused, and then a step for which the journal has no room.
-/// Where there is no memory nothing has changed.
+/// Carries out a step, and answers it. It is refused where the journal has no room for what it may tell. An image lists the plant's
+/// own devices (`lists`), and leaves the plant as it is (`still`). Where there is no memory nothing has changed.
 pub fn carry_task<P: Plant>(
     plant: &mut P,
     config: &mut Config,
@@ -726,9 +759,12 @@ pub fn carry_task<P: Plant>(
     requires few { length config.old.volumes ≤ 64 }
     requires count { tables.old.host.issued + 1 < 2 ^ 32 }
     requires below { length journal.old.events < most_events }
-    ensures task { OnOk result (after_task (here (P.state plant.old) config.old tables.old journal.old.events) (record { line = number; asked = Ok step.now })
+    ensures task { OnOk result (after_task (here (P.state plant.old) config.old tables.old journal.old.events) (task_on (here (P.state plant.old) config.old tables.old journal.old.events) (P.state plant.old).block number (Ok step.now))
         ≡ here (P.state plant.new) config.new tables.new journal.new.events) }
+    ensures lists { OnOk result (Lists (here (P.state plant.old) config.old tables.old journal.old.events) (task_on (here (P.state plant.old) config.old tables.old journal.old.events) (P.state plant.old).block number (Ok step.now))) }
+    ensures still { OnOk result (own_course (Ok step.now) ≡ Some Devices → P.state plant.new ≡ P.state plant.old) }
     ensures same { OnErr result (here (P.state plant.new) config.new tables.new journal.new.events ≡ here (P.state plant.old) config.old tables.old journal.old.events) }
+    ensures same_plant { OnErr result (P.state plant.new ≡ P.state plant.old) }
     ensures ready { IsReady (P.state plant.new) config.new tables.new journal.new.events }
     ensures faults { (f : ℕ) → Counted (told_stop journal.old.events) f (P.state plant.old).faults → Counted (told_stop journal.new.events) f (P.state plant.new).faults }
     ensures issued { tables.new.host.issued ≤ tables.old.host.issued + 1 }
@@ -752,6 +788,7 @@ pub fn carry_task<P: Plant>(
             VolumeId(v),
             VolumeId(w),
         ),
+        Step::Image => carry_image(plant, config, tables, journal, number),
         _ => carry_alone(plant, config, tables, journal, number, step),
     }
 }

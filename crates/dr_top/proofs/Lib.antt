@@ -10,7 +10,7 @@
 --   each count (`(f : ℕ) → Counted .. f .. → ..`), so that it goes through a loop.
 -- - **A match whose arms answer** (`Ok(()) => .., Err(..) => ..`) keeps the facts of each arm; a value that two arms
 --   leave for what follows loses them. `c.in-X.field-0-is` with `subst` brings a clause's facts to the variant.
--- - Where the search at a join ran for minutes, the part behind it became a function (`carry_built`).
+-- - Where the search at a join ran for minutes, the part behind it became a function (`carry_planned`).
 -- - **An exit that needs a choice** (nothing was done, or all of it) is a `⊎` in the clause of the small function and an
 --   `elim` in the loop's answer.
 -- - **The default arm of a big `match`** gets `.not-V` for each variant that an earlier arm took, where the match is on
@@ -20,10 +20,12 @@
 --   a function of its own, so that there is one arm for errors.
 -- - **The invariant of a type** comes at a value that goes out of scope: `subst P c.x.view_is c.x.invariant`.
 -- - A fact about `Ok` or `Err` goes from one clause to another by `on_ok`, `on_err`, `ok-along`.
+pub mod OfflineLemmas
 pub mod PutLemmas
 pub mod LineLemmas
 pub mod TaskLemmas
 pub mod ReachLemmas
+pub mod LeadLemmas
 pub mod RunLemmas
 pub mod TakenLemmas
 pub mod EndLemmas

@@ -1,5 +1,5 @@
 -- Worlds that some steps lead to.
-use Rattle.std.proofs.Common.{ℕ, suc, zero, Bool, ◌||◌, true, false, nat_le, Option, None, ◌≡◌, ◌<◌, ◌≤◌, ◌+◌, List, [], ◌∷◌, ◌++◌, take, map, length, refl, ap, ◌∙◌, sym, subst, arith, Some, Result, Ok, Err}
+use Rattle.std.proofs.Common.{ℕ, Bool, ◌||◌, true, false, nat_le, Option, None, ◌≡◌, ◌<◌, ◌≤◌, ◌+◌, List, [], ◌∷◌, ◌++◌, take, map, length, refl, ap, ◌∙◌, sym, subst, arith, Some, Ok, Err}
 use Rattle.std.specs.Prelude.{slice_get, IsSome, All}
 use denote.Ref.{Bor}
 use Rattle.std.proofs.lemmas.Bool.Decides.{nat_tests}
@@ -13,10 +13,10 @@ use Rattle.dr_model.specs.declared.event.Event.{Event}
 use Rattle.dr_model.specs.declared.said.Said.TheVariants.{Refused}
 use Rattle.dr_model.specs.Answers.{answer}
 use Rattle.dr_model.specs.Grammar.{line_of}
-use Rattle.dr_model.proofs.CarryLemmas.{plan-refuses}
 use Rattle.dr_model.specs.Control.{World, nothing}
 use Rattle.dr_model.specs.Lines.{task, tasks_read, tasks_of}
-use Rattle.dr_model.specs.Runs.{Task, after_task, after_tasks, masters_lost, said}
+use Rattle.dr_model.specs.Listed.{Lists}
+use Rattle.dr_model.specs.Runs.{Task, after_task, after_tasks}
 use Rattle.dr_model.specs.Laws.{Sound}
 use Rattle.dr_model.specs.LineText.{IsWritten}
 use Rattle.dr_model.specs.Limits.{most_events}
@@ -24,22 +24,15 @@ use Rattle.dr_laws_sound.proofs.Steps.{sound-run}
 use Rattle.dr_laws_sound.proofs.Journal.{issued-task, after_task-longer}
 use Rattle.dr_laws_sound.specs.Limits.{IsWithin}
 use Rattle.dr_laws_sound.proofs.Limits.{within-run, journal-fits}
-use Rattle.dr_top.specs.Carried.{Reached, EndsBy, GoesTo}
+use Rattle.dr_top.specs.Carried.{Reached}
 use Rattle.dr_steps.specs.Faults.{is_stop, told_stop}
-use Rattle.dr_top.specs.declared.carry.Bar.{Bar}
-use Rattle.dr_host.specs.Writes.{EachPending, bytes_of}
 use Rattle.dr_steps.specs.declared.tables.Tables.{Tables}
-use Rattle.dr_host.specs.declared.pending.Pending.{Pending}
-use Rattle.dr_model.specs.Histories.{Histories, histories}
-use Rattle.dr_model.proofs.Images.{histories-push}
-use Rattle.dr_model.specs.declared.said.Said.{Said}
 use Rattle.dr_plant.specs.State.{PlantState}
 use Rattle.dr_config.specs.Table.{ConfigTable}
 use Rattle.dr_config.specs.declared.entries.VolumeEntry.{VolumeEntry}
 use Rattle.dr_volume.specs.View.{ids_of}
-use Rattle.dr_steps.specs.Here.{here, IsTold}
-use Rattle.dr_steps.proofs.LossLemmas.{masters-stay}
-use Rattle.dr_top.proofs.TaskLemmas.{tasks-then, tasks-one, tasks-none}
+use Rattle.dr_steps.specs.Here.{here}
+use Rattle.dr_top.proofs.TaskLemmas.{tasks-then}
 use Rattle.dr_config.proofs.Lists.{element-at}
 
 pub reached-more : (w u : World) (ts : List Task) → Reached w → after_tasks w ts ≡ u → Reached u
@@ -57,11 +50,8 @@ module _ (number : ℕ) (steps : List Step) where
   pub tasks-count : length (tasks_read number (Ok steps)) ≡ length steps
   tasks-count = length-map steps asked
 
-  pub steps-next : (i : ℕ) (s : Step) (w v u : World) → i < length steps → slice_get steps i ≡ Some s → after_tasks w (take i (tasks_read number (Ok steps))) ≡ v → after_task v (asked s) ≡ u
-      → after_tasks w (take (i + 1) (tasks_read number (Ok steps))) ≡ u
-  steps-next i s w v u lt at leads goes =
-      ap (after_tasks w) (take-next (map asked steps) i (asked s) (let n = tasks-count in omega (arith, n, lt)) (slice_get-map asked steps i ∙ ap (option_map asked) at))
-      ∙ tasks-then w (take i (map asked steps)) (asked s ∷ []) ∙ ap (λ x. after_tasks x (asked s ∷ [])) leads ∙ tasks-one v (asked s) ∙ goes
+  pub steps-next : (i : ℕ) (s : Step) → i < length steps → slice_get steps i ≡ Some s → take (i + 1) (tasks_read number (Ok steps)) ≡ take i (tasks_read number (Ok steps)) ++ asked s ∷ []
+  steps-next i s lt at = take-next (map asked steps) i (asked s) (let n = tasks-count in omega (arith, n, lt)) (slice_get-map asked steps i ∙ ap (option_map asked) at)
 
 -- what holds of such a world
 pub reached-sound : (w : World) → Reached w → Sound w
@@ -75,8 +65,8 @@ issued-more w (t ∷ ts) few = issued-more (after_task w t) ts (let one = issued
 pub reached-issued : (w : World) → Reached w → w.control.issued ≤ length w.events
 reached-issued w r = subst (λ (x : World). x.control.issued ≤ length x.events) r.1 (issued-more nothing r.0 (omega arith))
 
-pub reached-room : (w : World) (t : Task) → Reached w → length w.events < most_events → length (after_task w t).events ≤ most_events
-reached-room w t r below = journal-fits w t (reached-sound w r) (subst (λ (x : World). IsWithin x.control) r.1 (within-run r.0)) below
+pub reached-room : (w : World) (t : Task) → Reached w → Lists w t → length w.events < most_events → length (after_task w t).events ≤ most_events
+reached-room w t r lists below = journal-fits w t lists (reached-sound w r) (subst (λ (x : World). IsWithin x.control) r.1 (within-run r.0)) below
 
 -- a step at a place
 pub some-step : (steps : List Step) (i : ℕ) (o : Option (Bor Step)) → i < length steps → option_copied o ≡ slice_get steps i → IsSome o
@@ -97,15 +87,6 @@ at-full n h le = at most_events n h le
   where
     at : (m n : ℕ) → nat_le m n ≡ true → n ≤ m → n ≡ m
     at m n h le = grind (arith, nat_tests, h, le)
-
--- a line outside the grammar is one step
-module _ (number column : ℕ) where
-  pub fault-none : (w u : World) → u ≡ w → (result : Result (Unit {0}) Bar) → EndsBy 0 (tasks_read number (Err column)) u result → GoesTo w (tasks_read number (Err column)) u result
-  fault-none w u same result ends = record { done = 0; within = omega arith; leads = tasks-none w ∙ sym same; ends = ends }
-
-  pub fault-said : (w : World) (events : List Event) → events ≡ w.events ++ answer number (Refused (Syntax column)) ∷ [] → GoesTo w (tasks_read number (Err column)) (record w { events = events }) (Ok (tt))
-  unfolding after_tasks
-  fault-said w events told = record { done = 1; within = omega arith; leads = ap (masters_lost w) (plan-refuses w number (Syntax column)) ∙ masters-stay w (said w number (Refused (Syntax column))) refl ∙ ap (λ es. record w { events = es }) (sym told); ends = refl }
 
 pub fault-room : (events now : List Event) (e : Event) → length events < most_events → now ≡ events ++ e ∷ [] → length now ≤ most_events
 fault-room events now e below told = let sum = length-append events (e ∷ []) in let same = ap (λ es. length es) told in fits (length events) most_events (length now) below (omega (arith, sum, same))

@@ -7,6 +7,7 @@ use Rattle.std.specs.Result.{IsErrAnd}
 use Rattle.std.specs.List.{fold}
 use Rattle.std.proofs.Math.Seq.{take-append_seam, drop-append_seam}
 use Rattle.dr_model.specs.declared.event.Event.{Event}
+use Rattle.dr_model.specs.Layout.{Blocks}
 use Rattle.dr_model.specs.Control.{World}
 use Rattle.dr_model.specs.Runs.{Task, after_tasks}
 use Rattle.dr_model.specs.Text.{text, text_from, heard, untold}
@@ -41,9 +42,9 @@ module _ {K : Type 0} (written : K → Option (List ℕ)) where
   gave-none sink piece = (0, omega arith, λ out h. h ∙ ap Some (sym (append-nil out)))
 
   -- a line that was carried out, and printed
-  module _ (sink sink' : K) (w u : World) (tasks : List Task) (result : Result (Unit {0}) Bar) (goes : GoesTo w tasks u result) where
+  module _ (sink sink' : K) (w u : World) (d e : ℕ → Blocks) (tasks : List Task) (result : Result (Unit {0}) Bar) (goes : GoesTo w d tasks u e result) where
     more : (es : List Event) × (u.events ≡ w.events ++ es)
-    more = grown w u (take goes.done tasks) goes.leads
+    more = grown w u goes.led.steps goes.led.leads
 
     pub carried-longer : length w.events ≤ length u.events
     carried-longer = longer w.events u.events more.0 more.1
@@ -51,11 +52,12 @@ module _ {K : Type 0} (written : K → Option (List ℕ)) where
     pub carried-before : take (length w.events) u.events ≡ w.events
     carried-before = ap (take (length w.events)) more.1 ∙ take-append_seam w.events more.0
 
-    pub ran-line : (end : Result (Unit {0}) Halt) → LineEnds written sink sink' goes.done tasks u (text_since u.events (length w.events)) end → RanLine written sink sink' w tasks u end
+    pub ran-line : (end : Result (Unit {0}) Halt) → LineEnds written sink sink' goes.done tasks u (text_since u.events (length w.events)) end → RanLine written sink sink' w d tasks u e end
     ran-line end ends = record {
       done = goes.done;
       within = goes.within;
-      leads = goes.leads;
+      led = goes.led;
+      still = goes.still;
       piece = text_since u.events (length w.events);
       says = text-since w.events u.events more.0 more.1;
       ends = ends;

@@ -5,11 +5,11 @@ use Rattle.std.proofs.lemmas.List.{append-nil, length-append, length-take-le}
 use Rattle.std.proofs.lemmas.List.Sums.{fold-append}
 use Rattle.std.specs.Str.Lines.{lines, strip_carriage_return}
 use Rattle.std.proofs.lemmas.Bool.{lt-ltb, ltb-true}
-use Rattle.dr_model.specs.Control.{World, nothing}
+use Rattle.dr_model.specs.Control.{World}
 use Rattle.dr_model.specs.Grammar.{line_of, begins_comment, words_read}
 use Rattle.dr_model.specs.LineWords.{line_words}
 use Rattle.dr_model.specs.Lines.{tasks, tasks_of, tasks_read, tasks_from}
-use Rattle.dr_model.specs.Runs.{Task, after_task, after_tasks, run}
+use Rattle.dr_model.specs.Runs.{Task, after_task, after_tasks}
 use Rattle.dr_io.specs.Lines.{IsOpen}
 use Rattle.dr_top.specs.Cut.{IsClosed}
 use Rattle.dr_top.proofs.PutLemmas.{all_taken}
@@ -63,12 +63,11 @@ tasks-one w t = refl
 abbrev pub line_tasks : List ℕ → List ℕ → List Task
 line_tasks before line = tasks_from (length (lines before) + 1) (lines line)
 
-pub run-then : (before line : List ℕ) → IsClosed before → run (tasks (before ++ line)) ≡ after_tasks (run (tasks before)) (line_tasks before line)
-run-then before line closed =
-    ap (λ ls. run (tasks_from 1 ls)) (lines-closed before line closed)
-    ∙ ap run (tasks-append 1 (lines before) (lines line))
-    ∙ tasks-then nothing (tasks before) (tasks_from (1 + length (lines before)) (lines line))
-    ∙ ap (λ n. after_tasks (run (tasks before)) (tasks_from n (lines line))) (omega arith)
+pub tasks-line : (before line : List ℕ) → IsClosed before → tasks (before ++ line) ≡ tasks before ++ line_tasks before line
+tasks-line before line closed =
+    ap (λ ls. tasks_from 1 ls) (lines-closed before line closed)
+    ∙ tasks-append 1 (lines before) (lines line)
+    ∙ ap (λ n. tasks before ++ tasks_from n (lines line)) (omega arith)
 
 -- a line that was read up to its end
 pub ended-tasks : (before front read : List ℕ) → IsOpen front → read ≡ take 1025 (strip_carriage_return front) → tasks_of (length (lines before) + 1) read ≡ line_tasks before (front ++ 10 ∷ [])

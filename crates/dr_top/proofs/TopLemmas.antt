@@ -1,5 +1,5 @@
 -- How a run begins and ends.
-use Rattle.std.proofs.Common.{ℕ, ◌≡◌, ◌<◌, ◌≤◌, ◌+◌, List, [], length, refl, ap, sym, subst, ◌∙◌, arith, Bool, true, false, not, cond, nat_lt, Option, Some, None}
+use Rattle.std.proofs.Common.{ℕ, ◌≡◌, ◌<◌, ◌≤◌, ◌+◌, List, [], length, refl, ap, sym, subst, inr, ◌∙◌, arith, Bool, true, false, not, cond, nat_lt, Option, Some, None}
 use Rattle.std.specs.Prelude.{slice_get}
 use Rattle.std.specs.Option.{option_map}
 use Rattle.std.proofs.lemmas.Bool.Decides.{nat_tests}
@@ -41,6 +41,7 @@ use Rattle.dr_laws_recovery.proofs.KeepsWrites.{keeps-run}
 use Rattle.dr_laws_recovery.proofs.TakenAt.{holds-run}
 use Rattle.dr_laws_recovery.proofs.GroupsFound.{found-run}
 use Rattle.dr_laws_recovery.proofs.RunsFormed.{formed-run}
+use Rattle.dr_laws_images.proofs.Imaged.{all-read-back, last-gives-back}
 use Rattle.dr_laws_return.proofs.Sites.{alike-on}
 use Rattle.dr_laws_return.specs.Returned.{Returns}
 use Rattle.dr_laws_return.proofs.Compared.{compared-run}
@@ -50,11 +51,18 @@ use Rattle.dr_volume.specs.View.{fuse_seen, ids_of, volume_seen, track_seen}
 use Rattle.dr_volume.proofs.VolumeLaws.{volume-placed, track-placed}
 use Rattle.dr_steps.specs.Here.{here, IsReady}
 use Rattle.dr_model.specs.Limits.{most_events}
-use Rattle.dr_top.specs.Carried.{Reached}
 use Rattle.dr_steps.specs.Faults.{told_stop}
-use Rattle.dr_top.specs.Outcome.{HasDevices, IsRun, Ran}
+use Rattle.dr_model.specs.Listed.{ListsAlong, ImagesDevices}
+use Rattle.dr_top.specs.Outcome.{IsRun}
+use Rattle.dr_top.specs.Stands.{HasDevices, Stands}
+use Rattle.dr_top.specs.Reports.{RanBy}
 use Rattle.dr_top.proofs.ReachLemmas.{reached-sound}
 use Rattle.dr_top.specs.declared.status.Status.{Status}
+use Rattle.dr_top.specs.declared.status.Status.TheVariants.{NoMemory}
+use Rattle.dr_top.specs.Offline.{IsOffline}
+use Rattle.dr_config.proofs.Sound.{sound-empty}
+use Rattle.dr_top.proofs.LeadLemmas.{none-last}
+use Rattle.dr_top.proofs.TaskLemmas.{tasks-none}
 use Rattle.dr_steps.proofs.LocatedLemmas.{is_volume-here, device-here, some_entry}
 use Rattle.dr_steps.specs.declared.tables.Tables.{Tables}
 use Rattle.dr_volume.proofs.WorldLaws.{on-seen}
@@ -147,37 +155,81 @@ module _ (s : PlantState) (t : ConfigTable) (h : Tables) (ev : List Event) (soun
     size = λ d v at. let l = listed s t h ev sound d v at in (stands.device d l.0 l.1).1 ∙ ap (λ (x : Volume). 13 + x.tracks) (sym (volume-placed s t v d l.0 l.2 l.1));
   }
 
+-- how steps stand that led to what the plant shows
+pub stands-here : (s0 s : PlantState) (t : ConfigTable) (h : Tables) (ev : List Event) → IsSoundConfig t → IsReady s t h ev → length ev ≤ most_events → Counted (told_stop ev) s0.faults s.faults
+    → (steps : List Task) → run steps ≡ here s t h ev → ListsAlong nothing steps → ImagesDevices nothing steps s.block → Stands steps (here s t h ev) ev s0 s
+stands-here s0 s t h ev sound ready room stops steps leads lists images =
+    let w : World = here s t h ev in
+    let fuse : ℕ → Option Fuse = λ server. fuse_seen (s.write_fuse server) in
+    let is : Sound w = reached-sound w (steps, leads) in
+    let fits : Fits w s.on fuse s.block = fits-here s t h ev sound is in
+    let holds : HoldsTracks w s.block = tracks-here s t h ev sound in
+    record {
+      leads = leads;
+      lists = lists;
+      imaged = images;
+      read_back = all-read-back steps lists;
+      gives_back = last-gives-back steps s.on fuse s.block lists (subst (λ (x : World). Fits x s.on fuse s.block) (sym leads) fits) (subst (λ (x : World). HoldsTracks x s.block) (sym leads) holds);
+      journal = refl;
+      room = room;
+      devices = devices-here s t h ev sound ready.rest.stands;
+      fits = fits;
+      holds = holds;
+      frozen = frozen-here s t h ev sound;
+      seals = seals-on steps w s.on fuse s.block leads fits;
+      closed = λ i n. subst (λ (x : World). ClosedCuts x.events i n) leads (closed-run steps i n);
+      held = λ tasks goes i n. holds-run tasks w goes i n;
+      decides = decides-on steps w s.on fuse s.block leads fits;
+      headline = λ tasks goes. headline-run tasks w s.on fuse s.block goes fits holds;
+      stored = subst (λ (x : World). StoredAtCuts x.events) leads (stored-run steps);
+      keeps = λ tasks goes. keeps-run tasks;
+      acknowledged = λ tasks goes. acked-run tasks;
+      formed = λ tasks goes. formed-run tasks;
+      found = λ tasks goes. found-run tasks;
+      freezes = λ tasks goes. freezes-hold tasks;
+      in_sync = λ tasks goes. in-sync-run tasks;
+      shown = λ tasks goes. shown-here s t h ev sound is tasks goes;
+      sites = alike-on w s.on fuse s.block is fits;
+      compared = λ tasks goes. compared-run tasks s.block (subst (λ (x : World). HoldsTracks x s.block) (sym goes) holds);
+      returned = λ tasks goes. returned-here s t h ev sound is tasks goes;
+      refused = λ tasks goes. refused-run tasks;
+      reads = ready.reads;
+      stops = stops;
+    }
+
 -- a run that led to what the plant shows
 module _ {S K : Type 0} (left : S → Option (List ℕ)) (written : K → Option (List ℕ)) (source source' : S) (sink sink' : K) (read_faults : S → ℕ) (write_faults : K → ℕ) where
-  pub is-run : (status : Status) (s0 s : PlantState) (t : ConfigTable) (h : Tables) (ev : List Event) → IsSoundConfig t → IsReady s t h ev → Reached (here s t h ev) → length ev ≤ most_events
-      → Counted (told_stop ev) s0.faults s.faults → Ran left written source source' sink sink' read_faults write_faults status (here s t h ev)
+  pub is-run : (status : Status) (s0 s : PlantState) (t : ConfigTable) (h : Tables) (ev : List Event) → IsSoundConfig t → IsReady s t h ev → length ev ≤ most_events
+      → Counted (told_stop ev) s0.faults s.faults → RanBy left written source source' sink sink' read_faults write_faults status (here s t h ev) s.block
       → IsRun left written source source' sink sink' read_faults write_faults status ev s0 s
-  is-run status s0 s t h ev sound ready reached room stops ran = record {
+  is-run status s0 s t h ev sound ready room stops by = record {
     world = here s t h ev;
-    ran = ran;
-    journal = refl;
-    room = room;
-    devices = devices-here s t h ev sound ready.rest.stands;
-    fits = fits-here s t h ev sound (reached-sound (here s t h ev) reached);
-    holds = tracks-here s t h ev sound;
-    frozen = frozen-here s t h ev sound;
-    seals = seals-on reached.0 (here s t h ev) s.on (λ server. fuse_seen (s.write_fuse server)) s.block reached.1 (fits-here s t h ev sound (reached-sound (here s t h ev) reached));
-    closed = λ i n. subst (λ (w : World). ClosedCuts w.events i n) reached.1 (closed-run reached.0 i n);
-    held = λ tasks leads i n. holds-run tasks (here s t h ev) leads i n;
-    decides = decides-on reached.0 (here s t h ev) s.on (λ server. fuse_seen (s.write_fuse server)) s.block reached.1 (fits-here s t h ev sound (reached-sound (here s t h ev) reached));
-    headline = λ tasks leads. headline-run tasks (here s t h ev) s.on (λ server. fuse_seen (s.write_fuse server)) s.block leads (fits-here s t h ev sound (reached-sound (here s t h ev) reached)) (tracks-here s t h ev sound);
-    stored = subst (λ (w : World). StoredAtCuts w.events) reached.1 (stored-run reached.0);
-    keeps = λ tasks leads. keeps-run tasks;
-    acknowledged = λ tasks leads. acked-run tasks;
-    formed = λ tasks leads. formed-run tasks;
-    found = λ tasks leads. found-run tasks;
-    freezes = λ tasks leads. freezes-hold tasks;
-    in_sync = λ tasks leads. in-sync-run tasks;
-    shown = λ tasks leads. shown-here s t h ev sound (reached-sound (here s t h ev) reached) tasks leads;
-    sites = alike-on (here s t h ev) s.on (λ server. fuse_seen (s.write_fuse server)) s.block (reached-sound (here s t h ev) reached) (fits-here s t h ev sound (reached-sound (here s t h ev) reached));
-    compared = λ tasks leads. compared-run tasks s.block (subst (λ (w : World). HoldsTracks w s.block) (sym leads) (tracks-here s t h ev sound));
-    returned = λ tasks leads. returned-here s t h ev sound (reached-sound (here s t h ev) reached) tasks leads;
-    refused = λ tasks leads. refused-run tasks;
-    reads = ready.reads;
-    stops = stops;
+    steps = by.steps;
+    ran = by.ran;
+    stands = stands-here s0 s t h ev sound ready room stops by.steps by.leads by.lists by.images;
+  }
+
+-- there was no memory to read the words
+module _ {S K : Type 0} (left : S → Option (List ℕ)) (written : K → Option (List ℕ)) (source : S) (sink : K) (read_faults : S → ℕ) (write_faults : K → ℕ) (s : PlantState) where
+  pub run-unbegun : IsFresh s → IsRun left written source source sink sink read_faults write_faults NoMemory [] s s
+  run-unbegun fresh = is-run left written source source sink sink read_faults write_faults NoMemory s s (empty_table s fresh) (idle s fresh) [] sound-empty (ready-fresh s fresh) (omega arith) refl (record {
+    steps = [];
+    leads = tasks-none nothing ∙ sym (begins s fresh);
+    ran = record {
+      taken = [];
+      took = λ told h. (told, h, refl);
+      ends = inr (record { source_same = refl; sink_same = refl; none_taken = refl; no_step = refl });
+      streams = record { reads = refl; writes = refl };
+    };
+    lists = tt;
+    images = λ before t is. absurd (none-last before t is);
+  })
+
+  pub offline-unbegun : {J : Type 0} (session : ℕ) (journal : J) → IsOffline left written source source sink sink read_faults write_faults session NoMemory journal journal s s
+  offline-unbegun session journal = record {
+    ends = (record { text = []; took = λ told h. (told, h, refl); within = record { bytes = omega arith; lines = omega arith } }, refl);
+    reads = refl;
+    writes = refl;
+    plant_same = refl;
+    journal_same = refl;
   }

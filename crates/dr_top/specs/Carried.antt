@@ -1,6 +1,8 @@
 -- How far the steps of a line were carried out.
-use Rattle.std.specs.Prelude.{◌≡◌, ℕ, ◌≤◌, List, length, take, Result, Ok, Err}
+use Rattle.std.specs.Prelude.{◌≡◌, ℕ, ◌≤◌, List, [], length, map, take, Result, Ok, Err}
+use Rattle.dr_model.specs.Layout.{Blocks}
 use Rattle.dr_model.specs.Control.{World}
+use Rattle.dr_model.specs.Listed.{ListsAlong, ImagesDevices, as_asked}
 use Rattle.dr_model.specs.Runs.{Task, after_tasks, run}
 use Rattle.dr_top.specs.Followed.{IsFull}
 use Rattle.dr_top.specs.declared.carry.Bar.{Bar}
@@ -10,15 +12,25 @@ use Rattle.dr_top.specs.declared.carry.Bar.TheVariants.{Full, NoMemory}
 abbrev pub Reached : World → Type 0
 Reached w = (ts : List Task) × (run ts ≡ w)
 
+-- Steps that a script asks for, carried out, each with what it listed: they lead from a world to another, and what the last one listed
+-- is what these devices are.
+pub record StepsLead (w : World) (asked : List Task) (u : World) (device : ℕ → Blocks) : Type 0 where
+  pub steps : List Task
+  pub same : map as_asked steps ≡ asked
+  pub lists : ListsAlong w steps
+  pub leads : after_tasks w steps ≡ u
+  pub images : ImagesDevices w steps device
+
 -- all steps, or those before one that found the journal full, or some, where there was no memory
 abbrev pub EndsBy : ℕ → List Task → World → Result (Unit {0}) Bar → Type 0
 EndsBy done tasks u (Ok x) = done ≡ length tasks
 EndsBy done tasks u (Err Full) = IsFull done tasks u
 EndsBy done tasks u (Err NoMemory) = Unit {0}
 
--- the first steps of a list lead from a world to another
-pub record GoesTo (w : World) (tasks : List Task) (u : World) (result : Result (Unit {0}) Bar) : Type 0 where
+-- The first steps of a list lead from a world to another; where there are none, the devices are as they were.
+pub record GoesTo (w : World) (before : ℕ → Blocks) (tasks : List Task) (u : World) (after : ℕ → Blocks) (result : Result (Unit {0}) Bar) : Type 0 where
   pub done : ℕ
   pub within : done ≤ length tasks
-  pub leads : after_tasks w (take done tasks) ≡ u
+  pub led : StepsLead w (take done tasks) u after
+  pub still : take done tasks ≡ [] → after ≡ before
   pub ends : EndsBy done tasks u result

@@ -1,9 +1,10 @@
 -- Where a run stands that ended within a line, and what was printed.
-use Rattle.std.specs.Prelude.{◌≡◌, ℕ, ◌+◌, ◌<◌, ◌≤◌, ◌⊎◌, List, [], ◌++◌, length, take, drop, Option}
+use Rattle.std.specs.Prelude.{◌≡◌, ℕ, ◌+◌, ◌<◌, ◌≤◌, ◌⊎◌, List, [], ◌++◌, length, map, take, drop, Option}
 use Rattle.std.specs.List.{fold}
 use Rattle.std.specs.Str.Lines.{lines}
 use Rattle.dr_model.specs.declared.event.Event.{Event}
 use Rattle.dr_model.specs.Control.{World}
+use Rattle.dr_model.specs.Listed.{as_asked}
 use Rattle.dr_model.specs.Limits.{most_events}
 use Rattle.dr_model.specs.Lines.{tasks, tasks_from}
 use Rattle.dr_model.specs.Runs.{Task, after_tasks, run}
@@ -26,7 +27,7 @@ module _ {S : Type 0} (left : S → Option (List ℕ)) (source : S) where
 
   -- A run that stands in a line: so many of its steps were carried out, after all lines before it. At most one piece was
   -- taken behind it. What was taken is within the limits of bytes, and its lines up to this one within that of lines.
-  pub record IsHalted (taken : List ℕ) (w : World) : Type 0 where
+  pub record IsHalted (taken : List ℕ) (steps : List Task) (w : World) : Type 0 where
     pub before : List ℕ
     pub line : List ℕ
     pub ahead : List ℕ
@@ -36,13 +37,18 @@ module _ {S : Type 0} (left : S → Option (List ℕ)) (source : S) where
     pub near : length ahead ≤ most_piece
     pub few : length (lines (before ++ line)) ≤ most_lines
     pub bytes : length taken ≤ most_bytes
+    pub earlier : List Task
+    pub later : List Task
+    pub both : steps ≡ earlier ++ later
+    pub asked : map as_asked earlier ≡ tasks before
     pub start : World
-    pub begins : run (tasks before) ≡ start
+    pub begins : run earlier ≡ start
     pub tasks : List Task
     pub are : tasks_from (length (lines before) + 1) (lines line) ≡ tasks
     pub done : ℕ
     pub within : done ≤ length tasks
-    pub leads : after_tasks start (take done tasks) ≡ w
+    pub carried : map as_asked later ≡ take done tasks
+    pub leads : after_tasks start later ≡ w
 
 -- the next step found the journal full
 abbrev pub IsFull : ℕ → List Task → World → Type 0

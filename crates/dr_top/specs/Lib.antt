@@ -2,5 +2,8 @@ pub mod Cut
 pub mod Followed
 pub mod Carried
 pub mod Ran
+pub mod Stands
 pub mod Outcome
 pub mod Statuses
+pub mod Reports
+pub mod Offline

@@ -4,6 +4,7 @@ ghost use Rattle.std.specs.Prelude.{◌≡◌, ℕ, ◌+◌, ◌<◌, ◌≤◌,
 ghost use Rattle.dr_logic.specs.Counts.{Counted};
 ghost use Rattle.dr_model.specs.Answers.{answer};
 ghost use Rattle.dr_model.specs.Control.{World};
+ghost use Rattle.dr_model.specs.Layout.{Blocks};
 ghost use Rattle.dr_model.specs.declared.said.Said.TheVariants.{Refused};
 ghost use Rattle.dr_ids.specs.declared.refusal.Refusal.{Refusal};
 ghost use Rattle.dr_model.specs.Laws.{Sound};
@@ -53,8 +54,8 @@ fn carry_steps<P: Plant>(
     requires reached { Reached (here (P.state plant.old) config.old tables.old journal.old.events) }
     requires written { All IsWritten line.now }
     requires room { length journal.old.events ≤ most_events }
-    ensures goes { GoesTo (here (P.state plant.old) config.old tables.old journal.old.events) (tasks_read number (Ok line.now))
-        (here (P.state plant.new) config.new tables.new journal.new.events) result }
+    ensures goes { GoesTo (here (P.state plant.old) config.old tables.old journal.old.events) (P.state plant.old).block (tasks_read number (Ok line.now))
+        (here (P.state plant.new) config.new tables.new journal.new.events) (P.state plant.new).block result }
     ensures ready { IsReady (P.state plant.new) config.new tables.new journal.new.events }
     ensures faults { (f : ℕ) → Counted (told_stop journal.old.events) f (P.state plant.old).faults → Counted (told_stop journal.new.events) f (P.state plant.new).faults }
     ensures room { length journal.new.events ≤ most_events }
@@ -74,7 +75,7 @@ fn carry_steps<P: Plant>(
 /// Carries out the one step of a line outside the grammar: it is refused.
 fn carry_fault(journal: &mut Journal, number: u32, column: u16) -> Result<(), Bar>
     requires room { length journal.old.events ≤ most_events }
-    ensures goes { (w : World) → w.events ≡ journal.old.events → GoesTo w (tasks_read number (Err column)) (record w { events = journal.new.events }) result }
+    ensures goes { (w : World) (device : ℕ → Blocks) → w.events ≡ journal.old.events → GoesTo w device (tasks_read number (Err column)) (record w { events = journal.new.events }) device result }
     ensures stops { told_stop journal.new.events ≡ told_stop journal.old.events }
     ensures told { (h : Tables) → IsTold h journal.old.events → IsTold h journal.new.events }
     ensures room { length journal.new.events ≤ most_events }
@@ -103,8 +104,8 @@ pub fn carry_line<P: Plant>(
     requires ready { IsReady (P.state plant.old) config.old tables.old journal.old.events }
     requires reached { Reached (here (P.state plant.old) config.old tables.old journal.old.events) }
     requires room { length journal.old.events ≤ most_events }
-    ensures goes { GoesTo (here (P.state plant.old) config.old tables.old journal.old.events) (tasks_of number line.now)
-        (here (P.state plant.new) config.new tables.new journal.new.events) result }
+    ensures goes { GoesTo (here (P.state plant.old) config.old tables.old journal.old.events) (P.state plant.old).block (tasks_of number line.now)
+        (here (P.state plant.new) config.new tables.new journal.new.events) (P.state plant.new).block result }
     ensures ready { IsReady (P.state plant.new) config.new tables.new journal.new.events }
     ensures faults { (f : ℕ) → Counted (told_stop journal.old.events) f (P.state plant.old).faults → Counted (told_stop journal.new.events) f (P.state plant.new).faults }
     ensures room { length journal.new.events ≤ most_events }

@@ -1,12 +1,14 @@
-//! The top call: reads a script from a source, carries it out on a plant and prints the answers to a sink.
+//! The top call: reads a script from a source, carries it out on a plant and prints the answers to a sink; or reads an image, and
+//! prints what recovery makes of it.
 //!
 //! `drsim` is the top call; `docs/CLAIMS.md` says what its clauses promise. Below it, in private modules: `run_lines`
 //! takes the lines and `run_line` carries out one and prints its answers (`ran`). `carry_line` carries out its steps in
 //! order, until one finds the journal full or memory wanting (`goes`). `put_all` puts a whole piece or a front of it
-//! (`whole`, `part`).
+//! (`whole`, `part`). `recover` reads an image piece by piece and puts its report.
 #![tactic(auto)]
 
 mod carry;
+mod offline;
 mod put;
 mod run;
 mod status;

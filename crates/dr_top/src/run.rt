@@ -13,7 +13,7 @@ ghost use Rattle.dr_steps.specs.Faults.{told_stop};
 ghost use Rattle.dr_top.specs.Followed.{text_since};
 ghost use Rattle.dr_io.specs.Given.{Gave, GavePart};
 ghost use Rattle.dr_steps.specs.Here.{here, IsReady};
-ghost use Rattle.dr_top.specs.Outcome.{Ran};
+ghost use Rattle.dr_top.specs.Reports.{RanBy};
 ghost use Rattle.dr_top.specs.Ran.{is_on_sink, RanLine};
 ghost use Rattle.dr_top.specs.Statuses.{halt_status};
 
@@ -104,8 +104,8 @@ fn run_line<P: Plant, K: Sink>(
     requires room { length journal.old.events ≤ most_events }
     requires heard { heard_seen told.old ≡ fold heard untold journal.old.events }
     ensures heard { OnOk result (heard_seen told.new ≡ fold heard untold journal.new.events) }
-    ensures ran { RanLine K.written sink.old sink.new (here (P.state plant.old) config.old tables.old journal.old.events) (tasks_of number line.now)
-        (here (P.state plant.new) config.new tables.new journal.new.events) result }
+    ensures ran { RanLine K.written sink.old sink.new (here (P.state plant.old) config.old tables.old journal.old.events) (P.state plant.old).block (tasks_of number line.now)
+        (here (P.state plant.new) config.new tables.new journal.new.events) (P.state plant.new).block result }
     ensures faults { Counted (is_on_sink result) (K.faults sink.old) (K.faults sink.new) }
     ensures ready { IsReady (P.state plant.new) config.new tables.new journal.new.events }
     ensures stops { (f : ℕ) → Counted (told_stop journal.old.events) f (P.state plant.old).faults → Counted (told_stop journal.new.events) f (P.state plant.new).faults }
@@ -136,9 +136,8 @@ pub fn run_lines<P: Plant, S: Source, K: Sink>(
 ) -> Status
     requires ready { IsReady (P.state plant.old) config.old tables.old journal.old.events }
     requires begins { here (P.state plant.old) config.old tables.old journal.old.events ≡ nothing }
-    ensures ran { Ran S.left K.written source.old source.new sink.old sink.new S.faults K.faults result (here (P.state plant.new) config.new tables.new journal.new.events) }
+    ensures ran { RanBy S.left K.written source.old source.new sink.old sink.new S.faults K.faults result (here (P.state plant.new) config.new tables.new journal.new.events) (P.state plant.new).block }
     ensures ready { IsReady (P.state plant.new) config.new tables.new journal.new.events }
-    ensures reached { Reached (here (P.state plant.new) config.new tables.new journal.new.events) }
     ensures stops { Counted (told_stop journal.new.events) (P.state plant.old).faults (P.state plant.new).faults }
     ensures room { length journal.new.events ≤ most_events }
 {

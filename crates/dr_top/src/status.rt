@@ -19,8 +19,14 @@ pub enum Status {
     WriteFault,
     /// There is no memory.
     NoMemory,
-    /// The input has more bytes or lines than a script may have, or a step found the journal full.
+    /// The input has more bytes or lines than a script or an image may have, or a step found the journal full.
     TooLong,
+    /// The input is no image.
+    BadImage,
+    /// No recovery is possible of the image.
+    Contradiction,
+    /// No volume of the image counts in the session.
+    NoMembers,
 }
 
 impl Status {
@@ -36,6 +42,9 @@ impl Status {
             Status::WriteFault => 4,
             Status::NoMemory => 5,
             Status::TooLong => 6,
+            Status::BadImage => 7,
+            Status::Contradiction => 8,
+            Status::NoMembers => 9,
         }
     }
 }

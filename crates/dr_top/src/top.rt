@@ -1,9 +1,14 @@
 //! The call that the program makes.
 
-ghost use Rattle.std.specs.Prelude.{◌≡◌, ℕ, true, false, []};
+ghost use Rattle.std.specs.Prelude.{◌≡◌, ℕ, Some, None, []};
+ghost use Rattle.dr_ids.specs.declared.names.SessionId.{SessionId};
 ghost use Rattle.dr_plant.specs.State.{IsFresh};
-ghost use Rattle.dr_top.specs.Outcome.{is_run, IsRun, EndsUsage, IsUsage};
+ghost use Rattle.dr_top.specs.Offline.{IsOffline};
+ghost use Rattle.dr_top.specs.Outcome.{IsRun, EndsUsage, IsUsage};
+ghost use Rattle.dr_words.specs.Words.{command_of};
+ghost use Rattle.dr_words.specs.declared.words.Command.TheVariants.{Run, Recover, Trial};
 
+use crate::offline::recover;
 use crate::put::put_all;
 use crate::run::run_lines;
 use crate::status::Status;
@@ -12,18 +17,10 @@ use dr_io::{Sink, Source};
 use dr_model::Journal;
 use dr_plant::Plant;
 use dr_steps::Tables;
+use dr_words::{Command, command_of};
 use std::alloc::Global;
 
 const USAGE: &[u8] = b"usage: drsim run | recover SS | trial N | convert\n";
-
-fn is_run(words: &[String]) -> bool
-    ensures { result ≡ is_run words.now }
-{
-    match words {
-        [word] => word.as_str() == "run",
-        _ => false,
-    }
-}
 
 /// Reads a script, and runs it.
 fn run<P: Plant, S: Source, K: Sink>(
@@ -59,8 +56,10 @@ fn usage<K: Sink>(sink: &mut K) -> Status
     }
 }
 
-/// Carries out the command that the words name; `run` is the one that is built. It reads a script from the source line
-/// by line, carries out its steps on the plant, keeps what happens in the journal and prints the answers to the sink.
+/// Carries out the command that the words name. `run` reads a script from the source line by line, carries out its steps on
+/// the plant, keeps what happens in the journal and prints the answers to the sink. `recover SS` reads a plant image from the
+/// source, and prints what recovery of that session makes of it. For any other words the usage line is printed. Where there is no
+/// memory to read the words nothing is done.
 pub fn drsim<P: Plant, S: Source, K: Sink>(
     alloc: Global,
     words: &[String],
@@ -71,12 +70,15 @@ pub fn drsim<P: Plant, S: Source, K: Sink>(
 ) -> Status
     requires fresh { IsFresh (P.state plant.old) }
     requires empty { journal.old.events ≡ [] }
-    ensures run { is_run words.now ≡ true → IsRun S.left K.written source.old source.new sink.old sink.new S.faults K.faults result journal.new.events (P.state plant.old) (P.state plant.new) }
-    ensures usage { is_run words.now ≡ false → IsUsage K.written K.faults source.old source.new sink.old sink.new result journal.old journal.new (P.state plant.old) (P.state plant.new) }
+    ensures run { command_of words.now ≡ Some Run → IsRun S.left K.written source.old source.new sink.old sink.new S.faults K.faults result journal.new.events (P.state plant.old) (P.state plant.new) }
+    ensures recover { (s : SessionId) → command_of words.now ≡ Some (Recover s) → IsOffline S.left K.written source.old source.new sink.old sink.new S.faults K.faults s.0 result journal.old journal.new (P.state plant.old) (P.state plant.new) }
+    ensures trial { (n : ℕ) → command_of words.now ≡ Some (Trial n) → IsUsage K.written K.faults source.old source.new sink.old sink.new result journal.old journal.new (P.state plant.old) (P.state plant.new) }
+    ensures usage { command_of words.now ≡ None → IsUsage K.written K.faults source.old source.new sink.old sink.new result journal.old journal.new (P.state plant.old) (P.state plant.new) }
 {
-    if is_run(words) {
-        run(alloc, source, plant, sink, journal)
-    } else {
-        usage(sink)
+    match command_of(alloc, words) {
+        Ok(Some(Command::Run)) => run(alloc, source, plant, sink, journal),
+        Ok(Some(Command::Recover { session })) => recover(alloc, source, sink, session),
+        Ok(Some(Command::Trial { .. })) | Ok(None) => usage(sink),
+        Err(_) => Status::NoMemory,
     }
 }

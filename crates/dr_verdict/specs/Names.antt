@@ -1,8 +1,9 @@
-use Rattle.std.specs.Prelude.{ℕ, List, Bool, false, not, Option, None, Some, ◌-◌, ◌<◌, ◌^◌, length, take, if◌then◌else◌, nat_eq, codes}
+use Rattle.std.specs.Prelude.{ℕ, List, [], ◌∷◌, Bool, false, not, Option, None, Some, ◌-◌, ◌<◌, ◌^◌, length, take, if◌then◌else◌, nat_eq, codes}
 use Rattle.std.specs.Borrow.{Bor}
 use Rattle.std.specs.List.{ends_with, filter_map, list_any}
 use Rattle.std.specs.Option.{option_or}
 use Rattle.std.specs.Str.{bytes_eq, trim_end}
+use Rattle.std.specs.Str.Lines.{lines}
 use Rattle.std.specs.Str.Parse.{IsNumeral, digits_value, without_leading_plus}
 
 -- what stands before this ending of a file's name; none where it has another
@@ -24,7 +25,7 @@ lacks (Some name) names = not (is_known name names)
 
 -- a file of this name belongs to a script, and none of these scripts is it
 abbrev pub is_stray : List ℕ → List (Bor (List ℕ)) → Bool
-is_stray file names = lacks (option_or (name_before file (codes ".out")) (name_before file (codes ".status"))) names
+is_stray file names = lacks (option_or (option_or (name_before file (codes ".out")) (name_before file (codes ".status"))) (name_before file (codes ".words"))) names
 
 -- the number that stands in a text; what is white at its end doesn't count
 abbrev pub status_of : List ℕ → ℕ
@@ -33,3 +34,8 @@ status_of text = digits_value 10 (without_leading_plus (trim_end text))
 -- there is such a number, and it is below 256
 abbrev pub IsStatus : List ℕ → Type 0
 IsStatus text = IsNumeral 10 (without_leading_plus (trim_end text)) × (status_of text < 2 ^ 8)
+
+-- the words that a scenario's run is given, by the text of its file of words: the lines of it; `run` where there is no file
+abbrev pub words_of : Option (List ℕ) → List (List ℕ)
+words_of None = codes "run" ∷ []
+words_of (Some text) = lines text

@@ -4,9 +4,9 @@
 //! `judge` says that a scenario agrees exactly where output and status are as stored; else it gives the first line that
 //! differs or, where the output is as stored, the status (`IsVerdict`). `differing_line` gives none exactly where both
 //! texts are the same (`none`, `line`). `script_names` gives the name of every script among a folder's files, and
-//! `is_stray` tells a file without its script; `status_of` is the number in a text. `Tally::of` counts (`agree`,
-//! `all`), and `Tally::code` is 0 exactly where nothing differs. `difference` and `counts` are the bytes of the printed
-//! lines.
+//! `is_stray` tells a file without its script; `status_of` is the number in a text, and `words_of` are the lines of one, or
+//! `run` where there is none. `Tally::of` counts (`agree`, `all`), and `Tally::code` is 0 exactly where nothing differs.
+//! `difference` and `counts` are the bytes of the printed lines.
 #![tactic(auto)]
 
 mod names;
@@ -14,7 +14,7 @@ mod report;
 mod texts;
 mod verdict;
 
-pub use names::{OUTPUT, SCRIPT, STATUS, is_stray, script_names, status_of};
+pub use names::{OUTPUT, SCRIPT, STATUS, WORDS, is_stray, script_names, status_of, words_of};
 pub use report::{counts, difference};
 pub use texts::differing_line;
 pub use verdict::{Outcome, Tally, Verdict, judge};

@@ -1,8 +1,9 @@
-//! The names of the files of a folder of scenarios, and what a stored status says.
+//! The names of the files of a folder of scenarios, and what a stored status and stored words say.
 
 ghost use Rattle.std.specs.Prelude.{◌≡◌, ◌↔◌, IfOk, map, string_bytes, codes, SomeIff};
 ghost use Rattle.std.specs.Option.{option_copied};
-ghost use Rattle.dr_verdict.specs.Names.{name_before, script_names, is_known, is_stray, IsStatus, status_of};
+ghost use Rattle.std.specs.Str.Lines.{lines};
+ghost use Rattle.dr_verdict.specs.Names.{name_before, script_names, is_known, is_stray, IsStatus, status_of, words_of};
 
 use std::alloc::{AllocError, Global};
 
@@ -12,6 +13,11 @@ pub const SCRIPT: &str = ".dscli";
 pub const OUTPUT: &str = ".out";
 /// The same of the status with which its run should end.
 pub const STATUS: &str = ".status";
+/// The same of the words that its run is given.
+pub const WORDS: &str = ".words";
+
+/// The words of a scenario that has no file of words.
+const NO_FILE: &str = "run";
 
 /// What stands before this ending of a file's name.
 fn name_before<'a>(file: &'a str, ending: &str) -> Option<&'a str>
@@ -40,11 +46,14 @@ fn is_known(name: &str, names: &[&str]) -> bool
     names.iter().any(|known| *known == name)
 }
 
-/// Whether this file is what a script should print or end with, and no such script is there.
+/// Whether this file is what a script is run with, or should print or end with, and no such script is there.
 pub fn is_stray(file: &str, names: &[&str]) -> bool
     ensures { result ≡ is_stray file.now names.now }
 {
-    match name_before(file, OUTPUT).or(name_before(file, STATUS)) {
+    let name = name_before(file, OUTPUT)
+        .or(name_before(file, STATUS))
+        .or(name_before(file, WORDS));
+    match name {
         Some(name) => !is_known(name, names),
         None => false,
     }
@@ -55,4 +64,24 @@ pub fn status_of(text: &str) -> Option<u8>
     ensures { SomeIff result (IsStatus text.now) (status_of text.now) }
 {
     text.trim_end().parse().ok()
+}
+
+/// The lines of a text, without their ends.
+fn lines_of(alloc: Global, text: &str) -> Result<Vec<&str>, AllocError>
+    ensures { IfOk result (λ found. map (λ line. line.now) found.items ≡ lines text.now) }
+{
+    text.lines().collect(alloc)
+}
+
+/// The words that a scenario's run is given, by its file of words: each line of it is one. Without a file it is the one
+/// word `run`.
+pub fn words_of(alloc: Global, text: Option<&str>) -> Result<Vec<String>, AllocError>
+    ensures { IfOk result (λ words. map string_bytes words.items ≡ words_of (option_copied text.entry)) }
+{
+    let lines = lines_of(alloc, text.unwrap_or(NO_FILE))?;
+    let mut words = Vec::new(alloc);
+    for line in &lines {
+        words.push(String::from_str(alloc, line)?)?;
+    }
+    Ok(words)
 }

@@ -59,10 +59,14 @@ fn run(alloc: Global, words: &str, script: Vec<u8>) -> Result<Left, AllocError> 
 
 const FIRST: &str = "@server A\r\n@volume 1000 A 2\n@write 1000 0 0 41\n@show 1000 0\n";
 
+/// A target of group 1, which has what its source has.
+const TARGET: &str =
+    "image 1\nvolume 2000 0 1\nvolume 3000 0 1\nblock 2000 13 41\nblock 3000 1 00000000009F01000000000020000000000000000000000000000001\nend\n";
+
 #[test]
 fn other_words(rt: HostRuntime) -> Result<(), AllocError> {
     let usage = b"usage: drsim run | recover SS | trial N | convert\n";
-    for words in ["", "run x", "recover 01", "help", "RUN"] {
+    for words in ["", "run x", "recover 00", "trial 1", "help", "RUN"] {
         let script = Vec::from_slice(rt.alloc(), b"@server A\n")?;
         let left = run(rt.alloc(), words, script)?;
         assert!(rt;
@@ -140,6 +144,13 @@ fn reads_and_writes_that_fail(rt: HostRuntime) -> Result<(), AllocError> {
         ("run", stuck, "", 4, 2),
         ("run", narrow, "1 o", 4, 2),
         ("run", both, "", 4, 2),
+        ("recover 01", SOUND, "bad image line 1\n", 7, 0),
+        ("recover 01", Faults { read: 1, ..SOUND }, "", 3, 0),
+        ("recover 01", Faults { read: 4, ..SOUND }, "", 3, 0),
+        ("recover 01", Faults { fail: 1, ..SOUND }, "", 4, 0),
+        ("recover 01", stuck, "", 4, 0),
+        ("recover 01", narrow, "bad", 4, 0),
+        ("recover 01", both, "", 3, 0),
         ("help", Faults { fail: 1, ..SOUND }, "", 4, 0),
         ("help", narrow, "usa", 4, 0),
     ];
@@ -149,10 +160,36 @@ fn reads_and_writes_that_fail(rt: HostRuntime) -> Result<(), AllocError> {
     Ok(())
 }
 
-/// Scripts of so many times one byte, and behind them last lines, which the source gives in pieces of so many bytes.
+/// Makes a call with an input of so many times one byte and last lines behind them, of which the source gives so many bytes at a
+/// time, and asserts what it puts.
+fn call_in_pieces(
+    rt: &impl Abort,
+    alloc: Global,
+    words: &str,
+    repeated: (u8, usize),
+    last: &str,
+    piece: usize,
+    printed: &str,
+    status: u8,
+) -> Result<(), AllocError>
+    requires { 0 < piece }
+{
+    let (byte, count) = repeated;
+    let mut input = vec![in alloc; byte; count]?;
+    input.extend_from_slice(last.as_bytes())?;
+    let source = MemSource::new(input, piece, Vec::new(alloc));
+    let sink = MemSink::new(alloc, 4096, Vec::new(alloc), Vec::new(alloc))?;
+    let left = call(alloc, words, source, sink)?;
+    assert!(rt;
+        left.sink.bytes() == printed.as_bytes(),
+        "printed of {count} times {byte} in pieces of {piece}"
+    );
+    assert_eq!(rt; left.status, status, "status of {count} times {byte}");
+    Ok(())
+}
+
 #[test]
 fn scripts_in_pieces(rt: HostRuntime) -> Result<(), AllocError> {
-    let alloc = rt.alloc();
     let printed = "2 ok\n3 ok\n4 ok w1\n5 ok 41\n";
     let cases = [
         (b'\n', 1, FIRST, 1, printed, 0),
@@ -168,16 +205,44 @@ fn scripts_in_pieces(rt: HostRuntime) -> Result<(), AllocError> {
         (b' ', 1_025, "", 7, "1 E01 syntax 1025\n", 1),
     ];
     for (byte, count, last, piece, printed, status) in cases {
-        let mut script = vec![in alloc; byte; count]?;
-        script.extend_from_slice(last.as_bytes())?;
-        let source = MemSource::new(script, piece, Vec::new(alloc));
-        let sink = MemSink::new(alloc, 4096, Vec::new(alloc), Vec::new(alloc))?;
-        let left = call(alloc, "run", source, sink)?;
-        assert!(rt;
-            left.sink.bytes() == printed.as_bytes(),
-            "printed of {count} times {byte} in pieces of {piece}"
-        );
-        assert_eq!(rt; left.status, status, "status of {count} times {byte}");
+        call_in_pieces(
+            &rt,
+            rt.alloc(),
+            "run",
+            (byte, count),
+            last,
+            piece,
+            printed,
+            status,
+        )?;
+    }
+    Ok(())
+}
+
+#[test]
+fn images_in_pieces(rt: HostRuntime) -> Result<(), AllocError> {
+    let group = "members 1\ndecision Nothing(1)\ngroup 1\ntrack 3000 0 41\n";
+    let cases = [
+        (0, TARGET, 1, group, 0),
+        (0, TARGET, 2, group, 0),
+        (0, TARGET, 3, group, 0),
+        (0, TARGET, 63, group, 0),
+        (0, TARGET, 4096, group, 0),
+        (100_000, "", 4096, "bad image line 1\n", 7),
+        (100_001, "", 4096, "", 6),
+        (100_000, "x", 63, "", 6),
+    ];
+    for (feeds, last, piece, printed, status) in cases {
+        call_in_pieces(
+            &rt,
+            rt.alloc(),
+            "recover 01",
+            (b'\n', feeds),
+            last,
+            piece,
+            printed,
+            status,
+        )?;
     }
     Ok(())
 }

@@ -1,8 +1,11 @@
-//! Reads a folder of scenarios. The scenario NAME has its script in NAME.dscli, what it should print in NAME.out and,
-//! where it isn't 0, the status with which its run should end in NAME.status.
+//! Reads a folder of scenarios. The scenario NAME has its script, or what else the program reads, in NAME.dscli, what it
+//! should print in NAME.out and, where it isn't 0, the status with which its run should end in NAME.status. The words
+//! that the program is given stand in NAME.words, one a line; without that file they are the one word `run`.
 
 use anyhow::{Context, Result, bail};
-use dr_verdict::{OUTPUT, Outcome, SCRIPT, STATUS, is_stray, script_names, status_of};
+use dr_verdict::{
+    OUTPUT, Outcome, SCRIPT, STATUS, WORDS, is_stray, script_names, status_of, words_of,
+};
 use std::alloc::{AllocError, Global};
 use std::fs;
 use std::io::ErrorKind;
@@ -47,17 +50,36 @@ fn read(
     fs::read(rt, path.as_str()).context(format_args!("{name}{ending}"))
 }
 
-/// The script of a scenario.
-pub fn script(rt: &(impl Files + AllocGlobal), folder: &str, name: &str) -> Result<Vec<u8>> {
+/// What the program reads in a scenario.
+pub fn input(rt: &(impl Files + AllocGlobal), folder: &str, name: &str) -> Result<Vec<u8>> {
     read(rt, folder, name, SCRIPT)
 }
 
-fn stored_status(rt: &(impl Files + AllocGlobal), folder: &str, name: &str) -> Result<u8> {
-    let path = path_of(rt.alloc(), folder, name, STATUS)?;
+/// The text of a scenario's file that may be missing.
+fn read_text(
+    rt: &(impl Files + AllocGlobal),
+    folder: &str,
+    name: &str,
+    ending: &str,
+) -> Result<Option<String>> {
+    let path = path_of(rt.alloc(), folder, name, ending)?;
     match fs::read_to_string(rt, path.as_str()) {
-        Ok(text) => status_of(&text).context(format_args!("{name}{STATUS} has no status")),
-        Err(error) if error.kind() == ErrorKind::NotFound => Ok(0),
-        Err(error) => Err(error).context(format_args!("{name}{STATUS}")),
+        Ok(text) => Ok(Some(text)),
+        Err(error) if error.kind() == ErrorKind::NotFound => Ok(None),
+        Err(error) => Err(error).context(format_args!("{name}{ending}")),
+    }
+}
+
+/// The words that the program is given in a scenario.
+pub fn words(rt: &(impl Files + AllocGlobal), folder: &str, name: &str) -> Result<Vec<String>> {
+    let text = read_text(rt, folder, name, WORDS)?;
+    Ok(words_of(rt.alloc(), text.as_deref())?)
+}
+
+fn stored_status(rt: &(impl Files + AllocGlobal), folder: &str, name: &str) -> Result<u8> {
+    match read_text(rt, folder, name, STATUS)? {
+        Some(text) => status_of(&text).context(format_args!("{name}{STATUS} has no status")),
+        None => Ok(0),
     }
 }
 

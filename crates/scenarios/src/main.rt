@@ -1,8 +1,8 @@
-//! Runs a folder of scenarios: each script through the top call, in memory, with what it prints and how it ends compared
+//! Runs a folder of scenarios: each input through the top call, in memory, with what it prints and how it ends compared
 //! with what is stored beside it.
 //!
-//! `main` reads the folder, makes the top call on each script over a plant and streams in memory, and prints what
-//! `dr_verdict` says. No function of it has a clause.
+//! `main` reads the folder, makes the top call of each scenario's words and input over a plant and streams in memory, and
+//! prints what `dr_verdict` says. No function of it has a clause.
 #![tactic(auto)]
 
 mod folder;
@@ -40,8 +40,9 @@ fn folder_of(words: &[String]) -> Option<&str> {
 /// Runs one scenario of a folder.
 fn try_scenario(rt: &(impl Files + AllocGlobal), folder: &str, name: &str) -> Result<Verdict> {
     let wanted = folder::stored(rt, folder, name)?;
-    let script = folder::script(rt, folder, name)?;
-    let found = run::run_script(rt.alloc(), script, wanted.printed.len())?;
+    let words = folder::words(rt, folder, name)?;
+    let input = folder::input(rt, folder, name)?;
+    let found = run::run_program(rt.alloc(), &words, input, wanted.printed.len())?;
     Ok(judge(&wanted, &found))
 }
 

@@ -1,4 +1,4 @@
-//! Runs a script in memory.
+//! Runs the program in memory.
 
 use dr_io::{MemSink, MemSource};
 use dr_model::Journal;
@@ -7,22 +7,25 @@ use dr_top::{Status, drsim};
 use dr_verdict::Outcome;
 use std::alloc::{AllocError, Global};
 
-/// How many bytes of a script the source gives at a time.
+/// How many bytes of the input the source gives at a time.
 const PIECE: usize = 4096;
 
-/// Runs this script on an empty plant, up to one byte more of output than is wanted. So output that is as wanted is had
-/// whole, with its run's own status, and any other output differs within what is had.
-pub fn run_script(alloc: Global, script: Vec<u8>, wanted: usize) -> Result<Outcome, AllocError> {
-    let mut words = Vec::new(alloc);
-    words.push(String::from_str(alloc, "run")?)?;
-    let mut source = MemSource::new(script, PIECE, Vec::new(alloc));
+/// Runs the program with these words on an empty plant, over this input, up to one byte more of output than is wanted. So
+/// output that is as wanted is had whole, with its run's own status, and any other output differs within what is had.
+pub fn run_program(
+    alloc: Global,
+    words: &[String],
+    input: Vec<u8>,
+    wanted: usize,
+) -> Result<Outcome, AllocError> {
+    let mut source = MemSource::new(input, PIECE, Vec::new(alloc));
     let room = wanted.saturating_add(1);
     let mut sink = MemSink::new(alloc, room, Vec::new(alloc), Vec::new(alloc))?;
     let mut plant = ModelPlant::new(alloc);
     let mut journal = Journal::new(alloc);
     let status = drsim(
         alloc,
-        &words,
+        words,
         &mut source,
         &mut plant,
         &mut sink,

@@ -1,5 +1,5 @@
 use Rattle.std.proofs.Common.{sym, ◌∙◌, ap, ◌∷◌, ◌+◌, take}
-use Rattle.dr_model.specs.Lines.{is_space, words}
+use Rattle.dr_model.specs.PlantImage.{is_space, words}
 use Rattle.dr_image.proofs.SpaceLemmas.{parts-at, parts-none}
 use Rattle.dr_image.proofs.words.split_word.Goals as goal
 use Rattle.dr_logic.proofs.Lists.{to_the_end}

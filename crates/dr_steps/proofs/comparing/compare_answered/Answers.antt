@@ -1,4 +1,4 @@
-use Rattle.std.proofs.Common.{[], ◌∷◌, ◌++◌, ap, sym, ◌∙◌, subst}
+use Rattle.std.proofs.Common.{[], ◌∷◌, ◌++◌, ap, sym, ◌∙◌}
 use Rattle.dr_model.specs.Control.{World}
 use Rattle.dr_model.specs.Answers.{answer}
 use Rattle.dr_model.specs.Runs.{said}

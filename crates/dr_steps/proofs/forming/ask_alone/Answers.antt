@@ -1,4 +1,4 @@
-use Rattle.std.proofs.Common.{ap, sym, ◌∙◌, subst, true, None}
+use Rattle.std.proofs.Common.{sym, subst, true}
 use Rattle.dr_model.specs.Forming.{part}
 use Rattle.dr_model.specs.SessionPlans.{asking}
 use Rattle.dr_laws_sound.proofs.Parts.{comes-asking}

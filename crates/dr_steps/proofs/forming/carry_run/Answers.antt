@@ -18,7 +18,7 @@ pub returns-then-not-has_room-clause-task : goal.returns-then-not-has_room-claus
 returns-then-not-has_room-clause-task g c =
     let s = g.P.Plant.state c.args.plant.now in let t = c.args.config.now in let h = c.args.tables.now in let ev = c.args.journal.now.events in
     let w = here s t h ev in
-    refused-task c.args.number JournalFull ev c.refuse.new.journal.events c.refuse.result s t h (Run c.args.s.0 c.args.groups)
+    refused-task c.args.number JournalFull ev c.refuse.new.journal.events c.refuse.result s t h
     (formed-task w w c.args.number c.args.s.0 c.args.groups _ (formed-full w c.args.s.0 c.args.groups (sym c.if-not-has_room.ensures))) c.refuse.ensures.told
 
 pub returns-then-not-has_room-clause-ready : goal.returns-then-not-has_room-clause-ready

@@ -1,4 +1,4 @@
-use Rattle.std.proofs.Common.{ap, sym, ◌∙◌, subst, true, None}
+use Rattle.std.proofs.Common.{ap, sym, ◌∙◌, subst, None}
 use Rattle.dr_model.specs.Forming.{part}
 use Rattle.dr_model.specs.Plans.{drain_plan}
 use Rattle.dr_model.specs.Sessions.{session_in, members_in}

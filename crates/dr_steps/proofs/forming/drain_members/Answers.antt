@@ -1,9 +1,7 @@
-use Rattle.std.proofs.Common.{◌<◌, ◌≡◌, ◌∙◌, ap, sym, refl, subst, arith, length, drop, slice_get, Some, None}
-use Rattle.dr_ids.specs.declared.names.Member.{Member}
+use Rattle.std.proofs.Common.{◌<◌, ◌∙◌, sym, subst, arith, length, drop, slice_get, Some, None}
 use Rattle.dr_model.specs.Forming.{drains, stays}
 use Rattle.dr_model.specs.SessionEntries.{members_on}
 use Rattle.dr_model.specs.Sessions.{session_in, members_in}
-use Rattle.dr_moves.specs.Here.{refusal_of}
 use Rattle.dr_steps.specs.Formed.{Reaches, drain_next, to_drain}
 use Rattle.dr_steps.specs.Here.{here}
 use Rattle.dr_steps.proofs.LandLemmas.{refused-by}

@@ -1,7 +1,6 @@
-use Rattle.std.proofs.Common.{ap, sym, refl, subst, Some, None}
+use Rattle.std.proofs.Common.{refl, subst, None}
 use Rattle.dr_model.specs.Forming.{part, stays}
 use Rattle.dr_model.specs.Plans.{drain_plan}
-use Rattle.dr_model.specs.Sessions.{session_in, members_in}
 use Rattle.dr_moves.specs.Here.{refusal_of}
 use Rattle.dr_steps.specs.Formed.{Reaches, drain_next}
 use Rattle.dr_steps.specs.Here.{here}

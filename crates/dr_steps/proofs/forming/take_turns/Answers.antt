@@ -1,7 +1,7 @@
-use Rattle.std.proofs.Common.{ℕ, zero, suc, ◌≡◌, ◌+◌, ◌∙◌, ap, sym, refl, subst, arith, false, length, Some, None}
+use Rattle.std.proofs.Common.{suc, ◌≡◌, ◌+◌, ◌∙◌, ap, sym, subst, arith, false, Some, None}
 use Rattle.dr_ids.specs.declared.refusal.Refusal.TheVariants.{OutOfOrder}
-use Rattle.dr_model.specs.Forming.{turns, most_turns, next_asked, ask, master_in, phase_in, has_committed, still_left}
-use Rattle.dr_model.specs.Sessions.{session_in, mirror_in, members_in}
+use Rattle.dr_model.specs.Forming.{turns, most_turns, ask, phase_in, has_committed, still_left}
+use Rattle.dr_model.specs.Sessions.{session_in, members_in}
 use Rattle.dr_flash.proofs.CheckLemmas.{same-test, differ-test}
 use Rattle.dr_steps.specs.Formed.{Reaches}
 use Rattle.dr_steps.specs.Here.{here}

@@ -1,4 +1,4 @@
-use Rattle.std.proofs.Common.{ap, sym, ◌∙◌}
+use Rattle.std.proofs.Common.{ap}
 use Rattle.std.specs.Prelude.{is_some}
 use Rattle.dr_config.proofs.Lookups.{place-of-entry, none-mapped}
 use Rattle.dr_config.specs.declared.entries.VolumeEntry.{VolumeEntry}

@@ -1,5 +1,4 @@
 use Rattle.std.proofs.Common.{◌++◌, [], ◌∷◌, Some, None}
-use Rattle.dr_model.specs.Carry.{Entry}
 use Rattle.dr_model.specs.Control.{Control}
 use Rattle.dr_model.specs.declared.said.Said.TheVariants.{Done}
 use Rattle.dr_model.specs.declared.said.Addition.TheVariants.{Alone}

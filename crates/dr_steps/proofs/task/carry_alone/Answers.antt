@@ -1,41 +1,25 @@
 use Rattle.std.proofs.Common.{sym, refl}
-use Rattle.dr_ids.specs.declared.refusal.Refusal.TheVariants.{NotBuilt, JournalFull}
+use Rattle.dr_ids.specs.declared.refusal.Refusal.TheVariants.{JournalFull}
 use Rattle.dr_steps.specs.Here.{here}
-use Rattle.dr_steps.proofs.StepTaskLemmas.{task-unbuilt, task-full, refused-task, refused-told, refused-faults}
+use Rattle.dr_steps.proofs.StepTaskLemmas.{task-full, refused-task, refused-told, refused-faults}
 use Rattle.dr_steps.proofs.WellFormedLemmas.{written-fits}
 use Rattle.dr_steps.proofs.task.carry_alone.Goals as goal
-
-pub returns-then-not-is_built-clause-task : goal.returns-then-not-is_built-clause-task
-returns-then-not-is_built-clause-task g c =
-    let w = here (g.P.Plant.state c.args.plant.now) c.args.config.now c.args.tables.now c.args.journal.now.events in
-    refused-task c.args.number NotBuilt c.args.journal.now.events c.refuse.new.journal.events c.refuse.result (g.P.Plant.state c.args.plant.now) c.args.config.now c.args.tables.now c.args.step.now (task-unbuilt w c.args.number c.args.step.now c.requires.alone (sym c.if-not-is_built.ensures)) c.refuse.ensures.told
-
-pub returns-then-not-is_built-clause-ready : goal.returns-then-not-is_built-clause-ready
-returns-then-not-is_built-clause-ready g c = record {
-  rest = c.requires.ready.rest;
-  reads = c.requires.ready.reads;
-  told = refused-told c.args.number NotBuilt c.args.journal.now.events c.refuse.new.journal.events c.refuse.result c.args.tables.now c.refuse.ensures.told c.refuse.ensures.same c.requires.ready.told;
-}
-
-pub returns-then-not-is_built-clause-faults : goal.returns-then-not-is_built-clause-faults
-returns-then-not-is_built-clause-faults g c f before =
-    refused-faults c.args.number NotBuilt c.args.journal.now.events c.refuse.new.journal.events c.refuse.result f (g.P.Plant.state c.args.plant.now).faults refl c.refuse.ensures.told c.refuse.ensures.same before
 
 pub returns-then-not-has_room-clause-task : goal.returns-then-not-has_room-clause-task
 returns-then-not-has_room-clause-task g c =
     let w = here (g.P.Plant.state c.args.plant.now) c.args.config.now c.args.tables.now c.args.journal.now.events in
-    refused-task c.args.number JournalFull c.args.journal.now.events c.refuse-then-not-has_room.new.journal.events c.refuse-then-not-has_room.result (g.P.Plant.state c.args.plant.now) c.args.config.now c.args.tables.now c.args.step.now (task-full w c.args.number c.args.step.now (sym c.if-not-is_built.ensures) (sym c.if-not-has_room.ensures)) c.refuse-then-not-has_room.ensures.told
+    refused-task c.args.number JournalFull c.args.journal.now.events c.refuse.new.journal.events c.refuse.result (g.P.Plant.state c.args.plant.now) c.args.config.now c.args.tables.now (task-full w c.args.number c.args.step.now c.requires.alone (sym c.if-not-has_room.ensures)) c.refuse.ensures.told
 
 pub returns-then-not-has_room-clause-ready : goal.returns-then-not-has_room-clause-ready
 returns-then-not-has_room-clause-ready g c = record {
   rest = c.requires.ready.rest;
   reads = c.requires.ready.reads;
-  told = refused-told c.args.number JournalFull c.args.journal.now.events c.refuse-then-not-has_room.new.journal.events c.refuse-then-not-has_room.result c.args.tables.now c.refuse-then-not-has_room.ensures.told c.refuse-then-not-has_room.ensures.same c.requires.ready.told;
+  told = refused-told c.args.number JournalFull c.args.journal.now.events c.refuse.new.journal.events c.refuse.result c.args.tables.now c.refuse.ensures.told c.refuse.ensures.same c.requires.ready.told;
 }
 
 pub returns-then-not-has_room-clause-faults : goal.returns-then-not-has_room-clause-faults
 returns-then-not-has_room-clause-faults g c f before =
-    refused-faults c.args.number JournalFull c.args.journal.now.events c.refuse-then-not-has_room.new.journal.events c.refuse-then-not-has_room.result f (g.P.Plant.state c.args.plant.now).faults refl c.refuse-then-not-has_room.ensures.told c.refuse-then-not-has_room.ensures.same before
+    refused-faults c.args.number JournalFull c.args.journal.now.events c.refuse.new.journal.events c.refuse.result f (g.P.Plant.state c.args.plant.now).faults refl c.refuse.ensures.told c.refuse.ensures.same before
 
-pub carry_built-requires-clause-fits : goal.carry_built-requires-clause-fits
-carry_built-requires-clause-fits g c = written-fits c.args.step.now c.requires.written
+pub carry_planned-requires-clause-fits : goal.carry_planned-requires-clause-fits
+carry_planned-requires-clause-fits g c = written-fits c.args.step.now c.requires.written

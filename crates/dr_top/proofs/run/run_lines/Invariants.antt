@@ -13,7 +13,7 @@ use Rattle.dr_top.proofs.run.run_lines.Given as goal
 abbrev pub invariant-loop-number : goal.invariant-loop-number
 invariant-loop-number g l = record {
   going : Going g.S.Source.left g.S.Source.faults g.K.Sink.written g.K.Sink.faults l.fn.source l.fn.sink l.source l.sink l.reader l.number
-      (here (g.P.Plant.state l.plant) l.config l.tables l.journal.events);
+      (here (g.P.Plant.state l.plant) l.config l.tables l.journal.events) (g.P.Plant.state l.plant).block;
   heard : heard_seen l.told ≡ fold heard untold l.journal.events;
   ready : IsReady (g.P.Plant.state l.plant) l.config l.tables l.journal.events;
   stops : Counted (told_stop l.journal.events) (g.P.Plant.state l.fn.plant).faults (g.P.Plant.state l.plant).faults;

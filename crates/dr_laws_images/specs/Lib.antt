@@ -1,0 +1,4 @@
+pub mod GivesBack
+pub mod Imaged
+pub mod OneServer
+pub mod Unbuilt

@@ -1,0 +1,82 @@
+-- What holds where steps of a script were carried out, whatever read them and printed their answers.
+use Rattle.std.specs.Prelude.{◌≡◌, ℕ, ◌+◌, ◌≤◌, List, Some, length, slice_get}
+use Rattle.dr_logic.specs.Counts.{Counted}
+use Rattle.dr_plant.specs.State.{PlantState}
+use Rattle.dr_model.specs.declared.event.Event.{Event}
+use Rattle.dr_model.specs.Control.{World, nothing}
+use Rattle.dr_model.specs.ClosedCuts.{ClosedCuts}
+use Rattle.dr_model.specs.Fits.{Fits}
+use Rattle.dr_model.specs.Limits.{most_events}
+use Rattle.dr_model.specs.Listed.{ListsAlong, ImagesDevices}
+use Rattle.dr_model.specs.Runs.{Task, run}
+use Rattle.dr_model.specs.TakenWrites.{KeepsWrites}
+use Rattle.dr_volume.specs.View.{fuse_seen, ReadsPass}
+use Rattle.dr_laws_sound.specs.Acknowledged.{AcknowledgedIsAnswered}
+use Rattle.dr_laws_sound.specs.RefusedSteps.{RefusedStay}
+use Rattle.dr_laws_sound.specs.Showing.{ShowsDevices}
+use Rattle.dr_laws_freezes.specs.Windows.{EndsInCut}
+use Rattle.dr_laws_freezes.specs.Frozen.{FreezesHold}
+use Rattle.dr_laws_freezes.specs.InSync.{DuplexInSync}
+use Rattle.dr_laws_recovery.specs.Seals.{SealsOn}
+use Rattle.dr_laws_recovery.specs.Decided.{DecidesOn}
+use Rattle.dr_laws_recovery.specs.Headline.{Headline}
+use Rattle.dr_laws_recovery.specs.Formed.{FormedIsFound, GroupsAreFound}
+use Rattle.dr_laws_recovery.specs.Held.{HoldsAll}
+use Rattle.dr_laws_recovery.specs.Stored.{StoredAtCuts}
+use Rattle.dr_laws_recovery.specs.Recovered.{HoldsTracks}
+use Rattle.dr_laws_images.specs.Imaged.{AllReadBack, LastGivesBack}
+use Rattle.dr_laws_return.specs.Sites.{SitesAlike}
+use Rattle.dr_laws_return.specs.Compared.{ComparesDevices}
+use Rattle.dr_laws_return.specs.Returned.{Returns}
+use Rattle.dr_steps.specs.Faults.{told_stop}
+
+-- Each volume has its device, in order of definition: owned by its server, with 13 blocks and one more for each track.
+pub record HasDevices (w : World) (s : PlantState) : Type 0 where
+  pub count : s.count ≡ length w.control.volumes
+  pub owner : (d v : ℕ) → slice_get w.control.volumes d ≡ Some v → s.owner d ≡ (w.control.volume v).server
+  pub size : (d v : ℕ) → slice_get w.control.volumes d ≡ Some v → s.size d ≡ 13 + (w.control.volume v).tracks
+
+-- The journal is that of the world to which the steps lead. What an image among them lists says what is known of each volume there, its
+-- text reads as this image, and recovery makes of it what it would make in that world; and where the last step is an image, it listed the
+-- devices as they are, and gives back of each session what they do. The plant fits the world: each track of each volume contains on its
+-- device what it contains in that world, and reads as the host writes say. Where a sound freeze window ends with it, the devices of the
+-- secondaries contain the cut; each secondary that is sealed contains its own; the cuts of the group of each attempt are closed, and hold
+-- all that they should; and by what the devices say alone, it is possible to decide over each session. And the headline: of each session
+-- that is defined, the devices give back one cut of the host's acknowledged writes, that of its newest group. Of the steps it says which may
+-- take a write away, that what is acknowledged is what was answered, that what is formed is what recovery finds, that after a freeze no
+-- write lands until a step lets it, that a Full Duplex primary is in sync where its server runs, and that a refused step changes nothing
+-- but what is named. What the last step showed is on the devices, and a write that a secondary stored was acknowledged, or a server
+-- stopped. Where a pair is in place by the records on both devices, these contain the same on each track that isn't recorded; what a
+-- comparison answered as the last step is what the devices contain; and where a failback and a drain behind it were answered ok, the pair is
+-- turned round, and both devices contain what the host writes make.
+pub record Stands (steps : List Task) (world : World) (events : List Event) (s s' : PlantState) : Type 0 where
+  pub leads : run steps ≡ world
+  pub lists : ListsAlong nothing steps
+  pub imaged : ImagesDevices nothing steps s'.block
+  pub read_back : AllReadBack steps
+  pub gives_back : LastGivesBack steps s'.block
+  pub journal : events ≡ world.events
+  pub room : length events ≤ most_events
+  pub devices : HasDevices world s'
+  pub fits : Fits world s'.on (λ server. fuse_seen (s'.write_fuse server)) s'.block
+  pub holds : HoldsTracks world s'.block
+  pub frozen : (tasks : List Task) → run tasks ≡ world → EndsInCut tasks s'.block
+  pub seals : SealsOn world s'.block
+  pub closed : (s n : ℕ) → ClosedCuts events s n
+  pub held : (tasks : List Task) → run tasks ≡ world → (s n : ℕ) → HoldsAll tasks events s n
+  pub decides : DecidesOn world s'.block
+  pub headline : (tasks : List Task) → run tasks ≡ world → Headline tasks s'.block
+  pub stored : StoredAtCuts events
+  pub keeps : (tasks : List Task) → run tasks ≡ world → KeepsWrites tasks
+  pub acknowledged : (tasks : List Task) → run tasks ≡ world → AcknowledgedIsAnswered tasks
+  pub formed : (tasks : List Task) → run tasks ≡ world → FormedIsFound tasks
+  pub found : (tasks : List Task) → run tasks ≡ world → GroupsAreFound tasks
+  pub freezes : (tasks : List Task) → run tasks ≡ world → FreezesHold tasks
+  pub in_sync : (tasks : List Task) → run tasks ≡ world → DuplexInSync tasks
+  pub shown : (tasks : List Task) → run tasks ≡ world → ShowsDevices tasks s'.block
+  pub sites : SitesAlike world s'.block
+  pub compared : (tasks : List Task) → run tasks ≡ world → ComparesDevices tasks s'.block
+  pub returned : (tasks : List Task) → run tasks ≡ world → Returns tasks s'.block
+  pub refused : (tasks : List Task) → run tasks ≡ world → RefusedStay tasks
+  pub reads : ReadsPass s'
+  pub stops : Counted (told_stop events) s.faults s'.faults

@@ -1,0 +1,155 @@
+//! The command `recover`: reads a plant image, and puts what recovery makes of it.
+
+ghost use Rattle.std.specs.Prelude.{◌≡◌, ℕ, ◌++◌, [], List, IfOk, OnOk, OnErr, false, Ok};
+ghost use Rattle.dr_logic.specs.Counts.{Counted};
+ghost use Rattle.dr_image.specs.Reader.{will_read};
+ghost use Rattle.dr_image.specs.Outcome.{FinishesAs};
+ghost use Rattle.dr_model.specs.PlantImage.{IsImage, reading};
+ghost use Rattle.dr_top.specs.Offline.{Reports, Reads, EndsOffline, bad_report, against_report, found_report, report_text};
+ghost use Rattle.dr_top.specs.Outcome.{is_read_fault, is_write_fault};
+
+use crate::put::put_all;
+use crate::status::Status;
+use dr_ids::{SessionId, Text};
+use dr_image::{Image, ImageFault, ImageReader};
+use dr_io::{PieceReader, SCRIPT_LIMITS, Sink, Source, TakenPiece};
+use dr_report::{Found, offline};
+use std::alloc::{AllocError, Global};
+
+/// Why the text of an image wasn't read to its end.
+#[derive(Clone, Copy)]
+pub enum Broken {
+    /// The source failed.
+    ReadFault,
+    /// The text has too many bytes or lines.
+    TooLong,
+    /// There is no memory.
+    NoMemory,
+}
+
+/// What is put, and the status with it.
+#[derive(Drop)]
+pub struct Report {
+    pub status: Status,
+    pub text: Text,
+}
+
+/// Hands the text that the source has to the reader of an image, piece by piece. A bad text is read to its end, too.
+fn read_pieces<S: Source>(source: &mut S, image: &mut ImageReader) -> Result<(), Broken>
+    requires works { image.old.failed ≡ false }
+    requires begins { (rest : List ℕ) → will_read image.old rest ≡ reading rest }
+    ensures { Reads S.left source.old source.new S.faults image.new result }
+{
+    let mut pieces = PieceReader::new(SCRIPT_LIMITS);
+    loop {
+        match pieces.next_piece(source) {
+            Ok(TakenPiece::Piece) => {
+                let Ok(()) = image.feed(pieces.piece()) else {
+                    return Err(Broken::NoMemory);
+                };
+            }
+            Ok(TakenPiece::End) => return Ok(()),
+            Ok(TakenPiece::TooLong) => return Err(Broken::TooLong),
+            Err(_) => return Err(Broken::ReadFault),
+        }
+    }
+}
+
+/// A line as a text.
+fn line_text(alloc: Global, line: &str) -> Result<Text, AllocError>
+    ensures { IfOk result (λ text. text ≡ line.now) }
+{
+    let mut text = Text::new(alloc);
+    text.append(line.as_bytes())?;
+    Ok(text)
+}
+
+/// What is put of an image that isn't one.
+fn bad_report(alloc: Global, line: u32) -> Result<Report, AllocError>
+    ensures { IfOk result (λ report. report ≡ bad_report line) }
+{
+    let says = format!(in alloc; "bad image line {line}\n")?;
+    Ok(Report {
+        status: Status::BadImage,
+        text: line_text(alloc, &says)?,
+    })
+}
+
+/// What is put of a recovery that two numbers make impossible.
+fn against_report(alloc: Global, a: u32, b: u32) -> Result<Report, AllocError>
+    ensures { IfOk result (λ report. report ≡ against_report a b) }
+{
+    let says = format!(in alloc; "contradiction {a} {b}\n")?;
+    Ok(Report {
+        status: Status::Contradiction,
+        text: line_text(alloc, &says)?,
+    })
+}
+
+/// What is put of what recovery finds in an image.
+fn found_report(alloc: Global, found: Found) -> Result<Report, AllocError>
+    ensures { IfOk result (λ report. report ≡ found_report found) }
+{
+    match found {
+        Found::Lines(text) => Ok(Report {
+            status: Status::Done,
+            text,
+        }),
+        Found::Contradiction { a, b } => against_report(alloc, a, b),
+        Found::NoMembers => Ok(Report {
+            status: Status::NoMembers,
+            text: line_text(alloc, "no members\n")?,
+        }),
+    }
+}
+
+/// What is put of what was read.
+fn report_of(
+    alloc: Global,
+    read: Result<Image, ImageFault>,
+    session: SessionId,
+) -> Result<Report, AllocError>
+    requires proper { IfOk read (λ image. IsImage image) }
+    ensures { (text : List ℕ) → FinishesAs false (reading text) read → IfOk result (λ report. report ≡ report_text session.0 text) }
+{
+    match read {
+        Ok(image) => found_report(alloc, offline(alloc, &image, session)?),
+        Err(ImageFault::BadImage { line }) => bad_report(alloc, line),
+        Err(ImageFault::NoMemory) => Err(AllocError),
+    }
+}
+
+/// Puts a report.
+fn put_report<K: Sink>(sink: &mut K, report: &Report) -> Status
+    requires { is_write_fault report.now.status ≡ false }
+    ensures { Reports K.written sink.old sink.new K.faults report.now result }
+{
+    match put_all(sink, report.text.bytes()) {
+        Ok(()) => report.status,
+        Err(_) => Status::WriteFault,
+    }
+}
+
+/// Reads the text of a plant image from the source to its end, and puts what recovery of the session makes of it: its members,
+/// decision, group and tracks, or one line that says why there is none. It takes at most one byte more than an image may have.
+pub fn recover<S: Source, K: Sink>(
+    alloc: Global,
+    source: &mut S,
+    sink: &mut K,
+    session: SessionId,
+) -> Status
+    ensures ends { EndsOffline S.left K.written source.old source.new sink.old sink.new session.0 result }
+    ensures reads { Counted (is_read_fault result) (S.faults source.old) (S.faults source.new) }
+    ensures writes { Counted (is_write_fault result) (K.faults sink.old) (K.faults sink.new) }
+{
+    let mut image = ImageReader::new(alloc);
+    match read_pieces(source, &mut image) {
+        Ok(()) => match report_of(alloc, image.finish(), session) {
+            Ok(report) => put_report(sink, &report),
+            Err(_) => Status::NoMemory,
+        },
+        Err(Broken::ReadFault) => Status::ReadFault,
+        Err(Broken::TooLong) => Status::TooLong,
+        Err(Broken::NoMemory) => Status::NoMemory,
+    }
+}
