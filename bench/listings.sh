@@ -10,7 +10,7 @@ plant() {
 }
 
 for command in lspprc lsflash; do
-    for lines in 50000 100000; do
+    for lines in 45000 90000; do
         {
             plant
             for ((n = 0; n < lines; n++)); do printf '%s 20%02X\n' "$command" $((n % 32)); done
