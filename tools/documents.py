@@ -103,8 +103,18 @@ def links(path):
                 yield number, f"no heading #{anchor} in {there.name}"
 
 
+def unnamed_crates():
+    """The crates that the page on claims has no row for."""
+    rows = "".join(line for _, line in prose(ROOT / "docs" / "CLAIMS.md") if line.startswith("- "))
+    for line in (ROOT / "crates.txt").read_text(encoding="utf-8").splitlines():
+        crate = line.partition(":")[0].strip()
+        if crate and not crate.startswith("#") and f"`{crate}`" not in rows:
+            yield f"no row of its own for `{crate}`"
+
+
 def findings():
     words = known_words()
+    yield from (("docs/CLAIMS.md", 1, text) for text in unnamed_crates())
     for path in paths(DOCUMENTS):
         name = str(path.relative_to(ROOT))
         found = list(links(path))

@@ -19,7 +19,7 @@ use Rattle.dr_report.specs.declared.found.Found.{Found}
 use Rattle.dr_report.specs.declared.found.Found.TheVariants.{Lines, Contradiction as Disagree, NoMembers as Nobody}
 use Rattle.dr_top.specs.Offline.{IsTaken, Reads, Reports, EndsOffline, image_limits, report_by, report_text, found_report}
 use Rattle.dr_top.specs.Outcome.{is_write_fault}
-use Rattle.dr_top.specs.declared.offline.Broken.TheVariants.{ReadFault as OnSource, TooLong as TooMuch, NoMemory as OnMemory}
+use Rattle.dr_top.specs.declared.offline.NotRead.TheVariants.{ReadFault as OnSource, TooLong as TooMuch, NoMemory as OnMemory}
 use Rattle.dr_top.specs.declared.offline.Report.{Report}
 use Rattle.dr_top.specs.declared.status.Status.{Status}
 use Rattle.dr_top.specs.declared.status.Status.TheVariants.{Done, DoneRefused, Usage, ReadFault, WriteFault, NoMemory, TooLong, BadImage, Contradiction, NoMembers}

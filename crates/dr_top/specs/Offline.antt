@@ -12,8 +12,8 @@ use Rattle.dr_report.specs.Found.{found_in}
 use Rattle.dr_report.specs.declared.found.Found.{Found}
 use Rattle.dr_report.specs.declared.found.Found.TheVariants.{Lines, Contradiction as Disagree, NoMembers as Nobody}
 use Rattle.dr_image.specs.Reader.{Reader, will_read}
-use Rattle.dr_top.specs.declared.offline.Broken.{Broken}
-use Rattle.dr_top.specs.declared.offline.Broken.TheVariants.{ReadFault as OnSource, TooLong as PastLimit, NoMemory as OnMemory}
+use Rattle.dr_top.specs.declared.offline.NotRead.{NotRead}
+use Rattle.dr_top.specs.declared.offline.NotRead.TheVariants.{ReadFault as OnSource, TooLong as PastLimit, NoMemory as OnMemory}
 use Rattle.dr_top.specs.declared.offline.Report.{Report}
 use Rattle.dr_top.specs.Outcome.{is_read_fault, is_write_fault}
 use Rattle.dr_top.specs.declared.status.Status.{Status}
@@ -24,18 +24,18 @@ abbrev pub bad_report : ℕ → Report
 bad_report n = record { status = BadImage; text = codes "bad image line " ++ decimal n ++ 10 ∷ [] }
 
 -- two numbers that no run leaves behind
-abbrev pub against_report : ℕ → ℕ → Report
-against_report a b = record { status = Contradiction; text = codes "contradiction " ++ (decimal a ++ (codes " " ++ (decimal b ++ 10 ∷ []))) }
+abbrev pub contradiction_report : ℕ → ℕ → Report
+contradiction_report a b = record { status = Contradiction; text = codes "contradiction " ++ (decimal a ++ (codes " " ++ (decimal b ++ 10 ∷ []))) }
 
 -- no volume counts
-abbrev pub empty_report : Report
-empty_report = record { status = NoMembers; text = codes "no members" ++ 10 ∷ [] }
+abbrev pub no_members_report : Report
+no_members_report = record { status = NoMembers; text = codes "no members" ++ 10 ∷ [] }
 
 -- of what recovery finds in an image
 abbrev pub found_report : Found → Report
 found_report (Lines text) = record { status = Done; text = text }
-found_report (Disagree a b) = against_report a b
-found_report Nobody = empty_report
+found_report (Disagree a b) = contradiction_report a b
+found_report Nobody = no_members_report
 
 -- of what a text reads as
 abbrev pub report_by : ℕ → Result (List Volume) ℕ → Report
@@ -80,7 +80,7 @@ module _ {S : Type 0} (left : S → Option (List ℕ)) (source source' : S) wher
       pub kept : faults source' ≡ faults source
 
     -- how the reading of an image ended
-    abbrev pub Reads : Result (Unit {0}) Broken → Type 0
+    abbrev pub Reads : Result (Unit {0}) NotRead → Type 0
     Reads (Ok x) = HasReadAll
     Reads (Err OnSource) = HasTakenSome × Rose (faults source) (faults source')
     Reads (Err PastLimit) = HasTakenTooMuch × (faults source' ≡ faults source)

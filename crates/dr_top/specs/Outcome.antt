@@ -59,7 +59,7 @@ module _ {K : Type 0} (written : K → Option (List ℕ)) (write_faults : K → 
   -- words that are no command: the usage line, a front of it where the sink failed, and nothing where there was no memory to read them
   abbrev pub EndsUsage : K → K → Status → Type 0
   EndsUsage sink sink' Usage = Gave written sink sink' usage_line × (write_faults sink' ≡ write_faults sink)
-  EndsUsage sink sink' NoMemory = (sink' ≡ sink) × (write_faults sink' ≡ write_faults sink)
+  EndsUsage sink sink' NoMemory = sink' ≡ sink
   EndsUsage sink sink' WriteFault = GavePart written sink sink' usage_line × Rose (write_faults sink) (write_faults sink')
   EndsUsage sink sink' _ = ⊥
 

@@ -5,7 +5,7 @@ ghost use Rattle.dr_logic.specs.Counts.{Counted};
 ghost use Rattle.dr_image.specs.Reader.{will_read};
 ghost use Rattle.dr_image.specs.Outcome.{FinishesAs};
 ghost use Rattle.dr_model.specs.PlantImage.{IsImage, reading};
-ghost use Rattle.dr_top.specs.Offline.{Reports, Reads, EndsOffline, bad_report, against_report, found_report, report_text};
+ghost use Rattle.dr_top.specs.Offline.{Reports, Reads, EndsOffline, bad_report, contradiction_report, found_report, report_text};
 ghost use Rattle.dr_top.specs.Outcome.{is_read_fault, is_write_fault};
 
 use crate::put::put_all;
@@ -18,7 +18,7 @@ use std::alloc::{AllocError, Global};
 
 /// Why the text of an image wasn't read to its end.
 #[derive(Clone, Copy)]
-pub enum Broken {
+pub enum NotRead {
     /// The source failed.
     ReadFault,
     /// The text has too many bytes or lines.
@@ -35,7 +35,7 @@ pub struct Report {
 }
 
 /// Hands the text that the source has to the reader of an image, piece by piece. A bad text is read to its end, too.
-fn read_pieces<S: Source>(source: &mut S, image: &mut ImageReader) -> Result<(), Broken>
+fn read_pieces<S: Source>(source: &mut S, image: &mut ImageReader) -> Result<(), NotRead>
     requires works { image.old.failed ≡ false }
     requires begins { (rest : List ℕ) → will_read image.old rest ≡ reading rest }
     ensures { Reads S.left source.old source.new S.faults image.new result }
@@ -45,12 +45,12 @@ fn read_pieces<S: Source>(source: &mut S, image: &mut ImageReader) -> Result<(),
         match pieces.next_piece(source) {
             Ok(TakenPiece::Piece) => {
                 let Ok(()) = image.feed(pieces.piece()) else {
-                    return Err(Broken::NoMemory);
+                    return Err(NotRead::NoMemory);
                 };
             }
             Ok(TakenPiece::End) => return Ok(()),
-            Ok(TakenPiece::TooLong) => return Err(Broken::TooLong),
-            Err(_) => return Err(Broken::ReadFault),
+            Ok(TakenPiece::TooLong) => return Err(NotRead::TooLong),
+            Err(_) => return Err(NotRead::ReadFault),
         }
     }
 }
@@ -76,8 +76,8 @@ fn bad_report(alloc: Global, line: u32) -> Result<Report, AllocError>
 }
 
 /// What is put of a recovery that two numbers make impossible.
-fn against_report(alloc: Global, a: u32, b: u32) -> Result<Report, AllocError>
-    ensures { IfOk result (λ report. report ≡ against_report a b) }
+fn contradiction_report(alloc: Global, a: u32, b: u32) -> Result<Report, AllocError>
+    ensures { IfOk result (λ report. report ≡ contradiction_report a b) }
 {
     let says = format!(in alloc; "contradiction {a} {b}\n")?;
     Ok(Report {
@@ -95,7 +95,7 @@ fn found_report(alloc: Global, found: Found) -> Result<Report, AllocError>
             status: Status::Done,
             text,
         }),
-        Found::Contradiction { a, b } => against_report(alloc, a, b),
+        Found::Contradiction { a, b } => contradiction_report(alloc, a, b),
         Found::NoMembers => Ok(Report {
             status: Status::NoMembers,
             text: line_text(alloc, "no members\n")?,
@@ -148,8 +148,8 @@ pub fn recover<S: Source, K: Sink>(
             Ok(report) => put_report(sink, &report),
             Err(_) => Status::NoMemory,
         },
-        Err(Broken::ReadFault) => Status::ReadFault,
-        Err(Broken::TooLong) => Status::TooLong,
-        Err(Broken::NoMemory) => Status::NoMemory,
+        Err(NotRead::ReadFault) => Status::ReadFault,
+        Err(NotRead::TooLong) => Status::TooLong,
+        Err(NotRead::NoMemory) => Status::NoMemory,
     }
 }

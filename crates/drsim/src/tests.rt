@@ -189,9 +189,10 @@ fn call_in_pieces(
 }
 
 #[test]
-fn scripts_in_pieces(rt: HostRuntime) -> Result<(), AllocError> {
+fn inputs_in_pieces(rt: HostRuntime) -> Result<(), AllocError> {
+    let alloc = rt.alloc();
     let printed = "2 ok\n3 ok\n4 ok w1\n5 ok 41\n";
-    let cases = [
+    let scripts = [
         (b'\n', 1, FIRST, 1, printed, 0),
         (b'\n', 1, FIRST, 7, printed, 0),
         (b'\n', 1, FIRST, 4096, printed, 0),
@@ -204,25 +205,12 @@ fn scripts_in_pieces(rt: HostRuntime) -> Result<(), AllocError> {
         (b' ', 1_024, "\r", 1, "1 E01 syntax 1025\n", 1),
         (b' ', 1_025, "", 7, "1 E01 syntax 1025\n", 1),
     ];
-    for (byte, count, last, piece, printed, status) in cases {
-        call_in_pieces(
-            &rt,
-            rt.alloc(),
-            "run",
-            (byte, count),
-            last,
-            piece,
-            printed,
-            status,
-        )?;
+    for (byte, count, last, piece, printed, status) in scripts {
+        let repeated = (byte, count);
+        call_in_pieces(&rt, alloc, "run", repeated, last, piece, printed, status)?;
     }
-    Ok(())
-}
-
-#[test]
-fn images_in_pieces(rt: HostRuntime) -> Result<(), AllocError> {
     let group = "members 1\ndecision Nothing(1)\ngroup 1\ntrack 3000 0 41\n";
-    let cases = [
+    let images = [
         (0, TARGET, 1, group, 0),
         (0, TARGET, 2, group, 0),
         (0, TARGET, 3, group, 0),
@@ -232,12 +220,13 @@ fn images_in_pieces(rt: HostRuntime) -> Result<(), AllocError> {
         (100_001, "", 4096, "", 6),
         (100_000, "x", 63, "", 6),
     ];
-    for (feeds, last, piece, printed, status) in cases {
+    for (feeds, last, piece, printed, status) in images {
+        let repeated = (b'\n', feeds);
         call_in_pieces(
             &rt,
-            rt.alloc(),
+            alloc,
             "recover 01",
-            (b'\n', feeds),
+            repeated,
             last,
             piece,
             printed,
