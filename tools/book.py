@@ -16,7 +16,7 @@ CALL_NAME = "pub fn drsim"
 
 # The chapters with their modules, in reading order. What is reached and stands in none of them comes last.
 CHAPTERS = [
-    ("What a call is", "Words Outcome Stands Cut Followed Lines Faults Given Limits Runs Carried Fits View"),
+    ("What a call is", "Words Outcome Trials Trial Stands Cut Followed Lines Faults Given Limits Runs Carried Fits View"),
     ("The headline", "Headline NewestGroup ClosedCuts Cuts Dependence HeldWrites Groups Recovered Decided Decisions"
                      " Seals Windows Moments Table Laws Held TakenWrites Stored Formed"),
     ("Pairs, freezes and answers", "Sites Compared Returned Frozen InSync Acknowledged RefusedSteps Showing Stops"),

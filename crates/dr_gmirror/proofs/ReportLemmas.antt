@@ -1,7 +1,7 @@
 -- What a server reports of its members, one by one.
 use Rattle.std.proofs.Common.{ℕ, zero, suc, ◌≡◌, ◌<◌, ◌≤◌, ◌+◌, arith, Bool, true, false, cond, List, [], ◌∷◌, ◌++◌, length, take, slice_get, slice_set, map, refl, ◌∙◌, ap, Some}
 use Rattle.std.specs.Prelude.{filter, replicate, if◌then◌else◌}
-use Rattle.std.proofs.lemmas.List.{take_more_set}
+use Rattle.std.proofs.lemmas.List.{take_more_set, map-append}
 use Rattle.dr_master.specs.Seen.{shown_in}
 use Rattle.dr_master.specs.declared.reports.Report.{Report}
 use Rattle.dr_master.proofs.Reported.{joined}
@@ -11,10 +11,6 @@ use Rattle.dr_ids.specs.declared.names.Member.{Member}
 use Rattle.dr_model.specs.Control.{Control}
 use Rattle.dr_model.specs.Entries.{fields_at}
 use Rattle.dr_model.specs.SessionEntries.{is_on, members_on, counts_in, counts_at, shown_of, shown_at, shown_by_members}
-
-pub map-append : {A B : Type 0} (f : A → B) (xs ys : List A) → map f (xs ++ ys) ≡ map f xs ++ map f ys
-map-append f [] ys = refl
-map-append f (x ∷ xs) ys = ap (λ zs. f x ∷ zs) (map-append f xs ys)
 
 -- one member
 pub shown-one : (s : ℕ) (k : Control) (m : Member) → shown_by_members s (m ∷ []) k ≡ (if counts_in s (fields_at k m.c.0) then shown_of (fields_at k m.c.0) ∷ [] else [])

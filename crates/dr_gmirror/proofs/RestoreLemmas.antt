@@ -1,5 +1,6 @@
 -- The first member that passes a test, and what all members show, one by one.
 use Rattle.std.proofs.Common.{ℕ, zero, suc, ◌≡◌, ◌<◌, ◌+◌, arith, inl, inr, Bool, true, false, cond, not, List, [], ◌∷◌, ◌++◌, length, map, filter, take, slice_get, refl, sym, ◌∙◌, ap, subst, Option, Some, None}
+use Rattle.std.proofs.lemmas.List.{map-append}
 use Rattle.std.specs.List.{find}
 use Rattle.std.proofs.lemmas.Bool.{cases_eq}
 use Rattle.std.specs.Option.{option_or}
@@ -15,7 +16,6 @@ use Rattle.dr_model.specs.Entries.{fields_at}
 use Rattle.dr_model.specs.SessionEntries.{counts_at, shown_at, shown_by_members}
 use Rattle.std.proofs.lemmas.List.Elements.{filter-append}
 use Rattle.dr_gmirror.proofs.OrderLemmas.{member-next}
-use Rattle.dr_gmirror.proofs.ReportLemmas.{map-append}
 
 -- the first is found where none before it passes
 pub find-hit : (p : Member → Bool) (ms : List Member) (i : ℕ) (m : Member) → Some m ≡ slice_get ms i → find p (take i ms) ≡ None → p m ≡ true → find p ms ≡ Some m

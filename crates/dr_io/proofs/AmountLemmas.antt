@@ -3,7 +3,7 @@ use Rattle.std.proofs.Common.{ℕ, suc, ◌≡◌, ◌≤◌, ◌<◌, ◌+◌, 
 use Rattle.std.specs.Prelude.{◌==◌, slice_get}
 use Rattle.std.proofs.lemmas.Bool.Decides.{nat_tests, leb_tells}
 use Rattle.std.proofs.lemmas.Option.{slice_get-get_or}
-use Rattle.std.proofs.lemmas.List.Sums.{sum_by-append}
+use Rattle.std.proofs.lemmas.List.Sums.{sum_by-append, count_by-le-length}
 use Rattle.std.proofs.lemmas.List.Splits.{length-slice_split, slice_split-cons_yes, slice_split-cons_no}
 use Rattle.std.specs.List.{count_by, slice_split, onto_first}
 use Rattle.std.specs.Str.Lines.{lines, lines_of_parts}
@@ -126,11 +126,23 @@ by_lines (x ∷ y ∷ ys) =
     ] refl
 
 -- the lines of a text, by how much it is
-lines_counted : (text : List ℕ) → lines_of (amount_of text) ≡ length (lines text)
+pub lines_counted : (text : List ℕ) → lines_of (amount_of text) ≡ length (lines text)
 lines_counted text =
     let same = by_lines text in
     let begun : cond {A = ℕ} (amount_of text).begun 1 0 ≡ begun_of text = refl in
     omega (arith, same, begun)
+
+-- a text has no more lines than bytes, but for one
+pub few-lines : (text : List ℕ) → length (lines text) ≤ length text + 1
+few-lines text =
+    let same = lines_counted text in
+    let ends = count_by-le-length is_line_end text in
+    let one = at_most_one (amount_of text).begun in
+    omega (arith, same, ends, one)
+  where
+    at_most_one : (begun : Bool) → cond {A = ℕ} begun 1 0 ≤ 1
+    at_most_one true = omega arith
+    at_most_one false = omega arith
 
 -- a text that doesn't exceed the limits is within them
 pub is_within : (limits : Limits) (amount : Amount) (text : List ℕ) → amount ≡ amount_of text → exceeds limits amount ≡ false → IsWithin limits text

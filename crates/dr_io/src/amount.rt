@@ -3,6 +3,7 @@
 ghost use Rattle.std.specs.Prelude.{◌≡◌, ◌+◌, ◌<◌, ◌≤◌, ◌^◌, [], length};
 ghost use Rattle.std.specs.List.{count_by};
 ghost use Rattle.std.specs.Option.{option_copied};
+ghost use Rattle.std.specs.Str.Lines.{lines};
 ghost use Rattle.dr_io.specs.Lines.{is_line_end};
 ghost use Rattle.dr_io.specs.Pieces.{amount_of, lines_of, more, opened, exceeds};
 
@@ -75,4 +76,13 @@ fn opened(last: Option<&u8>, before: bool) -> bool
         Some(byte) => *byte != b'\n',
         None => before,
     }
+}
+
+/// How many lines a text has. A last one without a line feed counts, too.
+pub fn line_count(text: &[u8]) -> usize
+    ensures { result ≡ length (lines text.now) }
+{
+    let mut amount = Amount::none();
+    amount.add(text);
+    amount.lines()
 }

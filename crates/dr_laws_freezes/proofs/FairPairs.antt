@@ -6,6 +6,7 @@ use Rattle.dr_model.specs.declared.said.Said.TheVariants.{Done}
 use Rattle.dr_model.specs.declared.state.Part.{Part}
 use Rattle.dr_model.specs.declared.state.PairState.{PairState}
 use Rattle.dr_model.specs.declared.step.Devs.{Devs}
+use Rattle.dr_model.specs.declared.step.PairChoices.{PairChoices}
 use Rattle.dr_model.specs.Layout.{is_part}
 use Rattle.dr_model.specs.Control.{Fuse, Volume, World}
 use Rattle.dr_model.specs.Pairs.{first_state}
@@ -68,12 +69,12 @@ module _ (Fin : Option ℕ → World → Option Refusal → Type 0) (fin : (w : 
       move-fairly Fin fin w2 k2 (now first) first [] refl two.0 none refl refl (λ g k3. fairly-nil Fin None (done w2 first g) (good-none (done w2 first g) k3.sound.rows) (fin (done w2 first g) None k3)))
 
 module _ (w : World) (k : Between w) where
-  pub fair-pair : (devs : Devs) (a b : ℕ) (kind : Part) (full : Bool) → is_part kind ≡ true → Fair w (make_pair_plan w.control w.events devs a b kind full)
+  pub fair-pair : (devs : Devs) (a b : ℕ) (kind : Part) (choices : PairChoices) → is_part kind ≡ true → Fair w (make_pair_plan w.control w.events devs a b kind choices)
   unfolding AllEasy
-  fair-pair devs a b kind full part =
-      let entries : List Entry = (make_pair_plan w.control w.events devs a b kind full).entries in
-      let p : Plan = make_pair_plan w.control w.events devs a b kind full in
+  fair-pair devs a b kind choices part =
+      let entries : List Entry = (make_pair_plan w.control w.events devs a b kind choices).entries in
+      let p : Plan = make_pair_plan w.control w.events devs a b kind choices in
       entries-fair w k entries (Done Alone) (easy-then (PlanFin Between rows-between answers-between p) (fin w k entries (Done Alone))
-      (take 14 entries) (now (MakeSecondary b a kind (first_state kind full)) ∷ now (MakePrimary a b kind (first_state kind full) full) ∷ []) (as_begun w) (begun-between w k)
+      (take 14 entries) (now (MakeSecondary b a kind (first_state kind choices.full)) ∷ now (MakePrimary a b kind (first_state kind choices.full) choices.full) ∷ []) (as_begun w) (begun-between w k)
       (easy-check _ _, (easy-check _ _, (easy-check _ _, (easy-check _ _, (easy-check _ _, (easy-refuse _, (easy-check _ _, (easy-check _ _, (easy-check _ _, (easy-check _ _, (easy-check _ _, (easy-check _ _, (easy-check _ _, (easy-refuse _, tt))))))))))))))
-      (along-pair w k.sound devs a b kind full part) (makes (PlanFin Between rows-between answers-between p) (fin w k entries (Done Alone)) a b kind full))
+      (along-pair w k.sound devs a b kind choices part) (makes (PlanFin Between rows-between answers-between p) (fin w k entries (Done Alone)) a b kind choices.full))

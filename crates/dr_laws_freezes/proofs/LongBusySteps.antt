@@ -509,7 +509,7 @@ module _ (v b s : ℕ) (base : List Event) (w : World) (k : Frozen v b s none ba
     step-kept (RemovePath devs src tgt force) stay = owned src (λ x. on_owner (owner_of c tgt) (λ y. unless (unpath_refusal c devs src tgt x y force) (remove_path_done src tgt)))
         (λ x. owned tgt (λ y. unless (unpath_refusal c devs src tgt x y force) (remove_path_done src tgt)) (λ y. one (unpath_refusal c devs src tgt x y force) (remove_path_done src tgt)
         (tells (remove_path_done src tgt) (stays _ refl refl) refl refl (with-told w [] refl) refl empty (λ q. empty) (λ u j. j))))
-    step-kept (MakePair devs a x kind full) stay = pair-kept devs a x (kind_of kind) full _
+    step-kept (MakePair devs a x kind choices) stay = pair-kept devs a x (kind_of kind) choices.full _
     step-kept (RemovePair devs a x source_only) stay = remove-kept devs a x source_only (not-same a v stay)
     step-kept (PausePair devs a x) stay = pause-kept devs a x
     step-kept (ResumePair devs a x kind) stay = resume-kept devs a x (kind_of kind) (not-same a v stay)

@@ -325,7 +325,7 @@ module _ (k : Control) where
     of-answers (Copy t most) = λ j. refl
     of-answers (MakePath devs src tgt group) = owners-answers src tgt (path_refusal k devs) _ (path-mild devs) (λ j. refl)
     of-answers (RemovePath devs src tgt force) = owners-answers src tgt (λ s u. unpath_refusal k devs src tgt s u force) _ (λ s u. unpath-mild devs src tgt s u force) (λ j. refl)
-    of-answers (MakePair devs a b kind full) = λ j. refl
+    of-answers (MakePair devs a b kind choices) = λ j. refl
     of-answers (RemovePair devs a b source_only) = λ j. refl
     of-answers (PausePair devs a b) = λ j. refl
     of-answers (ResumePair devs a b kind) = λ j. refl

@@ -158,7 +158,7 @@ module _ (k : Control) (events : List Event) (line : ℕ) where
   case-one _ (Copies t most) = record { first = λ one. one; last = λ j one. one }
   case-one _ (MakesPath src tgt group) = record { first = λ one. one; last = λ j one. one }
   case-one _ (RemovesPath src tgt) = record { first = λ one. one; last = λ j one. one }
-  case-one _ (MakesPair devs a b kind full part) = record { first = λ one. one; last = λ j one. one }
+  case-one _ (MakesPair devs a b kind choices part) = record { first = λ one. one; last = λ j one. one }
   case-one _ (RemovesPair devs a b source_only) = record { first = λ one. one; last = λ j one. one }
   case-one _ (PausesPair devs a b) = record { first = λ one. one; last = λ j one. one }
   case-one _ (ResumesPair devs a b kind) = record { first = λ one. one; last = λ j one. one }

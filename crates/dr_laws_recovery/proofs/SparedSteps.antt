@@ -18,6 +18,7 @@ use Rattle.dr_model.specs.declared.state.Part.{Part}
 use Rattle.dr_model.specs.declared.state.PairState.TheVariants.{Suspended as SuspendedState}
 use Rattle.dr_model.specs.declared.step.Name.{Name}
 use Rattle.dr_model.specs.declared.step.Devs.{Devs}
+use Rattle.dr_model.specs.declared.step.PairChoices.{PairChoices}
 use Rattle.dr_model.specs.declared.step.Step.{Step}
 use Rattle.dr_model.specs.declared.step.Step.TheVariants.{Server, Volume, Link, Stop, StopAfter, Start, Issue, Write, Apply, Show, MakeFlash, RemoveFlash, ResyncFlash, ReverseFlash, Copy, MakePath, RemovePath, MakePair, RemovePair, PausePair, ResumePair, Failover, Failback, Compare, Drain, Expire, Freeze, Unfreeze, MakeSession, RemoveSession, AddMember, RemoveMember, MakeMirror, PauseMirror, ResumeMirror, RemoveMirror, Abort, Exchange, Recover, CommitFlash, RevertFlash, Image, ListPairs, ListFlashes, ListSession, ShowMirror}
 use Rattle.dr_model.specs.Layout.{Fields, is_part, kind_of}
@@ -315,13 +316,13 @@ module _ (w : World) (line : ℕ) where
   abbrev Fits : (Step → Plan → Type 0)
   Fits step p = Tells w (MayTake j step) p
 
-  pair-fits : (step : Step) (devs : Devs) (a b : ℕ) (kind : Part) (full : Bool) → Fits step (make_pair_plan j es devs a b kind full)
-  pair-fits step devs a b kind full =
+  pair-fits : (step : Step) (devs : Devs) (a b : ℕ) (kind : Part) (choices : PairChoices) → Fits step (make_pair_plan j es devs a b kind choices)
+  pair-fits step devs a b kind choices =
       let Q : ℕ → Type 0 = MayTake j step in
       entries-told w Q _ _ (both-fair Q devs a b _ (fair-check (Takes Q) (is_running a) _ _ (fair-refuse (Takes Q) (reach_refusal a b) _ (fair-check (Takes Q) (two_servers a b) _ _ (fair-check (Takes Q) (share_size a b) _ _
       (fair-check (Takes Q) (stands_free a) (pair_state j a) _ (fair-check (Takes Q) (may_follow a b) (pair_state j b) _ (fair-check (Takes Q) (is_no_target a) (relation_state j a) _ (fair-check (Takes Q) (is_no_target b) (relation_state j b) _
-      (fair-check (Takes Q) (is_settled b) (relation_state j b) _ (fair-refuse (Takes Q) (differs_at (cond full None (first_differing (image_at es) (j.volume a).tracks a b))) _
-      (fair-now (Takes Q) (MakeSecondary b a kind (first_state kind full)) _ tt (last-move Q (MakePrimary a b kind (first_state kind full) full) tt)))))))))))))
+      (fair-check (Takes Q) (is_settled b) (relation_state j b) _ (fair-refuse (Takes Q) (differs_at (cond choices.full None (first_differing (image_at es) (j.volume a).tracks a b))) _
+      (fair-now (Takes Q) (MakeSecondary b a kind (first_state kind choices.full)) _ tt (last-move Q (MakePrimary a b kind (first_state kind choices.full) choices.full) tt)))))))))))))
 
   remove-fits : (step : Step) (devs : Devs) (a b : ℕ) (source_only : Bool) → Fits step (remove_pair_plan j devs a b source_only)
   remove-fits step devs a b source_only =
@@ -495,7 +496,7 @@ module _ (w : World) (line : ℕ) where
   of-step (RemovePath devs src tgt force) =
       where-owned w _ (owner_of j src) (λ s. on_owner (owner_of j tgt) (λ u. unless (unpath_refusal j devs src tgt s u force) (remove_path_done src tgt)))
       (λ s. where-owned w _ (owner_of j tgt) (λ u. unless (unpath_refusal j devs src tgt s u force) (remove_path_done src tgt)) (λ u. where-none w _ (unpath_refusal j devs src tgt s u force) (remove_path_done src tgt) (λ free. tables-told w _ _ _ _ tt)))
-  of-step (MakePair devs a b kind full) = pair-fits (MakePair devs a b kind full) devs a b (kind_of kind) full
+  of-step (MakePair devs a b kind choices) = pair-fits (MakePair devs a b kind choices) devs a b (kind_of kind) choices
   of-step (RemovePair devs a b source_only) = remove-fits (RemovePair devs a b source_only) devs a b source_only
   of-step (PausePair devs a b) = pause-fits (PausePair devs a b) devs a b
   of-step (ResumePair devs a b kind) = resume-fits (ResumePair devs a b kind) devs a b (kind_of kind)

@@ -265,7 +265,7 @@ case-calm k events line _ (Copies t most) =
     (endless-calm _ (times-endless (at_most most (left_to_copy k t)) _ (copy-endless k t (fields_at k t).reversing))))))
 case-calm k events line _ (MakesPath src tgt group) = none-calm
 case-calm k events line _ (RemovesPath src tgt) = none-calm
-case-calm k events line _ (MakesPair devs a b kind full part) = pair-calm a b k devs kind full _
+case-calm k events line _ (MakesPair devs a b kind choices part) = pair-calm a b k devs kind choices.full _
 case-calm k events line _ (RemovesPair devs a b source_only) = remove-calm a b k devs source_only
 case-calm k events line _ (PausesPair devs a b) = pause-calm a b k devs
 case-calm k events line _ (ResumesPair devs a b kind) = resume-calm a b k devs kind

@@ -19,6 +19,7 @@ use Rattle.dr_model.specs.declared.step.Name.{Name}
 use Rattle.dr_model.specs.declared.state.Part.{Part}
 use Rattle.dr_model.specs.declared.state.Part.TheVariants.{Metro, Global}
 use Rattle.dr_model.specs.declared.step.Devs.{Devs}
+use Rattle.dr_model.specs.declared.step.PairChoices.{PairChoices}
 use Rattle.dr_model.specs.declared.step.TornWord.{TornWord}
 use Rattle.dr_model.specs.declared.step.Step.{Step}
 use Rattle.dr_model.specs.declared.step.Step.TheVariants.{Server, Volume, Link, Stop, StopAfter, Start, Issue, Write, Apply, Show, MakeFlash, RemoveFlash, ResyncFlash, ReverseFlash, Copy, MakePath, RemovePath, MakePair, RemovePair, PausePair, ResumePair, Failover, Failback, Drain, Expire, Freeze, Unfreeze, MakeSession, RemoveSession, AddMember, RemoveMember, MakeMirror, PauseMirror, ResumeMirror, RemoveMirror, Abort, Exchange, Recover, CommitFlash, RevertFlash, ListPairs, ListFlashes, ListSession, ShowMirror}
@@ -115,7 +116,7 @@ pub data Case (k : Control) (events : List Event) (line : ℕ) : Plan → Type 0
   Copies : (t : ℕ) → (most : Option ℕ) → Case k events line (copy_plan k t most)
   MakesPath : (src tgt : ℕ) → (group : Bool) → Case k events line (make_path_done src tgt group)
   RemovesPath : (src tgt : ℕ) → Case k events line (remove_path_done src tgt)
-  MakesPair : (devs : Devs) → (a b : ℕ) → (kind : Part) → (full : Bool) → is_part kind ≡ true → Case k events line (make_pair_plan k events devs a b kind full)
+  MakesPair : (devs : Devs) → (a b : ℕ) → (kind : Part) → (choices : PairChoices) → is_part kind ≡ true → Case k events line (make_pair_plan k events devs a b kind choices)
   RemovesPair : (devs : Devs) → (a b : ℕ) → (source_only : Bool) → Case k events line (remove_pair_plan k devs a b source_only)
   PausesPair : (devs : Devs) → (a b : ℕ) → Case k events line (pause_pair_plan k devs a b)
   ResumesPair : (devs : Devs) → (a b : ℕ) → (kind : Part) → Case k events line (resume_pair_plan k devs a b kind)
@@ -317,7 +318,7 @@ module _ (k : Control) (events : List Event) (line : ℕ) where
   of-case (RemovePath devs src tgt force) =
       where-owned (owner_of k src) (λ s. on_owner (owner_of k tgt) (λ u. unless (unpath_refusal k devs src tgt s u force) (remove_path_done src tgt)))
       (λ s. where-owned (owner_of k tgt) (λ u. unless (unpath_refusal k devs src tgt s u force) (remove_path_done src tgt)) (λ u. where-none (unpath_refusal k devs src tgt s u force) (remove_path_done src tgt) (λ free. RemovesPath src tgt)))
-  of-case (MakePair devs a b kind full) = MakesPair devs a b (kind_of kind) full (is-kind kind)
+  of-case (MakePair devs a b kind choices) = MakesPair devs a b (kind_of kind) choices (is-kind kind)
   of-case (RemovePair devs a b source_only) = RemovesPair devs a b source_only
   of-case (PausePair devs a b) = PausesPair devs a b
   of-case (ResumePair devs a b kind) = ResumesPair devs a b (kind_of kind)

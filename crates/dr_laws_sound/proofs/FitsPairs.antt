@@ -12,6 +12,7 @@ use Rattle.dr_model.specs.declared.state.Part.{Part}
 use Rattle.dr_model.specs.declared.state.PairState.{PairState}
 use Rattle.dr_model.specs.declared.state.PairState.TheVariants.{Suspended}
 use Rattle.dr_model.specs.declared.step.Devs.{Devs}
+use Rattle.dr_model.specs.declared.step.PairChoices.{PairChoices}
 use Rattle.dr_model.specs.Contents.{image_at}
 use Rattle.dr_model.specs.Layout.{Fields, is_part}
 use Rattle.dr_model.specs.Pairs.{is_kind, is_suspended, secondary_of, primary_of, is_primary_of, is_secondary_of, first_state, next_state}
@@ -178,9 +179,9 @@ module _ (w : World) (s : Sound w) where
       ready = idle first b begins.queue p.on_b;
     }) second-half
 
-  pub along-pair : (devs : Devs) (a b : ℕ) (kind : Part) (full : Bool) → is_part kind ≡ true → Along first (make_pair_plan w.control w.events devs a b kind full).entries
-  along-pair devs a b kind full part =
-      let difference : Option ℕ = cond full None (first_differing (image_at w.events) (w.control.volume a).tracks a b) in
+  pub along-pair : (devs : Devs) (a b : ℕ) (kind : Part) (choices : PairChoices) → is_part kind ≡ true → Along first (make_pair_plan w.control w.events devs a b kind choices).entries
+  along-pair devs a b kind choices part =
+      let difference : Option ℕ = cond choices.full None (first_differing (image_at w.events) (w.control.volume a).tracks a b) in
       found first begins devs a b _ (λ there_a there_b.
       checked first (is_running a) _ _ begins (λ on_a.
       refused first (reach_refusal a b) _ begins (λ reach.
@@ -192,7 +193,7 @@ module _ (w : World) (s : Sound w) where
       checked first (is_no_target b) _ _ begins (λ plain_b.
       checked first (is_settled b) _ _ begins (λ settled.
       refused first (differs_at difference) _ begins (λ none.
-      along-made a b kind full (record {
+      along-made a b kind choices.full (record {
         part = part;
         apart = λ e. false_true (not-true (nat_eq (w.control.volume a).server (w.control.volume b).server) servers) (eq-eqb _ _ e);
         tracks = eqb-true (w.control.volume a).tracks (w.control.volume b).tracks size;
@@ -205,11 +206,11 @@ module _ (w : World) (s : Sound w) where
         settled = settled;
         on_a = on_a;
         on_b = reached first a b reach;
-        equal = λ no t lt. identical (image_at w.events) (w.control.volume a).tracks a b (not-full full _ no (no-difference difference w.control none)) t lt;
+        equal = λ no t lt. identical (image_at w.events) (w.control.volume a).tracks a b (not-full choices.full _ no (no-difference difference w.control none)) t lt;
       }))))))))))))
 
-  pub holds-pair : (devs : Devs) (a b : ℕ) (kind : Part) (full : Bool) → is_part kind ≡ true → StepHolds w (make_pair_plan w.control w.events devs a b kind full)
-  holds-pair devs a b kind full part = holds-entries w _ _ s (along-pair devs a b kind full part)
+  pub holds-pair : (devs : Devs) (a b : ℕ) (kind : Part) (choices : PairChoices) → is_part kind ≡ true → StepHolds w (make_pair_plan w.control w.events devs a b kind choices)
+  holds-pair devs a b kind choices part = holds-entries w _ _ s (along-pair devs a b kind choices part)
 
   -- it is removed
   drops-primary : (a : ℕ) (more : List Entry) → Runs first a → is_part (fields_at w.control a).primary ≡ true → ((f : Option Fuse) → Sound (done first (DropPrimary a) f) → Along (done first (DropPrimary a) f) more) → Along first (now (DropPrimary a) ∷ more)

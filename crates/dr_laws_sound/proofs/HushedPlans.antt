@@ -398,7 +398,7 @@ module _ (k : Control) (events : List Event) (line : ℕ) where
       (λ s. owned tgt (λ u. unless (path_refusal k devs s u) (make_path_done src tgt group)) (λ u. one (path_refusal k devs s u) (make_path_done src tgt group) (tables _ _ Alone refl refl)))
   step-hush (RemovePath devs src tgt force) other = owned src (λ s. on_owner (owner_of k tgt) (λ u. unless (unpath_refusal k devs src tgt s u force) (remove_path_done src tgt)))
       (λ s. owned tgt (λ u. unless (unpath_refusal k devs src tgt s u force) (remove_path_done src tgt)) (λ u. one (unpath_refusal k devs src tgt s u force) (remove_path_done src tgt) (tables _ _ Alone refl refl)))
-  step-hush (MakePair devs a b kind full) other = entries-hush _ _ (pair-hush a b k devs (kind_of kind) full _)
+  step-hush (MakePair devs a b kind choices) other = entries-hush _ _ (pair-hush a b k devs (kind_of kind) choices.full _)
   step-hush (RemovePair devs a b source_only) other = entries-hush _ _ (remove-hush a b k devs source_only)
   step-hush (PausePair devs a b) other = entries-hush _ _ (pause-hush a b k devs)
   step-hush (ResumePair devs a b kind) other = entries-hush _ _ (resume-hush a b k devs (kind_of kind))

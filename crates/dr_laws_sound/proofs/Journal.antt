@@ -350,7 +350,7 @@ module _ (k : Control) where
   case-modest events line _ (Copies t most) = entries-modest _ _
   case-modest events line _ (MakesPath src tgt group) = quiet (make_path_done src tgt group).first [] [] (always (Done Alone)) refl unmoved refl
   case-modest events line _ (RemovesPath src tgt) = quiet (remove_path_done src tgt).first [] [] (always (Done Alone)) refl unmoved refl
-  case-modest events line _ (MakesPair devs a b kind full part) = entries-modest _ _
+  case-modest events line _ (MakesPair devs a b kind choices part) = entries-modest _ _
   case-modest events line _ (RemovesPair devs a b source_only) = entries-modest _ _
   case-modest events line _ (PausesPair devs a b) = entries-modest _ _
   case-modest events line _ (ResumesPair devs a b kind) = entries-modest _ _

@@ -11,6 +11,7 @@ use Rattle.dr_model.specs.declared.said.Addition.{Addition}
 use Rattle.dr_model.specs.declared.state.Part.{Part}
 use Rattle.dr_model.specs.declared.state.PairState.TheVariants.{Suspended as SuspendedState}
 use Rattle.dr_model.specs.declared.step.Devs.{Devs}
+use Rattle.dr_model.specs.declared.step.PairChoices.{PairChoices}
 use Rattle.dr_model.specs.declared.step.Name.{Name}
 use Rattle.dr_model.specs.Control.{Control, World}
 use Rattle.dr_model.specs.Relations.{Choices}
@@ -144,12 +145,12 @@ still-copy k t most = still-entries _ _
     (first-done _ (times-endless (at_most most (left_to_copy k t)) (copy_one k t) (copy-endless k t (fields_at k t).reversing)))))))
 
 module _ (a b : ℕ) (k : Control) (devs : Devs) where
-  pub still-pair : (events : List Event) (kind : Part) (full : Bool) → Still (make_pair_plan k events devs a b kind full)
-  still-pair events kind full = still-entries _ _
+  pub still-pair : (events : List Event) (kind : Part) (choices : PairChoices) → Still (make_pair_plan k events devs a b kind choices)
+  still-pair events kind choices = still-entries _ _
       (first-found devs a b _ (first-check (is_running a) _ _ (first-refuse (reach_refusal a b) _ (first-check (two_servers a b) _ _ (first-check (share_size a b) _ _
       (first-check (stands_free a) (pair_state k a) _ (first-check (may_follow a b) (pair_state k b) _ (first-check (is_no_target a) (relation_state k a) _ (first-check (is_no_target b) (relation_state k b) _
       (first-check (is_settled b) (relation_state k b) _ (first-refuse (differs_at _) _
-      (first-done _ (then-endless (now (MakeSecondary b a kind (first_state kind full))) _ (λ j. do-goes _) (now-endless (MakePrimary a b kind (first_state kind full) full)))))))))))))))
+      (first-done _ (then-endless (now (MakeSecondary b a kind (first_state kind choices.full))) _ (λ j. do-goes _) (now-endless (MakePrimary a b kind (first_state kind choices.full) choices.full)))))))))))))))
 
   pub still-remove : (source_only : Bool) → Still (remove_pair_plan k devs a b source_only)
   still-remove source_only = still-entries _ _

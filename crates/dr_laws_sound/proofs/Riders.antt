@@ -248,7 +248,7 @@ module _ (K : World → Type 0) (rider : Rider K) where
     case-rides _ (Copies t most) = entries _ _ (along-copy w s t most)
     case-rides _ (MakesPath src tgt group) = tables _ _ _ (silently w _ k refl refl refl refl refl refl refl)
     case-rides _ (RemovesPath src tgt) = tables _ _ _ (silently w _ k refl refl refl refl refl refl refl)
-    case-rides _ (MakesPair devs a b kind full part) = entries _ _ (along-pair w s devs a b kind full part)
+    case-rides _ (MakesPair devs a b kind choices part) = entries _ _ (along-pair w s devs a b kind choices part)
     case-rides _ (RemovesPair devs a b source_only) = entries _ _ (along-remove w s devs a b source_only)
     case-rides _ (PausesPair devs a b) = entries _ _ (along-pause w s devs a b)
     case-rides _ (ResumesPair devs a b kind) = entries _ _ (along-resume w s devs a b kind)

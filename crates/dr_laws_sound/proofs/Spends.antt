@@ -198,7 +198,7 @@ module _ (w : World) (x : Sound w) (h : IsWithin w.control) where
       (copy-costs (at_most most (left_to_copy w.control t)) t (copied-few w.control t most_tracks most (left-few t)) _ refl))))) (omega arith)
   case-spends line _ (MakesPath src tgt group) = tables-spends _ _ _ (omega arith)
   case-spends line _ (RemovesPath src tgt) = tables-spends _ _ _ (omega arith)
-  case-spends line _ (MakesPair devs a b kind full part) = entries-spends _ _ 20 (light-costs _ (light-pair w.control devs a b kind full _) 20 _ (omega arith)) (omega arith)
+  case-spends line _ (MakesPair devs a b kind choices part) = entries-spends _ _ 20 (light-costs _ (light-pair w.control devs a b kind choices.full _) 20 _ (omega arith)) (omega arith)
   case-spends line _ (RemovesPair devs a b source_only) = entries-spends _ _ 20 (light-costs _ (light-remove w.control devs a b source_only) 20 _ (length-remove w.control devs a b source_only)) (omega arith)
   case-spends line _ (PausesPair devs a b) = entries-spends _ _ 20 (light-costs _ (light-pause w.control devs a b) 20 _ (omega arith)) (omega arith)
   case-spends line _ (ResumesPair devs a b kind) = entries-spends _ _ 20 (light-costs _ (light-resume w.control devs a b kind) 20 _ (omega arith)) (omega arith)

@@ -139,7 +139,7 @@ module _ (w : World) (s : Sound w) (line : ℕ) where
   case-holds _ (Copies t most) = holds-copy w s t most
   case-holds _ (MakesPath src tgt group) = holds-quiet w w.control.fuse w.control.link (with_path w.control.paths src tgt group) _ s (λ k. record k { paths = with_path k.paths src tgt group }) refl
   case-holds _ (RemovesPath src tgt) = holds-quiet w w.control.fuse w.control.link (without_path w.control.paths src tgt) _ s (λ k. record k { paths = without_path k.paths src tgt }) refl
-  case-holds _ (MakesPair devs a b kind full part) = holds-pair w s devs a b kind full part
+  case-holds _ (MakesPair devs a b kind choices part) = holds-pair w s devs a b kind choices part
   case-holds _ (RemovesPair devs a b source_only) = holds-remove w s devs a b source_only
   case-holds _ (PausesPair devs a b) = holds-pause w s devs a b
   case-holds _ (ResumesPair devs a b kind) = holds-resume w s devs a b kind

@@ -123,7 +123,7 @@ unfolding outcome line_of words_from words_behind command_named commands command
 remote_off_flash = refl
 
 -- options in any order
-pair : line_of (codes "mkpprc -mode nocp -type gcp 1000:200a") ≡ Ok (MakePair no_devs 4096 8202 2 false ∷ [])
+pair : line_of (codes "mkpprc -mode nocp -type gcp 1000:200a") ≡ Ok (MakePair no_devs 4096 8202 2 (record { full = false }) ∷ [])
 unfolding no_devs line_of words_from words_behind command_named commands command_word read_words read_on setting_named settings setting_word operands needed operand_value operand_items own_steps all_digits no_options no_operands spelled_bytes has flagged valued setting_items may_end may_end_with steps_of step_of paired ranges_items form
 pair = refl
 

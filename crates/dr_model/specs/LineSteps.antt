@@ -225,7 +225,7 @@ step_of AtCompare o p i = Compare p.volume p.with
 step_of AtImage o p i = Image
 step_of Mkpprcpath o p i = MakePath o.devs (or_zero o.src) (or_zero o.tgt) o.group
 step_of Rmpprcpath o p i = RemovePath o.devs (lss_in i.first) (lss_in i.second) o.force
-step_of Mkpprc o p i = MakePair o.devs i.first i.second (or_zero o.kind) (unwrap_or o.full true)
+step_of Mkpprc o p i = MakePair o.devs i.first i.second (or_zero o.kind) (record { full = unwrap_or o.full true })
 step_of Rmpprc o p i = RemovePair o.devs i.first i.second o.unconditional
 step_of Pausepprc o p i = PausePair o.devs i.first i.second
 step_of Resumepprc o p i = ResumePair o.devs i.first i.second (or_zero o.kind)

@@ -190,7 +190,7 @@ at_saying _ = None
 unfoldable pub pair_saying : Step → Option Saying
 pair_saying (MakePath devs src tgt group) = Some (for_item Mkpprcpath (record no_options { devs = devs; src = Some src; tgt = Some tgt; group = group }) 0 0)
 pair_saying (RemovePath devs src tgt force) = Some (for_item Rmpprcpath (record no_options { devs = devs; force = force }) src tgt)
-pair_saying (MakePair devs a b kind full) = Some (for_item Mkpprc (record no_options { devs = devs; kind = Some kind; full = if full then None else Some false }) a b)
+pair_saying (MakePair devs a b kind choices) = Some (for_item Mkpprc (record no_options { devs = devs; kind = Some kind; full = if choices.full then None else Some false }) a b)
 pair_saying (RemovePair devs a b source_only) = Some (for_item Rmpprc (record no_options { devs = devs; unconditional = source_only; at_source = source_only }) a b)
 pair_saying (PausePair devs a b) = Some (for_item Pausepprc (given devs) a b)
 pair_saying (ResumePair devs a b kind) = Some (for_item Resumepprc (record no_options { devs = devs; kind = Some kind }) a b)

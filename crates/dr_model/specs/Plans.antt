@@ -36,6 +36,7 @@ use Rattle.dr_model.specs.declared.state.Part.{Part}
 use Rattle.dr_model.specs.Layout.{kind_of}
 use Rattle.dr_model.specs.declared.step.Name.{Name}
 use Rattle.dr_model.specs.declared.step.Devs.{Devs}
+use Rattle.dr_model.specs.declared.step.PairChoices.{PairChoices}
 use Rattle.dr_model.specs.declared.step.TornWord.{TornWord}
 use Rattle.dr_model.specs.declared.step.TornWord.TheVariants.{Same, Fill, Bytes}
 use Rattle.dr_model.specs.declared.step.Step.{Step}
@@ -449,9 +450,9 @@ abbrev pub found_volumes : Devs → ℕ → ℕ → List Entry
 found_volumes devs a b = found_pair devs.dev a b ++ check (is_owner devs.remotedev b) (unknown OfServer) ∷ []
 
 -- a pair is made; where nothing is to be copied, the host writes of the journal must have made both volumes the same
-abbrev pub make_pair_plan : Control → List Event → Devs → ℕ → ℕ → Part → Bool → Plan
-make_pair_plan k events devs a b kind full =
-    entries_plan (found_volumes devs a b ++ make_entries k a b kind full (if full then None else first_differing (image_at events) (k.volume a).tracks a b)) (Done Alone)
+abbrev pub make_pair_plan : Control → List Event → Devs → ℕ → ℕ → Part → PairChoices → Plan
+make_pair_plan k events devs a b kind choices =
+    entries_plan (found_volumes devs a b ++ make_entries k a b kind choices.full (if choices.full then None else first_differing (image_at events) (k.volume a).tracks a b)) (Done Alone)
 
 -- one of two volumes is the primary of a member; its session is named
 abbrev pub member_refusal : ℕ → ℕ → Control → Option Refusal
@@ -538,7 +539,7 @@ plan_of k events line (ReverseFlash devs s t tgtpprc sequence) = reverse_flash_p
 plan_of k events line (Copy t most) = copy_plan k t most
 plan_of k events line (MakePath devs src tgt group) = path_plan k devs src tgt group
 plan_of k events line (RemovePath devs src tgt force) = unpath_plan k devs src tgt force
-plan_of k events line (MakePair devs a b kind full) = make_pair_plan k events devs a b (kind_of kind) full
+plan_of k events line (MakePair devs a b kind choices) = make_pair_plan k events devs a b (kind_of kind) choices
 plan_of k events line (RemovePair devs a b source_only) = remove_pair_plan k devs a b source_only
 plan_of k events line (PausePair devs a b) = pause_pair_plan k devs a b
 plan_of k events line (ResumePair devs a b kind) = resume_pair_plan k devs a b (kind_of kind)

@@ -20,4 +20,4 @@ pub use image::image_of;
 pub use journal::Journal;
 pub use said::{Addition, AnswerNumbers, Said};
 pub use state::{PairState, Part};
-pub use step::{Devs, Name, Step, TornWord};
+pub use step::{Devs, Name, PairChoices, Step, TornWord};

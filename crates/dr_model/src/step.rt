@@ -20,6 +20,12 @@ pub enum TornWord {
     Bytes([u8; 64]),
 }
 
+/// How a pair is made: whether all tracks are to be copied, or none.
+#[derive(Clone, Copy)]
+pub struct PairChoices {
+    pub full: bool,
+}
+
 /// One step of a script: a line's command with one operand.
 ///
 /// A `kind` is 1 for Metro Mirror and 2 for Global Copy; `most` is `None` for all; `reply` is false for
@@ -119,7 +125,7 @@ pub enum Step {
         a: u16,
         b: u16,
         kind: u8,
-        full: bool,
+        choices: PairChoices,
     },
     RemovePair {
         devs: Devs,

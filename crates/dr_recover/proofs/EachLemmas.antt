@@ -1,5 +1,6 @@
 -- One entry for each member, one by one.
 use Rattle.std.proofs.Common.{ℕ, suc, ◌≡◌, ◌+◌, Bool, true, List, [], ◌∷◌, ◌++◌, map, take, drop, slice_get, sym, ◌∙◌, ap, subst, Option, Some}
+use Rattle.std.proofs.lemmas.List.{map-append}
 use Rattle.dr_ids.specs.declared.names.Member.{Member}
 use Rattle.dr_ids.specs.declared.refusal.Refusal.{Refusal}
 use Rattle.dr_model.specs.Carry.{Entry}
@@ -12,7 +13,6 @@ use Rattle.dr_facts.proofs.Ends.{ends-wider}
 use Rattle.dr_gcopy.proofs.TwoMoves.{still-running}
 use Rattle.dr_gmirror.specs.Orders.{AreReady, AreRunning}
 use Rattle.dr_gmirror.proofs.OrderLemmas.{member-next, member-split, still-ready}
-use Rattle.dr_gmirror.proofs.ReportLemmas.{map-append}
 use Rattle.dr_moves.proofs.LeadLemmas.{then-leads, then-fails}
 
 module _ (f : Member → Entry) where

@@ -235,6 +235,13 @@ absent_name (Some n) e = absurd (cc)
 no_remote : (devs : Devs) (b : Bool) → (b && (false || is_none devs.remotedev)) ≡ true → None ≡ devs.remotedev
 no_remote devs b e = let p = and_parts b _ e in sym (absent_name devs.remotedev p.1)
 
+-- that of a pair says whether all is copied
+reads-pair : (devs : Devs) (a b kind : ℕ) (full : Bool) → is_written (MakePair devs a b kind (record { full = full })) ≡ true
+    → line_of (step_text (MakePair devs a b kind (record { full = full }))) ≡ Ok (MakePair devs a b kind (record { full = full }) ∷ [])
+unfolding step_text is_written at_saying pair_saying flash_saying session_saying settings needed operands has absorb absorb_operand no_options no_operands said_count operand_text may_end may_end_with steps_of own_steps step_of setting_named setting_word form
+reads-pair devs a b kind true h = told (for_item Mkpprc (record no_options { devs = devs; kind = Some kind; full = None }) a b) (MakePair devs a b kind (record { full = true })) refl refl (refl, (hex4_no (settings Mkpprc) a (58 ∷ hex4 b), (tt, tt))) h refl refl
+reads-pair devs a b kind false h = told (for_item Mkpprc (record no_options { devs = devs; kind = Some kind; full = Some false }) a b) (MakePair devs a b kind (record { full = false })) refl refl (refl, (hex4_no (settings Mkpprc) a (58 ∷ hex4 b), (tt, tt))) h refl refl
+
 -- the line that says a step reads as just that step
 pub reads : (step : Step) → is_written step ≡ true → line_of (step_text step) ≡ Ok (step ∷ [])
 unfolding step_text is_written at_saying pair_saying flash_saying session_saying settings needed operands has absorb absorb_operand no_options no_operands said_count operand_text may_end may_end_with steps_of own_steps step_of setting_named setting_word form
@@ -262,8 +269,7 @@ reads (MakePath devs src tgt group) h = told (for_item Mkpprcpath (record no_opt
 reads (RemovePath devs src tgt force) h =
     let n = below src tgt _ _ h in
     told (for_item Rmpprcpath (record no_options { devs = devs; force = force }) src tgt) (RemovePath devs src tgt force) refl refl (refl, (hex2_no (settings Rmpprcpath) (lss_in src) (58 ∷ hex2 (lss_in tgt)), (tt, tt))) h refl (λ j. RemovePath devs (n.0 j) (n.1 j) force ∷ [])
-reads (MakePair devs a b kind true) h = told (for_item Mkpprc (record no_options { devs = devs; kind = Some kind; full = None }) a b) (MakePair devs a b kind true) refl refl (refl, (hex4_no (settings Mkpprc) a (58 ∷ hex4 b), (tt, tt))) h refl refl
-reads (MakePair devs a b kind false) h = told (for_item Mkpprc (record no_options { devs = devs; kind = Some kind; full = Some false }) a b) (MakePair devs a b kind false) refl refl (refl, (hex4_no (settings Mkpprc) a (58 ∷ hex4 b), (tt, tt))) h refl refl
+reads (MakePair devs a b kind choices) h = reads-pair devs a b kind choices.full h
 reads (RemovePair devs a b true) h = told (for_item Rmpprc (record no_options { devs = devs; unconditional = true; at_source = true }) a b) (RemovePair devs a b true) refl refl (refl, (hex4_no (settings Rmpprc) a (58 ∷ hex4 b), (tt, tt))) h refl refl
 reads (RemovePair devs a b false) h = told (for_item Rmpprc (record no_options { devs = devs; unconditional = false; at_source = false }) a b) (RemovePair devs a b false) refl refl (refl, (hex4_no (settings Rmpprc) a (58 ∷ hex4 b), (tt, tt))) h refl refl
 reads (PausePair devs a b) h = told (for_item Pausepprc (given devs) a b) (PausePair devs a b) refl refl (refl, (hex4_no (settings Pausepprc) a (58 ∷ hex4 b), (tt, tt))) h refl refl

@@ -310,13 +310,13 @@ fn pair_saying(step: &Step) -> Option<Saying>
             a,
             b,
             kind,
-            full,
+            choices,
         } => for_item(
             Command::Mkpprc,
             Options {
                 devs,
                 kind: Some(kind),
-                full: if full { None } else { Some(false) },
+                full: if choices.full { None } else { Some(false) },
                 ..no_options()
             },
             a,

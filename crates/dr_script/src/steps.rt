@@ -3,7 +3,7 @@
 ghost use Rattle.std.specs.Prelude.{◌≡◌};
 ghost use Rattle.dr_model.specs.LineSteps.{lss_in, step_of};
 
-use dr_model::{Command, Item, Operands, Options, Step};
+use dr_model::{Command, Item, Operands, Options, PairChoices, Step};
 
 /// An item's logical subsystem.
 fn lss_in(n: u16) -> u8
@@ -123,7 +123,9 @@ pub(crate) fn step_of(command: Command, options: &Options, operands: &Operands, 
             a: item.first,
             b: item.second,
             kind: options.kind.unwrap_or(0),
-            full: options.full.unwrap_or(true),
+            choices: PairChoices {
+                full: options.full.unwrap_or(true),
+            },
         },
         Command::Rmpprc => Step::RemovePair {
             devs: options.devs,

@@ -16,6 +16,7 @@ use Rattle.dr_model.specs.declared.said.Addition.TheVariants.{Alone}
 use Rattle.dr_model.specs.declared.state.Part.{Part}
 use Rattle.dr_model.specs.declared.step.Name.{Name}
 use Rattle.dr_model.specs.declared.step.Devs.{Devs}
+use Rattle.dr_model.specs.declared.step.PairChoices.{PairChoices}
 use Rattle.dr_model.specs.Contents.{image_at}
 use Rattle.dr_model.specs.Control.{Control, World}
 use Rattle.dr_model.specs.Pairs.{first_state}
@@ -136,7 +137,7 @@ module _ (w : World) (sound : Sound w) (a b : ℕ) (kind : Part) where
       by false on_a on_b size plain_a plain_b = difference-image on_a on_b size plain_a plain_b
 
 -- the step that makes a pair
-module _ (c : ConfigTable) (s u : PlantState) (h : Tables) (ev mid : List Event) (devs : Devs) (a b : ℕ) (kind : Part) (full : Bool) (pass : ReadsPass s) (sound : Sound (here s c h ev)) where
+module _ (c : ConfigTable) (s u : PlantState) (h : Tables) (ev mid : List Event) (devs : Devs) (a b : ℕ) (kind : Part) (choices : PairChoices) (pass : ReadsPass s) (sound : Sound (here s c h ev)) where
   abbrev pub before : World
   before = here s c h ev
 
@@ -145,27 +146,27 @@ module _ (c : ConfigTable) (s u : PlantState) (h : Tables) (ev mid : List Event)
 
   -- the kind of the pair is what the call below takes
   abbrev by_devices : Part → List Entry
-  by_devices kind = make_entries before.control a b kind full (seen-of before sound a b kind full before.contents)
+  by_devices kind = make_entries before.control a b kind choices.full (seen-of before sound a b kind choices.full before.contents)
 
   abbrev by_journal : List Entry
-  by_journal = make_entries before.control a b kind full (seen-of before sound a b kind full (image_at ev))
+  by_journal = make_entries before.control a b kind choices.full (seen-of before sound a b kind choices.full (image_at ev))
 
   made : (r : Option Refusal) (known : Part) → known ≡ kind → Checked before (found_volumes devs a b) None → Ends (armed_in s) after r before (by_devices known) → carry before (found_volumes devs a b ++ by_journal) ≡ (after, r)
   made r known same checked ends =
       goes-on before before (found_volumes devs a b) by_journal
       (exact s before None before (found_volumes devs a b) pass (checked (armed_in s) before None [] (ends-none (armed_in s) before None before (record { world = refl; refusal = refl }))))
-      ∙ sym (make-alike before sound a b kind full)
+      ∙ sym (make-alike before sound a b kind choices.full)
       ∙ ap (λ k. carry before (by_devices k)) (sym same)
       ∙ exact s after r before (by_devices known) pass ends
 
-  pub make-nowhere : (why : Refusal) → Checked before (found_volumes devs a b) (Some why) → (line : ℕ) → after_plan before line (make_pair_plan before.control ev devs a b kind full) ≡ said before line (Refused why)
+  pub make-nowhere : (why : Refusal) → Checked before (found_volumes devs a b) (Some why) → (line : ℕ) → after_plan before line (make_pair_plan before.control ev devs a b kind choices) ≡ said before line (Refused why)
   make-nowhere why checked line =
       entries-refused before before line (found_volumes devs a b ++ by_journal) (Done Alone) why (exact s before (Some why) before (found_volumes devs a b ++ by_journal) pass (checked (armed_in s) by_journal))
 
-  pub make-done : (known : Part) → known ≡ kind → Checked before (found_volumes devs a b) None → Ends (armed_in s) after None before (by_devices known) → (line : ℕ) → after_plan before line (make_pair_plan before.control ev devs a b kind full) ≡ said after line (Done Alone)
+  pub make-done : (known : Part) → known ≡ kind → Checked before (found_volumes devs a b) None → Ends (armed_in s) after None before (by_devices known) → (line : ℕ) → after_plan before line (make_pair_plan before.control ev devs a b kind choices) ≡ said after line (Done Alone)
   make-done known same checked ends line = entries-done before after line (found_volumes devs a b ++ by_journal) (Done Alone) (made None known same checked ends)
 
-  pub make-refused : (r : Refusal) (known : Part) → known ≡ kind → Checked before (found_volumes devs a b) None → Ends (armed_in s) after (Some r) before (by_devices known) → (line : ℕ) → after_plan before line (make_pair_plan before.control ev devs a b kind full) ≡ said after line (Refused r)
+  pub make-refused : (r : Refusal) (known : Part) → known ≡ kind → Checked before (found_volumes devs a b) None → Ends (armed_in s) after (Some r) before (by_devices known) → (line : ℕ) → after_plan before line (make_pair_plan before.control ev devs a b kind choices) ≡ said after line (Refused r)
   make-refused r known same checked ends line = entries-refused before after line (found_volumes devs a b ++ by_journal) (Done Alone) r (made (Some r) known same checked ends)
 
   pub make-ready : (r : Option Refusal) (known : Part) → known ≡ kind → Checked before (found_volumes devs a b) None → Ends (armed_in s) after r before (by_devices known) → IsAtRest u c → ((q : ℕ) → s.read_fuse q ≡ None → u.read_fuse q ≡ None) → IsTold h ev → IsReady u c h mid

@@ -21,6 +21,7 @@ use Rattle.dr_model.specs.declared.step.Step.{Step}
 use Rattle.dr_model.specs.declared.step.Step.TheVariants.{Server, Volume, Link, Stop, StopAfter, Start, Issue, Write, Apply, Show, MakeFlash, RemoveFlash, ResyncFlash, ReverseFlash, Copy, MakePath, RemovePath, MakePair, RemovePair, PausePair, ResumePair, Failover, Failback, Drain, Expire, Freeze, Unfreeze, MakeSession, RemoveSession, AddMember, RemoveMember, MakeMirror, PauseMirror, ResumeMirror, RemoveMirror, Abort, Exchange, Run, Compare, Image, Recover, CommitFlash, RevertFlash, ListPairs, ListFlashes, ListSession, ShowMirror}
 use Rattle.dr_model.specs.declared.step.TornWord.{TornWord}
 use Rattle.dr_model.specs.declared.step.Devs.{Devs}
+use Rattle.dr_model.specs.declared.step.PairChoices.{PairChoices}
 use Rattle.dr_steps.specs.Forms.{is_plain, is_relation, is_pair, is_session, is_recovery}
 use Rattle.dr_model.specs.Answers.{answer}
 use Rattle.dr_model.specs.Control.{Control, World}
@@ -139,13 +140,13 @@ none-relation _ make remove resync reverse copy = refl
 
 -- or none of those on a pair that stays as it lies
 pub none-pair : (step : Step)
-    → ((d : Devs) (a b k : ℕ) (f : Bool) → step ≡ MakePair d a b k f → ⊥)
+    → ((d : Devs) (a b k : ℕ) (c : PairChoices) → step ≡ MakePair d a b k c → ⊥)
     → ((d : Devs) (a b : ℕ) (s : Bool) → step ≡ RemovePair d a b s → ⊥)
     → ((d : Devs) (a b : ℕ) → step ≡ PausePair d a b → ⊥)
     → ((d : Devs) (a b k : ℕ) → step ≡ ResumePair d a b k → ⊥)
     → ((a : ℕ) (most : Option ℕ) → step ≡ Drain a most → ⊥)
     → is_pair step ≡ false
-none-pair (MakePair d a b k f) make end pause resume drain = absurd (make d a b k f refl)
+none-pair (MakePair d a b k c) make end pause resume drain = absurd (make d a b k c refl)
 none-pair (RemovePair d a b s) make end pause resume drain = absurd (end d a b s refl)
 none-pair (PausePair d a b) make end pause resume drain = absurd (pause d a b refl)
 none-pair (ResumePair d a b k) make end pause resume drain = absurd (resume d a b k refl)

@@ -37,7 +37,7 @@ is_relation _ = false
 
 -- those on pairs that stay as they lie
 abbrev pub is_pair : Step → Bool
-is_pair (MakePair devs a b kind full) = true
+is_pair (MakePair devs a b kind choices) = true
 is_pair (RemovePair devs a b source_only) = true
 is_pair (PausePair devs a b) = true
 is_pair (ResumePair devs a b kind) = true

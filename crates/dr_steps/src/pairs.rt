@@ -22,7 +22,7 @@ use dr_config::Config;
 use dr_gcopy::{CopyKind, pause, resume};
 use dr_host::Host;
 use dr_ids::{Kind, Refusal, VolumeId};
-use dr_model::{Addition, Devs, Journal};
+use dr_model::{Addition, Devs, Journal, PairChoices};
 use dr_moves::{pair_state, server_of};
 use dr_plant::Plant;
 use dr_volume::{Fields, peek_fields};
@@ -85,14 +85,14 @@ pub fn make_pair<P: Plant>(
     a: VolumeId,
     b: VolumeId,
     kind: u8,
-    full: bool,
+    choices: PairChoices,
 ) -> Result<Addition, Refusal>
     requires ready { IsReady (P.state plant.old) config.now tables.now journal.old.events }
     requires sound { Sound (here (P.state plant.old) config.now tables.now journal.old.events) }
     requires short { FitsDevs devs.now }
     requires room { 512 ≤ journal.old.spare }
     ensures step { (line : ℕ) → after_plan (here (P.state plant.old) config.now tables.now journal.old.events) line
-        (plans.make_pair_plan (here (P.state plant.old) config.now tables.now journal.old.events).control journal.old.events devs.now a.0 b.0 (part.kind_of kind) full)
+        (plans.make_pair_plan (here (P.state plant.old) config.now tables.now journal.old.events).control journal.old.events devs.now a.0 b.0 (part.kind_of kind) choices)
         ≡ said (here (P.state plant.new) config.now tables.now journal.new.events) line (said_of result) }
     ensures faults { CountsStop (said_of result) (P.state plant.old) (P.state plant.new) }
     ensures ready { IsReady (P.state plant.new) config.now tables.now journal.new.events }
@@ -101,7 +101,7 @@ pub fn make_pair<P: Plant>(
     if let Some(why) = found_volumes(config, devs, a, b) {
         return Err(why);
     }
-    match dr_gcopy::make_pair(plant, config, journal, a, b, kind_of(kind), full) {
+    match dr_gcopy::make_pair(plant, config, journal, a, b, kind_of(kind), choices.full) {
         Ok(()) => Ok(Addition::Alone),
         Err(refusal) => Err(refusal),
     }

@@ -214,7 +214,7 @@ fn carry_pair<P: Plant>(
             a,
             b,
             kind,
-            full,
+            choices,
         } => make_pair(
             plant,
             config,
@@ -224,7 +224,7 @@ fn carry_pair<P: Plant>(
             VolumeId(a),
             VolumeId(b),
             kind,
-            full,
+            choices,
         ),
         Step::RemovePair {
             devs,

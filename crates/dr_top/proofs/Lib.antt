@@ -31,3 +31,5 @@ pub mod TakenLemmas
 pub mod EndLemmas
 pub mod RefusalLemmas
 pub mod TopLemmas
+pub mod SummaryLemmas
+pub mod TrialLemmas

@@ -20,7 +20,7 @@ use Rattle.dr_report.specs.declared.found.Found.TheVariants.{Lines, Contradictio
 use Rattle.dr_top.specs.Offline.{IsTaken, Reads, Reports, EndsOffline, image_limits, report_by, report_text, found_report}
 use Rattle.dr_top.specs.Outcome.{is_write_fault}
 use Rattle.dr_top.specs.declared.offline.NotRead.TheVariants.{ReadFault as OnSource, TooLong as TooMuch, NoMemory as OnMemory}
-use Rattle.dr_top.specs.declared.offline.Report.{Report}
+use Rattle.dr_top.specs.declared.report.Report.{Report}
 use Rattle.dr_top.specs.declared.status.Status.{Status}
 use Rattle.dr_top.specs.declared.status.Status.TheVariants.{Done, DoneRefused, Usage, ReadFault, WriteFault, NoMemory, TooLong, BadImage, Contradiction, NoMembers}
 

@@ -209,21 +209,25 @@ module _ {S K : Type 0} (left : S → Option (List ℕ)) (written : K → Option
     stands = stands-here s0 s t h ev sound ready room stops by.steps by.leads by.lists by.images;
   }
 
+-- before the first step
+pub stands-unbegun : (s : PlantState) (fresh : IsFresh s) → Stands [] (here s (empty_table s fresh) (idle s fresh) []) [] s s
+stands-unbegun s fresh =
+    stands-here s s (empty_table s fresh) (idle s fresh) [] sound-empty (ready-fresh s fresh) (omega arith) refl [] (tasks-none nothing ∙ sym (begins s fresh)) tt (λ before t is. absurd (none-last before t is))
+
 -- there was no memory to read the words
 module _ {S K : Type 0} (left : S → Option (List ℕ)) (written : K → Option (List ℕ)) (source : S) (sink : K) (read_faults : S → ℕ) (write_faults : K → ℕ) (s : PlantState) where
   pub run-unbegun : IsFresh s → IsRun left written source source sink sink read_faults write_faults NoMemory [] s s
-  run-unbegun fresh = is-run left written source source sink sink read_faults write_faults NoMemory s s (empty_table s fresh) (idle s fresh) [] sound-empty (ready-fresh s fresh) (omega arith) refl (record {
+  run-unbegun fresh = record {
+    world = here s (empty_table s fresh) (idle s fresh) [];
     steps = [];
-    leads = tasks-none nothing ∙ sym (begins s fresh);
     ran = record {
       taken = [];
       took = λ told h. (told, h, refl);
       ends = inr (record { source_same = refl; sink_same = refl; none_taken = refl; no_step = refl });
       streams = record { reads = refl; writes = refl };
     };
-    lists = tt;
-    images = λ before t is. absurd (none-last before t is);
-  })
+    stands = stands-unbegun s fresh;
+  }
 
   pub offline-unbegun : {J : Type 0} (session : ℕ) (journal : J) → IsOffline left written source source sink sink read_faults write_faults session NoMemory journal journal s s
   offline-unbegun session journal = record {

@@ -7,3 +7,4 @@ pub mod Outcome
 pub mod Statuses
 pub mod Reports
 pub mod Offline
+pub mod Trials

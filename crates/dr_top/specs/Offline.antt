@@ -14,7 +14,7 @@ use Rattle.dr_report.specs.declared.found.Found.TheVariants.{Lines, Contradictio
 use Rattle.dr_image.specs.Reader.{Reader, will_read}
 use Rattle.dr_top.specs.declared.offline.NotRead.{NotRead}
 use Rattle.dr_top.specs.declared.offline.NotRead.TheVariants.{ReadFault as OnSource, TooLong as PastLimit, NoMemory as OnMemory}
-use Rattle.dr_top.specs.declared.offline.Report.{Report}
+use Rattle.dr_top.specs.declared.report.Report.{Report}
 use Rattle.dr_top.specs.Outcome.{is_read_fault, is_write_fault}
 use Rattle.dr_top.specs.declared.status.Status.{Status}
 use Rattle.dr_top.specs.declared.status.Status.TheVariants.{Done, DoneRefused, Usage, ReadFault, WriteFault, NoMemory, TooLong, BadImage, Contradiction, NoMembers}

@@ -10,9 +10,12 @@
 mod carry;
 mod offline;
 mod put;
+mod report;
 mod run;
 mod status;
+mod summary;
 mod top;
+mod trial;
 
 pub use status::Status;
 pub use top::drsim;

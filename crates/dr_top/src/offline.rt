@@ -5,12 +5,12 @@ ghost use Rattle.dr_logic.specs.Counts.{Counted};
 ghost use Rattle.dr_image.specs.Reader.{will_read};
 ghost use Rattle.dr_image.specs.Outcome.{FinishesAs};
 ghost use Rattle.dr_model.specs.PlantImage.{IsImage, reading};
-ghost use Rattle.dr_top.specs.Offline.{Reports, Reads, EndsOffline, bad_report, contradiction_report, found_report, report_text};
+ghost use Rattle.dr_top.specs.Offline.{Reads, EndsOffline, bad_report, contradiction_report, found_report, report_text};
 ghost use Rattle.dr_top.specs.Outcome.{is_read_fault, is_write_fault};
 
-use crate::put::put_all;
+use crate::report::{Report, line_text, put_report};
 use crate::status::Status;
-use dr_ids::{SessionId, Text};
+use dr_ids::SessionId;
 use dr_image::{Image, ImageFault, ImageReader};
 use dr_io::{PieceReader, SCRIPT_LIMITS, Sink, Source, TakenPiece};
 use dr_report::{Found, offline};
@@ -25,13 +25,6 @@ pub enum NotRead {
     TooLong,
     /// There is no memory.
     NoMemory,
-}
-
-/// What is put, and the status with it.
-#[derive(Drop)]
-pub struct Report {
-    pub status: Status,
-    pub text: Text,
 }
 
 /// Hands the text that the source has to the reader of an image, piece by piece. A bad text is read to its end, too.
@@ -53,15 +46,6 @@ fn read_pieces<S: Source>(source: &mut S, image: &mut ImageReader) -> Result<(),
             Err(_) => return Err(NotRead::ReadFault),
         }
     }
-}
-
-/// A line as a text.
-fn line_text(alloc: Global, line: &str) -> Result<Text, AllocError>
-    ensures { IfOk result (λ text. text ≡ line.now) }
-{
-    let mut text = Text::new(alloc);
-    text.append(line.as_bytes())?;
-    Ok(text)
 }
 
 /// What is put of an image that isn't one.
@@ -116,17 +100,6 @@ fn report_of(
         Ok(image) => found_report(alloc, offline(alloc, &image, session)?),
         Err(ImageFault::BadImage { line }) => bad_report(alloc, line),
         Err(ImageFault::NoMemory) => Err(AllocError),
-    }
-}
-
-/// Puts a report.
-fn put_report<K: Sink>(sink: &mut K, report: &Report) -> Status
-    requires { is_write_fault report.now.status ≡ false }
-    ensures { Reports K.written sink.old sink.new K.faults report.now result }
-{
-    match put_all(sink, report.text.bytes()) {
-        Ok(()) => report.status,
-        Err(_) => Status::WriteFault,
     }
 }
 

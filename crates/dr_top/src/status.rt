@@ -59,7 +59,8 @@ fn is_refusal(event: &Event) -> bool
     }
 }
 
-fn is_refusal_at(journal: &Journal, place: usize) -> bool
+/// Whether the event at a place is a refusal.
+pub fn is_refusal_at(journal: &Journal, place: usize) -> bool
     ensures { result ≡ refusal_at journal.now.events place }
 {
     match journal.event(place) {

@@ -1,10 +1,11 @@
 ghost use Rattle.std.specs.Prelude.{◌<◌};
 
-use dr_gen::script as trial_script;
 use dr_ids::{Text, VolumeId};
 use dr_image::{Image, ImageFault, ImageReader, ImageVolume, read_image, write_image};
 use dr_io::{MemSink, MemSource, Sink, StdSink};
+use dr_lost::{Holdings, Pair, first_broken};
 use dr_model::{Event, Journal, image_of};
+use dr_plan::{Point, Torn, read_plan, script_at};
 use dr_plant::ModelPlant;
 use dr_script::{Line, print_step, read_line};
 use dr_top::drsim;
@@ -66,7 +67,7 @@ const TARGET: &str =
 #[test]
 fn other_words(rt: HostRuntime) -> Result<(), AllocError> {
     let usage = b"usage: drsim run | recover SS | trial N | convert\n";
-    for words in ["", "run x", "recover 00", "trial 1", "help", "RUN"] {
+    for words in ["", "run x", "recover 00", "trial", "help", "RUN"] {
         let script = Vec::from_slice(rt.alloc(), b"@server A\n")?;
         let left = run(rt.alloc(), words, script)?;
         assert!(rt;
@@ -153,6 +154,22 @@ fn reads_and_writes_that_fail(rt: HostRuntime) -> Result<(), AllocError> {
         ("recover 01", both, "", 3, 0),
         ("help", Faults { fail: 1, ..SOUND }, "", 4, 0),
         ("help", narrow, "usa", 4, 0),
+        ("trial 0", narrow, "lin", 4, 8867),
+        (
+            "trial 0",
+            Faults { room: 20, ..SOUND },
+            "lines 2998\nrefused 1",
+            4,
+            8867,
+        ),
+        (
+            "trial 0",
+            Faults { room: 29, ..SOUND },
+            "lines 2998\nrefused 1150\ngroup",
+            4,
+            8867,
+        ),
+        ("trial 0", Faults { fail: 1, ..SOUND }, "", 4, 8867),
     ];
     for (words, faults, printed, status, events) in cases {
         faulty(&rt, rt.alloc(), words, faults, printed, status, events)?;
@@ -331,21 +348,62 @@ fn printed_steps(rt: HostRuntime) -> Result<(), AllocError> {
     Ok(())
 }
 
-/// Some lines of trials, and how long their scripts are: the lengths are those of another program's scripts.
+const PLAN: &[u8] = b"\
+    @server A\n\
+    @server B\n\
+    #sweep lose A B\n\
+    #sweep use 2000 for 1000\n\
+    #sweep here\n\
+    @volume 1000 A 1\n\
+    # tried\n\
+    @volume 2000-2001 B 1\n\
+    #sweep then\n\
+    @recover 01\n";
+
+/// The script of a point of the plan above, whose disaster strikes in the second volume of the range.
+const CUT: &[u8] = b"\
+    @server A\n\
+    @server B\n\
+    #sweep lose A B\n\
+    #sweep use 2000 for 1000\n\
+    @volume 1000 A 1\n\
+    @volume 2000 B 1\n\
+    @stop B after 7 torn 01\n\
+    @volume 2001 B 1\n\
+    @stop A\n\
+    @recover 01\n";
+
+/// Whether a volume holds a write that came because of one which only the other volume holds.
+fn is_broken(alloc: Global) -> Result<bool, AllocError> {
+    let script = b"@server A\n@volume 1000-1001 A 1\n@write 1000 0 0 41\n@write 1001 0 0 42\n";
+    let journal = run(alloc, "run", Vec::from_slice(alloc, script)?)?.journal;
+    let end = Holdings::after(alloc, &journal, journal.len())?;
+    let pair = Pair {
+        second: 0x1000,
+        first: 0x1001,
+    };
+    let lost = end.lost(&end, &[pair])?;
+    let held = end.held(&[0x1001])?;
+    Ok(first_broken(&journal, &held, &lost).is_some())
+}
+
 #[test]
-fn trials(rt: HostRuntime) -> Result<(), AllocError> {
-    for (trial, length) in [(0, 44698), (4294967295, 45083)] {
-        assert_eq!(rt; trial_script(rt.alloc(), trial)?.bytes().len(), length);
-    }
-    let text = trial_script(rt.alloc(), 0)?;
-    let lines = [
-        (1, b"@server A1".as_slice()),
-        (26, b"@write 1000 0 57 52"),
-        (27, b"@write 1100 1 61 F0"),
-    ];
-    for (number, line) in lines {
-        assert!(rt; text.bytes().split(|b| *b == b'\n').nth(number - 1) == Some(line));
-    }
+fn sweeps(rt: HostRuntime) -> Result<(), AllocError> {
+    assert!(rt; is_broken(rt.alloc())?);
+    let Ok(plan) = read_plan(rt.alloc(), PLAN) else {
+        return Err(AllocError);
+    };
+    let cut = Point::Cut {
+        disaster: 0,
+        line: 2,
+        server: 1,
+        write: 7,
+        torn: Torn::Ones,
+    };
+    let Some(script) = script_at(rt.alloc(), &plan, cut)? else {
+        return Err(AllocError);
+    };
+    assert!(rt; script.bytes() == CUT);
     Ok(())
 }
 

@@ -9,7 +9,7 @@ use Rattle.dr_steps.proofs.pairs.make_pair.Goals as goal
 pub returns-in-Some-clause-step : goal.returns-in-Some-clause-step
 returns-in-Some-clause-step g c =
     let s = g.P.Plant.state c.args.plant.now in let t = c.args.config.now in let h = c.args.tables.now in let ev = c.args.journal.now.events in
-    make-nowhere t s s h ev ev c.args.devs.now c.args.a.0 c.args.b.0 (part.kind_of c.args.kind) c.args.full c.requires.ready.reads c.requires.sound c.in-Some.why (c.in-Some.ensures.checked s h ev)
+    make-nowhere t s s h ev ev c.args.devs.now c.args.a.0 c.args.b.0 (part.kind_of c.args.kind) c.args.choices c.requires.ready.reads c.requires.sound c.in-Some.why (c.in-Some.ensures.checked s h ev)
 
 pub make_pair-requires-clause-fit : goal.make_pair-requires-clause-fit
 make_pair-requires-clause-fit g c = relations-fit (g.P.Plant.state c.args.plant.now) c.args.config.now c.args.tables.now c.args.journal.now.events c.requires.sound
@@ -17,19 +17,19 @@ make_pair-requires-clause-fit g c = relations-fit (g.P.Plant.state c.args.plant.
 pub returns-in-Ok-clause-step : goal.returns-in-Ok-clause-step
 returns-in-Ok-clause-step g c =
     let s = g.P.Plant.state c.args.plant.now in let t = c.args.config.now in let h = c.args.tables.now in let ev = c.args.journal.now.events in
-    make-done t s (g.P.Plant.state c.make_pair.new.plant) h ev c.make_pair.new.journal.events c.args.devs.now c.args.a.0 c.args.b.0 (part.kind_of c.args.kind) c.args.full c.requires.ready.reads c.requires.sound (part_of c.kind_of.result) c.kind_of.ensures (c.in_default.ensures.checked s h ev) (c.in-Ok.ensures.carried (rest_of h ev))
+    make-done t s (g.P.Plant.state c.make_pair.new.plant) h ev c.make_pair.new.journal.events c.args.devs.now c.args.a.0 c.args.b.0 (part.kind_of c.args.kind) c.args.choices c.requires.ready.reads c.requires.sound (part_of c.kind_of.result) c.kind_of.ensures (c.in_default.ensures.checked s h ev) (c.in-Ok.ensures.carried (rest_of h ev))
 
 pub returns-in-Ok-clause-ready : goal.returns-in-Ok-clause-ready
 returns-in-Ok-clause-ready g c =
     let s = g.P.Plant.state c.args.plant.now in let t = c.args.config.now in let h = c.args.tables.now in let ev = c.args.journal.now.events in
-    make-ready t s (g.P.Plant.state c.make_pair.new.plant) h ev c.make_pair.new.journal.events c.args.devs.now c.args.a.0 c.args.b.0 (part.kind_of c.args.kind) c.args.full c.requires.ready.reads c.requires.sound None (part_of c.kind_of.result) c.kind_of.ensures (c.in_default.ensures.checked s h ev) (c.in-Ok.ensures.carried (rest_of h ev)) c.in-Ok.ensures.rest c.in-Ok.ensures.unarmed c.requires.ready.told
+    make-ready t s (g.P.Plant.state c.make_pair.new.plant) h ev c.make_pair.new.journal.events c.args.devs.now c.args.a.0 c.args.b.0 (part.kind_of c.args.kind) c.args.choices c.requires.ready.reads c.requires.sound None (part_of c.kind_of.result) c.kind_of.ensures (c.in_default.ensures.checked s h ev) (c.in-Ok.ensures.carried (rest_of h ev)) c.in-Ok.ensures.rest c.in-Ok.ensures.unarmed c.requires.ready.told
 
 pub returns-in-Err-clause-step : goal.returns-in-Err-clause-step
 returns-in-Err-clause-step g c =
     let s = g.P.Plant.state c.args.plant.now in let t = c.args.config.now in let h = c.args.tables.now in let ev = c.args.journal.now.events in
-    make-refused t s (g.P.Plant.state c.make_pair.new.plant) h ev c.make_pair.new.journal.events c.args.devs.now c.args.a.0 c.args.b.0 (part.kind_of c.args.kind) c.args.full c.requires.ready.reads c.requires.sound c.in-Err.refusal (part_of c.kind_of.result) c.kind_of.ensures (c.in_default.ensures.checked s h ev) (c.in-Err.ensures.carried (rest_of h ev))
+    make-refused t s (g.P.Plant.state c.make_pair.new.plant) h ev c.make_pair.new.journal.events c.args.devs.now c.args.a.0 c.args.b.0 (part.kind_of c.args.kind) c.args.choices c.requires.ready.reads c.requires.sound c.in-Err.refusal (part_of c.kind_of.result) c.kind_of.ensures (c.in_default.ensures.checked s h ev) (c.in-Err.ensures.carried (rest_of h ev))
 
 pub returns-in-Err-clause-ready : goal.returns-in-Err-clause-ready
 returns-in-Err-clause-ready g c =
     let s = g.P.Plant.state c.args.plant.now in let t = c.args.config.now in let h = c.args.tables.now in let ev = c.args.journal.now.events in
-    make-ready t s (g.P.Plant.state c.make_pair.new.plant) h ev c.make_pair.new.journal.events c.args.devs.now c.args.a.0 c.args.b.0 (part.kind_of c.args.kind) c.args.full c.requires.ready.reads c.requires.sound (Some c.in-Err.refusal) (part_of c.kind_of.result) c.kind_of.ensures (c.in_default.ensures.checked s h ev) (c.in-Err.ensures.carried (rest_of h ev)) c.in-Err.ensures.rest c.in-Err.ensures.unarmed c.requires.ready.told
+    make-ready t s (g.P.Plant.state c.make_pair.new.plant) h ev c.make_pair.new.journal.events c.args.devs.now c.args.a.0 c.args.b.0 (part.kind_of c.args.kind) c.args.choices c.requires.ready.reads c.requires.sound (Some c.in-Err.refusal) (part_of c.kind_of.result) c.kind_of.ensures (c.in_default.ensures.checked s h ev) (c.in-Err.ensures.carried (rest_of h ev)) c.in-Err.ensures.rest c.in-Err.ensures.unarmed c.requires.ready.told

@@ -1,7 +1,7 @@
 use Rattle.std.proofs.Common.{◌≡◌, false, subst, sym}
 use Rattle.dr_top.specs.Outcome.{is_write_fault}
 use Rattle.dr_top.specs.Offline.{Reports}
-use Rattle.dr_top.specs.declared.offline.Report.{Report}
+use Rattle.dr_top.specs.declared.report.Report.{Report}
 use Rattle.dr_top.proofs.OfflineLemmas.{read-proper, finished-so, text-reports, ends-reported}
 use Rattle.dr_top.proofs.offline.recover.Goals as goal
 

@@ -1,0 +1,7 @@
+use Rattle.std.proofs.Common.{◌≡◌, ℕ, ◌<◌, ◌≤◌, None, nat_eq}
+use Rattle.indexmap.specs.IndexSet.{contains}
+use Rattle.dr_lost.specs.Broken.{issued_in, told_at}
+use Rattle.dr_lost.proofs.broken.first_issued.Given as goal
+
+abbrev pub invariant-loop-place : goal.invariant-loop-place
+invariant-loop-place l = (i : ℕ) → l.from ≤ i → i < l.place → told_at (issued_in (contains nat_eq l.among)) l.journal.events i ≡ None

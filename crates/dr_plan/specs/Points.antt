@@ -1,0 +1,89 @@
+-- The scripts of a sweep's points.
+use Rattle.std.specs.Prelude.{ℕ, ◌+◌, ◌-◌, ◌==◌, List, [], ◌∷◌, ◌++◌, length, map, take, drop, slice_index, nat_le, Option, Some, None, Ok, if◌then◌else◌}
+use Rattle.std.specs.List.{flat_map, slice_get}
+use Rattle.std.specs.Option.{option_map}
+use Rattle.dr_model.specs.declared.step.Name.{Name}
+use Rattle.dr_model.specs.declared.step.Step.TheVariants.{Stop, StopAfter}
+use Rattle.dr_model.specs.declared.step.TornWord.{TornWord}
+use Rattle.dr_model.specs.declared.step.TornWord.TheVariants.{Same, Fill}
+use Rattle.dr_model.specs.LineText.{step_text}
+use Rattle.dr_model.specs.LineWords.{◌>>=◌}
+use Rattle.dr_model.specs.Lines.{task, tasks_of, tasks_from}
+use Rattle.dr_model.specs.Runs.{Task}
+use Rattle.dr_plan.specs.declared.points.Torn.{Torn}
+use Rattle.dr_plan.specs.declared.points.Torn.TheVariants.{Unchanged, Zeros, Ones}
+use Rattle.dr_plan.specs.declared.points.Point.{Point}
+use Rattle.dr_plan.specs.declared.points.Point.TheVariants.{Cut, Gap}
+use Rattle.dr_plan.specs.Sweep.{Sweep}
+
+-- `none`, `00` and `01`
+abbrev pub torn_word : Torn → TornWord
+torn_word Unchanged = Same
+torn_word Zeros = Fill 0
+torn_word Ones = Fill 1
+
+-- `@stop NAME`
+abbrev pub stop_line : Name → List ℕ
+stop_line server = step_text (Stop server)
+
+-- `@stop NAME after WRITES torn TORN`
+abbrev pub fuse_line : Name → ℕ → Torn → List ℕ
+fuse_line server writes torn = step_text (StopAfter server writes (torn_word torn))
+
+-- the servers but the one at that place
+abbrev pub others : ℕ → List Name → List Name
+others server names = take server names ++ drop (server + 1) names
+
+-- a stop within a tried line: it comes behind those before it, with the server's fuse armed, and then the other servers are lost
+abbrev pub cut_lines : Sweep → List Name → ℕ → ℕ → ℕ → Torn → Option (List (List ℕ))
+cut_lines plan names line server write torn =
+    slice_get names server >>= λ name. slice_get plan.tried line >>= λ tried.
+    Some (plan.setup ++ take line plan.tried ++ fuse_line name write torn ∷ tried ∷ map stop_line (others server names) ++ plan.recovery)
+
+-- a stop behind so many tried lines
+abbrev pub gap_lines : Sweep → List Name → ℕ → Option (List (List ℕ))
+gap_lines plan names line =
+    if nat_le line (length plan.tried) then Some (plan.setup ++ take line plan.tried ++ map stop_line names ++ plan.recovery) else None
+
+-- the steps that stop servers at once, in lines from that number on
+abbrev pub stop_steps : ℕ → List Name → List Task
+stop_steps number [] = []
+stop_steps number (name ∷ names) = task number (Ok (Stop name)) ∷ stop_steps (number + 1) names
+
+-- the steps of a stop within a tried line, with the numbers of their lines
+abbrev pub cut_steps : Sweep → List Name → ℕ → ℕ → ℕ → Torn → Option (List Task)
+cut_steps plan names line server write torn =
+    slice_get names server >>= λ name. slice_get plan.tried line >>= λ tried.
+    let before : ℕ = length plan.setup + line in
+    Some (tasks_from 1 (plan.setup ++ take line plan.tried) ++ task (before + 1) (Ok (StopAfter name write (torn_word torn))) ∷ tasks_of (before + 2) tried ++ stop_steps (before + 3) (others server names)
+    ++ tasks_from (before + 3 + length (others server names)) plan.recovery)
+
+-- the steps of a stop behind so many tried lines
+abbrev pub gap_steps : Sweep → List Name → ℕ → Option (List Task)
+gap_steps plan names line =
+    let before : ℕ = length plan.setup + line in
+    if nat_le line (length plan.tried)
+    then Some (tasks_from 1 (plan.setup ++ take line plan.tried) ++ stop_steps (before + 1) names ++ tasks_from (before + 1 + length names) plan.recovery)
+    else None
+
+-- the lines of the script of a point; none where the plan has no such point
+unfoldable pub lines_at : Sweep → Point → Option (List (List ℕ))
+lines_at plan (Cut disaster line server write torn) = slice_get plan.loses disaster >>= λ names. cut_lines plan names line server write torn
+lines_at plan (Gap disaster line) = slice_get plan.loses disaster >>= λ names. gap_lines plan names line
+
+-- the steps of the script of a point
+unfoldable pub steps_at : Sweep → Point → Option (List Task)
+steps_at plan (Cut disaster line server write torn) = slice_get plan.loses disaster >>= λ names. cut_steps plan names line server write torn
+steps_at plan (Gap disaster line) = slice_get plan.loses disaster >>= λ names. gap_steps plan names line
+
+-- a line with its line feed; before it, a carriage return that is the line's own is kept by a second one
+abbrev pub with_end : List ℕ → List ℕ
+with_end line = if slice_index line (length line - 1) == 13 then line ++ 13 ∷ 10 ∷ [] else line ++ 10 ∷ []
+
+-- lines as a text
+abbrev pub text_of : List (List ℕ) → List ℕ
+text_of lines = flat_map with_end lines
+
+-- the script of a point
+abbrev pub script_of : Sweep → Point → Option (List ℕ)
+script_of plan point = option_map text_of (lines_at plan point)

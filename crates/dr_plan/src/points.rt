@@ -1,0 +1,243 @@
+//! The points of a sweep, and their scripts.
+
+ghost use Rattle.std.specs.Prelude.{◌≡◌, ◌++◌, ◌≤◌, ◌<◌, ◌+◌, map, take, length, OnOk, IfOk, Some, None, true, All};
+ghost use Rattle.std.specs.List.{slice_get};
+ghost use Rattle.std.specs.Option.{option_copied, option_map};
+ghost use Rattle.std.specs.Str.Lines.{lines};
+ghost use Rattle.dr_model.specs.LineText.{name_fits};
+ghost use Rattle.dr_model.specs.Lines.{tasks};
+ghost use Rattle.dr_plan.specs.Parts.{IsSweep};
+ghost use Rattle.dr_plan.specs.Points.{torn_word, stop_line, fuse_line, others, cut_lines, gap_lines, lines_at, cut_steps, gap_steps, steps_at, with_end, text_of, script_of};
+
+use crate::names::Disaster;
+use crate::plan::{Draft, SweepPlan};
+use dr_ids::Text;
+use dr_model::{Name, Step, TornWord};
+use dr_script::print_step;
+use std::alloc::{AllocError, Global};
+
+/// What a stop leaves in the block whose write it cuts short.
+#[derive(Clone, Copy)]
+pub enum Torn {
+    /// What was there.
+    Unchanged,
+    /// Bytes of 00.
+    Zeros,
+    /// Bytes of 01.
+    Ones,
+}
+
+/// A place of a plan at which a disaster comes. All places are counted from 0.
+#[derive(Clone, Copy)]
+pub enum Point {
+    /// In a tried line: after so many device writes in it one of a server of the disaster is cut short, and behind the
+    /// line the disaster's other servers are lost.
+    Cut {
+        disaster: usize,
+        line: usize,
+        server: usize,
+        write: u32,
+        torn: Torn,
+    },
+    /// Behind so many tried lines all servers of the disaster are lost.
+    Gap {
+        disaster: usize,
+        line: usize,
+    },
+}
+
+fn torn_word(torn: Torn) -> TornWord
+    ensures { result ≡ torn_word torn }
+{
+    match torn {
+        Torn::Unchanged => TornWord::Same,
+        Torn::Zeros => TornWord::Fill(0),
+        Torn::Ones => TornWord::Fill(1),
+    }
+}
+
+/// Adds a line, which ends so that it reads as it is.
+fn push_end(text: &mut Text, line: &[u8]) -> Result<(), AllocError>
+    ensures { OnOk result (text.new ≡ text.old ++ with_end line.now) }
+{
+    text.append(line)?;
+    match line {
+        [.., b'\r'] => text.append(b"\r\n"),
+        _ => text.append(b"\n"),
+    }
+}
+
+/// Adds lines.
+fn push_lines(text: &mut Text, lines: &[Text]) -> Result<(), AllocError>
+    ensures { OnOk result (text.new ≡ text.old ++ text_of lines.now) }
+{
+    for line in lines {
+        push_end(text, line.bytes())?;
+    }
+    Ok(())
+}
+
+/// Adds the line that stops a server at once.
+fn push_stop(alloc: Global, text: &mut Text, server: &Name) -> Result<(), AllocError>
+    requires { name_fits server.now ≡ true }
+    ensures { OnOk result (text.new ≡ text.old ++ with_end (stop_line server.now)) }
+{
+    let line = print_step(alloc, &Step::Stop { server: *server })?;
+    push_end(text, line.bytes())
+}
+
+/// Adds the lines that stop servers at once.
+fn push_stops(alloc: Global, text: &mut Text, servers: &[Name]) -> Result<(), AllocError>
+    requires { All (λ name. name_fits name ≡ true) servers.now }
+    ensures { OnOk result (text.new ≡ text.old ++ text_of (map stop_line servers.now)) }
+{
+    for server in servers {
+        push_stop(alloc, text, server)?;
+    }
+    Ok(())
+}
+
+/// Adds the line that arms a server's fuse.
+fn push_fuse(
+    alloc: Global,
+    text: &mut Text,
+    server: &Name,
+    write: u32,
+    torn: Torn,
+) -> Result<(), AllocError>
+    requires { name_fits server.now ≡ true }
+    ensures { OnOk result (text.new ≡ text.old ++ with_end (fuse_line server.now write torn)) }
+{
+    let fuse = Step::StopAfter {
+        server: *server,
+        writes: write,
+        torn: torn_word(torn),
+    };
+    let line = print_step(alloc, &fuse)?;
+    push_end(text, line.bytes())
+}
+
+/// Adds the lines that stop all servers at once but the one at that place.
+fn push_others(
+    alloc: Global,
+    text: &mut Text,
+    servers: &[Name],
+    server: usize,
+) -> Result<(), AllocError>
+    requires fit { All (λ name. name_fits name ≡ true) servers.now }
+    requires within { server < length servers.now }
+    ensures { OnOk result (text.new ≡ text.old ++ text_of (map stop_line (others server servers.now))) }
+{
+    push_stops(alloc, text, &servers[..server])?;
+    push_stops(alloc, text, &servers[server + 1..])
+}
+
+/// The lines of the setup, and so many tried ones.
+fn front(alloc: Global, plan: &Draft, line: usize) -> Result<Text, AllocError>
+    requires { line ≤ length plan.now.tried }
+    ensures { IfOk result (λ text. text ≡ text_of (plan.now.setup ++ take line plan.now.tried)) }
+{
+    let mut text = Text::new(alloc);
+    push_lines(&mut text, &plan.setup)?;
+    push_lines(&mut text, &plan.tried[..line])?;
+    Ok(text)
+}
+
+/// The disaster at a place.
+fn lost_at(plan: &Draft, disaster: usize) -> Option<&Disaster>
+    ensures { option_copied result ≡ slice_get plan.now.loses disaster }
+{
+    plan.loses.get(disaster)
+}
+
+/// The server at a place.
+fn server_at(servers: &[Name], server: usize) -> Option<&Name>
+    ensures { option_copied result ≡ slice_get servers.now server }
+{
+    servers.get(server)
+}
+
+/// The tried line at a place.
+fn tried_at(plan: &Draft, line: usize) -> Option<&Text>
+    ensures { option_copied result ≡ slice_get plan.now.tried line }
+{
+    plan.tried.get(line)
+}
+
+/// The script in which a tried line is cut short.
+fn cut_script(
+    alloc: Global,
+    plan: &Draft,
+    servers: &[Name],
+    line: usize,
+    server: usize,
+    write: u32,
+    torn: Torn,
+) -> Result<Option<Text>, AllocError>
+    requires fit { All (λ name. name_fits name ≡ true) servers.now }
+    requires sweep { IsSweep plan.now }
+    ensures text { IfOk result (λ script. script ≡ option_map text_of (cut_lines plan.now servers.now line server write torn)) }
+    ensures lines { IfOk result (λ script. option_map lines script ≡ cut_lines plan.now servers.now line server write torn) }
+    ensures steps { IfOk result (λ script. option_map tasks script ≡ cut_steps plan.now servers.now line server write torn) }
+{
+    let Some(name) = server_at(servers, server) else {
+        return Ok(None);
+    };
+    let Some(tried) = tried_at(plan, line) else {
+        return Ok(None);
+    };
+    let mut text = front(alloc, plan, line)?;
+    push_fuse(alloc, &mut text, name, write, torn)?;
+    push_end(&mut text, tried.bytes())?;
+    push_others(alloc, &mut text, servers, server)?;
+    push_lines(&mut text, &plan.recovery)?;
+    Ok(Some(text))
+}
+
+/// The script in which all servers are lost behind so many tried lines.
+fn gap_script(
+    alloc: Global,
+    plan: &Draft,
+    servers: &[Name],
+    line: usize,
+) -> Result<Option<Text>, AllocError>
+    requires fit { All (λ name. name_fits name ≡ true) servers.now }
+    requires sweep { IsSweep plan.now }
+    ensures text { IfOk result (λ script. script ≡ option_map text_of (gap_lines plan.now servers.now line)) }
+    ensures lines { IfOk result (λ script. option_map lines script ≡ gap_lines plan.now servers.now line) }
+    ensures steps { IfOk result (λ script. option_map tasks script ≡ gap_steps plan.now servers.now line) }
+{
+    if plan.tried.len() < line {
+        return Ok(None);
+    }
+    let mut text = front(alloc, plan, line)?;
+    push_stops(alloc, &mut text, servers)?;
+    push_lines(&mut text, &plan.recovery)?;
+    Ok(Some(text))
+}
+
+/// The script of a point; none where the plan has no such point. Fails where there is no memory.
+#[tactic(auto, unfolding(crate::specs::Points::lines_at, crate::specs::Points::steps_at))]
+pub fn script_at(alloc: Global, plan: &SweepPlan, point: Point) -> Result<Option<Text>, AllocError>
+    ensures text { IfOk result (λ script. script ≡ script_of plan.now point) }
+    ensures lines { IfOk result (λ script. option_map lines script ≡ lines_at plan.now point) }
+    ensures steps { IfOk result (λ script. option_map tasks script ≡ steps_at plan.now point) }
+{
+    let plan = plan.draft();
+    match point {
+        Point::Cut {
+            disaster,
+            line,
+            server,
+            write,
+            torn,
+        } => match lost_at(plan, disaster) {
+            Some(lost) => cut_script(alloc, plan, lost.servers(), line, server, write, torn),
+            None => Ok(None),
+        },
+        Point::Gap { disaster, line } => match lost_at(plan, disaster) {
+            Some(lost) => gap_script(alloc, plan, lost.servers(), line),
+            None => Ok(None),
+        },
+    }
+}
