@@ -1,6 +1,7 @@
 #!/bin/bash
-# Runs `drsim run` on seven loads: host writes on one volume, where it is the only one and where 64 are defined; host writes on a source
-# with 12 targets; drains; host writes on 32 pairs of Metro Mirror; groups of 16 members with 64 writes between; recoveries.
+# Runs `drsim run` on nine loads: host writes on one volume, where it is the only one and where 64 are defined; host writes on a source
+# with 12 targets; drains; host writes on one pair of Metro Mirror and on 32; groups of 16 members with one write between and with 64;
+# recoveries.
 #
 #   bench/loads.sh OLD NEW   two programs in turn on each load, five times each: the least time of each, and their ratio. What they
 #                            print must be the same
@@ -23,11 +24,12 @@ drains() { # LINES: a pair of 256 tracks is made, drained and removed
     for ((i = 0; i < $1 / 3; i++)); do printf 'mkpprc -type gcp 1000:2000\n@drain 1000 all\nrmpprc 1000:2000\n'; done
 }
 
-mirrored() { # LINES: on 32 primaries of Metro Mirror in turn
-    local i
-    printf '@server P\n@server Q\n@volume 1000-101F P 256\n@volume 2000-201F Q 256\nmkpprcpath -srclss 10 -tgtlss 20 I0000:I0100\n'
-    echo 'mkpprc -type mmir -mode nocp 1000-101F:2000-201F'
-    for ((i = 0; i < $1; i++)); do printf '@write %04X %d %d 41424344\n' $((0x1000 + i % 32)) $((i % 256)) $((i % 60)); done
+mirrored() { # PAIRS LINES: on so many primaries of Metro Mirror in turn
+    local i last
+    last=$(printf '%03X' $(($1 - 1)))
+    printf '@server P\n@server Q\n@volume 1000-1%s P 256\n@volume 2000-2%s Q 256\nmkpprcpath -srclss 10 -tgtlss 20 I0000:I0100\n' "$last" "$last"
+    echo "mkpprc -type mmir -mode nocp 1000-1$last:2000-2$last"
+    for ((i = 0; i < $2; i++)); do printf '@write %04X %d %d 41424344\n' $((0x1000 + i % $1)) $((i % 256)) $((i % 60)); done
 }
 
 session() { # a session of 16 members on two servers
@@ -39,11 +41,11 @@ session() { # a session of 16 members on two servers
     printf 'mksession -lss 10 -volume 1000-1007 01\nmksession -lss 11 -volume 1100-1107 01\nmkgmir -lss 10 -session 01\n'
 }
 
-grouped() { # LINES: 64 writes and a group, again and again
+grouped() { # WRITES LINES: so many writes and a group, again and again
     local i
     session
-    for ((i = 0; i < $1; i++)); do
-        if ((i % 65 == 64)); then
+    for ((i = 0; i < $2; i++)); do
+        if ((i % ($1 + 1) == $1)); then
             echo '@run 01 1'
         else
             printf '@write 1%d0%d %d 0 %02X\n' $((i % 2)) $((i / 2 % 8)) $((i / 16 % 16)) $((i % 256))
@@ -65,13 +67,15 @@ load() { # NUMBER LINES
         1) name='writes, 64 volumes' parts=$2 && writes_on 64 0 "$2" ;;
         2) name='writes, 12 targets' parts=$2 && writes_on 13 12 "$2" ;;
         3) name='drained tracks' parts=$(($2 / 3 * 256)) && drains "$2" ;;
-        4) name='writes, 32 Metro Mirror pairs' parts=$2 && mirrored "$2" ;;
-        5) name='groups of 16 and 64 writes each' parts=$(($2 / 65)) && grouped "$2" ;;
-        6) name='recoveries of 16 members' parts=$2 && recovered "$2" ;;
+        4) name='writes, one Metro Mirror pair' parts=$2 && mirrored 1 "$2" ;;
+        5) name='writes, 32 Metro Mirror pairs' parts=$2 && mirrored 32 "$2" ;;
+        6) name='groups of 16 and a write each' parts=$(($2 / 2)) && grouped 1 "$2" ;;
+        7) name='groups of 16 and 64 writes each' parts=$(($2 / 65)) && grouped 64 "$2" ;;
+        8) name='recoveries of 16 members' parts=$2 && recovered "$2" ;;
     esac > "$scratch/script"
 }
 
-lines_of=(99900 99900 99900 1500 99900 97500 40000)
+lines_of=(99900 99900 99900 1500 99900 99900 19500 97500 40000)
 
 instructions_of() { # PROGRAM
     valgrind --tool=callgrind --callgrind-out-file="$scratch/profile" "$1" run < "$scratch/script" 2>&1 > "$scratch/answers" | sed -n 's/.*Collected : //p'
@@ -79,7 +83,7 @@ instructions_of() { # PROGRAM
 
 compare() { # OLD NEW
     local at
-    for at in 0 1 2 3 4 5 6; do
+    for at in 0 1 2 3 4 5 6 7 8; do
         load $at "${lines_of[at]}"
         compare_programs "$1" "$2" 5 "$name"
     done
@@ -87,7 +91,7 @@ compare() { # OLD NEW
 
 count() { # PROGRAM
     local at some all half
-    for at in 0 1 2 3 4 5 6; do
+    for at in 0 1 2 3 4 5 6 7 8; do
         half=$((lines_of[at] / 780 * 39))
         load $at $half
         some=$(instructions_of "$1")

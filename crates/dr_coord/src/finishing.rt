@@ -20,7 +20,7 @@ use dr_ids::{Member, Refusal, VolumeId};
 use dr_model::Journal;
 use dr_moves::{Move, is_engaged, make_move};
 use dr_plant::Plant;
-use dr_volume::peek_fields;
+use dr_volume::{peek_fields, peek_head};
 
 /// Attempt n is over for the primary of a member whose server is on: what changed while it recorded is out of sync again, it
 /// neither records nor is held, and no attempt up to n is made with it any more. Where that is so, nothing happens. Nothing
@@ -52,7 +52,7 @@ pub fn finish<P: Plant>(
     ensures room_left { OnOk result (journal.old.spare ≡ journal.new.spare) }
     ensures spare { length journal.new.events + journal.new.spare ≡ length journal.old.events + journal.old.spare }
 {
-    if is_past(n, &peek_fields(plant, config, m.a)) {
+    if is_past(n, &peek_head(plant, config, m.a)) {
         return Ok(());
     }
     make_move(plant, config, journal, &Move::Finish { v: m.a, n }, None)

@@ -8,6 +8,7 @@ ghost use Rattle.dr_model.specs.ReadStops.{Ends};
 ghost use Rattle.dr_model.specs.Pairs.{records};
 ghost use Rattle.dr_model.specs.Refusals.{stopped};
 ghost use Rattle.dr_model.specs.SessionEntries.{last_of, hold_on, hold_entries, free_on, release_entries};
+ghost use Rattle.dr_volume.specs.Head.{head_of};
 ghost use Rattle.dr_volume.specs.Update.{OthersStay};
 ghost use Rattle.dr_volume.specs.View.{Rest, volume_seen};
 ghost use Rattle.dr_moves.specs.Checks.{is_stop};
@@ -17,16 +18,16 @@ ghost use Rattle.dr_moves.specs.Turns.{Advances, Halts, Leads, Fails};
 ghost use Rattle.dr_moves.specs.Aside.{AsideFits};
 ghost use Rattle.dr_coord.specs.Changes.{begins, rest_after};
 
-use crate::checks::{hold_refusal, void_refusal};
+use crate::checks::{hold_refusal, void_by};
 use crate::fields::records;
 use dr_config::Config;
 use dr_ids::{Member, Refusal, SessionId, VolumeId};
 use dr_model::Journal;
 use dr_moves::{Move, make_move};
 use dr_plant::Plant;
-use dr_volume::peek_fields;
+use dr_volume::{Head, peek_head};
 
-/// Primary a is held for attempt n of a session, unless it records it, maybe as the first of the session's members.
+/// Primary a with this head is held for attempt n of a session, unless it records it, maybe as the first of the session's members.
 fn hold<P: Plant>(
     plant: &mut P,
     config: &Config,
@@ -35,11 +36,13 @@ fn hold<P: Plant>(
     s: SessionId,
     n: u32,
     first: bool,
+    f: &Head,
 ) -> Result<(), Refusal>
     requires rest { IsAtRest (P.state plant.old) config.now }
     requires fit { RelationsFit (P.state plant.old) config.now }
     requires defined { IsSome (place_of config.now a.0) }
     requires running { (P.state plant.old).on (volume_seen (P.state plant.old) config.now a.0).server ≡ true }
+    requires head { f.now ≡ head_of (volume_seen (P.state plant.old) config.now a.0).fields }
     requires part { is_part (volume_seen (P.state plant.old) config.now a.0).fields.primary ≡ true }
     requires room { (if first then 3 else 2) ≤ journal.old.spare }
     ensures advances { OnOk result ((r : Rest) → nat_lt (last_of (world_seen (P.state plant.old) config.now r journal.old.events).control s.0) n ≡ first
@@ -59,7 +62,7 @@ fn hold<P: Plant>(
     ensures room_left { OnOk result (journal.old.spare ≤ journal.new.spare + (if begins first (P.state plant.old) (P.state plant.new) config.now a.0 then 2 else 1)) }
     ensures spare { length journal.new.events + journal.new.spare ≡ length journal.old.events + journal.old.spare }
 {
-    if records(n, &peek_fields(plant, config, a)) {
+    if records(n, f) {
         return Ok(());
     }
     let hold = Move::Hold { v: a, s, n, first };
@@ -106,23 +109,26 @@ pub fn hold_and_swap<P: Plant>(
     ensures room_left { OnOk result (journal.old.spare ≤ journal.new.spare + (if begins first (P.state plant.old) (P.state plant.new) config.now m.now.a.0 then 2 else 1)) }
     ensures spare { length journal.new.events + journal.new.spare ≡ length journal.old.events + journal.old.spare }
 {
-    if let Some(why) = hold_refusal(plant, config, m.a, m.b, n) {
+    let head = peek_head(plant, config, m.a);
+    if let Some(why) = hold_refusal(plant, config, m.a, m.b, n, &head) {
         return Err(why);
     }
-    hold(plant, config, journal, m.a, s, n, first)
+    hold(plant, config, journal, m.a, s, n, first, &head)
 }
 
-/// Primary a is let go, where it is held.
+/// Primary a, of which it is known whether it is held, is let go, where it is.
 fn free<P: Plant>(
     plant: &mut P,
     config: &Config,
     journal: &mut Journal,
     a: VolumeId,
+    held: bool,
 ) -> Result<(), Refusal>
     requires rest { IsAtRest (P.state plant.old) config.now }
     requires fit { RelationsFit (P.state plant.old) config.now }
     requires defined { IsSome (place_of config.now a.0) }
     requires running { (P.state plant.old).on (volume_seen (P.state plant.old) config.now a.0).server ≡ true }
+    requires held { held ≡ (volume_seen (P.state plant.old) config.now a.0).fields.coordination }
     requires room { 1 ≤ journal.old.spare }
     ensures advances { OnOk result ((r : Rest) → Advances (world_seen (P.state plant.old) config.now r journal.old.events) (free_on a.0) (world_seen (P.state plant.new) config.now r journal.new.events)) }
     ensures halts { OnErr result ((r : Rest) → Halts (armed_in (P.state plant.old)) (world_seen (P.state plant.old) config.now r journal.old.events) (free_on a.0) (world_seen (P.state plant.new) config.now r journal.new.events) (refusal_of result)) }
@@ -138,7 +144,7 @@ fn free<P: Plant>(
     ensures room_left { OnOk result (journal.old.spare ≡ journal.new.spare) }
     ensures spare { length journal.new.events + journal.new.spare ≡ length journal.old.events + journal.old.spare }
 {
-    if !peek_fields(plant, config, a).coordination {
+    if !held {
         return Ok(());
     }
     make_move(plant, config, journal, &Move::Free { v: a }, None)
@@ -174,8 +180,9 @@ pub fn release<P: Plant>(
     ensures room_left { OnOk result (journal.old.spare ≡ journal.new.spare) }
     ensures spare { length journal.new.events + journal.new.spare ≡ length journal.old.events + journal.old.spare }
 {
-    if let Some(why) = void_refusal(plant, config, m.a, n) {
+    let head = peek_head(plant, config, m.a);
+    if let Some(why) = void_by(n, &head) {
         return Err(why);
     }
-    free(plant, config, journal, m.a)
+    free(plant, config, journal, m.a, head.coordination)
 }

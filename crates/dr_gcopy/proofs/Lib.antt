@@ -1,6 +1,5 @@
--- Read first: `PairChecks.antt`, `TwoMoves.antt`: checks, and two moves in a row; `SendMoves.antt`, `SendLemmas.antt`: a
--- track sent; `DrainLemmas.antt`: tracks that are left; `DifferenceLemmas.antt`, `FirstLemmas.antt`: the first
--- difference.
+-- Read first: `PairChecks.antt`: checks; `BothLemmas.antt`: entries that refuse nothing; `RanLemmas.antt`, `SendLemmas.antt`: calls in a row, and
+-- a track sent; `DrainLemmas.antt`: tracks that are left; `DifferenceLemmas.antt`, `FirstLemmas.antt`: the first difference.
 -- - **A premise over whatever entries come to** (`room` of `drain`: for each k, what the sends of k tracks lead to has
 --   room) lets a loop below the laws of every run ask for room that only the laws can count. The caller proves it by `carry-adds`
 --   (`sends-tell`); it has to hold for any `Rest`, so the lemma takes one, and facts of the control state convert.
@@ -9,12 +8,18 @@
 --   `dr_gcopy`.
 -- - **Eight tracks at a time**: one group is a function of slices (`compare_group`), the first that differs is
 --   `first_from` of `find` over a range, and ranges join by `find` over `++` (`FirstLemmas.antt`).
+-- Calls in a row that aren't all moves have one record as their clause, `Ran` of `dr_gcopy`: the entries, and what stays (`Stays`), for the
+-- volumes that it spares. Two are `ran-then`, one that failed `ran-failed`, a move `ran-made` with `stays-by`. What all of them ask is one
+-- record too (`CanPass`), with one lemma that carries it along volumes that are as they were (`can-still`). `Kept` serves where each part
+-- says what is set aside; `copy_first` doesn't.
 pub mod PairLemmas
 pub mod ReachLemmas
 pub mod PairChecks
 pub mod TwoMoves
+pub mod BothLemmas
 pub mod FirstLemmas
 pub mod DifferenceLemmas
 pub mod SendMoves
 pub mod SendLemmas
+pub mod RanLemmas
 pub mod DrainLemmas

@@ -1,24 +1,18 @@
 -- Moves that change a volume's part in a pair: their fields are lawful and leave the relationships fitting, and what they
 -- tell.
-use Rattle.std.proofs.Common.{ℕ, ◌≡◌, Bool, inl, inr, refl, sym, ◌∙◌, ap, subst, None}
+use Rattle.std.proofs.Common.{ℕ, ◌≡◌, inl, inr, sym, ◌∙◌, ap, subst, None}
 use Rattle.std.proofs.lemmas.Bool.{cases_eq}
 use Rattle.dr_plant.specs.State.{PlantState}
 use Rattle.dr_config.specs.Table.{ConfigTable}
-use Rattle.dr_model.specs.declared.state.Part.{Part}
-use Rattle.dr_model.specs.declared.state.PairState.{PairState}
-use Rattle.dr_model.specs.declared.event.Event.TheVariants.{TakenOver as TookOver}
 use Rattle.dr_model.specs.Layout.{Fields}
 use Rattle.dr_model.specs.Lawful.{IsLawful}
 use Rattle.dr_model.specs.Control.{Volume}
-use Rattle.dr_model.specs.Moves.{MakeSecondary, MakePrimary, DropPrimary, DropSecondary, Follow, Resume, TakeOver}
 use Rattle.dr_volume.specs.View.{volume_seen}
 use Rattle.dr_volume.specs.Update.{Covers, IsMoved, OthersStay}
 use Rattle.dr_moves.specs.Fit.{RelationsFit}
-use Rattle.dr_moves.specs.declared.told.Told.TheVariants.{Nothing, One}
 use Rattle.dr_moves.proofs.FitLemmas.{fit-kept}
 use Rattle.dr_moves.specs.Made.{Apart}
 use Rattle.dr_moves.proofs.MoveFits.{covers-all, MoveFits}
-use Rattle.dr_moves.proofs.TurnLemmas.{Tells}
 
 -- other fields that leave the relationship and the blank tracks as they are
 pub pair-fits : (s : PlantState) (t : ConfigTable) (v : ℕ) (f : Fields) → RelationsFit s t → IsLawful (volume_seen s t v).tracks f
@@ -38,25 +32,3 @@ primary-stays s u t v f is same others q = elim (cases_eq q v) [
   | inl p ↦ ap (λ z. (volume_seen u t z).fields.primary) p ∙ ap (λ (x : Volume). x.fields.primary) is.volume ∙ same ∙ ap (λ z. (volume_seen s t z).fields.primary) (sym p)
   | inr ne ↦ ap (λ (x : Volume). x.fields.primary) (others q ne).volume
 ]
-
--- what they tell
-pub tells-make_secondary : (v u : ℕ) (kind : Part) (state : PairState) (x : Volume) → Tells (MakeSecondary v u kind state) x (record { done = Nothing; in_stop = Nothing; landed = 0 })
-tells-make_secondary v u kind state x = record { done = refl; in_stop = refl; landed = refl; settles = λ ps. refl; settles_in_stop = λ ps. refl }
-
-pub tells-make_primary : (v u : ℕ) (kind : Part) (state : PairState) (full : Bool) (x : Volume) → Tells (MakePrimary v u kind state full) x (record { done = Nothing; in_stop = Nothing; landed = 0 })
-tells-make_primary v u kind state full x = record { done = refl; in_stop = refl; landed = refl; settles = λ ps. refl; settles_in_stop = λ ps. refl }
-
-pub tells-drop_primary : (v : ℕ) (x : Volume) → Tells (DropPrimary v) x (record { done = Nothing; in_stop = Nothing; landed = 0 })
-tells-drop_primary v x = record { done = refl; in_stop = refl; landed = refl; settles = λ ps. refl; settles_in_stop = λ ps. refl }
-
-pub tells-drop_secondary : (v : ℕ) (x : Volume) → Tells (DropSecondary v) x (record { done = Nothing; in_stop = Nothing; landed = 0 })
-tells-drop_secondary v x = record { done = refl; in_stop = refl; landed = refl; settles = λ ps. refl; settles_in_stop = λ ps. refl }
-
-pub tells-follow : (v : ℕ) (state : PairState) (x : Volume) → Tells (Follow v state) x (record { done = Nothing; in_stop = Nothing; landed = 0 })
-tells-follow v state x = record { done = refl; in_stop = refl; landed = refl; settles = λ ps. refl; settles_in_stop = λ ps. refl }
-
-pub tells-resume : (v : ℕ) (state : PairState) (x : Volume) → Tells (Resume v state) x (record { done = Nothing; in_stop = Nothing; landed = 0 })
-tells-resume v state x = record { done = refl; in_stop = refl; landed = refl; settles = λ ps. refl; settles_in_stop = λ ps. refl }
-
-pub tells-take_over : (v : ℕ) (x : Volume) → Tells (TakeOver v) x (record { done = One (TookOver v); in_stop = One (TookOver v); landed = 0 })
-tells-take_over v x = record { done = refl; in_stop = refl; landed = refl; settles = λ ps. refl; settles_in_stop = λ ps. refl }

@@ -1,10 +1,9 @@
 -- Entries of a send, one behind the other.
-use Rattle.std.proofs.Common.{ℕ, ◌≡◌, ◌≢◌, ◌<◌, Bool, true, false, not, ◌&&◌, cond, nat_eq, arith, inl, inr, refl, ap, ◌∙◌, List, [], ◌∷◌, ◌++◌, sym, subst, Option, None, Some, slice_get}
-use Rattle.std.specs.Prelude.{Result, Ok, Err, OnOk, OnErr, is_err, is_some, if◌then◌else◌}
+use Rattle.std.proofs.Common.{ℕ, ◌≡◌, ◌≢◌, ◌<◌, Bool, true, false, not, ◌&&◌, cond, nat_eq, inl, inr, refl, ap, ◌∙◌, List, [], ◌∷◌, ◌++◌, sym, Option, None, Some, slice_get}
+use Rattle.std.specs.Prelude.{Result, Ok, Err, OnOk, OnErr, is_some, if◌then◌else◌}
 use Rattle.std.specs.Option.{option_or}
 use Rattle.std.proofs.lemmas.Bool.Decides.{eqb_tells}
 use Rattle.std.proofs.lemmas.Bool.{and_right}
-use Rattle.dr_logic.specs.Counts.{Counted}
 use Rattle.dr_ids.specs.declared.refusal.Refusal.{Refusal}
 use Rattle.dr_plant.specs.State.{PlantState}
 use Rattle.dr_config.specs.Table.{ConfigTable, place_of}
@@ -22,7 +21,6 @@ use Rattle.dr_model.specs.ReadStops.{Ends}
 use Rattle.dr_model.specs.Entries.{copies_from, fields_at, is_running, subsystem}
 use Rattle.dr_model.specs.PairEntries.{end_if, refuse_if, link_down, has_path, are_linked, reach_refusal, send_refusal, suspend_where, suspend_running}
 use Rattle.dr_volume.specs.View.{Rest, volume_seen, volume_at, volume_on, on_seen}
-use Rattle.dr_moves.specs.Checks.{is_stop}
 use Rattle.dr_gcopy.specs.Followed.{EndsSo, Follows, EndsFollowed, FailsFollowed}
 use Rattle.dr_moves.specs.Fit.{RelationsFit}
 use Rattle.dr_moves.specs.Here.{refusal_of}
@@ -135,19 +133,6 @@ reached-on a b k none = by (has_path a b k) (is_running b k) (are_linked a b k) 
 pub on-of-seen : (s : PlantState) (server : ℕ) → server < 8 → on_seen s server ≡ true → s.on server ≡ true
 on-of-seen s server low h = sym (on-seen s server low) ∙ h
 
--- a count that rose stays risen
-pub rose-then : (f x y : ℕ) → Counted true f x → Counted true x y → Counted true f y
-rose-then f x y first more = grind (arith, first, more)
-
-pub rose-on : (b : Bool) (f x y : ℕ) → Counted b x y → Counted true f x → Counted true f y
-rose-on true f x y more first = rose-then f x y first more
-rose-on false f x y more first = subst (λ n. Counted true f n) (sym more) first
-
--- a call that fails only by stops
-pub counted-stops : (r : Result (Unit {0}) Refusal) (a b : ℕ) → Counted (is_err r) a b → OnErr r (is_stop (refusal_of r) ≡ true) → Counted (is_stop (refusal_of r)) a b
-counted-stops (Ok x) a b counted stops = counted
-counted-stops (Err e) a b counted stops = subst (λ z. Counted z a b) (sym stops) counted
-
 -- more servers may be armed
 pub follows-wider : (armed more : ℕ → Bool) → ((q : ℕ) → armed q ≡ true → more q ≡ true) → (v : World) (r : Option Refusal) (follows : ℕ → List Entry) (u : World) → Follows armed v r follows u → Follows more v r follows u
 follows-wider armed more wider v (Some (Stopped s)) follows u h = record { refusal = h.refusal; ends = ends-wider armed more wider u h.refusal v (follows s.0) h.ends }
@@ -160,5 +145,8 @@ failed-wider armed more wider w u es follows r h = record {
   followed = follows-wider armed more wider h.middle r follows u h.followed;
 }
 
-pub ends-followed : (armed : ℕ → Bool) (w u : World) (es : List Entry) (follows : ℕ → List Entry) (r : Option Refusal) → FailsFollowed armed w es follows u r → EndsFollowed armed w es follows u r
-ends-followed armed w u es follows r h = record { middle = h.middle; ends = failed armed w h.middle r es h.fails; followed = h.followed }
+-- the entries end so, and what follows them, as those that led on or failed say
+pub followed-by : {T : Type 0} (res : Result T Refusal) (armed : ℕ → Bool) (w u : Rest → World) (es : List Entry) (follows : ℕ → List Entry) → OnOk res ((r : Rest) → Leads (w r) es (u r)) → OnErr res ((r : Rest) → FailsFollowed armed (w r) es follows (u r) (refusal_of res))
+    → (r : Rest) → EndsFollowed armed (w r) es follows (u r) (refusal_of res)
+followed-by (Ok x) armed w u es follows leads fails r = record { middle = u r; ends = led armed (w r) (u r) es (leads r); followed = refl }
+followed-by (Err e) armed w u es follows leads fails r = let h = fails r in record { middle = h.middle; ends = failed armed (w r) h.middle (Some e) es h.fails; followed = h.followed }

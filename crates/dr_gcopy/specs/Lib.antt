@@ -3,3 +3,5 @@ pub mod Steps
 pub mod Differences
 pub mod Sending
 pub mod Followed
+pub mod Both
+pub mod Ran

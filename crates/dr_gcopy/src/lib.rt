@@ -10,14 +10,14 @@
 //! (`carried`, `struck`, `stored`). `drain` sends the tracks that are out of sync at its begin, lowest first, as many as asked
 //! for (`carried`), and says how many (`count`). `reach_refusal` is why a volume can't be reached (`refusal`), `running_refusal`
 //! why nothing can be done on one now (`checked`); `is_primary_of` and `is_secondary_of` say how a volume stands, and
-//! `made_secondary`, `no_primary`, `next_state` and `voided` what its fields become. Each
-//! call keeps the fields of all volumes lawful and fitting (`rest`, `fit`), touches no other volume but the targets of
-//! a secondary (`others`; `drain` says it by its entries alone), and counts a fault exactly where a server stopped
-//! (`faults`), also where reads may fail. That a pair stays equal outside what its primary records is the machine's law
-//! of these entries (`dr_laws_sound`), and of the devices at every exit a clause of the top call; the calls of this
-//! crate don't say it once more.
+//! `next_state` in which state a pair goes on. Each call keeps the fields of all volumes lawful and fitting (`rest`, `fit`),
+//! touches no other volume but the targets of a secondary (`others`; `drain` says it by its entries alone), and counts a fault
+//! exactly where a server stopped (`faults`), also where reads may fail. That a pair stays equal outside what its primary
+//! records is the machine's law of these entries (`dr_laws_sound`), and of the devices at every exit a clause of the top call;
+//! the calls of this crate don't say it once more.
 #![tactic(auto)]
 
+mod both;
 mod checks;
 mod compare;
 mod draining;
@@ -25,7 +25,6 @@ mod ending;
 mod following;
 mod kinds;
 mod making;
-mod moves;
 mod parts;
 mod passing;
 mod pausing;
@@ -34,6 +33,7 @@ mod receiving;
 mod sending;
 mod storing;
 mod suspending;
+mod taking;
 
 pub use checks::running_refusal;
 pub use compare::difference;
@@ -42,7 +42,6 @@ pub use ending::remove_pair;
 pub use following::follow_stop;
 pub use kinds::{CopyKind, part_of};
 pub use making::make_pair;
-pub use moves::take_over;
 pub use parts::{is_primary_of, is_secondary_of, next_state};
 pub use passing::pass_on;
 pub use pausing::{pause, resume};
@@ -51,3 +50,4 @@ pub use receiving::{flashed_refusal, receive_track};
 pub use sending::{send_refusal, send_track};
 pub use storing::{store, strike};
 pub use suspending::suspend;
+pub use taking::take_over;

@@ -1,9 +1,8 @@
 //! Making a pair.
 
-ghost use Rattle.std.specs.Prelude.{◌≡◌, ℕ, ◌≤◌, ◌+◌, true, false, [], ◌∷◌, length, None, Some, IsSome, OnOk, OnErr, is_err, ◌≢◌, if◌then◌else◌};
+ghost use Rattle.std.specs.Prelude.{◌≡◌, ℕ, ◌≤◌, ◌+◌, true, false, [], ◌∷◌, length, None, IsSome, OnOk, OnErr, if◌then◌else◌};
 ghost use Rattle.dr_logic.specs.Counts.{Counted};
 ghost use Rattle.dr_config.specs.Table.{place_of};
-ghost use Rattle.dr_model.specs.Layout as layout;
 ghost use Rattle.dr_model.specs.PairEntries.{refuse_if, differs_at, first_differing, make_entries};
 ghost use Rattle.dr_model.specs.ReadStops.{Ends};
 ghost use Rattle.dr_volume.specs.Update.{IsAsBefore};
@@ -13,16 +12,16 @@ ghost use Rattle.dr_moves.specs.Fit.{RelationsFit};
 ghost use Rattle.dr_moves.specs.Here.{world_seen, refusal_of, armed_in, IsAtRest};
 ghost use Rattle.dr_moves.specs.Turns.{Leads, Fails};
 ghost use Rattle.dr_gcopy.specs.Kinds.{part_of};
-ghost use Rattle.dr_gcopy.specs.Steps.{make_moves, difference_seen, BothAlone};
+ghost use Rattle.dr_gcopy.specs.Steps.{difference_seen, BothAlone};
 
+use crate::both::{Command, carry_both};
 use crate::checks::make_refusal;
 use crate::compare::difference;
 use crate::kinds::{CopyKind, part_of};
-use crate::moves::{make_primary, make_secondary};
 use crate::parts::first_state;
 use dr_config::Config;
 use dr_ids::{Refusal, VolumeId};
-use dr_model::{Journal, PairState, Part};
+use dr_model::Journal;
 use dr_plant::Plant;
 
 /// Looks whether two volumes are the same, where they have to be: where not all tracks are to be copied.
@@ -64,42 +63,6 @@ fn compare<P: Plant>(
     }
 }
 
-/// Volume b becomes the secondary of a, and then a the primary of b.
-fn make_both<P: Plant>(
-    plant: &mut P,
-    config: &Config,
-    journal: &mut Journal,
-    a: VolumeId,
-    b: VolumeId,
-    kind: Part,
-    state: PairState,
-    full: bool,
-) -> Result<(), Refusal>
-    requires rest { IsAtRest (P.state plant.old) config.now }
-    requires fit { RelationsFit (P.state plant.old) config.now }
-    requires primary { IsSome (place_of config.now a.0) }
-    requires secondary { IsSome (place_of config.now b.0) }
-    requires running { (P.state plant.old).on (volume_seen (P.state plant.old) config.now a.0).server ≡ true }
-    requires reached { (P.state plant.old).on (volume_seen (P.state plant.old) config.now b.0).server ≡ true }
-    requires apart { a.0 ≢ b.0 }
-    requires kind { layout.is_part kind ≡ true }
-    requires room { 3 ≤ journal.old.spare }
-    ensures leads { OnOk result ((r : Rest) → Leads (world_seen (P.state plant.old) config.now r journal.old.events) (make_moves a.0 b.0 kind state full) (world_seen (P.state plant.new) config.now r journal.new.events)) }
-    ensures fails { OnErr result ((r : Rest) → Fails (armed_in (P.state plant.old)) (world_seen (P.state plant.old) config.now r journal.old.events) (make_moves a.0 b.0 kind state full) (world_seen (P.state plant.new) config.now r journal.new.events) (refusal_of result)) }
-    ensures stops { OnErr result (is_stop (refusal_of result) ≡ true) }
-    ensures rest { IsAtRest (P.state plant.new) config.now }
-    ensures fit { RelationsFit (P.state plant.new) config.now }
-    ensures unarmed { (q : ℕ) → (P.state plant.old).read_fuse q ≡ None → (P.state plant.new).read_fuse q ≡ None }
-    ensures faults { Counted (is_err result) (P.state plant.old).faults (P.state plant.new).faults }
-    ensures others { BothAlone (P.state plant.old) (P.state plant.new) config.now a.0 b.0 }
-    ensures on { OnOk result ((P.state plant.new).on ≡ (P.state plant.old).on) }
-    ensures room { journal.old.spare ≤ journal.new.spare + 3 }
-    ensures spare { length journal.new.events + journal.new.spare ≡ length journal.old.events + journal.old.spare }
-{
-    make_secondary(plant, config, journal, b, a, kind, state)?;
-    make_primary(plant, config, journal, a, b, kind, state, full)
-}
-
 /// Makes a and b a pair of that kind, with all tracks of a to be copied, or none; the caller knows both volumes. Refused, in
 /// this order, where the server of a is off; where b can't be reached from a (no path, its server off, the link down); where
 /// both are on one server, or their sizes differ; where a has a part in a pair, or b is a primary or the secondary of another;
@@ -137,14 +100,10 @@ pub fn make_pair<P: Plant>(
     }
     compare(plant, config, journal, a, b, full)?;
     let part = part_of(kind);
-    make_both(
-        plant,
-        config,
-        journal,
-        a,
-        b,
-        part,
-        first_state(part, full),
+    let made = Command::Make {
+        kind: part,
+        state: first_state(part, full),
         full,
-    )
+    };
+    carry_both(plant, config, journal, a, b, made)
 }

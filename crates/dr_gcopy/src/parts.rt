@@ -70,7 +70,10 @@ pub(crate) fn may_resume(f: &Fields, b: VolumeId, kind: Part) -> bool
 pub(crate) fn is_last(f: &Fields, t: u16) -> bool
     ensures { result ≡ pairs.is_last (plain f.now) t }
 {
+    if !f.primary.is_metro() {
+        return false;
+    }
     let mut left = f.out_of_sync;
     left.remove(t);
-    f.primary.is_metro() && left.len() == 0
+    left.len() == 0
 }

@@ -11,7 +11,6 @@ ghost use Rattle.dr_model.specs.ReadStops.{Ends};
 ghost use Rattle.dr_model.specs.Refusals.{stopped};
 ghost use Rattle.dr_volume.specs.Update.{IsMoved, OthersStay};
 ghost use Rattle.dr_volume.specs.View.{Rest, volume_seen, track_seen};
-ghost use Rattle.dr_volume.specs.Volume.{Says};
 ghost use Rattle.dr_moves.specs.Fit.{RelationsFit};
 ghost use Rattle.dr_moves.specs.Here.{world_seen, refusal_of, armed_in, IsAtRest};
 ghost use Rattle.dr_moves.specs.Turns.{Advances, Halts};
@@ -19,9 +18,9 @@ ghost use Rattle.dr_moves.specs.Turns.{Advances, Halts};
 use dr_config::Config;
 use dr_ids::{Refusal, VolumeId};
 use dr_model::{Event, Journal};
-use dr_moves::{Telling, Told, received, shift, struck};
+use dr_moves::{Move, Telling, Told, make_move, received, shift};
 use dr_plant::{Block, Plant};
-use dr_volume::{Fields, peek_fields};
+use dr_volume::peek_fields;
 
 /// Stores at secondary b, whose server is on, the bytes of track t of its primary a. With the last track of a Metro
 /// Mirror pair it is Full Duplex. Fails where the server stops in the move or goes off at a read. The journal needs room
@@ -101,50 +100,6 @@ pub fn strike<P: Plant>(
     ensures room_left { OnOk result (journal.old.spare ≡ journal.new.spare) }
     ensures spare { length journal.new.events + journal.new.spare ≡ length journal.old.events + journal.old.spare }
 {
-    let fields = peek_fields(plant, config, a);
-    strike_by(plant, config, journal, a, t, last, &fields)
-}
-
-/// The same by the primary's fields, which are at hand.
-pub(crate) fn strike_by<P: Plant>(
-    plant: &mut P,
-    config: &Config,
-    journal: &mut Journal,
-    a: VolumeId,
-    t: u16,
-    last: bool,
-    fields: &Fields,
-) -> Result<(), Refusal>
-    requires rest { IsAtRest (P.state plant.old) config.now }
-    requires fit { RelationsFit (P.state plant.old) config.now }
-    requires defined { IsSome (place_of config.now a.0) }
-    requires running { (P.state plant.old).on (volume_seen (P.state plant.old) config.now a.0).server ≡ true }
-    requires primary { is_part (volume_seen (P.state plant.old) config.now a.0).fields.primary ≡ true }
-    requires room { 1 ≤ journal.old.spare }
-    requires says { Says (P.state plant.old) config.now a.0 fields.now }
-    ensures carried { (r : Rest) → Ends (armed_in (P.state plant.old)) (world_seen (P.state plant.new) config.now r journal.new.events) (refusal_of result) (world_seen (P.state plant.old) config.now r journal.old.events) (now (Strike a.0 t last) ∷ []) }
-    ensures advances { OnOk result ((r : Rest) → Advances (world_seen (P.state plant.old) config.now r journal.old.events) (now (Strike a.0 t last)) (world_seen (P.state plant.new) config.now r journal.new.events)) }
-    ensures halts { OnErr result ((r : Rest) → Halts (armed_in (P.state plant.old)) (world_seen (P.state plant.old) config.now r journal.old.events) (now (Strike a.0 t last)) (world_seen (P.state plant.new) config.now r journal.new.events) (refusal_of result)) }
-    ensures refused { OnErr result (refusal_of result ≡ Some (stopped (volume_seen (P.state plant.old) config.now a.0).server)) }
-    ensures rest { IsAtRest (P.state plant.new) config.now }
-    ensures fit { RelationsFit (P.state plant.new) config.now }
-    ensures unarmed { (q : ℕ) → (P.state plant.old).read_fuse q ≡ None → (P.state plant.new).read_fuse q ≡ None }
-    ensures faults { Counted (is_err result) (P.state plant.old).faults (P.state plant.new).faults }
-    ensures moved { OnOk result (IsMoved (P.state plant.old) (P.state plant.new) config.now a.0 (pairs.struck last (volume_seen (P.state plant.old) config.now a.0).fields t) None) }
-    ensures others { OthersStay (P.state plant.old) (P.state plant.new) config.now a.0 }
-    ensures on { OnOk result ((P.state plant.new).on ≡ (P.state plant.old).on) }
-    ensures room { journal.old.spare ≤ journal.new.spare + 1 }
-    ensures room_left { OnOk result (journal.old.spare ≡ journal.new.spare) }
-    ensures spare { length journal.new.events + journal.new.spare ≡ length journal.old.events + journal.old.spare }
-{
-    let next = struck(last, fields, t);
-    shift(
-        plant,
-        config,
-        journal,
-        a,
-        &next,
-        None,
-        &Telling::of(Told::Nothing),
-    )
+    let strike = Move::Strike { v: a, t, last };
+    make_move(plant, config, journal, &strike, None)
 }

@@ -1,9 +1,8 @@
 //! A primary is suspended.
 
-ghost use Rattle.std.specs.Prelude.{◌≡◌, ℕ, ◌≤◌, ◌+◌, true, length, [], ◌∷◌, None, Some, IsSome, OnOk, OnErr, is_err, if◌then◌else◌};
+ghost use Rattle.std.specs.Prelude.{◌≡◌, ℕ, ◌≤◌, ◌+◌, true, length, [], ◌∷◌, None, Some, IsSome, OnOk, OnErr, is_err};
 ghost use Rattle.dr_logic.specs.Counts.{Counted};
 ghost use Rattle.dr_config.specs.Table.{place_of};
-ghost use Rattle.dr_model.specs.declared.event.Event.TheVariants.{Suspended};
 ghost use Rattle.dr_model.specs.Carry.{now};
 ghost use Rattle.dr_model.specs.Layout.{is_part};
 ghost use Rattle.dr_model.specs.Moves.{Suspend};
@@ -12,28 +11,15 @@ ghost use Rattle.dr_model.specs.ReadStops.{Ends};
 ghost use Rattle.dr_model.specs.Refusals.{stopped};
 ghost use Rattle.dr_volume.specs.Update.{IsMoved, OthersStay};
 ghost use Rattle.dr_volume.specs.View.{Rest, volume_seen};
-ghost use Rattle.dr_moves.specs.declared.told.Told.TheVariants.{Nothing, One};
 ghost use Rattle.dr_moves.specs.Fit.{RelationsFit};
 ghost use Rattle.dr_moves.specs.Here.{world_seen, refusal_of, armed_in, IsAtRest};
 ghost use Rattle.dr_moves.specs.Turns.{Advances, Halts};
 
 use dr_config::Config;
 use dr_ids::{Refusal, VolumeId};
-use dr_model::{Event, Journal, PairState};
-use dr_moves::{Telling, Told, shift, suspended};
+use dr_model::Journal;
+use dr_moves::{Move, make_move};
 use dr_plant::Plant;
-use dr_volume::peek_fields;
-
-/// What is told where a primary in this state is suspended: nothing where it was Suspended.
-fn told_of(a: VolumeId, state: PairState) -> Told
-    ensures { result ≡ (if pairs.is_suspended state then Nothing else One (Suspended a.0)) }
-{
-    if state.is_suspended() {
-        Told::Nothing
-    } else {
-        Told::One(Event::Suspended { volume: a.0 })
-    }
-}
 
 /// Suspends a primary whose server is on: what changed while it recorded is out of sync too, it neither records nor is
 /// held by coordination any more, and it is long busy where it is to be, or was. The journal is told where it wasn't
@@ -66,8 +52,5 @@ pub fn suspend<P: Plant>(
     ensures room_left { OnOk result (journal.old.spare ≤ journal.new.spare + 1) }
     ensures spare { length journal.new.events + journal.new.spare ≡ length journal.old.events + journal.old.spare }
 {
-    let fields = peek_fields(plant, config, a);
-    let next = suspended(busy, &fields);
-    let told = Telling::of(told_of(a, fields.primary_state));
-    shift(plant, config, journal, a, &next, None, &told)
+    make_move(plant, config, journal, &Move::Suspend { v: a, busy }, None)
 }

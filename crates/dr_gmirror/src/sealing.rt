@@ -26,7 +26,7 @@ use dr_ids::{Member, Refusal, SessionId};
 use dr_model::Journal;
 use dr_moves::{Move, make_move};
 use dr_plant::Plant;
-use dr_volume::{Fields, peek_fields};
+use dr_volume::{Fields, peek_fields, peek_head};
 
 /// Whether nothing is left to send to a primary's secondary.
 fn is_drained(f: &Fields) -> bool
@@ -68,7 +68,7 @@ fn seal_drained<P: Plant>(
     if let Some(why) = send_refusal(plant, config, m.a, m.b) {
         return Err(why);
     }
-    if peek_fields(plant, config, m.b).seal == n {
+    if peek_head(plant, config, m.b).seal == n {
         return Ok(());
     }
     let seal = Move::Seal {

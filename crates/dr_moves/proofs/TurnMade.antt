@@ -81,3 +81,8 @@ came-by s u c v f t was now is_was is_now (inl same) =
     subst (λ b. Came b s u c v f t) (sym ((λ i. not (beq ((is_now ∙ ap (λ (x : Volume). x.slot) same.volume) i) (is_was i))) ∙ same-slot (volume_seen s c v).slot)) same
 came-by s u c v f t was now is_was is_now (inr is) =
     subst (λ b. Came b s u c v f t) (sym ((λ i. not (beq ((is_now ∙ ap (λ (x : Volume). x.slot) is.volume) i) (is_was i))) ∙ other-slot (volume_seen s c v).slot)) is
+
+-- whether or not it counts
+pub came-either : (b : Bool) (s u : PlantState) (c : ConfigTable) (v : ℕ) (f : Fields) (t : Carried) → Came b s u c v f t → IsAsBefore s u c v ⊎ IsMoved s u c v f t
+came-either true s u c v f t came = inr came
+came-either false s u c v f t came = inl came

@@ -1,11 +1,11 @@
 //! One function makes any move: the record of its volume and the track that it carries are changed, and the journal is told.
 
-ghost use Rattle.std.specs.Prelude.{◌≡◌, ◌≤◌, ◌+◌, true, length, IsSome, OnOk, is_err};
+ghost use Rattle.std.specs.Prelude.{◌≡◌, ◌≤◌, ◌+◌, ◌⊎◌, true, length, IsSome, OnOk, is_err};
 ghost use Rattle.dr_config.specs.Table.{place_of};
 ghost use Rattle.dr_model.specs.Histories.{histories};
 ghost use Rattle.dr_model.specs.Moves as machine;
 ghost use Rattle.dr_volume.specs.Opened.{IsOpened};
-ghost use Rattle.dr_volume.specs.Update.{IsMoved, OthersStay};
+ghost use Rattle.dr_volume.specs.Update.{IsAsBefore, IsMoved, OthersStay};
 ghost use Rattle.dr_volume.specs.View.{volume_seen, track_seen};
 ghost use Rattle.dr_moves.specs.Entered.{is_calm, Entered};
 ghost use Rattle.dr_moves.specs.Made.{IsAt, Asks, May, room_for, Made, Kept};
@@ -52,10 +52,10 @@ fn change<P: Plant>(
     ensures room_left { OnOk result (journal.old.spare ≡ journal.new.spare + length (machine.told (move_of m.now) (volume_seen (P.state plant.old) config.now v.0))) }
 {
     let size = tracks_of(config, v);
-    let fields = *opened.fields();
-    let next = next_fields(m, size, &fields);
-    let told = telling(m, size, &fields);
-    let before = slot(plant, config, v);
+    let fields = opened.fields();
+    let next = next_fields(m, size, fields);
+    let told = telling(m, size, fields);
+    let before = opened.slot();
     match opened.change(plant, config, v, &next, track) {
         Ok(()) => {
             tell(journal, &told.done);
@@ -90,10 +90,7 @@ pub fn make<P: Plant>(
 {
     let v = target_of(m);
     match open_told(plant, config, journal, v) {
-        Ok(opened) => {
-            let mut opened = opened;
-            change(plant, config, journal, v, m, &mut opened, track)
-        }
+        Ok(mut opened) => change(plant, config, journal, v, m, &mut opened, track),
         Err(_) => {
             let server = server_of(config, v);
             Err(Stop {
@@ -123,6 +120,7 @@ pub fn make_move<P: Plant>(
     ensures others { OthersStay (P.state plant.old) (P.state plant.new) config.now (machine.target (move_of m.now)) }
     ensures kept { Kept (P.state plant.old) (P.state plant.new) config.now journal.old journal.new (room_for (move_of m.now) (volume_seen (P.state plant.old) config.now (machine.target (move_of m.now)))) (is_err result) result }
     ensures room_left { OnOk result (journal.old.spare ≡ journal.new.spare + length (machine.told (move_of m.now) (volume_seen (P.state plant.old) config.now (machine.target (move_of m.now))))) }
+    ensures old_or_new { IsAsBefore (P.state plant.old) (P.state plant.new) config.now (machine.target (move_of m.now)) ⊎ IsMoved (P.state plant.old) (P.state plant.new) config.now (machine.target (move_of m.now)) (machine.fields_left (move_of m.now) (volume_seen (P.state plant.old) config.now (machine.target (move_of m.now)))) track }
 {
     match make(plant, config, journal, m, track) {
         Ok(()) => Ok(()),

@@ -1,13 +1,14 @@
 -- What a target shows after it was flashed, and after its flash was committed or reverted.
-use Rattle.std.proofs.Common.{ℕ, List, ◌≡◌, ◌≢◌, Bool, true, false, not, ◌&&◌, refl, sym, ◌∙◌, ap, None}
-use Rattle.std.specs.Prelude.{if◌then◌else◌}
+use Rattle.std.proofs.Common.{ℕ, List, ◌≡◌, ◌≢◌, Bool, true, false, not, ◌&&◌, refl, sym, ◌∙◌, ap, Option, None, Some}
+use Rattle.std.specs.Prelude.{if◌then◌else◌, slice_get}
 use Rattle.std.specs.FinSet.{contains, difference}
 use Rattle.std.proofs.lemmas.Bool.{and_parts}
 use Rattle.dr_logic.specs.Bytes.{zeros}
 use Rattle.dr_bits.specs.Tracks.{Tracks}
 use Rattle.dr_plant.specs.State.{PlantState}
-use Rattle.dr_config.specs.Table.{ConfigTable}
-use Rattle.dr_model.specs.Layout.{Fields}
+use Rattle.dr_config.specs.Table.{ConfigTable, place_of}
+use Rattle.dr_config.specs.declared.entries.VolumeEntry.{VolumeEntry}
+use Rattle.dr_model.specs.Layout.{Fields, Blocks, fields_of}
 use Rattle.dr_model.specs.Lawful.{IsLawful, NoRelation}
 use Rattle.dr_model.specs.Control.{Volume}
 use Rattle.dr_model.specs.Entries.{copies_from}
@@ -15,7 +16,7 @@ use Rattle.dr_model.specs.SessionEntries.{may_flash}
 use Rattle.dr_model.specs.Relations.{flashed, committed, reverted}
 use Rattle.dr_model.specs.Views.{shows_source}
 use Rattle.dr_volume.specs.Update.{IsMoved, OthersStay}
-use Rattle.dr_volume.specs.View.{volume_seen, track_seen}
+use Rattle.dr_volume.specs.View.{volume_on, volume_at, volume_seen, track_seen}
 use Rattle.dr_moves.specs.Fit.{RelationsFit}
 use Rattle.dr_flash.specs.Views.{view_seen}
 use Rattle.dr_incr.specs.Copies.{HoldsUnchanged}
@@ -115,6 +116,19 @@ revertible-related n f lawful is = elim f.related as (λ b. f.related ≡ b → 
   | true ↦ λ h. refl
   | false ↦ λ absent. absurd (let none : NoRelation f = lawful.relation absent in let e : true ≡ false = sym is ∙ none.11 in cc)
 ] refl
+
+-- a volume that is seen to be revertible is a target
+revertible-on : (blocks : Blocks) (e : Option VolumeEntry) → (volume_on blocks e).fields.revertible ≡ true → (volume_on blocks e).fields.related ≡ true
+unfolding fields_of
+revertible-on blocks None is = absurd cc
+revertible-on blocks (Some e) is = (and_parts _ _ is).0
+
+revertible-at : (s : PlantState) (c : ConfigTable) (d : Option ℕ) → (volume_at s c d).fields.revertible ≡ true → (volume_at s c d).fields.related ≡ true
+revertible-at s c None is = absurd cc
+revertible-at s c (Some d) is = revertible-on (s.block d) (slice_get c.volumes d) is
+
+pub revertible-seen : (s : PlantState) (c : ConfigTable) (t : ℕ) → (volume_seen s c t).fields.revertible ≡ true → (volume_seen s c t).fields.related ≡ true
+revertible-seen s c t is = revertible-at s c (place_of c t) is
 
 -- where nothing happened, all is shown as it was
 pub same-view : (s u : PlantState) (c : ConfigTable) (t : ℕ) → u ≡ s → (q : ℕ) → view_seen u c t q ≡ view_seen s c t q

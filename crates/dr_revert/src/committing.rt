@@ -1,12 +1,11 @@
 //! The flash of a member's target is committed.
 
-ghost use Rattle.std.specs.Prelude.{◌≡◌, ℕ, ◌≤◌, ◌+◌, false, length, None, Some, IsSome, OnOk, OnErr, if◌then◌else◌};
+ghost use Rattle.std.specs.Prelude.{◌≡◌, ℕ, ◌≤◌, ◌+◌, false, length, None, Some, IsSome, OnOk, OnErr, if◌then◌else◌, ◌&&◌, not, nat_eq};
 ghost use Rattle.dr_logic.specs.Counts.{Counted};
 ghost use Rattle.dr_config.specs.Table.{place_of};
 ghost use Rattle.dr_model.specs.ReadStops.{Ends};
 ghost use Rattle.dr_model.specs.Relations as relations;
 ghost use Rattle.dr_model.specs.SessionEntries as entries;
-ghost use Rattle.dr_volume.specs.Plain.{plain};
 ghost use Rattle.dr_volume.specs.Update.{IsMoved, OthersStay};
 ghost use Rattle.dr_volume.specs.View.{Rest, volume_seen};
 ghost use Rattle.dr_moves.specs.Checks.{is_stop};
@@ -25,11 +24,11 @@ use dr_gcopy::send_refusal;
 use dr_ids::{Member, Refusal, SessionId};
 use dr_model::Journal;
 use dr_plant::Plant;
-use dr_volume::{Fields, peek_fields};
+use dr_volume::{Head, peek_head};
 
 /// What becomes of a member's target whose flash is to be committed: nothing, where it is so already.
-fn commit_fate(s: SessionId, m: &Member, n: u32, f: &Fields) -> Option<Fate>
-    ensures { result ≡ (if entries.is_committed n (plain f.now) then None else Some (fate.Commit m.now.a s n)) }
+fn commit_fate(s: SessionId, m: &Member, n: u32, f: &Head) -> Option<Fate>
+    ensures { result ≡ (if f.now.member && (nat_eq f.now.sequence n && not f.now.revertible) then None else Some (fate.Commit m.now.a s n)) }
 {
     if is_committed(n, f) {
         return None;
@@ -84,9 +83,10 @@ pub fn commit<P: Plant>(
     if let Some(why) = send_refusal(plant, config, m.a, m.b) {
         return Err(why);
     }
-    if let Some(why) = commit_refusal(plant, config, m.c, n) {
+    let head = peek_head(plant, config, m.c);
+    if let Some(why) = commit_refusal(plant, config, m.c, n, &head) {
         return Err(why);
     }
-    let fate = commit_fate(s, m, n, &peek_fields(plant, config, m.c));
+    let fate = commit_fate(s, m, n, &head);
     turn_target(plant, config, journal, m.c, fate)
 }

@@ -1,11 +1,11 @@
-//! What the fields of a target say of an attempt.
+//! What the fields of a target, and its head, say of an attempt.
 
-ghost use Rattle.std.specs.Prelude.{◌≡◌};
+ghost use Rattle.std.specs.Prelude.{◌≡◌, ◌&&◌, not, nat_eq};
 ghost use Rattle.dr_model.specs.SessionEntries as sessions;
 ghost use Rattle.dr_volume.specs.Plain.{plain};
 
 use dr_ids::VolumeId;
-use dr_volume::Fields;
+use dr_volume::{Fields, Head};
 
 /// Whether a target is revertible from attempt n.
 pub fn is_flashed(n: u32, f: &Fields) -> bool
@@ -14,17 +14,24 @@ pub fn is_flashed(n: u32, f: &Fields) -> bool
     f.revertible && f.sequence == n
 }
 
-/// Whether a target is a member's with number n.
-pub(crate) fn is_committed(n: u32, f: &Fields) -> bool
-    ensures { result ≡ sessions.is_committed n (plain f.now) }
+/// The same by its head.
+pub(crate) fn is_flashed_by(n: u32, head: &Head) -> bool
+    ensures { result ≡ (head.now.revertible && nat_eq head.now.sequence n) }
+{
+    head.revertible && head.sequence == n
+}
+
+/// Whether a target with this head is a member's with number n.
+pub(crate) fn is_committed(n: u32, f: &Head) -> bool
+    ensures { result ≡ (f.now.member && (nat_eq f.now.sequence n && not f.now.revertible)) }
 {
     f.member && (f.sequence == n && !f.revertible)
 }
 
-/// Whether a volume with these fields is a target of b whose changes are recorded, and on which the host may not write, and
+/// Whether a volume with this head is a target of b whose changes are recorded, and on which the host may not write, and
 /// that is neither restored nor revertible.
-pub(crate) fn may_flash(b: VolumeId, f: &Fields) -> bool
-    ensures { result ≡ sessions.may_flash b.0 (plain f.now) }
+pub(crate) fn may_flash(b: VolumeId, f: &Head) -> bool
+    ensures { result ≡ ((f.now.related && nat_eq f.now.source.0 b.0) && (f.now.recorded && (f.now.inhibited && (not f.now.reversing && not f.now.revertible)))) }
 {
     f.related
         && f.source.0 == b.0

@@ -1,12 +1,11 @@
 //! The target of a member is flashed.
 
-ghost use Rattle.std.specs.Prelude.{◌≡◌, ℕ, ◌≤◌, ◌+◌, false, length, None, Some, IsSome, OnOk, OnErr, if◌then◌else◌};
+ghost use Rattle.std.specs.Prelude.{◌≡◌, ℕ, ◌≤◌, ◌+◌, false, length, None, Some, IsSome, OnOk, OnErr, if◌then◌else◌, ◌&&◌, nat_eq};
 ghost use Rattle.dr_logic.specs.Counts.{Counted};
 ghost use Rattle.dr_config.specs.Table.{place_of};
 ghost use Rattle.dr_model.specs.ReadStops.{Ends};
 ghost use Rattle.dr_model.specs.Relations as relations;
 ghost use Rattle.dr_model.specs.SessionEntries as entries;
-ghost use Rattle.dr_volume.specs.Plain.{plain};
 ghost use Rattle.dr_volume.specs.Update.{IsMoved, OthersStay};
 ghost use Rattle.dr_volume.specs.View.{Rest, volume_seen, track_seen};
 ghost use Rattle.dr_moves.specs.Checks.{is_stop};
@@ -21,19 +20,19 @@ ghost use Rattle.dr_revert.specs.Views.{previous_seen};
 
 use crate::checks::flash_refusal;
 use crate::fates::{Fate, turn_target};
-use crate::fields::is_flashed;
+use crate::fields::is_flashed_by;
 use dr_config::Config;
 use dr_gcopy::send_refusal;
 use dr_ids::{Member, Refusal, SessionId};
 use dr_model::Journal;
 use dr_plant::Plant;
-use dr_volume::{Fields, peek_fields};
+use dr_volume::{Head, peek_head};
 
 /// What becomes of a member's target that is to be flashed: nothing, where it is flashed for the attempt.
-fn flash_fate(s: SessionId, m: &Member, n: u32, f: &Fields) -> Option<Fate>
-    ensures { result ≡ (if entries.is_flashed n (plain f.now) then None else Some (fate.Flash m.now.b m.now.a s n)) }
+fn flash_fate(s: SessionId, m: &Member, n: u32, f: &Head) -> Option<Fate>
+    ensures { result ≡ (if f.now.revertible && nat_eq f.now.sequence n then None else Some (fate.Flash m.now.b m.now.a s n)) }
 {
-    if is_flashed(n, f) {
+    if is_flashed_by(n, f) {
         return None;
     }
     Some(Fate::Flash {
@@ -90,9 +89,10 @@ pub fn flash<P: Plant>(
     if let Some(why) = send_refusal(plant, config, m.a, m.b) {
         return Err(why);
     }
-    if let Some(why) = flash_refusal(plant, config, m.b, m.c, n) {
+    let head = peek_head(plant, config, m.c);
+    if let Some(why) = flash_refusal(plant, config, m.b, m.c, n, &head) {
         return Err(why);
     }
-    let fate = flash_fate(s, m, n, &peek_fields(plant, config, m.c));
+    let fate = flash_fate(s, m, n, &head);
     turn_target(plant, config, journal, m.c, fate)
 }

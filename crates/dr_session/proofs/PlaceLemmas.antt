@@ -1,7 +1,7 @@
 -- What is found and changed at a place of the map is found and changed in the list of sessions.
-use Rattle.std.proofs.Common.{◌≡◌, ℕ, zero, suc, ◌+◌, ◌<◌, Bool, true, false, cond, ◌&&◌, List, [], ◌∷◌, ◌++◌, length, map, take, drop, get_or, slice_get, remove, Bor, option_map, Option, None, Some, IfSome, IfNone, Result, Ok, Err, OnOk, OnErr, IfOk, refl, sym, ◌∙◌, ap, arith, add-one, eqb, ◌==◌}
+use Rattle.std.proofs.Common.{◌≡◌, ℕ, zero, suc, ◌+◌, ◌<◌, Bool, true, false, cond, ◌&&◌, List, [], ◌∷◌, ◌++◌, length, map, take, drop, get_or, slice_get, remove, option_map, Option, None, Some, IfSome, IfNone, Result, Ok, Err, OnOk, OnErr, IfOk, refl, sym, ◌∙◌, ap, arith, add-one, eqb, ◌==◌}
 use Rattle.std.specs.List.{find, position}
-use Rattle.std.specs.Option.{is_some, option_copied}
+use Rattle.std.specs.Option.{is_some}
 use Rattle.std.proofs.lemmas.List.{map-append, length-map}
 use Rattle.std.proofs.lemmas.Grind.{common_steps}
 use Rattle.std.proofs.lemmas.List.Quantifiers.{position-Some}
@@ -172,14 +172,6 @@ lookup-session s (e ∷ es) keyed =
           lookup-session s es parts.1
           ∙ sym (ap (λ b. cond b (Some e.1.session) (session_in (sessions_in es) s)) (other_number e.1.session.number e.0 s parts.0 fails))
     ] refl
-
-pub session-from_lookup : (s : ℕ) (es : Entries) (t : SessionTable) (r : Option (Bor KeptSession)) → is_keyed es ≡ true → table_of es ≡ t → option_copied r ≡ lookup (eqb s) es → option_map (λ (x : Bor KeptSession). x.now.session) r ≡ session_in t.sessions s
-session-from_lookup s es t r keyed view is =
-    copied r ∙ (ap (λ o. option_map (λ (k : KeptSession). k.session) o) is ∙ (lookup-session s es keyed ∙ ap (λ (u : SessionTable). session_in u.sessions s) view))
-  where
-    copied : (r : Option (Bor KeptSession)) → option_map (λ (x : Bor KeptSession). x.now.session) r ≡ option_map (λ (k : KeptSession). k.session) (option_copied r)
-    copied None = refl
-    copied (Some x) = refl
 
 none-of_map : {X Y : Type 0} (f : X → Y) (r : Option X) → option_map f r ≡ None → r ≡ None
 none-of_map f None h = refl

@@ -1,6 +1,6 @@
 //! Look-ups in the map of sessions.
 
-ghost use Rattle.std.specs.Prelude.{◌≡◌, ◌<◌, length, true, None, IfSome, IfNone, OnOk, OnErr, option_map, nat_eq, ◌++◌, ◌∷◌, [], remove};
+ghost use Rattle.std.specs.Prelude.{◌≡◌, ◌==◌, ◌<◌, length, true, None, IfSome, IfNone, OnOk, OnErr, option_map, nat_eq, ◌++◌, ◌∷◌, [], remove};
 ghost use Rattle.std.specs.List.{find};
 ghost use Rattle.indexmap.specs.IndexMap.{get};
 ghost use Rattle.dr_model.specs.Sessions as model;
@@ -19,6 +19,26 @@ pub(crate) fn place_of(table: &IndexMap<u8, Session>, s: SessionId) -> Option<us
     ensures none { IfNone result (model.session_in (sessions_in table.now.entries) s.0 ≡ None) }
 {
     table.get_index_of(&s.0)
+}
+
+// Whether a session has that number.
+fn has_number(session: &Session, s: SessionId) -> bool
+    ensures { result ≡ (session.now.session.number == s.0) }
+{
+    session.number().0 == s.0
+}
+
+// The session of that number. There are four at most, so a look at each costs less than the hash of a number.
+pub(crate) fn session_numbered(table: &IndexMap<u8, Session>, s: SessionId) -> Option<&Session>
+    ensures { option_map (λ x. x.now.session) result ≡ model.session_in (sessions_in table.now.entries) s.0 }
+{
+    for i in 0..table.len() {
+        let session = &table[i];
+        if has_number(session, s) {
+            return Some(session);
+        }
+    }
+    None
 }
 
 // The first session of which the volume is the primary of a member.

@@ -8,7 +8,9 @@ ghost use Rattle.dr_model.specs.Sessions as model;
 ghost use Rattle.dr_master.specs.Seen.{reply_of};
 ghost use Rattle.dr_session.specs.Kept.{refusal_of};
 
-use crate::places::{define, first_with_member, first_with_place, place_of, remove_at};
+use crate::places::{
+    define, first_with_member, first_with_place, place_of, remove_at, session_numbered,
+};
 use crate::session::{NO_MASTER, Session};
 use dr_ids::{Fault, Kind, Lss, Member, Refusal, ServerId, SessionId, VolumeId, Which};
 use dr_master::{Master, Reply};
@@ -377,7 +379,7 @@ impl Sessions {
     fn session(&self, s: SessionId) -> Option<&Session>
         ensures { option_map (λ x. x.now.session) result ≡ model.session_in self.now.sessions s.0 }
     {
-        self.table.get(&s.0)
+        session_numbered(&self.table, s)
     }
 
     // Whether the session has a master.

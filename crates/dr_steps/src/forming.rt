@@ -34,7 +34,7 @@ use dr_ids::{MOST_EVENTS, PhaseName, Refusal, ServerId, SessionId, VolumeId, Whi
 use dr_model::{Addition, Journal, Said};
 use dr_plant::Plant;
 use dr_session::Sessions;
-use dr_volume::peek_fields;
+use dr_volume::peek_head;
 use std::alloc::AllocError;
 
 /// The most groups that one line forms.
@@ -133,7 +133,7 @@ fn primary_to_drain<P: Plant>(
     ensures { (r : Tables) (events : List Event) → option_map (λ v. v.0) result ≡ to_drain (here (P.state plant.now) config.now r events).control server.0 (slice_get (model.members_in (model.session_in sessions.now.sessions s.0)) place) }
 {
     let member = sessions.member_at(s, place)?;
-    if member.server == server && is_copying(&peek_fields(plant, config, member.a)) {
+    if member.server == server && is_copying(&peek_head(plant, config, member.a)) {
         Some(member.a)
     } else {
         None

@@ -25,7 +25,7 @@ use dr_ids::{Kind, Refusal, VolumeId};
 use dr_model::{Addition, Devs, Journal, PairChoices};
 use dr_moves::{pair_state, server_of};
 use dr_plant::Plant;
-use dr_volume::{Fields, peek_fields};
+use dr_volume::{Head, peek_head};
 
 /// One of two volumes is the primary of a member, whose session is named.
 fn member_refusal(tables: &Tables, a: VolumeId, b: VolumeId) -> Option<Refusal>
@@ -199,8 +199,8 @@ pub fn resume_pair<P: Plant>(
     }
 }
 
-/// Whether a volume with these fields is a primary in Copy Pending.
-pub fn is_copying(f: &Fields) -> bool
+/// Whether a volume with this head is a primary in Copy Pending.
+pub fn is_copying(f: &Head) -> bool
     ensures { result ≡ (part.is_part f.now.primary && pairs.is_pending f.now.primary_state) }
 {
     f.primary.is_part() && f.primary_state.is_pending()
@@ -234,8 +234,7 @@ pub fn drain<P: Plant>(
     if !plant.is_on(server.0) {
         return Err(Refusal::ServerOff { server });
     }
-    let fields = peek_fields(plant, config, a);
-    if !is_copying(&fields) {
+    if !is_copying(&peek_head(plant, config, a)) {
         return Err(pair_state(plant, config, a));
     }
     match dr_gcopy::drain(plant, config, journal, a, most) {

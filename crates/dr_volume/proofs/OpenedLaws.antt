@@ -13,11 +13,11 @@ use Rattle.dr_model.specs.Moves.{Carried, carried_bytes, staged_track}
 use Rattle.dr_volume.specs.declared.fields.Fields.{Fields}
 use Rattle.dr_volume.specs.declared.opened.Opened.{Opened}
 use Rattle.dr_volume.specs.Plain.{plain}
-use Rattle.dr_volume.specs.View.{device_of}
+use Rattle.dr_volume.specs.View.{device_of, volume_seen}
 use Rattle.dr_volume.specs.Volume.{Shows}
 use Rattle.dr_volume.specs.Update.{staging, IsAsBefore, IsMoved, OthersStay}
 use Rattle.dr_volume.specs.Opened.{IsOpened, OthersOpened}
-use Rattle.dr_volume.proofs.VolumeLaws.{device-placed, chosen_slot}
+use Rattle.dr_volume.proofs.VolumeLaws.{placed, volume-placed, device-placed, chosen_slot}
 use Rattle.dr_volume.proofs.ReadingLaws.{ReadsNext, bytes-next, plain-staging, staged-staging, bytes-staging}
 use Rattle.dr_volume.proofs.SeenLaws.{Lies, seen, apart_devices}
 use Rattle.dr_volume.proofs.UpdateLaws.{Task, Run, outcome, update-done}
@@ -73,3 +73,9 @@ others-opened c s t v d e lies apart others u o ne defined h =
       | Some j ↦ λ is some i b. apart j b (apart_devices c s v u d j e lies ne is) i
     ] refl defined)
     (others u ne) h
+
+-- the slot that was read is the volume's
+pub slot-opened : (s : PlantState) (t : ConfigTable) (v : ℕ) (o : Opened) → is_some (place_of t v) ≡ true → IsOpened s t v o → o.slot ≡ (volume_seen s t v).slot
+slot-opened s t v o defined opened =
+    let at = placed t v defined in
+    sym opened.slot ∙ ap (slot_of s) (device-placed t v at.0 at.2) ∙ chosen_slot s at.0 ∙ sym (ap (λ (w : Volume). w.slot) (volume-placed s t v at.0 at.1 at.2 at.3))

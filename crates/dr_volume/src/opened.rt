@@ -87,6 +87,13 @@ impl Opened {
         &self.fields
     }
 
+    /// The slot that the device chooses: slot 1 where it is true.
+    pub fn slot(&self) -> bool
+        ensures { result ≡ self.now.slot }
+    {
+        self.slot
+    }
+
     /// Reads a track: the bytes that are staged for it, zeros where it is blank, or else what stands
     /// in its own block, which alone is read. Fails where that block is wanted and the plant can't
     /// read the device; then `into` is as before.
@@ -156,7 +163,7 @@ impl Opened {
     {
         tell_sound(config);
         let slot = self.slot;
-        self.fields = with_staged(next, staged);
+        stage(&mut self.fields, next, &staged);
         self.slot = !slot;
         rewrite(plant, self.device, slot, &self.fields, staged)
     }
@@ -168,6 +175,23 @@ pub(crate) fn is_staged(staged: Option<u16>, t: u16) -> bool
     match staged {
         Some(s) => t == s,
         None => false,
+    }
+}
+
+// Fields become the next ones, with the carried track staged, where they stand.
+fn stage(fields: &mut Fields, next: &Fields, carried: &Option<(u16, Block)>)
+    ensures { fields.new ≡ staging carried.now next.now }
+{
+    *fields = *next;
+    match carried {
+        Some(track) => {
+            fields.staged = Some(track.0);
+            fields.staged_bytes = track.1;
+        }
+        None => {
+            fields.staged = None;
+            fields.staged_bytes = zero_block();
+        }
     }
 }
 

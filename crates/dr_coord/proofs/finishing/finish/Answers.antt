@@ -1,6 +1,7 @@
-use Rattle.std.proofs.Common.{arith, ap, sym, ◌∙◌}
+use Rattle.std.proofs.Common.{arith, ap, sym, ◌∙◌, ◌&&◌, ◌||◌, not, nat_eq, nat_lt}
 use Rattle.dr_model.specs.Moves.{Finish}
-use Rattle.dr_model.specs.SessionEntries.{is_past, finish_on}
+use Rattle.dr_model.specs.SessionEntries.{finish_on}
+use Rattle.dr_volume.specs.declared.head.Head.{Head}
 use Rattle.dr_volume.specs.View.{volume_seen}
 use Rattle.dr_moves.specs.Here.{world_seen, armed_in, refusal_of}
 use Rattle.dr_moves.proofs.EntryLemmas.{act-ends, move-advances, move-halts, skips}
@@ -12,7 +13,7 @@ use Rattle.dr_coord.proofs.finishing.finish.Goals as goal
 pub returns-then-is_past-clause-advances : goal.returns-then-is_past-clause-advances
 returns-then-is_past-clause-advances g c r =
     skips (world_seen (g.P.Plant.state c.args.plant.now) c.args.config.now r c.args.journal.now.events) (finish_on c.args.m.now.a.0 c.args.n)
-    (finish-skips (g.P.Plant.state c.args.plant.now) c.args.config.now r c.args.journal.now.events c.args.m.now.a.0 c.args.n (ap (is_past c.args.n) (sym c.peek_fields.ensures.fields) ∙ sym c.if-is_past.ensures))
+    (finish-skips (g.P.Plant.state c.args.plant.now) c.args.config.now r c.args.journal.now.events c.args.m.now.a.0 c.args.n (ap (λ (f : Head). nat_lt c.args.n f.attempt || (nat_eq f.attempt c.args.n && not f.recording)) (sym c.peek_head.ensures) ∙ sym c.if-is_past.ensures))
 
 pub returns-then-is_past-clause-carried : goal.returns-then-is_past-clause-carried
 returns-then-is_past-clause-carried g c r =
@@ -24,7 +25,7 @@ returns-clause-advances g c =
     let t = c.args.config.now in
     ok-along c.make_move.result c.make_move.ensures.entered.done (λ done r.
     move-advances (world_seen s t r c.args.journal.now.events) (world_seen (g.P.Plant.state c.make_move.new.plant) t r c.make_move.new.journal.events) (finish_on c.args.m.now.a.0 c.args.n) (Finish c.args.m.now.a.0 c.args.n)
-    (finish-comes s t r c.args.journal.now.events c.args.m.now.a.0 c.args.n (ap (is_past c.args.n) (sym c.peek_fields.ensures.fields) ∙ sym c.if-is_past.ensures)) (done r))
+    (finish-comes s t r c.args.journal.now.events c.args.m.now.a.0 c.args.n (ap (λ (f : Head). nat_lt c.args.n f.attempt || (nat_eq f.attempt c.args.n && not f.recording)) (sym c.peek_head.ensures) ∙ sym c.if-is_past.ensures)) (done r))
 
 pub returns-clause-halts : goal.returns-clause-halts
 returns-clause-halts g c =
@@ -32,7 +33,7 @@ returns-clause-halts g c =
     let t = c.args.config.now in
     err-along c.make_move.result c.make_move.ensures.entered.failed c.make_move.ensures.entered.refused (λ failed refused r.
     move-halts (armed_in s) (world_seen s t r c.args.journal.now.events) (world_seen (g.P.Plant.state c.make_move.new.plant) t r c.make_move.new.journal.events) (refusal_of c.make_move.result) (finish_on c.args.m.now.a.0 c.args.n) (Finish c.args.m.now.a.0 c.args.n) (volume_seen s t c.args.m.now.a.0).server
-    (finish-comes s t r c.args.journal.now.events c.args.m.now.a.0 c.args.n (ap (is_past c.args.n) (sym c.peek_fields.ensures.fields) ∙ sym c.if-is_past.ensures)) refused (failed r))
+    (finish-comes s t r c.args.journal.now.events c.args.m.now.a.0 c.args.n (ap (λ (f : Head). nat_lt c.args.n f.attempt || (nat_eq f.attempt c.args.n && not f.recording)) (sym c.peek_head.ensures) ∙ sym c.if-is_past.ensures)) refused (failed r))
 
 pub returns-clause-carried : goal.returns-clause-carried
 returns-clause-carried g c =

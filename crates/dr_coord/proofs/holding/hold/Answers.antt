@@ -1,7 +1,7 @@
 use Rattle.std.specs.Prelude.{if◌then◌else◌}
-use Rattle.std.proofs.Common.{arith, ◌≡◌, true, false, ap, sym, ◌∙◌, None, Some, inl, inr}
-use Rattle.dr_model.specs.Pairs.{records}
+use Rattle.std.proofs.Common.{arith, ◌≡◌, ◌&&◌, nat_eq, true, false, ap, sym, ◌∙◌, None, Some, inl, inr}
 use Rattle.dr_model.specs.SessionEntries.{hold_on}
+use Rattle.dr_volume.specs.declared.head.Head.{Head}
 use Rattle.dr_volume.specs.View.{volume_seen}
 use Rattle.dr_moves.specs.Here.{world_seen, armed_in, refusal_of}
 use Rattle.dr_moves.proofs.TurnLemmas.{ok-along, err-along}
@@ -14,7 +14,7 @@ use Rattle.dr_logic.proofs.Results.{ok-two}
 pub returns-then-records-clause-advances : goal.returns-then-records-clause-advances
 returns-then-records-clause-advances g c r so =
     hold-passes (g.P.Plant.state c.args.plant.now) c.args.config.now c.args.a.0 c.args.s.0 c.args.n c.args.first r c.args.journal.now.events
-    (ap (records c.args.n) (sym c.peek_fields.ensures.fields) ∙ sym c.if-records.ensures)
+    (ap (λ (f : Head). f.recording && nat_eq f.attempt c.args.n) (sym c.requires.head) ∙ sym c.if-records.ensures)
 
 pub make_move-requires-clause-room : goal.make_move-requires-clause-room
 make_move-requires-clause-room g c =
@@ -33,7 +33,7 @@ returns-clause-advances g c =
     let t = c.args.config.now in
     ok-along c.make_move.result c.make_move.ensures.entered.done (λ done r so.
     act-advances (world_seen s t r c.args.journal.now.events) (world_seen u t (rest_after c.args.first s u t c.args.a.0 c.args.s.0 r) c.make_move.new.journal.events) (hold_on c.args.s.0 c.args.a.0 c.args.n) (hold_act s t r c.args.journal.now.events c.args.a.0 c.args.s.0 c.args.n c.args.first)
-    (hold-comes s t r c.args.journal.now.events c.args.a.0 c.args.s.0 c.args.n c.args.first (ap (records c.args.n) (sym c.peek_fields.ensures.fields) ∙ sym c.if-records.ensures) so)
+    (hold-comes s t r c.args.journal.now.events c.args.a.0 c.args.s.0 c.args.n c.args.first (ap (λ (f : Head). f.recording && nat_eq f.attempt c.args.n) (sym c.requires.head) ∙ sym c.if-records.ensures) so)
     (hold-act s t r c.args.journal.now.events c.args.a.0 u c.args.s.0 c.args.n c.args.first c.make_move.new.journal.events None (done r)))
 
 pub returns-clause-halts : goal.returns-clause-halts
@@ -44,7 +44,7 @@ returns-clause-halts g c =
     let server = (volume_seen s t c.args.a.0).server in
     err-along c.make_move.result c.make_move.ensures.entered.failed c.make_move.ensures.entered.refused (λ failed refused r so.
     act-halts (armed_in s) (world_seen s t r c.args.journal.now.events) (world_seen u t (rest_after c.args.first s u t c.args.a.0 c.args.s.0 r) c.make_move.new.journal.events) (refusal_of c.make_move.result) (hold_on c.args.s.0 c.args.a.0 c.args.n) (hold_act s t r c.args.journal.now.events c.args.a.0 c.args.s.0 c.args.n c.args.first) server
-    (hold-comes s t r c.args.journal.now.events c.args.a.0 c.args.s.0 c.args.n c.args.first (ap (records c.args.n) (sym c.peek_fields.ensures.fields) ∙ sym c.if-records.ensures) so)
+    (hold-comes s t r c.args.journal.now.events c.args.a.0 c.args.s.0 c.args.n c.args.first (ap (λ (f : Head). f.recording && nat_eq f.attempt c.args.n) (sym c.requires.head) ∙ sym c.if-records.ensures) so)
     refused
     (elim (failed r) [
       | inl off ↦ inl (hold-off (armed_in s) s u t r c.args.journal.now.events c.make_move.new.journal.events c.args.a.0 c.args.s.0 c.args.first (refusal_of c.make_move.result) off)
@@ -53,7 +53,7 @@ returns-clause-halts g c =
 
 pub returns-then-records-clause-begins : goal.returns-then-records-clause-begins
 returns-then-records-clause-begins g c fresh =
-    absurd (let no : true ≡ false = sym (ap (records c.args.n) (sym c.peek_fields.ensures.fields) ∙ sym c.if-records.ensures) ∙ fresh in cc)
+    absurd (let no : true ≡ false = sym (ap (λ (f : Head). f.recording && nat_eq f.attempt c.args.n) (sym c.requires.head) ∙ sym c.if-records.ensures) ∙ fresh in cc)
 
 pub returns-clause-begins : goal.returns-clause-begins
 returns-clause-begins g c =

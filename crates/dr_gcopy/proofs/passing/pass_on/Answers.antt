@@ -1,5 +1,6 @@
 use Rattle.std.proofs.Common.{ℕ, ◌≡◌, ◌≢◌, ◌++◌, false, ap, sym, subst, ◌∙◌}
-use Rattle.std.specs.Prelude.{OnOk, OnErr}
+use Rattle.std.specs.Prelude.{OnOk, OnErr, is_err}
+use Rattle.dr_logic.specs.Counts.{Counted}
 use Rattle.dr_plant.specs.State.{PlantState}
 use Rattle.dr_model.specs.Log.{Log}
 use Rattle.dr_model.specs.Entries.{copies_from}
@@ -12,6 +13,7 @@ use Rattle.dr_facts.proofs.Ends.{ends-off}
 use Rattle.dr_moves.proofs.FitLemmas.{fit-same}
 use Rattle.dr_moves.proofs.TurnLemmas.{refused-by}
 use Rattle.dr_gcopy.specs.Sending.{pass_entries}
+use Rattle.dr_gcopy.proofs.RanLemmas.{counted-failed}
 use Rattle.dr_gcopy.proofs.passing.pass_on.Goals as goal
 use Rattle.dr_logic.proofs.Results.{err-always}
 
@@ -27,17 +29,23 @@ returns-in_err-read_told-clause-fit g c =
 pub returns-clause-leads : goal.returns-clause-leads
 returns-clause-leads g c =
     subst (λ (x : PlantState). OnOk c.hand_over.result ((r : Rest) → Leads (world_seen x c.args.config.now r c.args.journal.now.events) (pass_entries (ids_of c.args.config.now.volumes) c.args.a.0 c.args.b.0 c.args.t) (world_seen (g.P.Plant.state c.hand_over.new.plant) c.args.config.now r c.hand_over.new.journal.events))) c.in_ok-read_told.ensures.passed
-    (subst (λ (l : Log). OnOk c.hand_over.result ((r : Rest) → Leads (world_seen (g.P.Plant.state c.read_told.new.plant) c.args.config.now r l.events) (pass_entries (ids_of c.args.config.now.volumes) c.args.a.0 c.args.b.0 c.args.t) (world_seen (g.P.Plant.state c.hand_over.new.plant) c.args.config.now r c.hand_over.new.journal.events))) c.in_ok-read_told.ensures.silent c.hand_over.ensures.leads)
+    (subst (λ (l : Log). OnOk c.hand_over.result ((r : Rest) → Leads (world_seen (g.P.Plant.state c.read_told.new.plant) c.args.config.now r l.events) (pass_entries (ids_of c.args.config.now.volumes) c.args.a.0 c.args.b.0 c.args.t) (world_seen (g.P.Plant.state c.hand_over.new.plant) c.args.config.now r c.hand_over.new.journal.events))) c.in_ok-read_told.ensures.silent c.hand_over.ensures.ran.leads)
 
 pub returns-clause-fails : goal.returns-clause-fails
 returns-clause-fails g c =
     subst (λ (x : PlantState). OnErr c.hand_over.result ((r : Rest) → Fails (armed_in x) (world_seen x c.args.config.now r c.args.journal.now.events) (pass_entries (ids_of c.args.config.now.volumes) c.args.a.0 c.args.b.0 c.args.t) (world_seen (g.P.Plant.state c.hand_over.new.plant) c.args.config.now r c.hand_over.new.journal.events) (refusal_of c.hand_over.result))) c.in_ok-read_told.ensures.passed
-    (subst (λ (l : Log). OnErr c.hand_over.result ((r : Rest) → Fails (armed_in (g.P.Plant.state c.read_told.new.plant)) (world_seen (g.P.Plant.state c.read_told.new.plant) c.args.config.now r l.events) (pass_entries (ids_of c.args.config.now.volumes) c.args.a.0 c.args.b.0 c.args.t) (world_seen (g.P.Plant.state c.hand_over.new.plant) c.args.config.now r c.hand_over.new.journal.events) (refusal_of c.hand_over.result))) c.in_ok-read_told.ensures.silent c.hand_over.ensures.fails)
+    (subst (λ (l : Log). OnErr c.hand_over.result ((r : Rest) → Fails (armed_in (g.P.Plant.state c.read_told.new.plant)) (world_seen (g.P.Plant.state c.read_told.new.plant) c.args.config.now r l.events) (pass_entries (ids_of c.args.config.now.volumes) c.args.a.0 c.args.b.0 c.args.t) (world_seen (g.P.Plant.state c.hand_over.new.plant) c.args.config.now r c.hand_over.new.journal.events) (refusal_of c.hand_over.result))) c.in_ok-read_told.ensures.silent c.hand_over.ensures.ran.fails)
 
 pub returns-clause-unarmed : goal.returns-clause-unarmed
 returns-clause-unarmed g c q none =
-    c.hand_over.ensures.unarmed q (ap (λ (x : PlantState). x.read_fuse q) c.in_ok-read_told.ensures.passed ∙ none)
+    c.hand_over.ensures.ran.stays.unarmed q (ap (λ (x : PlantState). x.read_fuse q) c.in_ok-read_told.ensures.passed ∙ none)
 
 pub returns-clause-others : goal.returns-clause-others
 returns-clause-others g c =
-    subst (λ (x : PlantState). (q : ℕ) → q ≢ c.args.a.0 → q ≢ c.args.b.0 → copies_from c.args.b.0 (volume_seen x c.args.config.now q).fields ≡ false → IsAsBefore x (g.P.Plant.state c.hand_over.new.plant) c.args.config.now q) c.in_ok-read_told.ensures.passed c.hand_over.ensures.others
+    subst (λ (x : PlantState). (q : ℕ) → q ≢ c.args.a.0 → q ≢ c.args.b.0 → copies_from c.args.b.0 (volume_seen x c.args.config.now q).fields ≡ false → IsAsBefore x (g.P.Plant.state c.hand_over.new.plant) c.args.config.now q) c.in_ok-read_told.ensures.passed
+    (λ q na nb other. c.hand_over.ensures.ran.stays.others q (na, (nb, other)))
+
+pub returns-clause-faults : goal.returns-clause-faults
+returns-clause-faults g c =
+    subst (λ (x : PlantState). Counted (is_err c.hand_over.result) x.faults (g.P.Plant.state c.hand_over.new.plant).faults) c.in_ok-read_told.ensures.passed
+    (counted-failed c.hand_over.result _ _ c.hand_over.ensures.stops c.hand_over.ensures.ran.stays.faults)

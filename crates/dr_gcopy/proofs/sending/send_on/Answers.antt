@@ -5,7 +5,8 @@ use Rattle.dr_moves.specs.Here.{world_seen, armed_in, refusal_of}
 use Rattle.dr_facts.proofs.Ends.{ends-skips}
 use Rattle.dr_moves.proofs.TurnLemmas.{ok-along, err-along}
 use Rattle.dr_gcopy.specs.Sending.{pass_entries}
-use Rattle.dr_gcopy.proofs.SendLemmas.{suspends-none, refuse-passes, refuse-ends, counted-stops}
+use Rattle.dr_gcopy.proofs.SendLemmas.{suspends-none, refuse-passes, refuse-ends}
+use Rattle.dr_gcopy.proofs.PairChecks.{counted-stops}
 use Rattle.dr_gcopy.proofs.sending.send_on.Goals as goal
 
 pub returns-in-Some-clause-fails : goal.returns-in-Some-clause-fails
@@ -34,7 +35,7 @@ returns-clause-fails g c =
 
 pub returns-clause-faults : goal.returns-clause-faults
 returns-clause-faults g c =
-    counted-stops c.pass_on.result _ _ c.pass_on.ensures.faults c.pass_on.ensures.stops
+    counted-stops c.pass_on.result _ _ c.pass_on.ensures.stops c.pass_on.ensures.faults
 
 pub returns-in-Some-clause-others : goal.returns-in-Some-clause-others
 returns-in-Some-clause-others g c q na nb other =

@@ -1,23 +1,9 @@
-use Rattle.std.proofs.Common.{refl, Some}
-use Rattle.dr_model.specs.PairEntries.{send_entries, suspend_after}
-use Rattle.dr_volume.specs.View.{ids_of}
+use Rattle.std.proofs.Common.{Some}
+use Rattle.dr_model.specs.PairEntries.{suspend_after}
 use Rattle.dr_moves.specs.Here.{world_seen, armed_in}
-use Rattle.dr_moves.proofs.EntryLemmas.{led, failed}
 use Rattle.dr_moves.proofs.KeptLemmas.{before-then, wider-armed}
 use Rattle.dr_gcopy.proofs.SendLemmas.{follows-wider}
 use Rattle.dr_gcopy.proofs.sending.send_to.Goals as goal
-
-pub returns-in-Ok-clause-carried : goal.returns-in-Ok-clause-carried
-returns-in-Ok-clause-carried g c r =
-    record { middle = (world_seen (g.P.Plant.state c.send_on.new.plant) c.args.config.now r c.send_on.new.journal.events); ends = led (armed_in (g.P.Plant.state c.args.plant.now)) (world_seen (g.P.Plant.state c.args.plant.now) c.args.config.now r c.args.journal.now.events) (world_seen (g.P.Plant.state c.send_on.new.plant) c.args.config.now r c.send_on.new.journal.events) (send_entries (ids_of c.args.config.now.volumes) c.args.a.0 c.args.b.0 c.args.t) (c.in-Ok.ensures.leads r); followed = refl }
-
-pub returns-in-Err-clause-carried : goal.returns-in-Err-clause-carried
-returns-in-Err-clause-carried g c r =
-    record {
-      middle = (world_seen (g.P.Plant.state c.send_on.new.plant) c.args.config.now r c.send_on.new.journal.events);
-      ends = failed (armed_in (g.P.Plant.state c.args.plant.now)) (world_seen (g.P.Plant.state c.args.plant.now) c.args.config.now r c.args.journal.now.events) (world_seen (g.P.Plant.state c.send_on.new.plant) c.args.config.now r c.send_on.new.journal.events) (Some c.in-Err.why) (send_entries (ids_of c.args.config.now.volumes) c.args.a.0 c.args.b.0 c.args.t) (c.in-Err.ensures.fails r);
-      followed = follows-wider (armed_in (g.P.Plant.state c.send_on.new.plant)) (armed_in (g.P.Plant.state c.args.plant.now)) (wider-armed (g.P.Plant.state c.args.plant.now) (g.P.Plant.state c.send_on.new.plant) c.in-Err.ensures.unarmed) (world_seen (g.P.Plant.state c.send_on.new.plant) c.args.config.now r c.send_on.new.journal.events) (Some c.in-Err.why) (suspend_after c.args.a.0) (world_seen (g.P.Plant.state c.follow_stop.new.plant) c.args.config.now r c.follow_stop.new.journal.events) (c.follow_stop.ensures.follows r);
-    }
 
 pub returns-in-Err-clause-fails : goal.returns-in-Err-clause-fails
 returns-in-Err-clause-fails g c r =

@@ -1,7 +1,7 @@
 use Rattle.std.proofs.Common.{arith, refl, ap, sym, ◌∙◌, ◌∷◌, None, Some, nat_eq}
-use Rattle.dr_model.specs.Layout.{Fields}
 use Rattle.dr_model.specs.Moves.{Seal}
 use Rattle.dr_model.specs.SessionEntries.{seal_refusal, seal_on}
+use Rattle.dr_volume.specs.declared.head.Head.{Head}
 use Rattle.dr_volume.specs.View.{volume_seen}
 use Rattle.dr_moves.specs.Here.{world_seen, armed_in, refusal_of}
 use Rattle.dr_moves.proofs.EntryLemmas.{counted-stop, only-stops, move-advances, move-halts, one-checked, skips}
@@ -18,14 +18,14 @@ returns-in-Some-clause-fails g c r ds =
     let b = c.args.m.now.b.0 in
     one-checked (world_seen s t r c.args.journal.now.events) (seal_refusal a b) (Some c.in-Some.why) (c.in-Some.ensures.refusal r c.args.journal.now.events ∙ sym (refusal-drained s t r c.args.journal.now.events a b c.requires.drained)) (armed_in s) (seal_on c.args.s.0 a b c.args.n ∷ ds)
 
-pub returns-then-peek_fields-n-clause-leads : goal.returns-then-peek_fields-n-clause-leads
-returns-then-peek_fields-n-clause-leads g c r armed u r' ds more =
+pub returns-then-peek_head-n-clause-leads : goal.returns-then-peek_head-n-clause-leads
+returns-then-peek_head-n-clause-leads g c r armed u r' ds more =
     let s = g.P.Plant.state c.args.plant.now in
     let t = c.args.config.now in
     let a = c.args.m.now.a.0 in
     let b = c.args.m.now.b.0 in
     one-checked (world_seen s t r c.args.journal.now.events) (seal_refusal a b) None (c.in_default.ensures.refusal r c.args.journal.now.events ∙ sym (refusal-drained s t r c.args.journal.now.events a b c.requires.drained)) armed u r' (seal_on c.args.s.0 a b c.args.n ∷ ds)
-    (skips (world_seen s t r c.args.journal.now.events) (seal_on c.args.s.0 a b c.args.n) (seal-skips s t r c.args.journal.now.events a b c.args.s.0 c.args.n c.requires.drained (ap (λ (f : Fields). nat_eq f.seal c.args.n) (sym c.peek_fields.ensures.fields) ∙ same-test c.peek_fields.result.seal c.args.n c.if-peek_fields-n.true)) armed u r' ds more)
+    (skips (world_seen s t r c.args.journal.now.events) (seal_on c.args.s.0 a b c.args.n) (seal-skips s t r c.args.journal.now.events a b c.args.s.0 c.args.n c.requires.drained (ap (λ (f : Head). nat_eq f.seal c.args.n) (sym c.peek_head.ensures) ∙ same-test c.peek_head.result.seal c.args.n c.if-peek_head-n.true)) armed u r' ds more)
 
 pub returns-clause-leads : goal.returns-clause-leads
 returns-clause-leads g c =
@@ -36,7 +36,7 @@ returns-clause-leads g c =
     ok-along c.make_move.result c.make_move.ensures.entered.done (λ done r armed u r' ds more.
     one-checked (world_seen s t r c.args.journal.now.events) (seal_refusal a b) None (c.in_default.ensures.refusal r c.args.journal.now.events ∙ sym (refusal-drained s t r c.args.journal.now.events a b c.requires.drained)) armed u r' (seal_on c.args.s.0 a b c.args.n ∷ ds)
     (move-advances (world_seen s t r c.args.journal.now.events) (world_seen (g.P.Plant.state c.make_move.new.plant) t r c.make_move.new.journal.events) (seal_on c.args.s.0 a b c.args.n) (Seal b a c.args.s.0 c.args.n)
-    (seal-comes s t r c.args.journal.now.events a b c.args.s.0 c.args.n c.requires.drained (ap (λ (f : Fields). nat_eq f.seal c.args.n) (sym c.peek_fields.ensures.fields) ∙ differ-test c.peek_fields.result.seal c.args.n c.if-peek_fields-n.false)) (done r) armed u r' ds more))
+    (seal-comes s t r c.args.journal.now.events a b c.args.s.0 c.args.n c.requires.drained (ap (λ (f : Head). nat_eq f.seal c.args.n) (sym c.peek_head.ensures) ∙ differ-test c.peek_head.result.seal c.args.n c.if-peek_head-n.false)) (done r) armed u r' ds more))
 
 pub returns-clause-fails : goal.returns-clause-fails
 returns-clause-fails g c =
@@ -48,7 +48,7 @@ returns-clause-fails g c =
     one-checked (world_seen s t r c.args.journal.now.events) (seal_refusal a b) None (c.in_default.ensures.refusal r c.args.journal.now.events ∙ sym (refusal-drained s t r c.args.journal.now.events a b c.requires.drained)) (armed_in s)
     (world_seen (g.P.Plant.state c.make_move.new.plant) t r c.make_move.new.journal.events) (refusal_of c.make_move.result) (seal_on c.args.s.0 a b c.args.n ∷ ds)
     (move-halts (armed_in s) (world_seen s t r c.args.journal.now.events) (world_seen (g.P.Plant.state c.make_move.new.plant) t r c.make_move.new.journal.events) (refusal_of c.make_move.result) (seal_on c.args.s.0 a b c.args.n) (Seal b a c.args.s.0 c.args.n) (volume_seen s t b).server
-    (seal-comes s t r c.args.journal.now.events a b c.args.s.0 c.args.n c.requires.drained (ap (λ (f : Fields). nat_eq f.seal c.args.n) (sym c.peek_fields.ensures.fields) ∙ differ-test c.peek_fields.result.seal c.args.n c.if-peek_fields-n.false)) refused (failed r) ds))
+    (seal-comes s t r c.args.journal.now.events a b c.args.s.0 c.args.n c.requires.drained (ap (λ (f : Head). nat_eq f.seal c.args.n) (sym c.peek_head.ensures) ∙ differ-test c.peek_head.result.seal c.args.n c.if-peek_head-n.false)) refused (failed r) ds))
 
 pub returns-clause-unchanged : goal.returns-clause-unchanged
 returns-clause-unchanged g c calm =

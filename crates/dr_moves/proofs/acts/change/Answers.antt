@@ -9,6 +9,7 @@ use Rattle.dr_model.specs.Moves.{told, told_in_stop, fields_left}
 use Rattle.dr_volume.specs.Plain.{plain}
 use Rattle.dr_volume.specs.Update.{IsAsBefore, IsMoved}
 use Rattle.dr_volume.specs.View.{volume_seen}
+use Rattle.dr_volume.proofs.OpenedLaws.{slot-opened}
 use Rattle.dr_moves.specs.Aside.{KeepsAside}
 use Rattle.dr_moves.specs.Here.{world_seen}
 use Rattle.dr_moves.specs.Told.{events_of}
@@ -34,9 +35,9 @@ change-requires-clause-lawful g c =
     let t = c.args.config.now in
     let m = move_of c.args.m.now in
     let x = volume_seen s t c.args.v.0 in
-    let shows : plain c.fields.result.now ≡ x.fields = ap plain c.fields.ensures ∙ c.requires.opened.shows.fields in
+    let shows : plain c.fields-fields.result.now ≡ x.fields = ap plain c.fields-fields.ensures ∙ c.requires.opened.shows.fields in
     let size = c.tracks_of-size.ensures.seen s in
-    let next : plain c.next_fields-next.result ≡ fields_left m x = c.next_fields-next.ensures ∙ next-row m x c.tracks_of-size.result (plain c.fields.result.now) size shows in
+    let next : plain c.next_fields-next.result ≡ fields_left m x = c.next_fields-next.ensures ∙ next-row m x c.tracks_of-size.result (plain c.fields-fields.result.now) size shows in
     (fits-by s t c.requires.at.fit m c.args.v.0 (plain c.next_fields-next.result) c.args.track (histories c.args.journal.now.events).write c.requires.target next c.requires.carries (subst (IsLawful x.tracks) c.requires.opened.shows.fields c.requires.opened.shows.lawful) c.requires.asks).lawful
 
 pub change-requires-clause-covers : goal.change-requires-clause-covers
@@ -45,9 +46,9 @@ change-requires-clause-covers g c =
     let t = c.args.config.now in
     let m = move_of c.args.m.now in
     let x = volume_seen s t c.args.v.0 in
-    let shows : plain c.fields.result.now ≡ x.fields = ap plain c.fields.ensures ∙ c.requires.opened.shows.fields in
+    let shows : plain c.fields-fields.result.now ≡ x.fields = ap plain c.fields-fields.ensures ∙ c.requires.opened.shows.fields in
     let size = c.tracks_of-size.ensures.seen s in
-    let next : plain c.next_fields-next.result ≡ fields_left m x = c.next_fields-next.ensures ∙ next-row m x c.tracks_of-size.result (plain c.fields.result.now) size shows in
+    let next : plain c.next_fields-next.result ≡ fields_left m x = c.next_fields-next.ensures ∙ next-row m x c.tracks_of-size.result (plain c.fields-fields.result.now) size shows in
     (fits-by s t c.requires.at.fit m c.args.v.0 (plain c.next_fields-next.result) c.args.track (histories c.args.journal.now.events).write c.requires.target next c.requires.carries (subst (IsLawful x.tracks) c.requires.opened.shows.fields c.requires.opened.shows.lawful) c.requires.asks).covers
 
 pub tell-requires : goal.tell-requires
@@ -56,10 +57,10 @@ tell-requires g c =
     let t = c.args.config.now in
     let m = move_of c.args.m.now in
     let x = volume_seen s t c.args.v.0 in
-    let shows : plain c.fields.result.now ≡ x.fields = ap plain c.fields.ensures ∙ c.requires.opened.shows.fields in
+    let shows : plain c.fields-fields.result.now ≡ x.fields = ap plain c.fields-fields.ensures ∙ c.requires.opened.shows.fields in
     let size = c.tracks_of-size.ensures.seen s in
-    let next : plain c.next_fields-next.result ≡ fields_left m x = c.next_fields-next.ensures ∙ next-row m x c.tracks_of-size.result (plain c.fields.result.now) size shows in
-    let is : events_of c.telling-told.result.done ≡ told m x = c.telling-told.ensures.done ∙ told-row m x c.tracks_of-size.result (plain c.fields.result.now) size shows in
+    let next : plain c.next_fields-next.result ≡ fields_left m x = c.next_fields-next.ensures ∙ next-row m x c.tracks_of-size.result (plain c.fields-fields.result.now) size shows in
+    let is : events_of c.telling-told.result.done ≡ told m x = c.telling-told.ensures.done ∙ told-row m x c.tracks_of-size.result (plain c.fields-fields.result.now) size shows in
     let room = max-left (length (told m x)) (length (told_in_stop m x) + 1) c.args.journal.now.spare c.requires.room in
     subst (λ es. length es ≤ c.args.journal.now.spare) (sym is) room
 
@@ -69,10 +70,10 @@ tell_stop-requires g c =
     let t = c.args.config.now in
     let m = move_of c.args.m.now in
     let x = volume_seen s t c.args.v.0 in
-    let shows : plain c.fields.result.now ≡ x.fields = ap plain c.fields.ensures ∙ c.requires.opened.shows.fields in
+    let shows : plain c.fields-fields.result.now ≡ x.fields = ap plain c.fields-fields.ensures ∙ c.requires.opened.shows.fields in
     let size = c.tracks_of-size.ensures.seen s in
-    let next : plain c.next_fields-next.result ≡ fields_left m x = c.next_fields-next.ensures ∙ next-row m x c.tracks_of-size.result (plain c.fields.result.now) size shows in
-    let is : events_of c.telling-told.result.in_stop ≡ told_in_stop m x = c.telling-told.ensures.in_stop ∙ stop-row m x c.tracks_of-size.result (plain c.fields.result.now) size shows in
+    let next : plain c.next_fields-next.result ≡ fields_left m x = c.next_fields-next.ensures ∙ next-row m x c.tracks_of-size.result (plain c.fields-fields.result.now) size shows in
+    let is : events_of c.telling-told.result.in_stop ≡ told_in_stop m x = c.telling-told.ensures.in_stop ∙ stop-row m x c.tracks_of-size.result (plain c.fields-fields.result.now) size shows in
     let room = max-right (length (told m x)) (length (told_in_stop m x) + 1) c.args.journal.now.spare c.requires.room in
     subst (λ es. length es + 1 ≤ c.args.journal.now.spare) (sym is) room
 
@@ -82,10 +83,10 @@ returns-in-Ok-clause-room_left g c =
     let t = c.args.config.now in
     let m = move_of c.args.m.now in
     let x = volume_seen s t c.args.v.0 in
-    let shows : plain c.fields.result.now ≡ x.fields = ap plain c.fields.ensures ∙ c.requires.opened.shows.fields in
+    let shows : plain c.fields-fields.result.now ≡ x.fields = ap plain c.fields-fields.ensures ∙ c.requires.opened.shows.fields in
     let size = c.tracks_of-size.ensures.seen s in
-    let next : plain c.next_fields-next.result ≡ fields_left m x = c.next_fields-next.ensures ∙ next-row m x c.tracks_of-size.result (plain c.fields.result.now) size shows in
-    let is : events_of c.telling-told.result.done ≡ told m x = c.telling-told.ensures.done ∙ told-row m x c.tracks_of-size.result (plain c.fields.result.now) size shows in
+    let next : plain c.next_fields-next.result ≡ fields_left m x = c.next_fields-next.ensures ∙ next-row m x c.tracks_of-size.result (plain c.fields-fields.result.now) size shows in
+    let is : events_of c.telling-told.result.done ≡ told m x = c.telling-told.ensures.done ∙ told-row m x c.tracks_of-size.result (plain c.fields-fields.result.now) size shows in
     subst (λ es. c.args.journal.now.spare ≡ c.tell.new.journal.spare + length es) is c.tell.ensures.spare
 
 pub returns-in-Ok-clause-made : goal.returns-in-Ok-clause-made
@@ -94,10 +95,10 @@ returns-in-Ok-clause-made g c =
     let t = c.args.config.now in
     let m = move_of c.args.m.now in
     let x = volume_seen s t c.args.v.0 in
-    let shows : plain c.fields.result.now ≡ x.fields = ap plain c.fields.ensures ∙ c.requires.opened.shows.fields in
+    let shows : plain c.fields-fields.result.now ≡ x.fields = ap plain c.fields-fields.ensures ∙ c.requires.opened.shows.fields in
     let size = c.tracks_of-size.ensures.seen s in
-    let next : plain c.next_fields-next.result ≡ fields_left m x = c.next_fields-next.ensures ∙ next-row m x c.tracks_of-size.result (plain c.fields.result.now) size shows in
-    let is : events_of c.telling-told.result.done ≡ told m x = c.telling-told.ensures.done ∙ told-row m x c.tracks_of-size.result (plain c.fields.result.now) size shows in
+    let next : plain c.next_fields-next.result ≡ fields_left m x = c.next_fields-next.ensures ∙ next-row m x c.tracks_of-size.result (plain c.fields-fields.result.now) size shows in
+    let is : events_of c.telling-told.result.done ≡ told m x = c.telling-told.ensures.done ∙ told-row m x c.tracks_of-size.result (plain c.fields-fields.result.now) size shows in
     record {
       turned = λ r.
           turn-done s (g.P.Plant.state c.change.new.plant) t m c.args.v.0 (plain c.next_fields-next.result) c.args.track c.args.journal.now.events c.tell.new.journal.events c.requires.target c.requires.running next c.requires.carries r
@@ -114,10 +115,10 @@ returns-in-Ok-clause-kept g c =
     let t = c.args.config.now in
     let m = move_of c.args.m.now in
     let x = volume_seen s t c.args.v.0 in
-    let shows : plain c.fields.result.now ≡ x.fields = ap plain c.fields.ensures ∙ c.requires.opened.shows.fields in
+    let shows : plain c.fields-fields.result.now ≡ x.fields = ap plain c.fields-fields.ensures ∙ c.requires.opened.shows.fields in
     let size = c.tracks_of-size.ensures.seen s in
-    let next : plain c.next_fields-next.result ≡ fields_left m x = c.next_fields-next.ensures ∙ next-row m x c.tracks_of-size.result (plain c.fields.result.now) size shows in
-    let is : events_of c.telling-told.result.done ≡ told m x = c.telling-told.ensures.done ∙ told-row m x c.tracks_of-size.result (plain c.fields.result.now) size shows in
+    let next : plain c.next_fields-next.result ≡ fields_left m x = c.next_fields-next.ensures ∙ next-row m x c.tracks_of-size.result (plain c.fields-fields.result.now) size shows in
+    let is : events_of c.telling-told.result.done ≡ told m x = c.telling-told.ensures.done ∙ told-row m x c.tracks_of-size.result (plain c.fields-fields.result.now) size shows in
     let leaves = (fits-by s t c.requires.at.fit m c.args.v.0 (plain c.next_fields-next.result) c.args.track (histories c.args.journal.now.events).write c.requires.target next c.requires.carries (subst (IsLawful x.tracks) c.requires.opened.shows.fields c.requires.opened.shows.lawful) c.requires.asks).leaves in
     let u = g.P.Plant.state c.change.new.plant in
     record {
@@ -141,10 +142,10 @@ returns-in-Err-clause-kept g c =
     let t = c.args.config.now in
     let m = move_of c.args.m.now in
     let x = volume_seen s t c.args.v.0 in
-    let shows : plain c.fields.result.now ≡ x.fields = ap plain c.fields.ensures ∙ c.requires.opened.shows.fields in
+    let shows : plain c.fields-fields.result.now ≡ x.fields = ap plain c.fields-fields.ensures ∙ c.requires.opened.shows.fields in
     let size = c.tracks_of-size.ensures.seen s in
-    let next : plain c.next_fields-next.result ≡ fields_left m x = c.next_fields-next.ensures ∙ next-row m x c.tracks_of-size.result (plain c.fields.result.now) size shows in
-    let is : events_of c.telling-told.result.in_stop ≡ told_in_stop m x = c.telling-told.ensures.in_stop ∙ stop-row m x c.tracks_of-size.result (plain c.fields.result.now) size shows in
+    let next : plain c.next_fields-next.result ≡ fields_left m x = c.next_fields-next.ensures ∙ next-row m x c.tracks_of-size.result (plain c.fields-fields.result.now) size shows in
+    let is : events_of c.telling-told.result.in_stop ≡ told_in_stop m x = c.telling-told.ensures.in_stop ∙ stop-row m x c.tracks_of-size.result (plain c.fields-fields.result.now) size shows in
     let leaves = (fits-by s t c.requires.at.fit m c.args.v.0 (plain c.next_fields-next.result) c.args.track (histories c.args.journal.now.events).write c.requires.target next c.requires.carries (subst (IsLawful x.tracks) c.requires.opened.shows.fields c.requires.opened.shows.lawful) c.requires.asks).leaves in
     let u = g.P.Plant.state c.change.new.plant in
     record {
@@ -165,20 +166,20 @@ returns-in-Err-clause-made g c =
     let t = c.args.config.now in
     let m = move_of c.args.m.now in
     let x = volume_seen s t c.args.v.0 in
-    let shows : plain c.fields.result.now ≡ x.fields = ap plain c.fields.ensures ∙ c.requires.opened.shows.fields in
+    let shows : plain c.fields-fields.result.now ≡ x.fields = ap plain c.fields-fields.ensures ∙ c.requires.opened.shows.fields in
     let size = c.tracks_of-size.ensures.seen s in
-    let next : plain c.next_fields-next.result ≡ fields_left m x = c.next_fields-next.ensures ∙ next-row m x c.tracks_of-size.result (plain c.fields.result.now) size shows in
-    let is : events_of c.telling-told.result.in_stop ≡ told_in_stop m x = c.telling-told.ensures.in_stop ∙ stop-row m x c.tracks_of-size.result (plain c.fields.result.now) size shows in
+    let next : plain c.next_fields-next.result ≡ fields_left m x = c.next_fields-next.ensures ∙ next-row m x c.tracks_of-size.result (plain c.fields-fields.result.now) size shows in
+    let is : events_of c.telling-told.result.in_stop ≡ told_in_stop m x = c.telling-told.ensures.in_stop ∙ stop-row m x c.tracks_of-size.result (plain c.fields-fields.result.now) size shows in
     let u = g.P.Plant.state c.change.new.plant in
     let counts = not (beq c.slot.result c.slot-before.result) in
     let server = c.server_of-server.ensures.seen s in
     record {
       turned = λ r. inr
           (turn-stopped s u t m c.args.v.0 (plain c.next_fields-next.result) c.args.track c.args.journal.now.events c.tell_stop.new.journal.events c.requires.target c.requires.running next c.requires.carries r
-          c.slot-before.result c.slot.result (c.in-Err.ensures.exact (record r { events = c.args.journal.now.events })) c.slot-before.ensures c.slot.ensures
+          c.slot-before.result c.slot.result (c.in-Err.ensures.exact (record r { events = c.args.journal.now.events })) (c.slot-before.ensures ∙ slot-opened s t c.args.v.0 c.args.opened.now c.requires.defined c.requires.opened) c.slot.ensures
           (c.tell_stop.ensures.events ∙ (λ i. c.args.journal.now.events ++ (if counts then is i ++ Stopped (sym server i) (c.telling-told.ensures.landed i) ∷ [] else Stopped (sym server i) 0 ∷ [])))
           ∙ ap (λ n. (world_seen u t (after_stop m counts r) c.tell_stop.new.journal.events, Some n)) server);
-      came = came-by s u t c.args.v.0 (fields_left m x) c.args.track c.slot-before.result c.slot.result c.slot-before.ensures c.slot.ensures
+      came = came-by s u t c.args.v.0 (fields_left m x) c.args.track c.slot-before.result c.slot.result (c.slot-before.ensures ∙ slot-opened s t c.args.v.0 c.args.opened.now c.requires.defined c.requires.opened) c.slot.ensures
           (subst (λ f. IsAsBefore s u t c.args.v.0 ⊎ IsMoved s u t c.args.v.0 f c.args.track) next c.change.ensures.old_or_new);
       others = c.change.ensures.others;
       server = sym server;

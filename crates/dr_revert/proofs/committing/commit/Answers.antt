@@ -1,11 +1,9 @@
-use Rattle.std.proofs.Common.{ℕ, ◌≡◌, true, false, refl, ap, sym, subst, ◌∙◌, [], ◌∷◌, None, Some}
+use Rattle.std.proofs.Common.{ℕ, ◌≡◌, true, false, refl, ap, sym, subst, ◌∙◌, [], ◌∷◌, None, Some, ◌&&◌, not, nat_eq}
 use Rattle.std.specs.Prelude.{if◌then◌else◌, IfSome}
 use Rattle.std.proofs.lemmas.Bool.{and_parts}
-use Rattle.dr_model.specs.Layout.{Fields}
-use Rattle.dr_model.specs.Lawful.{IsLawful}
 use Rattle.dr_model.specs.PairEntries.{refuse_if, send_refusal}
 use Rattle.dr_model.specs.SessionEntries.{is_committed, commit_refusal, commit_on, commit_entries}
-use Rattle.dr_volume.specs.Plain.{plain}
+use Rattle.dr_volume.specs.declared.head.Head.{Head}
 use Rattle.dr_volume.specs.Update.{IsMoved}
 use Rattle.dr_volume.specs.View.{volume_seen}
 use Rattle.dr_moves.specs.Here.{world_seen, armed_in, refusal_of}
@@ -17,7 +15,7 @@ use Rattle.dr_revert.specs.declared.fates.Fate.{Fate}
 use Rattle.dr_revert.specs.declared.fates.Fate.TheVariants as fate
 use Rattle.dr_revert.specs.Fates.{may_become, fields_after}
 use Rattle.dr_revert.proofs.EntryLemmas.{check-refuses, check-leads, check-fails, alone-leads, alone-fails, unless-some, some-unless, none-unless, commit-next, or-left}
-use Rattle.dr_revert.proofs.ViewLaws.{commit-keeps, revertible-related, same-view}
+use Rattle.dr_revert.proofs.ViewLaws.{commit-keeps, revertible-seen, same-view}
 use Rattle.dr_revert.proofs.committing.commit.Goals as goal
 
 pub returns-in-Some-clause-fails : goal.returns-in-Some-clause-fails
@@ -46,7 +44,7 @@ returns-clause-leads g c =
     ok-along c.turn_target.result c.turn_target.ensures.advances (λ goes r.
     check-leads (world_seen s t r c.args.journal.now.events) (send_refusal c.args.m.now.a.0 c.args.m.now.b.0) (refuse_if (commit_refusal c.args.m.now.c.0 c.args.n) ∷ (commit_on c.args.s.0 c.args.m.now.a.0 c.args.m.now.c.0 c.args.n) ∷ []) (c.in_default.ensures.refusal r c.args.journal.now.events) (world_seen (g.P.Plant.state c.turn_target.new.plant) t r c.turn_target.new.journal.events)
     (check-leads (world_seen s t r c.args.journal.now.events) (commit_refusal c.args.m.now.c.0 c.args.n) ((commit_on c.args.s.0 c.args.m.now.a.0 c.args.m.now.c.0 c.args.n) ∷ []) (c.in_default-commit_refusal.ensures.refusal r c.args.journal.now.events) (world_seen (g.P.Plant.state c.turn_target.new.plant) t r c.turn_target.new.journal.events)
-    (alone-leads (world_seen s t r c.args.journal.now.events) (world_seen (g.P.Plant.state c.turn_target.new.plant) t r c.turn_target.new.journal.events) (commit_on c.args.s.0 c.args.m.now.a.0 c.args.m.now.c.0 c.args.n) (goes r (commit_on c.args.s.0 c.args.m.now.a.0 c.args.m.now.c.0 c.args.n) (commit-next s t r c.args.journal.now.events c.args.m.now c.args.s c.args.n c.commit_fate-fate.result (plain c.peek_fields.result) c.peek_fields.ensures.fields c.commit_fate-fate.ensures)))))
+    (alone-leads (world_seen s t r c.args.journal.now.events) (world_seen (g.P.Plant.state c.turn_target.new.plant) t r c.turn_target.new.journal.events) (commit_on c.args.s.0 c.args.m.now.a.0 c.args.m.now.c.0 c.args.n) (goes r (commit_on c.args.s.0 c.args.m.now.a.0 c.args.m.now.c.0 c.args.n) (commit-next s t r c.args.journal.now.events c.args.m.now c.args.s c.args.n c.commit_fate-fate.result (volume_seen s t c.args.m.now.c.0).fields refl (c.commit_fate-fate.ensures ∙ ap (λ (h : Head). if h.member && (nat_eq h.sequence c.args.n && not h.revertible) then None else Some (fate.Commit c.args.m.now.a c.args.s c.args.n)) c.peek_head-head.ensures))))))
 
 pub returns-clause-fails : goal.returns-clause-fails
 returns-clause-fails g c =
@@ -55,7 +53,7 @@ returns-clause-fails g c =
     err-along c.turn_target.result c.turn_target.ensures.halts c.turn_target.ensures.halts (λ ends _ r.
     check-fails (world_seen s t r c.args.journal.now.events) (send_refusal c.args.m.now.a.0 c.args.m.now.b.0) (refuse_if (commit_refusal c.args.m.now.c.0 c.args.n) ∷ (commit_on c.args.s.0 c.args.m.now.a.0 c.args.m.now.c.0 c.args.n) ∷ []) (c.in_default.ensures.refusal r c.args.journal.now.events) (armed_in s) (world_seen (g.P.Plant.state c.turn_target.new.plant) t r c.turn_target.new.journal.events) (refusal_of c.turn_target.result)
     (check-fails (world_seen s t r c.args.journal.now.events) (commit_refusal c.args.m.now.c.0 c.args.n) ((commit_on c.args.s.0 c.args.m.now.a.0 c.args.m.now.c.0 c.args.n) ∷ []) (c.in_default-commit_refusal.ensures.refusal r c.args.journal.now.events) (armed_in s) (world_seen (g.P.Plant.state c.turn_target.new.plant) t r c.turn_target.new.journal.events) (refusal_of c.turn_target.result)
-    (alone-fails (armed_in s) (world_seen s t r c.args.journal.now.events) (world_seen (g.P.Plant.state c.turn_target.new.plant) t r c.turn_target.new.journal.events) (refusal_of c.turn_target.result) (commit_on c.args.s.0 c.args.m.now.a.0 c.args.m.now.c.0 c.args.n) (ends r (commit_on c.args.s.0 c.args.m.now.a.0 c.args.m.now.c.0 c.args.n) (commit-next s t r c.args.journal.now.events c.args.m.now c.args.s c.args.n c.commit_fate-fate.result (plain c.peek_fields.result) c.peek_fields.ensures.fields c.commit_fate-fate.ensures)))))
+    (alone-fails (armed_in s) (world_seen s t r c.args.journal.now.events) (world_seen (g.P.Plant.state c.turn_target.new.plant) t r c.turn_target.new.journal.events) (refusal_of c.turn_target.result) (commit_on c.args.s.0 c.args.m.now.a.0 c.args.m.now.c.0 c.args.n) (ends r (commit_on c.args.s.0 c.args.m.now.a.0 c.args.m.now.c.0 c.args.n) (commit-next s t r c.args.journal.now.events c.args.m.now c.args.s c.args.n c.commit_fate-fate.result (volume_seen s t c.args.m.now.c.0).fields refl (c.commit_fate-fate.ensures ∙ ap (λ (h : Head). if h.member && (nat_eq h.sequence c.args.n && not h.revertible) then None else Some (fate.Commit c.args.m.now.a c.args.s c.args.n)) c.peek_head-head.ensures))))))
 
 pub returns-clause-carried : goal.returns-clause-carried
 returns-clause-carried g c =
@@ -84,7 +82,7 @@ returns-clause-moved g c =
     let f = (volume_seen s t v).fields in
     ok-along c.turn_target.result c.turn_target.ensures.moved (λ moved off.
     unless-some (λ (y : Fate). IsMoved s u t v (fields_after y f) None) (is_committed c.args.n f) (fate.Commit c.args.m.now.a c.args.s c.args.n) off
-    (subst (λ o. IfSome o (λ (y : Fate). IsMoved s u t v (fields_after y f) None)) (c.commit_fate-fate.ensures ∙ ap (λ (f : Fields). if is_committed c.args.n f then None else Some (fate.Commit c.args.m.now.a c.args.s c.args.n)) c.peek_fields.ensures.fields) moved))
+    (subst (λ o. IfSome o (λ (y : Fate). IsMoved s u t v (fields_after y f) None)) (c.commit_fate-fate.ensures ∙ ap (λ (h : Head). if h.member && (nat_eq h.sequence c.args.n && not h.revertible) then None else Some (fate.Commit c.args.m.now.a c.args.s c.args.n)) c.peek_head-head.ensures) moved))
 
 pub returns-clause-keeps_view : goal.returns-clause-keeps_view
 returns-clause-keeps_view g c =
@@ -94,13 +92,12 @@ returns-clause-keeps_view g c =
     let v = c.args.m.now.c.0 in
     let f = (volume_seen s t v).fields in
     ok-along c.turn_target.result c.turn_target.ensures.moved (λ moved. elim (is_committed c.args.n f) as (λ b. is_committed c.args.n f ≡ b → (k : ℕ) → view_seen u t v k ≡ view_seen s t v k) [
-      | true ↦ λ is. same-view s u t v (c.turn_target.ensures.same (c.commit_fate-fate.ensures ∙ ap (λ (f : Fields). if is_committed c.args.n f then None else Some (fate.Commit c.args.m.now.a c.args.s c.args.n)) c.peek_fields.ensures.fields ∙ none-unless (is_committed c.args.n f) (fate.Commit c.args.m.now.a c.args.s c.args.n) is))
+      | true ↦ λ is. same-view s u t v (c.turn_target.ensures.same (c.commit_fate-fate.ensures ∙ ap (λ (h : Head). if h.member && (nat_eq h.sequence c.args.n && not h.revertible) then None else Some (fate.Commit c.args.m.now.a c.args.s c.args.n)) c.peek_head-head.ensures ∙ none-unless (is_committed c.args.n f) (fate.Commit c.args.m.now.a c.args.s c.args.n) is))
       | false ↦ λ off.
           let revertible = (and_parts f.revertible _ (or-left (is_committed c.args.n f) _ c.in_default-commit_refusal.ensures.may off)).0 in
-          let lawful = subst (λ (f : Fields). IsLawful (volume_seen s t v).tracks f) c.peek_fields.ensures.fields c.peek_fields.ensures.lawful in
-          commit-keeps s u t v c.requires.fit (revertible-related (volume_seen s t v).tracks f lawful revertible) c.turn_target.ensures.others c.args.n
+          commit-keeps s u t v c.requires.fit (revertible-seen s t v revertible) c.turn_target.ensures.others c.args.n
           (unless-some (λ (y : Fate). IsMoved s u t v (fields_after y f) None) (is_committed c.args.n f) (fate.Commit c.args.m.now.a c.args.s c.args.n) off
-          (subst (λ o. IfSome o (λ (y : Fate). IsMoved s u t v (fields_after y f) None)) (c.commit_fate-fate.ensures ∙ ap (λ (f : Fields). if is_committed c.args.n f then None else Some (fate.Commit c.args.m.now.a c.args.s c.args.n)) c.peek_fields.ensures.fields) moved))
+          (subst (λ o. IfSome o (λ (y : Fate). IsMoved s u t v (fields_after y f) None)) (c.commit_fate-fate.ensures ∙ ap (λ (h : Head). if h.member && (nat_eq h.sequence c.args.n && not h.revertible) then None else Some (fate.Commit c.args.m.now.a c.args.s c.args.n)) c.peek_head-head.ensures) moved))
     ] refl)
 
 pub turn_target-requires-clause-may : goal.turn_target-requires-clause-may
@@ -108,5 +105,5 @@ turn_target-requires-clause-may g c =
     let s = g.P.Plant.state c.args.plant.now in
     let t = c.args.config.now in
     let f = (volume_seen s t c.args.m.now.c.0).fields in
-    subst (λ o. IfSome o (λ (y : Fate). may_become y f ≡ true)) (sym (c.commit_fate-fate.ensures ∙ ap (λ (f : Fields). if is_committed c.args.n f then None else Some (fate.Commit c.args.m.now.a c.args.s c.args.n)) c.peek_fields.ensures.fields))
+    subst (λ o. IfSome o (λ (y : Fate). may_become y f ≡ true)) (sym (c.commit_fate-fate.ensures ∙ ap (λ (h : Head). if h.member && (nat_eq h.sequence c.args.n && not h.revertible) then None else Some (fate.Commit c.args.m.now.a c.args.s c.args.n)) c.peek_head-head.ensures))
     (some-unless (λ (y : Fate). may_become y f ≡ true) (is_committed c.args.n f) (fate.Commit c.args.m.now.a c.args.s c.args.n) (λ off. (and_parts f.revertible _ (or-left (is_committed c.args.n f) _ c.in_default-commit_refusal.ensures.may off)).0))

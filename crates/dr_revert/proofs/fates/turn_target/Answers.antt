@@ -1,4 +1,4 @@
-use Rattle.std.proofs.Common.{◌≡◌, ◌+◌, true, arith, ap, sym, subst, ◌∙◌, None}
+use Rattle.std.proofs.Common.{◌≡◌, true, arith, ap, sym, subst, ◌∙◌, None}
 use Rattle.std.specs.Prelude.{IfSome}
 use Rattle.dr_model.specs.Carry.{now}
 use Rattle.dr_model.specs.Histories.{histories}

@@ -1,11 +1,10 @@
-use Rattle.std.proofs.Common.{ap, subst, ◌∙◌, [], ◌∷◌, None, Some}
+use Rattle.std.proofs.Common.{ap, subst, ◌∙◌, [], ◌∷◌, None, Some, ◌&&◌, nat_eq, refl}
 use Rattle.std.specs.Prelude.{if◌then◌else◌, IfSome}
 use Rattle.std.proofs.lemmas.Bool.{and_parts}
-use Rattle.dr_model.specs.Layout.{Fields}
 use Rattle.dr_model.specs.Entries.{copies_from}
 use Rattle.dr_model.specs.PairEntries.{refuse_if, send_refusal}
 use Rattle.dr_model.specs.SessionEntries.{is_flashed, flash_refusal, flash_on, flash_entries}
-use Rattle.dr_volume.specs.Plain.{plain}
+use Rattle.dr_volume.specs.declared.head.Head.{Head}
 use Rattle.dr_volume.specs.Update.{IsMoved}
 use Rattle.dr_volume.specs.View.{volume_seen}
 use Rattle.dr_moves.specs.Here.{world_seen, armed_in, refusal_of}
@@ -45,7 +44,7 @@ returns-clause-leads g c =
     ok-along c.turn_target.result c.turn_target.ensures.advances (λ goes r.
     check-leads (world_seen s t r c.args.journal.now.events) (send_refusal c.args.m.now.a.0 c.args.m.now.b.0) (refuse_if (flash_refusal c.args.m.now.b.0 c.args.m.now.c.0 c.args.n) ∷ (flash_on c.args.s.0 c.args.m.now.a.0 c.args.m.now.b.0 c.args.m.now.c.0 c.args.n) ∷ []) (c.in_default.ensures.refusal r c.args.journal.now.events) (world_seen (g.P.Plant.state c.turn_target.new.plant) t r c.turn_target.new.journal.events)
     (check-leads (world_seen s t r c.args.journal.now.events) (flash_refusal c.args.m.now.b.0 c.args.m.now.c.0 c.args.n) ((flash_on c.args.s.0 c.args.m.now.a.0 c.args.m.now.b.0 c.args.m.now.c.0 c.args.n) ∷ []) (c.in_default-flash_refusal.ensures.refusal r c.args.journal.now.events) (world_seen (g.P.Plant.state c.turn_target.new.plant) t r c.turn_target.new.journal.events)
-    (alone-leads (world_seen s t r c.args.journal.now.events) (world_seen (g.P.Plant.state c.turn_target.new.plant) t r c.turn_target.new.journal.events) (flash_on c.args.s.0 c.args.m.now.a.0 c.args.m.now.b.0 c.args.m.now.c.0 c.args.n) (goes r (flash_on c.args.s.0 c.args.m.now.a.0 c.args.m.now.b.0 c.args.m.now.c.0 c.args.n) (flash-next s t r c.args.journal.now.events c.args.m.now c.args.s c.args.n c.flash_fate-fate.result (plain c.peek_fields.result) c.peek_fields.ensures.fields c.flash_fate-fate.ensures)))))
+    (alone-leads (world_seen s t r c.args.journal.now.events) (world_seen (g.P.Plant.state c.turn_target.new.plant) t r c.turn_target.new.journal.events) (flash_on c.args.s.0 c.args.m.now.a.0 c.args.m.now.b.0 c.args.m.now.c.0 c.args.n) (goes r (flash_on c.args.s.0 c.args.m.now.a.0 c.args.m.now.b.0 c.args.m.now.c.0 c.args.n) (flash-next s t r c.args.journal.now.events c.args.m.now c.args.s c.args.n c.flash_fate-fate.result (volume_seen s t c.args.m.now.c.0).fields refl (c.flash_fate-fate.ensures ∙ ap (λ (h : Head). if h.revertible && nat_eq h.sequence c.args.n then None else Some (fate.Flash c.args.m.now.b c.args.m.now.a c.args.s c.args.n)) c.peek_head-head.ensures))))))
 
 pub returns-clause-fails : goal.returns-clause-fails
 returns-clause-fails g c =
@@ -54,7 +53,7 @@ returns-clause-fails g c =
     err-along c.turn_target.result c.turn_target.ensures.halts c.turn_target.ensures.halts (λ ends _ r.
     check-fails (world_seen s t r c.args.journal.now.events) (send_refusal c.args.m.now.a.0 c.args.m.now.b.0) (refuse_if (flash_refusal c.args.m.now.b.0 c.args.m.now.c.0 c.args.n) ∷ (flash_on c.args.s.0 c.args.m.now.a.0 c.args.m.now.b.0 c.args.m.now.c.0 c.args.n) ∷ []) (c.in_default.ensures.refusal r c.args.journal.now.events) (armed_in s) (world_seen (g.P.Plant.state c.turn_target.new.plant) t r c.turn_target.new.journal.events) (refusal_of c.turn_target.result)
     (check-fails (world_seen s t r c.args.journal.now.events) (flash_refusal c.args.m.now.b.0 c.args.m.now.c.0 c.args.n) ((flash_on c.args.s.0 c.args.m.now.a.0 c.args.m.now.b.0 c.args.m.now.c.0 c.args.n) ∷ []) (c.in_default-flash_refusal.ensures.refusal r c.args.journal.now.events) (armed_in s) (world_seen (g.P.Plant.state c.turn_target.new.plant) t r c.turn_target.new.journal.events) (refusal_of c.turn_target.result)
-    (alone-fails (armed_in s) (world_seen s t r c.args.journal.now.events) (world_seen (g.P.Plant.state c.turn_target.new.plant) t r c.turn_target.new.journal.events) (refusal_of c.turn_target.result) (flash_on c.args.s.0 c.args.m.now.a.0 c.args.m.now.b.0 c.args.m.now.c.0 c.args.n) (ends r (flash_on c.args.s.0 c.args.m.now.a.0 c.args.m.now.b.0 c.args.m.now.c.0 c.args.n) (flash-next s t r c.args.journal.now.events c.args.m.now c.args.s c.args.n c.flash_fate-fate.result (plain c.peek_fields.result) c.peek_fields.ensures.fields c.flash_fate-fate.ensures)))))
+    (alone-fails (armed_in s) (world_seen s t r c.args.journal.now.events) (world_seen (g.P.Plant.state c.turn_target.new.plant) t r c.turn_target.new.journal.events) (refusal_of c.turn_target.result) (flash_on c.args.s.0 c.args.m.now.a.0 c.args.m.now.b.0 c.args.m.now.c.0 c.args.n) (ends r (flash_on c.args.s.0 c.args.m.now.a.0 c.args.m.now.b.0 c.args.m.now.c.0 c.args.n) (flash-next s t r c.args.journal.now.events c.args.m.now c.args.s c.args.n c.flash_fate-fate.result (volume_seen s t c.args.m.now.c.0).fields refl (c.flash_fate-fate.ensures ∙ ap (λ (h : Head). if h.revertible && nat_eq h.sequence c.args.n then None else Some (fate.Flash c.args.m.now.b c.args.m.now.a c.args.s c.args.n)) c.peek_head-head.ensures))))))
 
 pub returns-clause-carried : goal.returns-clause-carried
 returns-clause-carried g c =
@@ -83,7 +82,7 @@ returns-clause-moved g c =
     let f = (volume_seen s t v).fields in
     ok-along c.turn_target.result c.turn_target.ensures.moved (λ moved off.
     unless-some (λ (y : Fate). IsMoved s u t v (fields_after y f) None) (is_flashed c.args.n f) (fate.Flash c.args.m.now.b c.args.m.now.a c.args.s c.args.n) off
-    (subst (λ o. IfSome o (λ (y : Fate). IsMoved s u t v (fields_after y f) None)) (c.flash_fate-fate.ensures ∙ ap (λ (f : Fields). if is_flashed c.args.n f then None else Some (fate.Flash c.args.m.now.b c.args.m.now.a c.args.s c.args.n)) c.peek_fields.ensures.fields) moved))
+    (subst (λ o. IfSome o (λ (y : Fate). IsMoved s u t v (fields_after y f) None)) (c.flash_fate-fate.ensures ∙ ap (λ (h : Head). if h.revertible && nat_eq h.sequence c.args.n then None else Some (fate.Flash c.args.m.now.b c.args.m.now.a c.args.s c.args.n)) c.peek_head-head.ensures) moved))
 
 pub returns-clause-shows_source : goal.returns-clause-shows_source
 returns-clause-shows_source g c =
@@ -96,7 +95,7 @@ returns-clause-shows_source g c =
     let may = c.in_default-flash_refusal.ensures.may off in
     flash-shows s u t v c.requires.fit ((and_parts f.related _ ((and_parts (copies_from c.args.m.now.b.0 f) _ may).0)).0) c.turn_target.ensures.others c.args.m.now.b.0 c.args.s.0 c.args.n
     (unless-some (λ (y : Fate). IsMoved s u t v (fields_after y f) None) (is_flashed c.args.n f) (fate.Flash c.args.m.now.b c.args.m.now.a c.args.s c.args.n) off
-    (subst (λ o. IfSome o (λ (y : Fate). IsMoved s u t v (fields_after y f) None)) (c.flash_fate-fate.ensures ∙ ap (λ (f : Fields). if is_flashed c.args.n f then None else Some (fate.Flash c.args.m.now.b c.args.m.now.a c.args.s c.args.n)) c.peek_fields.ensures.fields) moved))
+    (subst (λ o. IfSome o (λ (y : Fate). IsMoved s u t v (fields_after y f) None)) (c.flash_fate-fate.ensures ∙ ap (λ (h : Head). if h.revertible && nat_eq h.sequence c.args.n then None else Some (fate.Flash c.args.m.now.b c.args.m.now.a c.args.s c.args.n)) c.peek_head-head.ensures) moved))
     may holds k)
 
 pub returns-clause-keeps_aside : goal.returns-clause-keeps_aside
@@ -110,5 +109,5 @@ returns-clause-keeps_aside g c =
     let may = c.in_default-flash_refusal.ensures.may off in
     flash-keeps s u t v c.requires.fit ((and_parts f.related _ ((and_parts (copies_from c.args.m.now.b.0 f) _ may).0)).0) c.turn_target.ensures.others c.args.s.0 c.args.n
     (unless-some (λ (y : Fate). IsMoved s u t v (fields_after y f) None) (is_flashed c.args.n f) (fate.Flash c.args.m.now.b c.args.m.now.a c.args.s c.args.n) off
-    (subst (λ o. IfSome o (λ (y : Fate). IsMoved s u t v (fields_after y f) None)) (c.flash_fate-fate.ensures ∙ ap (λ (f : Fields). if is_flashed c.args.n f then None else Some (fate.Flash c.args.m.now.b c.args.m.now.a c.args.s c.args.n)) c.peek_fields.ensures.fields) moved))
+    (subst (λ o. IfSome o (λ (y : Fate). IsMoved s u t v (fields_after y f) None)) (c.flash_fate-fate.ensures ∙ ap (λ (h : Head). if h.revertible && nat_eq h.sequence c.args.n then None else Some (fate.Flash c.args.m.now.b c.args.m.now.a c.args.s c.args.n)) c.peek_head-head.ensures) moved))
     k)

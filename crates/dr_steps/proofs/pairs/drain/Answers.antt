@@ -1,4 +1,4 @@
-use Rattle.std.proofs.Common.{◌≡◌, ◌+◌, ◌≤◌, length, arith, true, refl, sym, ap, ◌∙◌, subst, Some, None}
+use Rattle.std.proofs.Common.{◌≡◌, ◌+◌, ◌≤◌, length, arith, true, refl, sym, ap, ◌∙◌, subst, Some, None, ◌&&◌}
 use Rattle.std.specs.Prelude.{is_some}
 use Rattle.std.proofs.lemmas.Bool.{and_parts}
 use Rattle.dr_config.proofs.Lookups.{place-of-entry, none-mapped}
@@ -7,12 +7,15 @@ use Rattle.dr_model.specs.Refusals.{server_off}
 use Rattle.dr_model.specs.Plans.{drain_plan}
 use Rattle.dr_model.specs.declared.said.Said.TheVariants.{Done}
 use Rattle.dr_model.specs.declared.said.Addition.TheVariants.{Counted}
+use Rattle.dr_model.specs.Layout.{is_part}
+use Rattle.dr_model.specs.Pairs.{is_pending}
+use Rattle.dr_volume.specs.declared.head.Head.{Head}
 use Rattle.dr_volume.specs.View.{volume_seen, on_seen}
 use Rattle.dr_steps.specs.Here.{here, rest_of, Carries}
 use Rattle.dr_steps.proofs.LocatedLemmas.{mapped_some, seen-entry}
 use Rattle.dr_steps.proofs.LandLemmas.{ready-after}
 use Rattle.dr_steps.proofs.RelationLemmas.{relations-fit}
-use Rattle.dr_steps.proofs.DrainLemmas.{copying_by, partner, sends-tell, drain-nowhere, drain-off, drain-unfit, drain-done, drain-failed, drain-told}
+use Rattle.dr_steps.proofs.DrainLemmas.{partner, sends-tell, drain-nowhere, drain-off, drain-unfit, drain-done, drain-failed, drain-told}
 use Rattle.dr_steps.proofs.pairs.drain.Goals as goal
 use Rattle.dr_volume.proofs.WorldLaws.{on-seen}
 
@@ -27,8 +30,8 @@ returns-then-not-is_on-clause-step g c =
     let owner : (volume_seen s t c.args.a.0).server ≡ c.in-Some.server.0 = (seen-entry s t c.args.a.0 e.0 e.1).0 ∙ e.2 in
     drain-off s t h ev c.args.a.0 c.requires.ready.reads c.args.most e.0 e.1 _ (ap (on_seen s) owner ∙ on-seen s c.in-Some.server.0 c.in-Some.ensures.defined.below ∙ sym c.if-not-is_on.ensures) (ap server_off (sym owner))
 
-pub peek_fields-fields-requires-clause-defined : goal.peek_fields-fields-requires-clause-defined
-peek_fields-fields-requires-clause-defined g c =
+pub peek_head-requires-clause-defined : goal.peek_head-requires-clause-defined
+peek_head-requires-clause-defined g c =
     let e = mapped_some (λ (e : VolumeEntry). e.server) _ _ c.in-Some.ensures.value in
     ap is_some (place-of-entry c.args.config.now c.args.a.0 e.0 e.1).1
 
@@ -43,7 +46,7 @@ returns-then-not-is_copying-clause-step g c =
     let e = mapped_some (λ (e : VolumeEntry). e.server) _ _ c.in-Some.ensures.value in
     let owner : (volume_seen s t c.args.a.0).server ≡ c.in-Some.server.0 = (seen-entry s t c.args.a.0 e.0 e.1).0 ∙ e.2 in
     let runs : on_seen s (volume_seen s t c.args.a.0).server ≡ true = ap (on_seen s) owner ∙ on-seen s c.in-Some.server.0 c.in-Some.ensures.defined.below ∙ sym c.if-not-is_on.ensures in
-    let may = ap copying_by (sym c.peek_fields-fields.ensures.fields) ∙ sym c.if-not-is_copying.ensures in
+    let may = ap (λ (h : Head). is_part h.primary && is_pending h.primary_state) (sym c.peek_head.ensures) ∙ sym c.if-not-is_copying.ensures in
     drain-unfit s t h ev c.args.a.0 c.requires.ready.reads c.args.most e.0 e.1 runs c.pair_state.result may (c.pair_state.ensures.refusal (rest_of h ev) ev)
 
 pub drain-requires-clause-fit : goal.drain-requires-clause-fit
@@ -64,24 +67,24 @@ drain-requires-clause-running g c =
 pub drain-requires-clause-to : goal.drain-requires-clause-to
 drain-requires-clause-to g c =
     let s = g.P.Plant.state c.args.plant.now in let t = c.args.config.now in let h = c.args.tables.now in let ev = c.args.journal.now.events in
-    let may = ap copying_by (sym c.peek_fields-fields.ensures.fields) ∙ sym c.if-not-is_copying.ensures in
+    let may = ap (λ (h : Head). is_part h.primary && is_pending h.primary_state) (sym c.peek_head.ensures) ∙ sym c.if-not-is_copying.ensures in
     (partner s t h ev c.args.a.0 c.requires.ready.reads c.requires.sound (and_parts _ _ may).0).0
 
 pub drain-requires-clause-primary : goal.drain-requires-clause-primary
 drain-requires-clause-primary g c =
-    let may = ap copying_by (sym c.peek_fields-fields.ensures.fields) ∙ sym c.if-not-is_copying.ensures in
+    let may = ap (λ (h : Head). is_part h.primary && is_pending h.primary_state) (sym c.peek_head.ensures) ∙ sym c.if-not-is_copying.ensures in
     (and_parts _ _ may).0
 
 pub drain-requires-clause-two_servers : goal.drain-requires-clause-two_servers
 drain-requires-clause-two_servers g c =
     let s = g.P.Plant.state c.args.plant.now in let t = c.args.config.now in let h = c.args.tables.now in let ev = c.args.journal.now.events in
-    let may = ap copying_by (sym c.peek_fields-fields.ensures.fields) ∙ sym c.if-not-is_copying.ensures in
+    let may = ap (λ (h : Head). is_part h.primary && is_pending h.primary_state) (sym c.peek_head.ensures) ∙ sym c.if-not-is_copying.ensures in
     (partner s t h ev c.args.a.0 c.requires.ready.reads c.requires.sound (and_parts _ _ may).0).2
 
 pub drain-requires-clause-size : goal.drain-requires-clause-size
 drain-requires-clause-size g c =
     let s = g.P.Plant.state c.args.plant.now in let t = c.args.config.now in let h = c.args.tables.now in let ev = c.args.journal.now.events in
-    let may = ap copying_by (sym c.peek_fields-fields.ensures.fields) ∙ sym c.if-not-is_copying.ensures in
+    let may = ap (λ (h : Head). is_part h.primary && is_pending h.primary_state) (sym c.peek_head.ensures) ∙ sym c.if-not-is_copying.ensures in
     (partner s t h ev c.args.a.0 c.requires.ready.reads c.requires.sound (and_parts _ _ may).0).1
 
 pub drain-requires-clause-room : goal.drain-requires-clause-room
@@ -98,7 +101,7 @@ returns-in-Ok-clause-step g c =
     let e = mapped_some (λ (e : VolumeEntry). e.server) _ _ c.in-Some.ensures.value in
     let owner : (volume_seen s t c.args.a.0).server ≡ c.in-Some.server.0 = (seen-entry s t c.args.a.0 e.0 e.1).0 ∙ e.2 in
     let runs : on_seen s (volume_seen s t c.args.a.0).server ≡ true = ap (on_seen s) owner ∙ on-seen s c.in-Some.server.0 c.in-Some.ensures.defined.below ∙ sym c.if-not-is_on.ensures in
-    let may = ap copying_by (sym c.peek_fields-fields.ensures.fields) ∙ sym c.if-not-is_copying.ensures in
+    let may = ap (λ (h : Head). is_part h.primary && is_pending h.primary_state) (sym c.peek_head.ensures) ∙ sym c.if-not-is_copying.ensures in
     let u = here (g.P.Plant.state c.drain.new.plant) t h c.drain.new.journal.events in
     let count = sym c.in-Ok.ensures.count ∙ sym c.from.ensures in
     subst (λ n. Carries (here s t h ev) (drain_plan (here s t h ev).control c.args.a.0 c.args.most) u (Done (Counted n))) count
@@ -116,7 +119,7 @@ returns-in-Err-clause-step g c =
     let e = mapped_some (λ (e : VolumeEntry). e.server) _ _ c.in-Some.ensures.value in
     let owner : (volume_seen s t c.args.a.0).server ≡ c.in-Some.server.0 = (seen-entry s t c.args.a.0 e.0 e.1).0 ∙ e.2 in
     let runs : on_seen s (volume_seen s t c.args.a.0).server ≡ true = ap (on_seen s) owner ∙ on-seen s c.in-Some.server.0 c.in-Some.ensures.defined.below ∙ sym c.if-not-is_on.ensures in
-    let may = ap copying_by (sym c.peek_fields-fields.ensures.fields) ∙ sym c.if-not-is_copying.ensures in
+    let may = ap (λ (h : Head). is_part h.primary && is_pending h.primary_state) (sym c.peek_head.ensures) ∙ sym c.if-not-is_copying.ensures in
     drain-failed s t h ev c.args.a.0 c.requires.ready.reads c.args.most e.0 e.1 runs may (here (g.P.Plant.state c.drain.new.plant) t h c.drain.new.journal.events) c.in-Err.refusal (c.in-Err.ensures.carried (rest_of h ev))
 
 pub returns-in-Err-clause-ready : goal.returns-in-Err-clause-ready

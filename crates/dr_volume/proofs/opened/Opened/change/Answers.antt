@@ -33,14 +33,14 @@ returns g c =
     let f = c.args.next.now in
     let m = c.args.staged in
     let b = is_err c.rewrite.result in
-    let run : Run s t d f m b = ap (λ x. after_writes s d (update_writes (not (slot_of s d)) x m)) (sym c.with_staged-self.ensures) ∙ c.rewrite.ensures in
+    let run : Run s t d f m b = ap (λ x. after_writes s d (update_writes (not (slot_of s d)) x m)) (sym c.stage.ensures) ∙ c.rewrite.ensures in
     let lies = lies-opened table v d c.tell_sound.ensures c.requires.defined c.requires.opened.device in
     let k = task table s v d lies.0 f m lies.1 c.requires.stands c.requires.lawful c.requires.within c.requires.covers c.requires.settled in
     let all : Changed table s t v f m b = changed table s t v d k.0 f m b c.requires.stands k.1 run in
     record {
       written = all.written;
       exact = all.exact;
-      opened = on_ok c.rewrite.result (λ ok. opened-next table s t v d k.0 f m c.args.self.now _ k.1 (run ∙ (λ i. (t, ok i))) c.requires.opened refl refl c.with_staged-self.ensures);
+      opened = on_ok c.rewrite.result (λ ok. opened-next table s t v d k.0 f m c.args.self.now _ k.1 (run ∙ (λ i. (t, ok i))) c.requires.opened refl refl c.stage.ensures);
       others_opened = others-opened table s t v d k.0 k.1.lies (ran-written s t d _ b run).apart all.others;
       done = on_ok c.rewrite.result all.done;
       old_or_new = all.old_or_new;
