@@ -1,12 +1,16 @@
 //! Runs a folder of scenarios: each input through the top call, in memory, with what it prints and how it ends compared
-//! with what is stored beside it.
+//! with what is stored beside it. With the word `tables` behind the folder it runs tables of cases, too, whose scripts and images
+//! are made here.
 //!
 //! `main` reads the folder, makes the top call of each scenario's words and input over a plant and streams in memory, and
 //! prints what `dr_verdict` says. No function of it has a clause.
 #![tactic(auto)]
 
+mod damage;
 mod folder;
 mod run;
+mod stops;
+mod tables;
 
 use anyhow::{Context, Result};
 use dr_verdict::{Tally, Verdict, counts, difference, judge};
@@ -18,6 +22,11 @@ use std::rt::{Env, Files};
 const USAGE: u8 = 2;
 /// The status where a folder can't be run.
 const FAULT: u8 = 3;
+/// The status where a case of a table isn't as it should be.
+const DIFFERS: u8 = 1;
+
+/// The word that asks for the tables.
+const TABLES: &str = "tables";
 
 /// The words after the program's name.
 fn words(rt: &(impl Env + AllocGlobal)) -> Result<Vec<String>> {
@@ -28,11 +37,28 @@ fn words(rt: &(impl Env + AllocGlobal)) -> Result<Vec<String>> {
     Ok(words)
 }
 
-/// The folder that the words name: the current one, where there are no words.
-fn folder_of(words: &[String]) -> Option<&str> {
+/// What the words ask for.
+#[derive(Clone, Copy)]
+struct Order<'a> {
+    folder: &'a str,
+    with_tables: bool,
+}
+
+/// The order in these words: a folder, the current one where there are no words, and the word `tables` behind it.
+fn order_of(words: &[String]) -> Option<Order<'_>> {
     match words {
-        [] => Some("."),
-        [folder] => Some(folder.as_str()),
+        [] => Some(Order {
+            folder: ".",
+            with_tables: false,
+        }),
+        [folder] => Some(Order {
+            folder: folder.as_str(),
+            with_tables: false,
+        }),
+        [folder, tables] if tables.as_str() == TABLES => Some(Order {
+            folder: folder.as_str(),
+            with_tables: true,
+        }),
         _ => None,
     }
 }
@@ -63,15 +89,18 @@ fn try_folder<R: Files + AllocGlobal + Print + Clone + Drop>(
     Ok(Tally::of(&verdicts))
 }
 
-/// Runs the folder that the words name, and gives the status to end with.
+/// Runs the folder and the tables that the words name, and gives the status to end with.
 fn run_words(rt: &HostRuntime) -> Result<u8> {
     let words = words(rt)?;
-    let Some(folder) = folder_of(&words) else {
-        eprintln!(rt; "usage: scenarios [FOLDER]")?;
+    let Some(order) = order_of(&words) else {
+        eprintln!(rt; "usage: scenarios [FOLDER [tables]]")?;
         return Ok(USAGE);
     };
-    let tally = try_folder(rt, folder)?;
+    let tally = try_folder(rt, order.folder)?;
     rt.println(counts(rt.alloc(), tally)?)?;
+    if order.with_tables && !tables::try_tables(rt)? {
+        return Ok(DIFFERS);
+    }
     Ok(tally.code())
 }
 

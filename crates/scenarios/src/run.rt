@@ -4,11 +4,14 @@ use dr_io::{MemSink, MemSource};
 use dr_model::Journal;
 use dr_plant::ModelPlant;
 use dr_top::{Status, drsim};
-use dr_verdict::Outcome;
+use dr_verdict::{Outcome, words_of};
 use std::alloc::{AllocError, Global};
 
 /// How many bytes of the input the source gives at a time.
 const PIECE: usize = 4096;
+
+/// The words with which the images of the tables are recovered, one a line.
+const RECOVER: &str = "recover\n01\n";
 
 /// Runs the program with these words on an empty plant, over this input, up to one byte more of output than is wanted. So
 /// output that is as wanted is had whole, with its run's own status, and any other output differs within what is had.
@@ -38,4 +41,10 @@ pub fn run_program(
         printed: Vec::from_slice(alloc, sink.bytes())?,
         status: status.code(),
     })
+}
+
+/// Recovers session 01 of the image in this text, up to one byte more of output than there should be at most.
+pub fn recover_image(alloc: Global, image: &[u8], most: usize) -> Result<Outcome, AllocError> {
+    let words = words_of(alloc, Some(RECOVER))?;
+    run_program(alloc, &words, Vec::from_slice(alloc, image)?, most)
 }
