@@ -13,6 +13,8 @@ ghost use Rattle.dr_model.specs.SessionEntries.{members_on};
 ghost use Rattle.dr_model.specs.SessionPlans.{asking, is_idle};
 ghost use Rattle.dr_model.specs.Sessions as model;
 ghost use Rattle.dr_model.specs.declared.step.Step.TheVariants as step;
+ghost use Rattle.dr_volume.specs.Head.{head_of};
+ghost use Rattle.dr_volume.specs.View.{volume_seen};
 ghost use Rattle.dr_moves.specs.Checks.{is_stop};
 ghost use Rattle.dr_moves.specs.Here.{refusal_of, IsAtRest};
 ghost use Rattle.dr_gmirror.specs.Orders.{AreReady};
@@ -26,7 +28,7 @@ use crate::answers::{has_room, refuse, say};
 use crate::exchanges::ask_server;
 use crate::locate::unknown_session;
 use crate::masters::{lose_masters, servers_on};
-use crate::pairs::{drain, is_copying};
+use crate::pairs::{drain_by, is_copying};
 use crate::sessions::phase_of;
 use crate::tables::Tables;
 use dr_config::Config;
@@ -34,7 +36,7 @@ use dr_ids::{MOST_EVENTS, PhaseName, Refusal, ServerId, SessionId, VolumeId, Whi
 use dr_model::{Addition, Journal, Said};
 use dr_plant::Plant;
 use dr_session::Sessions;
-use dr_volume::peek_head;
+use dr_volume::{Head, peek_head};
 use std::alloc::AllocError;
 
 /// The most groups that one line forms.
@@ -53,16 +55,19 @@ fn unsaid(carried: Result<Addition, Refusal>) -> Result<(), Refusal>
     }
 }
 
-/// Drains one primary, with room of its own in the journal. The masters whose servers stop in it are lost as it ends.
+/// Drains one primary whose record has this head, with room of its own in the journal. The masters whose servers stop in it are
+/// lost as it ends.
 fn drain_alone<P: Plant>(
     plant: &mut P,
     config: &Config,
     tables: &mut Tables,
     journal: &mut Journal,
     a: VolumeId,
+    head: &Head,
 ) -> Result<(), Refusal>
     requires ready { IsReady (P.state plant.old) config.now tables.old journal.old.events }
     requires sound { Sound (here (P.state plant.old) config.now tables.old journal.old.events) }
+    requires head { head.now ≡ head_of (volume_seen (P.state plant.old) config.now a.0).fields }
     requires few { length config.now.volumes ≤ 64 }
     requires room { most_events ≤ length journal.old.events + journal.old.spare }
     requires spare { 1 ≤ journal.old.spare }
@@ -80,7 +85,7 @@ fn drain_alone<P: Plant>(
         return Err(Refusal::JournalFull);
     }
     let before = servers_on(plant);
-    let carried = drain(plant, config, tables, journal, a, None);
+    let carried = drain_by(plant, config, tables, journal, a, None, head);
     lose_masters(plant, &before, &mut tables.sessions);
     unsaid(carried)
 }
@@ -119,6 +124,13 @@ fn ask_alone<P: Plant>(
     unsaid(carried)
 }
 
+/// A primary that is to be drained, with the head of its record.
+#[derive(Clone, Copy)]
+struct Copying {
+    a: VolumeId,
+    head: Head,
+}
+
 /// The primary of the session's member at a place, where its server is that one and it is in Copy Pending.
 fn primary_to_drain<P: Plant>(
     plant: &P,
@@ -127,14 +139,19 @@ fn primary_to_drain<P: Plant>(
     s: SessionId,
     server: ServerId,
     place: usize,
-) -> Option<VolumeId>
+) -> Option<Copying>
     requires rest { IsAtRest (P.state plant.now) config.now }
     requires members { AreReady (P.state plant.now) config.now (model.members_in (model.session_in sessions.now.sessions s.0)) }
-    ensures { (r : Tables) (events : List Event) → option_map (λ v. v.0) result ≡ to_drain (here (P.state plant.now) config.now r events).control server.0 (slice_get (model.members_in (model.session_in sessions.now.sessions s.0)) place) }
+    ensures head { IfSome result (λ x. x.head ≡ head_of (volume_seen (P.state plant.now) config.now x.a.0).fields) }
+    ensures next { (r : Tables) (events : List Event) → option_map (λ x. x.a.0) result ≡ to_drain (here (P.state plant.now) config.now r events).control server.0 (slice_get (model.members_in (model.session_in sessions.now.sessions s.0)) place) }
 {
     let member = sessions.member_at(s, place)?;
-    if member.server == server && is_copying(&peek_head(plant, config, member.a)) {
-        Some(member.a)
+    if member.server != server {
+        return None;
+    }
+    let head = peek_head(plant, config, member.a);
+    if is_copying(&head) {
+        Some(Copying { a: member.a, head })
     } else {
         None
     }
@@ -168,7 +185,7 @@ fn drain_place<P: Plant>(
     ensures faults { Counted (is_stop (refusal_of result)) (P.state plant.old).faults (P.state plant.new).faults }
 {
     match primary_to_drain(plant, config, &tables.sessions, s, server, place) {
-        Some(a) => drain_alone(plant, config, tables, journal, a),
+        Some(primary) => drain_alone(plant, config, tables, journal, primary.a, &primary.head),
         None => Ok(()),
     }
 }

@@ -10,6 +10,8 @@ ghost use Rattle.dr_model.specs.PairEntries.{refuse_if};
 ghost use Rattle.dr_model.specs.Pairs as pairs;
 ghost use Rattle.dr_model.specs.Plans as plans;
 ghost use Rattle.dr_model.specs.Runs.{after_plan, said};
+ghost use Rattle.dr_volume.specs.Head.{head_of};
+ghost use Rattle.dr_volume.specs.View.{volume_seen};
 ghost use Rattle.dr_gcopy.specs.Kinds.{part_of};
 ghost use Rattle.dr_moves.specs.Checks.{Checked, OnNone, is_stop};
 ghost use Rattle.dr_steps.specs.Faults.{CountsStop};
@@ -228,13 +230,43 @@ pub fn drain<P: Plant>(
     ensures room { 1 ≤ journal.new.spare }
     ensures spare { length journal.new.events + journal.new.spare ≡ length journal.old.events + journal.old.spare }
 {
+    let Some(_server) = config.server_of(a) else {
+        return Err(Refusal::Unknown { kind: Kind::Volume });
+    };
+    let head = peek_head(plant, config, a);
+    drain_by(plant, config, tables, journal, a, most, &head)
+}
+
+/// The same of a volume whose record has this head, so that it isn't looked at again.
+pub fn drain_by<P: Plant>(
+    plant: &mut P,
+    config: &Config,
+    tables: &Tables,
+    journal: &mut Journal,
+    a: VolumeId,
+    most: Option<u32>,
+    head: &Head,
+) -> Result<Addition, Refusal>
+    requires ready { IsReady (P.state plant.old) config.now tables.now journal.old.events }
+    requires sound { Sound (here (P.state plant.old) config.now tables.now journal.old.events) }
+    requires head { head.now ≡ head_of (volume_seen (P.state plant.old) config.now a.0).fields }
+    requires few { length config.now.volumes ≤ 64 }
+    requires room { 4096 ≤ journal.old.spare }
+    ensures step { Carries (here (P.state plant.old) config.now tables.now journal.old.events)
+        (plans.drain_plan (here (P.state plant.old) config.now tables.now journal.old.events).control a.0 most)
+        (here (P.state plant.new) config.now tables.now journal.new.events) (said_of result) }
+    ensures faults { CountsStop (said_of result) (P.state plant.old) (P.state plant.new) }
+    ensures ready { IsReady (P.state plant.new) config.now tables.now journal.new.events }
+    ensures room { 1 ≤ journal.new.spare }
+    ensures spare { length journal.new.events + journal.new.spare ≡ length journal.old.events + journal.old.spare }
+{
     let Some(server) = config.server_of(a) else {
         return Err(Refusal::Unknown { kind: Kind::Volume });
     };
     if !plant.is_on(server.0) {
         return Err(Refusal::ServerOff { server });
     }
-    if !is_copying(&peek_head(plant, config, a)) {
+    if !is_copying(head) {
         return Err(pair_state(plant, config, a));
     }
     match dr_gcopy::drain(plant, config, journal, a, most) {

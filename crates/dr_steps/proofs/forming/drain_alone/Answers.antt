@@ -17,17 +17,17 @@ returns-then-not-has_room-clause-way g c =
 pub returns-clause-way : goal.returns-clause-way
 returns-clause-way g c =
     let s = g.P.Plant.state c.args.plant.now in let t = c.args.config.now in let h = c.args.tables.now in let ev = c.args.journal.now.events in
-    let u = g.P.Plant.state c.drain-carried.new.plant in let h' = h in let mid = c.drain-carried.new.journal.events in let h'' = record h' { sessions = c.lose_masters.new.sessions } in
+    let u = g.P.Plant.state c.drain_by-carried.new.plant in let h' = h in let mid = c.drain_by-carried.new.journal.events in let h'' = record h' { sessions = c.lose_masters.new.sessions } in
     subst (λ r. Reaches (part (here s t h ev) (drain_plan (here s t h ev).control c.args.a.0 None)) (here u t h'' mid) r) (sym c.unsaid.ensures)
-    (part-done s u t h h' ev mid _ _ (sym c.if-not-has_room.ensures) c.drain-carried.ensures.step h'' (λ i. record h' { sessions = c.lose_masters.ensures s c.servers_on-before.ensures i }))
+    (part-done s u t h h' ev mid _ _ (sym c.if-not-has_room.ensures) c.drain_by-carried.ensures.step h'' (λ i. record h' { sessions = c.lose_masters.ensures s c.servers_on-before.ensures i }))
 
 pub returns-clause-sound : goal.returns-clause-sound
 returns-clause-sound g c =
     let s = g.P.Plant.state c.args.plant.now in let t = c.args.config.now in let h = c.args.tables.now in let ev = c.args.journal.now.events in
-    let u = g.P.Plant.state c.drain-carried.new.plant in let h' = h in let mid = c.drain-carried.new.journal.events in let h'' = record h' { sessions = c.lose_masters.new.sessions } in
-    part-sound s u t h h' ev mid _ _ (sym c.if-not-has_room.ensures) c.drain-carried.ensures.step h'' (λ i. record h' { sessions = c.lose_masters.ensures s c.servers_on-before.ensures i }) (comes-drain (here s t h ev) c.args.a.0 (sym c.if-not-has_room.ensures)) c.requires.sound
+    let u = g.P.Plant.state c.drain_by-carried.new.plant in let h' = h in let mid = c.drain_by-carried.new.journal.events in let h'' = record h' { sessions = c.lose_masters.new.sessions } in
+    part-sound s u t h h' ev mid _ _ (sym c.if-not-has_room.ensures) c.drain_by-carried.ensures.step h'' (λ i. record h' { sessions = c.lose_masters.ensures s c.servers_on-before.ensures i }) (comes-drain (here s t h ev) c.args.a.0 (sym c.if-not-has_room.ensures)) c.requires.sound
 
 pub returns-clause-members : goal.returns-clause-members
 returns-clause-members g c n =
     let s = g.P.Plant.state c.args.plant.now in
-    ap (λ x. members_in (session_in x n)) (ap (λ x. x.sessions) (c.lose_masters.ensures s c.servers_on-before.ensures)) ∙ members-stay (on_seen s) (on_seen (g.P.Plant.state c.drain-carried.new.plant)) c.args.tables.now.sessions.sessions n
+    ap (λ x. members_in (session_in x n)) (ap (λ x. x.sessions) (c.lose_masters.ensures s c.servers_on-before.ensures)) ∙ members-stay (on_seen s) (on_seen (g.P.Plant.state c.drain_by-carried.new.plant)) c.args.tables.now.sessions.sessions n

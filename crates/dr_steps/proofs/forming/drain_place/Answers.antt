@@ -15,11 +15,11 @@ pub returns-in-Some-clause-way : goal.returns-in-Some-clause-way
 returns-in-Some-clause-way g c =
     let s = g.P.Plant.state c.args.plant.now in let t = c.args.config.now in let h = c.args.tables.now in let ev = c.args.journal.now.events in
     let w = here s t h ev in let v = here (g.P.Plant.state c.drain_alone.new.plant) t c.drain_alone.new.tables c.drain_alone.new.journal.events in
-    subst (λ o. Reaches (drain_next w o stays) v (refusal_of c.drain_alone.result)) (c.in-Some.ensures h ev)
-    (reaches-alone (part w (drain_plan w.control c.in-Some.a.0 None)) v (refusal_of c.drain_alone.result) c.drain_alone.ensures.way)
+    subst (λ o. Reaches (drain_next w o stays) v (refusal_of c.drain_alone.result)) (c.in-Some.ensures.next h ev)
+    (reaches-alone (part w (drain_plan w.control c.in-Some.primary.a.0 None)) v (refusal_of c.drain_alone.result) c.drain_alone.ensures.way)
 
 pub returns-in-None-clause-way : goal.returns-in-None-clause-way
 returns-in-None-clause-way g c =
     let s = g.P.Plant.state c.args.plant.now in let t = c.args.config.now in let h = c.args.tables.now in let ev = c.args.journal.now.events in
     let w = here s t h ev in
-    subst (λ o. Reaches (drain_next w o stays) w None) (c.in-None.ensures h ev) (record { world = refl; refusal = refl })
+    subst (λ o. Reaches (drain_next w o stays) w None) (c.in-None.ensures.next h ev) (record { world = refl; refusal = refl })
