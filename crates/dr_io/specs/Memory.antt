@@ -13,8 +13,8 @@ abbrev pub no_fault : ℕ
 no_fault = 0
 
 -- what a sink tells that keeps nothing
-abbrev pub untold : Option (List ℕ)
-untold = None
+abbrev pub tells_none : Option (List ℕ)
+tells_none = None
 
 -- A source in memory.
 pub record Feed : Type 0 where

@@ -46,6 +46,7 @@ impl<'a> Source for TextSource<'a> {
         ensures never_falls { no_fault ≤ no_fault }
         ensures rose { OnErr result (Rose no_fault no_fault) }
         ensures steady { IfOk result (λ n. no_fault ≡ no_fault) }
+        ensures filled { IfOk result (λ n. into.new ≡ take n self.old ++ drop n into.old) }
         ensures untouched { OnErr result (into.new ≡ into.old) }
         ensures never_fails { is_err result ≡ false }
         ensures number { IfOk result (λ n. n ≡ min (length into.old) (length self.old)) }

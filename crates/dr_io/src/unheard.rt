@@ -1,7 +1,7 @@
 ghost use Rattle.std.specs.Prelude.{◌≡◌, ℕ, ◌<◌, ◌≤◌, List, ◌++◌, length, take, None, Some, IfOk, OnErr, false, is_err};
 ghost use Rattle.dr_logic.specs.Counts.{Rose};
 ghost use Rattle.dr_io.specs.Faults.{takes_none};
-ghost use Rattle.dr_io.specs.Memory.{no_fault, untold};
+ghost use Rattle.dr_io.specs.Memory.{no_fault, tells_none};
 
 use crate::streams::{Failed, Sink};
 
@@ -10,15 +10,15 @@ use crate::streams::{Failed, Sink};
 pub struct Unheard;
 
 impl Sink for Unheard {
-    ghost written = { λ s. untold };
+    ghost written = { λ s. tells_none };
 
     ghost faults = { λ s. no_fault };
 
     fn put(&mut self, piece: &[u8]) -> Result<usize, Failed>
         ensures count { IfOk result (λ n. n ≤ length piece.now) }
-        ensures taken { IfOk result (λ n. (out : List ℕ) → untold ≡ Some out → untold ≡ Some (out ++ take n piece.now)) }
-        ensures failed { OnErr result (untold ≡ untold) }
-        ensures silent { untold ≡ None → untold ≡ None }
+        ensures taken { IfOk result (λ n. (out : List ℕ) → tells_none ≡ Some out → tells_none ≡ Some (out ++ take n piece.now)) }
+        ensures failed { OnErr result (tells_none ≡ tells_none) }
+        ensures silent { tells_none ≡ None → tells_none ≡ None }
         ensures never_falls { no_fault ≤ no_fault }
         ensures rose { OnErr result (Rose no_fault no_fault) }
         ensures stuck { IfOk result (λ n. n ≡ 0 → 0 < length piece.now → Rose no_fault no_fault) }

@@ -82,7 +82,7 @@ impl Heard {
 
     /// The name of a server; empty where none of that number was defined. Of two names, the first.
     #[tactic(auto, unfolding(crate::specs::Seen::heard_seen))]
-    pub(crate) fn name(&self, server: u32) -> &[u8]
+    pub fn name(&self, server: u32) -> &[u8]
         ensures { result.now ≡ told_name (heard_seen self.now) server }
     {
         match self.names.get(server as usize) {

@@ -23,7 +23,7 @@ use Rattle.dr_lost.specs.Lost.{lacking, tracks_below, each_once, lost_at, lost_b
 pub all-more : (ks xs : List ℕ) (i d : ℕ) → i < length xs → insert_key nat_eq (insert_all nat_eq ks (take i xs)) (get_or xs i d) ≡ insert_all nat_eq ks (take (i + 1) xs)
 all-more ks xs i d h = sym (ap (insert_all nat_eq ks) (take_more xs i d h) ∙ fold-append (insert_key nat_eq) ks (take i xs) (get_or xs i d ∷ []))
 
-range-more : (f : ℕ → List ℕ) (a n : ℕ) → flat_map f (range_with_len a (n + 1)) ≡ flat_map f (range_with_len a n) ++ f (a + n)
+pub range-more : {Y : Type 0} (f : ℕ → List Y) (a n : ℕ) → flat_map f (range_with_len a (n + 1)) ≡ flat_map f (range_with_len a n) ++ f (a + n)
 range-more f a n =
     let id : ℕ → ℕ = λ x. x in
     sym (flat_map-map f id (range_with_len a (n + 1)))
@@ -77,9 +77,9 @@ met-is n ns h = any-some (nat_eq n) ns n h (eq-eqb n n refl)
 
 -- ---- what is gathered
 
-pub from-flat : {X : Type 0} (f : X → List ℕ) (xs : List X) (w : ℕ) → In w (flat_map f xs) → (x : X) × (In x xs × In w (f x))
+pub from-flat : {X Y : Type 0} (f : X → List Y) (xs : List X) (w : Y) → In w (flat_map f xs) → (x : X) × (In x xs × In w (f x))
 from-flat f [] w h = absurd h
-from-flat {X} f (z ∷ xs) w h = by (from-flat f xs w) (in-joined (f z) (flat_map f xs) w h)
+from-flat {X} {Y} f (z ∷ xs) w h = by (from-flat f xs w) (in-joined (f z) (flat_map f xs) w h)
   where
     by : (In w (flat_map f xs) → (x : X) × (In x xs × In w (f x))) → In w (f z) ⊎ In w (flat_map f xs) → (x : X) × (In x (z ∷ xs) × In w (f x))
     by further (inl here) = (z, (inl refl, here))
@@ -98,7 +98,7 @@ range-in (suc n) a t low high = by (cases_eq t a) (λ ne. range-in n (a + 1) t (
     by (inl is) further = inl is
     by (inr ne) further = inr (further ne)
 
-range-below : (n a t : ℕ) → In t (range_with_len a n) → t < a + n
+pub range-below : (n a t : ℕ) → In t (range_with_len a n) → t < a + n
 range-below zero a t h = absurd h
 range-below (suc n) a t (inl is) = omega (arith, is)
 range-below (suc n) a t (inr more) = omega (arith, range-below n (a + 1) t more)

@@ -22,7 +22,7 @@ mod stages;
 mod words;
 
 pub use fault::PlanFault;
-pub use names::Disaster;
+pub use names::{Disaster, is_same_name, name_bytes};
 pub use plan::SweepPlan;
 pub use points::{Point, Torn, script_at};
 pub use reading::read_plan;

@@ -40,14 +40,14 @@ impl Disaster {
 }
 
 /// The bytes of a name.
-fn name_bytes(name: &Name) -> &[u8]
+pub fn name_bytes(name: &Name) -> &[u8]
     ensures { result.now ≡ name_text name.now }
 {
     &name.bytes[..usize::from(name.len).min(24)]
 }
 
 /// Whether both are one name.
-fn is_same(other: &Name, name: &Name) -> bool
+pub fn is_same_name(other: &Name, name: &Name) -> bool
     ensures { result ≡ bytes_eq (name_text other.now) (name_text name.now) }
 {
     is_word(name_bytes(other), name_bytes(name))
@@ -56,7 +56,7 @@ fn is_same(other: &Name, name: &Name) -> bool
 fn is_among(name: &Name, names: &[Name]) -> bool
     ensures { result ≡ is_among name.now names.now }
 {
-    names.iter().any(|other| is_same(other, name))
+    names.iter().any(|other| is_same_name(other, name))
 }
 
 /// The servers that words name; none where a word is no name, or names a server twice.

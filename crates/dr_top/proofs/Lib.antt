@@ -32,4 +32,5 @@ pub mod EndLemmas
 pub mod RefusalLemmas
 pub mod TopLemmas
 pub mod SummaryLemmas
+pub mod TriedLemmas
 pub mod TrialLemmas

@@ -17,30 +17,28 @@ use Rattle.dr_model.specs.PlantImage.{Volume, IsImage, reading}
 use Rattle.dr_report.specs.Found.{found_in}
 use Rattle.dr_report.specs.declared.found.Found.{Found}
 use Rattle.dr_report.specs.declared.found.Found.TheVariants.{Lines, Contradiction as Disagree, NoMembers as Nobody}
-use Rattle.dr_top.specs.Offline.{IsTaken, Reads, Reports, EndsOffline, image_limits, report_by, report_text, found_report}
+use Rattle.dr_top.specs.Offline.{IsTaken, NotTaken, Reads, Reports, EndsOffline, script_limits, report_by, report_text, found_report}
 use Rattle.dr_top.specs.Outcome.{is_write_fault}
 use Rattle.dr_top.specs.declared.offline.NotRead.TheVariants.{ReadFault as OnSource, TooLong as TooMuch, NoMemory as OnMemory}
 use Rattle.dr_top.specs.declared.report.Report.{Report}
 use Rattle.dr_top.specs.declared.status.Status.{Status}
 use Rattle.dr_top.specs.declared.status.Status.TheVariants.{Done, DoneRefused, Usage, ReadFault, WriteFault, NoMemory, TooLong, BadImage, Contradiction, NoMembers}
 
--- ---- reading
+-- ---- taking
 
 module _ {S : Type 0} (left : S → Option (List ℕ)) (faults : S → ℕ) (s0 : S) where
-  -- so much of the text was taken, and the reader of the image has it
-  pub record ReadSoFar (s : S) (p : PieceProgress) (image : Reader) : Type 0 where
+  -- so much of a text was taken
+  pub record TakenSoFar (s : S) (p : PieceProgress) : Type 0 where
     pub text : List ℕ
     pub took : Took left s0 s text
     pub has : HasTaken text p
-    pub limits : p.limits ≡ image_limits
+    pub limits : p.limits ≡ script_limits
     pub going : p.over ≡ None
     pub kept : faults s ≡ faults s0
-    pub within : IsWithin image_limits text
-    pub works : image.failed ≡ false
-    pub reads : (rest : List ℕ) → will_read image rest ≡ reading (text ++ rest)
+    pub within : IsWithin script_limits text
 
-  pub none-read : (p : PieceProgress) (image : Reader) → p ≡ nothing_taken image_limits → image.failed ≡ false → ((rest : List ℕ) → will_read image rest ≡ reading rest) → ReadSoFar s0 p image
-  none-read p image is works reads = record {
+  abbrev pub none-taken : (p : PieceProgress) → p ≡ nothing_taken script_limits → TakenSoFar s0 p
+  none-taken p is = record {
     text = [];
     took = λ l h. (l, h, refl);
     has = ap (λ (q : PieceProgress). q.amount) is;
@@ -48,19 +46,20 @@ module _ {S : Type 0} (left : S → Option (List ℕ)) (faults : S → ℕ) (s0 
     going = ap (λ (q : PieceProgress). q.over) is;
     kept = refl;
     within = record { bytes = omega arith; lines = omega arith };
-    works = works;
-    reads = reads;
   }
 
-  module _ (s s' : S) (p p' : PieceProgress) (image : Reader) (r : ReadSoFar s p image) (took : Took left s s' p'.piece) (same : p'.limits ≡ p.limits) where
-    so-far : Took left s0 s' (r.text ++ p'.piece)
+  module _ (s s' : S) (p p' : PieceProgress) (r : TakenSoFar s p) (took : Took left s s' p'.piece) (same : p'.limits ≡ p.limits) where
+    pub so-far : Took left s0 s' (r.text ++ p'.piece)
     so-far = took_more left s0 s s' r.text p'.piece r.took took
 
-    limited : p'.limits ≡ image_limits
+    pub limited : p'.limits ≡ script_limits
     limited = same ∙ r.limits
 
-    pub one-read : (image' : Reader) → HasTaken (r.text ++ p'.piece) p' → GivesPiece left faults s s' r.text p' → image'.failed ≡ false → ((rest : List ℕ) → will_read image' rest ≡ will_read image (p'.piece ++ rest)) → ReadSoFar s' p' image'
-    one-read image' has gives works reads = record {
+    took-none : p'.piece ≡ [] → Took left s0 s' r.text
+    took-none none = subst (Took left s0 s') (ap (λ piece. r.text ++ piece) none ∙ append-nil r.text) so-far
+
+    abbrev pub one-taken : HasTaken (r.text ++ p'.piece) p' → GivesPiece left faults s s' r.text p' → TakenSoFar s' p'
+    one-taken has gives = record {
       text = r.text ++ p'.piece;
       took = so-far;
       has = has;
@@ -68,29 +67,18 @@ module _ {S : Type 0} (left : S → Option (List ℕ)) (faults : S → ℕ) (s0 
       going = gives.goes_on;
       kept = gives.kept ∙ r.kept;
       within = subst (λ (l : Limits). IsWithin l (r.text ++ p'.piece)) limited gives.within;
-      works = works;
-      reads = λ rest. reads rest ∙ r.reads (p'.piece ++ rest) ∙ ap reading (sym (append_assoc r.text p'.piece rest));
     }
 
-    pub ends-reading : GivesEnd left faults s s' r.text p' → Reads left s0 s' faults image (Ok tt)
-    ends-reading gives = record {
-      text = r.text;
-      taken = record { took = took-none; all = all; within = r.within };
-      works = r.works;
-      reads = r.reads [] ∙ ap reading (append-nil r.text);
-      kept = gives.kept ∙ r.kept;
-    }
+    pub ends-taking : GivesEnd left faults s s' r.text p' → IsTaken left s0 s' r.text
+    ends-taking gives = record { took = took-none gives.none; all = all; within = r.within }
       where
-        took-none : Took left s0 s' r.text
-        took-none = subst (Took left s0 s') (ap (λ piece. r.text ++ piece) gives.none ∙ append-nil r.text) so-far
-
         all : TookAll left s0 r.text
         all told h =
-            let t = took-none told h in
+            let t = took-none gives.none told h in
             t.2 ∙ ap (λ rest. r.text ++ rest) (gives.nothing_left t.0 t.1) ∙ append-nil r.text
 
-    pub ends-too-long : GivesTooLong left faults s s' r.text p' → (image' : Reader) → Reads left s0 s' faults image' (Err TooMuch)
-    ends-too-long gives image' = (
+    pub ends-too-long : GivesTooLong left faults s s' r.text p' → NotTaken left s0 s' faults TooMuch
+    ends-too-long gives = (
       record {
         text = r.text ++ p'.piece;
         took = so-far;
@@ -100,14 +88,11 @@ module _ {S : Type 0} (left : S → Option (List ℕ)) (faults : S → ℕ) (s0 
       gives.kept ∙ r.kept,
     )
 
-    pub ends-by-fault : GivesFault left faults s s' r.text p' → (image' : Reader) → Reads left s0 s' faults image' (Err OnSource)
-    ends-by-fault gives image' = (
-      record { text = r.text; took = subst (Took left s0 s') (ap (λ piece. r.text ++ piece) gives.none ∙ append-nil r.text) so-far; within = r.within },
-      subst (λ n. Rose n (faults s')) r.kept gives.rose,
-    )
+    pub ends-by-fault : GivesFault left faults s s' r.text p' → NotTaken left s0 s' faults OnSource
+    ends-by-fault gives = (record { text = r.text; took = took-none gives.none; within = r.within }, subst (λ n. Rose n (faults s')) r.kept gives.rose)
 
-    pub ends-without-memory : GivesPiece left faults s s' r.text p' → (image' : Reader) → Reads left s0 s' faults image' (Err OnMemory)
-    ends-without-memory gives image' = (
+    pub ends-without-memory : GivesPiece left faults s s' r.text p' → NotTaken left s0 s' faults OnMemory
+    ends-without-memory gives = (
       record { text = r.text ++ p'.piece; took = so-far; within = subst (λ (l : Limits). IsWithin l (r.text ++ p'.piece)) limited gives.within },
       gives.kept ∙ r.kept,
     )
@@ -116,9 +101,35 @@ module _ {S : Type 0} (left : S → Option (List ℕ)) (faults : S → ℕ) (s0 
     pub taken-here : (taken answer : TakenPiece) → taken ≡ answer → IsPiece left faults s s' r.text p p' (Ok taken) → Takes left faults s s' r.text p' (Ok answer)
     taken-here taken answer is step = subst (λ over. IsPieceBy left faults s s' over r.text p p' (Ok answer)) r.going (subst (λ t. IsPieceBy left faults s s' p.over r.text p p' (Ok t)) is step)
 
+  -- and the reader of an image has it
+  pub record ReadSoFar (s : S) (p : PieceProgress) (image : Reader) : Type 0 where
+    pub taken : TakenSoFar s p
+    pub works : image.failed ≡ false
+    pub reads : (rest : List ℕ) → will_read image rest ≡ reading (taken.text ++ rest)
+
+  pub none-read : (p : PieceProgress) (image : Reader) → p ≡ nothing_taken script_limits → image.failed ≡ false → ((rest : List ℕ) → will_read image rest ≡ reading rest) → ReadSoFar s0 p image
+  none-read p image is works reads = record { taken = none-taken p is; works = works; reads = reads }
+
+  module _ (s s' : S) (p p' : PieceProgress) (image : Reader) (r : ReadSoFar s p image) (took : Took left s s' p'.piece) (same : p'.limits ≡ p.limits) where
+    pub one-read : (image' : Reader) → HasTaken (r.taken.text ++ p'.piece) p' → GivesPiece left faults s s' r.taken.text p' → image'.failed ≡ false → ((rest : List ℕ) → will_read image' rest ≡ will_read image (p'.piece ++ rest)) → ReadSoFar s' p' image'
+    one-read image' has gives works reads = record {
+      taken = one-taken s s' p p' r.taken took same has gives;
+      works = works;
+      reads = λ rest. reads rest ∙ r.reads (p'.piece ++ rest) ∙ ap reading (sym (append_assoc r.taken.text p'.piece rest));
+    }
+
+    pub ends-reading : GivesEnd left faults s s' r.taken.text p' → Reads left s0 s' faults image (Ok tt)
+    ends-reading gives = record {
+      text = r.taken.text;
+      taken = ends-taking s s' p p' r.taken took same gives;
+      works = r.works;
+      reads = r.reads [] ∙ ap reading (append-nil r.taken.text);
+      kept = gives.kept ∙ r.taken.kept;
+    }
+
 -- each piece takes from what may be taken
-pub less-left : (text piece : List ℕ) (p p' : PieceProgress) → HasTaken text p → HasTaken (text ++ piece) p' → 0 < length piece → IsWithin image_limits (text ++ piece) → image_limits.bytes - p'.amount.bytes < image_limits.bytes - p.amount.bytes
-less-left text piece p p' before after some within = less (length text) (length piece) image_limits.bytes p.amount.bytes p'.amount.bytes (bytes text p before) (bytes (text ++ piece) p' after ∙ length-append text piece) some (subst (λ n. n ≤ image_limits.bytes) (length-append text piece) within.bytes)
+pub less-left : (text piece : List ℕ) (p p' : PieceProgress) → HasTaken text p → HasTaken (text ++ piece) p' → 0 < length piece → IsWithin script_limits (text ++ piece) → script_limits.bytes - p'.amount.bytes < script_limits.bytes - p.amount.bytes
+less-left text piece p p' before after some within = less (length text) (length piece) script_limits.bytes p.amount.bytes p'.amount.bytes (bytes text p before) (bytes (text ++ piece) p' after ∙ length-append text piece) some (subst (λ n. n ≤ script_limits.bytes) (length-append text piece) within.bytes)
   where
     bytes : (taken : List ℕ) (progress : PieceProgress) → HasTaken taken progress → progress.amount.bytes ≡ length taken
     bytes taken progress has = let is = ap (λ (a : Amount). a.bytes) has in omega (arith, is)

@@ -7,4 +7,5 @@ pub mod Outcome
 pub mod Statuses
 pub mod Reports
 pub mod Offline
+pub mod Tried
 pub mod Trials

@@ -46,45 +46,55 @@ report_by s (Err n) = bad_report n
 abbrev pub report_text : ℕ → List ℕ → Report
 report_text s text = report_by s (reading text)
 
--- an image may have as many bytes and lines as a script
-abbrev pub image_limits : Limits
-image_limits = record { bytes = most_bytes; lines = most_lines }
+-- how many bytes and lines a script may have, and an image too
+abbrev pub script_limits : Limits
+script_limits = record { bytes = most_bytes; lines = most_lines }
 
 module _ {S : Type 0} (left : S → Option (List ℕ)) (source source' : S) where
   -- all that the source had was taken, within the limits
   pub record IsTaken (text : List ℕ) : Type 0 where
     pub took : Took left source source' text
     pub all : TookAll left source text
-    pub within : IsWithin image_limits text
+    pub within : IsWithin script_limits text
 
   -- what was taken is within the limits
   pub record HasTakenSome : Type 0 where
     pub text : List ℕ
     pub took : Took left source source' text
-    pub within : IsWithin image_limits text
+    pub within : IsWithin script_limits text
 
   -- what was taken passes a limit, that of bytes by one byte at most
   pub record HasTakenTooMuch : Type 0 where
     pub text : List ℕ
     pub took : Took left source source' text
-    pub past : IsPast image_limits text
+    pub past : IsPast script_limits text
     pub bytes : length text ≤ most_bytes + 1
 
-  module _ (faults : S → ℕ) (image : Reader) where
-    -- the text of an image was taken to its end, and the reader has all of it
-    pub record HasReadAll : Type 0 where
-      pub text : List ℕ
-      pub taken : IsTaken text
-      pub works : image.failed ≡ false
-      pub reads : will_read image [] ≡ reading text
-      pub kept : faults source' ≡ faults source
+  module _ (faults : S → ℕ) where
+    -- why a text wasn't taken to its end, and what was taken of it
+    abbrev pub NotTaken : NotRead → Type 0
+    NotTaken OnSource = HasTakenSome × Rose (faults source) (faults source')
+    NotTaken PastLimit = HasTakenTooMuch × (faults source' ≡ faults source)
+    NotTaken OnMemory = HasTakenSome × (faults source' ≡ faults source)
 
-    -- how the reading of an image ended
-    abbrev pub Reads : Result (Unit {0}) NotRead → Type 0
-    Reads (Ok x) = HasReadAll
-    Reads (Err OnSource) = HasTakenSome × Rose (faults source) (faults source')
-    Reads (Err PastLimit) = HasTakenTooMuch × (faults source' ≡ faults source)
-    Reads (Err OnMemory) = HasTakenSome × (faults source' ≡ faults source)
+    -- a text was taken to its end, and this is all of it
+    abbrev pub TakesText : Result (List ℕ) NotRead → Type 0
+    TakesText (Ok text) = IsTaken text × (faults source' ≡ faults source)
+    TakesText (Err fault) = NotTaken fault
+
+    module _ (image : Reader) where
+      -- the text of an image was taken to its end, and the reader has all of it
+      pub record HasReadAll : Type 0 where
+        pub text : List ℕ
+        pub taken : IsTaken text
+        pub works : image.failed ≡ false
+        pub reads : will_read image [] ≡ reading text
+        pub kept : faults source' ≡ faults source
+
+      -- how the reading of an image ended
+      abbrev pub Reads : Result (Unit {0}) NotRead → Type 0
+      Reads (Ok x) = HasReadAll
+      Reads (Err fault) = NotTaken fault
 
 module _ {K : Type 0} (written : K → Option (List ℕ)) (sink sink' : K) where
   -- a report was put with its status, or a front of it

@@ -1,5 +1,5 @@
 -- How `trial` ends: what the script of a trial came to.
-use Rattle.std.specs.Prelude.{◌≡◌, ℕ, ◌≤◌, List, ◌∷◌, [], ◌++◌, length, map, take, nat_eq, Option, codes, if◌then◌else◌}
+use Rattle.std.specs.Prelude.{◌≡◌, ℕ, List, ◌∷◌, [], ◌++◌, length, nat_eq, Option, codes, if◌then◌else◌}
 use Rattle.std.specs.List.{count_by, fold}
 use Rattle.std.specs.Fmt.{decimal}
 use Rattle.std.specs.Str.Lines.{lines}
@@ -8,14 +8,12 @@ use Rattle.dr_plant.specs.State.{PlantState}
 use Rattle.dr_model.specs.declared.event.Event.{Event}
 use Rattle.dr_model.specs.declared.event.Event.TheVariants.{Recovered}
 use Rattle.dr_model.specs.Control.{World}
-use Rattle.dr_model.specs.Listed.{as_asked}
-use Rattle.dr_model.specs.Lines.{tasks}
 use Rattle.dr_model.specs.Runs.{Task}
 use Rattle.dr_gen.specs.Trial.{script_text}
 use Rattle.dr_io.specs.Given.{Gave, GavePart}
-use Rattle.dr_top.specs.Followed.{IsFull}
 use Rattle.dr_top.specs.Outcome.{is_refusal, is_write_fault}
 use Rattle.dr_top.specs.Stands.{Stands}
+use Rattle.dr_top.specs.Tried.{AreAll, AreFirst, AreBeforeFull}
 use Rattle.dr_top.specs.declared.report.Report.{Report}
 use Rattle.dr_top.specs.declared.status.Status.{Status}
 use Rattle.dr_top.specs.declared.status.Status.TheVariants.{Done, DoneRefused, Usage, ReadFault, WriteFault, NoMemory, TooLong, BadImage, Contradiction, NoMembers}
@@ -49,55 +47,24 @@ trial_text n events = summary_text (length (lines (script_text n))) events
 abbrev pub summary_report : ℕ → List Event → Report
 summary_report count events = record { status = Done; text = summary_text count events }
 
-module _ (n : ℕ) where
-  -- all steps of the trial's script
-  abbrev pub AreAll : List Task → Type 0
-  AreAll steps = map as_asked steps ≡ tasks (script_text n)
+module _ {K : Type 0} (n : ℕ) (written : K → Option (List ℕ)) (sink sink' : K) where
+  -- why a trial ended with its status, which steps of its script were carried out, and what was put: without all of them nothing
+  abbrev pub EndsTrial : Status → List Task → World → Type 0
+  EndsTrial Done steps w = AreAll (script_text n) steps × Gave written sink sink' (trial_text n w.events)
+  EndsTrial DoneRefused steps w = ⊥
+  EndsTrial Usage steps w = ⊥
+  EndsTrial ReadFault steps w = ⊥
+  EndsTrial WriteFault steps w = AreAll (script_text n) steps × GavePart written sink sink' (trial_text n w.events)
+  EndsTrial NoMemory steps w = AreFirst (script_text n) steps × (sink' ≡ sink)
+  EndsTrial TooLong steps w = AreBeforeFull (script_text n) steps w × (sink' ≡ sink)
+  EndsTrial BadImage steps w = ⊥
+  EndsTrial Contradiction steps w = ⊥
+  EndsTrial NoMembers steps w = ⊥
 
-  -- the first steps of it
-  pub record AreFirst (steps : List Task) : Type 0 where
-    pub done : ℕ
-    pub within : done ≤ length (tasks (script_text n))
-    pub same : map as_asked steps ≡ take done (tasks (script_text n))
-
-  -- those before one that found the journal full
-  pub record AreBeforeFull (steps : List Task) (w : World) : Type 0 where
-    pub first : AreFirst steps
-    pub full : IsFull first.done (tasks (script_text n)) w
-
-  module _ {K : Type 0} (written : K → Option (List ℕ)) (sink sink' : K) where
-    -- why a trial ended with its status, which steps were carried out, and what was put: without all of them nothing
-    abbrev pub EndsTrial : Status → List Task → World → Type 0
-    EndsTrial Done steps w = AreAll steps × Gave written sink sink' (trial_text n w.events)
-    EndsTrial DoneRefused steps w = ⊥
-    EndsTrial Usage steps w = ⊥
-    EndsTrial ReadFault steps w = ⊥
-    EndsTrial WriteFault steps w = AreAll steps × GavePart written sink sink' (trial_text n w.events)
-    EndsTrial NoMemory steps w = AreFirst steps × (sink' ≡ sink)
-    EndsTrial TooLong steps w = AreBeforeFull steps w × (sink' ≡ sink)
-    EndsTrial BadImage steps w = ⊥
-    EndsTrial Contradiction steps w = ⊥
-    EndsTrial NoMembers steps w = ⊥
-
-    -- A trial: steps of its script were carried out, and this is how it stands. The sink counted a fault exactly where the status says so.
-    pub record IsTrial (write_faults : K → ℕ) (status : Status) (events : List Event) (s s' : PlantState) : Type 0 where
-      pub world : World
-      pub steps : List Task
-      pub ends : EndsTrial status steps world
-      pub writes : Counted (is_write_fault status) (write_faults sink) (write_faults sink')
-      pub stands : Stands steps world events s s'
-
-  -- by the status of a run of its script that heard all of it and told nobody
-  abbrev pub TriedBy : Status → List Task → World → Type 0
-  TriedBy Done steps w = AreAll steps
-  TriedBy DoneRefused steps w = AreAll steps
-  TriedBy NoMemory steps w = AreFirst steps
-  TriedBy TooLong steps w = AreBeforeFull steps w
-  TriedBy _ steps w = ⊥
-
-  -- the script of the trial was run
-  pub record IsTried (status : Status) (events : List Event) (s s' : PlantState) : Type 0 where
+  -- A trial: steps of its script were carried out, and this is how it stands. The sink counted a fault exactly where the status says so.
+  pub record IsTrial (write_faults : K → ℕ) (status : Status) (events : List Event) (s s' : PlantState) : Type 0 where
     pub world : World
     pub steps : List Task
-    pub by : TriedBy status steps world
+    pub ends : EndsTrial status steps world
+    pub writes : Counted (is_write_fault status) (write_faults sink) (write_faults sink')
     pub stands : Stands steps world events s s'

@@ -16,7 +16,7 @@ use dr_io::{PieceReader, SCRIPT_LIMITS, Sink, Source, TakenPiece};
 use dr_report::{Found, offline};
 use std::alloc::{AllocError, Global};
 
-/// Why the text of an image wasn't read to its end.
+/// Why a text wasn't read to its end.
 #[derive(Clone, Copy)]
 pub enum NotRead {
     /// The source failed.

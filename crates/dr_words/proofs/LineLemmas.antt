@@ -22,11 +22,11 @@ line_is_simple = refl
 abbrev pub IsTaken : List Text → Option Command → Type 0
 IsTaken words command = (takes command_line words ≡ true) × (met_command (subcommand_of command_line words) ≡ command)
 
-no_hyphen : (word : Text) → is_option word ≡ false → strip_byte 45 word ≡ None
+pub no_hyphen : (word : Text) → is_option word ≡ false → strip_byte 45 word ≡ None
 no_hyphen [] plain = refl
 no_hyphen (first ∷ rest) plain = rw plain refl
 
-no_dashes : (word : Text) → is_option word ≡ false → bytes_eq word (45 ∷ 45 ∷ []) ≡ false
+pub no_dashes : (word : Text) → is_option word ≡ false → bytes_eq word (45 ∷ 45 ∷ []) ≡ false
 no_dashes [] plain = refl
 no_dashes (first ∷ rest) plain = rw plain refl
 

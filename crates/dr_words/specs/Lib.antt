@@ -1,2 +1,4 @@
 pub mod Words
 pub mod Line
+pub mod Sweep
+pub mod SweepLine

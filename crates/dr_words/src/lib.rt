@@ -1,9 +1,13 @@
-//! The words that the program is given, as the command that they name.
+//! The words that the programs are given, as the command that they name.
 //!
-//! `command_of` reads them by `clap`, without help, options and `--`.
+//! `command_of` reads the words of `drsim` by `clap`, without help, options and `--`; `sweep_command_of` does so with those of
+//! the program of sweeps. The words of a point are one argument with several values, and `point_said` reads these.
 #![tactic(auto)]
 
 mod line;
+mod sweep;
+mod sweep_line;
 mod words;
 
+pub use sweep::{SweepCommand, TornBytes, sweep_command_of};
 pub use words::{Command, command_of};

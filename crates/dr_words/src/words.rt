@@ -56,7 +56,7 @@ fn takes_value(name: &str) -> bool
 }
 
 /// Whether the word begins with a hyphen.
-fn is_option(word: &[u8]) -> bool
+pub(crate) fn is_option(word: &[u8]) -> bool
     ensures { result ≡ is_option word.now }
 {
     match word.first() {

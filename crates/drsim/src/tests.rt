@@ -1,14 +1,18 @@
 ghost use Rattle.std.specs.Prelude.{◌<◌};
 
+mod reads;
+
 use dr_ids::{Text, VolumeId};
 use dr_image::{Image, ImageFault, ImageReader, ImageVolume, read_image, write_image};
-use dr_io::{MemSink, MemSource, Sink, StdSink};
+use dr_io::{MemSink, MemSource, Sink, Source, StdSink, StdSource};
+use dr_list::text;
 use dr_lost::{Holdings, Pair, first_broken};
 use dr_model::{Event, Journal, image_of};
 use dr_plan::{Point, Torn, read_plan, script_at};
 use dr_plant::ModelPlant;
 use dr_script::{Line, print_step, read_line};
 use dr_top::drsim;
+use reads::stopped_at;
 use std::alloc::{AllocError, Global};
 use std::cell::Cell;
 use std::io;
@@ -60,9 +64,35 @@ fn run(alloc: Global, words: &str, script: Vec<u8>) -> Result<Left, AllocError> 
 
 const FIRST: &str = "@server A\r\n@volume 1000 A 2\n@write 1000 0 0 41\n@show 1000 0\n";
 
+/// A group, an attempt in which a server stops, and a recovery.
+const SITE_LOST: &str = "\
+    @server A\n\
+    @server B\n\
+    @volume 1000 A 1\n\
+    @volume 2000 B 1\n\
+    @volume 3000 B 1\n\
+    mkpprcpath -srclss 10 -tgtlss 20 I0010:I0140\n\
+    mkpprc -type gcp -mode nocp 1000:2000\n\
+    mkflash -tgtinhibit -record -nocp 2000:3000\n\
+    mksession -lss 10 -volume 1000 01\n\
+    mkgmir -lss 10 -session 01\n\
+    @write 1000 0 0 41\n\
+    @run 01 1\n\
+    @write 1000 0 0 43\n\
+    @stop B after 7 torn none\n\
+    @run 01 1\n\
+    @stop A\n\
+    @start B\n\
+    @recover 01\n\
+    @show 3000 0\n\
+";
+
 /// A target of group 1, which has what its source has.
 const TARGET: &str =
     "image 1\nvolume 2000 0 1\nvolume 3000 0 1\nblock 2000 13 41\nblock 3000 1 00000000009F01000000000020000000000000000000000000000001\nend\n";
+
+/// What recovery makes of it.
+const GROUP: &str = "members 1\ndecision Nothing(1)\ngroup 1\ntrack 3000 0 41\n";
 
 #[test]
 fn other_words(rt: HostRuntime) -> Result<(), AllocError> {
@@ -97,6 +127,28 @@ const SOUND: Faults = Faults {
     stuck: 0,
 };
 
+/// Makes a call over streams with these faults, whose source gives so many bytes of the input at a time.
+fn call_over(
+    alloc: Global,
+    words: &str,
+    input: &str,
+    piece: usize,
+    faults: Faults,
+) -> Result<Left, AllocError>
+    requires { 0 < piece }
+{
+    let Faults {
+        read,
+        room,
+        fail,
+        stuck,
+    } = faults;
+    let bytes = Vec::from_slice(alloc, input.as_bytes())?;
+    let source = MemSource::new(bytes, piece, vec![in alloc; read]?);
+    let sink = MemSink::new(alloc, room, vec![in alloc; fail]?, vec![in alloc; stuck]?)?;
+    call(alloc, words, source, sink)
+}
+
 /// Makes a call with a script of two steps, of which the source gives 10 bytes at a time, and asserts what it leaves.
 fn faulty(
     rt: &impl Abort,
@@ -107,22 +159,105 @@ fn faulty(
     status: u8,
     events: usize,
 ) -> Result<(), AllocError> {
-    let Faults {
-        read,
-        room,
-        fail,
-        stuck,
-    } = faults;
-    let script = Vec::from_slice(alloc, b"@server A\n@volume 1000 A 1\n")?;
-    let source = MemSource::new(script, 10, vec![in alloc; read]?);
-    let sink = MemSink::new(alloc, room, vec![in alloc; fail]?, vec![in alloc; stuck]?)?;
-    let left = call(alloc, words, source, sink)?;
+    let script = "@server A\n@volume 1000 A 1\n";
+    let left = call_over(alloc, words, script, 10, faults)?;
     assert!(rt;
         left.sink.bytes() == printed.as_bytes(),
         "printed not {printed}"
     );
     assert_eq!(rt; left.status, status, "status behind {printed}");
     assert_eq!(rt; left.journal.len(), events, "events behind {printed}");
+    Ok(())
+}
+
+/// What a run of the first lines of the script above leaves.
+fn front(alloc: Global, lines: usize) -> Result<Left, AllocError> {
+    let mut script = Vec::new(alloc);
+    for line in SITE_LOST.lines().take(lines) {
+        script.extend_from_slice(line.as_bytes())?;
+        script.push(b'\n')?;
+    }
+    run(alloc, "run", script)
+}
+
+/// The call of the sink that prints a line's answers fails, or takes nothing: the line was carried out, and no answer of it or of one
+/// behind it was put.
+fn put_that_fails(
+    rt: &impl Abort,
+    alloc: Global,
+    line: u32,
+    faults: Faults,
+) -> Result<(), AllocError> {
+    let left = call_over(alloc, "run", SITE_LOST, 40, faults)?;
+    let before = front(alloc, line.saturating_sub(1) as usize)?;
+    let with = front(alloc, line as usize)?;
+    let told = text(alloc, &left.journal, 0)?;
+    assert_eq!(rt; left.status, 4, "status at put {line}");
+    assert!(rt;
+        left.sink.bytes() == before.sink.bytes(),
+        "printed at put {line}"
+    );
+    assert!(rt; told.starts_with(left.sink.bytes()), "told at put {line}");
+    assert_eq!(rt;
+        left.journal.len(),
+        with.journal.len(),
+        "events at put {line}"
+    );
+    Ok(())
+}
+
+/// How many lines of the script above end in the pieces of 40 bytes before a call of its source.
+fn lines_before(call: u32) -> usize {
+    let taken = call.saturating_sub(1) as usize * 40;
+    SITE_LOST
+        .bytes()
+        .take(taken)
+        .filter(|byte| *byte == b'\n')
+        .count()
+}
+
+/// A call of the source fails: the lines that were taken whole are carried out and answered, and no other.
+fn take_that_fails(rt: &impl Abort, alloc: Global, call: u32) -> Result<(), AllocError> {
+    let faults = Faults {
+        read: call,
+        room: 4096,
+        ..SOUND
+    };
+    let left = call_over(alloc, "run", SITE_LOST, 40, faults)?;
+    let taken = SITE_LOST.bytes().take(call.saturating_sub(1) as usize * 40);
+    let whole = front(alloc, taken.filter(|byte| *byte == b'\n').count())?;
+    assert_eq!(rt; left.status, 3, "status at take {call}");
+    assert!(rt;
+        left.sink.bytes() == whole.sink.bytes(),
+        "printed at take {call}"
+    );
+    assert_eq!(rt;
+        left.journal.len(),
+        whole.journal.len(),
+        "events at take {call}"
+    );
+    Ok(())
+}
+
+/// The same of a recovery: it takes the whole image before it puts anything.
+fn recovery_that_fails(rt: &impl Abort, alloc: Global, call: u32) -> Result<(), AllocError> {
+    let faults = Faults {
+        read: call,
+        ..SOUND
+    };
+    let left = call_over(alloc, "recover 01", TARGET, 10, faults)?;
+    assert_eq!(rt; left.status, 3, "status at take {call}");
+    assert!(rt; left.sink.bytes().is_empty(), "printed at take {call}");
+
+    let room = call as usize;
+    let faults = Faults { room, ..SOUND };
+    let left = call_over(alloc, "recover 01", TARGET, 10, faults)?;
+    assert_eq!(rt; left.status, 4, "status with room for {call}");
+    assert!(rt; left.sink.bytes().len() == room, "room for {call}");
+    assert!(rt;
+        GROUP.as_bytes().starts_with(left.sink.bytes()),
+        "printed with room for {call}"
+    );
     Ok(())
 }
 
@@ -153,6 +288,7 @@ fn reads_and_writes_that_fail(rt: HostRuntime) -> Result<(), AllocError> {
         ("recover 01", narrow, "bad", 4, 0),
         ("recover 01", both, "", 3, 0),
         ("help", Faults { fail: 1, ..SOUND }, "", 4, 0),
+        ("help", stuck, "", 4, 0),
         ("help", narrow, "usa", 4, 0),
         ("trial 0", narrow, "lin", 4, 8867),
         (
@@ -170,9 +306,44 @@ fn reads_and_writes_that_fail(rt: HostRuntime) -> Result<(), AllocError> {
             8867,
         ),
         ("trial 0", Faults { fail: 1, ..SOUND }, "", 4, 8867),
+        ("trial 0", stuck, "", 4, 8867),
+        (
+            "trial 0",
+            Faults { read: 1, ..SOUND },
+            "lines 2998\nrefused 1150\ngroup 244\n",
+            0,
+            8867,
+        ),
     ];
     for (words, faults, printed, status, events) in cases {
         faulty(&rt, rt.alloc(), words, faults, printed, status, events)?;
+    }
+    for call in 1..11 {
+        let wide = Faults {
+            room: 4096,
+            ..SOUND
+        };
+        put_that_fails(&rt, rt.alloc(), call, Faults { fail: call, ..wide })?;
+        put_that_fails(
+            &rt,
+            rt.alloc(),
+            call,
+            Faults {
+                stuck: call,
+                ..wide
+            },
+        )?;
+        take_that_fails(&rt, rt.alloc(), call)?;
+        recovery_that_fails(&rt, rt.alloc(), call)?;
+    }
+    for after in 0..21 {
+        let done = after >= 9;
+        let source = if done { 2 } else { 1 };
+        assert_eq!(rt;
+            stopped_at(rt.alloc(), after)?,
+            Some((done, source, 1)),
+            "reads after {after}"
+        );
     }
     Ok(())
 }
@@ -226,13 +397,12 @@ fn inputs_in_pieces(rt: HostRuntime) -> Result<(), AllocError> {
         let repeated = (byte, count);
         call_in_pieces(&rt, alloc, "run", repeated, last, piece, printed, status)?;
     }
-    let group = "members 1\ndecision Nothing(1)\ngroup 1\ntrack 3000 0 41\n";
     let images = [
-        (0, TARGET, 1, group, 0),
-        (0, TARGET, 2, group, 0),
-        (0, TARGET, 3, group, 0),
-        (0, TARGET, 63, group, 0),
-        (0, TARGET, 4096, group, 0),
+        (0, TARGET, 1, GROUP, 0),
+        (0, TARGET, 2, GROUP, 0),
+        (0, TARGET, 3, GROUP, 0),
+        (0, TARGET, 63, GROUP, 0),
+        (0, TARGET, 4096, GROUP, 0),
         (100_000, "", 4096, "bad image line 1\n", 7),
         (100_001, "", 4096, "", 6),
         (100_000, "x", 63, "", 6),
@@ -275,45 +445,93 @@ fn journals(rt: HostRuntime) -> Result<(), AllocError> {
     Ok(())
 }
 
-/// A writer that counts its flushes, which may fail.
-#[derive(Drop)]
-struct Flushed<'a> {
-    bytes: Vec<u8>,
-    flushes: &'a Cell<u32>,
-    fails: bool,
+/// Which call of a stream fails, once.
+#[derive(Clone, Copy)]
+enum Fails {
+    Never,
+    InMove,
+    InFlush,
 }
 
-impl<'a> io::Write for Flushed<'a> {
+/// A reader and a writer that count their calls, of which the first may fail, as one that a signal broke off.
+#[derive(Drop)]
+struct Counting<'a> {
+    bytes: Vec<u8>,
+    moves: &'a Cell<u32>,
+    flushes: &'a Cell<u32>,
+    fails: Fails,
+}
+
+/// Counts a call; fails at the first one, where it is to fail.
+fn counted(calls: &Cell<u32>, fails: bool) -> io::Result<()> {
+    calls.set(calls.get().saturating_add(1));
+    if fails && calls.get() == 1 {
+        return Err(io::Error::from(io::ErrorKind::Interrupted));
+    }
+    Ok(())
+}
+
+impl<'a> io::Write for Counting<'a> {
     fn write(&mut self, buf: &[u8]) -> io::Result<usize> {
+        counted(self.moves, matches!(self.fails, Fails::InMove))?;
         self.bytes.write(buf)
     }
 
     fn flush(&mut self) -> io::Result<()> {
-        self.flushes.set(self.flushes.get().saturating_add(1));
-        if self.fails {
-            return Err(io::Error::from(AllocError));
-        }
-        Ok(())
+        counted(self.flushes, matches!(self.fails, Fails::InFlush))
     }
 }
 
-/// Each piece is flushed, which no contract can say.
+impl<'a> io::Read for Counting<'a> {
+    fn read(&mut self, buf: &mut [u8]) -> io::Result<usize> {
+        counted(self.moves, matches!(self.fails, Fails::InMove))?;
+        let n = buf.len().min(self.bytes.len());
+        buf[..n].copy_from_slice(&self.bytes[..n]);
+        Ok(n)
+    }
+}
+
+/// Each call of a stream is one of its reader or writer, and each piece is flushed; where one fails, so does the call, and it isn't
+/// tried again. No contract can say this, since the standard library counts no calls.
 #[test]
-fn flushes(rt: HostRuntime) {
-    for (fails, wanted) in [(false, Some(2)), (true, None)] {
-        let flushes = Cell::new(0);
-        let bytes = Vec::new(rt.alloc());
-        let mut sink = StdSink::new(Flushed {
-            bytes,
+fn flushes(rt: HostRuntime) -> Result<(), AllocError> {
+    let alloc = rt.alloc();
+    let piece = vec![in alloc; b'p'; 5000]?;
+    let cases = [
+        (Fails::Never, Some(5000), [1, 1], [2, 2]),
+        (Fails::InMove, None, [1, 0], [2, 1]),
+        (Fails::InFlush, None, [1, 1], [2, 2]),
+    ];
+    for (fails, taken, first, second) in cases {
+        let (moves, flushes) = (Cell::new(0), Cell::new(0));
+        let mut sink = StdSink::new(Counting {
+            bytes: Vec::new(alloc),
+            moves: &moves,
             flushes: &flushes,
             fails,
         });
-        for count in [1, 2] {
-            let taken = sink.put(&[7, 8]).ok();
-            assert_eq!(rt; taken, wanted);
-            assert_eq!(rt; flushes.get(), count);
-        }
+        assert_eq!(rt; sink.put(&piece).ok(), taken);
+        assert_eq!(rt; [moves.get(), flushes.get()], first);
+        assert_eq!(rt; sink.put(&piece).ok(), Some(5000));
+        assert_eq!(rt; [moves.get(), flushes.get()], second);
     }
+    for (fails, taken) in [(Fails::Never, Some(3)), (Fails::InMove, None)] {
+        let (moves, flushes) = (Cell::new(0), Cell::new(0));
+        let mut source = StdSource::new(Counting {
+            bytes: Vec::from_slice(alloc, b"abc")?,
+            moves: &moves,
+            flushes: &flushes,
+            fails,
+        });
+        let mut into = [b'x'; 5];
+        assert_eq!(rt; source.take(&mut into).ok(), taken);
+        assert_eq!(rt; moves.get(), 1);
+        assert!(rt; taken.is_some() || into == *b"xxxxx");
+        assert_eq!(rt; source.take(&mut into).ok(), Some(3));
+        assert_eq!(rt; moves.get(), 2);
+        assert!(rt; into == *b"abcxx");
+    }
+    Ok(())
 }
 
 /// Lines, and what is printed of their first steps.

@@ -1,0 +1,8 @@
+use Rattle.std.proofs.Common.{◌≡◌, ◌++◌, take}
+use Rattle.std.specs.Prelude.{codes}
+use Rattle.std.specs.List.{flat_map}
+use Rattle.dr_rows.specs.Cells.{decision_said}
+use Rattle.dr_rows.proofs.cells.push_more_decisions.Given as goal
+
+abbrev pub invariant-loop-a : goal.invariant-loop-a
+invariant-loop-a l = l.text ≡ l.fn.text ++ flat_map (λ a. codes " " ++ decision_said a) (take l.a-index l.more)

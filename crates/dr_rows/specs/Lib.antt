@@ -1,0 +1,10 @@
+pub mod Outcome
+pub mod Cells
+pub mod Line
+pub mod Findings
+pub mod Places
+pub mod Words
+pub mod Kinds
+pub mod Refusals
+pub mod Strip
+pub mod Report

@@ -1,0 +1,345 @@
+//! What is said of each disaster.
+
+ghost use Rattle.std.specs.Prelude.{◌≡◌, ◌∷◌, ◌++◌, length, map, count_by, find, OnOk, IfOk};
+ghost use Rattle.std.specs.List.{flat_map, list_any};
+ghost use Rattle.std.specs.Option.{option_copied};
+ghost use Rattle.std.specs.Str.{bytes_eq};
+ghost use Rattle.dr_model.specs.LineText.{name_text};
+ghost use Rattle.dr_rows.specs.Outcome.{has_refusal, is_broken};
+ghost use Rattle.dr_rows.specs.Places.{most_lost};
+ghost use Rattle.dr_rows.specs.Kinds.{disaster_of, rows_of, with_kind, kinds, is_like, rows_like, counted, counts, tally, kind_line, shown_by, loses_most, worst_said, worst_line, break_said, broken_said_of, broken_line, servers_of, lost_at_once, told, disaster_told};
+
+use crate::cells::kind;
+use crate::pieces::{name_bytes, push_number, push_write};
+use crate::row::Row;
+use crate::words::push_words;
+use dr_ids::Text;
+use dr_lost::Broken;
+use dr_model::Name;
+use dr_plan::{Point, SweepPlan};
+use std::alloc::{AllocError, Global};
+
+fn disaster_of(point: Point) -> usize
+    ensures { result ≡ disaster_of point }
+{
+    match point {
+        Point::Cut { disaster, .. } => disaster,
+        Point::Gap { disaster, .. } => disaster,
+    }
+}
+
+/// The rows of a disaster.
+fn rows_of(alloc: Global, rows: &[Row], disaster: usize) -> Result<Vec<&Row>, AllocError>
+    ensures { IfOk result (λ found. map (λ row. row.now) found.items ≡ rows_of disaster rows.now) }
+{
+    rows.iter()
+        .filter(|row| disaster_of(row.point()) == disaster)
+        .collect(alloc)
+}
+
+fn is_same(said: &[u8], other: &[u8]) -> bool
+    ensures { result ≡ bytes_eq said.now other.now }
+{
+    said == other
+}
+
+/// A kind is one of some.
+fn is_among(said: &Text, found: &[Text]) -> bool
+    ensures { result ≡ list_any (bytes_eq said.now) found.now }
+{
+    found
+        .iter()
+        .any(|other| is_same(said.bytes(), other.bytes()))
+}
+
+/// A kind joins those that came before it, unless it is one of them.
+fn add_kind(found: &mut Vec<Text>, said: Text) -> Result<(), AllocError>
+    ensures { OnOk result (found.new.items ≡ with_kind found.old.items said) }
+{
+    if !is_among(&said, found) {
+        found.push(said)?;
+    }
+    Ok(())
+}
+
+/// The kinds of rows, each once, in the order in which they first come.
+#[tactic(auto, unfolding(crate::specs::Kinds::kinds))]
+fn kinds(alloc: Global, rows: &[&Row]) -> Result<Vec<Text>, AllocError>
+    ensures { IfOk result (λ found. found.items ≡ kinds (map (λ row. row.now) rows.now)) }
+{
+    let mut found = Vec::new(alloc);
+    for row in rows {
+        add_kind(&mut found, kind(alloc, row)?)?;
+    }
+    Ok(found)
+}
+
+fn is_like(alloc: Global, said: &[u8], row: &Row) -> Result<bool, AllocError>
+    ensures { IfOk result (λ like. like ≡ is_like said.now row.now) }
+{
+    let other = kind(alloc, row)?;
+    Ok(is_same(said, other.bytes()))
+}
+
+/// The rows of a kind.
+fn rows_like<'a>(alloc: Global, said: &[u8], rows: &[&'a Row]) -> Result<Vec<&'a Row>, AllocError>
+    ensures { IfOk result (λ found. map (λ row. row.now) found.items ≡ rows_like said.now (map (λ row. row.now) rows.now)) }
+{
+    let mut found = Vec::new(alloc);
+    for row in rows {
+        if is_like(alloc, said, row)? {
+            found.push(*row)?;
+        }
+    }
+    Ok(found)
+}
+
+/// The most writes that are lost in one of some rows.
+fn most_of(rows: &[&Row]) -> usize
+    ensures { result ≡ most_lost (map (λ row. row.now) rows.now) }
+{
+    let mut most = 0;
+    for row in rows {
+        most = most.max(row.lost().len());
+    }
+    most
+}
+
+/// How many rows are broken.
+fn broken_count(rows: &[&Row]) -> usize
+    ensures { result ≡ count_by is_broken (map (λ row. row.now) rows.now) }
+{
+    rows.iter().filter(|row| row.is_broken()).count()
+}
+
+/// How many rows have a refusal.
+fn refusal_count(rows: &[&Row]) -> usize
+    ensures { result ≡ count_by has_refusal (map (λ row. row.now) rows.now) }
+{
+    rows.iter().filter(|row| row.has_refusal()).count()
+}
+
+/// How many rows there are.
+fn row_count(rows: &[&Row]) -> usize
+    ensures { result ≡ length (map (λ row. row.now) rows.now) }
+{
+    rows.len()
+}
+
+/// Adds a count and what is counted.
+fn push_count(text: &mut Text, n: usize, words: &[u8]) -> Result<(), AllocError>
+    ensures { OnOk result (text.new ≡ text.old ++ counted n words.now) }
+{
+    push_number(text, n)?;
+    text.append(words)
+}
+
+/// Adds the counts of a kind.
+fn push_counts(
+    text: &mut Text,
+    points: usize,
+    most: usize,
+    broken: usize,
+    refused: usize,
+) -> Result<(), AllocError>
+    ensures { OnOk result (text.new ≡ text.old ++ counts points most broken refused) }
+{
+    text.append(b": ")?;
+    push_count(text, points, b" points, at most ")?;
+    push_count(text, most, b" lost, ")?;
+    push_count(text, broken, b" broken, ")?;
+    push_count(text, refused, b" with refusals\n")
+}
+
+/// Adds what is said of rows of one kind.
+fn push_tally(text: &mut Text, rows: &[&Row]) -> Result<(), AllocError>
+    ensures { OnOk result (text.new ≡ text.old ++ tally (map (λ row. row.now) rows.now)) }
+{
+    push_counts(
+        text,
+        row_count(rows),
+        most_of(rows),
+        broken_count(rows),
+        refusal_count(rows),
+    )
+}
+
+/// Adds the line of a kind.
+fn push_kind_line(
+    alloc: Global,
+    text: &mut Text,
+    rows: &[&Row],
+    said: &[u8],
+) -> Result<(), AllocError>
+    ensures { OnOk result (text.new ≡ text.old ++ kind_line (map (λ row. row.now) rows.now) said.now) }
+{
+    text.append(b"  ")?;
+    text.append(said)?;
+    push_tally(text, &rows_like(alloc, said, rows)?)
+}
+
+/// Adds the lines of kinds.
+fn push_kind_lines(
+    alloc: Global,
+    text: &mut Text,
+    rows: &[&Row],
+    kinds: &[Text],
+) -> Result<(), AllocError>
+    ensures { OnOk result (text.new ≡ text.old ++ flat_map (kind_line (map (λ row. row.now) rows.now)) kinds.now) }
+{
+    for said in kinds {
+        push_kind_line(alloc, text, rows, said.bytes())?;
+    }
+    Ok(())
+}
+
+/// Adds the words that show a point, at the end of a line.
+fn push_shown_by(text: &mut Text, plan: &SweepPlan, row: &Row) -> Result<(), AllocError>
+    ensures { OnOk result (text.new ≡ text.old ++ shown_by plan.now row.now) }
+{
+    text.append(b", shown by: ")?;
+    push_words(text, plan, row.point())?;
+    text.append(b"\n")
+}
+
+/// So many writes are lost, and some are.
+fn loses_most(most: usize, row: &Row) -> bool
+    ensures { result ≡ loses_most most row.now }
+{
+    0 < most && row.lost().len() == most
+}
+
+/// The first row that loses so many writes.
+fn first_worst<'a>(rows: &[&'a Row], most: usize) -> Option<&'a Row>
+    ensures { option_copied result ≡ find (loses_most most) (map (λ row. row.now) rows.now) }
+{
+    for row in rows {
+        if loses_most(most, row) {
+            return Some(*row);
+        }
+    }
+    None
+}
+
+/// Adds the line of a worst point.
+fn push_worst_said(text: &mut Text, plan: &SweepPlan, row: &Row) -> Result<(), AllocError>
+    ensures { OnOk result (text.new ≡ text.old ++ worst_said plan.now row.now) }
+{
+    text.append(b"  worst: ")?;
+    push_number(text, row.lost().len())?;
+    text.append(b" lost")?;
+    push_shown_by(text, plan, row)
+}
+
+/// Adds the line of the worst point, where some writes are lost.
+fn push_worst(text: &mut Text, plan: &SweepPlan, rows: &[&Row]) -> Result<(), AllocError>
+    ensures { OnOk result (text.new ≡ text.old ++ worst_line plan.now (map (λ row. row.now) rows.now)) }
+{
+    match first_worst(rows, most_of(rows)) {
+        None => Ok(()),
+        Some(row) => push_worst_said(text, plan, row),
+    }
+}
+
+/// The first broken row.
+fn first_broken<'a>(rows: &[&'a Row]) -> Option<&'a Row>
+    ensures { option_copied result ≡ find is_broken (map (λ row. row.now) rows.now) }
+{
+    for row in rows {
+        if row.is_broken() {
+            return Some(*row);
+        }
+    }
+    None
+}
+
+/// Adds the line of a broken point.
+fn push_break(text: &mut Text, plan: &SweepPlan, row: &Row, b: Broken) -> Result<(), AllocError>
+    ensures { OnOk result (text.new ≡ text.old ++ break_said plan.now row.now b) }
+{
+    text.append(b"  broken: ")?;
+    push_write(text, b.held)?;
+    text.append(b" is held and depends on ")?;
+    push_write(text, b.lost)?;
+    text.append(b", which is lost")?;
+    push_shown_by(text, plan, row)
+}
+
+/// Adds the line of a row, where it is broken.
+fn push_break_of(text: &mut Text, plan: &SweepPlan, row: &Row) -> Result<(), AllocError>
+    ensures { OnOk result (text.new ≡ text.old ++ broken_said_of plan.now row.now) }
+{
+    match row.broken() {
+        None => Ok(()),
+        Some(b) => push_break(text, plan, row, b),
+    }
+}
+
+/// Adds the line of the first broken point, where there is one.
+fn push_first_broken(text: &mut Text, plan: &SweepPlan, rows: &[&Row]) -> Result<(), AllocError>
+    ensures { OnOk result (text.new ≡ text.old ++ broken_line plan.now (map (λ row. row.now) rows.now)) }
+{
+    match first_broken(rows) {
+        None => Ok(()),
+        Some(row) => push_break_of(text, plan, row),
+    }
+}
+
+/// The servers of a disaster.
+pub(crate) fn servers_of(plan: &SweepPlan, disaster: usize) -> &[Name]
+    ensures { result.now ≡ servers_of plan.now disaster }
+{
+    match plan.disasters().get(disaster) {
+        Some(lost) => lost.servers(),
+        None => &[],
+    }
+}
+
+/// Adds names, each behind a space.
+fn push_names(text: &mut Text, servers: &[Name]) -> Result<(), AllocError>
+    ensures { OnOk result (text.new ≡ text.old ++ flat_map (λ name. 32 ∷ name_text name) servers.now) }
+{
+    for name in servers {
+        text.append(b" ")?;
+        text.append(name_bytes(name))?;
+    }
+    Ok(())
+}
+
+/// Adds the names of servers that are lost at once.
+pub(crate) fn push_lost_at_once(text: &mut Text, servers: &[Name]) -> Result<(), AllocError>
+    ensures { OnOk result (text.new ≡ text.old ++ lost_at_once servers.now) }
+{
+    text.append(b"lost at once:")?;
+    push_names(text, servers)?;
+    text.append(b"\n")
+}
+
+/// Adds what is said of the rows of one disaster.
+fn push_told(
+    alloc: Global,
+    text: &mut Text,
+    plan: &SweepPlan,
+    rows: &[&Row],
+) -> Result<(), AllocError>
+    ensures { OnOk result (text.new ≡ text.old ++ told plan.now (map (λ row. row.now) rows.now)) }
+{
+    push_kind_lines(alloc, text, rows, &kinds(alloc, rows)?)?;
+    push_worst(text, plan, rows)?;
+    push_first_broken(text, plan, rows)
+}
+
+/// Adds what is said of a disaster.
+#[tactic(auto, unfolding(crate::specs::Kinds::disaster_told))]
+pub(crate) fn push_disaster_told(
+    alloc: Global,
+    text: &mut Text,
+    plan: &SweepPlan,
+    rows: &[Row],
+    disaster: usize,
+) -> Result<(), AllocError>
+    ensures { OnOk result (text.new ≡ text.old ++ disaster_told plan.now rows.now disaster) }
+{
+    push_lost_at_once(text, servers_of(plan, disaster))?;
+    push_told(alloc, text, plan, &rows_of(alloc, rows, disaster)?)
+}

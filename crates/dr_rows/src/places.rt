@@ -1,0 +1,128 @@
+//! Rows by place.
+
+ghost use Rattle.std.specs.Prelude.{◌≡◌, map, IfOk};
+ghost use Rattle.std.specs.List.{list_any};
+ghost use Rattle.dr_rows.specs.Outcome.{is_broken};
+ghost use Rattle.dr_rows.specs.Places.{is_beside, joins, places, most_lost, differs, decides};
+
+use crate::cells::kind;
+use crate::row::Row;
+use dr_plan::Point;
+use std::alloc::{AllocError, Global};
+
+/// Both stop the same servers behind as many lines and writes, whatever is torn.
+fn is_beside(a: Point, b: Point) -> bool
+    ensures { result ≡ is_beside a b }
+{
+    match (a, b) {
+        (
+            Point::Cut {
+                disaster,
+                line,
+                server,
+                write,
+                ..
+            },
+            Point::Cut {
+                disaster: other_disaster,
+                line: other_line,
+                server: other_server,
+                write: other_write,
+                ..
+            },
+        ) => {
+            disaster == other_disaster
+                && line == other_line
+                && server == other_server
+                && write == other_write
+        }
+        (
+            Point::Gap { disaster, line },
+            Point::Gap {
+                disaster: other_disaster,
+                line: other_line,
+            },
+        ) => disaster == other_disaster && line == other_line,
+        _ => false,
+    }
+}
+
+/// The row is of the same place as the first of these.
+fn joins(here: &[Row], row: &Row) -> bool
+    ensures { result ≡ joins here.now row.now }
+{
+    match here {
+        [] => true,
+        [first, ..] => is_beside(first.point(), row.point()),
+    }
+}
+
+/// Rows by place. Those of one place stand together.
+#[tactic(auto, unfolding(crate::specs::Places::places))]
+pub(crate) fn places(alloc: Global, rows: &[Row]) -> Result<Vec<&[Row]>, AllocError>
+    ensures { IfOk result (λ found. map (λ place. place.now) found.items ≡ places rows.now) }
+{
+    let mut found = Vec::new(alloc);
+    if rows.is_empty() {
+        return Ok(found);
+    }
+    let mut start = 0;
+    for end in 1..rows.len() {
+        if joins(&rows[start..end], &rows[end]) {
+            continue;
+        }
+        found.push(&rows[start..end])?;
+        start = end;
+    }
+    found.push(&rows[start..])?;
+    Ok(found)
+}
+
+/// The most writes that are lost in one of some rows.
+pub(crate) fn most_lost(rows: &[Row]) -> usize
+    ensures { result ≡ most_lost rows.now }
+{
+    let mut most = 0;
+    for row in rows {
+        most = most.max(row.lost().len());
+    }
+    most
+}
+
+/// A row is broken.
+pub(crate) fn any_broken(rows: &[Row]) -> bool
+    ensures { result ≡ list_any is_broken rows.now }
+{
+    rows.iter().any(|row| row.is_broken())
+}
+
+/// Other groups came back, or with other decisions, or more or fewer writes are lost.
+fn differs(alloc: Global, first: &Row, row: &Row) -> Result<bool, AllocError>
+    ensures { IfOk result (λ found. found ≡ differs first.now row.now) }
+{
+    let first_kind = kind(alloc, first)?;
+    let row_kind = kind(alloc, row)?;
+    Ok(first_kind.bytes() != row_kind.bytes() || first.lost().len() != row.lost().len())
+}
+
+/// One of some rows differs from a first one.
+fn any_differs(alloc: Global, first: &Row, more: &[Row]) -> Result<bool, AllocError>
+    ensures { IfOk result (λ found. found ≡ list_any (differs first.now) more.now) }
+{
+    for row in more {
+        if differs(alloc, first, row)? {
+            return Ok(true);
+        }
+    }
+    Ok(false)
+}
+
+/// What is torn decides.
+pub(crate) fn decides(alloc: Global, rows: &[Row]) -> Result<bool, AllocError>
+    ensures { IfOk result (λ found. found ≡ decides rows.now) }
+{
+    match rows {
+        [] => Ok(false),
+        [first, more @ ..] => any_differs(alloc, first, more),
+    }
+}

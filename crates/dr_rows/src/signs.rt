@@ -1,0 +1,89 @@
+//! The character of each place.
+
+ghost use Rattle.std.specs.Prelude.{◌≡◌, map, IfOk};
+ghost use Rattle.std.specs.List.{list_any};
+ghost use Rattle.dr_rows.specs.Findings.{lacks_group};
+ghost use Rattle.dr_rows.specs.Strip.{digit, character, point_of, sign_of, signs};
+
+use crate::findings::lacks_group;
+use crate::places::{any_broken, decides, most_lost, places};
+use crate::row::Row;
+use dr_plan::Point;
+use std::alloc::{AllocError, Global};
+
+/// A place with its character.
+#[derive(Clone, Copy)]
+pub(crate) struct Sign {
+    pub(crate) point: Point,
+    pub(crate) shown: u8,
+}
+
+/// A digit, or `+` above nine.
+fn digit(n: usize) -> u8
+    ensures { result ≡ digit n }
+{
+    if 9 < n { b'+' } else { 48 + n as u8 }
+}
+
+/// No group came back at some point, though it was asked for.
+fn any_lacks(asks: bool, rows: &[Row]) -> bool
+    ensures { result ≡ list_any (lacks_group asks) rows.now }
+{
+    rows.iter().any(|row| lacks_group(asks, row))
+}
+
+/// The character of a place.
+fn character(alloc: Global, asks: bool, rows: &[Row]) -> Result<u8, AllocError>
+    ensures { IfOk result (λ shown. shown ≡ character asks rows.now) }
+{
+    if any_broken(rows) {
+        Ok(b'!')
+    } else if decides(alloc, rows)? {
+        Ok(b'*')
+    } else if any_lacks(asks, rows) {
+        Ok(b'-')
+    } else {
+        Ok(digit(most_lost(rows)))
+    }
+}
+
+/// The point of the first row.
+fn point_of(rows: &[Row]) -> Point
+    ensures { result ≡ point_of rows.now }
+{
+    match rows {
+        [] => Point::Gap {
+            disaster: 0,
+            line: 0,
+        },
+        [first, ..] => first.point(),
+    }
+}
+
+/// A place with its character.
+fn sign_of(alloc: Global, asks: bool, rows: &[Row]) -> Result<Sign, AllocError>
+    ensures { IfOk result (λ found. found ≡ sign_of asks rows.now) }
+{
+    Ok(Sign {
+        point: point_of(rows),
+        shown: character(alloc, asks, rows)?,
+    })
+}
+
+/// Places with their characters.
+fn signs_of(alloc: Global, asks: bool, places: &[&[Row]]) -> Result<Vec<Sign>, AllocError>
+    ensures { IfOk result (λ found. found.items ≡ map (sign_of asks) (map (λ place. place.now) places.now)) }
+{
+    let mut found = Vec::new(alloc);
+    for place in places {
+        found.push(sign_of(alloc, asks, place)?)?;
+    }
+    Ok(found)
+}
+
+/// All places with their characters, in order.
+pub(crate) fn signs(alloc: Global, asks: bool, rows: &[Row]) -> Result<Vec<Sign>, AllocError>
+    ensures { IfOk result (λ found. found.items ≡ signs asks rows.now) }
+{
+    signs_of(alloc, asks, &places(alloc, rows)?)
+}

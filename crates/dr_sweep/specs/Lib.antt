@@ -1,0 +1,5 @@
+pub mod Places
+pub mod Reach
+pub mod Answers
+pub mod Comes
+pub mod Parts

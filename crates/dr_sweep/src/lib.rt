@@ -1,0 +1,19 @@
+//! Tries the points of a plan of a sweep, and finds what a run came to in its journal.
+//!
+//! `try_point` runs the script of a point to its end on a plant of its own and gives its journal (`comes`), or says why there is none
+//! (`fails`). `parts_of` lists the parts of a sweep in order: the gaps between tried lines, and the servers whose device writes are cut short
+//! in a line. `stops_in` says whether the journal tells of a server's stop in a line, `stop_of` where the last stop before a line is, and
+//! `answers_of` gives the answers of the lines behind one, which are those of the recovery behind `lines_before`.
+#![tactic(auto)]
+
+mod answers;
+mod parts;
+mod places;
+mod point;
+mod reach;
+
+pub use answers::answers_of;
+pub use parts::{Part, parts_of};
+pub use places::stop_of;
+pub use point::{PointFault, lines_before, try_point};
+pub use reach::stops_in;

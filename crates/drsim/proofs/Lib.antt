@@ -1,0 +1,2 @@
+-- What tests need of calls: lemmas on two volumes that were just defined (TwoVolumes).
+pub mod TwoVolumes
