@@ -1,18 +1,13 @@
 -- How a landing ends: at a read that failed, or by the update of its volume.
-use Rattle.std.proofs.Common.{ℕ, ◌≡◌, ◌≤◌, ◌<◌, ◌⊎◌, inl, inr, Bool, true, false, List, refl, sym, ap, subst, Option}
-use Rattle.std.specs.Prelude.{is_some, if◌then◌else◌}
-use Rattle.std.proofs.lemmas.Bool.{cases_eq}
+use Rattle.std.proofs.Common.{ℕ, ◌≡◌, inr, Bool, true, false, List, sym, subst, Option}
+use Rattle.std.specs.Prelude.{is_some}
 use Rattle.dr_ids.specs.declared.refusal.Refusal.{Refusal}
-use Rattle.dr_plant.specs.State.{PlantState, after_read, can_read, passes_read}
-use Rattle.dr_config.specs.Table.{ConfigTable, StandsFor, place_of}
-use Rattle.dr_model.specs.Layout.{Fields}
+use Rattle.dr_plant.specs.State.{PlantState, after_read, can_read}
+use Rattle.dr_config.specs.Table.{ConfigTable, place_of}
 use Rattle.dr_model.specs.Control.{World}
-use Rattle.dr_model.specs.Moves.{Carried}
 use Rattle.dr_model.specs.Carry.{Ended, ended, Entry}
-use Rattle.dr_model.specs.ReadStops.{shut, Ends}
-use Rattle.dr_volume.specs.View.{Rest, world, volume_seen, device_of, IsSettled}
-use Rattle.dr_volume.specs.Update.{IsAsBefore, IsMoved, OthersStay, EndsAs, after_reading}
-use Rattle.dr_volume.proofs.UnreadLaws.{armed-of}
+use Rattle.dr_model.specs.ReadStops.{Ends}
+use Rattle.dr_volume.specs.View.{Rest, world, volume_seen, device_of}
 use Rattle.dr_host.specs.Writes.{Writes, EachPending}
 use Rattle.dr_moves.specs.Here.{IsAtRest, armed_in}
 use Rattle.dr_moves.proofs.ReadLemmas.{is-armed, left-unread}
@@ -21,24 +16,12 @@ use Rattle.dr_metro.specs.Landing.{LandsAs}
 use Rattle.dr_facts.proofs.Issued.{unissued}
 use Rattle.dr_metro.proofs.ToldLemmas.{IsWrite}
 
--- where no volume's size changed, the sizes stay what they were
-sizes-same : (c : ConfigTable) (s u : PlantState) → IsAtRest s c → ((q : ℕ) → (volume_seen u c q).tracks ≡ (volume_seen s c q).tracks) → (q : ℕ) → (volume_seen u c q).tracks ≤ 256
-sizes-same c s u rest same q = subst (λ n. n ≤ 256) (sym (same q)) (rest.sizes q)
-
 -- a read of the volume's device failed
 pub lands-unread : (c : ConfigTable) (s u : PlantState) (v : ℕ) (rest : IsAtRest s c) (defined : is_some (place_of c v) ≡ true) (stuck : false ≡ can_read s (device_of c v)) (is : u ≡ after_read s (device_of c v))
     → s.on (volume_seen s c v).server ≡ true → (r : Rest) (e : Ended) (b : Bool) → b ≡ true → LandsAs (armed_in s) (volume_seen s c v).server (world s c r) (world u c r) b e
 lands-unread c s u v rest defined stuck is up r e b failed =
     let x = left-unread c s u v rest defined stuck is in
     inr (record { is_armed = is-armed s _ x.low (x.armed up); world = x.shuts r; answer = failed })
-
--- an act that begins with a read ends as the machine's, or at that read
-pub lands-updated : (s : PlantState) (server : ℕ) (w u : World) (b : Bool) (e : Ended) → server < 8 → EndsAs u b (after_reading s server w e) → LandsAs (armed_in s) server w u b e
-lands-updated s server w u b e low ends =
-    elim (passes_read (s.read_fuse server)) as (λ p. passes_read (s.read_fuse server) ≡ p → EndsAs u b (if p then e else ended (shut w server) true false) → LandsAs (armed_in s) server w u b e) [
-      | true ↦ λ pass h. inl h
-      | false ↦ λ stuck h. inr (record { is_armed = is-armed s server low (armed-of (s.read_fuse server) stuck); world = h.world; answer = h.stopped })
-    ] refl ends
 
 -- entries that ended so issued no write
 pub told-through : (armed : ℕ → Bool) (h : Writes) (w u : World) (ds : List Entry) (r : Option Refusal) → Ends armed u r w ds → IsTold h w.events → IsTold h u.events

@@ -1,105 +1,21 @@
--- The moves of a synchronous write: the fields stay lawful and leave the relationships fitting, what is told of them, and
--- how the last of them settles its write.
-use Rattle.std.proofs.Common.{ℕ, ◌≡◌, ◌<◌, Bool, true, false, not, List, [], ◌∷◌, ◌++◌, refl, sym, ◌∙◌, ap, cond, filter, Option, None, Some}
+-- How the last move of a synchronous write settles it.
+use Rattle.std.proofs.Common.{ℕ, ◌≡◌, Bool, true, false, not, [], ◌∷◌, ◌++◌, refl, ◌∙◌, ap, cond, filter, Option, None, Some}
 use Rattle.std.specs.Prelude.{if◌then◌else◌}
-use Rattle.dr_plant.specs.State.{PlantState}
-use Rattle.dr_config.specs.Table.{ConfigTable}
-use Rattle.dr_model.specs.declared.event.Event.TheVariants.{Mirrored, Ack}
-use Rattle.dr_model.specs.Layout.{Fields, is_part}
-use Rattle.dr_model.specs.Lawful.{HasSets, IsLawful}
-use Rattle.dr_model.specs.Control.{Volume, World}
+use Rattle.dr_model.specs.declared.event.Event.TheVariants.{Ack}
+use Rattle.dr_model.specs.Layout.{Fields}
+use Rattle.dr_model.specs.Control.{World}
 use Rattle.dr_model.specs.Histories.{histories}
 use Rattle.dr_model.specs.Contents.{with_write}
-use Rattle.dr_model.specs.Moves.{Carried, Unsync, Mirror, LandBoth, fields_left, marked, is_other}
+use Rattle.dr_model.specs.Moves.{Carried, LandBoth, marked, is_other}
 use Rattle.dr_model.specs.Carry.{Turn, Ended, update, turn, turn_ended, finished, cut_short}
-use Rattle.dr_model.specs.Pairs.{unsynced, mirrored, synced}
-use Rattle.dr_volume.specs.View.{volume_seen}
-use Rattle.dr_moves.specs.Fit.{RelationsFit}
+use Rattle.dr_model.specs.Pairs.{synced}
 use Rattle.dr_moves.specs.declared.told.Told.TheVariants.{Nothing, One}
 use Rattle.dr_moves.specs.declared.told.Telling.{Telling}
 use Rattle.dr_moves.specs.Turns.{made_by, told_in_stop}
-use Rattle.dr_moves.proofs.FitLemmas.{fit-kept}
-use Rattle.dr_flash.proofs.FieldLemmas.{low-remove, low-insert}
-use Rattle.dr_moves.proofs.MoveFits.{covers-all, covers-carried, MoveFits}
-use Rattle.dr_moves.proofs.TurnLemmas.{Tells}
 use Rattle.dr_metro.proofs.TurnLemmas.{differ}
 use Rattle.dr_moves.proofs.MadeLemmas.{done-by_slot}
-use Rattle.dr_facts.proofs.Tracks.{not_removed_from}
 
-module _ (s : PlantState) (t : ConfigTable) (v : ℕ) (fit : RelationsFit s t) (lawful : IsLawful (volume_seen s t v).tracks (volume_seen s t v).fields) where
-  abbrev x : Volume
-  x = volume_seen s t v
-
-  abbrev n : ℕ
-  n = x.tracks
-
-  pub unsync-fits : (k : ℕ) → k < n → is_part x.fields.primary ≡ true → MoveFits s t v (fields_left (Unsync v k) x) None
-  unsync-fits k low part = let sets : HasSets n x.fields = lawful.sets in record {
-    lawful = record {
-      sets = record {
-        out_of_sync_low = low-insert n k x.fields.out_of_sync low sets.out_of_sync_low;
-        change_recording_low = sets.change_recording_low;
-        own_low = sets.own_low;
-        previous_own_low = sets.previous_own_low;
-        source_changes_low = sets.source_changes_low;
-        target_changes_low = sets.target_changes_low;
-        blank_low = sets.blank_low;
-      };
-      primary = λ absent. absurd (let e : true ≡ false = sym part ∙ absent in cc);
-      secondary = lawful.secondary;
-      relation = lawful.relation;
-    };
-    covers = covers-all x.fields.blank None;
-    leaves = fit-kept s t v (unsynced x.fields k) fit (λ r. (r, refl)) (fit.apart v);
-  }
-
-  pub mirror-fits : (k u w : ℕ) (bytes : List ℕ) → MoveFits s t v (fields_left (Mirror v k u w) x) (Some (k, bytes))
-  mirror-fits k u w bytes = let sets : HasSets n x.fields = lawful.sets in record {
-    lawful = record {
-      sets = record {
-        out_of_sync_low = sets.out_of_sync_low;
-        change_recording_low = sets.change_recording_low;
-        own_low = sets.own_low;
-        previous_own_low = sets.previous_own_low;
-        source_changes_low = sets.source_changes_low;
-        target_changes_low = sets.target_changes_low;
-        blank_low = low-remove n k x.fields.blank sets.blank_low;
-      };
-      primary = lawful.primary;
-      secondary = lawful.secondary;
-      relation = lawful.relation;
-    };
-    covers = covers-carried x.fields.blank k bytes;
-    leaves = fit-kept s t v (mirrored x.fields k) fit (λ r. (r, refl)) (λ q held. not_removed_from x.fields.blank k q (fit.apart v q held));
-  }
-
-  pub both-fits : (w k : ℕ) (bytes : List ℕ) → is_part x.fields.primary ≡ true → MoveFits s t v (fields_left (LandBoth w v k) x) (Some (k, bytes))
-  both-fits w k bytes part = let sets : HasSets n x.fields = lawful.sets in record {
-    lawful = record {
-      sets = record {
-        out_of_sync_low = low-remove n k x.fields.out_of_sync sets.out_of_sync_low;
-        change_recording_low = sets.change_recording_low;
-        own_low = sets.own_low;
-        previous_own_low = sets.previous_own_low;
-        source_changes_low = sets.source_changes_low;
-        target_changes_low = sets.target_changes_low;
-        blank_low = low-remove n k x.fields.blank sets.blank_low;
-      };
-      primary = λ absent. absurd (let e : true ≡ false = sym part ∙ absent in cc);
-      secondary = lawful.secondary;
-      relation = lawful.relation;
-    };
-    covers = covers-carried x.fields.blank k bytes;
-    leaves = fit-kept s t v (synced x.fields k) fit (λ r. (r, refl)) (λ q held. not_removed_from x.fields.blank k q (fit.apart v q held));
-  }
-
--- what they tell
-pub tells-unsync : (v k : ℕ) (x : Volume) → Tells (Unsync v k) x (record { done = Nothing; in_stop = Nothing; landed = 0 })
-tells-unsync v k x = record { done = refl; in_stop = refl; landed = refl; settles = λ ps. refl; settles_in_stop = λ ps. refl }
-
-pub tells-mirror : (v k u w : ℕ) (x : Volume) → Tells (Mirror v k u w) x (record { done = One (Mirrored w v); in_stop = One (Mirrored w v); landed = 0 })
-tells-mirror v k u w x = record { done = refl; in_stop = refl; landed = refl; settles = λ ps. refl; settles_in_stop = λ ps. refl }
-
+-- what it tells
 abbrev pub telling : ℕ → Telling
 telling n = record { done = One (Ack n); in_stop = Nothing; landed = n }
 

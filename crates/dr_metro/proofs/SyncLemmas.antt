@@ -1,7 +1,8 @@
 -- A pending write carried out: its checks, how it waits or goes on, what it leaves, and what follows a stop.
-use Rattle.std.proofs.Common.{ℕ, ◌≡◌, Bool, true, false, not, ◌&&◌, ◌||◌, cond, nat_eq, List, ◌∷◌, ◌++◌, refl, sym, ◌∙◌, ap, subst, Option, None, Some}
+use Rattle.std.proofs.Common.{ℕ, ◌≡◌, Bool, true, false, not, ◌&&◌, ◌||◌, cond, nat_eq, List, [], ◌∷◌, ◌++◌, refl, sym, ◌∙◌, ap, subst, Option, None, Some}
 use Rattle.std.specs.Prelude.{if◌then◌else◌, is_some, Result, Ok, Err, OnOk, OnErr, is_err}
 use Rattle.std.specs.Result.{IfOk}
+use Rattle.std.specs.Option.{option_or}
 use Rattle.std.specs.FinSet.{contains, insert}
 use Rattle.std.proofs.lemmas.Bool.{and_parts, or_right, and_right}
 use Rattle.dr_logic.specs.Counts.{Counted}
@@ -9,15 +10,15 @@ use Rattle.dr_bits.proofs.Laws.{contains-insert_tracks}
 use Rattle.dr_ids.specs.declared.refusal.Refusal.{Refusal}
 use Rattle.dr_ids.specs.declared.refusal.Refusal.TheVariants.{Stopped, NotPrimary, Inhibited}
 use Rattle.dr_model.specs.declared.state.Part.{Part}
-use Rattle.dr_model.specs.declared.state.Part.TheVariants.{Absent, Metro, Global}
+use Rattle.dr_model.specs.declared.state.Part.TheVariants.{Metro, Global}
 use Rattle.dr_model.specs.Layout.{Tracks, Fields, is_part}
 use Rattle.dr_model.specs.Control.{Control, World}
 use Rattle.dr_model.specs.Refusals.{server_off}
 use Rattle.dr_model.specs.Relations.{closed, fetched, rewritten}
-use Rattle.dr_model.specs.Pairs.{written, is_kind, is_metro, is_suspended, goes_over, collides}
+use Rattle.dr_model.specs.Pairs.{written, is_kind, is_metro, is_suspended, held, goes_over, collides}
 use Rattle.dr_model.specs.Moves.{Suspend}
-use Rattle.dr_model.specs.Carry.{Entry, Pass, Do, Make, Drop, act, dropped, check, now}
-use Rattle.dr_model.specs.Entries.{fields_at, is_running, is_no_secondary, is_open, is_settled, relation_state, drop_unless, check_or_drop, write_checks}
+use Rattle.dr_model.specs.Carry.{Entry, Pass, Do, Make, Drop, dropped, check, now}
+use Rattle.dr_model.specs.Entries.{fields_at, land_alone, is_running, is_no_secondary, is_open, is_settled, relation_state, drop_unless, check_or_drop, write_checks}
 use Rattle.dr_model.specs.PairEntries.{suspend_after}
 use Rattle.dr_model.specs.WriteEntries.{partner_of, is_grouped, part_running, part_after, after_write}
 use Rattle.dr_model.specs.ReadStops.{Ends}
@@ -29,6 +30,7 @@ use Rattle.dr_facts.proofs.Ends.{ends-skips, ends-goes, ends-passed, ends-refuse
 use Rattle.dr_gcopy.specs.Followed.{Follows}
 use Rattle.dr_metro.specs.Here.{IsTold}
 use Rattle.dr_metro.specs.Landing.{landed}
+use Rattle.dr_metro.specs.Syncing.{over_entries, collided_entries, parts, entries_by, waits_by}
 use Rattle.dr_metro.proofs.LandLemmas.{told-through}
 use Rattle.dr_logic.proofs.Truth.{false_true}
 use Rattle.dr_model.proofs.CarryLemmas.{act-drop}
@@ -82,8 +84,64 @@ nothing-mirrored {P = P} n f g t is metro stays in_sync active =
     by false true susp out h = (false_true in_sync (ap (λ (x : Fields). contains x.out_of_sync t) is ∙ out-landed n f t out))
     by false false susp out h = absurd cc
 
+-- what the entries of a write are, and whether it waits, by the tests on its volume's fields
+module _ (k : Control) (f : Fields) (n v t : ℕ) where
+  abbrev u : ℕ
+  u = f.primary_partner
+
+  abbrev over : List Entry
+  over = over_entries k.volumes (parts k v u) (is_grouped k v u) n v t u
+
+  abbrev alone : List Entry
+  alone = if collides f t then collided_entries k.volumes n v t u else land_alone k.volumes n v t
+
+  pub held-entries : held f ≡ true → entries_by k f n v t ≡ []
+  held-entries is = ap (λ b. if b then [] else if goes_over f t then over else alone) is
+
+  free-entries : held f ≡ false → entries_by k f n v t ≡ (if goes_over f t then over else alone)
+  free-entries is = ap (λ b. if b then [] else if goes_over f t then over else alone) is
+
+  pub over-entries : held f ≡ false → goes_over f t ≡ true → entries_by k f n v t ≡ over
+  over-entries free goes = free-entries free ∙ ap (λ b. if b then over else alone) goes
+
+  here-entries : held f ≡ false → goes_over f t ≡ false → entries_by k f n v t ≡ alone
+  here-entries free goes = free-entries free ∙ ap (λ b. if b then over else alone) goes
+
+  pub collided-entries : held f ≡ false → goes_over f t ≡ false → collides f t ≡ true → entries_by k f n v t ≡ collided_entries k.volumes n v t u
+  collided-entries free goes meets = here-entries free goes ∙ ap (λ b. if b then collided_entries k.volumes n v t u else land_alone k.volumes n v t) meets
+
+  pub alone-entries : held f ≡ false → goes_over f t ≡ false → collides f t ≡ false → entries_by k f n v t ≡ land_alone k.volumes n v t
+  alone-entries free goes meets = here-entries free goes ∙ ap (λ b. if b then collided_entries k.volumes n v t u else land_alone k.volumes n v t) meets
+
+  pub held-waits : held f ≡ true → waits_by k f v t ≡ true
+  held-waits is = ap (λ b. b || (goes_over f t && (parts k v u && is_grouped k v u))) is
+
+  pub over-waits : held f ≡ false → goes_over f t ≡ true → waits_by k f v t ≡ (parts k v u && is_grouped k v u)
+  over-waits free goes = (λ i. free i || (goes i && (parts k v u && is_grouped k v u)))
+
+  pub here-waits : held f ≡ false → goes_over f t ≡ false → waits_by k f v t ≡ false
+  here-waits free goes = (λ i. free i || (goes i && (parts k v u && is_grouped k v u)))
+
 pub collides-global : (p : Part) (rest : Bool) → (is_kind Global p && rest) ≡ true → is_kind Global p ≡ true
 collides-global p rest h = (and_parts (is_kind Global p) rest h).0
+
+-- whether v can send to u, from why u can't be reached and whether it belongs to v
+pub unreached-parts : (o : Option Refusal) (b : Bool) (why : Refusal) → is_some o ≡ true → false ≡ not (is_some (option_or o (if b then None else Some why)))
+unreached-parts None b why h = absurd cc
+unreached-parts (Some e) b why h = refl
+
+pub reached-parts : (o : Option Refusal) (b : Bool) (why : Refusal) → is_some o ≡ false → b ≡ not (is_some (option_or o (if b then None else Some why)))
+reached-parts None true why h = refl
+reached-parts None false why h = refl
+reached-parts (Some e) b why h = absurd cc
+
+pub not-sent : (p q : Bool) → p ≡ not q → p ≡ false → q ≡ true
+not-sent p true is h = refl
+not-sent p false is h = false_true h is
+
+pub is-sent : (p q : Bool) → p ≡ not q → p ≡ true → q ≡ false
+is-sent p true is h = false_true is h
+is-sent p false is h = refl
 
 pub none-gives : {P : Type 0} (o : Option Refusal) → is_some o ≡ false → OnNone o P → P
 none-gives None h p = p

@@ -3,3 +3,4 @@ pub mod Landing
 pub mod Waiting
 pub mod Mirroring
 pub mod Syncing
+pub mod Writing

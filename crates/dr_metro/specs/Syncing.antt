@@ -1,9 +1,13 @@
 -- How a host write is carried out, by what is known of its volume.
-use Rattle.std.specs.Prelude.{ℕ, Bool, List, [], ◌∷◌, ◌++◌, if◌then◌else◌}
+use Rattle.std.specs.Prelude.{ℕ, Bool, ◌&&◌, ◌||◌, is_some, List, [], ◌∷◌, ◌++◌, if◌then◌else◌}
 use Rattle.dr_model.specs.Moves.{Suspend}
 use Rattle.dr_model.specs.Carry.{Entry, now}
+use Rattle.dr_model.specs.Control.{Control}
 use Rattle.dr_model.specs.Entries.{land_alone}
-use Rattle.dr_model.specs.WriteEntries.{land_mirrored, send_first}
+use Rattle.dr_model.specs.Layout.{Fields}
+use Rattle.dr_model.specs.PairEntries.{send_refusal}
+use Rattle.dr_model.specs.Pairs.{held, goes_over, collides}
+use Rattle.dr_model.specs.WriteEntries.{is_grouped, land_mirrored, send_first}
 use Rattle.dr_metro.specs.declared.sync.WriteEnd.{WriteEnd}
 use Rattle.dr_metro.specs.declared.sync.WriteEnd.TheVariants.{Landed, Held}
 
@@ -22,3 +26,19 @@ collided_entries volumes n v t u = send_first volumes v u t ++ land_alone volume
 -- a write waits, or has landed
 abbrev pub end_of : Bool → WriteEnd
 end_of waits = if waits then Held else Landed
+
+-- whether the write can't go over from v to u, and whether v is long busy then
+abbrev pub parts : Control → ℕ → ℕ → Bool
+parts k v u = is_some (send_refusal v u k)
+
+-- what a write on v comes to where the host may write there, by the fields of v
+abbrev pub entries_by : Control → Fields → ℕ → ℕ → ℕ → List Entry
+entries_by k f n v t =
+    if held f then []
+    else if goes_over f t then over_entries k.volumes (parts k v f.primary_partner) (is_grouped k v f.primary_partner) n v t f.primary_partner
+    else if collides f t then collided_entries k.volumes n v t f.primary_partner
+    else land_alone k.volumes n v t
+
+-- and whether it waits
+abbrev pub waits_by : Control → Fields → ℕ → ℕ → Bool
+waits_by k f v t = held f || (goes_over f t && (parts k v f.primary_partner && is_grouped k v f.primary_partner))

@@ -16,12 +16,12 @@ ghost use Rattle.dr_model.specs.Refusals.{stopped};
 ghost use Rattle.dr_model.specs.Sessions.{Session};
 ghost use Rattle.dr_volume.specs.Update.{IsMoved, OthersStay};
 ghost use Rattle.dr_volume.specs.View.{volume_seen, track_seen};
-ghost use Rattle.dr_volume.specs.Volume.{Says};
 ghost use Rattle.dr_model.specs.declared.event.Event.TheVariants.{Ack};
 ghost use Rattle.dr_moves.specs.declared.told.Told.TheVariants.{Nothing, One};
 ghost use Rattle.dr_moves.specs.Fit.{RelationsFit};
 ghost use Rattle.dr_moves.specs.Here.{refusal_of, armed_in, IsAtRest};
 ghost use Rattle.dr_metro.specs.Here.{here, IsTold};
+ghost use Rattle.dr_metro.specs.Mirroring.{CanLand};
 
 use crate::machine::land_if;
 use dr_config::Config;
@@ -95,17 +95,8 @@ pub(crate) fn land_both_by<P: Plant>(
     bytes: &Block,
     fields: &Fields,
 ) -> Result<(), Refusal>
-    requires rest { IsAtRest (P.state plant.old) config.now }
-    requires fit { RelationsFit (P.state plant.old) config.now }
-    requires told { IsTold h.old journal.old.events }
-    requires defined { IsSome (place_of config.now v.0) }
-    requires running { (P.state plant.old).on (volume_seen (P.state plant.old) config.now v.0).server ≡ true }
-    requires primary { is_part (volume_seen (P.state plant.old) config.now v.0).fields.primary ≡ true }
-    requires within { t < (volume_seen (P.state plant.old) config.now v.0).tracks }
-    requires bytes { bytes.now ≡ with_write (histories journal.old.events).write (track_seen (P.state plant.old) config.now v.0 t) w.0 }
-    requires waits { IsSome (find (has_number w.0) h.old.pending) }
+    requires can { CanLand (P.state plant.old) config.now h.old journal.old.events w.0 v.0 t bytes.now fields.now }
     requires room { 1 ≤ journal.old.spare }
-    requires says { Says (P.state plant.old) config.now v.0 fields.now }
     ensures carried { (xs : List Session) → Ends (armed_in (P.state plant.old)) (here (P.state plant.new) config.now xs h.new journal.new.events) (refusal_of result) (here (P.state plant.old) config.now xs h.old journal.old.events) (now (LandBoth w.0 v.0 t) ∷ []) }
     ensures refused { OnErr result (refusal_of result ≡ Some (stopped (volume_seen (P.state plant.old) config.now v.0).server)) }
     ensures rest { IsAtRest (P.state plant.new) config.now }

@@ -9,6 +9,7 @@
 //! calls goes by them. Each call keeps the fields of all volumes lawful and fitting (`rest`, `fit`), also where reads may fail.
 #![tactic(auto)]
 
+mod alone;
 mod both;
 mod colliding;
 mod landing;

@@ -1,6 +1,6 @@
 //! A primary says that a track is about to change on both sides, and its secondary stores the new bytes.
 
-ghost use Rattle.std.specs.Prelude.{◌≡◌, ℕ, ◌<◌, ◌≤◌, ◌+◌, true, length, [], ◌∷◌, None, Some, IsSome, OnOk, OnErr, is_err};
+ghost use Rattle.std.specs.Prelude.{◌≡◌, ◌≢◌, ℕ, ◌<◌, ◌≤◌, ◌+◌, true, length, [], ◌∷◌, None, Some, IsSome, OnOk, OnErr, is_err};
 ghost use Rattle.dr_logic.specs.Counts.{Counted};
 ghost use Rattle.dr_config.specs.Table.{place_of};
 ghost use Rattle.dr_model.specs.Carry.{now};
@@ -15,16 +15,29 @@ ghost use Rattle.dr_model.specs.Refusals.{stopped};
 ghost use Rattle.dr_volume.specs.Plain.{plain};
 ghost use Rattle.dr_volume.specs.Update.{IsMoved, OthersStay};
 ghost use Rattle.dr_volume.specs.View.{Rest, volume_seen, track_seen};
+ghost use Rattle.dr_volume.specs.Volume.{Says};
+ghost use Rattle.dr_moves.specs.Checks.{is_stop};
 ghost use Rattle.dr_moves.specs.Fit.{RelationsFit};
 ghost use Rattle.dr_moves.specs.Here.{world_seen, refusal_of, armed_in, IsAtRest};
+ghost use Rattle.dr_moves.specs.Made.{IsAt, May};
 ghost use Rattle.dr_moves.specs.Turns.{Advances, Halts};
+ghost use Rattle.dr_gcopy.specs.Ran.{Ran};
 
 use dr_config::Config;
 use dr_ids::{Refusal, VolumeId, WriteId};
 use dr_model::{Event, Journal};
-use dr_moves::{Telling, Told, mirrored, shift, unsynced};
+use dr_moves::{Move, Telling, Told, make_move, mirrored, shift};
 use dr_plant::{Block, Plant};
-use dr_volume::{Fields, peek_fields};
+use dr_volume::Fields;
+
+/// A host write on a track of a primary, and the secondary.
+#[derive(Clone, Copy)]
+pub(crate) struct Route {
+    pub write: WriteId,
+    pub from: VolumeId,
+    pub to: VolumeId,
+    pub track: u16,
+}
 
 /// Primary v, whose server is on, has track t out of sync, which is about to change on both sides. Nothing is told. Fails
 /// where the server stops in the move or goes off at a read. The journal needs room for an event.
@@ -57,11 +70,10 @@ pub fn unsync<P: Plant>(
     ensures room_left { OnOk result (journal.old.spare ≡ journal.new.spare) }
     ensures spare { length journal.new.events + journal.new.spare ≡ length journal.old.events + journal.old.spare }
 {
-    let next = unsynced(&peek_fields(plant, config, v), t);
-    unsync_by(plant, config, journal, v, t, &next)
+    make_move(plant, config, journal, &Move::Unsync { v, t }, None)
 }
 
-/// The same with the fields at hand that this leaves.
+/// The same with the fields at hand that this leaves: of the record the gate alone is read.
 pub(crate) fn unsync_by<P: Plant>(
     plant: &mut P,
     config: &Config,
@@ -70,29 +82,14 @@ pub(crate) fn unsync_by<P: Plant>(
     t: u16,
     next: &Fields,
 ) -> Result<(), Refusal>
-    requires rest { IsAtRest (P.state plant.old) config.now }
-    requires fit { RelationsFit (P.state plant.old) config.now }
-    requires defined { IsSome (place_of config.now v.0) }
-    requires running { (P.state plant.old).on (volume_seen (P.state plant.old) config.now v.0).server ≡ true }
-    requires primary { is_part (volume_seen (P.state plant.old) config.now v.0).fields.primary ≡ true }
-    requires within { t < (volume_seen (P.state plant.old) config.now v.0).tracks }
-    requires room { 1 ≤ journal.old.spare }
+    requires at { IsAt (P.state plant.old) config.now }
+    requires may { May (P.state plant.old) config.now (Unsync v.0 t) }
     requires lawful { IsLawful (volume_seen (P.state plant.old) config.now v.0).tracks (volume_seen (P.state plant.old) config.now v.0).fields }
     requires next { plain next.now ≡ pairs.unsynced (volume_seen (P.state plant.old) config.now v.0).fields t }
-    ensures carried { (r : Rest) → Ends (armed_in (P.state plant.old)) (world_seen (P.state plant.new) config.now r journal.new.events) (refusal_of result) (world_seen (P.state plant.old) config.now r journal.old.events) (now (Unsync v.0 t) ∷ []) }
-    ensures advances { OnOk result ((r : Rest) → Advances (world_seen (P.state plant.old) config.now r journal.old.events) (now (Unsync v.0 t)) (world_seen (P.state plant.new) config.now r journal.new.events)) }
-    ensures halts { OnErr result ((r : Rest) → Halts (armed_in (P.state plant.old)) (world_seen (P.state plant.old) config.now r journal.old.events) (now (Unsync v.0 t)) (world_seen (P.state plant.new) config.now r journal.new.events) (refusal_of result)) }
-    ensures refused { OnErr result (refusal_of result ≡ Some (stopped (volume_seen (P.state plant.old) config.now v.0).server)) }
-    ensures rest { IsAtRest (P.state plant.new) config.now }
-    ensures fit { RelationsFit (P.state plant.new) config.now }
-    ensures unarmed { (q : ℕ) → (P.state plant.old).read_fuse q ≡ None → (P.state plant.new).read_fuse q ≡ None }
-    ensures faults { Counted (is_err result) (P.state plant.old).faults (P.state plant.new).faults }
+    requires room { 1 ≤ journal.old.spare }
+    ensures ran { Ran (P.state plant.old) (P.state plant.new) config.now journal.old journal.new (now (Unsync v.0 t) ∷ []) (λ q. q ≢ v.0) 1 0 result }
+    ensures stops { OnErr result (is_stop (refusal_of result) ≡ true) }
     ensures moved { OnOk result (IsMoved (P.state plant.old) (P.state plant.new) config.now v.0 (pairs.unsynced (volume_seen (P.state plant.old) config.now v.0).fields t) None) }
-    ensures others { OthersStay (P.state plant.old) (P.state plant.new) config.now v.0 }
-    ensures on { OnOk result ((P.state plant.new).on ≡ (P.state plant.old).on) }
-    ensures room { journal.old.spare ≤ journal.new.spare + 1 }
-    ensures room_left { OnOk result (journal.old.spare ≡ journal.new.spare) }
-    ensures spare { length journal.new.events + journal.new.spare ≡ length journal.old.events + journal.old.spare }
 {
     shift(
         plant,
@@ -139,11 +136,42 @@ pub fn mirror<P: Plant>(
     ensures room_left { OnOk result (journal.old.spare ≤ journal.new.spare + 1) }
     ensures spare { length journal.new.events + journal.new.spare ≡ length journal.old.events + journal.old.spare }
 {
+    let m = Move::Mirror { v: u, t, u: v, w };
     let track = *bytes;
-    let next = mirrored(&peek_fields(plant, config, u), t);
+    make_move(plant, config, journal, &m, Some((t, track)))
+}
+
+/// The same by the secondary's fields, which are at hand.
+pub(crate) fn mirror_by<P: Plant>(
+    plant: &mut P,
+    config: &Config,
+    journal: &mut Journal,
+    m: Route,
+    bytes: &Block,
+    fields: &Fields,
+) -> Result<(), Refusal>
+    requires at { IsAt (P.state plant.old) config.now }
+    requires may { May (P.state plant.old) config.now (Mirror m.to.0 m.track m.from.0 m.write.0) }
+    requires bytes { bytes.now ≡ with_write (histories journal.old.events).write (track_seen (P.state plant.old) config.now m.from.0 m.track) m.write.0 }
+    requires says { Says (P.state plant.old) config.now m.to.0 fields.now }
+    requires room { 2 ≤ journal.old.spare }
+    ensures ran { Ran (P.state plant.old) (P.state plant.new) config.now journal.old journal.new (now (Mirror m.to.0 m.track m.from.0 m.write.0) ∷ []) (λ q. q ≢ m.to.0) 2 1 result }
+    ensures stops { OnErr result (is_stop (refusal_of result) ≡ true) }
+    ensures moved { OnOk result (IsMoved (P.state plant.old) (P.state plant.new) config.now m.to.0 (pairs.mirrored (volume_seen (P.state plant.old) config.now m.to.0).fields m.track) (Some (m.track, bytes.now))) }
+{
+    let track = *bytes;
+    let next = mirrored(fields, m.track);
     let told = Telling::of(Told::One(Event::Mirrored {
-        w: w.0,
-        volume: u.0,
+        w: m.write.0,
+        volume: m.to.0,
     }));
-    shift(plant, config, journal, u, &next, Some((t, track)), &told)
+    shift(
+        plant,
+        config,
+        journal,
+        m.to,
+        &next,
+        Some((m.track, track)),
+        &told,
+    )
 }

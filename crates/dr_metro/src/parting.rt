@@ -56,33 +56,6 @@ fn part_running<P: Plant>(plant: &mut P, config: &Config, journal: &mut Journal,
 }
 
 /// What follows where a host write on v was refused so: after the stop of a server v is suspended, where it is a primary
-/// whose own server still runs.
-fn follow_part<P: Plant>(
-    plant: &mut P,
-    config: &Config,
-    journal: &mut Journal,
-    v: VolumeId,
-    why: Refusal,
-)
-    requires rest { IsAtRest (P.state plant.old) config.now }
-    requires fit { RelationsFit (P.state plant.old) config.now }
-    requires defined { IsSome (place_of config.now v.0) }
-    requires room { 2 ≤ journal.old.spare }
-    ensures follows { (r : Rest) → Follows (armed_in (P.state plant.old)) (world_seen (P.state plant.old) config.now r journal.old.events) (Some why) (part_after v.0) (world_seen (P.state plant.new) config.now r journal.new.events) }
-    ensures rest { IsAtRest (P.state plant.new) config.now }
-    ensures fit { RelationsFit (P.state plant.new) config.now }
-    ensures unarmed { (q : ℕ) → (P.state plant.old).read_fuse q ≡ None → (P.state plant.new).read_fuse q ≡ None }
-    ensures faults { (f : ℕ) → Counted (is_stop (Some why)) f (P.state plant.old).faults → Counted (is_stop (Some why)) f (P.state plant.new).faults }
-    ensures room { journal.old.spare ≤ journal.new.spare + 2 }
-    ensures spare { length journal.new.events + journal.new.spare ≡ length journal.old.events + journal.old.spare }
-{
-    match why {
-        Refusal::Stopped { .. } => part_running(plant, config, journal, v),
-        _ => {}
-    }
-}
-
-/// What follows where a host write on v was refused so: after the stop of a server v is suspended, where it is a primary
 /// whose own server still runs. It is long busy where the path to its secondary has its group flag, but not where the write
 /// collided.
 pub(crate) fn follow_write<P: Plant>(
@@ -108,5 +81,8 @@ pub(crate) fn follow_write<P: Plant>(
     if collided {
         return follow_stop(plant, config, journal, v, why);
     }
-    follow_part(plant, config, journal, v, why);
+    match why {
+        Refusal::Stopped { .. } => part_running(plant, config, journal, v),
+        _ => {}
+    }
 }

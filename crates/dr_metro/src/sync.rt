@@ -1,40 +1,41 @@
 //! A pending write of the host is carried out: on its volume alone, on its secondary first, or behind the send of what its
 //! track was.
 
-ghost use Rattle.std.specs.Prelude.{◌≡◌, ◌≢◌, ℕ, ◌<◌, ◌≤◌, ◌+◌, true, false, ◌&&◌, length, None, Some, IsSome, IfOk, OnOk, OnErr, is_err, is_some, List};
+ghost use Rattle.std.specs.Prelude.{◌≡◌, ◌≢◌, ℕ, ◌<◌, ◌≤◌, ◌+◌, true, false, ◌&&◌, not, length, None, IsSome, IfOk, OnOk, OnErr, List};
 ghost use Rattle.std.specs.List.{find};
 ghost use Rattle.dr_logic.specs.Counts.{Counted};
-ghost use Rattle.dr_config.specs.Table.{place_of};
+ghost use Rattle.dr_config.specs.Table.{place_of, StandsFor};
 ghost use Rattle.dr_host.specs.Writes.{has_number};
-ghost use Rattle.dr_model.specs.Entries.{land_alone};
 ghost use Rattle.dr_model.specs.Layout.{is_part};
-ghost use Rattle.dr_model.specs.PairEntries as pair_entries;
+ghost use Rattle.dr_model.specs.declared.event.Event.{Event};
 ghost use Rattle.dr_model.specs.Pairs.{is_metro, is_suspended};
-ghost use Rattle.dr_model.specs.ReadStops.{Ends};
 ghost use Rattle.dr_model.specs.WriteEntries as entries;
-ghost use Rattle.dr_model.specs.WriteEntries.{land_entries, landing, waits, after_write};
+ghost use Rattle.dr_model.specs.WriteEntries.{landing, waits, after_write};
 ghost use Rattle.dr_model.specs.Sessions.{Session};
-ghost use Rattle.dr_volume.specs.View.{volume_seen, ids_of};
+ghost use Rattle.dr_volume.specs.Plain.{plain};
+ghost use Rattle.dr_volume.specs.View.{Rest, volume_seen, ids_of};
 ghost use Rattle.dr_volume.specs.Volume.{Says, Shows};
 ghost use Rattle.dr_moves.specs.Checks.{is_stop};
 ghost use Rattle.dr_moves.specs.Fit.{RelationsFit};
-ghost use Rattle.dr_moves.specs.Here.{refusal_of, armed_in, IsAtRest};
+ghost use Rattle.dr_moves.specs.Here.{world_seen, refusal_of, armed_in, IsAtRest};
+ghost use Rattle.dr_moves.specs.Made.{IsPrimary};
 ghost use Rattle.dr_flash.specs.Standing.{HasNoTarget};
+ghost use Rattle.dr_gcopy.specs.Both.{IsOn};
 ghost use Rattle.dr_gcopy.specs.Followed.{EndsFollowed};
 ghost use Rattle.dr_metro.specs.Here.{here, IsTold};
-ghost use Rattle.dr_metro.specs.Landing.{landed_on};
-ghost use Rattle.dr_metro.specs.Mirroring.{Mirrors};
+ghost use Rattle.dr_metro.specs.Mirroring.{Mirrors, MayPair};
 ghost use Rattle.dr_metro.specs.declared.sync.WriteEnd.TheVariants.{Landed};
-ghost use Rattle.dr_metro.specs.Syncing.{parted_entries, over_entries, end_of};
+ghost use Rattle.dr_metro.specs.Syncing.{parted_entries, over_entries, end_of, parts, entries_by, waits_by};
+ghost use Rattle.dr_metro.specs.Writing.{IsDue, Wrote, landed_so};
 
+use crate::alone::{write_alone, write_here};
 use crate::colliding::write_collided;
-use crate::machine::{Target, land_kept, land_write_by};
-use crate::mirroring::{front, write_both_by};
+use crate::mirroring::write_both_by;
 use crate::parting::{follow_write, is_grouped};
 use crate::states::{collides, goes_over};
 use dr_config::Config;
 use dr_flash::write_refusal_by;
-use dr_gcopy::{send_refusal, suspend};
+use dr_gcopy::{is_secondary_of, reach_refusal, suspend};
 use dr_host::{Host, Pending};
 use dr_ids::{Refusal, ServerId, VolumeId};
 use dr_model::Journal;
@@ -51,154 +52,29 @@ pub enum WriteEnd {
     Held,
 }
 
-/// Lands the write on its volume alone, whose server is on.
-pub(crate) fn write_alone<P: Plant>(
-    plant: &mut P,
-    config: &Config,
-    journal: &mut Journal,
-    h: &mut Host,
-    w: &Pending,
-) -> Result<WriteEnd, Refusal>
-    requires rest { IsAtRest (P.state plant.old) config.now }
-    requires fit { RelationsFit (P.state plant.old) config.now }
-    requires told { IsTold h.old journal.old.events }
-    requires defined { IsSome (place_of config.now w.now.volume.0) }
-    requires running { (P.state plant.old).on (volume_seen (P.state plant.old) config.now w.now.volume.0).server ≡ true }
-    requires within { w.now.track < (volume_seen (P.state plant.old) config.now w.now.volume.0).tracks }
-    requires fits { w.now.offset + w.now.len ≤ 64 }
-    requires found { find (has_number w.now.w.0) h.old.pending ≡ Some w.now }
-    requires room { length config.now.volumes + 2 ≤ journal.old.spare }
-    ensures carried { (xs : List Session) → Ends (armed_in (P.state plant.old)) (here (P.state plant.new) config.now xs h.new journal.new.events) (refusal_of result) (here (P.state plant.old) config.now xs h.old journal.old.events) (land_alone (ids_of config.now.volumes) w.now.w.0 w.now.volume.0 w.now.track) }
-    ensures end { IfOk result (λ e. e ≡ Landed) }
-    ensures left { OnOk result ((volume_seen (P.state plant.new) config.now w.now.volume.0).fields ≡ landed_on (volume_seen (P.state plant.old) config.now w.now.volume.0) w.now.track) }
-    ensures stops { OnErr result (is_stop (refusal_of result) ≡ true) }
-    ensures rest { IsAtRest (P.state plant.new) config.now }
-    ensures fit { RelationsFit (P.state plant.new) config.now }
-    ensures told { IsTold h.new journal.new.events }
-    ensures unarmed { (q : ℕ) → (P.state plant.old).read_fuse q ≡ None → (P.state plant.new).read_fuse q ≡ None }
-    ensures faults { Counted (is_err result) (P.state plant.old).faults (P.state plant.new).faults }
-    ensures issued { h.new.issued ≡ h.old.issued }
-    ensures room { journal.old.spare ≤ journal.new.spare + (length config.now.volumes + 1) }
-    ensures spare { length journal.new.events + journal.new.spare ≡ length journal.old.events + journal.old.spare }
+/// What a write that was carried out comes to.
+fn landed(done: Result<(), Refusal>) -> Result<WriteEnd, Refusal>
+    ensures { result ≡ landed_so done }
 {
-    let target = Target {
-        volume: w.volume,
-        server: server_of(config, w.volume),
-        track: w.track,
-        offset: w.offset,
-    };
-    match land_kept(
-        plant,
-        config,
-        h,
-        journal,
-        w.w,
-        target,
-        front(&w.bytes, w.len),
-    ) {
+    match done {
         Ok(()) => Ok(WriteEnd::Landed),
         Err(stop) => Err(stop),
     }
 }
 
-/// The same where no volume is its target and its fields are at hand: no volume is looked at again.
-pub(crate) fn write_by<P: Plant>(
-    plant: &mut P,
-    config: &Config,
-    journal: &mut Journal,
-    h: &mut Host,
-    w: &Pending,
-    fields: &Fields,
-    server: ServerId,
-) -> Result<WriteEnd, Refusal>
-    requires rest { IsAtRest (P.state plant.old) config.now }
-    requires fit { RelationsFit (P.state plant.old) config.now }
-    requires told { IsTold h.old journal.old.events }
-    requires defined { IsSome (place_of config.now w.now.volume.0) }
-    requires running { (P.state plant.old).on (volume_seen (P.state plant.old) config.now w.now.volume.0).server ≡ true }
-    requires within { w.now.track < (volume_seen (P.state plant.old) config.now w.now.volume.0).tracks }
-    requires fits { w.now.offset + w.now.len ≤ 64 }
-    requires found { find (has_number w.now.w.0) h.old.pending ≡ Some w.now }
-    requires room { length config.now.volumes + 2 ≤ journal.old.spare }
-    requires server { (volume_seen (P.state plant.old) config.now w.now.volume.0).server ≡ server.0 }
-    requires known { server.0 < 8 }
-    requires shows { Shows (P.state plant.old) config.now w.now.volume.0 fields.now }
-    requires alone { HasNoTarget (P.state plant.old) config.now w.now.volume.0 }
-    ensures carried { (xs : List Session) → Ends (armed_in (P.state plant.old)) (here (P.state plant.new) config.now xs h.new journal.new.events) (refusal_of result) (here (P.state plant.old) config.now xs h.old journal.old.events) (land_alone (ids_of config.now.volumes) w.now.w.0 w.now.volume.0 w.now.track) }
-    ensures end { IfOk result (λ e. e ≡ Landed) }
-    ensures left { OnOk result ((volume_seen (P.state plant.new) config.now w.now.volume.0).fields ≡ landed_on (volume_seen (P.state plant.old) config.now w.now.volume.0) w.now.track) }
-    ensures stops { OnErr result (is_stop (refusal_of result) ≡ true) }
-    ensures rest { IsAtRest (P.state plant.new) config.now }
-    ensures fit { RelationsFit (P.state plant.new) config.now }
-    ensures told { IsTold h.new journal.new.events }
-    ensures unarmed { (q : ℕ) → (P.state plant.old).read_fuse q ≡ None → (P.state plant.new).read_fuse q ≡ None }
-    ensures faults { Counted (is_err result) (P.state plant.old).faults (P.state plant.new).faults }
-    ensures issued { h.new.issued ≡ h.old.issued }
-    ensures room { journal.old.spare ≤ journal.new.spare + (length config.now.volumes + 1) }
-    ensures spare { length journal.new.events + journal.new.spare ≡ length journal.old.events + journal.old.spare }
+/// Whether v can send to u, of which the fields are at hand.
+fn can_send<P: Plant>(plant: &P, config: &Config, v: VolumeId, u: VolumeId, to: &Fields) -> bool
+    requires stands { StandsFor config.now (P.state plant.now) }
+    requires from { IsSome (place_of config.now v.0) }
+    requires to { IsSome (place_of config.now u.0) }
+    requires says { Says (P.state plant.now) config.now u.0 to.now }
+    ensures sends { (r : Rest) (events : List Event) → result ≡ not (parts (world_seen (P.state plant.now) config.now r events).control v.0 u.0) }
+    ensures reached { result ≡ true → IsOn (P.state plant.now) config.now u.0 }
 {
-    let target = Target {
-        volume: w.volume,
-        server,
-        track: w.track,
-        offset: w.offset,
-    };
-    match land_write_by(
-        plant,
-        config,
-        h,
-        journal,
-        w.w,
-        target,
-        fields,
-        front(&w.bytes, w.len),
-    ) {
-        Ok(()) => Ok(WriteEnd::Landed),
-        Err(stop) => Err(stop),
+    if reach_refusal(plant, config, v, u).is_some() {
+        return false;
     }
-}
-
-/// The same with the volume's fields at hand, and whether a volume was found that is its target.
-fn write_here<P: Plant>(
-    plant: &mut P,
-    config: &Config,
-    journal: &mut Journal,
-    h: &mut Host,
-    w: &Pending,
-    fields: &Fields,
-    server: ServerId,
-    found: bool,
-) -> Result<WriteEnd, Refusal>
-    requires rest { IsAtRest (P.state plant.old) config.now }
-    requires fit { RelationsFit (P.state plant.old) config.now }
-    requires told { IsTold h.old journal.old.events }
-    requires defined { IsSome (place_of config.now w.now.volume.0) }
-    requires running { (P.state plant.old).on (volume_seen (P.state plant.old) config.now w.now.volume.0).server ≡ true }
-    requires within { w.now.track < (volume_seen (P.state plant.old) config.now w.now.volume.0).tracks }
-    requires fits { w.now.offset + w.now.len ≤ 64 }
-    requires found { find (has_number w.now.w.0) h.old.pending ≡ Some w.now }
-    requires room { length config.now.volumes + 2 ≤ journal.old.spare }
-    requires server { (volume_seen (P.state plant.old) config.now w.now.volume.0).server ≡ server.0 }
-    requires known { server.0 < 8 }
-    requires shows { Shows (P.state plant.old) config.now w.now.volume.0 fields.now }
-    requires alone { found ≡ false → HasNoTarget (P.state plant.old) config.now w.now.volume.0 }
-    ensures carried { (xs : List Session) → Ends (armed_in (P.state plant.old)) (here (P.state plant.new) config.now xs h.new journal.new.events) (refusal_of result) (here (P.state plant.old) config.now xs h.old journal.old.events) (land_alone (ids_of config.now.volumes) w.now.w.0 w.now.volume.0 w.now.track) }
-    ensures end { IfOk result (λ e. e ≡ Landed) }
-    ensures left { OnOk result ((volume_seen (P.state plant.new) config.now w.now.volume.0).fields ≡ landed_on (volume_seen (P.state plant.old) config.now w.now.volume.0) w.now.track) }
-    ensures stops { OnErr result (is_stop (refusal_of result) ≡ true) }
-    ensures rest { IsAtRest (P.state plant.new) config.now }
-    ensures fit { RelationsFit (P.state plant.new) config.now }
-    ensures told { IsTold h.new journal.new.events }
-    ensures unarmed { (q : ℕ) → (P.state plant.old).read_fuse q ≡ None → (P.state plant.new).read_fuse q ≡ None }
-    ensures faults { Counted (is_err result) (P.state plant.old).faults (P.state plant.new).faults }
-    ensures issued { h.new.issued ≡ h.old.issued }
-    ensures room { journal.old.spare ≤ journal.new.spare + (length config.now.volumes + 1) }
-    ensures spare { length journal.new.events + journal.new.spare ≡ length journal.old.events + journal.old.spare }
-{
-    if found {
-        return write_alone(plant, config, journal, h, w);
-    }
-    write_by(plant, config, journal, h, w, fields, server)
+    is_secondary_of(to, v)
 }
 
 /// Suspends a primary that can't send to its secondary: the write waits where it is long busy from then on, or lands alone.
@@ -210,38 +86,20 @@ fn write_parted<P: Plant>(
     w: &Pending,
     busy: bool,
 ) -> Result<WriteEnd, Refusal>
-    requires rest { IsAtRest (P.state plant.old) config.now }
-    requires fit { RelationsFit (P.state plant.old) config.now }
-    requires told { IsTold h.old journal.old.events }
-    requires defined { IsSome (place_of config.now w.now.volume.0) }
-    requires running { (P.state plant.old).on (volume_seen (P.state plant.old) config.now w.now.volume.0).server ≡ true }
-    requires primary { is_part (volume_seen (P.state plant.old) config.now w.now.volume.0).fields.primary ≡ true }
-    requires within { w.now.track < (volume_seen (P.state plant.old) config.now w.now.volume.0).tracks }
-    requires fits { w.now.offset + w.now.len ≤ 64 }
-    requires found { find (has_number w.now.w.0) h.old.pending ≡ Some w.now }
+    requires due { IsDue (P.state plant.old) config.now h.old journal.old.events w.now }
+    requires running { IsOn (P.state plant.old) config.now w.now.volume.0 }
+    requires primary { IsPrimary (P.state plant.old) config.now w.now.volume.0 }
     requires room { length config.now.volumes + 3 ≤ journal.old.spare }
-    ensures carried { (xs : List Session) → Ends (armed_in (P.state plant.old)) (here (P.state plant.new) config.now xs h.new journal.new.events) (refusal_of result) (here (P.state plant.old) config.now xs h.old journal.old.events) (parted_entries (ids_of config.now.volumes) busy w.now.w.0 w.now.volume.0 w.now.track) }
+    ensures wrote { Wrote (P.state plant.old) (P.state plant.new) config.now h.old h.new journal.old journal.new (λ k. parted_entries (ids_of config.now.volumes) busy w.now.w.0 w.now.volume.0 w.now.track) (length config.now.volumes + 2) result }
     ensures end { IfOk result (λ e. e ≡ end_of busy) }
     ensures suspended { OnOk result (is_suspended (volume_seen (P.state plant.new) config.now w.now.volume.0).fields.primary_state ≡ true) }
     ensures stops { OnErr result (is_stop (refusal_of result) ≡ true) }
-    ensures rest { IsAtRest (P.state plant.new) config.now }
-    ensures fit { RelationsFit (P.state plant.new) config.now }
-    ensures told { IsTold h.new journal.new.events }
-    ensures unarmed { (q : ℕ) → (P.state plant.old).read_fuse q ≡ None → (P.state plant.new).read_fuse q ≡ None }
-    ensures faults { Counted (is_err result) (P.state plant.old).faults (P.state plant.new).faults }
-    ensures issued { h.new.issued ≡ h.old.issued }
-    ensures room { journal.old.spare ≤ journal.new.spare + (length config.now.volumes + 2) }
-    ensures spare { length journal.new.events + journal.new.spare ≡ length journal.old.events + journal.old.spare }
 {
-    match suspend(plant, config, journal, w.volume, busy) {
-        Ok(()) => {
-            if busy {
-                return Ok(WriteEnd::Held);
-            }
-            write_alone(plant, config, journal, h, w)
-        }
-        Err(stop) => Err(stop),
+    suspend(plant, config, journal, w.volume, busy)?;
+    if busy {
+        return Ok(WriteEnd::Held);
     }
+    landed(write_alone(plant, config, journal, h, w))
 }
 
 /// Carries out the write on the secondary u and then on its primary, or where it can't be sent there as above.
@@ -253,48 +111,26 @@ fn write_over<P: Plant>(
     w: &Pending,
     u: VolumeId,
     fields: &Fields,
+    found: bool,
 ) -> Result<WriteEnd, Refusal>
-    requires rest { IsAtRest (P.state plant.old) config.now }
-    requires fit { RelationsFit (P.state plant.old) config.now }
-    requires told { IsTold h.old journal.old.events }
-    requires defined { IsSome (place_of config.now w.now.volume.0) }
-    requires running { (P.state plant.old).on (volume_seen (P.state plant.old) config.now w.now.volume.0).server ≡ true }
-    requires primary { is_part (volume_seen (P.state plant.old) config.now w.now.volume.0).fields.primary ≡ true }
-    requires to { IsSome (place_of config.now u.0) }
-    requires two_servers { (volume_seen (P.state plant.old) config.now w.now.volume.0).server ≢ (volume_seen (P.state plant.old) config.now u.0).server }
-    requires size { (volume_seen (P.state plant.old) config.now u.0).tracks ≡ (volume_seen (P.state plant.old) config.now w.now.volume.0).tracks }
-    requires within { w.now.track < (volume_seen (P.state plant.old) config.now w.now.volume.0).tracks }
-    requires fits { w.now.offset + w.now.len ≤ 64 }
-    requires found { find (has_number w.now.w.0) h.old.pending ≡ Some w.now }
-    requires room { length config.now.volumes + (length config.now.volumes + 3) ≤ journal.old.spare }
+    requires due { IsDue (P.state plant.old) config.now h.old journal.old.events w.now }
+    requires running { IsOn (P.state plant.old) config.now w.now.volume.0 }
+    requires primary { IsPrimary (P.state plant.old) config.now w.now.volume.0 }
+    requires pair { MayPair (P.state plant.old) config.now w.now.volume.0 u.0 }
     requires says { Says (P.state plant.old) config.now w.now.volume.0 fields.now }
-    ensures carried { (xs : List Session) → Ends (armed_in (P.state plant.old)) (here (P.state plant.new) config.now xs h.new journal.new.events) (refusal_of result) (here (P.state plant.old) config.now xs h.old journal.old.events) (over_entries (ids_of config.now.volumes) (is_some (pair_entries.send_refusal w.now.volume.0 u.0 (here (P.state plant.old) config.now xs h.old journal.old.events).control)) (entries.is_grouped (here (P.state plant.old) config.now xs h.old journal.old.events).control w.now.volume.0 u.0) w.now.w.0 w.now.volume.0 w.now.track u.0) }
-    ensures end { (xs : List Session) → IfOk result (λ e. e ≡ end_of (is_some (pair_entries.send_refusal w.now.volume.0 u.0 (here (P.state plant.old) config.now xs h.old journal.old.events).control) && entries.is_grouped (here (P.state plant.old) config.now xs h.old journal.old.events).control w.now.volume.0 u.0)) }
+    requires alone { found ≡ false → HasNoTarget (P.state plant.old) config.now w.now.volume.0 }
+    requires room { length config.now.volumes + (length config.now.volumes + 3) ≤ journal.old.spare }
+    ensures wrote { Wrote (P.state plant.old) (P.state plant.new) config.now h.old h.new journal.old journal.new (λ k. over_entries (ids_of config.now.volumes) (parts k w.now.volume.0 u.0) (entries.is_grouped k w.now.volume.0 u.0) w.now.w.0 w.now.volume.0 w.now.track u.0) (length config.now.volumes + (length config.now.volumes + 2)) result }
+    ensures end { (xs : List Session) → IfOk result (λ e. e ≡ end_of (parts (here (P.state plant.old) config.now xs h.old journal.old.events).control w.now.volume.0 u.0 && entries.is_grouped (here (P.state plant.old) config.now xs h.old journal.old.events).control w.now.volume.0 u.0)) }
     ensures mirrors { OnOk result (Mirrors (P.state plant.new) config.now w.now.volume.0 u.0 w.now.track) }
     ensures stops { OnErr result (is_stop (refusal_of result) ≡ true) }
-    ensures rest { IsAtRest (P.state plant.new) config.now }
-    ensures fit { RelationsFit (P.state plant.new) config.now }
-    ensures told { IsTold h.new journal.new.events }
-    ensures unarmed { (q : ℕ) → (P.state plant.old).read_fuse q ≡ None → (P.state plant.new).read_fuse q ≡ None }
-    ensures faults { Counted (is_err result) (P.state plant.old).faults (P.state plant.new).faults }
-    ensures issued { h.new.issued ≡ h.old.issued }
-    ensures room { journal.old.spare ≤ journal.new.spare + (length config.now.volumes + (length config.now.volumes + 2)) }
-    ensures spare { length journal.new.events + journal.new.spare ≡ length journal.old.events + journal.old.spare }
 {
-    if send_refusal(plant, config, w.volume, u).is_some() {
-        return write_parted(
-            plant,
-            config,
-            journal,
-            h,
-            w,
-            is_grouped(config, w.volume, u),
-        );
+    let to = peek_fields(plant, config, u);
+    if !can_send(plant, config, w.volume, u, &to) {
+        let busy = is_grouped(config, w.volume, u);
+        return write_parted(plant, config, journal, h, w, busy);
     }
-    match write_both_by(plant, config, journal, h, w, u, fields) {
-        Ok(()) => Ok(WriteEnd::Landed),
-        Err(stop) => Err(stop),
-    }
+    landed(write_both_by(plant, config, journal, h, w, u, fields, &to, found))
 }
 
 /// Carries out the write on a volume where the host may write; its fields are at hand, and whether a volume was found that is its
@@ -309,45 +145,30 @@ fn place_write<P: Plant>(
     server: ServerId,
     found: bool,
 ) -> Result<WriteEnd, Refusal>
-    requires rest { IsAtRest (P.state plant.old) config.now }
-    requires fit { RelationsFit (P.state plant.old) config.now }
-    requires told { IsTold h.old journal.old.events }
-    requires defined { IsSome (place_of config.now w.now.volume.0) }
-    requires running { (P.state plant.old).on (volume_seen (P.state plant.old) config.now w.now.volume.0).server ≡ true }
-    requires to { is_part (volume_seen (P.state plant.old) config.now w.now.volume.0).fields.primary ≡ true → IsSome (place_of config.now (volume_seen (P.state plant.old) config.now w.now.volume.0).fields.primary_partner) }
-    requires two_servers { is_part (volume_seen (P.state plant.old) config.now w.now.volume.0).fields.primary ≡ true → (volume_seen (P.state plant.old) config.now w.now.volume.0).server ≢ (volume_seen (P.state plant.old) config.now (volume_seen (P.state plant.old) config.now w.now.volume.0).fields.primary_partner).server }
-    requires size { is_part (volume_seen (P.state plant.old) config.now w.now.volume.0).fields.primary ≡ true → (volume_seen (P.state plant.old) config.now (volume_seen (P.state plant.old) config.now w.now.volume.0).fields.primary_partner).tracks ≡ (volume_seen (P.state plant.old) config.now w.now.volume.0).tracks }
-    requires within { w.now.track < (volume_seen (P.state plant.old) config.now w.now.volume.0).tracks }
-    requires fits { w.now.offset + w.now.len ≤ 64 }
-    requires found { find (has_number w.now.w.0) h.old.pending ≡ Some w.now }
-    requires room { length config.now.volumes + (length config.now.volumes + 3) ≤ journal.old.spare }
+    requires due { IsDue (P.state plant.old) config.now h.old journal.old.events w.now }
+    requires running { IsOn (P.state plant.old) config.now w.now.volume.0 }
+    requires pair { is_part fields.now.primary ≡ true → MayPair (P.state plant.old) config.now w.now.volume.0 fields.now.primary_partner.0 }
     requires server { (volume_seen (P.state plant.old) config.now w.now.volume.0).server ≡ server.0 }
     requires known { server.0 < 8 }
     requires shows { Shows (P.state plant.old) config.now w.now.volume.0 fields.now }
     requires alone { found ≡ false → HasNoTarget (P.state plant.old) config.now w.now.volume.0 }
-    ensures carried { (xs : List Session) → Ends (armed_in (P.state plant.old)) (here (P.state plant.new) config.now xs h.new journal.new.events) (refusal_of result) (here (P.state plant.old) config.now xs h.old journal.old.events) (land_entries (here (P.state plant.old) config.now xs h.old journal.old.events).control w.now.w.0 w.now.volume.0 w.now.track) }
-    ensures end { (xs : List Session) → IfOk result (λ e. e ≡ end_of (waits (here (P.state plant.old) config.now xs h.old journal.old.events).control w.now.volume.0 w.now.track)) }
-    ensures mirrors { is_metro (volume_seen (P.state plant.old) config.now w.now.volume.0).fields.primary ≡ true → IfOk result (λ e. e ≡ Landed → Mirrors (P.state plant.new) config.now w.now.volume.0 (volume_seen (P.state plant.old) config.now w.now.volume.0).fields.primary_partner w.now.track) }
+    requires room { length config.now.volumes + (length config.now.volumes + 3) ≤ journal.old.spare }
+    ensures wrote { Wrote (P.state plant.old) (P.state plant.new) config.now h.old h.new journal.old journal.new (λ k. entries_by k (plain fields.now) w.now.w.0 w.now.volume.0 w.now.track) (length config.now.volumes + (length config.now.volumes + 2)) result }
+    ensures end { (xs : List Session) → IfOk result (λ e. e ≡ end_of (waits_by (here (P.state plant.old) config.now xs h.old journal.old.events).control (plain fields.now) w.now.volume.0 w.now.track)) }
+    ensures mirrors { is_metro fields.now.primary ≡ true → IfOk result (λ e. e ≡ Landed → Mirrors (P.state plant.new) config.now w.now.volume.0 fields.now.primary_partner.0 w.now.track) }
     ensures stops { OnErr result (is_stop (refusal_of result) ≡ true) }
-    ensures rest { IsAtRest (P.state plant.new) config.now }
-    ensures fit { RelationsFit (P.state plant.new) config.now }
-    ensures told { IsTold h.new journal.new.events }
-    ensures unarmed { (q : ℕ) → (P.state plant.old).read_fuse q ≡ None → (P.state plant.new).read_fuse q ≡ None }
-    ensures faults { Counted (is_err result) (P.state plant.old).faults (P.state plant.new).faults }
-    ensures issued { h.new.issued ≡ h.old.issued }
-    ensures room { journal.old.spare ≤ journal.new.spare + (length config.now.volumes + (length config.now.volumes + 2)) }
-    ensures spare { length journal.new.events + journal.new.spare ≡ length journal.old.events + journal.old.spare }
 {
     if is_held(fields) {
         return Ok(WriteEnd::Held);
     }
+    let u = fields.primary_partner;
     if goes_over(fields, w.track) {
-        return write_over(plant, config, journal, h, w, fields.primary_partner, fields);
+        return write_over(plant, config, journal, h, w, u, fields, found);
     }
     if collides(fields, w.track) {
-        return write_collided(plant, config, journal, h, w, fields.primary_partner);
+        return landed(write_collided(plant, config, journal, h, w, u));
     }
-    write_here(plant, config, journal, h, w, fields, server, found)
+    landed(write_here(plant, config, journal, h, w, fields, server, found))
 }
 
 /// Carries out the write, without what follows the stop of a server.
@@ -359,29 +180,13 @@ fn carry_write<P: Plant>(
     w: &Pending,
     fields: &Fields,
 ) -> Result<WriteEnd, Refusal>
-    requires rest { IsAtRest (P.state plant.old) config.now }
-    requires fit { RelationsFit (P.state plant.old) config.now }
-    requires told { IsTold h.old journal.old.events }
-    requires defined { IsSome (place_of config.now w.now.volume.0) }
-    requires to { is_part (volume_seen (P.state plant.old) config.now w.now.volume.0).fields.primary ≡ true → IsSome (place_of config.now (volume_seen (P.state plant.old) config.now w.now.volume.0).fields.primary_partner) }
-    requires two_servers { is_part (volume_seen (P.state plant.old) config.now w.now.volume.0).fields.primary ≡ true → (volume_seen (P.state plant.old) config.now w.now.volume.0).server ≢ (volume_seen (P.state plant.old) config.now (volume_seen (P.state plant.old) config.now w.now.volume.0).fields.primary_partner).server }
-    requires size { is_part (volume_seen (P.state plant.old) config.now w.now.volume.0).fields.primary ≡ true → (volume_seen (P.state plant.old) config.now (volume_seen (P.state plant.old) config.now w.now.volume.0).fields.primary_partner).tracks ≡ (volume_seen (P.state plant.old) config.now w.now.volume.0).tracks }
-    requires within { w.now.track < (volume_seen (P.state plant.old) config.now w.now.volume.0).tracks }
-    requires fits { w.now.offset + w.now.len ≤ 64 }
-    requires found { find (has_number w.now.w.0) h.old.pending ≡ Some w.now }
-    requires room { length config.now.volumes + (length config.now.volumes + 3) ≤ journal.old.spare }
+    requires due { IsDue (P.state plant.old) config.now h.old journal.old.events w.now }
+    requires pair { is_part fields.now.primary ≡ true → MayPair (P.state plant.old) config.now w.now.volume.0 fields.now.primary_partner.0 }
     requires shows { Shows (P.state plant.old) config.now w.now.volume.0 fields.now }
-    ensures carried { (xs : List Session) → Ends (armed_in (P.state plant.old)) (here (P.state plant.new) config.now xs h.new journal.new.events) (refusal_of result) (here (P.state plant.old) config.now xs h.old journal.old.events) (landing (here (P.state plant.old) config.now xs h.old journal.old.events).control w.now.w.0 w.now.volume.0 w.now.track) }
+    requires room { length config.now.volumes + (length config.now.volumes + 3) ≤ journal.old.spare }
+    ensures wrote { Wrote (P.state plant.old) (P.state plant.new) config.now h.old h.new journal.old journal.new (λ k. landing k w.now.w.0 w.now.volume.0 w.now.track) (length config.now.volumes + (length config.now.volumes + 2)) result }
     ensures end { (xs : List Session) → IfOk result (λ e. e ≡ end_of (waits (here (P.state plant.old) config.now xs h.old journal.old.events).control w.now.volume.0 w.now.track)) }
-    ensures mirrors { is_metro (volume_seen (P.state plant.old) config.now w.now.volume.0).fields.primary ≡ true → IfOk result (λ e. e ≡ Landed → Mirrors (P.state plant.new) config.now w.now.volume.0 (volume_seen (P.state plant.old) config.now w.now.volume.0).fields.primary_partner w.now.track) }
-    ensures rest { IsAtRest (P.state plant.new) config.now }
-    ensures fit { RelationsFit (P.state plant.new) config.now }
-    ensures told { IsTold h.new journal.new.events }
-    ensures unarmed { (q : ℕ) → (P.state plant.old).read_fuse q ≡ None → (P.state plant.new).read_fuse q ≡ None }
-    ensures faults { Counted (is_stop (refusal_of result)) (P.state plant.old).faults (P.state plant.new).faults }
-    ensures issued { h.new.issued ≡ h.old.issued }
-    ensures room { journal.old.spare ≤ journal.new.spare + (length config.now.volumes + (length config.now.volumes + 2)) }
-    ensures spare { length journal.new.events + journal.new.spare ≡ length journal.old.events + journal.old.spare }
+    ensures mirrors { is_metro fields.now.primary ≡ true → IfOk result (λ e. e ≡ Landed → Mirrors (P.state plant.new) config.now w.now.volume.0 fields.now.primary_partner.0 w.now.track) }
 {
     let server = server_of(config, w.volume);
     if !plant.is_on(server.0) {

@@ -1,88 +1,54 @@
-use Rattle.std.proofs.Common.{◌<◌, [], sym, subst, None, Some}
+use Rattle.std.proofs.Common.{◌≡◌, ◌+◌, length, arith, ap, ◌∙◌}
+use Rattle.std.specs.Prelude.{Ok}
 use Rattle.dr_model.specs.Entries.{land_alone}
-use Rattle.dr_model.specs.ReadStops.{Ends}
 use Rattle.dr_model.specs.WriteEntries.{send_first}
 use Rattle.dr_volume.specs.View.{ids_of}
-use Rattle.dr_moves.specs.Here.{armed_in, refusal_of}
-use Rattle.dr_moves.proofs.KeptLemmas.{wider-armed}
-use Rattle.dr_moves.proofs.EntryLemmas.{led, failed}
-use Rattle.dr_facts.proofs.Ends.{ends-wider}
+use Rattle.dr_moves.specs.Checks.{is_stop}
 use Rattle.dr_moves.proofs.TurnLemmas.{refused-by}
-use Rattle.dr_gcopy.proofs.SendLemmas.{same-server, same-tracks}
-use Rattle.dr_metro.specs.Here.{here, rest_of}
-use Rattle.dr_metro.specs.Syncing.{collided_entries}
-use Rattle.dr_metro.proofs.LandLemmas.{told-through}
-use Rattle.dr_metro.proofs.RouteLemmas.{runs-still}
+use Rattle.dr_logic.proofs.Results.{err-always}
+use Rattle.dr_metro.proofs.WroteLemmas.{ran-told, wrote-then, wrote-failed, due-still, on-still}
 use Rattle.dr_metro.proofs.colliding.write_collided.Goals as goal
 
-pub returns-in_err-send_old-clause-carried : goal.returns-in_err-send_old-clause-carried
-returns-in_err-send_old-clause-carried g c xs =
+pub returns-in_err-send_old-clause-wrote : goal.returns-in_err-send_old-clause-wrote
+returns-in_err-send_old-clause-wrote g c =
     let s = g.P.Plant.state c.args.plant.now in
     let t = c.args.config.now in
-    let h = c.args.h.now in
-    let ev = c.args.journal.now.events in
     let w = c.args.w.now in
     let v = w.volume.0 in
-    let m = g.P.Plant.state c.send_old.new.plant in
-    let mid = c.send_old.new.journal.events in
-    subst (λ e. Ends (armed_in s) (here m t xs h mid) e (here s t xs h ev) (collided_entries (ids_of t.volumes) w.w.0 v w.track c.args.u.0)) (sym (refused-by c.from_residual.result c.in_err-send_old.field-0.0 c.from_residual.ensures.0 c.from_residual.ensures.1))
-    (c.in_err-send_old.ensures.fails (rest_of xs h ev) (land_alone (ids_of t.volumes) w.w.0 v w.track))
+    let n = length t.volumes in
+    wrote-failed s (g.P.Plant.state c.send_old.new.plant) t c.args.h.now c.args.journal.now c.send_old.new.journal (send_first (ids_of t.volumes) v c.args.u.0 w.track) (λ q. ⊥) (n + 2) (n + 1) (land_alone (ids_of t.volumes) w.w.0 v w.track) (n + (n + 2))
+    c.from_residual.result c.in_err-send_old.field-0.0 c.from_residual.ensures.0 c.from_residual.ensures.1 (omega arith) c.requires.due.told c.in_err-send_old.ensures.ran
 
-pub returns-in_err-send_old-clause-told : goal.returns-in_err-send_old-clause-told
-returns-in_err-send_old-clause-told g c =
-    let s = g.P.Plant.state c.args.plant.now in
-    let t = c.args.config.now in
-    let h = c.args.h.now in
-    let ev = c.args.journal.now.events in
-    let w = c.args.w.now in
-    let v = w.volume.0 in
-    let m = g.P.Plant.state c.send_old.new.plant in
-    let mid = c.send_old.new.journal.events in
-    let r = Some c.in_err-send_old.field-0.0 in
-    let first = send_first (ids_of t.volumes) v c.args.u.0 w.track in
-    told-through (armed_in s) h (here s t [] h ev) (here m t [] h mid) first r (failed (armed_in s) (here s t [] h ev) (here m t [] h mid) r first (c.in_err-send_old.ensures.fails (rest_of [] h ev))) c.requires.told
+pub returns-in_err-send_old-clause-stops : goal.returns-in_err-send_old-clause-stops
+returns-in_err-send_old-clause-stops g c = err-always c.from_residual.result (ap is_stop (refused-by c.from_residual.result c.in_err-send_old.field-0.0 c.from_residual.ensures.0 c.from_residual.ensures.1) ∙ c.in_err-send_old.ensures.stops)
 
-pub write_alone-requires-clause-told : goal.write_alone-requires-clause-told
-write_alone-requires-clause-told g c =
+pub write_alone-requires-clause-due : goal.write_alone-requires-clause-due
+write_alone-requires-clause-due g c =
     let s = g.P.Plant.state c.args.plant.now in
+    let m = g.P.Plant.state c.send_old.new.plant in
     let t = c.args.config.now in
     let h = c.args.h.now in
-    let ev = c.args.journal.now.events in
+    let j = c.args.journal.now in
+    let l = c.send_old.new.journal in
     let w = c.args.w.now in
-    let v = w.volume.0 in
-    let m = g.P.Plant.state c.send_old.new.plant in
-    let mid = c.send_old.new.journal.events in
-    let first = send_first (ids_of t.volumes) v c.args.u.0 w.track in
-    told-through (armed_in s) h (here s t [] h ev) (here m t [] h mid) first None (led (armed_in s) (here s t [] h ev) (here m t [] h mid) first (c.in_ok-send_old.ensures.leads (rest_of [] h ev))) c.requires.told
+    let n = length t.volumes in
+    let ran = c.in_ok-send_old.ensures.ran in
+    due-still s m t h j.events l.events w ran.stays.at (ran-told s m t h j l (send_first (ids_of t.volumes) w.volume.0 c.args.u.0 w.track) (λ q. ⊥) (n + 2) (n + 1) (Ok tt) ran c.requires.due.told) c.requires.due
 
 pub write_alone-requires-clause-running : goal.write_alone-requires-clause-running
 write_alone-requires-clause-running g c =
-    let s = g.P.Plant.state c.args.plant.now in
-    let t = c.args.config.now in
-    let m = g.P.Plant.state c.send_old.new.plant in
-    runs-still s m t c.args.w.now.volume.0 c.in_ok-send_old.ensures.on (same-server m s t c.args.w.now.volume.0) c.requires.running
+    on-still (g.P.Plant.state c.args.plant.now) (g.P.Plant.state c.send_old.new.plant) c.args.config.now c.args.w.now.volume.0 c.in_ok-send_old.ensures.ran.stays.on c.requires.running
 
-pub write_alone-requires-clause-within : goal.write_alone-requires-clause-within
-write_alone-requires-clause-within g c =
-    let s = g.P.Plant.state c.args.plant.now in
-    let t = c.args.config.now in
-    let m = g.P.Plant.state c.send_old.new.plant in
-    subst (λ n. c.args.w.now.track < n) (same-tracks s m t c.args.w.now.volume.0) c.requires.within
+pub write_alone-requires-clause-room : goal.write_alone-requires-clause-room
+write_alone-requires-clause-room g c = let a = c.in_ok-send_old.ensures.ran.stays.left in let b = c.requires.room in omega (arith, a, b)
 
-pub returns-clause-carried : goal.returns-clause-carried
-returns-clause-carried g c xs =
+pub returns-clause-wrote : goal.returns-clause-wrote
+returns-clause-wrote g c =
     let s = g.P.Plant.state c.args.plant.now in
     let t = c.args.config.now in
-    let h = c.args.h.now in
-    let ev = c.args.journal.now.events in
     let w = c.args.w.now in
     let v = w.volume.0 in
-    let m = g.P.Plant.state c.send_old.new.plant in
-    let mid = c.send_old.new.journal.events in
-    let alone = land_alone (ids_of t.volumes) w.w.0 v w.track in
-    let x = here (g.P.Plant.state c.write_alone.new.plant) t xs c.write_alone.new.h c.write_alone.new.journal.events in
-    c.in_ok-send_old.ensures.leads (rest_of xs h ev) (armed_in s) x (refusal_of c.write_alone.result) alone
-    (ends-wider (armed_in m) (armed_in s) (wider-armed s m c.in_ok-send_old.ensures.unarmed) x (refusal_of c.write_alone.result) (here m t xs h mid) alone (c.write_alone.ensures.carried xs))
-
-pub returns-clause-unarmed : goal.returns-clause-unarmed
-returns-clause-unarmed g c q none = c.write_alone.ensures.unarmed q (c.in_ok-send_old.ensures.unarmed q none)
+    let n = length t.volumes in
+    let new = c.write_alone.new in
+    wrote-then s (g.P.Plant.state c.send_old.new.plant) t c.args.h.now c.args.journal.now c.send_old.new.journal (send_first (ids_of t.volumes) v c.args.u.0 w.track) (λ q. ⊥) (n + 2) (n + 1) (g.P.Plant.state new.plant) new.h new.journal (land_alone (ids_of t.volumes) w.w.0 v w.track)
+    (n + 1) (n + (n + 2)) c.write_alone.result (omega arith) c.in_ok-send_old.ensures.ran c.write_alone.ensures.wrote

@@ -1,121 +1,92 @@
-use Rattle.std.proofs.Common.{◌≡◌, true, false, ◌&&◌, ap, sym, subst, ◌∙◌, None, Some}
-use Rattle.std.specs.Prelude.{is_some}
+use Rattle.std.proofs.Common.{◌≡◌, true, false, ◌&&◌, ◌+◌, length, arith, ap, sym, subst, ◌∙◌}
 use Rattle.std.specs.Result.{IfOk}
-use Rattle.dr_model.specs.PairEntries.{send_refusal}
-use Rattle.dr_model.specs.ReadStops.{Ends}
-use Rattle.dr_model.specs.WriteEntries.{is_grouped}
+use Rattle.dr_logic.proofs.Truth.{false_true}
+use Rattle.dr_model.specs.WriteEntries.{is_grouped, land_mirrored}
 use Rattle.dr_volume.specs.View.{ids_of}
-use Rattle.dr_moves.specs.Here.{armed_in, refusal_of}
 use Rattle.dr_moves.proofs.TurnLemmas.{ok-along}
 use Rattle.dr_metro.specs.declared.sync.WriteEnd.{WriteEnd}
 use Rattle.dr_metro.specs.Here.{here, rest_of}
-use Rattle.dr_metro.specs.Syncing.{parted_entries, over_entries, end_of}
-use Rattle.dr_metro.proofs.SyncLemmas.{none-gives}
+use Rattle.dr_metro.specs.Syncing.{parted_entries, over_entries, end_of, parts}
+use Rattle.dr_metro.proofs.SyncLemmas.{not-sent, is-sent}
+use Rattle.dr_metro.proofs.WroteLemmas.{wrote-within, wrote-alike, landed-wrote, landed-stops, landed-ok, landed-end}
 use Rattle.dr_metro.proofs.sync.write_over.Goals as goal
-use Rattle.dr_logic.proofs.Truth.{false_true}
 
-pub returns-then-is_some-clause-carried : goal.returns-then-is_some-clause-carried
-returns-then-is_some-clause-carried g c xs =
+pub returns-then-not-can_send-clause-wrote : goal.returns-then-not-can_send-clause-wrote
+returns-then-not-can_send-clause-wrote g c =
     let s = g.P.Plant.state c.args.plant.now in
+    let x = g.P.Plant.state c.write_parted.new.plant in
     let t = c.args.config.now in
     let h = c.args.h.now in
     let ev = c.args.journal.now.events in
     let w = c.args.w.now in
     let v = w.volume.0 in
-    let k = (here s t xs h ev).control in
     let u = c.args.u.0 in
+    let n = length t.volumes in
     let ids = ids_of t.volumes in
-    let parted : is_some (send_refusal v u k) ≡ true = ap is_some (sym (c.send_refusal.ensures.refusal (rest_of xs h ev) ev)) ∙ sym c.is_some.ensures ∙ c.if-is_some.true in
-    let x = here (g.P.Plant.state c.write_parted.new.plant) t xs c.write_parted.new.h c.write_parted.new.journal.events in
-    subst (λ b. Ends (armed_in s) x (refusal_of c.write_parted.result) (here s t xs h ev) (over_entries ids b (is_grouped k v u) w.w.0 v w.track u)) (sym parted)
-    (subst (λ b. Ends (armed_in s) x (refusal_of c.write_parted.result) (here s t xs h ev) (parted_entries ids b w.w.0 v w.track)) c.is_grouped.ensures (c.write_parted.ensures.carried xs))
+    let new = c.write_parted.new in
+    wrote-alike s x t h new.h c.args.journal.now new.journal (λ k. parted_entries ids c.is_grouped-busy.result w.w.0 v w.track) (λ k. over_entries ids (parts k v u) (is_grouped k v u) w.w.0 v w.track u) (n + (n + 2)) c.write_parted.result
+    (λ xs. let k = (here s t xs h ev).control in
+    ap (λ b. parted_entries ids b w.w.0 v w.track) c.is_grouped-busy.ensures
+    ∙ ap (λ b. over_entries ids b (is_grouped k v u) w.w.0 v w.track u) (sym (not-sent c.can_send.result (parts k v u) (c.can_send.ensures.sends (rest_of xs h ev) ev) c.if-not-can_send.true)))
+    (wrote-within s x t h new.h c.args.journal.now new.journal (λ k. parted_entries ids c.is_grouped-busy.result w.w.0 v w.track) (n + 2) (n + (n + 2)) c.write_parted.result (omega arith) c.write_parted.ensures.wrote)
 
-pub returns-then-is_some-clause-end : goal.returns-then-is_some-clause-end
-returns-then-is_some-clause-end g c xs =
+pub returns-then-not-can_send-clause-end : goal.returns-then-not-can_send-clause-end
+returns-then-not-can_send-clause-end g c xs =
     let s = g.P.Plant.state c.args.plant.now in
     let t = c.args.config.now in
     let h = c.args.h.now in
     let ev = c.args.journal.now.events in
-    let w = c.args.w.now in
-    let v = w.volume.0 in
-    let k = (here s t xs h ev).control in
+    let v = c.args.w.now.volume.0 in
     let u = c.args.u.0 in
-    let ids = ids_of t.volumes in
-    let parted : is_some (send_refusal v u k) ≡ true = ap is_some (sym (c.send_refusal.ensures.refusal (rest_of xs h ev) ev)) ∙ sym c.is_some.ensures ∙ c.if-is_some.true in
-    subst (λ b. IfOk c.write_parted.result (λ (e : WriteEnd). e ≡ end_of (b && is_grouped k v u))) (sym parted)
-    (subst (λ b. IfOk c.write_parted.result (λ (e : WriteEnd). e ≡ end_of b)) c.is_grouped.ensures c.write_parted.ensures.end)
-
-pub returns-then-is_some-clause-mirrors : goal.returns-then-is_some-clause-mirrors
-returns-then-is_some-clause-mirrors g c =
-    let s = g.P.Plant.state c.args.plant.now in
-    let t = c.args.config.now in
-    let h = c.args.h.now in
-    let ev = c.args.journal.now.events in
-    let w = c.args.w.now in
-    let v = w.volume.0 in
-    ok-along c.write_parted.result c.write_parted.ensures.suspended (λ is in_sync active. (false_true active is))
-
-pub write_both_by-requires-clause-reached : goal.write_both_by-requires-clause-reached
-write_both_by-requires-clause-reached g c =
-    let s = g.P.Plant.state c.args.plant.now in
-    let t = c.args.config.now in
-    let h = c.args.h.now in
-    let ev = c.args.journal.now.events in
-    let w = c.args.w.now in
-    let v = w.volume.0 in
-    let sends = sym c.is_some.ensures ∙ c.if-is_some.false in
-    none-gives c.send_refusal.result sends c.send_refusal.ensures.reached
-
-pub returns-in-Ok-clause-carried : goal.returns-in-Ok-clause-carried
-returns-in-Ok-clause-carried g c xs =
-    let s = g.P.Plant.state c.args.plant.now in
-    let t = c.args.config.now in
-    let h = c.args.h.now in
-    let ev = c.args.journal.now.events in
-    let w = c.args.w.now in
-    let v = w.volume.0 in
     let k = (here s t xs h ev).control in
-    let u = c.args.u.0 in
-    let ids = ids_of t.volumes in
-    let sends : is_some (send_refusal v u k) ≡ false = ap is_some (sym (c.send_refusal.ensures.refusal (rest_of xs h ev) ev)) ∙ sym c.is_some.ensures ∙ c.if-is_some.false in
-    let x = here (g.P.Plant.state c.write_both_by.new.plant) t xs c.write_both_by.new.h c.write_both_by.new.journal.events in
-    subst (λ b. Ends (armed_in s) x None (here s t xs h ev) (over_entries ids b (is_grouped k v u) w.w.0 v w.track u)) (sym sends) (c.in-Ok.ensures.carried xs)
+    subst (λ b. IfOk c.write_parted.result (λ (e : WriteEnd). e ≡ end_of (b && is_grouped k v u))) (sym (not-sent c.can_send.result (parts k v u) (c.can_send.ensures.sends (rest_of xs h ev) ev) c.if-not-can_send.true))
+    (subst (λ b. IfOk c.write_parted.result (λ (e : WriteEnd). e ≡ end_of b)) c.is_grouped-busy.ensures c.write_parted.ensures.end)
 
-pub returns-in-Err-clause-carried : goal.returns-in-Err-clause-carried
-returns-in-Err-clause-carried g c xs =
+pub returns-then-not-can_send-clause-mirrors : goal.returns-then-not-can_send-clause-mirrors
+returns-then-not-can_send-clause-mirrors g c = ok-along c.write_parted.result c.write_parted.ensures.suspended (λ is in_sync active. false_true active is)
+
+pub write_both_by-requires-clause-can : goal.write_both_by-requires-clause-can
+write_both_by-requires-clause-can g c =
+    let q = c.requires in
+    record {
+      due = q.due;
+      running = q.running;
+      primary = q.primary;
+      pair = q.pair;
+      reached = c.can_send.ensures.reached c.if-not-can_send.false;
+      says = q.says;
+      says_to = record { fields = c.peek_fields-to.ensures.fields; lawful = c.peek_fields-to.ensures.lawful };
+      alone = q.alone;
+    }
+
+pub returns-clause-wrote : goal.returns-clause-wrote
+returns-clause-wrote g c =
     let s = g.P.Plant.state c.args.plant.now in
+    let x = g.P.Plant.state c.write_both_by.new.plant in
     let t = c.args.config.now in
     let h = c.args.h.now in
     let ev = c.args.journal.now.events in
     let w = c.args.w.now in
     let v = w.volume.0 in
-    let k = (here s t xs h ev).control in
     let u = c.args.u.0 in
+    let n = length t.volumes in
     let ids = ids_of t.volumes in
-    let sends : is_some (send_refusal v u k) ≡ false = ap is_some (sym (c.send_refusal.ensures.refusal (rest_of xs h ev) ev)) ∙ sym c.is_some.ensures ∙ c.if-is_some.false in
-    let x = here (g.P.Plant.state c.write_both_by.new.plant) t xs c.write_both_by.new.h c.write_both_by.new.journal.events in
-    subst (λ b. Ends (armed_in s) x (Some c.in-Err.stop) (here s t xs h ev) (over_entries ids b (is_grouped k v u) w.w.0 v w.track u)) (sym sends) (c.in-Err.ensures.carried xs)
+    let new = c.write_both_by.new in
+    landed-wrote c.write_both_by.result c.landed.result c.landed.ensures s x t h new.h c.args.journal.now new.journal (λ k. over_entries ids (parts k v u) (is_grouped k v u) w.w.0 v w.track u) (n + (n + 2))
+    (wrote-alike s x t h new.h c.args.journal.now new.journal (λ k. land_mirrored ids w.w.0 v w.track u) (λ k. over_entries ids (parts k v u) (is_grouped k v u) w.w.0 v w.track u) (n + (n + 2)) c.write_both_by.result
+    (λ xs. let k = (here s t xs h ev).control in ap (λ b. over_entries ids b (is_grouped k v u) w.w.0 v w.track u) (sym (is-sent c.can_send.result (parts k v u) (c.can_send.ensures.sends (rest_of xs h ev) ev) c.if-not-can_send.false)))
+    c.write_both_by.ensures.wrote)
 
-pub returns-in-Ok-clause-end : goal.returns-in-Ok-clause-end
-returns-in-Ok-clause-end g c xs =
-    let s = g.P.Plant.state c.args.plant.now in
-    let t = c.args.config.now in
-    let h = c.args.h.now in
-    let ev = c.args.journal.now.events in
-    let w = c.args.w.now in
-    let v = w.volume.0 in
-    let k = (here s t xs h ev).control in
+pub returns-clause-end : goal.returns-clause-end
+returns-clause-end g c xs =
+    let k = (here (g.P.Plant.state c.args.plant.now) c.args.config.now xs c.args.h.now c.args.journal.now.events).control in
+    let v = c.args.w.now.volume.0 in
     let u = c.args.u.0 in
-    let ids = ids_of t.volumes in
-    let sends : is_some (send_refusal v u k) ≡ false = ap is_some (sym (c.send_refusal.ensures.refusal (rest_of xs h ev) ev)) ∙ sym c.is_some.ensures ∙ c.if-is_some.false in
-    ap (λ b. end_of (b && is_grouped k v u)) (sym sends)
+    landed-end c.write_both_by.result c.landed.result c.landed.ensures (parts k v u && is_grouped k v u)
+    (ap (λ b. b && is_grouped k v u) (is-sent c.can_send.result (parts k v u) (c.can_send.ensures.sends (rest_of xs c.args.h.now c.args.journal.now.events) c.args.journal.now.events) c.if-not-can_send.false))
 
-pub returns-in-Ok-clause-mirrors : goal.returns-in-Ok-clause-mirrors
-returns-in-Ok-clause-mirrors g c =
-    let s = g.P.Plant.state c.args.plant.now in
-    let t = c.args.config.now in
-    let h = c.args.h.now in
-    let ev = c.args.journal.now.events in
-    let w = c.args.w.now in
-    let v = w.volume.0 in
-    λ in_sync active. c.in-Ok.ensures.equal
+pub returns-clause-mirrors : goal.returns-clause-mirrors
+returns-clause-mirrors g c = landed-ok c.write_both_by.result c.landed.result c.landed.ensures _ (ok-along c.write_both_by.result c.write_both_by.ensures.equal (λ is in_sync active. is))
+
+pub returns-clause-stops : goal.returns-clause-stops
+returns-clause-stops g c = landed-stops c.write_both_by.result c.landed.result c.landed.ensures c.write_both_by.ensures.stops
