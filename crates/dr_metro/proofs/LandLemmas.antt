@@ -5,7 +5,7 @@ use Rattle.dr_ids.specs.declared.refusal.Refusal.{Refusal}
 use Rattle.dr_plant.specs.State.{PlantState, after_read, can_read}
 use Rattle.dr_config.specs.Table.{ConfigTable, place_of}
 use Rattle.dr_model.specs.Control.{World}
-use Rattle.dr_model.specs.Carry.{Ended, ended, Entry}
+use Rattle.dr_model.specs.Carry.{Ended, Entry}
 use Rattle.dr_model.specs.ReadStops.{Ends}
 use Rattle.dr_volume.specs.View.{Rest, world, volume_seen, device_of}
 use Rattle.dr_host.specs.Writes.{Writes, EachPending}

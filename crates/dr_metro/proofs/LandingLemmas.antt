@@ -1,25 +1,19 @@
 -- A track with bytes laid over it, and what stays blank then.
 use Rattle.std.specs.Prelude.{if◌then◌else◌}
-use Rattle.std.proofs.Common.{ℕ, ◌≡◌, ◌≢◌, ◌<◌, ◌≤◌, ◌+◌, ◌-◌, inl, inr, Bool, refl, Some, List, length, get_or, set, take, ap, ◌∙◌, sym, arith, true, false, not, ◌&&◌, ◌||◌, cond, nat_lt, nat_le, rules}
+use Rattle.std.proofs.Common.{ℕ, ◌≡◌, ◌≢◌, ◌<◌, ◌≤◌, ◌+◌, ◌-◌, inl, inr, Bool, refl, Some, List, length, get_or, set, take, ap, ◌∙◌, sym, arith, true, false, ◌&&◌, cond, nat_lt, nat_le}
 use Rattle.std.proofs.lemmas.Grind.{common_steps}
 use Rattle.std.proofs.lemmas.Bool.Decides.{nat_tests, eqb_tells, leb_tells}
 use Rattle.std.proofs.lemmas.List.{get_or-take, length-take-le}
 use Rattle.std.proofs.lemmas.List.FromFn.{fill_by_all}
-use Rattle.std.specs.Cmp.{unsigned_tied}
-use Rattle.std.specs.FinSet.{contains, insert, remove, members}
-use Rattle.dr_bits.specs.Tracks.{Tracks}
-use Rattle.dr_bits.proofs.Laws.{contains-insert_tracks}
 use Rattle.dr_plant.specs.State.{PlantState}
 use Rattle.dr_config.specs.Table.{ConfigTable}
 use Rattle.dr_model.specs.Control.{Volume}
-use Rattle.dr_model.specs.Layout.{Fields, is_part}
-use Rattle.dr_model.specs.Lawful.{Low, HasSets, IsLawful}
+use Rattle.dr_model.specs.Lawful.{IsLawful}
 use Rattle.dr_model.specs.Relations.{closed, fetched, rewritten}
 use Rattle.dr_model.specs.Pairs.{written}
 use Rattle.dr_volume.specs.View.{volume_seen}
 use Rattle.dr_moves.specs.Fit.{RelationsFit}
 use Rattle.dr_moves.proofs.FitLemmas.{fit-kept}
-use Rattle.dr_flash.proofs.FieldLemmas.{low-remove, low-insert, low-if}
 use Rattle.dr_moves.proofs.MoveFits.{covers-carried, MoveFits}
 use Rattle.dr_flash.proofs.MoveLemmas.{overwrite-fits}
 use Rattle.dr_metro.specs.Landing.{landed_on}

@@ -10,7 +10,7 @@ use Rattle.dr_bits.proofs.Laws.{contains-insert_tracks}
 use Rattle.dr_ids.specs.declared.refusal.Refusal.{Refusal}
 use Rattle.dr_ids.specs.declared.refusal.Refusal.TheVariants.{Stopped, NotPrimary, Inhibited}
 use Rattle.dr_model.specs.declared.state.Part.{Part}
-use Rattle.dr_model.specs.declared.state.Part.TheVariants.{Metro, Global}
+use Rattle.dr_model.specs.declared.state.Part.TheVariants.{Global}
 use Rattle.dr_model.specs.Layout.{Tracks, Fields, is_part}
 use Rattle.dr_model.specs.Control.{Control, World}
 use Rattle.dr_model.specs.Refusals.{server_off}

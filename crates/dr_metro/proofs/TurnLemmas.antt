@@ -1,12 +1,9 @@
 -- One landing, from what the update of its volume left.
-use Rattle.std.proofs.Common.{ℕ, ◌≡◌, List, [], ◌∷◌, ◌++◌, refl, ap, ◌∙◌, sym, Bool, true, false, not, ◌&&◌, cond, nat_lt, map, Some, None}
+use Rattle.std.proofs.Common.{ℕ, ◌≡◌, List, [], ◌∷◌, ◌++◌, refl, ap, ◌∙◌, sym, Bool, true, false, not, ◌&&◌, cond, map, Some, None}
 use Rattle.dr_host.specs.Writes.{Writes, with_marked}
 use Rattle.dr_host.specs.Seen.{pending_seen}
 use Rattle.dr_host.proofs.Seen.{seen-marked}
 use Rattle.std.specs.Prelude.{if◌then◌else◌}
-use mathlib.Core.Bool.{beq}
-use Rattle.dr_plant.specs.State.{PlantState}
-use Rattle.dr_volume.specs.View.{on_seen}
 use Rattle.dr_model.specs.declared.event.Event.TheVariants.{Stopped}
 use Rattle.dr_model.specs.Histories.{histories, Write}
 use Rattle.dr_model.specs.Contents.{laid, with_write}
@@ -16,12 +13,10 @@ use Rattle.dr_model.specs.Relations.{closed, fetched, rewritten}
 use Rattle.std.specs.FinSet.{contains}
 use Rattle.dr_model.specs.Layout.{Fields}
 use Rattle.dr_model.specs.Control.{World, Volume}
-use Rattle.dr_model.specs.Moves.{Move, Land, Overwrite, Carried, marked, moved, updated}
-use Rattle.dr_model.specs.Carry.{turn, update, finished, cut_short, ended, Ended, turn_ended, pass, writes, counts_by, spent, off}
+use Rattle.dr_model.specs.Moves.{Move, Land, Overwrite, marked}
+use Rattle.dr_model.specs.Carry.{turn, update, finished, cut_short, Ended, turn_ended}
 use Rattle.dr_volume.specs.Update.{EndsAs}
 use Rattle.dr_metro.specs.Landing.{landing_move, landed_on}
-use Rattle.dr_moves.proofs.MadeLemmas.{differ_not, differ_same}
-use Rattle.dr_logic.proofs.Tables.{at_same}
 
 abbrev pub Landing : World → ℕ → ℕ → ℕ → List ℕ → Ended
 Landing w v t o bytes = update w v (landed_on (w.control.volume v) t) (Some (t, laid o bytes (view (λ u. (w.control.volume u).fields) w.contents v t)))

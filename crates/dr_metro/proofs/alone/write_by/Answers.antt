@@ -1,4 +1,4 @@
-use Rattle.std.proofs.Common.{◌≡◌, ◌+◌, ◌∷◌, [], length, arith, ap, sym, ◌∙◌}
+use Rattle.std.proofs.Common.{◌+◌, ◌∷◌, [], length, arith, ap, sym, ◌∙◌}
 use Rattle.dr_model.specs.Entries.{land_on, land_alone}
 use Rattle.dr_volume.specs.View.{ids_of}
 use Rattle.dr_moves.specs.Checks.{is_stop}

@@ -1,7 +1,7 @@
-use Rattle.std.proofs.Common.{◌≡◌, true, false, ◌+◌, length, arith, ap, sym, ◌∙◌, refl}
+use Rattle.std.proofs.Common.{◌≡◌, true, ◌+◌, length, arith, ap, sym, ◌∙◌, refl}
 use Rattle.std.specs.Prelude.{is_some}
 use Rattle.dr_model.specs.Control.{Volume}
-use Rattle.dr_model.specs.PairEntries.{send_refusal, flashed_refusal}
+use Rattle.dr_model.specs.PairEntries.{send_refusal}
 use Rattle.dr_volume.specs.View.{Rest, ids_of, volume_seen}
 use Rattle.dr_moves.specs.Checks.{is_stop}
 use Rattle.dr_moves.specs.Here.{world_seen, armed_in, refusal_of}

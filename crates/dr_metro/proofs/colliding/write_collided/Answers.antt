@@ -1,4 +1,4 @@
-use Rattle.std.proofs.Common.{◌≡◌, ◌+◌, length, arith, ap, ◌∙◌}
+use Rattle.std.proofs.Common.{◌+◌, length, arith, ap, ◌∙◌}
 use Rattle.std.specs.Prelude.{Ok}
 use Rattle.dr_model.specs.Entries.{land_alone}
 use Rattle.dr_model.specs.WriteEntries.{send_first}

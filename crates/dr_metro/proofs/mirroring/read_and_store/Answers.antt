@@ -1,4 +1,4 @@
-use Rattle.std.proofs.Common.{◌≡◌, ◌<◌, List, [], ◌+◌, length, arith, ap, sym, subst, ◌∙◌, refl, Some}
+use Rattle.std.proofs.Common.{◌<◌, List, [], ◌+◌, length, arith, ap, sym, subst, ◌∙◌, refl, Some}
 use Rattle.std.specs.Prelude.{Err}
 use Rattle.dr_plant.specs.State.{PlantState}
 use Rattle.dr_model.specs.Log.{Log}

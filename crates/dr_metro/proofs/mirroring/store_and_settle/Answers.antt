@@ -1,4 +1,4 @@
-use Rattle.std.proofs.Common.{◌≡◌, ◌≢◌, ◌≤◌, ◌+◌, false, length, arith, ap, ◌∙◌}
+use Rattle.std.proofs.Common.{◌≡◌, ◌≢◌, ◌+◌, false, length, arith, ap, ◌∙◌}
 use Rattle.dr_model.specs.Entries.{copies_from}
 use Rattle.dr_volume.specs.View.{ids_of, volume_seen}
 use Rattle.dr_moves.specs.Checks.{is_stop}

@@ -1,4 +1,4 @@
-use Rattle.std.proofs.Common.{◌≡◌, ◌≢◌, ◌∷◌, [], ◌+◌, length, arith, ap, refl, sym, subst, ◌∙◌, None}
+use Rattle.std.proofs.Common.{◌≢◌, ◌∷◌, [], ◌+◌, length, arith, ap, refl, sym, subst, ◌∙◌, None}
 use Rattle.std.specs.Prelude.{Ok}
 use Rattle.dr_model.specs.Carry.{now}
 use Rattle.dr_model.specs.Control.{Volume}

@@ -20,7 +20,7 @@ use Rattle.dr_metro.specs.Syncing.{entries_by, waits_by, end_of}
 use Rattle.dr_metro.proofs.RouteLemmas.{some-found}
 use Rattle.dr_metro.proofs.SyncLemmas.{write-off, write-passes, write-drops}
 use Rattle.dr_metro.proofs.ToldLemmas.{IsWrite}
-use Rattle.dr_metro.proofs.WroteLemmas.{wrote-carried, wrote-alike}
+use Rattle.dr_metro.proofs.WroteLemmas.{wrote-carried}
 use Rattle.dr_metro.proofs.sync.carry_write.Goals as goal
 
 pub returns-then-not-is_on-clause-wrote : goal.returns-then-not-is_on-clause-wrote

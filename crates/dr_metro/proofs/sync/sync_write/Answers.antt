@@ -1,6 +1,5 @@
 use Rattle.std.proofs.Common.{◌≡◌, true, refl, ap, sym, subst, ◌∙◌, Some, []}
 use Rattle.std.specs.Prelude.{if◌then◌else◌}
-use Rattle.std.specs.Result.{IfOk}
 use Rattle.dr_model.specs.Layout.{Fields, is_part}
 use Rattle.dr_model.specs.Pairs.{collides, is_metro}
 use Rattle.dr_model.specs.PairEntries.{suspend_after}
@@ -8,7 +7,6 @@ use Rattle.dr_model.specs.WriteEntries.{part_after, after_write}
 use Rattle.dr_moves.specs.Here.{armed_in}
 use Rattle.dr_moves.proofs.KeptLemmas.{wider-armed}
 use Rattle.dr_gcopy.proofs.SendLemmas.{follows-wider}
-use Rattle.dr_metro.specs.declared.sync.WriteEnd.{WriteEnd}
 use Rattle.dr_metro.specs.declared.sync.WriteEnd.TheVariants.{Landed}
 use Rattle.dr_metro.specs.Here.{here, rest_of}
 use Rattle.dr_metro.specs.Mirroring.{Mirrors, MayPair}

@@ -1,4 +1,4 @@
-use Rattle.std.proofs.Common.{◌≡◌, ◌≢◌, ◌+◌, ◌≤◌, [], ◌∷◌, length, arith, ap, cond, sym, refl, subst, ◌∙◌}
+use Rattle.std.proofs.Common.{◌≢◌, ◌+◌, [], ◌∷◌, length, arith, ap, cond, sym, refl, ◌∙◌}
 use Rattle.std.specs.Prelude.{Ok, Err}
 use Rattle.dr_model.specs.Carry.{now}
 use Rattle.dr_model.specs.Control.{Volume}
