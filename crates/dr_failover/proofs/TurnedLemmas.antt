@@ -1,5 +1,5 @@
 -- What moves that turn a pair round leave of its volumes.
-use Rattle.std.proofs.Common.{ℕ, ◌≡◌, ◌≢◌, ◌⊎◌, inl, inr, Bool, true, false, ◌&&◌, List, refl, sym, ◌∙◌, ap, None}
+use Rattle.std.proofs.Common.{ℕ, ◌≡◌, ◌≢◌, ◌⊎◌, inl, inr, true, false, ◌&&◌, List, refl, sym, ◌∙◌, ap, None}
 use Rattle.std.specs.FinSet.{contains, union}
 use Rattle.std.proofs.lemmas.Bool.{and_parts, cases_eq}
 use Rattle.std.proofs.lemmas.Bool.Decides.{Decides-eqb}
@@ -8,16 +8,12 @@ use Rattle.dr_plant.specs.State.{PlantState}
 use Rattle.dr_config.specs.Table.{ConfigTable}
 use Rattle.dr_model.specs.declared.state.Part.{Part}
 use Rattle.dr_model.specs.declared.state.Part.TheVariants.{Absent, Metro, Global}
-use Rattle.dr_model.specs.declared.state.PairState.{PairState}
 use Rattle.dr_model.specs.Control.{Volume}
-use Rattle.dr_model.specs.Layout.{Tracks, Fields, is_part}
+use Rattle.dr_model.specs.Layout.{Fields, is_part}
 use Rattle.dr_model.specs.Lawful.{Low, HasSets, IsLawful}
-use Rattle.dr_model.specs.Moves.{FallBack, Yield}
 use Rattle.dr_model.specs.Pairs.{is_kind, is_primary_of, is_secondary_of, taken_over, yielded}
 use Rattle.dr_volume.specs.Update.{IsAsBefore, IsMoved, OthersStay}
 use Rattle.dr_volume.specs.View.{volume_seen, track_seen}
-use Rattle.dr_moves.specs.declared.told.Told.TheVariants.{Nothing}
-use Rattle.dr_moves.proofs.TurnLemmas.{Tells}
 use Rattle.dr_gcopy.proofs.SendMoves.{low-union}
 use Rattle.dr_laws_sound.proofs.RowsAfter.{zeros-stay}
 use Rattle.dr_failover.specs.Outcomes.{IsTakenFrom, fallen_seen, yielded_seen, Turned}
@@ -68,13 +64,6 @@ module _ (s u : PlantState) (t : ConfigTable) (v : ℕ) (f : Fields) (blank : f.
       by : (IsAsBefore s u t v ⊎ IsMoved s u t v f None) → track_seen u t v k ≡ track_seen s t v k
       by (inl same) = ap (λ (g : ℕ → List ℕ). g k) same.tracks
       by (inr is) = moved-keeps is k
-
--- what the two moves tell: nothing
-pub tells-fall_back : (v : ℕ) (more : Tracks) (state : PairState) (x : Volume) → Tells (FallBack v more state) x (record { done = Nothing; in_stop = Nothing; landed = 0 })
-tells-fall_back v more state x = record { done = refl; in_stop = refl; landed = refl; settles = λ ps. refl; settles_in_stop = λ ps. refl }
-
-pub tells-yield : (v u : ℕ) (kind : Part) (state : PairState) (x : Volume) → Tells (Yield v u kind state) x (record { done = Nothing; in_stop = Nothing; landed = 0 })
-tells-yield v u kind state x = record { done = refl; in_stop = refl; landed = refl; settles = λ ps. refl; settles_in_stop = λ ps. refl }
 
 -- what a volume hasn't sent are tracks that it has
 pub low-unsent : (n : ℕ) (f : Fields) → IsLawful n f → Low n (union f.out_of_sync f.change_recording)

@@ -17,7 +17,6 @@
 mod checks;
 mod comparing;
 mod looks;
-mod moves;
 mod resync;
 mod returning;
 mod taking;

@@ -1,11 +1,11 @@
 //! A pair is turned round.
 
 ghost use Rattle.std.specs.Prelude.{◌≡◌, ◌≢◌, ℕ, ◌≤◌, ◌+◌, ◌⊎◌, true, length, None, Some, IsSome, OnOk, OnErr, is_err};
+ghost use Rattle.std.specs.FinSet.{union};
 ghost use Rattle.dr_logic.specs.Counts.{Counted};
 ghost use Rattle.dr_config.specs.Table.{place_of};
 ghost use Rattle.dr_model.specs.Layout as layout;
 ghost use Rattle.dr_model.specs.PairEntries.{fall_back_on, yield_on};
-ghost use Rattle.dr_model.specs.Pairs as pairs;
 ghost use Rattle.dr_model.specs.Refusals.{stopped};
 ghost use Rattle.dr_volume.specs.Update.{IsAsBefore, IsMoved, OthersStay};
 ghost use Rattle.dr_volume.specs.View.{Rest, volume_seen};
@@ -17,14 +17,23 @@ ghost use Rattle.dr_gcopy.specs.Steps.{BothAlone};
 ghost use Rattle.dr_failover.specs.Steps.{failback_moves};
 ghost use Rattle.dr_failover.specs.Outcomes.{fallen_seen, yielded_seen, Turned, ZerosThere, SameTracks};
 
-use crate::moves::{fall_back, unsent, yield_to};
+use dr_bits::TrackSet;
 use dr_config::Config;
 use dr_gcopy::next_state;
 use dr_ids::{Refusal, VolumeId};
 use dr_model::Journal;
-use dr_moves::with_more;
+use dr_moves::{Move, make_move, with_more};
 use dr_plant::Plant;
-use dr_volume::{peek_fields, peek_head};
+use dr_volume::{Fields, peek_fields, peek_head};
+
+/// What a primary hasn't sent: its tracks that are out of sync, and those that changed since it began to record.
+fn unsent(f: &Fields) -> TrackSet
+    ensures { result ≡ union f.now.out_of_sync f.now.change_recording }
+{
+    let mut all = f.out_of_sync;
+    all.union(&f.change_recording);
+    all
+}
 
 /// What primary y of x hasn't sent is out of sync at primary x too, which is voided. It is Full Duplex where the pair is a Metro
 /// Mirror and nothing is out of sync then, else Copy Pending.
@@ -42,7 +51,7 @@ fn fall_back_on<P: Plant>(
     requires running { (P.state plant.old).on (volume_seen (P.state plant.old) config.now x.0).server ≡ true }
     requires primary { layout.is_part (volume_seen (P.state plant.old) config.now x.0).fields.primary ≡ true }
     requires size { (volume_seen (P.state plant.old) config.now y.0).tracks ≡ (volume_seen (P.state plant.old) config.now x.0).tracks }
-    requires room { 2 ≤ journal.old.spare }
+    requires room { 1 ≤ journal.old.spare }
     ensures advances { OnOk result ((r : Rest) → Advances (world_seen (P.state plant.old) config.now r journal.old.events) (fall_back_on x.0 y.0) (world_seen (P.state plant.new) config.now r journal.new.events)) }
     ensures halts { OnErr result ((r : Rest) → Halts (armed_in (P.state plant.old)) (world_seen (P.state plant.old) config.now r journal.old.events) (fall_back_on x.0 y.0) (world_seen (P.state plant.new) config.now r journal.new.events) (refusal_of result)) }
     ensures refused { OnErr result (refusal_of result ≡ Some (stopped (volume_seen (P.state plant.old) config.now x.0).server)) }
@@ -54,13 +63,18 @@ fn fall_back_on<P: Plant>(
     ensures moved { OnOk result (IsMoved (P.state plant.old) (P.state plant.new) config.now x.0 (fallen_seen (P.state plant.old) config.now x.0 y.0) None) }
     ensures others { OthersStay (P.state plant.old) (P.state plant.new) config.now x.0 }
     ensures on { OnOk result ((P.state plant.new).on ≡ (P.state plant.old).on) }
-    ensures room { journal.old.spare ≤ journal.new.spare + 2 }
-    ensures room_left { OnOk result (journal.old.spare ≤ journal.new.spare + 1) }
+    ensures room { journal.old.spare ≤ journal.new.spare + 1 }
+    ensures room_left { OnOk result (journal.old.spare ≡ journal.new.spare) }
     ensures spare { length journal.new.events + journal.new.spare ≡ length journal.old.events + journal.old.spare }
 {
     let theirs = unsent(&peek_fields(plant, config, y));
     let state = next_state(&with_more(&theirs, &peek_fields(plant, config, x)));
-    fall_back(plant, config, journal, x, &theirs, state)
+    let fall = Move::FallBack {
+        v: x,
+        more: theirs,
+        state,
+    };
+    make_move(plant, config, journal, &fall, None)
 }
 
 /// Primary y becomes the secondary of x, with the kind and the state that x has.
@@ -77,7 +91,7 @@ fn yield_on<P: Plant>(
     requires second { IsSome (place_of config.now y.0) }
     requires running { (P.state plant.old).on (volume_seen (P.state plant.old) config.now y.0).server ≡ true }
     requires primary { layout.is_part (volume_seen (P.state plant.old) config.now x.0).fields.primary ≡ true }
-    requires room { 2 ≤ journal.old.spare }
+    requires room { 1 ≤ journal.old.spare }
     ensures advances { OnOk result ((r : Rest) → Advances (world_seen (P.state plant.old) config.now r journal.old.events) (yield_on y.0 x.0) (world_seen (P.state plant.new) config.now r journal.new.events)) }
     ensures halts { OnErr result ((r : Rest) → Halts (armed_in (P.state plant.old)) (world_seen (P.state plant.old) config.now r journal.old.events) (yield_on y.0 x.0) (world_seen (P.state plant.new) config.now r journal.new.events) (refusal_of result)) }
     ensures refused { OnErr result (refusal_of result ≡ Some (stopped (volume_seen (P.state plant.old) config.now y.0).server)) }
@@ -89,19 +103,17 @@ fn yield_on<P: Plant>(
     ensures moved { OnOk result (IsMoved (P.state plant.old) (P.state plant.new) config.now y.0 (yielded_seen (P.state plant.old) config.now y.0 x.0) None) }
     ensures others { OthersStay (P.state plant.old) (P.state plant.new) config.now y.0 }
     ensures on { OnOk result ((P.state plant.new).on ≡ (P.state plant.old).on) }
-    ensures room { journal.old.spare ≤ journal.new.spare + 2 }
+    ensures room { journal.old.spare ≤ journal.new.spare + 1 }
     ensures spare { length journal.new.events + journal.new.spare ≡ length journal.old.events + journal.old.spare }
 {
     let head = peek_head(plant, config, x);
-    yield_to(
-        plant,
-        config,
-        journal,
-        y,
-        x,
-        head.primary,
-        head.primary_state,
-    )
+    let follow = Move::Yield {
+        v: y,
+        u: x,
+        kind: head.primary,
+        state: head.primary_state,
+    };
+    make_move(plant, config, journal, &follow, None)
 }
 
 /// Of x and y, two volumes of one size, primary x falls back on y, and then y becomes its secondary.

@@ -16,56 +16,60 @@ ghost use Rattle.dr_moves.specs.Here.{world_seen, refusal_of, armed_in, IsAtRest
 ghost use Rattle.dr_moves.specs.Turns.{Advances, Halts, Leads, Fails};
 ghost use Rattle.dr_moves.specs.Aside.{AsideFits};
 ghost use Rattle.dr_gmirror.specs.Orders.{AreReady, AreRunning};
-ghost use Rattle.dr_recover.specs.Settled.{fate_by};
-ghost use Rattle.dr_revert.specs.declared.fates.Fate.TheVariants as fate;
+ghost use Rattle.dr_moves.specs.declared.carrying.Next.TheVariants.{Pass, Do};
+ghost use Rattle.dr_moves.specs.declared.moves.Move.TheVariants as move;
+ghost use Rattle.dr_recover.specs.Settled.{settled_by};
 
 use dr_config::Config;
 use dr_ids::{Decision, Member, Refusal, SessionId};
 use dr_model::Journal;
+use dr_moves::{Move, Next};
 use dr_plant::Plant;
-use dr_revert::{Fate, is_flashed, turn_target};
+use dr_revert::{is_flashed, turn_target};
 use dr_session::Sessions;
 use dr_volume::{Fields, peek_fields};
 
 /// A target that is revertible from attempt n is committed.
-fn commit_if(s: SessionId, m: &Member, n: u32, f: &Fields) -> Option<Fate>
-    ensures { result ≡ (if entries.is_flashed n (plain f.now) then Some (fate.Commit m.now.a s n) else None) }
+fn commit_if(s: SessionId, m: &Member, n: u32, f: &Fields) -> Next
+    ensures { result ≡ (if entries.is_flashed n (plain f.now) then Do (move.Commit m.now.c m.now.a s n) else Pass) }
 {
     if !is_flashed(n, f) {
-        return None;
+        return Next::Pass;
     }
-    Some(Fate::Commit {
-        primary: m.a,
-        session: s,
+    Next::Do(Move::Commit {
+        v: m.c,
+        a: m.a,
+        s,
         n,
     })
 }
 
 /// A target that is revertible from attempt n is reverted.
-fn revert_if(s: SessionId, m: &Member, n: u32, f: &Fields) -> Option<Fate>
-    ensures { result ≡ (if entries.is_flashed n (plain f.now) then Some (fate.Revert m.now.a s n) else None) }
+fn revert_if(s: SessionId, m: &Member, n: u32, f: &Fields) -> Next
+    ensures { result ≡ (if entries.is_flashed n (plain f.now) then Do (move.Revert m.now.c m.now.a s n) else Pass) }
 {
     if !is_flashed(n, f) {
-        return None;
+        return Next::Pass;
     }
-    Some(Fate::Revert {
-        primary: m.a,
-        session: s,
+    Next::Do(Move::Revert {
+        v: m.c,
+        a: m.a,
+        s,
         n,
     })
 }
 
 /// What becomes of a member's target, as was decided.
-fn fate_by(s: SessionId, decided: Decision, m: &Member, f: &Fields) -> Option<Fate>
-    ensures { result ≡ fate_by s decided m.now (plain f.now) }
+fn settled_by(s: SessionId, decided: Decision, m: &Member, f: &Fields) -> Next
+    ensures { result ≡ settled_by s decided m.now (plain f.now) }
 {
     match decided {
         Decision::CommitRest(n) => commit_if(s, m, n, f),
         Decision::RevertAll(n) => revert_if(s, m, n, f),
         Decision::RevertSome(_, n) => revert_if(s, m, n, f),
-        Decision::NoMember => None,
-        Decision::Nothing(_) => None,
-        Decision::Impossible(_, _) => None,
+        Decision::NoMember => Next::Pass,
+        Decision::Nothing(_) => Next::Pass,
+        Decision::Impossible(_, _) => Next::Pass,
     }
 }
 
@@ -100,8 +104,8 @@ pub(crate) fn settle_member<P: Plant>(
     ensures room_left { OnOk result (journal.old.spare ≤ journal.new.spare + 1) }
     ensures spare { length journal.new.events + journal.new.spare ≡ length journal.old.events + journal.old.spare }
 {
-    let fate = fate_by(s, decided, m, &peek_fields(plant, config, m.c));
-    turn_target(plant, config, journal, m.c, fate)
+    let next = settled_by(s, decided, m, &peek_fields(plant, config, m.c));
+    turn_target(plant, config, journal, m.c, &next)
 }
 
 /// The targets of a session's members, whose servers are on, are committed or reverted as was decided, in order of members.

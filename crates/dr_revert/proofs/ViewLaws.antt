@@ -9,7 +9,6 @@ use Rattle.dr_plant.specs.State.{PlantState}
 use Rattle.dr_config.specs.Table.{ConfigTable, place_of}
 use Rattle.dr_config.specs.declared.entries.VolumeEntry.{VolumeEntry}
 use Rattle.dr_model.specs.Layout.{Fields, Blocks, fields_of}
-use Rattle.dr_model.specs.Lawful.{IsLawful, NoRelation}
 use Rattle.dr_model.specs.Control.{Volume}
 use Rattle.dr_model.specs.Entries.{copies_from}
 use Rattle.dr_model.specs.SessionEntries.{may_flash}
@@ -109,13 +108,6 @@ module _ (s u : PlantState) (c : ConfigTable) (t : ℕ) (fit : RelationsFit s c)
   revert-shows n keeps may is q =
       ap (λ (x : Volume). if shows_source x.fields q then track_seen u c x.fields.source q else track_seen u c t q) is.volume
       ∙ track-kept s u c t (reverted n old) is others fit related old.previous_own q (keeps may q)
-
--- what is revertible is a target
-pub revertible-related : (n : ℕ) (f : Fields) → IsLawful n f → f.revertible ≡ true → f.related ≡ true
-revertible-related n f lawful is = elim f.related as (λ b. f.related ≡ b → b ≡ true) [
-  | true ↦ λ h. refl
-  | false ↦ λ absent. absurd (let none : NoRelation f = lawful.relation absent in let e : true ≡ false = sym is ∙ none.11 in cc)
-] refl
 
 -- a volume that is seen to be revertible is a target
 revertible-on : (blocks : Blocks) (e : Option VolumeEntry) → (volume_on blocks e).fields.revertible ≡ true → (volume_on blocks e).fields.related ≡ true

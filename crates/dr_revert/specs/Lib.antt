@@ -1,2 +1,2 @@
-pub mod Fates
+pub mod Turns
 pub mod Views

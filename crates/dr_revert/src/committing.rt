@@ -14,28 +14,31 @@ ghost use Rattle.dr_moves.specs.Here.{world_seen, refusal_of, armed_in, IsAtRest
 ghost use Rattle.dr_moves.specs.Turns.{Leads, Fails};
 ghost use Rattle.dr_flash.specs.Views.{view_seen};
 ghost use Rattle.dr_moves.specs.Aside.{AsideFits};
-ghost use Rattle.dr_revert.specs.declared.fates.Fate.TheVariants as fate;
+ghost use Rattle.dr_moves.specs.declared.carrying.Next.TheVariants.{Pass, Do};
+ghost use Rattle.dr_moves.specs.declared.moves.Move.TheVariants as move;
 
 use crate::checks::commit_refusal;
-use crate::fates::{Fate, turn_target};
 use crate::fields::is_committed;
+use crate::turning::turn_target;
 use dr_config::Config;
 use dr_gcopy::send_refusal;
 use dr_ids::{Member, Refusal, SessionId};
 use dr_model::Journal;
+use dr_moves::{Move, Next};
 use dr_plant::Plant;
 use dr_volume::{Head, peek_head};
 
 /// What becomes of a member's target whose flash is to be committed: nothing, where it is so already.
-fn commit_fate(s: SessionId, m: &Member, n: u32, f: &Head) -> Option<Fate>
-    ensures { result ≡ (if f.now.member && (nat_eq f.now.sequence n && not f.now.revertible) then None else Some (fate.Commit m.now.a s n)) }
+fn commit_next(s: SessionId, m: &Member, n: u32, f: &Head) -> Next
+    ensures { result ≡ (if f.now.member && (nat_eq f.now.sequence n && not f.now.revertible) then Pass else Do (move.Commit m.now.c m.now.a s n)) }
 {
     if is_committed(n, f) {
-        return None;
+        return Next::Pass;
     }
-    Some(Fate::Commit {
-        primary: m.a,
-        session: s,
+    Next::Do(Move::Commit {
+        v: m.c,
+        a: m.a,
+        s,
         n,
     })
 }
@@ -87,6 +90,6 @@ pub fn commit<P: Plant>(
     if let Some(why) = commit_refusal(plant, config, m.c, n, &head) {
         return Err(why);
     }
-    let fate = commit_fate(s, m, n, &head);
-    turn_target(plant, config, journal, m.c, fate)
+    let next = commit_next(s, m, n, &head);
+    turn_target(plant, config, journal, m.c, &next)
 }

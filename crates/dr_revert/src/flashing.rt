@@ -15,30 +15,33 @@ ghost use Rattle.dr_moves.specs.Turns.{Leads, Fails};
 ghost use Rattle.dr_flash.specs.Views.{view_seen};
 ghost use Rattle.dr_incr.specs.Copies.{HoldsUnchanged};
 ghost use Rattle.dr_moves.specs.Aside.{AsideFits};
-ghost use Rattle.dr_revert.specs.declared.fates.Fate.TheVariants as fate;
+ghost use Rattle.dr_moves.specs.declared.carrying.Next.TheVariants.{Pass, Do};
+ghost use Rattle.dr_moves.specs.declared.moves.Move.TheVariants as move;
 ghost use Rattle.dr_revert.specs.Views.{previous_seen};
 
 use crate::checks::flash_refusal;
-use crate::fates::{Fate, turn_target};
 use crate::fields::is_flashed_by;
+use crate::turning::turn_target;
 use dr_config::Config;
 use dr_gcopy::send_refusal;
 use dr_ids::{Member, Refusal, SessionId};
 use dr_model::Journal;
+use dr_moves::{Move, Next};
 use dr_plant::Plant;
 use dr_volume::{Head, peek_head};
 
 /// What becomes of a member's target that is to be flashed: nothing, where it is flashed for the attempt.
-fn flash_fate(s: SessionId, m: &Member, n: u32, f: &Head) -> Option<Fate>
-    ensures { result ≡ (if f.now.revertible && nat_eq f.now.sequence n then None else Some (fate.Flash m.now.b m.now.a s n)) }
+fn flash_next(s: SessionId, m: &Member, n: u32, f: &Head) -> Next
+    ensures { result ≡ (if f.now.revertible && nat_eq f.now.sequence n then Pass else Do (move.Flash m.now.c m.now.b m.now.a s n)) }
 {
     if is_flashed_by(n, f) {
-        return None;
+        return Next::Pass;
     }
-    Some(Fate::Flash {
-        source: m.b,
-        primary: m.a,
-        session: s,
+    Next::Do(Move::Flash {
+        v: m.c,
+        u: m.b,
+        a: m.a,
+        s,
         n,
     })
 }
@@ -93,6 +96,6 @@ pub fn flash<P: Plant>(
     if let Some(why) = flash_refusal(plant, config, m.b, m.c, n, &head) {
         return Err(why);
     }
-    let fate = flash_fate(s, m, n, &head);
-    turn_target(plant, config, journal, m.c, fate)
+    let next = flash_next(s, m, n, &head);
+    turn_target(plant, config, journal, m.c, &next)
 }

@@ -11,13 +11,13 @@
 
 mod checks;
 mod committing;
-mod fates;
 mod fields;
 mod flashing;
 mod reverting;
+mod turning;
 
 pub use committing::commit;
-pub use fates::{Fate, turn_target};
 pub use fields::is_flashed;
 pub use flashing::flash;
 pub use reverting::revert;
+pub use turning::turn_target;

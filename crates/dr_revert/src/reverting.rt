@@ -15,33 +15,36 @@ ghost use Rattle.dr_moves.specs.Here.{world_seen, refusal_of, armed_in, IsAtRest
 ghost use Rattle.dr_moves.specs.Turns.{Leads, Fails};
 ghost use Rattle.dr_flash.specs.Views.{view_seen};
 ghost use Rattle.dr_moves.specs.Aside.{AsideFits};
-ghost use Rattle.dr_revert.specs.declared.fates.Fate.TheVariants as fate;
+ghost use Rattle.dr_moves.specs.declared.carrying.Next.TheVariants.{Pass, Do};
+ghost use Rattle.dr_moves.specs.declared.moves.Move.TheVariants as move;
 ghost use Rattle.dr_revert.specs.Views.{previous_seen};
 
-use crate::fates::{Fate, turn_target};
 use crate::fields::is_flashed;
+use crate::turning::turn_target;
 use dr_config::Config;
 use dr_gcopy::send_refusal;
 use dr_ids::{Member, Refusal, SessionId};
 use dr_model::Journal;
+use dr_moves::{Move, Next};
 use dr_plant::Plant;
 use dr_volume::{Fields, peek_fields};
 
 /// What becomes of a member's target whose flash is to be taken back: where it isn't flashed for the attempt, it is to be
 /// flashed for none up to it any more.
-fn revert_fate(s: SessionId, m: &Member, n: u32, f: &Fields) -> Option<Fate>
-    ensures { result ≡ (if entries.is_flashed n (plain f.now) then Some (fate.Revert m.now.a s n) else if nat_lt f.now.floor n then Some (fate.Raise n) else None) }
+fn revert_next(s: SessionId, m: &Member, n: u32, f: &Fields) -> Next
+    ensures { result ≡ (if entries.is_flashed n (plain f.now) then Do (move.Revert m.now.c m.now.a s n) else if nat_lt f.now.floor n then Do (move.RaiseFloor m.now.c n) else Pass) }
 {
     if is_flashed(n, f) {
-        Some(Fate::Revert {
-            primary: m.a,
-            session: s,
+        Next::Do(Move::Revert {
+            v: m.c,
+            a: m.a,
+            s,
             n,
         })
     } else if f.floor < n {
-        Some(Fate::Raise { n })
+        Next::Do(Move::RaiseFloor { v: m.c, n })
     } else {
-        None
+        Next::Pass
     }
 }
 
@@ -87,6 +90,6 @@ pub fn revert<P: Plant>(
     if let Some(why) = send_refusal(plant, config, m.a, m.b) {
         return Err(why);
     }
-    let fate = revert_fate(s, m, n, &peek_fields(plant, config, m.c));
-    turn_target(plant, config, journal, m.c, fate)
+    let next = revert_next(s, m, n, &peek_fields(plant, config, m.c));
+    turn_target(plant, config, journal, m.c, &next)
 }

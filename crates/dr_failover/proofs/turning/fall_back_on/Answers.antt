@@ -1,4 +1,4 @@
-use Rattle.std.proofs.Common.{ℕ, ◌⊎◌, ap, sym, subst, ◌∙◌, None}
+use Rattle.std.proofs.Common.{ℕ, ◌⊎◌, arith, ap, sym, subst, ◌∙◌, None}
 use Rattle.std.specs.FinSet.{union}
 use Rattle.dr_bits.specs.Tracks.{Tracks}
 use Rattle.dr_model.specs.Layout.{Fields}
@@ -15,14 +15,21 @@ use Rattle.dr_moves.proofs.TurnLemmas.{ok-along, err-along}
 use Rattle.dr_failover.proofs.TurnedLemmas.{low-unsent}
 use Rattle.dr_failover.proofs.turning.fall_back_on.Goals as goal
 
-pub fall_back-requires-clause-within : goal.fall_back-requires-clause-within
-fall_back-requires-clause-within g c =
+pub make_move-requires-clause-may : goal.make_move-requires-clause-may
+make_move-requires-clause-may g c =
     let s = g.P.Plant.state c.args.plant.now in
     let t = c.args.config.now in
     let y = volume_seen s t c.args.y.0 in
     let law = subst (λ (f : Fields). IsLawful y.tracks f) c.peek_fields.ensures.fields c.peek_fields.ensures.lawful in
     let more = c.unsent-theirs.ensures ∙ ap (λ (f : Fields). union f.out_of_sync f.change_recording) c.peek_fields.ensures.fields in
-    subst (λ (n : ℕ). Low n c.unsent-theirs.result) c.requires.size (subst (λ (m : Tracks). Low y.tracks m) (sym more) (low-unsent y.tracks y.fields law))
+    record {
+      defined = c.requires.first;
+      running = c.requires.running;
+      asks = (c.requires.primary, subst (λ (n : ℕ). Low n c.unsent-theirs.result) c.requires.size (subst (λ (m : Tracks). Low y.tracks m) (sym more) (low-unsent y.tracks y.fields law)));
+    }
+
+pub returns-clause-room_left : goal.returns-clause-room_left
+returns-clause-room_left g c = ok-along c.make_move.result c.make_move.ensures.room_left (λ is. omega (arith, is))
 
 pub returns-clause-advances : goal.returns-clause-advances
 returns-clause-advances g c =
@@ -31,8 +38,8 @@ returns-clause-advances g c =
     let x = c.args.x.0 in
     let more = c.unsent-theirs.ensures ∙ ap (λ (f : Fields). union f.out_of_sync f.change_recording) c.peek_fields.ensures.fields in
     let state = c.next_state-state.ensures ∙ ap next_state (c.with_more.ensures ∙ (λ i. with_more (more i) (c.peek_fields-2.ensures.fields i))) in
-    ok-along c.fall_back.result c.fall_back.ensures.advances (λ goes r.
-    alike-advances (world_seen s t r c.args.journal.now.events) (world_seen (g.P.Plant.state c.fall_back.new.plant) t r c.fall_back.new.journal.events) (fall_back_on x c.args.y.0) (now (FallBack x c.unsent-theirs.result c.next_state-state.result))
+    ok-along c.make_move.result c.make_move.ensures.entered.advances (λ goes r.
+    alike-advances (world_seen s t r c.args.journal.now.events) (world_seen (g.P.Plant.state c.make_move.new.plant) t r c.make_move.new.journal.events) (fall_back_on x c.args.y.0) (now (FallBack x c.unsent-theirs.result c.next_state-state.result))
     (λ i. Do (Make (FallBack x (sym more i) (sym state i)))) (goes r))
 
 pub returns-clause-halts : goal.returns-clause-halts
@@ -42,26 +49,26 @@ returns-clause-halts g c =
     let x = c.args.x.0 in
     let more = c.unsent-theirs.ensures ∙ ap (λ (f : Fields). union f.out_of_sync f.change_recording) c.peek_fields.ensures.fields in
     let state = c.next_state-state.ensures ∙ ap next_state (c.with_more.ensures ∙ (λ i. with_more (more i) (c.peek_fields-2.ensures.fields i))) in
-    err-along c.fall_back.result c.fall_back.ensures.halts c.fall_back.ensures.refused (λ halts refused r.
-    alike-halts (armed_in s) (world_seen s t r c.args.journal.now.events) (world_seen (g.P.Plant.state c.fall_back.new.plant) t r c.fall_back.new.journal.events) (refusal_of c.fall_back.result) (fall_back_on x c.args.y.0) (now (FallBack x c.unsent-theirs.result c.next_state-state.result))
+    err-along c.make_move.result c.make_move.ensures.entered.halts c.make_move.ensures.entered.refused (λ halts refused r.
+    alike-halts (armed_in s) (world_seen s t r c.args.journal.now.events) (world_seen (g.P.Plant.state c.make_move.new.plant) t r c.make_move.new.journal.events) (refusal_of c.make_move.result) (fall_back_on x c.args.y.0) (now (FallBack x c.unsent-theirs.result c.next_state-state.result))
     (λ i. Do (Make (FallBack x (sym more i) (sym state i)))) (halts r))
 
 pub returns-clause-moved : goal.returns-clause-moved
 returns-clause-moved g c =
     let s = g.P.Plant.state c.args.plant.now in
-    let u = g.P.Plant.state c.fall_back.new.plant in
+    let u = g.P.Plant.state c.make_move.new.plant in
     let t = c.args.config.now in
     let x = c.args.x.0 in
     let more = c.unsent-theirs.ensures ∙ ap (λ (f : Fields). union f.out_of_sync f.change_recording) c.peek_fields.ensures.fields in
     let state = c.next_state-state.ensures ∙ ap next_state (c.with_more.ensures ∙ (λ i. with_more (more i) (c.peek_fields-2.ensures.fields i))) in
-    ok-along c.fall_back.result c.fall_back.ensures.moved (λ is. subst (λ f. IsMoved s u t x f None) (λ i. fallen_back (more i) (state i) (volume_seen s t x).fields) is)
+    ok-along c.make_move.result c.make_move.ensures.moved (λ is. subst (λ f. IsMoved s u t x f None) (λ i. fallen_back (more i) (state i) (volume_seen s t x).fields) is)
 
 pub returns-clause-old_or_new : goal.returns-clause-old_or_new
 returns-clause-old_or_new g c =
     let s = g.P.Plant.state c.args.plant.now in
-    let u = g.P.Plant.state c.fall_back.new.plant in
+    let u = g.P.Plant.state c.make_move.new.plant in
     let t = c.args.config.now in
     let x = c.args.x.0 in
     let more = c.unsent-theirs.ensures ∙ ap (λ (f : Fields). union f.out_of_sync f.change_recording) c.peek_fields.ensures.fields in
     let state = c.next_state-state.ensures ∙ ap next_state (c.with_more.ensures ∙ (λ i. with_more (more i) (c.peek_fields-2.ensures.fields i))) in
-    subst (λ f. IsAsBefore s u t x ⊎ IsMoved s u t x f None) (λ i. fallen_back (more i) (state i) (volume_seen s t x).fields) c.fall_back.ensures.old_or_new
+    subst (λ f. IsAsBefore s u t x ⊎ IsMoved s u t x f None) (λ i. fallen_back (more i) (state i) (volume_seen s t x).fields) c.make_move.ensures.old_or_new

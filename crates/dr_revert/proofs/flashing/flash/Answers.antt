@@ -1,20 +1,19 @@
-use Rattle.std.proofs.Common.{ap, subst, ◌∙◌, [], ◌∷◌, None, Some, ◌&&◌, nat_eq, refl}
-use Rattle.std.specs.Prelude.{if◌then◌else◌, IfSome}
-use Rattle.std.proofs.lemmas.Bool.{and_parts}
-use Rattle.dr_model.specs.Entries.{copies_from}
+use Rattle.std.proofs.Common.{ap, sym, subst, ◌∙◌, [], ◌∷◌, Some, ◌&&◌, nat_eq, refl}
+use Rattle.std.specs.Prelude.{if◌then◌else◌}
 use Rattle.dr_model.specs.PairEntries.{refuse_if, send_refusal}
 use Rattle.dr_model.specs.SessionEntries.{is_flashed, flash_refusal, flash_on, flash_entries}
 use Rattle.dr_volume.specs.declared.head.Head.{Head}
-use Rattle.dr_volume.specs.Update.{IsMoved}
 use Rattle.dr_volume.specs.View.{volume_seen}
 use Rattle.dr_moves.specs.Here.{world_seen, armed_in, refusal_of}
-use Rattle.dr_moves.proofs.EntryLemmas.{counted-stop, only-stops}
+use Rattle.dr_moves.specs.Coming.{Went}
+use Rattle.dr_moves.specs.declared.carrying.Next.TheVariants.{Pass, Do}
+use Rattle.dr_moves.specs.declared.moves.Move.TheVariants as move
+use Rattle.dr_moves.proofs.EntryLemmas.{only-stops}
 use Rattle.dr_moves.proofs.TurnLemmas.{ok-along, err-along}
 use Rattle.dr_gcopy.proofs.TwoMoves.{ends-by}
-use Rattle.dr_revert.specs.declared.fates.Fate.{Fate}
-use Rattle.dr_revert.specs.declared.fates.Fate.TheVariants as fate
-use Rattle.dr_revert.specs.Fates.{fields_after}
-use Rattle.dr_revert.proofs.EntryLemmas.{check-refuses, check-leads, check-fails, alone-leads, alone-fails, unless-some, flash-next}
+use Rattle.dr_revert.specs.Turns.{Turns}
+use Rattle.dr_revert.proofs.EntryLemmas.{check-refuses, check-leads, check-fails, alone-leads, alone-fails, unless-off, unless-all, may-related, flash-next}
+use Rattle.dr_revert.proofs.TargetLemmas.{flash-turns}
 use Rattle.dr_revert.proofs.ViewLaws.{flash-keeps, flash-shows}
 use Rattle.dr_revert.proofs.flashing.flash.Goals as goal
 
@@ -44,7 +43,7 @@ returns-clause-leads g c =
     ok-along c.turn_target.result c.turn_target.ensures.advances (λ goes r.
     check-leads (world_seen s t r c.args.journal.now.events) (send_refusal c.args.m.now.a.0 c.args.m.now.b.0) (refuse_if (flash_refusal c.args.m.now.b.0 c.args.m.now.c.0 c.args.n) ∷ (flash_on c.args.s.0 c.args.m.now.a.0 c.args.m.now.b.0 c.args.m.now.c.0 c.args.n) ∷ []) (c.in_default.ensures.refusal r c.args.journal.now.events) (world_seen (g.P.Plant.state c.turn_target.new.plant) t r c.turn_target.new.journal.events)
     (check-leads (world_seen s t r c.args.journal.now.events) (flash_refusal c.args.m.now.b.0 c.args.m.now.c.0 c.args.n) ((flash_on c.args.s.0 c.args.m.now.a.0 c.args.m.now.b.0 c.args.m.now.c.0 c.args.n) ∷ []) (c.in_default-flash_refusal.ensures.refusal r c.args.journal.now.events) (world_seen (g.P.Plant.state c.turn_target.new.plant) t r c.turn_target.new.journal.events)
-    (alone-leads (world_seen s t r c.args.journal.now.events) (world_seen (g.P.Plant.state c.turn_target.new.plant) t r c.turn_target.new.journal.events) (flash_on c.args.s.0 c.args.m.now.a.0 c.args.m.now.b.0 c.args.m.now.c.0 c.args.n) (goes r (flash_on c.args.s.0 c.args.m.now.a.0 c.args.m.now.b.0 c.args.m.now.c.0 c.args.n) (flash-next s t r c.args.journal.now.events c.args.m.now c.args.s c.args.n c.flash_fate-fate.result (volume_seen s t c.args.m.now.c.0).fields refl (c.flash_fate-fate.ensures ∙ ap (λ (h : Head). if h.revertible && nat_eq h.sequence c.args.n then None else Some (fate.Flash c.args.m.now.b c.args.m.now.a c.args.s c.args.n)) c.peek_head-head.ensures))))))
+    (alone-leads (world_seen s t r c.args.journal.now.events) (world_seen (g.P.Plant.state c.turn_target.new.plant) t r c.turn_target.new.journal.events) (flash_on c.args.s.0 c.args.m.now.a.0 c.args.m.now.b.0 c.args.m.now.c.0 c.args.n) (goes r (flash_on c.args.s.0 c.args.m.now.a.0 c.args.m.now.b.0 c.args.m.now.c.0 c.args.n) (flash-next s t r c.args.journal.now.events c.args.m.now c.args.s c.args.n c.flash_next-next.result (volume_seen s t c.args.m.now.c.0).fields refl (c.flash_next-next.ensures ∙ ap (λ (h : Head). if h.revertible && nat_eq h.sequence c.args.n then Pass else Do (move.Flash c.args.m.now.c c.args.m.now.b c.args.m.now.a c.args.s c.args.n)) c.peek_head-head.ensures))))))
 
 pub returns-clause-fails : goal.returns-clause-fails
 returns-clause-fails g c =
@@ -53,7 +52,7 @@ returns-clause-fails g c =
     err-along c.turn_target.result c.turn_target.ensures.halts c.turn_target.ensures.halts (λ ends _ r.
     check-fails (world_seen s t r c.args.journal.now.events) (send_refusal c.args.m.now.a.0 c.args.m.now.b.0) (refuse_if (flash_refusal c.args.m.now.b.0 c.args.m.now.c.0 c.args.n) ∷ (flash_on c.args.s.0 c.args.m.now.a.0 c.args.m.now.b.0 c.args.m.now.c.0 c.args.n) ∷ []) (c.in_default.ensures.refusal r c.args.journal.now.events) (armed_in s) (world_seen (g.P.Plant.state c.turn_target.new.plant) t r c.turn_target.new.journal.events) (refusal_of c.turn_target.result)
     (check-fails (world_seen s t r c.args.journal.now.events) (flash_refusal c.args.m.now.b.0 c.args.m.now.c.0 c.args.n) ((flash_on c.args.s.0 c.args.m.now.a.0 c.args.m.now.b.0 c.args.m.now.c.0 c.args.n) ∷ []) (c.in_default-flash_refusal.ensures.refusal r c.args.journal.now.events) (armed_in s) (world_seen (g.P.Plant.state c.turn_target.new.plant) t r c.turn_target.new.journal.events) (refusal_of c.turn_target.result)
-    (alone-fails (armed_in s) (world_seen s t r c.args.journal.now.events) (world_seen (g.P.Plant.state c.turn_target.new.plant) t r c.turn_target.new.journal.events) (refusal_of c.turn_target.result) (flash_on c.args.s.0 c.args.m.now.a.0 c.args.m.now.b.0 c.args.m.now.c.0 c.args.n) (ends r (flash_on c.args.s.0 c.args.m.now.a.0 c.args.m.now.b.0 c.args.m.now.c.0 c.args.n) (flash-next s t r c.args.journal.now.events c.args.m.now c.args.s c.args.n c.flash_fate-fate.result (volume_seen s t c.args.m.now.c.0).fields refl (c.flash_fate-fate.ensures ∙ ap (λ (h : Head). if h.revertible && nat_eq h.sequence c.args.n then None else Some (fate.Flash c.args.m.now.b c.args.m.now.a c.args.s c.args.n)) c.peek_head-head.ensures))))))
+    (alone-fails (armed_in s) (world_seen s t r c.args.journal.now.events) (world_seen (g.P.Plant.state c.turn_target.new.plant) t r c.turn_target.new.journal.events) (refusal_of c.turn_target.result) (flash_on c.args.s.0 c.args.m.now.a.0 c.args.m.now.b.0 c.args.m.now.c.0 c.args.n) (ends r (flash_on c.args.s.0 c.args.m.now.a.0 c.args.m.now.b.0 c.args.m.now.c.0 c.args.n) (flash-next s t r c.args.journal.now.events c.args.m.now c.args.s c.args.n c.flash_next-next.result (volume_seen s t c.args.m.now.c.0).fields refl (c.flash_next-next.ensures ∙ ap (λ (h : Head). if h.revertible && nat_eq h.sequence c.args.n then Pass else Do (move.Flash c.args.m.now.c c.args.m.now.b c.args.m.now.a c.args.s c.args.n)) c.peek_head-head.ensures))))))
 
 pub returns-clause-carried : goal.returns-clause-carried
 returns-clause-carried g c =
@@ -67,22 +66,14 @@ returns-clause-unchanged g c calm =
     let t = c.args.config.now in
     only-stops _ c.turn_target.result (volume_seen s t c.args.m.now.c.0).server c.turn_target.ensures.refused calm
 
-pub returns-clause-faults : goal.returns-clause-faults
-returns-clause-faults g c =
-    let s = g.P.Plant.state c.args.plant.now in
-    let t = c.args.config.now in
-    counted-stop c.turn_target.result _ _ (volume_seen s t c.args.m.now.c.0).server c.turn_target.ensures.faults c.turn_target.ensures.refused
-
 pub returns-clause-moved : goal.returns-clause-moved
 returns-clause-moved g c =
     let s = g.P.Plant.state c.args.plant.now in
     let u = g.P.Plant.state c.turn_target.new.plant in
     let t = c.args.config.now in
-    let v = c.args.m.now.c.0 in
-    let f = (volume_seen s t v).fields in
-    ok-along c.turn_target.result c.turn_target.ensures.moved (λ moved off.
-    unless-some (λ (y : Fate). IsMoved s u t v (fields_after y f) None) (is_flashed c.args.n f) (fate.Flash c.args.m.now.b c.args.m.now.a c.args.s c.args.n) off
-    (subst (λ o. IfSome o (λ (y : Fate). IsMoved s u t v (fields_after y f) None)) (c.flash_fate-fate.ensures ∙ ap (λ (h : Head). if h.revertible && nat_eq h.sequence c.args.n then None else Some (fate.Flash c.args.m.now.b c.args.m.now.a c.args.s c.args.n)) c.peek_head-head.ensures) moved))
+    let f = (volume_seen s t c.args.m.now.c.0).fields in
+    let is = c.flash_next-next.ensures ∙ ap (λ (h : Head). if h.revertible && nat_eq h.sequence c.args.n then Pass else Do (move.Flash c.args.m.now.c c.args.m.now.b c.args.m.now.a c.args.s c.args.n)) c.peek_head-head.ensures in
+    ok-along c.turn_target.result c.turn_target.ensures.went (λ went off. (unless-off (Went s u t) (is_flashed c.args.n f) (Do (move.Flash c.args.m.now.c c.args.m.now.b c.args.m.now.a c.args.s c.args.n)) off (subst (Went s u t) is went)).moved)
 
 pub returns-clause-shows_source : goal.returns-clause-shows_source
 returns-clause-shows_source g c =
@@ -91,12 +82,9 @@ returns-clause-shows_source g c =
     let t = c.args.config.now in
     let v = c.args.m.now.c.0 in
     let f = (volume_seen s t v).fields in
-    ok-along c.turn_target.result c.turn_target.ensures.moved (λ moved off holds k.
+    ok-along c.turn_target.result (returns-clause-moved g c) (λ moved off holds k.
     let may = c.in_default-flash_refusal.ensures.may off in
-    flash-shows s u t v c.requires.fit ((and_parts f.related _ ((and_parts (copies_from c.args.m.now.b.0 f) _ may).0)).0) c.turn_target.ensures.others c.args.m.now.b.0 c.args.s.0 c.args.n
-    (unless-some (λ (y : Fate). IsMoved s u t v (fields_after y f) None) (is_flashed c.args.n f) (fate.Flash c.args.m.now.b c.args.m.now.a c.args.s c.args.n) off
-    (subst (λ o. IfSome o (λ (y : Fate). IsMoved s u t v (fields_after y f) None)) (c.flash_fate-fate.ensures ∙ ap (λ (h : Head). if h.revertible && nat_eq h.sequence c.args.n then None else Some (fate.Flash c.args.m.now.b c.args.m.now.a c.args.s c.args.n)) c.peek_head-head.ensures) moved))
-    may holds k)
+    flash-shows s u t v c.requires.fit (may-related c.args.m.now.b.0 f may) c.turn_target.ensures.others c.args.m.now.b.0 c.args.s.0 c.args.n (moved off) may holds k)
 
 pub returns-clause-keeps_aside : goal.returns-clause-keeps_aside
 returns-clause-keeps_aside g c =
@@ -105,9 +93,18 @@ returns-clause-keeps_aside g c =
     let t = c.args.config.now in
     let v = c.args.m.now.c.0 in
     let f = (volume_seen s t v).fields in
-    ok-along c.turn_target.result c.turn_target.ensures.moved (λ moved off k.
+    ok-along c.turn_target.result (returns-clause-moved g c) (λ moved off k.
     let may = c.in_default-flash_refusal.ensures.may off in
-    flash-keeps s u t v c.requires.fit ((and_parts f.related _ ((and_parts (copies_from c.args.m.now.b.0 f) _ may).0)).0) c.turn_target.ensures.others c.args.s.0 c.args.n
-    (unless-some (λ (y : Fate). IsMoved s u t v (fields_after y f) None) (is_flashed c.args.n f) (fate.Flash c.args.m.now.b c.args.m.now.a c.args.s c.args.n) off
-    (subst (λ o. IfSome o (λ (y : Fate). IsMoved s u t v (fields_after y f) None)) (c.flash_fate-fate.ensures ∙ ap (λ (h : Head). if h.revertible && nat_eq h.sequence c.args.n then None else Some (fate.Flash c.args.m.now.b c.args.m.now.a c.args.s c.args.n)) c.peek_head-head.ensures) moved))
-    k)
+    flash-keeps s u t v c.requires.fit (may-related c.args.m.now.b.0 f may) c.turn_target.ensures.others c.args.s.0 c.args.n (moved off) k)
+
+pub turn_target-requires-clause-turns : goal.turn_target-requires-clause-turns
+turn_target-requires-clause-turns g c =
+    let s = g.P.Plant.state c.args.plant.now in
+    let t = c.args.config.now in
+    let v = c.args.m.now.c in
+    let f = (volume_seen s t v.0).fields in
+    let is = c.flash_next-next.ensures ∙ ap (λ (h : Head). if h.revertible && nat_eq h.sequence c.args.n then Pass else Do (move.Flash c.args.m.now.c c.args.m.now.b c.args.m.now.a c.args.s c.args.n)) c.peek_head-head.ensures in
+    let running = ap s.on c.requires.together ∙ c.in_default.ensures.reached in
+    subst (Turns s t v.0) (sym is)
+    (unless-all (Turns s t v.0) (is_flashed c.args.n f) (Do (move.Flash v c.args.m.now.b c.args.m.now.a c.args.s c.args.n)) tt (λ off.
+    flash-turns s t v c.requires.target running c.args.m.now.b c.args.m.now.a c.args.s c.args.n (may-related c.args.m.now.b.0 f (c.in_default-flash_refusal.ensures.may off))))

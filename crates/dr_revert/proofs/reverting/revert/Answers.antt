@@ -1,22 +1,22 @@
-use Rattle.std.proofs.Common.{◌≡◌, true, refl, ap, sym, subst, ◌∙◌, [], ◌∷◌, None, Some}
-use Rattle.std.specs.Prelude.{if◌then◌else◌, IfSome, nat_lt}
+use Rattle.std.proofs.Common.{ap, sym, subst, ◌∙◌, [], ◌∷◌}
+use Rattle.std.specs.Prelude.{if◌then◌else◌, nat_lt}
 use Rattle.std.proofs.lemmas.Bool.{and_parts}
 use Rattle.dr_model.specs.Layout.{Fields}
-use Rattle.dr_model.specs.Lawful.{IsLawful}
 use Rattle.dr_model.specs.PairEntries.{send_refusal}
 use Rattle.dr_model.specs.SessionEntries.{is_flashed, revert_on, revert_entries}
 use Rattle.dr_volume.specs.Plain.{plain}
-use Rattle.dr_volume.specs.Update.{IsMoved}
 use Rattle.dr_volume.specs.View.{volume_seen}
 use Rattle.dr_moves.specs.Here.{world_seen, armed_in, refusal_of}
-use Rattle.dr_moves.proofs.EntryLemmas.{counted-stop, only-stops}
+use Rattle.dr_moves.specs.Coming.{Went}
+use Rattle.dr_moves.specs.declared.carrying.Next.TheVariants.{Pass, Do}
+use Rattle.dr_moves.specs.declared.moves.Move.TheVariants as move
+use Rattle.dr_moves.proofs.EntryLemmas.{only-stops}
 use Rattle.dr_moves.proofs.TurnLemmas.{ok-along, err-along}
 use Rattle.dr_gcopy.proofs.TwoMoves.{ends-by}
-use Rattle.dr_revert.specs.declared.fates.Fate.{Fate}
-use Rattle.dr_revert.specs.declared.fates.Fate.TheVariants as fate
-use Rattle.dr_revert.specs.Fates.{may_become, fields_after}
-use Rattle.dr_revert.proofs.EntryLemmas.{check-refuses, check-leads, check-fails, alone-leads, alone-fails, some-either, either-first, revert-next}
-use Rattle.dr_revert.proofs.ViewLaws.{revert-shows, revertible-related}
+use Rattle.dr_revert.specs.Turns.{Turns}
+use Rattle.dr_revert.proofs.EntryLemmas.{check-refuses, check-leads, check-fails, alone-leads, alone-fails, either-all, either-first, revert-next}
+use Rattle.dr_revert.proofs.TargetLemmas.{revert-turns, floor-turns}
+use Rattle.dr_revert.proofs.ViewLaws.{revert-shows, revertible-seen}
 use Rattle.dr_revert.proofs.reverting.revert.Goals as goal
 
 pub returns-in-Some-clause-fails : goal.returns-in-Some-clause-fails
@@ -34,7 +34,7 @@ returns-clause-leads g c =
     let t = c.args.config.now in
     ok-along c.turn_target.result c.turn_target.ensures.advances (λ goes r.
     check-leads (world_seen s t r c.args.journal.now.events) (send_refusal c.args.m.now.a.0 c.args.m.now.b.0) ((revert_on c.args.s.0 c.args.m.now.a.0 c.args.m.now.c.0 c.args.n) ∷ []) (c.in_default.ensures.refusal r c.args.journal.now.events) (world_seen (g.P.Plant.state c.turn_target.new.plant) t r c.turn_target.new.journal.events)
-    (alone-leads (world_seen s t r c.args.journal.now.events) (world_seen (g.P.Plant.state c.turn_target.new.plant) t r c.turn_target.new.journal.events) (revert_on c.args.s.0 c.args.m.now.a.0 c.args.m.now.c.0 c.args.n) (goes r (revert_on c.args.s.0 c.args.m.now.a.0 c.args.m.now.c.0 c.args.n) (revert-next s t r c.args.journal.now.events c.args.m.now c.args.s c.args.n c.revert_fate-fate.result (plain c.peek_fields.result) c.peek_fields.ensures.fields c.revert_fate-fate.ensures))))
+    (alone-leads (world_seen s t r c.args.journal.now.events) (world_seen (g.P.Plant.state c.turn_target.new.plant) t r c.turn_target.new.journal.events) (revert_on c.args.s.0 c.args.m.now.a.0 c.args.m.now.c.0 c.args.n) (goes r (revert_on c.args.s.0 c.args.m.now.a.0 c.args.m.now.c.0 c.args.n) (revert-next s t r c.args.journal.now.events c.args.m.now c.args.s c.args.n c.revert_next-next.result (plain c.peek_fields.result) c.peek_fields.ensures.fields c.revert_next-next.ensures))))
 
 pub returns-clause-fails : goal.returns-clause-fails
 returns-clause-fails g c =
@@ -42,7 +42,7 @@ returns-clause-fails g c =
     let t = c.args.config.now in
     err-along c.turn_target.result c.turn_target.ensures.halts c.turn_target.ensures.halts (λ ends _ r.
     check-fails (world_seen s t r c.args.journal.now.events) (send_refusal c.args.m.now.a.0 c.args.m.now.b.0) ((revert_on c.args.s.0 c.args.m.now.a.0 c.args.m.now.c.0 c.args.n) ∷ []) (c.in_default.ensures.refusal r c.args.journal.now.events) (armed_in s) (world_seen (g.P.Plant.state c.turn_target.new.plant) t r c.turn_target.new.journal.events) (refusal_of c.turn_target.result)
-    (alone-fails (armed_in s) (world_seen s t r c.args.journal.now.events) (world_seen (g.P.Plant.state c.turn_target.new.plant) t r c.turn_target.new.journal.events) (refusal_of c.turn_target.result) (revert_on c.args.s.0 c.args.m.now.a.0 c.args.m.now.c.0 c.args.n) (ends r (revert_on c.args.s.0 c.args.m.now.a.0 c.args.m.now.c.0 c.args.n) (revert-next s t r c.args.journal.now.events c.args.m.now c.args.s c.args.n c.revert_fate-fate.result (plain c.peek_fields.result) c.peek_fields.ensures.fields c.revert_fate-fate.ensures))))
+    (alone-fails (armed_in s) (world_seen s t r c.args.journal.now.events) (world_seen (g.P.Plant.state c.turn_target.new.plant) t r c.turn_target.new.journal.events) (refusal_of c.turn_target.result) (revert_on c.args.s.0 c.args.m.now.a.0 c.args.m.now.c.0 c.args.n) (ends r (revert_on c.args.s.0 c.args.m.now.a.0 c.args.m.now.c.0 c.args.n) (revert-next s t r c.args.journal.now.events c.args.m.now c.args.s c.args.n c.revert_next-next.result (plain c.peek_fields.result) c.peek_fields.ensures.fields c.revert_next-next.ensures))))
 
 pub returns-clause-carried : goal.returns-clause-carried
 returns-clause-carried g c =
@@ -56,22 +56,14 @@ returns-clause-unchanged g c calm =
     let t = c.args.config.now in
     only-stops _ c.turn_target.result (volume_seen s t c.args.m.now.c.0).server c.turn_target.ensures.refused calm
 
-pub returns-clause-faults : goal.returns-clause-faults
-returns-clause-faults g c =
-    let s = g.P.Plant.state c.args.plant.now in
-    let t = c.args.config.now in
-    counted-stop c.turn_target.result _ _ (volume_seen s t c.args.m.now.c.0).server c.turn_target.ensures.faults c.turn_target.ensures.refused
-
 pub returns-clause-moved : goal.returns-clause-moved
 returns-clause-moved g c =
     let s = g.P.Plant.state c.args.plant.now in
     let u = g.P.Plant.state c.turn_target.new.plant in
     let t = c.args.config.now in
-    let v = c.args.m.now.c.0 in
-    let f = (volume_seen s t v).fields in
-    ok-along c.turn_target.result c.turn_target.ensures.moved (λ moved is.
-    either-first (λ (y : Fate). IsMoved s u t v (fields_after y f) None) (is_flashed c.args.n f) (nat_lt f.floor c.args.n) (fate.Revert c.args.m.now.a c.args.s c.args.n) (fate.Raise c.args.n) is
-    (subst (λ o. IfSome o (λ (y : Fate). IsMoved s u t v (fields_after y f) None)) (c.revert_fate-fate.ensures ∙ ap (λ (f : Fields). if is_flashed c.args.n f then Some (fate.Revert c.args.m.now.a c.args.s c.args.n) else if nat_lt f.floor c.args.n then Some (fate.Raise c.args.n) else None) c.peek_fields.ensures.fields) moved))
+    let f = (volume_seen s t c.args.m.now.c.0).fields in
+    let is = c.revert_next-next.ensures ∙ ap (λ (f : Fields). if is_flashed c.args.n f then Do (move.Revert c.args.m.now.c c.args.m.now.a c.args.s c.args.n) else if nat_lt f.floor c.args.n then Do (move.RaiseFloor c.args.m.now.c c.args.n) else Pass) c.peek_fields.ensures.fields in
+    ok-along c.turn_target.result c.turn_target.ensures.went (λ went on. (either-first (Went s u t) (is_flashed c.args.n f) (nat_lt f.floor c.args.n) (Do (move.Revert c.args.m.now.c c.args.m.now.a c.args.s c.args.n)) (Do (move.RaiseFloor c.args.m.now.c c.args.n)) on (subst (Went s u t) is went)).moved)
 
 pub returns-clause-shows_aside : goal.returns-clause-shows_aside
 returns-clause-shows_aside g c =
@@ -80,17 +72,19 @@ returns-clause-shows_aside g c =
     let t = c.args.config.now in
     let v = c.args.m.now.c.0 in
     let f = (volume_seen s t v).fields in
-    ok-along c.turn_target.result c.turn_target.ensures.moved (λ moved is.
+    ok-along c.turn_target.result (returns-clause-moved g c) (λ moved is.
     let revertible = (and_parts f.revertible _ is).0 in
-    let lawful = subst (λ (f : Fields). IsLawful (volume_seen s t v).tracks f) c.peek_fields.ensures.fields c.peek_fields.ensures.lawful in
-    revert-shows s u t v c.requires.fit (revertible-related (volume_seen s t v).tracks f lawful revertible) c.turn_target.ensures.others c.args.n (c.requires.aside.aside v) revertible
-    (either-first (λ (y : Fate). IsMoved s u t v (fields_after y f) None) (is_flashed c.args.n f) (nat_lt f.floor c.args.n) (fate.Revert c.args.m.now.a c.args.s c.args.n) (fate.Raise c.args.n) is
-    (subst (λ o. IfSome o (λ (y : Fate). IsMoved s u t v (fields_after y f) None)) (c.revert_fate-fate.ensures ∙ ap (λ (f : Fields). if is_flashed c.args.n f then Some (fate.Revert c.args.m.now.a c.args.s c.args.n) else if nat_lt f.floor c.args.n then Some (fate.Raise c.args.n) else None) c.peek_fields.ensures.fields) moved)))
+    revert-shows s u t v c.requires.fit (revertible-seen s t v revertible) c.turn_target.ensures.others c.args.n (c.requires.aside.aside v) revertible (moved is))
 
-pub turn_target-requires-clause-may : goal.turn_target-requires-clause-may
-turn_target-requires-clause-may g c =
+pub turn_target-requires-clause-turns : goal.turn_target-requires-clause-turns
+turn_target-requires-clause-turns g c =
     let s = g.P.Plant.state c.args.plant.now in
     let t = c.args.config.now in
-    let f = (volume_seen s t c.args.m.now.c.0).fields in
-    subst (λ o. IfSome o (λ (y : Fate). may_become y f ≡ true)) (sym (c.revert_fate-fate.ensures ∙ ap (λ (f : Fields). if is_flashed c.args.n f then Some (fate.Revert c.args.m.now.a c.args.s c.args.n) else if nat_lt f.floor c.args.n then Some (fate.Raise c.args.n) else None) c.peek_fields.ensures.fields))
-    (some-either (λ (y : Fate). may_become y f ≡ true) (is_flashed c.args.n f) (nat_lt f.floor c.args.n) (fate.Revert c.args.m.now.a c.args.s c.args.n) (fate.Raise c.args.n) (λ is. (and_parts f.revertible _ is).0) (λ low. refl))
+    let v = c.args.m.now.c in
+    let f = (volume_seen s t v.0).fields in
+    let is = c.revert_next-next.ensures ∙ ap (λ (f : Fields). if is_flashed c.args.n f then Do (move.Revert c.args.m.now.c c.args.m.now.a c.args.s c.args.n) else if nat_lt f.floor c.args.n then Do (move.RaiseFloor c.args.m.now.c c.args.n) else Pass) c.peek_fields.ensures.fields in
+    let running = ap s.on c.requires.together ∙ c.in_default.ensures.reached in
+    subst (Turns s t v.0) (sym is)
+    (either-all (Turns s t v.0) (is_flashed c.args.n f) (nat_lt f.floor c.args.n) (Do (move.Revert v c.args.m.now.a c.args.s c.args.n)) (Do (move.RaiseFloor v c.args.n)) tt
+    (λ on. revert-turns s t v c.requires.target running c.args.m.now.a c.args.s c.args.n c.requires.aside (and_parts f.revertible _ on).0)
+    (λ low. floor-turns s t v c.requires.target running c.args.n))
