@@ -2,7 +2,7 @@
 use Rattle.std.proofs.Common.{ℕ, ◌≡◌, ◌<◌, ◌≤◌, ◌+◌, List, length, refl, ap, ◌∙◌, sym, subst, arith, nat_le, true, Some, Ok, Err, Result, inl, inr}
 use Rattle.std.specs.Prelude.{slice_get}
 use Rattle.std.specs.Option.{option_map}
-use Rattle.std.proofs.lemmas.Bool.Decides.{nat_tests}
+use Rattle.std.proofs.lemmas.Bool.{le-leb}
 use Rattle.std.proofs.lemmas.Option.{slice_get-map}
 use Rattle.dr_model.specs.Control.{World}
 use Rattle.dr_model.specs.declared.event.Event.{Event}
@@ -31,6 +31,9 @@ step-wants number steps i s w spare at wants = record {
   wants = wants-less w (Ok s) spare wants;
 }
 
+one-more : (n m : ℕ) → n < m → nat_le (n + 1) m ≡ true
+one-more n m lt = le-leb (n + 1) m (omega (arith, lt))
+
 -- the answer to a line outside the grammar
 pub fault-wants : (number column : ℕ) (w : World) (events : List Event) (spare : ℕ) → w.events ≡ events → length events < most_events → (length events < most_events → memory_for (length events + spare) < memory_for (length events + 1))
     → StepWants 0 (tasks_read number (Err column)) w
@@ -38,13 +41,7 @@ fault-wants number column w events spare is below grows = record {
   task = task number (Err column);
   next = refl;
   wants = subst (λ (es : List Event). WantsMemory (record w { events = es }) (Err column) (length es)) (sym is) (record {
-    room = room (length events) below;
+    room = one-more (length events) most_events below;
     asks = inl (less (length events) spare (memory_for (length events + 1)) (grows below));
   });
 }
-  where
-    room : (n : ℕ) → n < most_events → nat_le (n + 1) most_events ≡ true
-    room n lt = fits n most_events lt
-      where
-        fits : (n m : ℕ) → n < m → nat_le (n + 1) m ≡ true
-        fits n m lt = grind (arith, nat_tests, lt)
