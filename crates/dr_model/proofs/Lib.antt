@@ -14,3 +14,4 @@ pub mod Overlay
 pub mod CarryLemmas
 pub mod GrammarChecks
 pub mod LawfulLemmas
+pub mod MemoryLemmas

@@ -99,7 +99,7 @@ find-ids p [] = refl
 find-ids p (e ∷ es) = elim (p e.id) as (λ b. cond b (Some e.id) (find p (ids_of es)) ≡ option_map (λ (e : VolumeEntry). e.id) (cond b (Some e) (find (λ (e : VolumeEntry). p e.id) es))) [ true ↦ refl | false ↦ find-ids p es ]
 
 -- a size beyond what the configuration can be told is as bad there
-abbrev capped : ℕ → ℕ
+abbrev pub capped : ℕ → ℕ
 capped n = min n 65535
 
 bad-size : (n : ℕ) → (nat_eq (capped n) 0 || nat_lt 256 (capped n)) ≡ (nat_eq n 0 || nat_lt 256 n)

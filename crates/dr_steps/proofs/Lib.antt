@@ -66,3 +66,4 @@ pub mod MemberLemmas
 pub mod ExchangeLemmas
 pub mod FormingLemmas
 pub mod RecoveringLemmas
+pub mod WantLemmas

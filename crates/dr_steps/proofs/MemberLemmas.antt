@@ -45,7 +45,7 @@ use Rattle.dr_steps.proofs.PathLemmas.{owner-nowhere, owner-there}
 use Rattle.dr_steps.proofs.RelationLemmas.{placed-here}
 use Rattle.dr_steps.proofs.StepLemmas.{plan-unless, plan-free}
 
-some-there : (o : Option Session) → is_some o ≡ true → (x : Session) × (o ≡ Some x)
+pub some-there : (o : Option Session) → is_some o ≡ true → (x : Session) × (o ≡ Some x)
 some-there None there = absurd (cc)
 some-there (Some x) there = (x, refl)
 

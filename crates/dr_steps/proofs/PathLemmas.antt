@@ -70,7 +70,7 @@ module _ (s : PlantState) (t : ConfigTable) (h : Tables) (ev : List Event) (line
       ap (λ x. Some x) (ap (λ (x : Volume). x.server) (volume-placed s t e.id found.0 e listed.0 found.2))
 
   -- the machine's subsystems have the owners of the configuration
-  owner-here : IsSoundConfig t → (l : ℕ) → owner_of k l ≡ lss_owner t l
+  pub owner-here : IsSoundConfig t → (l : ℕ) → owner_of k l ≡ lss_owner t l
   owner-here sound l = ap (option_map (λ v. (volume_seen s t v).server)) (find-ids (λ x. nat_eq (subsystem x) l) t.volumes) ∙ owner-by sound l _ refl
 
   -- a plan that needs a subsystem's server
@@ -94,7 +94,7 @@ module _ (s : PlantState) (t : ConfigTable) (h : Tables) (ev : List Event) (line
     rules-are = λ i. rules.servers_refusal t s.on (unwrap_or (first i) 0) (unwrap_or (second i) 0)
 
     -- why a path is refused, by the names and by the configuration
-    path-by : (n : Bool) → named ≡ n → path_refusal k devs a b ≡ (if not n then Some (unknown OfServer) else rules-refusal)
+    pub path-by : (n : Bool) → named ≡ n → path_refusal k devs a b ≡ (if not n then Some (unknown OfServer) else rules-refusal)
     path-by n is =
         (λ i. if not (is i) then Some (unknown OfServer)
         else if nat_eq a b then Some (over OneServer)

@@ -7,3 +7,4 @@ pub mod Waiting
 pub mod WellFormed
 pub mod Found
 pub mod Members
+pub mod Wants

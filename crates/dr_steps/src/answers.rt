@@ -1,8 +1,10 @@
 //! Answers of lines, and the room that the journal has for them.
 
-ghost use Rattle.std.specs.Prelude.{◌≡◌, ◌<◌, ◌≤◌, ◌++◌, [], ◌∷◌, OnOk, OnErr};
+ghost use Rattle.std.specs.Prelude.{◌≡◌, ◌+◌, ◌<◌, ◌≤◌, ◌++◌, [], ◌∷◌, length, false, IsOk, OnOk, OnErr};
 ghost use Rattle.dr_ids.specs.declared.refusal.Refusal.{Refusal};
 ghost use Rattle.dr_model.specs.Answers.{answer};
+ghost use Rattle.dr_model.specs.Limits.{most_events, image_events};
+ghost use Rattle.dr_model.specs.Log.{memory_for};
 ghost use Rattle.dr_model.specs.Plans.{has_room, has_room_for};
 ghost use Rattle.dr_model.specs.declared.said.Said.TheVariants.{Refused};
 
@@ -39,10 +41,14 @@ pub fn say(journal: &mut Journal, line: u32, said: Said)
     journal.push(said.event(line));
 }
 
-/// Refuses a step before it begins. Where there is no memory nothing has changed.
+/// Refuses a step before it begins. Where there is no memory nothing has changed. It asks for the room of its answer (`grows`); where the
+/// journal has no room for an image it has memory for all its events, so there it is never wanting (`full`).
 pub fn refuse(journal: &mut Journal, number: u32, refusal: Refusal) -> Result<(), AllocError>
     ensures told { OnOk result (journal.new.events ≡ journal.old.events ++ answer number (Refused refusal) ∷ []) }
     ensures same { OnErr result (journal.new.events ≡ journal.old.events) }
+    ensures grows { OnErr result (length journal.old.events < most_events
+        → memory_for (length journal.old.events + journal.old.spare) < memory_for (length journal.old.events + 1)) }
+    ensures full { length journal.old.events < most_events → has_room_for image_events journal.old.events ≡ false → IsOk result }
 {
     journal.reserve(1)?;
     say(journal, number, Said::Refused(refusal));
@@ -53,6 +59,8 @@ pub fn refuse(journal: &mut Journal, number: u32, refusal: Refusal) -> Result<()
 pub fn refuse_syntax(journal: &mut Journal, number: u32, column: u16) -> Result<(), AllocError>
     ensures told { OnOk result (journal.new.events ≡ journal.old.events ++ answer number (Refused (Refusal.Syntax column)) ∷ []) }
     ensures same { OnErr result (journal.new.events ≡ journal.old.events) }
+    ensures grows { OnErr result (length journal.old.events < most_events
+        → memory_for (length journal.old.events + journal.old.spare) < memory_for (length journal.old.events + 1)) }
 {
     refuse(journal, number, Refusal::Syntax { column })
 }

@@ -1,6 +1,6 @@
 //! The step that compares two volumes.
 
-ghost use Rattle.std.specs.Prelude.{◌≡◌, ℕ, ◌<◌, ◌≤◌, true, [], length, Ok, OnOk, OnErr};
+ghost use Rattle.std.specs.Prelude.{◌≡◌, ℕ, ◌+◌, ◌<◌, ◌≤◌, true, [], length, Ok, OnOk, OnErr};
 ghost use Rattle.dr_logic.specs.Counts.{Counted};
 ghost use Rattle.dr_model.specs.Laws.{Sound};
 ghost use Rattle.dr_model.specs.Limits.{most_events};
@@ -9,6 +9,7 @@ ghost use Rattle.dr_model.specs.Runs.{after_task};
 ghost use Rattle.dr_model.specs.declared.step.Step.TheVariants as step;
 ghost use Rattle.dr_steps.specs.Faults.{told_stop};
 ghost use Rattle.dr_steps.specs.Here.{said_of, here, IsReady};
+ghost use Rattle.dr_steps.specs.Wants.{WantsMemory};
 
 use crate::answers::{STEP_EVENTS, has_room, refuse, say};
 use crate::masters::{lose_masters, servers_on};
@@ -72,6 +73,7 @@ pub fn carry_compare<P: Plant>(
     requires below { length journal.old.events < most_events }
     ensures task { OnOk result (after_task (here (P.state plant.old) config.now tables.old journal.old.events) (record { line = number; asked = Ok (step.Compare v.0 u.0); listed = [] })
         ≡ here (P.state plant.new) config.now tables.new journal.new.events) }
+    ensures wanted { OnErr result (WantsMemory (here (P.state plant.old) config.now tables.old journal.old.events) (Ok (step.Compare v.0 u.0)) (length journal.old.events + journal.old.spare)) }
     ensures same { OnErr result (here (P.state plant.new) config.now tables.new journal.new.events ≡ here (P.state plant.old) config.now tables.old journal.old.events) }
     ensures same_plant { OnErr result (P.state plant.new ≡ P.state plant.old) }
     ensures ready { IsReady (P.state plant.new) config.now tables.new journal.new.events }

@@ -5,6 +5,7 @@ ghost use Rattle.dr_ids.specs.declared.refusal.Refusal.{Refusal};
 ghost use Rattle.dr_model.specs.declared.step.Step.{Step};
 ghost use Rattle.dr_steps.specs.Faults.{CountsStop};
 ghost use Rattle.dr_steps.specs.Here.{here, said_of, OnAnswer, OnNoMemory, StepLeads, IsReady};
+ghost use Rattle.dr_steps.specs.Wants.{WantsRow};
 
 use crate::locate::{bytes_of, unknown_server};
 use crate::tables::Tables;
@@ -29,6 +30,7 @@ pub fn define_server<P: Plant>(
     ensures step { OnAnswer result (λ a. (line : ℕ) → StepLeads (here (P.state plant.now) config.old tables.now journal.old.events) line (Step.Server name.now)
         (here (P.state plant.now) config.new tables.now journal.new.events) a) }
     ensures faults { OnAnswer result (λ a. CountsStop a (P.state plant.now) (P.state plant.now)) }
+    ensures wanted { OnNoMemory result (WantsRow (here (P.state plant.now) config.old tables.now journal.old.events) (Step.Server name.now)) }
     ensures same { OnNoMemory result (config.new ≡ config.old) }
     ensures untold { OnNoMemory result (journal.new.events ≡ journal.old.events) }
     ensures ready { IsReady (P.state plant.now) config.new tables.now journal.new.events }
@@ -72,6 +74,7 @@ pub fn define_volume<P: Plant>(
     ensures step { OnAnswer result (λ a. (line : ℕ) → StepLeads (here (P.state plant.old) config.old tables.now journal.old.events) line (Step.Volume volume.0 name.now tracks)
         (here (P.state plant.new) config.new tables.now journal.new.events) a) }
     ensures faults { OnAnswer result (λ a. CountsStop a (P.state plant.old) (P.state plant.new)) }
+    ensures wanted { OnNoMemory result (WantsRow (here (P.state plant.old) config.old tables.now journal.old.events) (Step.Volume volume.0 name.now tracks)) }
     ensures same { OnNoMemory result (config.new ≡ config.old) }
     ensures same_plant { OnNoMemory result (P.state plant.new ≡ P.state plant.old) }
     ensures untold { OnNoMemory result (journal.new.events ≡ journal.old.events) }

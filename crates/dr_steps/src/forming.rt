@@ -23,6 +23,7 @@ ghost use Rattle.dr_steps.specs.declared.tables.Tables.{Tables};
 ghost use Rattle.dr_steps.specs.Faults.{told_stop};
 ghost use Rattle.dr_steps.specs.Formed.{Reaches, drain_next, to_drain};
 ghost use Rattle.dr_steps.specs.Here.{here, said_of, IsReady};
+ghost use Rattle.dr_steps.specs.Wants.{WantsMemory};
 
 use crate::answers::{has_room, refuse, say};
 use crate::exchanges::ask_server;
@@ -455,6 +456,7 @@ pub fn carry_run<P: Plant>(
     requires below { length journal.old.events < most_events }
     ensures task { OnOk result (after_task (here (P.state plant.old) config.now tables.old journal.old.events) (record { line = number; asked = Ok (step.Run s.0 groups); listed = [] })
         ≡ here (P.state plant.new) config.now tables.new journal.new.events) }
+    ensures wanted { OnErr result (WantsMemory (here (P.state plant.old) config.now tables.old journal.old.events) (Ok (step.Run s.0 groups)) (length journal.old.events + journal.old.spare)) }
     ensures same { OnErr result (here (P.state plant.new) config.now tables.new journal.new.events ≡ here (P.state plant.old) config.now tables.old journal.old.events) }
     ensures same_plant { OnErr result (P.state plant.new ≡ P.state plant.old) }
     ensures ready { IsReady (P.state plant.new) config.now tables.new journal.new.events }

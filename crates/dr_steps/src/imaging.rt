@@ -1,12 +1,14 @@
 //! The step that lists all devices.
 
-ghost use Rattle.std.specs.Prelude.{◌≡◌, ℕ, Ok, OnOk, OnErr};
+ghost use Rattle.std.specs.Prelude.{◌≡◌, ℕ, ◌+◌, ◌<◌, length, Ok, OnOk, OnErr};
 ghost use Rattle.dr_logic.specs.Counts.{Counted};
 ghost use Rattle.dr_model.specs.Listed.{Lists, task_on};
+ghost use Rattle.dr_model.specs.Limits.{most_events};
 ghost use Rattle.dr_model.specs.Runs.{after_task};
 ghost use Rattle.dr_model.specs.declared.step.Step.TheVariants as step;
 ghost use Rattle.dr_steps.specs.Faults.{told_stop};
 ghost use Rattle.dr_steps.specs.Here.{here, IsReady};
+ghost use Rattle.dr_steps.specs.Wants.{WantsMemory};
 
 use crate::answers::{IMAGE_EVENTS, has_room_for, refuse, say};
 use crate::tables::Tables;
@@ -30,6 +32,7 @@ pub fn carry_image<P: Plant>(
     ensures task { OnOk result (after_task (here (P.state plant.now) config.now tables.now journal.old.events) (task_on (here (P.state plant.now) config.now tables.now journal.old.events) (P.state plant.now).block number (Ok step.Image))
         ≡ here (P.state plant.now) config.now tables.now journal.new.events) }
     ensures lists { OnOk result (Lists (here (P.state plant.now) config.now tables.now journal.old.events) (task_on (here (P.state plant.now) config.now tables.now journal.old.events) (P.state plant.now).block number (Ok step.Image))) }
+    ensures wanted { length journal.old.events < most_events → OnErr result (WantsMemory (here (P.state plant.now) config.now tables.now journal.old.events) (Ok step.Image) (length journal.old.events + journal.old.spare)) }
     ensures same { OnErr result (here (P.state plant.now) config.now tables.now journal.new.events ≡ here (P.state plant.now) config.now tables.now journal.old.events) }
     ensures ready { IsReady (P.state plant.now) config.now tables.now journal.new.events }
     ensures faults { (f : ℕ) → Counted (told_stop journal.old.events) f (P.state plant.now).faults → Counted (told_stop journal.new.events) f (P.state plant.now).faults }

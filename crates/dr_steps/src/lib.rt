@@ -1,7 +1,7 @@
 //! Carries out one step of a script on a plant, its configuration and its tables, and answers it in the journal.
 //!
-//! `carry_task` is the step of the machine, with its answer (`task`), or changes nothing (`same`) for want of memory;
-//! it reserves the journal's room before the step begins. `carry_run` is an `@run`: its drains and exchanges one after
+//! `carry_task` is the step of the machine, with its answer (`task`), or changes nothing (`same`) for want of memory, which comes only
+//! where the step asks for some (`wanted`); it reserves the journal's room before the step begins. `carry_run` is an `@run`: its drains and exchanges one after
 //! another as the machine's turns say (`task`), each only where the journal has room; it takes all the room that the
 //! journal may still need before it begins, so want of memory never cuts it short (`same`). `carry_image` is an `@image`: it
 //! lists the plant's own devices (`lists`) and writes none (`still`). `define_server`,

@@ -14,7 +14,9 @@ ghost use Rattle.dr_moves.specs.Checks.{is_stop};
 ghost use Rattle.dr_steps.specs.Faults.{CountsStop};
 ghost use Rattle.dr_steps.specs.Here.{here, said_of, OnAnswer, OnNoMemory, IsReady};
 ghost use Rattle.dr_steps.specs.Members.{AreThere, member_plan};
+ghost use Rattle.dr_steps.specs.Wants.{WantsRow};
 ghost use Rattle.dr_steps.specs.WellFormed.{FitsOwner};
+ghost use Rattle.dr_model.specs.declared.step.Step.{Step};
 ghost use Rattle.dr_steps.specs.declared.tables.Tables.{Tables};
 
 use crate::locate::{name_refusal, unknown_lss, unknown_session};
@@ -97,6 +99,7 @@ pub fn add_member<P: Plant>(
         (plans.add_plan (here (P.state plant.old) config.now tables.old journal.old.events).control devs.now.dev l.0 a.0 s.0)
         ≡ said (here (P.state plant.new) config.now tables.new journal.new.events) line x) }
     ensures faults { OnAnswer result (λ x. CountsStop x (P.state plant.old) (P.state plant.new)) }
+    ensures wanted { OnNoMemory result (WantsRow (here (P.state plant.old) config.now tables.old journal.old.events) (Step.AddMember devs.now l.0 a.0 s.0)) }
     ensures same { OnNoMemory result (here (P.state plant.new) config.now tables.new journal.new.events ≡ here (P.state plant.old) config.now tables.old journal.old.events) }
     ensures same_plant { OnNoMemory result (P.state plant.new ≡ P.state plant.old) }
     ensures ready { IsReady (P.state plant.new) config.now tables.new journal.new.events }

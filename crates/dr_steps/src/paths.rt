@@ -14,7 +14,9 @@ ghost use Rattle.dr_model.specs.Runs.{after_plan, said};
 ghost use Rattle.dr_moves.specs.Checks.{is_stop};
 ghost use Rattle.dr_steps.specs.Faults.{CountsStop};
 ghost use Rattle.dr_steps.specs.Here.{said_of, OnAnswer, OnNoMemory, here, IsReady};
+ghost use Rattle.dr_steps.specs.Wants.{WantsRow};
 ghost use Rattle.dr_steps.specs.WellFormed.{FitsDevs};
+ghost use Rattle.dr_model.specs.declared.step.Step.{Step};
 
 use crate::locate::{are_named, unknown_lss, unknown_server};
 use crate::tables::Tables;
@@ -44,6 +46,7 @@ pub fn make_path<P: Plant>(
         (plans.path_plan (here (P.state plant.now) config.old tables.now journal.now.events).control devs.now src.0 tgt.0 group)
         ≡ said (here (P.state plant.now) config.new tables.now journal.now.events) line a) }
     ensures faults { OnAnswer result (λ a. CountsStop a (P.state plant.now) (P.state plant.now)) }
+    ensures wanted { OnNoMemory result (WantsRow (here (P.state plant.now) config.old tables.now journal.now.events) (Step.MakePath devs.now src.0 tgt.0 group)) }
     ensures same { OnNoMemory result (config.new ≡ config.old) }
     ensures ready { IsReady (P.state plant.now) config.new tables.now journal.now.events }
 {

@@ -15,7 +15,9 @@ ghost use Rattle.dr_moves.specs.Checks.{is_stop};
 ghost use Rattle.dr_steps.specs.Faults.{CountsStop};
 ghost use Rattle.dr_steps.specs.Found.{IsFound, found_plan};
 ghost use Rattle.dr_steps.specs.Here.{here, said_of, OnAnswer, OnNoMemory, IsReady};
+ghost use Rattle.dr_steps.specs.Wants.{WantsRow};
 ghost use Rattle.dr_steps.specs.WellFormed.{FitsOwner};
+ghost use Rattle.dr_model.specs.declared.step.Step.{Step};
 ghost use Rattle.dr_steps.specs.declared.tables.Tables.{Tables};
 
 use crate::locate::{is_named, off_refusal, unknown_lss, unknown_server, unknown_session};
@@ -143,6 +145,7 @@ pub fn make_session<P: Plant>(
         (plans.join_plan (here (P.state plant.now) config.now tables.old journal.now.events).control devs.now.dev l.0 s.0)
         ≡ said (here (P.state plant.now) config.now tables.new journal.now.events) line a) }
     ensures faults { OnAnswer result (λ a. CountsStop a (P.state plant.now) (P.state plant.now)) }
+    ensures wanted { OnNoMemory result (WantsRow (here (P.state plant.now) config.now tables.old journal.now.events) (Step.MakeSession devs.now l.0 s.0)) }
     ensures same { OnNoMemory result (tables.new.sessions.sessions ≡ tables.old.sessions.sessions) }
     ensures host { tables.new.host ≡ tables.old.host }
 {

@@ -18,6 +18,7 @@ ghost use Rattle.dr_flash.specs.Views.{view_seen};
 ghost use Rattle.dr_gcopy.specs.Followed.{EndsFollowed};
 ghost use Rattle.dr_steps.specs.Faults.{CountsStop};
 ghost use Rattle.dr_steps.specs.Here.{here, said_of, answered_by, OnAnswer, OnSaid, OnNoMemory, OnRefused, StepLeads, IsReady, IsTold};
+ghost use Rattle.dr_steps.specs.Wants.{WantsRow};
 ghost use Rattle.dr_steps.specs.Waiting.{IsIssued, PartnersFit, written_as};
 
 use crate::locate::locate;
@@ -126,6 +127,7 @@ fn issue_write(
     requires count { tables.old.host.issued + 1 < 2 ^ 32 }
     requires room { 0 < journal.old.spare }
     ensures refused { OnRefused result (λ r. (s : PlantState) → issue_refusal (here s config.now tables.old journal.old.events).control write.now.volume.0 write.now.track ≡ Some r) }
+    ensures wanted { OnNoMemory result ((s : PlantState) → issue_refusal (here s config.now tables.old journal.old.events).control write.now.volume.0 write.now.track ≡ None) }
     ensures done { IfOk result (λ w. IsIssued config.now tables.old journal.old.events tables.new journal.new.events write.now w.0) }
     ensures same { OnErr result (tables.new ≡ tables.old) }
     ensures untold { OnErr result (journal.new.events ≡ journal.old.events) }
@@ -176,6 +178,8 @@ pub fn issue<P: Plant>(
     ensures step { OnAnswer result (λ a. (line : ℕ) → StepLeads (here (P.state plant.now) config.now tables.old journal.old.events) line
         (Step.Issue write.now.volume.0 write.now.track write.now.offset write.now.len write.now.bytes)
         (here (P.state plant.now) config.now tables.new journal.new.events) a) }
+    ensures wanted { OnNoMemory result (WantsRow (here (P.state plant.now) config.now tables.old journal.old.events)
+        (Step.Issue write.now.volume.0 write.now.track write.now.offset write.now.len write.now.bytes)) }
     ensures same { OnNoMemory result (tables.new ≡ tables.old) }
     ensures untold { OnNoMemory result (journal.new.events ≡ journal.old.events) }
     ensures ready { IsReady (P.state plant.now) config.now tables.new journal.new.events }
@@ -207,6 +211,8 @@ pub fn write<P: Plant>(
     ensures step { OnSaid result (λ a. (line : ℕ) → StepLeads (here (P.state plant.old) config.now tables.old journal.old.events) line
         (Step.Write write.now.volume.0 write.now.track write.now.offset write.now.len write.now.bytes)
         (here (P.state plant.new) config.now tables.new journal.new.events) a) }
+    ensures wanted { OnNoMemory result (WantsRow (here (P.state plant.old) config.now tables.old journal.old.events)
+        (Step.Write write.now.volume.0 write.now.track write.now.offset write.now.len write.now.bytes)) }
     ensures same { OnNoMemory result (tables.new ≡ tables.old) }
     ensures same_plant { OnNoMemory result (P.state plant.new ≡ P.state plant.old) }
     ensures untold { OnNoMemory result (journal.new.events ≡ journal.old.events) }

@@ -15,6 +15,7 @@ ghost use Rattle.dr_model.specs.declared.step.Step.{Step};
 ghost use Rattle.dr_steps.specs.Faults.{CountsStop, told_stop};
 ghost use Rattle.dr_steps.specs.Forms.{is_plain, is_relation, is_session, is_recovery};
 ghost use Rattle.dr_steps.specs.Here.{here, said_of, widened, refused, answer_widened, all_done, OnAnswer, OnSaid, OnNoMemory, StepLeads, IsReady};
+ghost use Rattle.dr_steps.specs.Wants.{WantsRow, WantsMemory};
 ghost use Rattle.dr_steps.specs.WellFormed.{IsWellFormed};
 
 use crate::answers::{STEP_EVENTS, has_room, refuse, say};
@@ -329,6 +330,7 @@ fn carry_session<P: Plant>(
     ensures step { OnAnswer result (λ a. (line : ℕ) → StepLeads (here (P.state plant.old) config.now tables.old journal.old.events) line step.now
         (here (P.state plant.new) config.now tables.new journal.new.events) a) }
     ensures faults { OnAnswer result (λ a. CountsStop a (P.state plant.old) (P.state plant.new)) }
+    ensures wanted { OnNoMemory result (WantsRow (here (P.state plant.old) config.now tables.old journal.old.events) step.now) }
     ensures same { OnNoMemory result (here (P.state plant.new) config.now tables.new journal.new.events ≡ here (P.state plant.old) config.now tables.old journal.old.events) }
     ensures same_plant { OnNoMemory result (P.state plant.new ≡ P.state plant.old) }
     ensures ready { IsReady (P.state plant.new) config.now tables.new journal.new.events }
@@ -474,6 +476,7 @@ fn carry_out<P: Plant>(
     ensures step { OnSaid result (λ a. StepLeads (here (P.state plant.old) config.old tables.old journal.old.events) line step.now
         (here (P.state plant.new) config.new tables.new journal.new.events) a) }
     ensures faults { OnSaid result (λ a. CountsStop a (P.state plant.old) (P.state plant.new)) }
+    ensures wanted { OnNoMemory result (WantsRow (here (P.state plant.old) config.old tables.old journal.old.events) step.now) }
     ensures same { OnNoMemory result (here (P.state plant.new) config.new tables.new journal.new.events ≡ here (P.state plant.old) config.old tables.old journal.old.events) }
     ensures same_plant { OnNoMemory result (P.state plant.new ≡ P.state plant.old) }
     ensures ready { IsReady (P.state plant.new) config.new tables.new journal.new.events }
@@ -656,6 +659,7 @@ fn carry_answered<P: Plant>(
     ensures plan { OnOk result (after_plan (here (P.state plant.old) config.old tables.old journal.old.events) number
         (plan_of (here (P.state plant.old) config.old tables.old journal.old.events).control journal.old.events number step.now)
         ≡ here (P.state plant.new) config.new tables.new journal.new.events) }
+    ensures wanted { OnErr result (WantsRow (here (P.state plant.old) config.old tables.old journal.old.events) step.now) }
     ensures same { OnErr result (here (P.state plant.new) config.new tables.new journal.new.events ≡ here (P.state plant.old) config.old tables.old journal.old.events) }
     ensures same_plant { OnErr result (P.state plant.new ≡ P.state plant.old) }
     ensures ready { IsReady (P.state plant.new) config.new tables.new journal.new.events }
@@ -695,6 +699,7 @@ fn carry_planned<P: Plant>(
     requires has_room { has_room journal.old.events ≡ true }
     ensures task { OnOk result (after_task (here (P.state plant.old) config.old tables.old journal.old.events) (record { line = number; asked = Ok step.now; listed = [] })
         ≡ here (P.state plant.new) config.new tables.new journal.new.events) }
+    ensures wanted { OnErr result (WantsRow (here (P.state plant.old) config.old tables.old journal.old.events) step.now) }
     ensures same { OnErr result (here (P.state plant.new) config.new tables.new journal.new.events ≡ here (P.state plant.old) config.old tables.old journal.old.events) }
     ensures same_plant { OnErr result (P.state plant.new ≡ P.state plant.old) }
     ensures ready { IsReady (P.state plant.new) config.new tables.new journal.new.events }
@@ -730,6 +735,7 @@ fn carry_alone<P: Plant>(
     requires alone { own_course (Ok step.now) ≡ None }
     ensures task { OnOk result (after_task (here (P.state plant.old) config.old tables.old journal.old.events) (record { line = number; asked = Ok step.now; listed = [] })
         ≡ here (P.state plant.new) config.new tables.new journal.new.events) }
+    ensures wanted { OnErr result (WantsMemory (here (P.state plant.old) config.old tables.old journal.old.events) (Ok step.now) (length journal.old.events + journal.old.spare)) }
     ensures same { OnErr result (here (P.state plant.new) config.new tables.new journal.new.events ≡ here (P.state plant.old) config.old tables.old journal.old.events) }
     ensures same_plant { OnErr result (P.state plant.new ≡ P.state plant.old) }
     ensures ready { IsReady (P.state plant.new) config.new tables.new journal.new.events }
@@ -763,6 +769,7 @@ pub fn carry_task<P: Plant>(
         ≡ here (P.state plant.new) config.new tables.new journal.new.events) }
     ensures lists { OnOk result (Lists (here (P.state plant.old) config.old tables.old journal.old.events) (task_on (here (P.state plant.old) config.old tables.old journal.old.events) (P.state plant.old).block number (Ok step.now))) }
     ensures still { OnOk result (own_course (Ok step.now) ≡ Some Devices → P.state plant.new ≡ P.state plant.old) }
+    ensures wanted { OnErr result (WantsMemory (here (P.state plant.old) config.old tables.old journal.old.events) (Ok step.now) (length journal.old.events + journal.old.spare)) }
     ensures same { OnErr result (here (P.state plant.new) config.new tables.new journal.new.events ≡ here (P.state plant.old) config.old tables.old journal.old.events) }
     ensures same_plant { OnErr result (P.state plant.new ≡ P.state plant.old) }
     ensures ready { IsReady (P.state plant.new) config.new tables.new journal.new.events }

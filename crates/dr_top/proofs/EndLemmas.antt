@@ -108,7 +108,7 @@ module _ {S K : Type 0} (left : S → Option (List ℕ)) (faults : S → ℕ) (w
 
     ends-halted : (h : Halt) → (ran : RanLine written k k' w d ts u e (Err h)) → Ends left written s0 s' k0 k' (halt_status h) taken (g.led.steps ++ ran.led.steps) u
     ends-halted OnSink ran = record { halted = halted (Err OnSink) ran; through = ran.ends.0; gave = prefix-on written k0 k k' w u ran.piece g.gave ran.says ran.ends.1 }
-    ends-halted OnMemory ran = inl (record { halted = halted (Err OnMemory) ran; gave = prefix-on written k0 k k' w u ran.piece g.gave ran.says ran.ends })
+    ends-halted OnMemory ran = inl (record { halted = halted (Err OnMemory) ran; place = ran.ends.0; gave = subst (λ x. Gave written k0 x (text w.events)) (sym ran.ends.1) g.gave })
     ends-halted Full ran = inr (inr (record { halted = halted (Err Full) ran; full = ran.ends.0; gave = gave-on written k0 k k' w.events u.events ran.piece g.gave ran.says ran.ends.1 }))
 
     streams-halted : (h : Halt) → Counted (is_on_sink (Err h)) (write_faults k) (write_faults k') → CountsStreams left written s0 s' k0 k' faults write_faults (halt_status h)

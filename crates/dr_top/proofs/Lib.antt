@@ -33,4 +33,5 @@ pub mod RefusalLemmas
 pub mod TopLemmas
 pub mod SummaryLemmas
 pub mod TriedLemmas
+pub mod WantLemmas
 pub mod TrialLemmas

@@ -1,5 +1,5 @@
 -- What is printed of a line.
-use Rattle.std.proofs.Common.{ℕ, ◌≡◌, ◌≤◌, List, ◌++◌, take, drop, length, refl, ap, ◌∙◌, sym, arith, append_assoc, inl, inr, Some, Option, Result, Ok, Err}
+use Rattle.std.proofs.Common.{ℕ, ◌≡◌, ◌≤◌, ◌⊎◌, List, ◌++◌, take, drop, length, refl, ap, ◌∙◌, sym, arith, append_assoc, inl, inr, Some, Option, Result, Ok, Err}
 use Rattle.std.proofs.lemmas.List.{append-nil, length-append, take-append-drop}
 use Rattle.std.proofs.lemmas.List.Sums.{fold-append}
 use Rattle.std.specs.Prelude.{OnOk, OnErr, IfErr}
@@ -14,7 +14,7 @@ use Rattle.dr_model.specs.Text.{text, text_from, heard, untold}
 use Rattle.dr_laws_sound.proofs.Texts.{text-append}
 use Rattle.dr_laws_sound.proofs.Journal.{after_tasks-grows}
 use Rattle.dr_top.specs.Carried.{GoesTo}
-use Rattle.dr_top.specs.Followed.{text_since, GavePrefix, IsFull}
+use Rattle.dr_top.specs.Followed.{text_since, GavePrefix, IsFull, StepWants, LacksMemory}
 use Rattle.dr_io.specs.Given.{Gave, GavePart}
 use Rattle.dr_top.specs.Ran.{RanLine, LineEnds}
 use Rattle.dr_top.specs.declared.carry.Bar.{Bar}
@@ -77,25 +77,31 @@ module _ {K : Type 0} (written : K → Option (List ℕ)) where
     gave = λ out h. more.2 (out ++ text w.events) (gave out h) ∙ ap Some (append_assoc out (text w.events) (take more.0 piece));
   }
 
+-- memory that was wanting before the text
+pub lacks : (done : ℕ) (tasks : List Task) (u : World) → StepWants done tasks u ⊎ (done ≡ 0) → LacksMemory done tasks u
+lacks done tasks u (inl step) = inl step
+lacks done tasks u (inr unread) = inr (inl unread)
+
 -- how a line ends by its printing
 module _ {K : Type 0} (written : K → Option (List ℕ)) (sink sink' : K) (done : ℕ) (tasks : List Task) (u : World) (piece : List ℕ) where
   -- after all its steps
-  pub ends-whole : (end : Result (Unit {0}) Halt) → done ≡ length tasks → OnOk end (Gave written sink sink' piece) → OnErr end (GavePart written sink sink' piece) → IfErr end (λ h. h ≡ Full → ⊥)
+  pub ends-whole : (end : Result (Unit {0}) Halt) → done ≡ length tasks → OnOk end (Gave written sink sink' piece) → OnErr end (GavePart written sink sink' piece) → IfErr end (λ h. h ≡ Full → ⊥) → IfErr end (λ h. h ≡ NoMemory → sink' ≡ sink)
       → LineEnds written sink sink' done tasks u piece end
-  ends-whole (Ok x) all whole part full = (all, whole)
-  ends-whole (Err WriteFault) all whole part full = (inl all, part)
-  ends-whole (Err NoMemory) all whole part full = part
-  ends-whole (Err Full) all whole part full = absurd (full refl)
+  ends-whole (Ok x) all whole part full none = (all, whole)
+  ends-whole (Err WriteFault) all whole part full none = (inl all, part)
+  ends-whole (Err NoMemory) all whole part full none = (inr (inr (inl all)), none refl)
+  ends-whole (Err Full) all whole part full none = absurd (full refl)
 
   -- before a step that found the journal full
-  failed : (h : Halt) → IsFull done tasks u → GavePart written sink sink' piece → (h ≡ Full → ⊥) → LineEnds written sink sink' done tasks u piece (Err h)
-  failed WriteFault is part full = (inr is, part)
-  failed NoMemory is part full = part
-  failed Full is part full = absurd (full refl)
+  failed : (h : Halt) → IsFull done tasks u → GavePart written sink sink' piece → (h ≡ Full → ⊥) → (h ≡ NoMemory → sink' ≡ sink) → LineEnds written sink sink' done tasks u piece (Err h)
+  failed WriteFault is part full none = (inr is, part)
+  failed NoMemory is part full none = (inr (inr (inr is)), none refl)
+  failed Full is part full none = absurd (full refl)
 
-  pub ends-failed : (end : Result (Unit {0}) Halt) (h : Halt) → IsErrAnd end (λ x. x ≡ h) → IsFull done tasks u → GavePart written sink sink' piece → (h ≡ Full → ⊥) → LineEnds written sink sink' done tasks u piece end
-  ends-failed (Ok x) h is at part full = absurd is
-  ends-failed (Err x) h is at part full = failed x at part (λ e. full (sym is ∙ e))
+  pub ends-failed : (end : Result (Unit {0}) Halt) (h : Halt) → IsErrAnd end (λ x. x ≡ h) → IsFull done tasks u → GavePart written sink sink' piece → (h ≡ Full → ⊥) → (h ≡ NoMemory → sink' ≡ sink)
+      → LineEnds written sink sink' done tasks u piece end
+  ends-failed (Ok x) h is at part full none = absurd is
+  ends-failed (Err x) h is at part full none = failed x at part (λ e. full (sym is ∙ e)) (λ e. none (sym is ∙ e))
 
 -- what was heard up to a place, and from there on
 pub heard-on : (events : List Event) (from : ℕ) → fold heard (fold heard untold (take from events)) (drop from events) ≡ fold heard untold events

@@ -1,10 +1,10 @@
 -- How far the steps of a line were carried out.
-use Rattle.std.specs.Prelude.{◌≡◌, ℕ, ◌≤◌, List, [], length, map, take, Result, Ok, Err}
+use Rattle.std.specs.Prelude.{◌≡◌, ℕ, ◌≤◌, ◌⊎◌, List, [], length, map, take, Result, Ok, Err}
 use Rattle.dr_model.specs.Layout.{Blocks}
 use Rattle.dr_model.specs.Control.{World}
 use Rattle.dr_model.specs.Listed.{ListsAlong, ImagesDevices, as_asked}
 use Rattle.dr_model.specs.Runs.{Task, after_tasks, run}
-use Rattle.dr_top.specs.Followed.{IsFull}
+use Rattle.dr_top.specs.Followed.{IsFull, StepWants}
 use Rattle.dr_top.specs.declared.carry.Bar.{Bar}
 use Rattle.dr_top.specs.declared.carry.Bar.TheVariants.{Full, NoMemory}
 
@@ -21,11 +21,12 @@ pub record StepsLead (w : World) (asked : List Task) (u : World) (device : ℕ �
   pub leads : after_tasks w steps ≡ u
   pub images : ImagesDevices w steps device
 
--- all steps, or those before one that found the journal full, or some, where there was no memory
+-- all steps, or those before one that found the journal full, or those before one that wanted memory; or none, where the line couldn't be read
+-- for want of it
 abbrev pub EndsBy : ℕ → List Task → World → Result (Unit {0}) Bar → Type 0
 EndsBy done tasks u (Ok x) = done ≡ length tasks
 EndsBy done tasks u (Err Full) = IsFull done tasks u
-EndsBy done tasks u (Err NoMemory) = Unit {0}
+EndsBy done tasks u (Err NoMemory) = StepWants done tasks u ⊎ (done ≡ 0)
 
 -- The first steps of a list lead from a world to another; where there are none, the devices are as they were.
 pub record GoesTo (w : World) (before : ℕ → Blocks) (tasks : List Task) (u : World) (after : ℕ → Blocks) (result : Result (Unit {0}) Bar) : Type 0 where

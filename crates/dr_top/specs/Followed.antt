@@ -1,5 +1,5 @@
 -- Where a run stands that ended within a line, and what was printed.
-use Rattle.std.specs.Prelude.{◌≡◌, ℕ, ◌+◌, ◌<◌, ◌≤◌, ◌⊎◌, List, [], ◌++◌, length, map, take, drop, Option}
+use Rattle.std.specs.Prelude.{◌≡◌, ℕ, ◌+◌, ◌<◌, ◌≤◌, ◌⊎◌, List, [], ◌++◌, length, map, take, drop, slice_get, Option, Some}
 use Rattle.std.specs.List.{fold}
 use Rattle.std.specs.Str.Lines.{lines}
 use Rattle.dr_model.specs.declared.event.Event.{Event}
@@ -10,6 +10,7 @@ use Rattle.dr_model.specs.Lines.{tasks, tasks_from}
 use Rattle.dr_model.specs.Runs.{Task, after_tasks, run}
 use Rattle.dr_model.specs.Text.{text, text_from, heard, untold}
 use Rattle.dr_io.specs.Lines.{IsOpen, most_bytes, most_lines, most_piece}
+use Rattle.dr_steps.specs.Wants.{WantsMemory}
 use Rattle.dr_top.specs.Cut.{IsClosed, IsEnded}
 use Rattle.dr_io.specs.Given.{Gave, TookAll}
 
@@ -57,6 +58,18 @@ IsFull done tasks w = (done < length tasks) × (length w.events ≡ most_events)
 -- all steps of a line were carried out, or the next one found the journal full
 abbrev pub IsThrough : ℕ → List Task → World → Type 0
 IsThrough done tasks w = (done ≡ length tasks) ⊎ IsFull done tasks w
+
+-- The next step wanted memory: there was none for its room in the journal, which isn't full, nor is its memory enough for that room by its
+-- size; or for a row of a table, and its plan is no refusal.
+pub record StepWants (done : ℕ) (tasks : List Task) (w : World) : Type 0 where
+  pub task : Task
+  pub next : slice_get tasks done ≡ Some task
+  pub wants : WantsMemory w task.asked (length w.events)
+
+-- The place where memory was wanting: the next step; or the reading of the line, of which no step was carried out; or the text of the
+-- line's answers, where all its steps were carried out, or those before one that found the journal full.
+abbrev pub LacksMemory : ℕ → List Task → World → Type 0
+LacksMemory done tasks w = StepWants done tasks w ⊎ (done ≡ 0) ⊎ IsThrough done tasks w
 
 -- the sink was given all text up to a world, and a front of that from there on
 pub record GavePrefix {K : Type 0} (written : K → Option (List ℕ)) (sink sink' : K) (start w : World) : Type 0 where

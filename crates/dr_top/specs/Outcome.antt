@@ -14,7 +14,7 @@ use Rattle.dr_model.specs.Runs.{Task}
 use Rattle.dr_model.specs.Text.{text}
 use Rattle.dr_top.specs.Cut.{IsClosed}
 use Rattle.dr_top.specs.Stands.{Stands}
-use Rattle.dr_top.specs.Followed.{IsHalted, IsThrough, IsFull, GavePrefix}
+use Rattle.dr_top.specs.Followed.{IsHalted, IsThrough, IsFull, LacksMemory, GavePrefix}
 use Rattle.dr_io.specs.Given.{Gave, GavePart, Took, TookAll}
 use Rattle.dr_top.specs.declared.status.Status.{Status}
 use Rattle.dr_top.specs.declared.status.Status.TheVariants.{Done, DoneRefused, Usage, ReadFault, WriteFault, NoMemory, TooLong, BadImage, Contradiction, NoMembers}
@@ -126,10 +126,13 @@ module _ {S K : Type 0} (left : S → Option (List ℕ)) (written : K → Option
     pub through : IsThrough halted.done halted.tasks w
     pub gave : GavePrefix written sink sink' halted.start w
 
-  -- There was no memory within a line, or for its text.
+  -- Memory was wanting within a line. When it is can't be said, for no clause counts what an allocator refuses. Where it is, can: at a step
+  -- that asks for memory, in a journal that isn't full, and not in place of a refusal; at the reading of the line; or at the text of its
+  -- answers. The answers of the lines before were printed, and of this line none.
   pub record HasNoMemory (taken : List ℕ) (steps : List Task) (w : World) : Type 0 where
     pub halted : IsHalted left source taken steps w
-    pub gave : GavePrefix written sink sink' halted.start w
+    pub place : LacksMemory halted.done halted.tasks w
+    pub gave : Gave written sink sink' (text halted.start.events)
 
   -- There was no memory to read the program's words: nothing was taken, carried out or put.
   pub record HasNotBegun (taken : List ℕ) (steps : List Task) : Type 0 where

@@ -5,7 +5,7 @@ use Rattle.dr_model.specs.Layout.{Blocks}
 use Rattle.dr_model.specs.Runs.{Task}
 use Rattle.dr_model.specs.Text.{text}
 use Rattle.dr_top.specs.Carried.{StepsLead}
-use Rattle.dr_top.specs.Followed.{IsFull, IsThrough}
+use Rattle.dr_top.specs.Followed.{IsFull, IsThrough, LacksMemory}
 use Rattle.dr_io.specs.Given.{Gave, GavePart}
 use Rattle.dr_top.specs.declared.run.Halt.{Halt}
 use Rattle.dr_top.specs.declared.run.Halt.TheVariants.{WriteFault, NoMemory, Full}
@@ -16,11 +16,11 @@ is_on_sink (Err WriteFault) = true
 is_on_sink _ = false
 
 module _ {K : Type 0} (written : K → Option (List ℕ)) (sink sink' : K) where
-  -- which steps were carried out, and whether the sink was given their text or a front of it
+  -- which steps were carried out, and whether the sink was given their text or a front of it; where memory was wanting, none of it
   abbrev pub LineEnds : ℕ → List Task → World → List ℕ → Result (Unit {0}) Halt → Type 0
   LineEnds done tasks u piece (Ok x) = (done ≡ length tasks) × Gave written sink sink' piece
   LineEnds done tasks u piece (Err WriteFault) = IsThrough done tasks u × GavePart written sink sink' piece
-  LineEnds done tasks u piece (Err NoMemory) = GavePart written sink sink' piece
+  LineEnds done tasks u piece (Err NoMemory) = LacksMemory done tasks u × (sink' ≡ sink)
   LineEnds done tasks u piece (Err Full) = IsFull done tasks u × Gave written sink sink' piece
 
   -- so many of a line's steps were carried out, and their text was printed, or a front of it

@@ -75,6 +75,7 @@ fn print_from<K: Sink>(
     ensures whole { OnOk result (Gave K.written sink.old sink.new (text_since journal.now.events from)) }
     ensures part { OnErr result (GavePart K.written sink.old sink.new (text_since journal.now.events from)) }
     ensures full { IfErr result (λ h. h ≡ Halt.Full → ⊥) }
+    ensures none { IfErr result (λ h. h ≡ Halt.NoMemory → sink.new ≡ sink.old) }
     ensures faults { Counted (is_on_sink result) (K.faults sink.old) (K.faults sink.new) }
 {
     let Ok(()) = text_on(told, journal, from, text) else {

@@ -1,7 +1,9 @@
-use Rattle.std.proofs.Common.{sym, refl}
+use Rattle.std.proofs.Common.{sym, refl, ◌+◌, ◌-◌, ap, length}
 use Rattle.dr_ids.specs.declared.refusal.Refusal.TheVariants.{JournalFull}
 use Rattle.dr_steps.specs.Here.{here}
 use Rattle.dr_steps.proofs.StepTaskLemmas.{compare-full, refused-task, refused-told, refused-faults}
+use Rattle.dr_logic.proofs.Results.{err-always}
+use Rattle.dr_steps.proofs.WantLemmas.{not-both, step-full, compare-room}
 use Rattle.dr_steps.proofs.comparing.carry_compare.Goals as goal
 
 pub returns-then-not-has_room-clause-task : goal.returns-then-not-has_room-clause-task
@@ -20,3 +22,12 @@ returns-then-not-has_room-clause-ready g c = record {
 pub returns-then-not-has_room-clause-faults : goal.returns-then-not-has_room-clause-faults
 returns-then-not-has_room-clause-faults g c f before =
     refused-faults c.args.number JournalFull c.args.journal.now.events c.refuse.new.journal.events c.refuse.result f (g.P.Plant.state c.args.plant.now).faults refl c.refuse.ensures.told c.refuse.ensures.same before
+
+pub returns-then-not-has_room-clause-wanted : goal.returns-then-not-has_room-clause-wanted
+returns-then-not-has_room-clause-wanted g c = not-both c.refuse.result _ (c.refuse.ensures.full c.requires.below (step-full c.args.journal.now.events (sym c.if-not-has_room.ensures)))
+
+pub returns-in_err-reserve-clause-wanted : goal.returns-in_err-reserve-clause-wanted
+returns-in_err-reserve-clause-wanted g c =
+    let w = here (g.P.Plant.state c.args.plant.now) c.args.config.now c.args.tables.now c.args.journal.now.events in
+    let held = length w.events + c.args.journal.now.spare in
+    err-always c.from_residual.result (compare-room w held c.args.v.0 c.args.u.0 (sym c.if-not-has_room.ensures) c.in_err-reserve.ensures.grows)

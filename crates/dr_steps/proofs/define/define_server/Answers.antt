@@ -1,7 +1,10 @@
-use Rattle.std.proofs.Common.{refl}
+use Rattle.std.proofs.Common.{refl, ap, ◌∙◌, sym, Err}
 use Rattle.dr_model.specs.declared.event.Event.TheVariants.{Server}
 use Rattle.dr_steps.proofs.DefineLemmas.{server-refused-here, server-defined, rest-server, on-refusal, along-table}
 use Rattle.dr_metro.proofs.ToldLemmas.{told-push}
+use Rattle.dr_config.specs.Rules.{refusal_of}
+use Rattle.dr_model.specs.declared.said.Addition.{Addition}
+use Rattle.dr_steps.proofs.WantLemmas.{on-no-memory, server-wants}
 use Rattle.dr_steps.proofs.define.define_server.Goals as goal
 
 pub returns-in-Ok-clause-step : goal.returns-in-Ok-clause-step
@@ -21,3 +24,9 @@ pub returns-in-Err-clause-step : goal.returns-in-Err-clause-step
 returns-in-Err-clause-step g c =
     on-refusal c.in-Err.fault _ _ c.in-Err.ensures.refused (λ r is line.
     server-refused-here (g.P.Plant.state c.args.plant.now) c.args.config.now c.args.tables.now c.args.journal.now.events line c.args.name.now c.add_server.new.self c.bytes_of.result.now r c.bytes_of.ensures is c.in-Err.ensures.same)
+
+pub returns-in-Err-clause-wanted : goal.returns-in-Err-clause-wanted
+returns-in-Err-clause-wanted g c =
+    on-no-memory Addition c.in-Err.fault _ (λ is.
+    server-wants (g.P.Plant.state c.args.plant.now) c.args.config.now c.args.tables.now c.args.journal.now.events c.args.name.now c.bytes_of.result.now c.bytes_of.ensures
+    (ap (λ f. refusal_of {T = Unit {0}} (Err f)) (sym is) ∙ c.in-Err.ensures.refused))

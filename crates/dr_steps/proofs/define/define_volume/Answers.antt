@@ -1,10 +1,13 @@
-use Rattle.std.proofs.Common.{◌∙◌, sym, ap}
+use Rattle.std.proofs.Common.{◌∙◌, sym, ap, Err}
 use Rattle.dr_model.specs.declared.said.Said.TheVariants.{Refused}
 use Rattle.dr_model.specs.Plans.{unless, volume_refusal, volume_done}
 use Rattle.dr_model.specs.Runs.{said}
 use Rattle.dr_steps.specs.Here.{here}
 use Rattle.dr_steps.proofs.DefineLemmas.{volume-refused-here, volume-defined, ready-defined, on-refusal, device-faults}
 use Rattle.dr_steps.proofs.StopLemmas.{unknown-server}
+use Rattle.dr_config.specs.Rules.{refusal_of}
+use Rattle.dr_model.specs.declared.said.Addition.{Addition}
+use Rattle.dr_steps.proofs.WantLemmas.{on-no-memory, volume-wants}
 use Rattle.dr_steps.proofs.define.define_volume.Goals as goal
 
 pub returns-in_default-clause-step : goal.returns-in_default-clause-step
@@ -34,3 +37,9 @@ returns-in-Ok-clause-ready g c =
 
 pub returns-in-Ok-clause-faults : goal.returns-in-Ok-clause-faults
 returns-in-Ok-clause-faults g c = device-faults (g.P.Plant.state c.args.plant.now) (g.P.Plant.state c.add_volume.new.plant) _ _ c.in-Ok.ensures.device
+
+pub returns-in-Err-clause-wanted : goal.returns-in-Err-clause-wanted
+returns-in-Err-clause-wanted g c =
+    on-no-memory Addition c.in-Err.fault _ (λ is.
+    volume-wants (g.P.Plant.state c.args.plant.now) c.args.config.now c.args.tables.now c.args.journal.now.events c.args.volume.0 c.args.tracks c.in-Some.server.0 c.capped-size.result c.args.name.now c.bytes_of.result.now
+    c.in-Some.ensures.sound c.bytes_of.ensures (sym c.in-Some.ensures.place) c.capped-size.ensures (ap (λ f. refusal_of {T = Unit {0}} (Err f)) (sym is) ∙ c.in-Err.ensures.refused))

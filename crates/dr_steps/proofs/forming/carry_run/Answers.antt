@@ -1,4 +1,4 @@
-use Rattle.std.proofs.Common.{[], ◌∷◌, ◌++◌, ap, sym, ◌∙◌, refl, subst}
+use Rattle.std.proofs.Common.{[], ◌∷◌, ◌++◌, ap, sym, ◌∙◌, refl, subst, ◌+◌, ◌-◌, length}
 use Rattle.dr_logic.specs.Counts.{Counted}
 use Rattle.dr_ids.specs.declared.refusal.Refusal.TheVariants.{JournalFull}
 use Rattle.dr_model.specs.Control.{World}
@@ -12,6 +12,8 @@ use Rattle.dr_steps.specs.Formed.{Reaches}
 use Rattle.dr_steps.specs.Here.{here}
 use Rattle.dr_steps.proofs.StepTaskLemmas.{told-answer, refused-task, refused-told, refused-faults, faults-step}
 use Rattle.dr_steps.proofs.FormingLemmas.{formed-task, formed-full, formed-room, stop-formed}
+use Rattle.dr_logic.proofs.Results.{err-always}
+use Rattle.dr_steps.proofs.WantLemmas.{not-both, step-full, run-room}
 use Rattle.dr_steps.proofs.forming.carry_run.Goals as goal
 
 pub returns-then-not-has_room-clause-task : goal.returns-then-not-has_room-clause-task
@@ -58,3 +60,12 @@ returns-clause-faults g c f before =
     let counts = subst (λ b. Counted b s.faults u.faults) (sym (ap is_stopped c.formed_answer.ensures ∙ stop-formed n h'.sessions.sessions r)) c.form_groups-formed.ensures.faults in
     faults-step w c.args.number (Run n c.args.groups) v c.formed_answer.result c.say.new.journal.events f s.faults u.faults
     (ap (λ (x : World). x.events) led ∙ (λ i. mid ++ answer c.args.number (sym c.formed_answer.ensures i) ∷ [])) c.say.ensures.events counts before
+
+pub returns-then-not-has_room-clause-wanted : goal.returns-then-not-has_room-clause-wanted
+returns-then-not-has_room-clause-wanted g c = not-both c.refuse.result _ (c.refuse.ensures.full c.requires.below (step-full c.args.journal.now.events (sym c.if-not-has_room.ensures)))
+
+pub returns-in_err-reserve-clause-wanted : goal.returns-in_err-reserve-clause-wanted
+returns-in_err-reserve-clause-wanted g c =
+    let w = here (g.P.Plant.state c.args.plant.now) c.args.config.now c.args.tables.now c.args.journal.now.events in
+    let held = length w.events + c.args.journal.now.spare in
+    err-always c.from_residual.result (run-room w held c.args.s.0 c.args.groups _ (ap (λ n. 1000000 - n) c.len.ensures) (sym c.if-not-has_room.ensures) c.in_err-reserve.ensures.grows)

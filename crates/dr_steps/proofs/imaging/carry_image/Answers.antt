@@ -1,4 +1,4 @@
-use Rattle.std.proofs.Common.{◌++◌, [], ◌∷◌, ap, sym, refl, ◌∙◌, Ok}
+use Rattle.std.proofs.Common.{◌++◌, [], ◌∷◌, ap, sym, refl, ◌∙◌, Ok, ◌+◌, ◌-◌, length}
 use Rattle.dr_ids.specs.declared.refusal.Refusal.TheVariants.{JournalFull}
 use Rattle.dr_model.specs.Answers.{answer}
 use Rattle.dr_model.specs.Listed.{listing}
@@ -12,6 +12,8 @@ use Rattle.dr_moves.proofs.TurnLemmas.{ok-along}
 use Rattle.dr_steps.specs.Here.{here, rest_of}
 use Rattle.dr_steps.proofs.ListingLemmas.{told-lines, image-done, image-full, full-lists, calm-answer}
 use Rattle.dr_steps.proofs.StepTaskLemmas.{told-answer, refused-task, refused-told, refused-faults}
+use Rattle.dr_logic.proofs.Results.{err-always}
+use Rattle.dr_steps.proofs.WantLemmas.{not-both, step-full, image-room}
 use Rattle.dr_steps.proofs.imaging.carry_image.Goals as goal
 
 pub returns-then-not-has_room_for-clause-task : goal.returns-then-not-has_room_for-clause-task
@@ -64,3 +66,12 @@ returns-clause-faults g c f before =
     let vs = listing (here s t h ev).control s.block in
     let told = c.image.ensures.told (rest_of h ev) ∙ ap (λ es. es ++ image_told vs) c.reserve.ensures.events in
     calm-answer ev c.image.new.journal.events c.say.new.journal.events (image_told vs) c.args.number f s.faults told (image-lines vs) c.say.ensures.events before
+
+pub returns-then-not-has_room_for-clause-wanted : goal.returns-then-not-has_room_for-clause-wanted
+returns-then-not-has_room_for-clause-wanted g c below = not-both c.refuse.result _ (c.refuse.ensures.full below (sym c.if-not-has_room_for.ensures))
+
+pub returns-in_err-reserve-clause-wanted : goal.returns-in_err-reserve-clause-wanted
+returns-in_err-reserve-clause-wanted g c below =
+    let w = here (g.P.Plant.state c.args.plant.now) c.args.config.now c.args.tables.now c.args.journal.now.events in
+    let held = length w.events + c.args.journal.now.spare in
+    err-always c.from_residual.result (image-room w held  (sym c.if-not-has_room_for.ensures) c.in_err-reserve.ensures.grows)

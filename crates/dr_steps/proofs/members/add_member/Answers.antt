@@ -1,12 +1,15 @@
-use Rattle.std.proofs.Common.{refl, ap, ◌∙◌}
+use Rattle.std.proofs.Common.{refl, sym, ap, ◌∙◌, Err}
 use Rattle.dr_model.specs.PlanParts.{unless}
 use Rattle.dr_model.specs.SessionPlans.{place_refusal, add_to, add_plan}
 use Rattle.dr_model.specs.Sessions.{session_in}
-use Rattle.dr_admin.specs.Adding.{member_planned, entries_planned, sessions_planned, enrol_refusal}
+use Rattle.dr_admin.specs.Adding.{member_planned, entries_planned, sessions_planned, enrol_refusal, unless_stop}
 use Rattle.dr_steps.specs.Here.{here, rest_of}
 use Rattle.dr_steps.proofs.LandLemmas.{ready-after}
 use Rattle.dr_steps.proofs.RelationLemmas.{relations-fit, partners-fit}
 use Rattle.dr_steps.proofs.MemberLemmas.{placed, add-misplaced, add-goes, call-done, call-failed, call-told, failed-told}
+use Rattle.dr_session.specs.Kept.{refusal_of}
+use Rattle.dr_model.specs.declared.said.Addition.{Addition}
+use Rattle.dr_steps.proofs.WantLemmas.{on-no-memory, member-wants}
 use Rattle.dr_steps.proofs.members.add_member.Goals as goal
 
 pub returns-in-Err-clause-step : goal.returns-in-Err-clause-step
@@ -63,3 +66,10 @@ returns-in-Err-enrol-clause-ready g c =
     let x = session_in h.sessions.sessions n in let m = member_planned k a in
     let u = g.P.Plant.state c.enrol.new.plant in let mid = c.enrol.new.journal.events in
     ready-after t s u h mid c.requires.ready.reads c.in-Err-enrol.ensures.rest c.in-Err-enrol.ensures.unarmed (failed-told s u t h ev mid (entries_planned k x m) c.requires.ready.reads c.requires.ready.told c.in-Err-enrol.fault (λ stop. c.in-Err-enrol.ensures.stopped stop (rest_of h ev)) (λ calm. let e = c.in-Err-enrol.ensures.unchanged calm in (e.0, ap (λ j. j.events) e.1)))
+
+pub returns-in-Err-enrol-clause-wanted : goal.returns-in-Err-enrol-clause-wanted
+returns-in-Err-enrol-clause-wanted g c =
+    let s = g.P.Plant.state c.args.plant.now in let t = c.args.config.now in let h = c.args.tables.now in let ev = c.args.journal.now.events in
+    on-no-memory Addition c.in-Err-enrol.fault _ (λ is.
+    member-wants s t h ev c.args.devs.now c.args.l.0 c.args.a.0 c.args.s.0 c.in-Ok.owner.0 c.in-Ok.ensures.there (c.in_default.ensures.refusal s h ev) (c.in-Err-enrol.ensures.plan (rest_of h ev))
+    (sym (ap (λ f. unless_stop (refusal_of {T = Unit {0}} (Err f))) (sym is) ∙ c.in-Err-enrol.ensures.refused (rest_of h ev) refl)))

@@ -1,9 +1,12 @@
-use Rattle.std.proofs.Common.{sym, ap, ◌∙◌}
+use Rattle.std.proofs.Common.{sym, ap, ◌∙◌, Err}
 use Rattle.dr_model.specs.declared.said.Said.TheVariants.{Refused}
 use Rattle.dr_model.specs.Runs.{said}
 use Rattle.dr_steps.specs.Here.{here}
 use Rattle.dr_steps.proofs.DefineLemmas.{on-refusal}
 use Rattle.dr_steps.proofs.PathLemmas.{owner-nowhere, owner-there, path-foreign, path-refused, path-made, ready-path}
+use Rattle.dr_config.specs.Rules.{refusal_of}
+use Rattle.dr_model.specs.declared.said.Addition.{Addition}
+use Rattle.dr_steps.proofs.WantLemmas.{on-no-memory, path-wants}
 use Rattle.dr_steps.proofs.paths.make_path.Goals as goal
 
 pub returns-in_default-clause-step : goal.returns-in_default-clause-step
@@ -40,3 +43,10 @@ returns-in-Err-clause-step g c =
     on-refusal c.in-Err.fault _ _ c.in-Err.ensures.refused (λ r is line.
     path-refused s t h ev line c.in-Some.ensures.sound c.args.devs.now c.args.src.0 c.args.tgt.0 c.in-Some.first.0 c.in-Some-lss_owner.second.0 (sym c.in-Some.ensures.value) (sym c.in-Some-lss_owner.ensures.value) c.in-Some.ensures.defined.below c.in-Some-lss_owner.ensures.defined.below c.args.group r (sym (c.are_named.ensures s h ev) ∙ c.if-not-are_named.false) is
     ∙ ap (λ x. said (here s x h ev) line (Refused r)) (sym c.in-Err.ensures.same))
+
+pub returns-in-Err-clause-wanted : goal.returns-in-Err-clause-wanted
+returns-in-Err-clause-wanted g c =
+    let s = g.P.Plant.state c.args.plant.now in let t = c.args.config.now in let h = c.args.tables.now in let ev = c.args.journal.now.events in
+    on-no-memory Addition c.in-Err.fault _ (λ is.
+    path-wants s t h ev c.args.devs.now c.args.src.0 c.args.tgt.0 c.in-Some.first.0 c.in-Some-lss_owner.second.0 c.args.group c.in-Some.ensures.sound (sym c.in-Some.ensures.value) (sym c.in-Some-lss_owner.ensures.value) c.in-Some.ensures.defined.below c.in-Some-lss_owner.ensures.defined.below
+    (sym (c.are_named.ensures s h ev) ∙ c.if-not-are_named.false) (ap (λ f. refusal_of {T = Unit {0}} (Err f)) (sym is) ∙ c.in-Err.ensures.refused) (λ some. c.in-Err.ensures.room some (ap Err is)))

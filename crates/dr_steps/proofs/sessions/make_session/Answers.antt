@@ -1,8 +1,11 @@
-use Rattle.std.proofs.Common.{sym, ap, ◌∙◌}
+use Rattle.std.proofs.Common.{sym, ap, ◌∙◌, Err}
 use Rattle.dr_model.specs.declared.said.Said.TheVariants.{Refused}
 use Rattle.dr_model.specs.Runs.{said}
 use Rattle.dr_steps.specs.Here.{here}
 use Rattle.dr_steps.proofs.SessionLemmas.{join-nowhere, join-foreign, join-off, join-refused, join-done, kept-said, on-fault}
+use Rattle.dr_session.specs.Kept.{refusal_of}
+use Rattle.dr_model.specs.declared.said.Addition.{Addition}
+use Rattle.dr_steps.proofs.WantLemmas.{on-no-memory, session-wants}
 use Rattle.dr_steps.proofs.sessions.make_session.Goals as goal
 
 pub returns-in_default-clause-step : goal.returns-in_default-clause-step
@@ -33,3 +36,10 @@ returns-in-Err-clause-step g c =
     on-fault c.in-Err.fault _ _ c.in-Err.ensures.refused (λ r is line.
     join-refused s t h ev line c.args.devs.now.dev c.args.l.0 c.args.s.0 c.in-Some.ensures.sound c.in-Some.owner.0 (sym c.in-Some.ensures.value) (sym (c.is_named.ensures s h ev) ∙ c.if-not-is_named.false) r (c.in_default-off_refusal.ensures.refusal t h ev) is
     ∙ kept-said s t h ev line c.join_lss.new.self (Refused r) c.in-Err.ensures.same)
+
+pub returns-in-Err-clause-wanted : goal.returns-in-Err-clause-wanted
+returns-in-Err-clause-wanted g c =
+    let s = g.P.Plant.state c.args.plant.now in let t = c.args.config.now in let h = c.args.tables.now in let ev = c.args.journal.now.events in
+    on-no-memory Addition c.in-Err.fault _ (λ is.
+    session-wants s t h ev c.args.devs.now c.args.l.0 c.args.s.0 c.in-Some.owner.0 c.in-Some.ensures.sound (sym c.in-Some.ensures.value) (sym (c.is_named.ensures s h ev) ∙ c.if-not-is_named.false)
+    (c.in_default-off_refusal.ensures.refusal t h ev) (ap (λ f. refusal_of {T = Unit {0}} (Err f)) (sym is) ∙ c.in-Err.ensures.refused))

@@ -1,9 +1,11 @@
-use Rattle.std.proofs.Common.{ap, ◌∙◌, ◌≡◌, ◌++◌, ◌∷◌, [], Some, None}
+use Rattle.std.proofs.Common.{ap, sym, ◌∙◌, ◌≡◌, ◌++◌, ◌∷◌, [], Some, None, Err}
 use Rattle.dr_plant.specs.State.{PlantState}
 use Rattle.dr_host.specs.Writes.{written, with_write}
 use Rattle.dr_model.specs.declared.event.Event.TheVariants.{Issue}
 use Rattle.dr_ids.specs.declared.names.WriteId.{WriteId}
 use Rattle.dr_steps.proofs.StepLemmas.{issues-nowhere, issues-by, fault-refused, issued-told, any_plant}
+use Rattle.dr_config.specs.Rules.{refusal_of}
+use Rattle.dr_steps.proofs.WantLemmas.{on-no-memory}
 use Rattle.dr_steps.proofs.steps.issue_write.Goals as goal
 
 pub returns-in-Err-clause-refused : goal.returns-in-Err-clause-refused
@@ -33,3 +35,8 @@ pub returns-in-Err-issue-clause-refused : goal.returns-in-Err-issue-clause-refus
 returns-in-Err-issue-clause-refused c =
     let t = c.args.config.now in let h = c.args.tables.now in let ev = c.args.journal.now.events in let x = c.args.write.now in
     fault-refused WriteId c.in-Err-issue.fault _ _ c.in-Err-issue.ensures.refused (λ r is s. issues-by s t h ev x.volume.0 x.track (Some r) (c.in-Ok.ensures s h ev).0 is)
+
+pub returns-in-Err-issue-clause-wanted : goal.returns-in-Err-issue-clause-wanted
+returns-in-Err-issue-clause-wanted c =
+    let t = c.args.config.now in let h = c.args.tables.now in let ev = c.args.journal.now.events in let x = c.args.write.now in
+    on-no-memory WriteId c.in-Err-issue.fault _ (λ is s. issues-by s t h ev x.volume.0 x.track None (c.in-Ok.ensures s h ev).0 (ap (λ f. refusal_of {T = WriteId} (Err f)) (sym is) ∙ c.in-Err-issue.ensures.refused))

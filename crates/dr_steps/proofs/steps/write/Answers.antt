@@ -8,6 +8,8 @@ use Rattle.dr_ids.specs.declared.names.WriteId.{WriteId}
 use Rattle.dr_steps.specs.Here.{here}
 use Rattle.dr_steps.proofs.StepLemmas.{issued-there, issued-lands, fault-says, plan-unless}
 use Rattle.dr_steps.proofs.RelationLemmas.{relations-fit, partners-fit}
+use Rattle.dr_model.specs.declared.said.Said.{Said}
+use Rattle.dr_steps.proofs.WantLemmas.{no-memory-weaker, write-wants}
 use Rattle.dr_steps.proofs.steps.write.Goals as goal
 
 pub carry_write-requires-clause-found : goal.carry_write-requires-clause-found
@@ -43,3 +45,9 @@ returns-in-Err-clause-step g c =
     fault-says WriteId c.in-Err.fault _ _ (λ r is line.
     plan-unless w line (write_done w.control x.volume.0 x.track x.offset x.len x.bytes) (issue_refusal w.control x.volume.0 x.track) r (is s)
     ∙ (λ i. said (here s t (sym c.in-Err.ensures.same i) (sym c.in-Err.ensures.untold i)) line (Refused r))) c.in-Err.ensures.refused
+
+pub returns-in-Err-clause-wanted : goal.returns-in-Err-clause-wanted
+returns-in-Err-clause-wanted g c =
+    let s = g.P.Plant.state c.args.plant.now in let t = c.args.config.now in let h = c.args.tables.now in let ev = c.args.journal.now.events in
+    let x = c.args.write.now in
+    no-memory-weaker WriteId Said c.in-Err.fault _ _ (λ free. write-wants s t h ev x.volume.0 x.track x.offset x.len x.bytes (free s)) c.in-Err.ensures.wanted

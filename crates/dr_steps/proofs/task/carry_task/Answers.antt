@@ -1,11 +1,11 @@
-use Rattle.std.proofs.Common.{◌≡◌, ap, refl, subst, sym, Ok, Some}
-use Rattle.std.specs.Prelude.{OnOk}
+use Rattle.std.proofs.Common.{◌≡◌, ◌+◌, ap, refl, subst, sym, length, Ok, Some}
+use Rattle.std.specs.Prelude.{OnOk, OnErr}
 use Rattle.dr_model.specs.Listed.{Lists, task_on}
-use Rattle.dr_model.specs.Runs.{Groups, Volumes, after_task}
-use Rattle.dr_model.specs.Runs.{Task, own_course}
+use Rattle.dr_model.specs.Runs.{Groups, Volumes, after_task, Task, own_course}
 use Rattle.dr_model.specs.declared.step.Step.{Step}
 use Rattle.dr_moves.proofs.TurnLemmas.{ok-along}
 use Rattle.dr_steps.specs.Here.{here}
+use Rattle.dr_steps.specs.Wants.{WantsMemory}
 use Rattle.dr_steps.proofs.StepTaskLemmas.{none-apart, lists-nothing, lists-none, no-devices}
 use Rattle.dr_steps.proofs.task.carry_task.Goals as goal
 
@@ -76,3 +76,18 @@ returns-in_default-clause-lists g c =
 pub returns-in_default-clause-still : goal.returns-in_default-clause-still
 returns-in_default-clause-still g c =
     ok-along c.carry_alone.result c.carry_alone.ensures.task (λ done. no-devices c.args.step.now _ (none-apart c.args.step.now c.in_default.not-Run c.in_default.not-Compare c.in_default.not-Image) (λ same. cc same))
+
+pub returns-in-Run-clause-wanted : goal.returns-in-Run-clause-wanted
+returns-in-Run-clause-wanted g c =
+    let w = here (g.P.Plant.state c.args.plant.now) c.args.config.now c.args.tables.now c.args.journal.now.events in
+    subst (λ (x : Step). OnErr c.carry_run.result (WantsMemory w (Ok x) (length w.events + c.args.journal.now.spare))) (sym c.in-Run.is) (c.carry_run.ensures.wanted)
+
+pub returns-in-Compare-clause-wanted : goal.returns-in-Compare-clause-wanted
+returns-in-Compare-clause-wanted g c =
+    let w = here (g.P.Plant.state c.args.plant.now) c.args.config.now c.args.tables.now c.args.journal.now.events in
+    subst (λ (x : Step). OnErr c.carry_compare.result (WantsMemory w (Ok x) (length w.events + c.args.journal.now.spare))) (sym c.in-Compare.is) (c.carry_compare.ensures.wanted)
+
+pub returns-in-Image-clause-wanted : goal.returns-in-Image-clause-wanted
+returns-in-Image-clause-wanted g c =
+    let w = here (g.P.Plant.state c.args.plant.now) c.args.config.now c.args.tables.now c.args.journal.now.events in
+    subst (λ (x : Step). OnErr c.carry_image.result (WantsMemory w (Ok x) (length w.events + c.args.journal.now.spare))) (sym c.in-Image.is) (c.carry_image.ensures.wanted c.requires.below)

@@ -1,4 +1,4 @@
-use Rattle.std.proofs.Common.{◌≡◌, ◌<◌, ◌≤◌, ◌+◌, ◌∙◌, refl, sym, ap, subst, arith, take, length, Ok}
+use Rattle.std.proofs.Common.{◌≡◌, ◌<◌, ◌≤◌, ◌+◌, ◌∙◌, refl, sym, ap, subst, arith, take, length, Ok, inl}
 use Rattle.std.specs.Option.{option_copied}
 use Rattle.dr_model.specs.Limits.{most_events}
 use Rattle.dr_model.specs.Lines.{tasks_read}
@@ -8,7 +8,9 @@ use Rattle.dr_top.proofs.ReachLemmas.{reached-sound, reached-issued, reached-roo
 use Rattle.dr_plant.specs.State.{PlantState}
 use Rattle.dr_model.specs.Listed.{task_on}
 use Rattle.dr_top.specs.Carried.{StepsLead}
+use Rattle.dr_top.specs.Followed.{StepWants}
 use Rattle.dr_top.proofs.LeadLemmas.{led-none, led-more, reached-led, none-taken}
+use Rattle.dr_top.proofs.WantLemmas.{step-wants}
 use Rattle.dr_top.proofs.carry.carry_steps.Goals as goal
 
 pub loop-i-init : goal.loop-i-init
@@ -104,5 +106,6 @@ returns-in_default-clause-goes g c =
       within = omega (arith, lt, len, count);
       led = subst (λ x. StepsLead w asked x (g.P.Plant.state c.carry_task.new.plant).block) (sym c.in_default.ensures.same) (subst (λ device. StepsLead w asked v device) (sym blocks) c.loop-i.invariant.led);
       still = λ none. blocks ∙ c.loop-i.invariant.still (none-taken c.loop-i.i (tasks_read c.args.number (Ok c.args.line.now)) (omega (arith, lt, len, count)) none);
-      ends = tt;
+      ends = inl (subst (λ x. StepWants c.loop-i.i (tasks_read c.args.number (Ok c.args.line.now)) x) (sym c.in_default.ensures.same)
+          (step-wants c.args.number c.args.line.now c.loop-i.i c.unwrap-step.result.now v c.loop-i.journal.spare (sym c.step.ensures ∙ ap option_copied c.unwrap-step.ensures) c.in_default.ensures.wanted));
     }

@@ -1,4 +1,4 @@
-use Rattle.std.proofs.Common.{◌≤◌, ◌∙◌, take, sym, ap, subst, length, Ok, Err}
+use Rattle.std.proofs.Common.{◌≤◌, ◌∙◌, take, refl, sym, ap, subst, length, Ok, Err}
 use Rattle.std.specs.Prelude.{OnOk, OnErr}
 use Rattle.std.specs.List.{fold}
 use Rattle.dr_model.specs.Text.{heard, untold}
@@ -7,9 +7,9 @@ use Rattle.dr_top.specs.Carried.{GoesTo}
 use Rattle.dr_top.specs.Followed.{text_since}
 use Rattle.dr_io.specs.Given.{Gave, GavePart}
 use Rattle.dr_steps.specs.Here.{here}
-use Rattle.dr_top.specs.declared.carry.Bar.TheVariants.{Full as BarFull}
+use Rattle.dr_top.specs.declared.carry.Bar.TheVariants.{Full as BarFull, NoMemory as BarNoMemory}
 use Rattle.dr_top.specs.declared.run.Halt.TheVariants.{NoMemory, Full}
-use Rattle.dr_top.proofs.RunLemmas.{carried-longer, carried-before, ran-line, gave-none, ends-whole, ends-failed}
+use Rattle.dr_top.proofs.RunLemmas.{carried-longer, carried-before, ran-line, lacks, ends-whole, ends-failed}
 use Rattle.dr_top.proofs.run.run_line.Goals as goal
 
 pub print_from-requires : goal.print_from-requires
@@ -39,7 +39,7 @@ returns-in-Ok-clause-ran g c =
     (ends-whole g.K.Sink.written sink after c.in-Ok.ensures.goes.done (tasks_of c.args.number c.args.line.now) u (text_since u.events (length w.events)) end c.in-Ok.ensures.goes.ends
     (subst (λ n. OnOk end (Gave g.K.Sink.written sink after (text_since u.events n))) c.len-from.ensures c.print_from.ensures.whole)
     (subst (λ n. OnErr end (GavePart g.K.Sink.written sink after (text_since u.events n))) c.len-from.ensures c.print_from.ensures.part)
-    c.print_from.ensures.full)
+    c.print_from.ensures.full c.print_from.ensures.none)
 
 pub returns-in_err-print_from-in-Err-Full-clause-ran : goal.returns-in_err-print_from-in-Err-Full-clause-ran
 returns-in_err-print_from-in-Err-Full-clause-ran g c =
@@ -52,7 +52,7 @@ returns-in_err-print_from-in-Err-Full-clause-ran g c =
     (ends-failed g.K.Sink.written sink after goes.done (tasks_of c.args.number c.args.line.now) u (text_since u.events (length w.events)) c.from_residual.result
     c.in_err-print_from-in-Err-Full.field-0.0 c.from_residual.ensures.1 goes.ends
     (subst (λ n. GavePart g.K.Sink.written sink after (text_since u.events n)) c.len-from.ensures c.in_err-print_from-in-Err-Full.ensures.part)
-    c.in_err-print_from-in-Err-Full.ensures.full)
+    c.in_err-print_from-in-Err-Full.ensures.full c.in_err-print_from-in-Err-Full.ensures.none)
 
 pub returns-in_ok-print_from-in-Err-Full-clause-ran : goal.returns-in_ok-print_from-in-Err-Full-clause-ran
 returns-in_ok-print_from-in-Err-Full-clause-ran g c =
@@ -66,5 +66,6 @@ pub returns-in-Err-NoMemory-clause-ran : goal.returns-in-Err-NoMemory-clause-ran
 returns-in-Err-NoMemory-clause-ran g c =
     let w = here (g.P.Plant.state c.args.plant.now) c.args.config.now c.args.tables.now c.args.journal.now.events in
     let u = here (g.P.Plant.state c.carry_line.new.plant) c.carry_line.new.config c.carry_line.new.tables c.carry_line.new.journal.events in
-    ran-line g.K.Sink.written c.args.sink.now c.args.sink.now w u (g.P.Plant.state c.args.plant.now).block (g.P.Plant.state c.carry_line.new.plant).block (tasks_of c.args.number c.args.line.now) c.carry_line.result c.carry_line.ensures.goes (Err NoMemory)
-    (gave-none g.K.Sink.written c.args.sink.now (text_since u.events (length w.events)))
+    let goes = subst (λ b. GoesTo w (g.P.Plant.state c.args.plant.now).block (tasks_of c.args.number c.args.line.now) u (g.P.Plant.state c.carry_line.new.plant).block (Err b)) c.in-Err-NoMemory.field-0-is c.in-Err-NoMemory.ensures.goes in
+    ran-line g.K.Sink.written c.args.sink.now c.args.sink.now w u (g.P.Plant.state c.args.plant.now).block (g.P.Plant.state c.carry_line.new.plant).block (tasks_of c.args.number c.args.line.now) (Err BarNoMemory) goes (Err NoMemory)
+    (lacks goes.done (tasks_of c.args.number c.args.line.now) u goes.ends, refl)
