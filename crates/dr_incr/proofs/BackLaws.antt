@@ -1,26 +1,24 @@
 -- What a restore brings back.
-use Rattle.std.proofs.Common.{ℕ, List, [], ◌∷◌, Option, ◌≡◌, ◌≢◌, ◌+◌, arith, Bool, true, false, not, ◌&&◌, ◌||◌, cond, nat_eq, nat_lt, inl, inr, refl, sym, ◌∙◌, ap, None, Some, slice_get}
-use Rattle.std.specs.Prelude.{if◌then◌else◌, filter}
+use Rattle.std.proofs.Common.{ℕ, List, ◌≡◌, ◌≢◌, Bool, true, false, not, ◌&&◌, nat_eq, nat_lt, inl, inr, refl, sym, ◌∙◌, ap, None, Some}
+use Rattle.std.specs.Prelude.{if◌then◌else◌}
 use Rattle.std.specs.List.{range_with_len}
-use Rattle.std.specs.Cmp.{nat_cmp_total}
-use Rattle.std.specs.FinSet.{contains, insert, remove, union, len, len-insert}
-use Rattle.std.proofs.lemmas.Bool.Decides.{eqb_tells, nat_tests}
+use Rattle.std.specs.FinSet.{contains, remove, union}
+use Rattle.std.proofs.lemmas.Bool.Decides.{eqb_tells}
 use Rattle.std.proofs.lemmas.Bool.{or_parts}
 use Rattle.dr_logic.specs.Bytes.{zeros}
 use Rattle.dr_bits.specs.Tracks.{Tracks}
-use Rattle.dr_bits.proofs.Laws.{same_tracks, contains-insert_tracks, contains-remove_tracks, contains-union_tracks}
+use Rattle.dr_bits.proofs.Laws.{contains-remove_tracks, contains-union_tracks}
 use Rattle.dr_plant.specs.State.{PlantState}
 use Rattle.dr_config.specs.Table.{ConfigTable, place_of}
-use Rattle.dr_config.specs.declared.entries.VolumeEntry.{VolumeEntry}
 use Rattle.dr_model.specs.Control.{Volume}
-use Rattle.dr_model.specs.Layout.{Blocks, Fields, physical}
+use Rattle.dr_model.specs.Layout.{Fields}
 use Rattle.dr_model.specs.Moves.{tracks_after}
 use Rattle.dr_model.specs.Relations.{in_order, lowest, is_bare, turned, given_up, restored, withdrawn_if}
 use Rattle.dr_model.specs.Views.{shows_source}
 use Rattle.dr_volume.specs.Update.{IsMoved, OthersStay}
-use Rattle.dr_volume.specs.View.{volume_seen, track_seen, volume_at, track_at, volume_on, track_on}
+use Rattle.dr_volume.specs.View.{volume_seen, track_seen}
 use Rattle.dr_moves.specs.Fit.{RelationsFit}
-use Rattle.dr_flash.proofs.CheckLemmas.{same-test, differ-test}
+use Rattle.dr_flash.proofs.CheckLemmas.{differ-test}
 use Rattle.dr_moves.proofs.SetLaws.{contains-rest}
 use Rattle.dr_flash.proofs.ViewLemmas.{view-source, view-own}
 use Rattle.dr_flash.specs.Views.{view_seen}
@@ -30,7 +28,7 @@ use Rattle.dr_incr.specs.Steps.{HasFitSets}
 use Rattle.dr_incr.proofs.RestoreLemmas.{union-held}
 use Rattle.dr_incr.proofs.TargetLemmas.{TargetOf}
 use Rattle.dr_model.proofs.LawfulLemmas.{removed}
-use Rattle.dr_flash.proofs.ShowLemmas.{past-on, past-at}
+use Rattle.dr_flash.proofs.ShowLemmas.{past-at}
 use Rattle.dr_logic.proofs.Lists.{first-held}
 use Rattle.dr_facts.proofs.Tracks.{bare-has}
 

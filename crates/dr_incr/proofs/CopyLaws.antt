@@ -1,72 +1,28 @@
 -- After a resynchronization a target shows its source's tracks.
-use Rattle.std.proofs.Common.{ℕ, List, [], ◌≡◌, Bool, true, false, not, ◌&&◌, cond, refl, sym, ◌∙◌, ap, None, Some, Option}
+use Rattle.std.proofs.Common.{ℕ, List, ◌≡◌, true, false, not, ◌&&◌, refl, sym, ◌∙◌, ap, None, Option}
 use Rattle.std.specs.Prelude.{if◌then◌else◌}
 use Rattle.std.specs.FinSet.{contains, difference}
-use Rattle.std.proofs.lemmas.Bool.{not-true, and_parts}
-use Rattle.dr_logic.specs.Tables.{at}
 use Rattle.dr_logic.specs.Bytes.{zeros}
-use Rattle.dr_bits.specs.Tracks.{Tracks}
 use Rattle.dr_plant.specs.State.{PlantState}
 use Rattle.dr_config.specs.Table.{ConfigTable}
 use Rattle.dr_model.specs.Layout.{Fields}
-use Rattle.dr_model.specs.Control.{Volume, World}
-use Rattle.dr_model.specs.Carry.{Ended, Turn, update, ended, pass, counts_by, writes, spent, off}
-use Rattle.dr_model.specs.Moves.{Carried, moved, updated, tracks_after}
+use Rattle.dr_model.specs.Control.{Volume}
+use Rattle.dr_model.specs.Moves.{Carried, moved, tracks_after}
 use Rattle.dr_model.specs.Relations.{resynced}
-use Rattle.dr_model.specs.Views.{shows_source, source_of}
+use Rattle.dr_model.specs.Views.{shows_source}
 use Rattle.dr_model.specs.declared.event.Event.{Event}
 use Rattle.dr_volume.specs.View.{Rest, volume_seen, track_seen}
 use Rattle.dr_model.specs.Laws.{Structure, Blank, Recorded}
 use Rattle.dr_model.specs.Table.{table}
-use Rattle.dr_flash.proofs.CheckLemmas.{same-test}
 use Rattle.dr_incr.specs.Steps.{HasFitSets}
 use Rattle.dr_volume.specs.Update.{IsAsBefore, IsMoved, OthersStay}
 use Rattle.dr_moves.specs.Fit.{RelationsFit}
 use Rattle.dr_moves.specs.Here.{world_seen}
-use Rattle.dr_moves.specs.Turns.{made_by}
-use Rattle.dr_moves.specs.declared.told.Telling.{Telling}
 use Rattle.dr_flash.specs.Views.{view_seen}
 use Rattle.dr_incr.specs.Copies.{HoldsUnchanged, BlankAreZeros}
 use Rattle.dr_incr.proofs.TargetLemmas.{TargetOf}
 use Rattle.dr_flash.proofs.StructureLaws.{related-source}
-use Rattle.dr_logic.proofs.Sets.{in_difference}
 use Rattle.dr_facts.proofs.Tracks.{from_difference}
-use Rattle.dr_logic.proofs.Tables.{at_same}
-
--- what a move that was done made of its volume
-record IsDone (w u : World) (v : ℕ) (f : Fields) (c : Carried) : Type 0 where
-  contents : u.contents ≡ at w.contents v (tracks_after f c (w.contents v))
-  volume : u.control.volume ≡ at w.control.volume v (moved (w.control.volume v) f c)
-
-never : {x y : World} {s : ℕ} → ◌≡◌ {A = Turn} (x, Some s) (y, None) → ⊥
-never h = let e = ap (λ (t : Turn). t.1) h in cc
-
-done-by : (w u : World) (v : ℕ) (f : Fields) (c : Carried) (server : ℕ) (told : Telling) → made_by (update w v f c) server told ≡ (u, None) → IsDone w u v f c
-unfolding update
-done-by w u v f c server told = pick (w.control.on (w.control.volume v).server) (pass (w.control.fuse (w.control.volume v).server) (writes c)) (counts_by (w.control.fuse (w.control.volume v).server) (not (w.control.volume v).slot))
-  where
-    ways : Bool → Bool → Bool → Ended
-    ways on passes counts =
-        let s : ℕ = (w.control.volume v).server in
-        cond (not on) (ended w true false) (cond passes (ended (spent (updated w v f c) s (writes c)) false true) (cond counts (ended (off (updated w v f c) s) true true) (ended (off w s) true false)))
-
-    pick : (on passes counts : Bool) → made_by (ways on passes counts) server told ≡ (u, None) → IsDone w u v f c
-    pick true true counts h = record { contents = sym (ap (λ (t : Turn). t.0.contents) h); volume = sym (ap (λ (t : Turn). t.0.control.volume) h) }
-    pick false passes counts h = absurd (never h)
-    pick true false true h = absurd (never h)
-    pick true false false h = absurd (never h)
-
-nothing_else : Rest
-nothing_else = record { issued = 0; pending = []; sessions = []; events = [] }
-
-pub moved-by : (s u : PlantState) (t : ConfigTable) (v : ℕ) (f : Fields) (c : Carried) (server : ℕ) (told : Telling) (old now : List Event)
-    → ((r : Rest) → made_by (update (world_seen s t r old) v f c) server told ≡ (world_seen u t r now, None)) → IsMoved s u t v f c
-moved-by s u t v f c server told old now done =
-    let x = done-by (world_seen s t nothing_else old) (world_seen u t nothing_else now) v f c server told (done nothing_else) in
-    record {
-      volume = ap (λ (g : ℕ → Volume). g v) x.volume ∙ at_same (volume_seen s t) v (moved (volume_seen s t v) f c);
-      tracks = ap (λ (g : ℕ → ℕ → List ℕ). g v) x.contents ∙ at_same (track_seen s t) v (tracks_after f c (track_seen s t v));
-    }
 
 pub copy-shown : (s u : PlantState) (c : ConfigTable) (v t : ℕ) (sequence : Option ℕ) → RelationsFit s c → TargetOf s c v t → IsMoved s u c t (resynced sequence (volume_seen s c t).fields) None → OthersStay s u c t
     → ((k : ℕ) → contains (volume_seen s c t).fields.own k ≡ true → contains (volume_seen s c t).fields.source_changes k ≡ false → contains (volume_seen s c t).fields.target_changes k ≡ false → track_seen s c t k ≡ track_seen s c (volume_seen s c t).fields.source k)

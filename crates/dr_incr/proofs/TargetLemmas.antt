@@ -1,11 +1,10 @@
 -- The targets of a source, from one volume of the configuration to the next, and what a target shares with its source.
-use Rattle.std.proofs.Common.{ℕ, zero, suc, arith, rules, ◌≡◌, ◌≢◌, ◌≤◌, ◌<◌, ◌+◌, Bool, true, false, not, ◌&&◌, ◌||◌, List, [], ◌∷◌, cond, drop, length, refl, sym, ◌∙◌, ap, subst, nat_eq, inl, inr, Some, option_map, slice_get, None}
+use Rattle.std.proofs.Common.{ℕ, zero, suc, arith, ◌≡◌, ◌≢◌, ◌≤◌, ◌<◌, ◌+◌, Bool, true, false, not, ◌&&◌, ◌||◌, List, [], ◌∷◌, cond, drop, length, refl, sym, ◌∙◌, ap, subst, nat_eq, inl, inr, Some, option_map, slice_get, None}
 use Rattle.std.specs.Prelude.{filter, is_some}
 use Rattle.std.specs.List.{list_any, range_with_len}
 use Rattle.std.proofs.lemmas.List.{drop_all}
 use Rattle.std.proofs.lemmas.Bool.Decides.{eqb_tells, Decides-eqb}
-use Rattle.std.specs.FinSet.{contains, empty, members}
-use Rattle.std.specs.Ordering.{nat_cmp}
+use Rattle.std.specs.FinSet.{contains}
 use Rattle.std.proofs.lemmas.Bool.{and_parts}
 use Rattle.dr_bits.specs.Tracks.{Tracks}
 use Rattle.dr_model.specs.Control.{Volume}
@@ -23,8 +22,7 @@ use Rattle.dr_volume.specs.View.{volume_seen, ids_of}
 use Rattle.dr_moves.specs.Fit.{SourceFits, RelationsFit}
 use Rattle.dr_flash.proofs.CopyLemmas.{ids-next}
 use Rattle.dr_incr.specs.Steps.{keeps_of, IsRestoredOnto}
-use Rattle.dr_logic.proofs.Lists.{filter-none}
-use Rattle.dr_facts.proofs.Tracks.{empty_has, empty-lowest}
+use Rattle.dr_facts.proofs.Tracks.{empty-lowest}
 
 -- whether one of those from a place on passes both tests
 abbrev pub any_from : (ℕ → Bool) → (ℕ → Bool) → ConfigTable → ℕ → Bool

@@ -3,11 +3,7 @@
 use Rattle.std.specs.Prelude.{◌≡◌, ℕ, true, List, [], ◌∷◌, ◌++◌, map, Option, option_map}
 use Rattle.dr_ids.specs.declared.names.VolumeId.{VolumeId}
 use Rattle.dr_ids.specs.declared.refusal.Refusal.{Refusal}
-use Rattle.dr_model.specs.declared.event.Event.{Event}
-use Rattle.dr_model.specs.declared.event.Event.TheVariants.{Left}
-use Rattle.dr_model.specs.Layout.{Tracks, Fields}
-use Rattle.dr_moves.specs.declared.told.Told.TheVariants.{Returned}
-use Rattle.dr_moves.specs.declared.told.Telling.{Telling}
+use Rattle.dr_model.specs.Layout.{Fields}
 use Rattle.dr_model.specs.Laws.{SetsFit}
 use Rattle.dr_model.specs.Control.{Control}
 use Rattle.dr_model.specs.Moves.{Resync, Reverse}
@@ -49,15 +45,6 @@ volume_number v = option_map (λ (x : VolumeId). x.0) v
 pub record IsAsked (k : Control) (t : ℕ) (unsettled : Option Refusal) (left : Option VolumeId) : Type 0 where
   pub why : restore_refusal t k ≡ unsettled
   pub leaves : left_by k t ≡ volume_number left
-
--- what is told of a target that leaves this session, which has the member with that primary
-abbrev pub left_event : Option ℕ → ℕ → Option Event
-left_event left s = option_map (Left s) left
-
--- what is told of a target that gives tracks back: that it leaves its session, where it does, and that the restore has ended,
--- where it has no more of its own
-abbrev pub returned_told : Option Event → ℕ → ℕ → ℕ → Tracks → Telling
-returned_told left v s n own = record { done = Returned left v s n own; in_stop = Returned left v s n own; landed = 0 }
 
 -- the other targets of s keep the lowest track that t holds
 abbrev pub keeps_of : List ℕ → ℕ → ℕ → List Entry

@@ -17,11 +17,11 @@ ghost use Rattle.dr_incr.specs.Copies.{HoldsUnchanged};
 ghost use Rattle.dr_incr.specs.Steps.{resync_entries};
 
 use crate::checks::target_refusal;
-use crate::moves::renew;
 use dr_config::Config;
 use dr_flash::counted_refusal;
 use dr_ids::{Refusal, VolumeId};
 use dr_model::Journal;
+use dr_moves::{Move, make_move};
 use dr_plant::Plant;
 use dr_volume::peek_fields;
 
@@ -64,5 +64,11 @@ pub fn resync<P: Plant>(
     if let Some(why) = target_refusal(plant, config, s, t, first) {
         return Err(why);
     }
-    renew(plant, config, journal, t, sequence)
+    make_move(
+        plant,
+        config,
+        journal,
+        &Move::Resync { v: t, sequence },
+        None,
+    )
 }

@@ -19,12 +19,12 @@ ghost use Rattle.dr_incr.specs.Copies.{HoldsUnchanged, BlankAreZeros, Restores};
 ghost use Rattle.dr_incr.specs.Steps.{HasFitSets, IsAsked, IsRestoredOnto, reverse_entries};
 
 use crate::checks::{lone_refusal, target_refusal};
-use crate::moves::{give_up, take_back, turn_back};
+use crate::moves::take_back;
 use crate::others::keep_others;
 use dr_config::Config;
 use dr_ids::{Refusal, VolumeId};
 use dr_model::Journal;
-use dr_moves::{lowest, tracks_of};
+use dr_moves::{Move, lowest, make_move, tracks_of};
 use dr_plant::Plant;
 use dr_volume::peek_fields;
 
@@ -75,7 +75,7 @@ pub fn reverse_start<P: Plant>(
     if let Some(why) = lone_refusal(plant, config, s, t) {
         return Err(why);
     }
-    turn_back(plant, config, journal, t, left)
+    make_move(plant, config, journal, &Move::Reverse { v: t, left }, None)
 }
 
 /// Target t, which is restored and whose server is on, gives up the lowest track that it holds, which its source holds by
@@ -112,7 +112,7 @@ pub fn reverse_finish<P: Plant>(
 {
     let fields = peek_fields(plant, config, t);
     let k = lowest(tracks_of(config, t), &fields.own).unwrap();
-    give_up(plant, config, journal, t, k)
+    make_move(plant, config, journal, &Move::Release { v: t, t: k }, None)
 }
 
 /// Track k, the lowest that t holds, comes back to s, the source of t.
