@@ -41,7 +41,7 @@ use Rattle.dr_flash.proofs.CopyLemmas.{ids-next}
 use Rattle.dr_moves.proofs.KeptLemmas.{wider-armed}
 use Rattle.dr_facts.proofs.Ends.{ends-off, ends-none, ends-skips, ends-goes, ends-stops, ends-wider}
 use Rattle.dr_moves.proofs.ReadLemmas.{on-running, is-armed}
-use Rattle.dr_coord.specs.Standing.{StandsReady}
+use Rattle.dr_moves.specs.Ready.{StandsReady}
 use Rattle.dr_admin.specs.Answering.{Comes, write_number}
 use Rattle.dr_admin.specs.Starting.{hosted, IsLater, IsStarting, start_from, start_events, acks, without_acked}
 use Rattle.dr_admin.proofs.OwnerLemmas.{belongs-seen, own-server, other-server}

@@ -1,6 +1,6 @@
 //! A volume goes on as its server starts.
 
-ghost use Rattle.std.specs.Prelude.{◌≡◌, ℕ, ◌≤◌, ◌+◌, false, true, length, None, Some, OnOk, OnErr, is_err};
+ghost use Rattle.std.specs.Prelude.{◌≡◌, ℕ, ◌≤◌, ◌+◌, false, length, None, Some, OnOk, OnErr, is_err};
 ghost use Rattle.dr_logic.specs.Counts.{Counted};
 ghost use Rattle.dr_config.specs.Table.{StandsFor};
 ghost use Rattle.dr_model.specs.Carry.{now};
@@ -11,15 +11,15 @@ ghost use Rattle.dr_volume.specs.Update.{OthersStay};
 ghost use Rattle.dr_volume.specs.View.{Rest, volume_seen, IsSettled};
 ghost use Rattle.dr_moves.specs.Here.{world_seen, refusal_of, armed_in};
 ghost use Rattle.dr_moves.specs.Turns.{Advances, Halts};
-ghost use Rattle.dr_coord.specs.Standing.{StandsReady};
+ghost use Rattle.dr_moves.specs.Ready.{StandsReady};
 
 use crate::fields::must_restart;
 use dr_config::Config;
 use dr_ids::{Refusal, VolumeId};
-use dr_model::{Event, Journal};
-use dr_moves::{restarted, server_of};
+use dr_model::Journal;
+use dr_moves::{Move, make_ready};
 use dr_plant::Plant;
-use dr_volume::{peek_fields, update};
+use dr_volume::peek_fields;
 
 /// Lets a volume go on, in any case.
 fn go_on<P: Plant>(
@@ -46,17 +46,11 @@ fn go_on<P: Plant>(
     ensures told { OnOk result (journal.new ≡ journal.old) }
     ensures spare { length journal.new.events + journal.new.spare ≡ length journal.old.events + journal.old.spare }
 {
-    let next = restarted(&peek_fields(plant, config, v));
-    match update(plant, config, v, &next, None) {
+    match make_ready(plant, config, journal, &Move::Restart { v }, None) {
         Ok(()) => Ok(()),
-        Err(_) => {
-            let server = server_of(config, v);
-            journal.push(Event::Stopped {
-                server: server.0,
-                write: 0,
-            });
-            Err(Refusal::Stopped { server })
-        }
+        Err(stop) => Err(Refusal::Stopped {
+            server: stop.server,
+        }),
     }
 }
 

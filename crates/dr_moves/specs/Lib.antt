@@ -7,5 +7,6 @@ pub mod Turns
 pub mod Checks
 pub mod Moves
 pub mod Made
+pub mod Ready
 pub mod Entered
 pub mod Coming

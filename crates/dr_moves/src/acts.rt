@@ -1,15 +1,15 @@
 //! One function makes any move: the record of its volume and the track that it carries are changed, and the journal is told.
 
-ghost use Rattle.std.specs.Prelude.{◌≡◌, ◌≤◌, ◌+◌, ◌⊎◌, true, length, IsSome, OnOk, is_err};
-ghost use Rattle.dr_config.specs.Table.{place_of};
+ghost use Rattle.std.specs.Prelude.{◌≡◌, ◌≤◌, ◌+◌, ◌⊎◌, true, length, OnOk, is_err};
 ghost use Rattle.dr_model.specs.Histories.{histories};
 ghost use Rattle.dr_model.specs.Moves as machine;
 ghost use Rattle.dr_volume.specs.Opened.{IsOpened};
 ghost use Rattle.dr_volume.specs.Update.{IsAsBefore, IsMoved, OthersStay};
 ghost use Rattle.dr_volume.specs.View.{volume_seen, track_seen};
 ghost use Rattle.dr_moves.specs.Entered.{is_calm, Entered};
-ghost use Rattle.dr_moves.specs.Made.{IsAt, Asks, May, room_for, Made, Kept};
+ghost use Rattle.dr_moves.specs.Made.{IsAt, May, room_for, Made, Kept};
 ghost use Rattle.dr_moves.specs.Moves.{move_of};
+ghost use Rattle.dr_moves.specs.Ready.{Ready, Stayed};
 
 use crate::moves::{Move, next_fields, target_of, telling};
 use crate::place::{server_of, tracks_of};
@@ -39,16 +39,14 @@ fn change<P: Plant>(
     opened: &mut Opened,
     track: Option<(u16, Block)>,
 ) -> Result<(), Stop>
-    requires at { IsAt (P.state plant.old) config.now }
+    requires ready { Ready (P.state plant.old) config.now v.0 (move_of m.now) track }
     requires target { machine.target (move_of m.now) ≡ v.0 }
-    requires defined { IsSome (place_of config.now v.0) }
-    requires running { (P.state plant.old).on (volume_seen (P.state plant.old) config.now v.0).server ≡ true }
-    requires asks { Asks (P.state plant.old) config.now (move_of m.now) }
     requires opened { IsOpened (P.state plant.old) config.now v.0 opened.old }
     requires carries { machine.carried (move_of m.now) (volume_seen (P.state plant.old) config.now) (track_seen (P.state plant.old) config.now) (histories journal.old.events).write ≡ track }
     requires room { room_for (move_of m.now) (volume_seen (P.state plant.old) config.now v.0) ≤ journal.old.spare }
     ensures made { Made (P.state plant.old) (P.state plant.new) config.now journal.old journal.new (move_of m.now) v.0 track result }
-    ensures kept { Kept (P.state plant.old) (P.state plant.new) config.now journal.old journal.new (room_for (move_of m.now) (volume_seen (P.state plant.old) config.now v.0)) (is_err result) result }
+    ensures either { IsAsBefore (P.state plant.old) (P.state plant.new) config.now v.0 ⊎ IsMoved (P.state plant.old) (P.state plant.new) config.now v.0 (machine.fields_left (move_of m.now) (volume_seen (P.state plant.old) config.now v.0)) track }
+    ensures stayed { Stayed (P.state plant.old) (P.state plant.new) config.now journal.old journal.new (volume_seen (P.state plant.old) config.now v.0).server (room_for (move_of m.now) (volume_seen (P.state plant.old) config.now v.0)) result }
     ensures room_left { OnOk result (journal.old.spare ≡ journal.new.spare + length (machine.told (move_of m.now) (volume_seen (P.state plant.old) config.now v.0))) }
 {
     let size = tracks_of(config, v);
@@ -70,9 +68,38 @@ fn change<P: Plant>(
     }
 }
 
-/// Makes a move of a volume whose server is on, with the track that it carries: a number below the volume's size and 64 bytes.
-/// Fails where the server stops in it or goes off at the read of the record, and says whether the move counts as done. The
-/// journal needs room for what the move tells, done or stopped, and for the stop.
+/// Makes a move of a volume that stands ready, whatever the others do, with the track that it carries: a number below the volume's
+/// size and 64 bytes. Fails where the server stops in it or goes off at the read of the record, and says whether the move counts
+/// as done. The journal needs room for what the move tells, done or stopped, and for the stop.
+pub fn make_ready<P: Plant>(
+    plant: &mut P,
+    config: &Config,
+    journal: &mut Journal,
+    m: &Move,
+    track: Option<(u16, Block)>,
+) -> Result<(), Stop>
+    requires ready { Ready (P.state plant.old) config.now (machine.target (move_of m.now)) (move_of m.now) track }
+    requires carries { machine.carried (move_of m.now) (volume_seen (P.state plant.old) config.now) (track_seen (P.state plant.old) config.now) (histories journal.old.events).write ≡ track }
+    requires room { room_for (move_of m.now) (volume_seen (P.state plant.old) config.now (machine.target (move_of m.now))) ≤ journal.old.spare }
+    ensures made { Made (P.state plant.old) (P.state plant.new) config.now journal.old journal.new (move_of m.now) (machine.target (move_of m.now)) track result }
+    ensures either { IsAsBefore (P.state plant.old) (P.state plant.new) config.now (machine.target (move_of m.now)) ⊎ IsMoved (P.state plant.old) (P.state plant.new) config.now (machine.target (move_of m.now)) (machine.fields_left (move_of m.now) (volume_seen (P.state plant.old) config.now (machine.target (move_of m.now)))) track }
+    ensures stayed { Stayed (P.state plant.old) (P.state plant.new) config.now journal.old journal.new (volume_seen (P.state plant.old) config.now (machine.target (move_of m.now))).server (room_for (move_of m.now) (volume_seen (P.state plant.old) config.now (machine.target (move_of m.now)))) result }
+    ensures room_left { OnOk result (journal.old.spare ≡ journal.new.spare + length (machine.told (move_of m.now) (volume_seen (P.state plant.old) config.now (machine.target (move_of m.now))))) }
+{
+    let v = target_of(m);
+    match open_told(plant, config, journal, v) {
+        Ok(mut opened) => change(plant, config, journal, v, m, &mut opened, track),
+        Err(_) => {
+            let server = server_of(config, v);
+            Err(Stop {
+                server,
+                counts: false,
+            })
+        }
+    }
+}
+
+/// Makes a move of a volume whose server is on, between two commands, as `make_ready` does.
 pub fn make<P: Plant>(
     plant: &mut P,
     config: &Config,
@@ -88,17 +115,7 @@ pub fn make<P: Plant>(
     ensures kept { Kept (P.state plant.old) (P.state plant.new) config.now journal.old journal.new (room_for (move_of m.now) (volume_seen (P.state plant.old) config.now (machine.target (move_of m.now)))) (is_err result) result }
     ensures room_left { OnOk result (journal.old.spare ≡ journal.new.spare + length (machine.told (move_of m.now) (volume_seen (P.state plant.old) config.now (machine.target (move_of m.now))))) }
 {
-    let v = target_of(m);
-    match open_told(plant, config, journal, v) {
-        Ok(mut opened) => change(plant, config, journal, v, m, &mut opened, track),
-        Err(_) => {
-            let server = server_of(config, v);
-            Err(Stop {
-                server,
-                counts: false,
-            })
-        }
-    }
+    make_ready(plant, config, journal, m, track)
 }
 
 /// Makes a move that lands no host write, as an entry of a plan. Fails with `Refusal::Stopped` of its server, where `make` fails.

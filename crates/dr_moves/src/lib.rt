@@ -23,7 +23,7 @@ mod sets;
 mod shifting;
 mod told;
 
-pub use acts::{Stop, make, make_move};
+pub use acts::{Stop, make, make_move, make_ready};
 pub use carrying::{Entries, Next, act, carry};
 pub use flash_fields::{
     altered, closed, fetched, given_up, made, noted, restored, resynced, rewritten, turned,
@@ -32,9 +32,7 @@ pub use flash_fields::{
 pub use moves::{Move, next_fields, target_of, telling};
 pub use options::FlashOptions;
 pub use pair_fields::{
-    fallen_back, followed, is_engaged, is_torn, made_primary, made_secondary, mirrored, no_primary,
-    no_secondary, received, restarted, resumed, struck, suspended, synced, taken_over, thawed,
-    unsynced, with_more, yielded,
+    is_engaged, is_torn, mirrored, received, struck, suspended, synced, thawed, unsynced, with_more,
 };
 pub use pairs::{is_quiet, is_unpaired, pair_state};
 pub use place::{server_of, tracks_of};

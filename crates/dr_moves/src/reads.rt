@@ -1,16 +1,17 @@
 //! Reads that a move begins with: a server that goes off at one is told to the journal.
 
-ghost use Rattle.std.specs.Prelude.{◌≡◌, ℕ, ◌<◌, ◌≤◌, ◌+◌, ◌++◌, ◌∷◌, [], true, length, None, Some, IsSome, IfOk, OnOk, OnErr, is_err};
+ghost use Rattle.std.specs.Prelude.{◌≡◌, ℕ, ◌<◌, ◌≤◌, ◌+◌, ◌++◌, ◌∷◌, [], true, false, length, None, Some, IsSome, IfOk, OnOk, OnErr, is_err};
 ghost use Rattle.dr_logic.specs.Counts.{Counted};
 ghost use Rattle.dr_plant.specs.State.{PlantState};
-ghost use Rattle.dr_config.specs.Table.{place_of};
+ghost use Rattle.dr_config.specs.Table.{StandsFor, place_of};
 ghost use Rattle.dr_model.specs.declared.event.Event.{Event};
 ghost use Rattle.dr_model.specs.ReadStops.{GoesOff};
 ghost use Rattle.dr_model.specs.Refusals.{stopped};
 ghost use Rattle.dr_volume.specs.Opened.{IsOpened};
 ghost use Rattle.dr_volume.specs.Update.{IsAsBefore};
-ghost use Rattle.dr_volume.specs.View.{Rest, volume_seen, track_seen};
+ghost use Rattle.dr_volume.specs.View.{Rest, volume_seen, track_seen, IsSettled};
 ghost use Rattle.dr_moves.specs.Here.{world_seen, refusal_of, armed_in, IsAtRest};
+ghost use Rattle.dr_moves.specs.Ready.{StandsReady};
 
 use crate::place::server_of;
 use dr_config::Config;
@@ -36,16 +37,14 @@ fn gone_off(config: &Config, journal: &mut Journal, v: VolumeId) -> Refusal
     Refusal::Stopped { server }
 }
 
-/// Opens a volume whose server is on. Fails where the server goes off at the read.
+/// Opens a volume that stands ready. Fails where the server goes off at the read.
 pub(crate) fn open_told<P: Plant>(
     plant: &mut P,
     config: &Config,
     journal: &mut Journal,
     v: VolumeId,
 ) -> Result<Opened, Refusal>
-    requires rest { IsAtRest (P.state plant.old) config.now }
-    requires defined { IsSome (place_of config.now v.0) }
-    requires running { (P.state plant.old).on (volume_seen (P.state plant.old) config.now v.0).server ≡ true }
+    requires ready { StandsReady (P.state plant.old) config.now v.0 }
     requires room { 1 ≤ journal.old.spare }
     ensures opened { IfOk result (λ o. IsOpened (P.state plant.old) config.now v.0 o) }
     ensures passed { OnOk result (P.state plant.new ≡ P.state plant.old) }
@@ -53,7 +52,9 @@ pub(crate) fn open_told<P: Plant>(
     ensures gone { OnErr result ((r : Rest) → GoesOff (armed_in (P.state plant.old)) (world_seen (P.state plant.new) config.now r journal.new.events) (refusal_of result) (world_seen (P.state plant.old) config.now r journal.old.events)) }
     ensures refused { OnErr result (refusal_of result ≡ Some (stopped (volume_seen (P.state plant.old) config.now v.0).server)) }
     ensures same { (u : ℕ) → IsAsBefore (P.state plant.old) (P.state plant.new) config.now u }
-    ensures rest { IsAtRest (P.state plant.new) config.now }
+    ensures stands { StandsFor config.now (P.state plant.new) }
+    ensures settled { (u : ℕ) → IsSettled (P.state plant.old) config.now u → IsSettled (P.state plant.new) config.now u }
+    ensures off { OnErr result ((P.state plant.new).on (volume_seen (P.state plant.old) config.now v.0).server ≡ false) }
     ensures unarmed { (q : ℕ) → (P.state plant.old).read_fuse q ≡ None → (P.state plant.new).read_fuse q ≡ None }
     ensures faults { Counted (is_err result) (P.state plant.old).faults (P.state plant.new).faults }
     ensures room { journal.old.spare ≤ journal.new.spare + 1 }

@@ -1,41 +1,44 @@
-use Rattle.std.proofs.Common.{ap, sym, subst, ◌∙◌, ◌++◌, [], ◌∷◌, true, false, None, Some}
-use Rattle.dr_ids.specs.declared.refusal.Refusal.TheVariants.{Stopped as StoppedIn}
-use Rattle.dr_model.specs.declared.event.Event.TheVariants.{Stopped}
-use Rattle.dr_model.specs.Layout.{Fields}
-use Rattle.dr_model.specs.Lawful.{IsLawful}
-use Rattle.dr_model.specs.Pairs.{restarted}
-use Rattle.dr_model.specs.Carry.{update}
-use Rattle.dr_volume.specs.Update.{EndsAs, after_reading}
-use Rattle.dr_volume.specs.Plain.{plain}
-use Rattle.dr_volume.specs.View.{volume_seen}
-use Rattle.dr_moves.specs.Here.{world_seen}
-use Rattle.dr_coord.proofs.HoldLemmas.{went-on, came-off}
-use Rattle.dr_coord.proofs.restarting.go_on.Goals as goal
+use Rattle.std.proofs.Common.{inl, inr, refl, ap, ◌∙◌, None, Some}
+use Rattle.std.specs.Prelude.{Ok, Err}
 use Rattle.dr_facts.proofs.Lawful.{lawful-restarted}
+use Rattle.dr_model.specs.Moves.{Restart}
+use Rattle.dr_model.specs.Refusals.{stopped}
+use Rattle.dr_volume.specs.View.{Rest, volume_seen}
+use Rattle.dr_moves.specs.Here.{world_seen}
+use Rattle.dr_moves.proofs.EnteredLemmas.{entered-by, calm-stop}
+use Rattle.dr_moves.proofs.MoveFits.{covers-all}
+use Rattle.dr_moves.proofs.PlaceLaws.{seen-lawful}
+use Rattle.dr_coord.proofs.restarting.go_on.Goals as goal
 
-pub update-requires-clause-lawful : goal.update-requires-clause-lawful
-update-requires-clause-lawful g c =
+pub make_ready-requires-clause-ready : goal.make_ready-requires-clause-ready
+make_ready-requires-clause-ready g c =
     let x = volume_seen (g.P.Plant.state c.args.plant.now) c.args.config.now c.args.v.0 in
-    subst (λ (f : Fields). IsLawful x.tracks f) (sym (c.restarted-next.ensures)) (lawful-restarted x.tracks (plain c.peek_fields.result) c.peek_fields.ensures.lawful)
+    let ready = c.requires.ready in
+    record {
+      ready = ready;
+      below = tt;
+      lawful = lawful-restarted x.tracks x.fields (seen-lawful (g.P.Plant.state c.args.plant.now) c.args.config.now c.args.v.0 ready.defined ready.size ready.stands);
+      covers = covers-all x.fields.blank None;
+      within = tt;
+    }
 
 pub returns-in-Ok-clause-advances : goal.returns-in-Ok-clause-advances
-returns-in-Ok-clause-advances g c r =
+returns-in-Ok-clause-advances g c =
     let s = g.P.Plant.state c.args.plant.now in
-    let s' = g.P.Plant.state c.update.new.plant in
+    let u = g.P.Plant.state c.make_ready.new.plant in
     let t = c.args.config.now in
-    let x = volume_seen s t c.args.v.0 in
-    let w = world_seen s t r c.args.journal.now.events in
-    went-on s s' t r c.args.journal.now.events c.args.v.0 c.requires.ready
-    (subst (λ (f : Fields). EndsAs (world_seen s' t r c.args.journal.now.events) false (after_reading s x.server w (update w c.args.v.0 f None))) (c.restarted-next.ensures ∙ ap restarted c.peek_fields.ensures.fields) (c.in-Ok.ensures.exact (record r { events = c.args.journal.now.events })))
+    (entered-by s u t c.args.journal.now.events c.make_ready.new.journal.events (Restart c.args.v.0) c.args.v.0 (Ok tt) (λ r. c.in-Ok.ensures.made.turned r) tt tt).advances
 
 pub returns-in-Err-clause-halts : goal.returns-in-Err-clause-halts
-returns-in-Err-clause-halts g c r =
+returns-in-Err-clause-halts g c =
     let s = g.P.Plant.state c.args.plant.now in
-    let s' = g.P.Plant.state c.update.new.plant in
+    let u = g.P.Plant.state c.make_ready.new.plant in
     let t = c.args.config.now in
-    let x = volume_seen s t c.args.v.0 in
-    let w = world_seen s t r c.args.journal.now.events in
-    came-off s s' t r c.args.journal.now.events c.args.v.0 c.requires.ready c.push.new.self.events (Some (StoppedIn c.server_of-server.result))
-    (subst (λ (f : Fields). EndsAs (world_seen s' t r c.args.journal.now.events) true (after_reading s x.server w (update w c.args.v.0 f None))) (c.restarted-next.ensures ∙ ap restarted c.peek_fields.ensures.fields) (c.in-Err.ensures.exact (record r { events = c.args.journal.now.events })))
-    (c.push.ensures.events ∙ ap (λ o. c.args.journal.now.events ++ Stopped o 0 ∷ []) (sym (c.server_of-server.ensures.seen s)))
-    (ap (λ o. Some (StoppedIn (record { 0 = o }))) (sym (c.server_of-server.ensures.seen s)))
+    let m = Restart c.args.v.0 in
+    let server = c.in-Err.ensures.made.server in
+    (entered-by s u t c.args.journal.now.events c.make_ready.new.journal.events m c.args.v.0 (Err (stopped c.in-Err.stop.server.0)) tt
+    (λ r. elim (c.in-Err.ensures.made.turned r) [
+      | inl off ↦ inl off.1
+      | inr is ↦ inr (is ∙ ap (λ (q : Rest). (world_seen u t q c.make_ready.new.journal.events, Some c.in-Err.stop.server.0)) (calm-stop m refl c.in-Err.stop.counts r) ∙ ap (λ n. (world_seen u t r c.make_ready.new.journal.events, Some n)) server)
+    ])
+    (ap (λ n. Some (stopped n)) server)).halts

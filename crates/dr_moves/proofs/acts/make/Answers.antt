@@ -1,40 +1,50 @@
-use Rattle.std.proofs.Common.{inl, refl, ap, sym, subst, ◌∙◌, length, Some}
-use Rattle.dr_model.specs.Moves.{target, told, told_in_stop}
-use Rattle.dr_model.specs.ReadStops.{GoesOff}
-use Rattle.dr_model.specs.Refusals.{stopped}
+use Rattle.std.proofs.Common.{refl}
+use Rattle.dr_model.specs.Histories.{histories}
+use Rattle.dr_model.specs.Moves.{target, fields_left}
 use Rattle.dr_volume.specs.View.{volume_seen}
-use Rattle.dr_moves.specs.Here.{world_seen, armed_in}
 use Rattle.dr_moves.specs.Moves.{move_of}
-use Rattle.dr_moves.proofs.FitLemmas.{fit-same}
-use Rattle.dr_moves.proofs.KeptLemmas.{room-one, aside-same}
+use Rattle.dr_moves.proofs.AsideLemmas.{aside-kept, aside-after}
+use Rattle.dr_moves.proofs.KeptLemmas.{at-after}
+use Rattle.dr_moves.proofs.MoveFits.{fits-by}
+use Rattle.dr_moves.proofs.MoveTracks.{below, within-by}
+use Rattle.dr_moves.proofs.PlaceLaws.{seen-lawful}
 use Rattle.dr_moves.proofs.acts.make.Goals as goal
 
-pub returns-in-Err-clause-made : goal.returns-in-Err-clause-made
-returns-in-Err-clause-made g c =
+pub make_ready-requires-clause-ready : goal.make_ready-requires-clause-ready
+make_ready-requires-clause-ready g c =
     let s = g.P.Plant.state c.args.plant.now in
-    let u = g.P.Plant.state c.open_told.new.plant in
     let t = c.args.config.now in
-    let server = c.server_of-server.ensures.seen s in
+    let m = move_of c.args.m.now in
+    let v = target m in
+    let write = (histories c.args.journal.now.events).write in
+    let rest = c.requires.at.rest in
+    let fits = fits-by s t c.requires.at.fit m v (fields_left m (volume_seen s t v)) c.args.track write refl refl c.requires.carries (seen-lawful s t v c.requires.may.defined (rest.sizes v) rest.stands) c.requires.may.asks in
     record {
-      turned = λ r. inl
-          (refl, subst (λ e. GoesOff (armed_in s) (world_seen u t r c.open_told.new.journal.events) e (world_seen s t r c.args.journal.now.events)) (c.in-Err.ensures.refused ∙ ap (λ n. Some (stopped n)) server) (c.in-Err.ensures.gone r));
-      came = c.in-Err.ensures.same (target (move_of c.args.m.now));
-      others = λ q ne. c.in-Err.ensures.same q;
-      server = sym server ∙ ap (λ v. (volume_seen s t v).server) c.target_of-v.ensures;
+      ready = record { stands = rest.stands; defined = c.requires.may.defined; running = c.requires.may.running; settled = rest.settled v; size = rest.sizes v };
+      below = below s t rest.sizes m c.requires.may.asks;
+      lawful = fits.lawful;
+      covers = fits.covers;
+      within = within-by s t m v c.args.track write refl c.requires.carries c.requires.may.asks;
     }
 
-pub returns-in-Err-clause-kept : goal.returns-in-Err-clause-kept
-returns-in-Err-clause-kept g c =
+pub returns-clause-kept : goal.returns-clause-kept
+returns-clause-kept g c =
     let s = g.P.Plant.state c.args.plant.now in
-    let u = g.P.Plant.state c.open_told.new.plant in
+    let u = g.P.Plant.state c.make_ready.new.plant in
     let t = c.args.config.now in
-    let x = volume_seen s t (target (move_of c.args.m.now)) in
+    let m = move_of c.args.m.now in
+    let v = target m in
+    let x = volume_seen s t v in
+    let f = fields_left m x in
+    let at = c.requires.at in
+    let stayed = c.make_ready.ensures.stayed in
+    let fits = fits-by s t at.fit m v f c.args.track (histories c.args.journal.now.events).write refl refl c.requires.carries (seen-lawful s t v c.requires.may.defined (at.rest.sizes v) at.rest.stands) c.requires.may.asks in
     record {
-      at = record { rest = c.in-Err.ensures.rest; fit = fit-same s u t c.in-Err.ensures.same c.requires.at.fit };
-      aside = aside-same s u t c.in-Err.ensures.same;
-      unarmed = c.in-Err.ensures.unarmed;
-      faults = c.in-Err.ensures.faults;
-      on = tt;
-      room = room-one (length (told (move_of c.args.m.now) x)) (length (told_in_stop (move_of c.args.m.now) x)) c.args.journal.now.spare c.open_told.new.journal.spare c.in-Err.ensures.room;
-      spare = c.in-Err.ensures.spare;
+      at = at-after s u t v f c.args.track c.make_ready.ensures.either c.make_ready.ensures.made.others at stayed.stands stayed.settled fits.leaves;
+      aside = λ fit. aside-after s u t v f c.args.track fit (aside-kept m x (at.fit.apart v) (fit.aside v)) c.make_ready.ensures.either c.make_ready.ensures.made.others;
+      unarmed = stayed.unarmed;
+      faults = stayed.faults;
+      on = stayed.on;
+      room = stayed.room;
+      spare = stayed.spare;
     }
