@@ -1,7 +1,10 @@
 ghost use Rattle.std.specs.Prelude.{◌<◌};
+ghost use Rattle.dr_plant.specs.State.{IsFresh};
 
+mod counts;
 mod reads;
 
+use counts::{CountingPlant, KINDS, blocks_read};
 use dr_ids::{Text, VolumeId};
 use dr_image::{Image, ImageFault, ImageReader, ImageVolume, read_image, write_image};
 use dr_io::{MemSink, MemSource, Sink, Source, StdSink, StdSource};
@@ -9,7 +12,7 @@ use dr_list::text;
 use dr_lost::{Holdings, Pair, first_broken};
 use dr_model::{Event, Journal, image_of};
 use dr_plan::{Point, Torn, read_plan, script_at};
-use dr_plant::ModelPlant;
+use dr_plant::{ModelPlant, Plant};
 use dr_script::{Line, print_step, read_line};
 use dr_top::drsim;
 use reads::stopped_at;
@@ -28,26 +31,27 @@ struct Left {
 }
 
 /// Makes a call on an empty plant, with the words of this text.
-fn call(
+fn call(alloc: Global, words: &str, source: MemSource, sink: MemSink) -> Result<Left, AllocError> {
+    let mut plant = ModelPlant::new(alloc);
+    call_on(alloc, words, source, &mut plant, sink)
+}
+
+/// Makes a call on a plant that is empty.
+fn call_on<P: Plant>(
     alloc: Global,
     words: &str,
     mut source: MemSource,
+    plant: &mut P,
     mut sink: MemSink,
-) -> Result<Left, AllocError> {
+) -> Result<Left, AllocError>
+    requires fresh { IsFresh (P.state plant.old) }
+{
     let mut list = Vec::new(alloc);
     for word in words.split_whitespace() {
         list.push(String::from_str(alloc, word)?)?;
     }
-    let mut plant = ModelPlant::new(alloc);
     let mut journal = Journal::new(alloc);
-    let status = drsim(
-        alloc,
-        &list,
-        &mut source,
-        &mut plant,
-        &mut sink,
-        &mut journal,
-    );
+    let status = drsim(alloc, &list, &mut source, plant, &mut sink, &mut journal);
     Ok(Left {
         status: status.code(),
         sink,
@@ -423,6 +427,44 @@ fn inputs_in_pieces(rt: HostRuntime) -> Result<(), AllocError> {
     Ok(())
 }
 
+/// Lines that define volumes and pairs.
+const PAIRS: [&str; 8] = [
+    "@server A",
+    "@server B",
+    "@volume 1000 A 1",
+    "@volume 2000 B 1",
+    "@volume 3000 B 1",
+    "mkpprcpath -srclss 10 -tgtlss 20 I0010:I0140",
+    "mkpprcpath -srclss 20 -tgtlss 10 I0140:I0010",
+    "mkflash -tgtinhibit -record -nocp 2000:3000",
+];
+
+/// How many blocks are read by a run of the lines above and of so many that follow, none of which is refused.
+fn blocks_of_run(
+    rt: &impl Abort,
+    alloc: Global,
+    lines: &[(&str, u32)],
+    more: usize,
+) -> Result<u32, AllocError> {
+    let mut script = Vec::new(alloc);
+    for line in PAIRS {
+        script.extend_from_slice(line.as_bytes())?;
+        script.push(b'\n')?;
+    }
+    for (line, _) in lines.iter().take(more) {
+        script.extend_from_slice(line.as_bytes())?;
+        script.push(b'\n')?;
+    }
+    let source = MemSource::new(script, 4096, Vec::new(alloc));
+    let sink = MemSink::new(alloc, 4096, Vec::new(alloc), Vec::new(alloc))?;
+    let blocks = Cell::new(0);
+    let mut plant = CountingPlant::new(alloc, &blocks);
+    let left = call_on(alloc, "run", source, &mut plant, sink)?;
+    let refused = left.sink.bytes().iter().filter(|byte| **byte == b'E');
+    assert_eq!(rt; refused.count(), 0, "refused of {more}");
+    Ok(blocks.get())
+}
+
 /// What the host's writes of a run say, and the journal by itself.
 #[test]
 fn journals(rt: HostRuntime) -> Result<(), AllocError> {
@@ -491,6 +533,48 @@ impl<'a> io::Read for Counting<'a> {
     }
 }
 
+/// Lines of one move each, or of few, behind those above, and how many blocks each of them may read.
+const LINES: [(&str, u32); 20] = [
+    ("mkpprc -type gcp -mode full 1000:2000", 52),
+    ("@write 1000 0 0 41", 16),
+    ("@drain 1000 all", 61),
+    ("mksession -lss 10 -volume 1000 01", 34),
+    ("mkgmir -lss 10 -session 01", 0),
+    ("@run 01 1", 88),
+    ("rmgmir -lss 10 -session 01", 0),
+    ("chsession -lss 10 -action remove -volume 1000 01", 8),
+    ("pausepprc 1000:2000", 30),
+    ("resumepprc -type gcp 1000:2000", 44),
+    ("failoverpprc -type gcp 2000:1000", 15),
+    ("pausepprc 1000:2000", 22),
+    ("failbackpprc -type gcp 2000:1000", 68),
+    ("@stop A", 0),
+    ("@start A", 15),
+    ("rmpprc 2000:1000", 30),
+    ("@write 2000 0 0 42", 44),
+    ("@show 3000 0", 8),
+    ("resyncflash -record 2000:3000", 18),
+    ("rmflash 2000:3000", 9),
+];
+
+/// No record is read twice for one move: its gate by a read, and gate and slot by looks; of a track that is carried, what tells where
+/// it stands. A line reads no more than it did.
+fn blocks_of_moves(rt: &impl Abort, alloc: Global) -> Result<(), AllocError> {
+    for number in 0..KINDS {
+        let read = blocks_read(alloc, Some(number))?;
+        assert_eq!(rt; read, Some(8), "kind {number}");
+    }
+    assert_eq!(rt; blocks_read(alloc, None)?, Some(12), "a carried track");
+    let mut before = blocks_of_run(rt, alloc, &LINES, 0)?;
+    for (at, (line, most)) in LINES.iter().enumerate() {
+        let read = blocks_of_run(rt, alloc, &LINES, at.saturating_add(1))?;
+        let own = read.saturating_sub(before);
+        assert!(rt; own <= *most, "{line} reads {own}");
+        before = read;
+    }
+    Ok(())
+}
+
 /// Each call of a stream is one of its reader or writer, and each piece is flushed; where one fails, so does the call, and it isn't
 /// tried again. No contract can say this, since the standard library counts no calls.
 #[test]
@@ -531,7 +615,7 @@ fn flushes(rt: HostRuntime) -> Result<(), AllocError> {
         assert_eq!(rt; moves.get(), 2);
         assert!(rt; into == *b"abcxx");
     }
-    Ok(())
+    blocks_of_moves(&rt, alloc)
 }
 
 /// Lines, and what is printed of their first steps.

@@ -15,13 +15,13 @@ use dr_volume::{peek_fields, read_track, redo};
 use std::alloc::{AllocError, Global};
 
 /// A volume.
-const SOURCE: VolumeId = VolumeId(0x1000);
+pub(super) const SOURCE: VolumeId = VolumeId(0x1000);
 
 /// Its target.
-const COPY: VolumeId = VolumeId(0x1001);
+pub(super) const COPY: VolumeId = VolumeId(0x1001);
 
 /// Defines the two volumes, on one server.
-fn define<P: Plant>(plant: &mut P, config: &mut Config) -> Result<(), Fault>
+pub(super) fn define<P: Plant>(plant: &mut P, config: &mut Config) -> Result<(), Fault>
     requires fresh { IsFresh (P.state plant.old) }
     requires empty { config.old ≡ with_volumes [] }
     ensures ready { OnOk result (AreReady (P.state plant.new) config.new) }
