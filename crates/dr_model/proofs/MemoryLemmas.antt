@@ -1,6 +1,7 @@
 -- Sizes of a journal's memory: they grow with the number of events, hold it, and aren't past the most events of a run.
-use Rattle.std.proofs.Common.{ℕ, zero, suc, ◌≡◌, ◌<◌, ◌≤◌, ◌+◌, ◌-◌, ◌*◌, min, max, refl, ap, ◌∙◌, subst, arith, Bool, true, false, cond, nat_le}
-use Rattle.std.proofs.lemmas.Bool.Decides.{nat_tests}
+use Rattle.std.proofs.Common.{ℕ, zero, suc, ◌≡◌, ◌<◌, ◌≤◌, ◌+◌, ◌-◌, ◌*◌, min, max, refl, ap, ◌∙◌, sym, subst, arith, Bool, true, false, cond, nat_le, inl, inr}
+use Rattle.std.proofs.lemmas.Bool.{leb-true, le-leb}
+use Rattle.std.proofs.lemmas.Bool.Decides.{nat_tests, leb_tells}
 use Rattle.dr_model.specs.Limits.{most_events}
 use Rattle.dr_model.specs.Log.{size_from, memory_for}
 
@@ -14,18 +15,6 @@ next-greater m size le = grind (arith, nat_tests, le)
 pub next-most : (m size : ℕ) → min (size * 2) m ≤ m
 next-most m size = grind (arith, nat_tests)
 
-le-true : (n m : ℕ) → nat_le n m ≡ true → n ≤ m
-le-true n m is = grind (arith, nat_tests, is)
-
-le-false : (n m : ℕ) → nat_le n m ≡ false → m < n
-le-false n m is = grind (arith, nat_tests, is)
-
-true-le : (n m : ℕ) → n ≤ m → nat_le n m ≡ true
-true-le n m le = grind (arith, nat_tests, le)
-
-false-le : (n m : ℕ) → m < n → nat_le n m ≡ false
-false-le n m lt = grind (arith, nat_tests, lt)
-
 -- ---- a size by the steps of a loop
 
 pub size-none : (more size n : ℕ) → more ≡ 0 → size_from more size n ≡ most_events
@@ -35,13 +24,16 @@ size-none more size n is = ap (λ m. size_from m size n) is
 pub size-here : (more size n : ℕ) → 0 < more → n ≤ size → size_from more size n ≡ size
 unfolding size_from
 size-here zero size n some le = absurd (omega (arith, some))
-size-here (suc left) size n some le = ap (λ b. cond b size (size_from left (next size) n)) (true-le n size le)
+size-here (suc left) size n some le = ap (λ b. cond b size (size_from left (next size) n)) (le-leb n size le)
+
+more-leb : (n m : ℕ) → m < n → nat_le n m ≡ false
+more-leb n m lt = elim (leb_tells n m) [ | inl p ↦ absurd (let le = p.1 in omega (arith, le, lt)) | inr p ↦ p.0 ]
 
 pub size-next : (more size n : ℕ) → 0 < more → size < n → size_from more size n ≡ size_from (more - 1) (next size) n
 unfolding size_from
 size-next zero size n some lt = absurd (omega (arith, some))
 size-next (suc left) size n some lt =
-    ap (λ b. cond b size (size_from left (next size) n)) (false-le n size lt) ∙ ap (λ m. size_from m (next size) n) (let e : left ≡ suc left - 1 = omega arith in e)
+    ap (λ b. cond b size (size_from left (next size) n)) (more-leb n size lt) ∙ ap (λ m. size_from m (next size) n) (let e : left ≡ suc left - 1 = omega arith in e)
 
 pub memory-none : memory_for 0 ≡ 0
 unfolding memory_for
@@ -78,7 +70,7 @@ from-fits zero size n few = few
 from-fits (suc more) size n few = by (nat_le n size) refl (from-fits more (next size) n few)
   where
     by : (b : Bool) → nat_le n size ≡ b → n ≤ size_from more (next size) n → n ≤ cond b size (size_from more (next size) n)
-    by true is rest = le-true n size is
+    by true is rest = leb-true n size is
     by false is rest = rest
 
 from-grows : (more size a b : ℕ) → a ≤ b → size ≤ most_events → size_from more size a ≤ size_from more size b
@@ -90,7 +82,7 @@ from-grows (suc more) size a b le most = by (nat_le a size) (nat_le b size) refl
         → cond x size (size_from more (next size) a) ≤ cond y size (size_from more (next size) b)
     by true true is is' rest = omega arith
     by true false is is' rest = from-least more (next size) size b (next-greater most_events size most) (next-most most_events size)
-    by false true is is' rest = absurd (let up = le-false a size is in let down = le-true b size is' in omega (arith, le, up, down))
+    by false true is is' rest = absurd (let low = sym is ∙ le-leb a size (let down = leb-true b size is' in omega (arith, le, down)) in cc)
     by false false is is' rest = rest
 
 -- ---- the memory of a journal
