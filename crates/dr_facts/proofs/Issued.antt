@@ -56,13 +56,14 @@ Alike v w = (histories v.events).write ≡ (histories w.events).write
 pub with-told : (w : World) (es : List Event) → (after (histories w.events) es).write ≡ (histories w.events).write → (histories (w.events ++ es)).write ≡ (histories w.events).write
 with-told w es same = ap (λ (x : Histories). x.write) (histories-append w.events es) ∙ same
 
--- an update tells nothing
+-- an update by its three tests
 abbrev pub updated_by : World → ℕ → Fields → Carried → Bool → Bool → Bool → Ended
 updated_by w v f c on passes counts =
     let s : ℕ = (w.control.volume v).server in
     cond (not on) (ended w true false) (cond passes (ended (spent (updated w v f c) s (writes c)) false true) (cond counts (ended (off (updated w v f c) s) true true) (ended (off w s) true false)))
 
-update-events : (w : World) (v : ℕ) (f : Fields) (c : Carried) → (update w v f c).world.events ≡ w.events
+-- an update tells nothing
+pub update-events : (w : World) (v : ℕ) (f : Fields) (c : Carried) → (update w v f c).world.events ≡ w.events
 unfolding update
 update-events w v f c = by (w.control.on (w.control.volume v).server) (pass (w.control.fuse (w.control.volume v).server) (writes c)) (counts_by (w.control.fuse (w.control.volume v).server) (not (w.control.volume v).slot))
   where

@@ -20,7 +20,7 @@ use Rattle.dr_metro.proofs.ToldLemmas.{IsWrite}
 pub lands-unread : (c : ConfigTable) (s u : PlantState) (v : ℕ) (rest : IsAtRest s c) (defined : is_some (place_of c v) ≡ true) (stuck : false ≡ can_read s (device_of c v)) (is : u ≡ after_read s (device_of c v))
     → s.on (volume_seen s c v).server ≡ true → (r : Rest) (e : Ended) (b : Bool) → b ≡ true → LandsAs (armed_in s) (volume_seen s c v).server (world s c r) (world u c r) b e
 lands-unread c s u v rest defined stuck is up r e b failed =
-    let x = left-unread c s u v rest defined stuck is in
+    let x = left-unread c s u v rest.stands (rest.sizes v) defined stuck is in
     inr (record { is_armed = is-armed s _ x.low (x.armed up); world = x.shuts r; answer = failed })
 
 -- entries that ended so issued no write

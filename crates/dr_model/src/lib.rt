@@ -1,7 +1,8 @@
 //! The journal, the steps of a script, and the definitions that every contract cites.
 //!
 //! `Journal::push` adds one event and can't fail where room was reserved (`events`, `spare`); `reserve` changes no
-//! event (`events`, `room`, `err`); `event` and `len` read it. `Said::event` is the answer's event, for every refusal
+//! event (`events`, `room`, `err`), and fails only where less is spare (`wanted`) and its memory has to be of a greater size (`grows`);
+//! `event` and `len` read it. `Said::event` is the answer's event, for every refusal
 //! and every addition. `image_of` writes what a volume's tracks contain by the host's writes among the first events of
 //! a journal (`when`, `image`, `same`). The definitions of the machine stand here.
 #![tactic(auto)]

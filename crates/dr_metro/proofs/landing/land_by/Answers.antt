@@ -10,7 +10,7 @@ use Rattle.dr_volume.specs.Update.{EndsAs}
 use Rattle.dr_moves.specs.Fit.{RelationsFit}
 use Rattle.dr_moves.specs.Here.{IsAtRest}
 use Rattle.dr_flash.specs.Views.{view_seen}
-use Rattle.dr_moves.proofs.ReadLemmas.{left-unread, unread-rest}
+use Rattle.dr_moves.proofs.ReadLemmas.{left-unread, rest-same}
 use Rattle.dr_moves.proofs.FitLemmas.{fit-same}
 use Rattle.dr_metro.specs.Landing.{landed_on}
 use Rattle.dr_metro.proofs.LandLemmas.{lands-unread}
@@ -23,16 +23,18 @@ returns-in_err-opened-clause-exact g c r =
     c.requires.running r _ _ c.from_residual.ensures.0
 
 pub returns-in_err-opened-clause-rest : goal.returns-in_err-opened-clause-rest
-returns-in_err-opened-clause-rest g c = unread-rest c.args.config.now (g.P.Plant.state c.args.plant.now) (g.P.Plant.state c.open_by.new.plant) c.args.v.0 c.requires.rest c.requires.defined c.in_err-opened.ensures.done c.in_err-opened.ensures.state
+returns-in_err-opened-clause-rest g c =
+    let x = left-unread c.args.config.now (g.P.Plant.state c.args.plant.now) (g.P.Plant.state c.open_by.new.plant) c.args.v.0 c.requires.rest.stands (c.requires.rest.sizes c.args.v.0) c.requires.defined c.in_err-opened.ensures.done c.in_err-opened.ensures.state in
+    rest-same c.args.config.now (g.P.Plant.state c.args.plant.now) (g.P.Plant.state c.open_by.new.plant) c.requires.rest x.stands x.settled x.same
 
 pub returns-in_err-opened-clause-fit : goal.returns-in_err-opened-clause-fit
 returns-in_err-opened-clause-fit g c =
     fit-same (g.P.Plant.state c.args.plant.now) (g.P.Plant.state c.open_by.new.plant) c.args.config.now
-    (left-unread c.args.config.now (g.P.Plant.state c.args.plant.now) (g.P.Plant.state c.open_by.new.plant) c.args.v.0 c.requires.rest c.requires.defined c.in_err-opened.ensures.done c.in_err-opened.ensures.state).same c.requires.fit
+    (left-unread c.args.config.now (g.P.Plant.state c.args.plant.now) (g.P.Plant.state c.open_by.new.plant) c.args.v.0 c.requires.rest.stands (c.requires.rest.sizes c.args.v.0) c.requires.defined c.in_err-opened.ensures.done c.in_err-opened.ensures.state).same c.requires.fit
 
 pub returns-in_err-opened-clause-unarmed : goal.returns-in_err-opened-clause-unarmed
 returns-in_err-opened-clause-unarmed g c =
-    (left-unread c.args.config.now (g.P.Plant.state c.args.plant.now) (g.P.Plant.state c.open_by.new.plant) c.args.v.0 c.requires.rest c.requires.defined c.in_err-opened.ensures.done c.in_err-opened.ensures.state).unarmed
+    (left-unread c.args.config.now (g.P.Plant.state c.args.plant.now) (g.P.Plant.state c.open_by.new.plant) c.args.v.0 c.requires.rest.stands (c.requires.rest.sizes c.args.v.0) c.requires.defined c.in_err-opened.ensures.done c.in_err-opened.ensures.state).unarmed
 
 pub returns-in_err-opened-clause-faults : goal.returns-in_err-opened-clause-faults
 returns-in_err-opened-clause-faults g c =
