@@ -8,3 +8,4 @@
 pub mod HoldLemmas
 pub mod ActLemmas
 pub mod RaiseLemmas
+pub mod QuietLemmas

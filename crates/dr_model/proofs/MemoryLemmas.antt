@@ -1,7 +1,7 @@
 -- Sizes of a journal's memory: they grow with the number of events, hold it, and aren't past the most events of a run.
-use Rattle.std.proofs.Common.{ℕ, zero, suc, ◌≡◌, ◌<◌, ◌≤◌, ◌+◌, ◌-◌, ◌*◌, min, max, refl, ap, ◌∙◌, sym, subst, arith, Bool, true, false, cond, nat_le, inl, inr}
-use Rattle.std.proofs.lemmas.Bool.{leb-true, le-leb}
-use Rattle.std.proofs.lemmas.Bool.Decides.{nat_tests, leb_tells}
+use Rattle.std.proofs.Common.{ℕ, zero, suc, ◌≡◌, ◌<◌, ◌≤◌, ◌+◌, ◌-◌, ◌*◌, min, max, refl, ap, ◌∙◌, subst, arith, Bool, true, false, cond, nat_le}
+use Rattle.std.proofs.lemmas.Bool.{leb-true, leb-false, le-leb, lt-leb}
+use Rattle.std.proofs.lemmas.Bool.Decides.{nat_tests}
 use Rattle.dr_model.specs.Limits.{most_events}
 use Rattle.dr_model.specs.Log.{size_from, memory_for}
 
@@ -26,14 +26,11 @@ unfolding size_from
 size-here zero size n some le = absurd (omega (arith, some))
 size-here (suc left) size n some le = ap (λ b. cond b size (size_from left (next size) n)) (le-leb n size le)
 
-more-leb : (n m : ℕ) → m < n → nat_le n m ≡ false
-more-leb n m lt = elim (leb_tells n m) [ | inl p ↦ absurd (let le = p.1 in omega (arith, le, lt)) | inr p ↦ p.0 ]
-
 pub size-next : (more size n : ℕ) → 0 < more → size < n → size_from more size n ≡ size_from (more - 1) (next size) n
 unfolding size_from
 size-next zero size n some lt = absurd (omega (arith, some))
 size-next (suc left) size n some lt =
-    ap (λ b. cond b size (size_from left (next size) n)) (more-leb n size lt) ∙ ap (λ m. size_from m (next size) n) (let e : left ≡ suc left - 1 = omega arith in e)
+    ap (λ b. cond b size (size_from left (next size) n)) (lt-leb n size lt) ∙ ap (λ m. size_from m (next size) n) (let e : left ≡ suc left - 1 = omega arith in e)
 
 pub memory-none : memory_for 0 ≡ 0
 unfolding memory_for
@@ -82,7 +79,7 @@ from-grows (suc more) size a b le most = by (nat_le a size) (nat_le b size) refl
         → cond x size (size_from more (next size) a) ≤ cond y size (size_from more (next size) b)
     by true true is is' rest = omega arith
     by true false is is' rest = from-least more (next size) size b (next-greater most_events size most) (next-most most_events size)
-    by false true is is' rest = absurd (let low = sym is ∙ le-leb a size (let down = leb-true b size is' in omega (arith, le, down)) in cc)
+    by false true is is' rest = absurd (let up = leb-false a size is in let down = leb-true b size is' in omega (arith, le, up, down))
     by false false is is' rest = rest
 
 -- ---- the memory of a journal

@@ -1,4 +1,4 @@
-use Rattle.std.proofs.Common.{inl, inr, refl, ap, ◌∙◌, None, Some}
+use Rattle.std.proofs.Common.{◌≡◌, inl, inr, refl, ap, ◌∙◌, [], None, Some, arith}
 use Rattle.std.specs.Prelude.{Ok, Err}
 use Rattle.dr_facts.proofs.Lawful.{lawful-restarted}
 use Rattle.dr_model.specs.Moves.{Restart}
@@ -8,6 +8,7 @@ use Rattle.dr_moves.specs.Here.{world_seen}
 use Rattle.dr_moves.proofs.EnteredLemmas.{entered-by, calm-stop}
 use Rattle.dr_moves.proofs.MoveFits.{covers-all}
 use Rattle.dr_moves.proofs.PlaceLaws.{seen-lawful}
+use Rattle.dr_coord.proofs.QuietLemmas.{quiet-done}
 use Rattle.dr_coord.proofs.restarting.go_on.Goals as goal
 
 pub make_ready-requires-clause-ready : goal.make_ready-requires-clause-ready
@@ -42,3 +43,15 @@ returns-in-Err-clause-halts g c =
       | inr is ↦ inr (is ∙ ap (λ (q : Rest). (world_seen u t q c.make_ready.new.journal.events, Some c.in-Err.stop.server.0)) (calm-stop m refl c.in-Err.stop.counts r) ∙ ap (λ n. (world_seen u t r c.make_ready.new.journal.events, Some n)) server)
     ])
     (ap (λ n. Some (stopped n)) server)).halts
+
+pub returns-in-Ok-clause-told : goal.returns-in-Ok-clause-told
+returns-in-Ok-clause-told g c =
+    let s = g.P.Plant.state c.args.plant.now in
+    let u = g.P.Plant.state c.make_ready.new.plant in
+    let t = c.args.config.now in
+    let old = c.args.journal.now in
+    let new = c.make_ready.new.journal in
+    let r : Rest = record { issued = 0; pending = []; sessions = []; events = [] } in
+    let events = quiet-done (world_seen s t r old.events) (world_seen u t r new.events) (Restart c.args.v.0) refl (c.in-Ok.ensures.made.turned r) in
+    let left = c.in-Ok.ensures.room_left in
+    (λ i. record { events = events i; spare = (let e : new.spare ≡ old.spare = omega (arith, left) in e) i })
