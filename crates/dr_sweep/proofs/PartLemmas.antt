@@ -17,21 +17,21 @@ use Rattle.dr_plan.specs.Points.{script_of, lines_at}
 use Rattle.dr_plan.specs.Sweep.{Sweep}
 use Rattle.dr_sweep.specs.declared.parts.Part.{Part}
 use Rattle.dr_sweep.specs.declared.parts.Part.TheVariants.{Between, Within}
-use Rattle.dr_sweep.specs.Comes.{lost_count}
+use Rattle.dr_sweep.specs.Comes.{servers_lost}
 use Rattle.dr_sweep.specs.Parts.{IsOf, server_parts, line_parts, disaster_parts, parts_of}
 
 module _ (plan : Sweep) where
-  in-servers : (d l servers : ℕ) (part : Part) → d < length plan.loses → l < length plan.tried → servers ≡ lost_count plan d → In part (server_parts d l servers) → IsOf plan part
+  in-servers : (d l servers : ℕ) (part : Part) → d < length plan.loses → l < length plan.tried → servers ≡ servers_lost plan d → In part (server_parts d l servers) → IsOf plan part
   in-servers d l servers part low within is h =
       let image = from-map (λ x. Within d l x) (range_with_len 0 servers) part h in
       let below = range-below servers 0 image.from image.here in
       subst (λ (p : Part). IsOf plan p) (sym image.is) (low, within, (let lt = below in omega (arith, lt, is)))
 
   in-line : (d l : ℕ) (part : Part) → d < length plan.loses → l < length plan.tried → In part (line_parts plan d l) → IsOf plan part
-  in-line d l part low within h = by (in-joined (server_parts d l (lost_count plan d)) (Between d (l + 1) ∷ []) part h)
+  in-line d l part low within h = by (in-joined (server_parts d l (servers_lost plan d)) (Between d (l + 1) ∷ []) part h)
     where
-      by : In part (server_parts d l (lost_count plan d)) ⊎ In part (Between d (l + 1) ∷ []) → IsOf plan part
-      by (inl server) = in-servers d l (lost_count plan d) part low within refl server
+      by : In part (server_parts d l (servers_lost plan d)) ⊎ In part (Between d (l + 1) ∷ []) → IsOf plan part
+      by (inl server) = in-servers d l (servers_lost plan d) part low within refl server
       by (inr (inl is)) = subst (λ (p : Part). IsOf plan p) (sym is) (low, omega (arith, within))
       by (inr (inr none)) = absurd none
 
@@ -55,14 +55,14 @@ module _ (plan : Sweep) where
   gap-script d l is =
       let lost = element-at plan.loses d is.0 in
       let low = le-leb l (length plan.tried) is.1 in
-      rw (lost.1, low) tt
+      rw (lost.1, low) refl
 
   -- the script of a device write
   pub cut-script : (d l x write : ℕ) (torn : Torn) → IsOf plan (Within d l x) → IsSome (script_of plan (Cut d l x write torn))
   unfolding lines_at
   cut-script d l x write torn is =
       let lost = element-at plan.loses d is.0 in
-      let count : lost_count plan d ≡ length lost.0 = ap (λ (names : Option (List Name)). option_map_or length names 0) lost.1 in
+      let count : servers_lost plan d ≡ length lost.0 = ap (λ (names : Option (List Name)). option_map_or length names 0) lost.1 in
       let server = element-at lost.0 x (let lt = is.2 in omega (arith, lt, count)) in
       let line = element-at plan.tried l is.1 in
-      rw (lost.1, server.1, line.1) tt
+      rw (lost.1, server.1, line.1) refl

@@ -1,5 +1,5 @@
 -- The parts of a sweep, and their rows.
-use Rattle.std.specs.Prelude.{◌≡◌, ℕ, ◌+◌, ◌-◌, ◌^◌, ◌<◌, ◌≤◌, ◌⊎◌, Bool, true, false, List, [], ◌∷◌, ◌++◌, length, map, slice_get, Option, Result, Ok, if◌then◌else◌}
+use Rattle.std.specs.Prelude.{◌≡◌, ℕ, ◌+◌, ◌-◌, ◌^◌, ◌<◌, ◌≤◌, ◌⊎◌, Bool, true, false, List, [], ◌∷◌, ◌++◌, length, map, slice_get, Option, Some, None, Result, Ok, if◌then◌else◌}
 use Rattle.std.specs.List.{flat_map, range_with_len}
 use Rattle.std.specs.Option.{option_map_or, option_and_then}
 use Rattle.std.specs.Str.{bytes_eq}
@@ -8,6 +8,7 @@ use Rattle.dr_model.specs.declared.step.Name.{Name}
 use Rattle.dr_model.specs.declared.step.Step.{Step}
 use Rattle.dr_model.specs.declared.step.Step.TheVariants.{Start}
 use Rattle.dr_model.specs.Grammar.{line_of}
+use Rattle.dr_model.specs.Groups.{In}
 use Rattle.dr_model.specs.LineText.{name_text}
 use Rattle.dr_plan.specs.declared.points.Point.{Point}
 use Rattle.dr_plan.specs.declared.points.Point.TheVariants.{Cut, Gap}
@@ -19,7 +20,7 @@ use Rattle.dr_sweep.specs.declared.parts.Part.{Part}
 use Rattle.dr_sweep.specs.declared.parts.Part.TheVariants.{Between, Within}
 use Rattle.dr_sweep.specs.declared.point.PointFault.{PointFault}
 use Rattle.dr_sweep.specs.declared.point.PointFault.TheVariants.{NoMemory, TooLong}
-use Rattle.dr_sweep.specs.Comes.{ComesTo, IsTooLong, lost_count}
+use Rattle.dr_sweep.specs.Comes.{ComesTo, IsTooLong, servers_lost}
 use Rattle.dr_sweep.specs.Reach.{stops_in}
 use Rattle.dr_sweep.specs.Rows.{IsRow}
 
@@ -31,7 +32,7 @@ server_parts disaster line servers = map (λ server. Within disaster line server
 
 -- with the gap behind the line
 abbrev pub line_parts : Sweep → ℕ → ℕ → List Part
-line_parts plan disaster line = server_parts disaster line (lost_count plan disaster) ++ Between disaster (line + 1) ∷ []
+line_parts plan disaster line = server_parts disaster line (servers_lost plan disaster) ++ Between disaster (line + 1) ∷ []
 
 -- the gap before the first tried line, and the parts of each
 abbrev pub disaster_parts : Sweep → ℕ → List Part
@@ -142,24 +143,47 @@ abbrev pub FailsIn : Sweep → Part → PointFault → Type 0
 FailsIn plan part NoMemory = Unit {0}
 FailsIn plan part TooLong = (point : Point) × BelongsTo part point × IsTooLong plan point
 
+-- why a plan has no rows: in one of its parts a point has none
+pub record FailsLong (plan : Sweep) : Type 0 where
+  pub part : Part
+  pub among : In part (parts_of plan)
+  pub fails : FailsIn plan part TooLong
+
+-- by the fault
+abbrev pub FailsAtPart : Sweep → PointFault → Type 0
+FailsAtPart plan NoMemory = Unit {0}
+FailsAtPart plan TooLong = FailsLong plan
+
 -- the part is one of the plan's
 abbrev pub IsOf : Sweep → Part → Type 0
 IsOf plan (Between disaster line) = (disaster < length plan.loses) × (line ≤ length plan.tried)
-IsOf plan (Within disaster line server) = (disaster < length plan.loses) × (line < length plan.tried) × (server < lost_count plan disaster)
+IsOf plan (Within disaster line server) = (disaster < length plan.loses) × (line < length plan.tried) × (server < servers_lost plan disaster)
 
 -- ---- one step of the way
 
--- these rows were added
-pub record Adds (plan : Sweep) (points : List Point) (old new : List Outcome) : Type 0 where
+-- by what a point's run left: it was reached and this is its row, or it wasn't
+abbrev pub IsRowWhereReached : Sweep → Point → List Event → Option Outcome → Type 0
+IsRowWhereReached plan point events (Some row) = (is_reached plan point events ≡ true) × IsRow plan point events row
+IsRowWhereReached plan point events None = is_reached plan point events ≡ false
+
+-- what a point came to: a row, or none where it wasn't reached
+pub record Gives (plan : Sweep) (point : Point) (row : Option Outcome) : Type 0 where
+  pub events : List Event
+  pub comes : ComesTo plan point events
+  pub is : IsRowWhereReached plan point events row
+
+-- rows that are such were added
+pub record Adds (are_such : List Outcome → Type 0) (old new : List Outcome) : Type 0 where
   pub more : List Outcome
   pub cut : new ≡ old ++ more
-  pub are : AreRowsOf plan points more
+  pub are : are_such more
 
--- a point's row was added where it is reached, and none where it isn't
-abbrev pub AddsReached : Sweep → Point → List Outcome → List Outcome → Bool → Type 0
-AddsReached plan point old new reached = Adds plan (point ∷ []) old new × Reaches plan point reached
+-- the rows of points were added where one of them is reached, and none where it isn't
+abbrev pub AddsWhereReached : Sweep → Point → List Point → List Outcome → List Outcome → Bool → Type 0
+AddsWhereReached plan point points old new true = Adds (AreRowsOf plan points) old new × Reaches plan point true
+AddsWhereReached plan point points old new false = (new ≡ old) × Reaches plan point false
 
--- the rows of a device write were added, or none where it isn't reached
+-- those of a device write were, where it is reached with its block as it was
 abbrev pub AddsWrite : Sweep → ℕ → ℕ → ℕ → ℕ → List Outcome → List Outcome → Bool → Type 0
-AddsWrite plan disaster line server write old new true = Adds plan (write_points disaster line server write) old new × Reaches plan (Cut disaster line server write Unchanged) true
-AddsWrite plan disaster line server write old new false = (new ≡ old) × Reaches plan (Cut disaster line server write Unchanged) false
+AddsWrite plan disaster line server write old new reached =
+    AddsWhereReached plan (Cut disaster line server write Unchanged) (write_points disaster line server write) old new reached

@@ -11,6 +11,7 @@ use Rattle.dr_lost.specs.Broken.{IsFirstBroken}
 use Rattle.dr_lost.specs.Lost.{lost_writes, held_writes}
 use Rattle.dr_plan.specs.declared.points.Point.{Point}
 use Rattle.dr_plan.specs.Sweep.{Sweep}
+use Rattle.dr_rows.specs.declared.row.Answer.{Answer}
 use Rattle.dr_rows.specs.Outcome.{Outcome}
 use Rattle.dr_sweep.specs.Answers.{answers_of}
 use Rattle.dr_sweep.specs.Comes.{lines_before}
@@ -40,6 +41,11 @@ among writes w = list_any (nat_eq w) writes
 abbrev pub kept_between : Lists → Lists → List Item → List ℕ
 kept_between stop end uses = filter (among (held_writes stop (seconds_of uses))) (held_writes end (firsts_of uses))
 
+-- what became of the writes that the second volumes held: the first ones lost some and kept others
+pub record AreFates (stop end : Lists) (uses : List Item) (lost kept : List ℕ) : Type 0 where
+  pub lost_are : lost ≡ lost_writes stop end (pairs_of uses)
+  pub kept_are : kept ≡ kept_between stop end uses
+
 -- the lists of writes at the last stop of a server before the recovery, and at the end
 abbrev pub at_stop : Sweep → Point → List Event → Lists
 at_stop plan point events = (histories (take (stop_of (lines_before plan point + 1) events) events)).now
@@ -56,6 +62,13 @@ kept_of plan point events = kept_between (at_stop plan point events) (histories 
 abbrev pub IsBroken : List Event → List ℕ → List ℕ → Option Broken → Type 0
 IsBroken events kept lost None = (w u : ℕ) → IsTrue (among kept w) → IsTrue (among lost u) → DependsOn events w u → ⊥
 IsBroken events kept lost (Some b) = IsFirstBroken events (among kept) (among lost) b.held b.lost
+
+-- a row by its answers and by what became of the writes
+pub record HasFates (point : Point) (answers : List Answer) (events : List Event) (kept lost : List ℕ) (row : Outcome) : Type 0 where
+  pub point_is : row.point ≡ point
+  pub answers_are : row.answers ≡ answers
+  pub lost_are : row.lost ≡ lost
+  pub broken : IsBroken events kept row.lost row.broken
 
 -- the row of a point whose run left these events
 pub record IsRow (plan : Sweep) (point : Point) (events : List Event) (row : Outcome) : Type 0 where

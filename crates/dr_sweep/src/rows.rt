@@ -1,11 +1,13 @@
 //! The rows of one part of a sweep.
 
-ghost use Rattle.std.specs.Prelude.{◌≡◌, ◌++◌, ◌∷◌, [], IfOk, IfErr, OnOk, IsSome, Ok};
+ghost use Rattle.std.specs.Prelude.{◌≡◌, ◌++◌, ◌∷◌, [], IfOk, IfErr, OnOk, IsSome, is_some, Ok};
+ghost use Rattle.std.specs.List.{cons_option};
 ghost use Rattle.std.specs.Option.{option_copied};
 ghost use Rattle.dr_model.specs.Groups.{In};
+ghost use Rattle.dr_plan.specs.declared.points.Point.TheVariants.{Cut};
 ghost use Rattle.dr_plan.specs.Points.{script_of};
 ghost use Rattle.dr_sweep.specs.Comes.{FailsAt};
-ghost use Rattle.dr_sweep.specs.Parts.{name_at, starts, starts_by, first_write, is_reached, AddsReached, AddsWrite, AreWithin, AreRows, FailsIn, IsOf, parts_of};
+ghost use Rattle.dr_sweep.specs.Parts.{name_at, starts, starts_by, first_write, is_reached, IsRowWhereReached, Gives, Adds, AddsWhereReached, AddsWrite, AreWithin, AreRows, FailsIn, IsOf, parts_of};
 ghost use Rattle.dr_sweep.specs.declared.parts.Part.TheVariants.{Within};
 
 use crate::parts::Part;
@@ -88,16 +90,52 @@ fn is_reached(plan: &SweepPlan, point: Point, journal: &Journal) -> bool
     }
 }
 
-/// Adds a row.
-fn push_row(rows: &mut Vec<Row>, row: Row) -> Result<(), AllocError>
-    ensures { OnOk result (rows.new.items ≡ rows.old.items ++ row ∷ []) }
+/// The row of a point whose run left that journal, where it was reached.
+fn row_where_reached(
+    alloc: Global,
+    plan: &SweepPlan,
+    point: Point,
+    journal: &Journal,
+) -> Result<Option<Row>, AllocError>
+    ensures { IfOk result (IsRowWhereReached plan.now point journal.now.events) }
 {
-    rows.push(row)?;
-    Ok(())
+    if !is_reached(plan, point, journal) {
+        return Ok(None);
+    }
+    match row_of(alloc, plan, point, journal) {
+        Ok(row) => Ok(Some(row)),
+        Err(fault) => Err(fault),
+    }
+}
+
+/// Runs the script of a point, and gives its row, where the point is reached.
+fn row_at(alloc: Global, plan: &SweepPlan, point: Point) -> Result<Option<Row>, PointFault>
+    requires { IsSome (script_of plan.now point) }
+    ensures gives { IfOk result (Gives plan.now point) }
+    ensures fails { IfErr result (FailsAt plan.now point) }
+{
+    let journal = try_point(alloc, plan, point)?;
+    match row_where_reached(alloc, plan, point, &journal) {
+        Ok(row) => Ok(row),
+        Err(_) => Err(PointFault::NoMemory),
+    }
+}
+
+/// Adds a row, where there is one, and says whether there is.
+fn push_some(rows: &mut Vec<Row>, row: Option<Row>) -> Result<bool, AllocError>
+    ensures pushed { OnOk result (rows.new.items ≡ rows.old.items ++ cons_option row []) }
+    ensures says { IfOk result (λ some. some ≡ is_some row) }
+{
+    match row {
+        Some(row) => {
+            rows.push(row)?;
+            Ok(true)
+        }
+        None => Ok(false),
+    }
 }
 
 /// Adds the row of a point where it is reached, and says whether it is.
-#[tactic(none)]
 fn add_row(
     alloc: Global,
     plan: &SweepPlan,
@@ -105,19 +143,27 @@ fn add_row(
     rows: &mut Vec<Row>,
 ) -> Result<bool, PointFault>
     requires { IsSome (script_of plan.now point) }
-    ensures adds { IfOk result (AddsReached plan.now point rows.old.items rows.new.items) }
+    ensures adds { IfOk result (AddsWhereReached plan.now point (point ∷ []) rows.old.items rows.new.items) }
     ensures fails { IfErr result (FailsAt plan.now point) }
 {
-    let journal = try_point(alloc, plan, point)?;
-    if !is_reached(plan, point, &journal) {
-        return Ok(false);
+    let row = row_at(alloc, plan, point)?;
+    Ok(push_some(rows, row)?)
+}
+
+/// The point of a device write.
+fn cut_at(disaster: usize, line: usize, server: usize, write: u32, torn: Torn) -> Point
+    ensures { result ≡ Cut disaster line server write torn }
+{
+    Point::Cut {
+        disaster,
+        line,
+        server,
+        write,
+        torn,
     }
-    push_row(rows, row_of(alloc, plan, point, &journal)?)?;
-    Ok(true)
 }
 
 /// Adds the rows of a device write where it is reached, and says whether it is.
-#[tactic(none)]
 fn add_write(
     alloc: Global,
     plan: &SweepPlan,
@@ -131,61 +177,59 @@ fn add_write(
     ensures adds { IfOk result (AddsWrite plan.now disaster line server write rows.old.items rows.new.items) }
     ensures fails { IfErr result (FailsIn plan.now (Within disaster line server)) }
 {
-    let cut = |torn| Point::Cut {
-        disaster,
-        line,
-        server,
-        write,
-        torn,
-    };
-    if !add_row(alloc, plan, cut(Torn::Unchanged), rows)? {
+    let unchanged = cut_at(disaster, line, server, write, Torn::Unchanged);
+    let zeros = cut_at(disaster, line, server, write, Torn::Zeros);
+    let ones = cut_at(disaster, line, server, write, Torn::Ones);
+    if !add_row(alloc, plan, unchanged, rows)? {
         return Ok(false);
     }
-    add_row(alloc, plan, cut(Torn::Zeros), rows)?;
-    add_row(alloc, plan, cut(Torn::Ones), rows)?;
+    add_row(alloc, plan, zeros, rows)?;
+    add_row(alloc, plan, ones, rows)?;
     Ok(true)
 }
 
-/// The rows of a server's device writes in a tried line.
-#[tactic(none)]
-fn rows_within(
+/// Adds the rows of a server's device writes in a tried line.
+fn add_within(
     alloc: Global,
     plan: &SweepPlan,
     disaster: usize,
     line: usize,
     server: usize,
-) -> Result<Vec<Row>, PointFault>
+    rows: &mut Vec<Row>,
+) -> Result<(), PointFault>
     requires is_of { IsOf plan.now (Within disaster line server) }
-    ensures rows { IfOk result (λ rows. AreWithin plan.now disaster line server rows.items) }
+    ensures adds { OnOk result (Adds (AreWithin plan.now disaster line server) rows.old.items rows.new.items) }
     ensures fails { IfErr result (FailsIn plan.now (Within disaster line server)) }
 {
-    let mut rows = Vec::new(alloc);
     let first = first_write(alloc, plan, disaster, line, server)?;
     for write in first..u32::MAX {
-        if !add_write(alloc, plan, disaster, line, server, write, &mut rows)? {
-            return Ok(rows);
+        if !add_write(alloc, plan, disaster, line, server, write, rows)? {
+            return Ok(());
         }
     }
-    Ok(rows)
+    Ok(())
 }
 
-/// The rows of one part of a sweep, in order.
-#[tactic(none)]
-pub(crate) fn rows_of(alloc: Global, plan: &SweepPlan, part: Part) -> Result<Vec<Row>, PointFault>
+/// Adds the rows of one part of a sweep, in order.
+pub(crate) fn add_part(
+    alloc: Global,
+    plan: &SweepPlan,
+    part: Part,
+    rows: &mut Vec<Row>,
+) -> Result<(), PointFault>
     requires is_of { In part (parts_of plan.now) }
-    ensures rows { IfOk result (λ rows. AreRows plan.now part rows.items) }
+    ensures adds { OnOk result (Adds (AreRows plan.now part) rows.old.items rows.new.items) }
     ensures fails { IfErr result (FailsIn plan.now part) }
 {
     match part {
         Part::Between { disaster, line } => {
-            let mut rows = Vec::new(alloc);
-            add_row(alloc, plan, Point::Gap { disaster, line }, &mut rows)?;
-            Ok(rows)
+            add_row(alloc, plan, Point::Gap { disaster, line }, rows)?;
+            Ok(())
         }
         Part::Within {
             disaster,
             line,
             server,
-        } => rows_within(alloc, plan, disaster, line, server),
+        } => add_within(alloc, plan, disaster, line, server, rows),
     }
 }
