@@ -17,14 +17,14 @@ use Rattle.dr_top.specs.Tried.{AreAll, IsTried}
 use Rattle.dr_top.specs.declared.status.Status.TheVariants.{TooLong as PastLimit}
 
 -- how many servers a disaster takes
-abbrev pub lost_count : Sweep → ℕ → ℕ
-lost_count plan disaster = option_map_or length (slice_get plan.loses disaster) 0
+abbrev pub servers_lost : Sweep → ℕ → ℕ
+servers_lost plan disaster = option_map_or length (slice_get plan.loses disaster) 0
 
 -- how many lines of a point's script stand before those of the recovery: with the set-up and the tried lines the stops of all servers, and the
 -- line that is cut short
 abbrev pub lines_before : Sweep → Point → ℕ
-lines_before plan (Cut disaster line server write torn) = length plan.setup + line + lost_count plan disaster + 1
-lines_before plan (Gap disaster line) = length plan.setup + line + lost_count plan disaster
+lines_before plan (Cut disaster line server write torn) = length plan.setup + line + servers_lost plan disaster + 1
+lines_before plan (Gap disaster line) = length plan.setup + line + servers_lost plan disaster
 
 -- A script, run whole on a fresh plant, leaves these events, and that is how it stands.
 pub record RunsWhole (script : List ℕ) (events : List Event) : Type 0 where

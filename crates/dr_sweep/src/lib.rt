@@ -11,6 +11,9 @@ mod parts;
 mod places;
 mod point;
 mod reach;
+mod row;
+mod rows;
+mod walk;
 
 pub use answers::answers_of;
 pub use parts::{Part, parts_of};

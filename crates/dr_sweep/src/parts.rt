@@ -3,7 +3,7 @@
 ghost use Rattle.std.specs.Prelude.{◌≡◌, ◌<◌, ◌++◌, ◌^◌, ◌-◌, IfOk, OnOk};
 ghost use Rattle.dr_sweep.specs.Parts.{line_parts, disaster_parts, parts_of, server_parts};
 
-use crate::point::lost_count;
+use crate::point::servers_lost;
 use dr_plan::SweepPlan;
 use std::alloc::{AllocError, Global};
 
@@ -52,7 +52,7 @@ fn push_line(
     requires { line < 2 ^ 64 - 1 }
     ensures { OnOk result (parts.new.items ≡ parts.old.items ++ line_parts plan.now disaster line) }
 {
-    push_servers(parts, lost_count(plan, disaster), disaster, line)?;
+    push_servers(parts, servers_lost(plan, disaster), disaster, line)?;
     parts.push(Part::Between {
         disaster,
         line: line + 1,

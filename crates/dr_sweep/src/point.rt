@@ -2,7 +2,7 @@
 
 ghost use Rattle.std.specs.Prelude.{◌≡◌, ◌<◌, ◌^◌, IfOk, IfErr, IsSome};
 ghost use Rattle.dr_plan.specs.Points.{script_of};
-ghost use Rattle.dr_sweep.specs.Comes.{ComesTo, FailsAt, FailsOn, RunsWhole, lines_before, lost_count};
+ghost use Rattle.dr_sweep.specs.Comes.{ComesTo, FailsAt, FailsOn, RunsWhole, lines_before, servers_lost};
 ghost use Rattle.dr_sweep.specs.declared.point.PointFault.TheVariants.{NoMemory};
 
 use dr_model::Journal;
@@ -21,6 +21,8 @@ pub enum PointFault {
 }
 
 impl From<AllocError> for PointFault {
+    ghost from_gives = { λ _ fault. fault ≡ NoMemory };
+
     fn from(_: AllocError) -> PointFault
         ensures { result ≡ NoMemory }
     {
@@ -29,8 +31,8 @@ impl From<AllocError> for PointFault {
 }
 
 /// How many servers a disaster takes.
-pub(crate) fn lost_count(plan: &SweepPlan, disaster: usize) -> usize
-    ensures { result ≡ lost_count plan.now disaster }
+pub(crate) fn servers_lost(plan: &SweepPlan, disaster: usize) -> usize
+    ensures { result ≡ servers_lost plan.now disaster }
 {
     match plan.disasters().get(disaster) {
         Some(lost) => lost.servers().len(),
@@ -46,10 +48,10 @@ pub fn lines_before(plan: &SweepPlan, point: Point) -> u128
     let setup = plan.setup().len() as u128;
     match point {
         Point::Cut { disaster, line, .. } => {
-            setup + line as u128 + lost_count(plan, disaster) as u128 + 1
+            setup + line as u128 + servers_lost(plan, disaster) as u128 + 1
         }
         Point::Gap { disaster, line } => {
-            setup + line as u128 + lost_count(plan, disaster) as u128
+            setup + line as u128 + servers_lost(plan, disaster) as u128
         }
     }
 }

@@ -1,0 +1,120 @@
+-- How a call of the program ends, by what was read and put.
+use Rattle.std.proofs.Common.{ℕ, ◌≡◌, ◌⊎◌, inl, inr, List, refl, ap, ◌∙◌, sym, subst, arith, Bool, true, false, Option, Result, Ok, Err}
+use Rattle.std.specs.Str.Lines.{lines}
+use Rattle.dr_logic.specs.Counts.{Counted, Rose}
+use Rattle.dr_io.specs.Given.{Gave, GavePart, Took}
+use Rattle.dr_plan.specs.Sweep.{Sweep}
+use Rattle.dr_sweep.specs.declared.ending.Ending.{Ending}
+use Rattle.dr_sweep.specs.declared.ending.Ending.TheVariants.{Done, Finding, Usage, ReadFault, WriteFault, NoMemory, TooLong, BadPlan}
+use Rattle.dr_sweep.specs.declared.point.PointFault.{PointFault}
+use Rattle.dr_sweep.specs.declared.point.PointFault.TheVariants.{NoMemory as PointMemory, TooLong as PointLong}
+use Rattle.dr_sweep.specs.declared.printing.Asked.{Asked}
+use Rattle.dr_sweep.specs.Ending.{is_read_fault, is_write_fault, finding_ending, fault_ending, ending_of}
+use Rattle.dr_sweep.specs.Calls.{FailsAtPart, IsAnswer, AnswersBy, BadBy, Puts, EndsUsage, EndsOn, EndsBad, EndsText, OfText, EndsSweep, IsSweep, usage_line, bad_line_text}
+use Rattle.dr_top.specs.Offline.{IsTaken, HasTakenSome, NotTaken, TakesText}
+use Rattle.dr_top.specs.declared.offline.NotRead.{NotRead}
+use Rattle.dr_top.specs.declared.offline.NotRead.TheVariants.{ReadFault as OnSource, TooLong as PastLimit, NoMemory as OnMemory}
+use Rattle.dr_words.specs.declared.sweep.SweepCommand.{SweepCommand}
+
+-- a call that has put an answer ends so
+abbrev pub is_answered : Ending → Bool
+is_answered Done = true
+is_answered Finding = true
+is_answered Usage = true
+is_answered _ = false
+
+pub found-answered : (found : Bool) → is_answered (finding_ending found) ≡ true
+found-answered true = refl
+found-answered false = refl
+
+pub answered-no-fault : (ending : Ending) → is_answered ending ≡ true → is_write_fault ending ≡ false
+answered-no-fault Done yes = refl
+answered-no-fault Finding yes = refl
+answered-no-fault Usage yes = refl
+answered-no-fault ReadFault yes = refl
+answered-no-fault WriteFault yes = absurd (cc)
+answered-no-fault NoMemory yes = refl
+answered-no-fault TooLong yes = refl
+answered-no-fault BadPlan yes = refl
+
+module _ {K : Type 0} (written : K → Option (List ℕ)) (faults : K → ℕ) (k k' : K) where
+  module _ (plan : Sweep) (asked : Asked) where
+    -- an answer was put
+    pub answer-put : (text : List ℕ) (ending : Ending) → IsAnswer plan asked text ending → is_answered ending ≡ true → (result : Ending) → Puts written k k' faults text ending result → EndsOn written k k' faults plan asked result
+    answer-put text ending is yes Done put = (record { text = text; is = subst (λ e. IsAnswer plan asked text e) put.0 is; gave = put.1 }, put.2)
+    answer-put text ending is yes Finding put = (record { text = text; is = subst (λ e. IsAnswer plan asked text e) put.0 is; gave = put.1 }, put.2)
+    answer-put text ending is yes Usage put = (record { text = text; is = subst (λ e. IsAnswer plan asked text e) put.0 is; gave = put.1 }, put.2)
+    answer-put text ending is yes WriteFault put = (record { text = text; ending = ending; is = is; gave = put.0 }, put.1)
+    answer-put text ending is yes ReadFault put = absurd (let same = put.0 in let other = ap is_answered same in cc)
+    answer-put text ending is yes NoMemory put = absurd (let same = put.0 in let other = ap is_answered same in cc)
+    answer-put text ending is yes TooLong put = absurd (let same = put.0 in let other = ap is_answered same in cc)
+    answer-put text ending is yes BadPlan put = absurd (let same = put.0 in let other = ap is_answered same in cc)
+
+  -- the line on a text that is no plan was put
+  pub bad-put : (line : ℕ) (result : Ending) → Puts written k k' faults (bad_line_text line) BadPlan result → EndsBad written k k' faults line result
+  bad-put line BadPlan put = (put.1, put.2)
+  bad-put line WriteFault put = (put.0, put.1)
+  bad-put line Done put = absurd (let same = put.0 in cc)
+  bad-put line Finding put = absurd (let same = put.0 in cc)
+  bad-put line Usage put = absurd (let same = put.0 in cc)
+  bad-put line ReadFault put = absurd (let same = put.0 in cc)
+  bad-put line NoMemory put = absurd (let same = put.0 in cc)
+  bad-put line TooLong put = absurd (let same = put.0 in cc)
+
+  -- the usage line was put
+  pub usage-put : (result : Ending) → Puts written k k' faults usage_line Usage result → EndsUsage written k k' faults result
+  usage-put NoMemory put = absurd (let same = put.0 in cc)
+  usage-put Done put = put
+  usage-put Finding put = put
+  usage-put Usage put = put
+  usage-put ReadFault put = put
+  usage-put WriteFault put = put
+  usage-put TooLong put = put
+  usage-put BadPlan put = put
+
+module _ {K : Type 0} (written : K → Option (List ℕ)) (faults : K → ℕ) (k : K) where
+  -- a point has no row
+  pub part-fails : (plan : Sweep) (asked : Asked) (fault : PointFault) → FailsAtPart plan fault → EndsOn written k k faults plan asked (fault_ending fault)
+  part-fails plan asked PointMemory fails = (refl, refl)
+  part-fails plan asked PointLong fails = ((fails, refl), refl)
+
+module _ {S K : Type 0} (left : S → Option (List ℕ)) (written : K → Option (List ℕ)) (s s' : S) (k k' : K) (read_faults : S → ℕ) (write_faults : K → ℕ) (command : SweepCommand) where
+  some-taken : (text : List ℕ) → IsTaken left s s' text → HasTakenSome left s s'
+  some-taken text taken = record { text = text; took = taken.took; within = taken.within }
+
+  module _ (text : List ℕ) (taken : IsTaken left s s' text) (kept : read_faults s' ≡ read_faults s) where
+    of-text : (result : Ending) → EndsText written k k' write_faults (lines text) command result → OfText left written s s' k k' read_faults write_faults command result
+    of-text result ends = record { text = text; taken = taken; ends = ends }
+
+    counts : (result : Ending) → EndsText written k k' write_faults (lines text) command result → Counted (is_write_fault result) (write_faults k) (write_faults k')
+    counts result (inl plan) = plan.ends.1
+    counts result (inr (inl bad)) = bad.ends.1
+    counts result (inr (inr (is, same))) = subst (λ e. Counted (is_write_fault e) (write_faults k) (write_faults k')) (sym is) (ap write_faults same)
+
+    never-read : EndsText written k k' write_faults (lines text) command ReadFault → ⊥
+    never-read (inl plan) = plan.ends.0
+    never-read (inr (inl bad)) = bad.ends.0
+    never-read (inr (inr (is, same))) = cc
+
+    no-memory : EndsText written k k' write_faults (lines text) command NoMemory → k' ≡ k
+    no-memory (inl plan) = plan.ends.0
+    no-memory (inr (inl bad)) = bad.ends.0
+    no-memory (inr (inr (is, same))) = same
+
+    -- a text was read to its end
+    pub text-read : (result : Ending) → EndsText written k k' write_faults (lines text) command result → IsSweep left written s s' k k' read_faults write_faults command result
+    text-read Done ends = record { ends = of-text Done ends; reads = kept; writes = counts Done ends }
+    text-read Finding ends = record { ends = of-text Finding ends; reads = kept; writes = counts Finding ends }
+    text-read Usage ends = record { ends = of-text Usage ends; reads = kept; writes = counts Usage ends }
+    text-read ReadFault ends = absurd (never-read ends)
+    text-read WriteFault ends = record { ends = of-text WriteFault ends; reads = kept; writes = counts WriteFault ends }
+    text-read NoMemory ends = record { ends = (some-taken text taken, no-memory ends); reads = kept; writes = counts NoMemory ends }
+    text-read TooLong ends = record { ends = inl (of-text TooLong ends); reads = kept; writes = counts TooLong ends }
+    text-read BadPlan ends = record { ends = of-text BadPlan ends; reads = kept; writes = counts BadPlan ends }
+
+-- a text wasn't read to its end
+pub text-not-read : {S K : Type 0} (left : S → Option (List ℕ)) (written : K → Option (List ℕ)) (s s' : S) (k : K) (read_faults : S → ℕ) (write_faults : K → ℕ) (command : SweepCommand) (fault : NotRead)
+    → NotTaken left s s' read_faults fault → IsSweep left written s s' k k read_faults write_faults command (ending_of fault)
+text-not-read left written s s' k read_faults write_faults command OnSource taken = record { ends = (taken.0, refl); reads = taken.1; writes = refl }
+text-not-read left written s s' k read_faults write_faults command PastLimit taken = record { ends = inr (taken.0, refl); reads = taken.1; writes = refl }
+text-not-read left written s s' k read_faults write_faults command OnMemory taken = record { ends = (taken.0, refl); reads = taken.1; writes = refl }

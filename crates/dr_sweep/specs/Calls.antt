@@ -1,0 +1,155 @@
+-- How a call of the program ends.
+use Rattle.std.specs.Prelude.{◌≡◌, ℕ, ◌⊎◌, List, [], ◌∷◌, ◌++◌, codes, Option, Some, None}
+use Rattle.std.specs.Fmt.{decimal}
+use Rattle.std.specs.Option.{option_and_then}
+use Rattle.std.specs.Str.Lines.{lines}
+use Rattle.dr_logic.specs.Counts.{Counted, Rose}
+use Rattle.dr_io.specs.Given.{Gave, GavePart}
+use Rattle.dr_model.specs.Groups.{In}
+use Rattle.dr_plan.specs.declared.points.Point.{Point}
+use Rattle.dr_plan.specs.Outcome.{IsFirstBad}
+use Rattle.dr_plan.specs.Parts.{IsPlan}
+use Rattle.dr_plan.specs.Points.{script_of}
+use Rattle.dr_plan.specs.Sweep.{Sweep}
+use Rattle.dr_rows.specs.Findings.{has_finding}
+use Rattle.dr_rows.specs.Outcome.{Outcome}
+use Rattle.dr_sweep.specs.declared.ending.Ending.{Ending}
+use Rattle.dr_sweep.specs.declared.ending.Ending.TheVariants.{Done, Finding, Usage, ReadFault, WriteFault, NoMemory, TooLong, BadPlan}
+use Rattle.dr_sweep.specs.declared.parts.Part.{Part}
+use Rattle.dr_sweep.specs.declared.point.PointFault.{PointFault}
+use Rattle.dr_sweep.specs.declared.point.PointFault.TheVariants.{NoMemory as PointMemory, TooLong as PointLong}
+use Rattle.dr_sweep.specs.declared.printing.Asked.{Asked}
+use Rattle.dr_sweep.specs.declared.printing.Asked.TheVariants.{Rows, Script}
+use Rattle.dr_sweep.specs.declared.printing.View.{View}
+use Rattle.dr_sweep.specs.Ending.{is_read_fault, is_write_fault, finding_ending}
+use Rattle.dr_sweep.specs.Parts.{AreSwept, FailsIn, parts_of}
+use Rattle.dr_sweep.specs.Printing.{says, asked_of}
+use Rattle.dr_top.specs.Offline.{IsTaken, HasTakenSome, HasTakenTooMuch}
+use Rattle.dr_words.specs.declared.sweep.SweepCommand.{SweepCommand}
+
+-- the usage line, with its line feed
+abbrev pub usage_line : List ℕ
+usage_line = codes "usage: sweep [rows | picture | script LINE SERVER WRITE TORN [DISASTER] | script LINE gap [DISASTER]]" ++ 10 ∷ []
+
+-- what is put of a text that is no plan
+abbrev pub bad_line_text : ℕ → List ℕ
+bad_line_text line = codes "bad plan line " ++ decimal line ++ 10 ∷ []
+
+-- why a plan has no rows: in one of its parts a point has none
+pub record FailsLong (plan : Sweep) : Type 0 where
+  pub part : Part
+  pub among : In part (parts_of plan)
+  pub fails : FailsIn plan part PointLong
+
+-- by the fault
+abbrev pub FailsAtPart : Sweep → PointFault → Type 0
+FailsAtPart plan PointMemory = Unit {0}
+FailsAtPart plan PointLong = FailsLong plan
+
+-- the text on all rows of a plan; a sweep ends as its findings say
+pub record IsShown (plan : Sweep) (view : View) (text : List ℕ) (ending : Ending) : Type 0 where
+  pub rows : List Outcome
+  pub are : AreSwept plan (parts_of plan) rows
+  pub says_so : text ≡ says view plan rows
+  pub ends : ending ≡ finding_ending (has_finding plan rows)
+
+-- the script of a point, or the usage line
+abbrev pub IsScript : Option (List ℕ) → List ℕ → Ending → Type 0
+IsScript None text ending = (text ≡ usage_line) × (ending ≡ Usage)
+IsScript (Some script) text ending = (text ≡ script) × (ending ≡ Done)
+
+-- what is to be put of a plan for what is asked, and how a call ends that has put it
+abbrev pub IsAnswer : Sweep → Asked → List ℕ → Ending → Type 0
+IsAnswer plan (Rows view) text ending = IsShown plan view text ending
+IsAnswer plan (Script point) text ending = IsScript (option_and_then (script_of plan) point) text ending
+
+module _ {K : Type 0} (written : K → Option (List ℕ)) (sink sink' : K) where
+  -- an answer was put
+  pub record HasPut (plan : Sweep) (asked : Asked) (ending : Ending) : Type 0 where
+    pub text : List ℕ
+    pub is : IsAnswer plan asked text ending
+    pub gave : Gave written sink sink' text
+
+  -- a front of one was put
+  pub record HasPutPart (plan : Sweep) (asked : Asked) : Type 0 where
+    pub text : List ℕ
+    pub ending : Ending
+    pub is : IsAnswer plan asked text ending
+    pub gave : GavePart written sink sink' text
+
+  -- by the ending, what was put of a plan
+  abbrev pub AnswersBy : Sweep → Asked → Ending → Type 0
+  AnswersBy plan asked Done = HasPut plan asked Done
+  AnswersBy plan asked Finding = HasPut plan asked Finding
+  AnswersBy plan asked Usage = HasPut plan asked Usage
+  AnswersBy plan asked ReadFault = ⊥
+  AnswersBy plan asked WriteFault = HasPutPart plan asked
+  AnswersBy plan asked NoMemory = sink' ≡ sink
+  AnswersBy plan asked TooLong = FailsLong plan × (sink' ≡ sink)
+  AnswersBy plan asked BadPlan = ⊥
+
+  -- of a text that is no plan the line was put that says so, or a front of it
+  abbrev pub BadBy : ℕ → Ending → Type 0
+  BadBy line BadPlan = Gave written sink sink' (bad_line_text line)
+  BadBy line WriteFault = GavePart written sink sink' (bad_line_text line)
+  BadBy line NoMemory = sink' ≡ sink
+  BadBy line _ = ⊥
+
+  module _ (faults : K → ℕ) where
+    -- a text was put, and the call ends so; or a front of it was, where the sink failed
+    abbrev pub Puts : List ℕ → Ending → Ending → Type 0
+    Puts text ending WriteFault = GavePart written sink sink' text × Rose (faults sink) (faults sink')
+    Puts text ending result = (ending ≡ result) × Gave written sink sink' text × (faults sink' ≡ faults sink)
+
+    -- words that are no command: the usage line; nothing where there was no memory to read them
+    abbrev pub EndsUsage : Ending → Type 0
+    EndsUsage NoMemory = sink' ≡ sink
+    EndsUsage result = Puts usage_line Usage result
+
+    -- the count of the sink rose exactly where the ending says so
+    abbrev pub CountsSink : Ending → Type 0
+    CountsSink result = Counted (is_write_fault result) (faults sink) (faults sink')
+
+    -- how a call ends that has read a plan
+    abbrev pub EndsOn : Sweep → Asked → Ending → Type 0
+    EndsOn plan asked result = AnswersBy plan asked result × CountsSink result
+
+    -- how one ends that has read a text whose first bad line that is
+    abbrev pub EndsBad : ℕ → Ending → Type 0
+    EndsBad line result = BadBy line result × CountsSink result
+
+    -- lines are a plan, and this is what became of it
+    pub record OfPlan (lines : List (List ℕ)) (command : SweepCommand) (result : Ending) : Type 0 where
+      pub plan : Sweep
+      pub is : IsPlan lines plan
+      pub ends : EndsOn plan (asked_of plan command) result
+
+    -- lines are none
+    pub record OfBadLine (lines : List (List ℕ)) (result : Ending) : Type 0 where
+      pub line : ℕ
+      pub first : IsFirstBad lines line
+      pub ends : EndsBad line result
+
+    -- lines are a plan or none, or there was no memory to read them
+    abbrev pub EndsText : List (List ℕ) → SweepCommand → Ending → Type 0
+    EndsText lines command result = OfPlan lines command result ⊎ OfBadLine lines result ⊎ ((result ≡ NoMemory) × (sink' ≡ sink))
+
+module _ {S K : Type 0} (left : S → Option (List ℕ)) (written : K → Option (List ℕ)) (source source' : S) (sink sink' : K) (read_faults : S → ℕ) (write_faults : K → ℕ) where
+  -- all that the source had was taken, within the limits of a script, and this is what became of it
+  pub record OfText (command : SweepCommand) (result : Ending) : Type 0 where
+    pub text : List ℕ
+    pub taken : IsTaken left source source' text
+    pub ends : EndsText written sink sink' write_faults (lines text) command result
+
+  -- by the ending: where the text wasn't read to its end nothing was put
+  abbrev pub EndsSweep : SweepCommand → Ending → Type 0
+  EndsSweep command ReadFault = HasTakenSome left source source' × (sink' ≡ sink)
+  EndsSweep command NoMemory = HasTakenSome left source source' × (sink' ≡ sink)
+  EndsSweep command TooLong = OfText command TooLong ⊎ (HasTakenTooMuch left source source' × (sink' ≡ sink))
+  EndsSweep command result = OfText command result
+
+  -- A call for a command. A count of source or sink rose exactly where the ending says so.
+  pub record IsSweep (command : SweepCommand) (result : Ending) : Type 0 where
+    pub ends : EndsSweep command result
+    pub reads : Counted (is_read_fault result) (read_faults source) (read_faults source')
+    pub writes : Counted (is_write_fault result) (write_faults sink) (write_faults sink')

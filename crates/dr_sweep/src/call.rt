@@ -1,0 +1,166 @@
+//! The call that the program `sweep` makes.
+
+ghost use Rattle.std.specs.Prelude.{◌≡◌, Some, None, IfOk, false, string_bytes};
+ghost use Rattle.std.specs.Str.Lines.{lines};
+ghost use Rattle.dr_sweep.specs.Calls.{bad_line_text, usage_line, Puts, EndsOn, EndsBad, EndsText, IsSweep, EndsUsage};
+ghost use Rattle.dr_sweep.specs.Ending.{is_write_fault};
+ghost use Rattle.dr_sweep.specs.declared.ending.Ending.TheVariants.{Usage};
+ghost use Rattle.dr_sweep.specs.declared.printing.Asked.TheVariants.{Rows, Script};
+ghost use Rattle.dr_words.specs.Sweep.{sweep_command_of};
+ghost use Rattle.dr_words.specs.declared.sweep.SweepCommand.{SweepCommand};
+
+use crate::ending::{Ending, ending_of, fault_ending, finding_ending};
+use crate::printing::{Asked, View, asked_of, says, script_of};
+use crate::walk::all_rows;
+use dr_io::{Sink, Source};
+use dr_plan::{PlanFault, Point, SweepPlan, read_plan};
+use dr_rows::has_finding;
+use dr_top::{put_all, read_text};
+use dr_words::{SweepCommand, sweep_command_of};
+use std::alloc::{AllocError, Global};
+
+const USAGE: &[u8] =
+    b"usage: sweep [rows | picture | script LINE SERVER WRITE TORN [DISASTER] | script LINE gap [DISASTER]]\n";
+
+/// Puts a text, and ends so where the sink took all of it.
+fn put_text<K: Sink>(sink: &mut K, text: &[u8], ending: Ending) -> Ending
+    requires { is_write_fault ending ≡ false }
+    ensures { Puts K.written sink.old sink.new K.faults text.now ending result }
+{
+    match put_all(sink, text) {
+        Ok(()) => ending,
+        Err(_) => Ending::WriteFault,
+    }
+}
+
+/// Sweeps over a plan, and puts what is asked for of its rows.
+fn show<K: Sink, Q: Sink>(
+    alloc: Global,
+    plan: &SweepPlan,
+    view: View,
+    sink: &mut K,
+    progress: &mut Q,
+) -> Ending
+    ensures { EndsOn K.written sink.old sink.new K.faults plan.now (Rows view) result }
+{
+    let rows = match all_rows(alloc, plan, progress) {
+        Ok(rows) => rows,
+        Err(fault) => return fault_ending(fault),
+    };
+    let Ok(text) = says(alloc, view, plan, &rows) else {
+        return Ending::NoMemory;
+    };
+    let Ok(found) = has_finding(alloc, plan, &rows) else {
+        return Ending::NoMemory;
+    };
+    put_text(sink, text.bytes(), finding_ending(found))
+}
+
+/// Puts the script of a point, or the usage line where the plan has no such point.
+fn put_script<K: Sink>(
+    alloc: Global,
+    plan: &SweepPlan,
+    point: Option<Point>,
+    sink: &mut K,
+) -> Ending
+    ensures { EndsOn K.written sink.old sink.new K.faults plan.now (Script point) result }
+{
+    match script_of(alloc, plan, point) {
+        Ok(Some(script)) => put_text(sink, script.bytes(), Ending::Done),
+        Ok(None) => put_text(sink, USAGE, Ending::Usage),
+        Err(_) => Ending::NoMemory,
+    }
+}
+
+/// Puts what is asked for of a plan.
+fn answer<K: Sink, Q: Sink>(
+    alloc: Global,
+    plan: &SweepPlan,
+    asked: Asked,
+    sink: &mut K,
+    progress: &mut Q,
+) -> Ending
+    ensures { EndsOn K.written sink.old sink.new K.faults plan.now asked result }
+{
+    match asked {
+        Asked::Rows(view) => show(alloc, plan, view, sink, progress),
+        Asked::Script(point) => put_script(alloc, plan, point, sink),
+    }
+}
+
+/// What is put of a text that is no plan.
+fn bad_line_text(alloc: Global, line: usize) -> Result<String, AllocError>
+    ensures { IfOk result (λ text. string_bytes text ≡ bad_line_text line) }
+{
+    format!(in alloc; "bad plan line {line}\n")
+}
+
+/// Puts the line that says which line of a text makes it no plan.
+fn put_bad_line<K: Sink>(alloc: Global, sink: &mut K, line: usize) -> Ending
+    ensures { EndsBad K.written sink.old sink.new K.faults line result }
+{
+    match bad_line_text(alloc, line) {
+        Ok(says) => put_text(sink, says.as_bytes(), Ending::BadPlan),
+        Err(_) => Ending::NoMemory,
+    }
+}
+
+/// Answers a command on a plan that is a text.
+fn answer_text<K: Sink, Q: Sink>(
+    alloc: Global,
+    text: &[u8],
+    command: &SweepCommand,
+    sink: &mut K,
+    progress: &mut Q,
+) -> Ending
+    ensures { EndsText K.written sink.old sink.new K.faults (lines text.now) command.now result }
+{
+    match read_plan(alloc, text) {
+        Ok(plan) => answer(alloc, &plan, asked_of(&plan, command), sink, progress),
+        Err(PlanFault::BadLine { line }) => put_bad_line(alloc, sink, line),
+        Err(PlanFault::NoMemory) => Ending::NoMemory,
+    }
+}
+
+/// Reads the plan that the source has, and answers a command on it.
+fn carry_out<S: Source, K: Sink, Q: Sink>(
+    alloc: Global,
+    command: &SweepCommand,
+    source: &mut S,
+    sink: &mut K,
+    progress: &mut Q,
+) -> Ending
+    ensures { IsSweep S.left K.written source.old source.new sink.old sink.new S.faults K.faults command.now result }
+{
+    match read_text(alloc, source) {
+        Ok(text) => answer_text(alloc, text.bytes(), command, sink, progress),
+        Err(fault) => ending_of(fault),
+    }
+}
+
+/// Puts the usage line.
+fn usage<K: Sink>(sink: &mut K) -> Ending
+    ensures { Puts K.written sink.old sink.new K.faults usage_line Usage result }
+{
+    put_text(sink, USAGE, Ending::Usage)
+}
+
+/// Carries out the command that the words name: reads a plan from the source, tries its disasters at each device write of its tried lines, and
+/// prints to the sink a report, a table, or a picture; or prints the script of one point. How far it is, it tells `progress`, and what fails
+/// there is passed over. For any other words the usage line is printed, and the source is left alone.
+pub fn sweep<S: Source, K: Sink, Q: Sink>(
+    alloc: Global,
+    words: &[String],
+    source: &mut S,
+    sink: &mut K,
+    progress: &mut Q,
+) -> Ending
+    ensures sweep { (command : SweepCommand) → sweep_command_of words.now ≡ Some command → IsSweep S.left K.written source.old source.new sink.old sink.new S.faults K.faults command result }
+    ensures usage { sweep_command_of words.now ≡ None → EndsUsage K.written sink.old sink.new K.faults result × (source.new ≡ source.old) }
+{
+    match sweep_command_of(alloc, words) {
+        Ok(Some(command)) => carry_out(alloc, &command, source, sink, progress),
+        Ok(None) => usage(sink),
+        Err(_) => Ending::NoMemory,
+    }
+}

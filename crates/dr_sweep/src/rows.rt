@@ -1,0 +1,235 @@
+//! The rows of one part of a sweep.
+
+ghost use Rattle.std.specs.Prelude.{◌≡◌, ◌++◌, ◌∷◌, [], IfOk, IfErr, OnOk, IsSome, is_some, Ok};
+ghost use Rattle.std.specs.List.{cons_option};
+ghost use Rattle.std.specs.Option.{option_copied};
+ghost use Rattle.dr_model.specs.Groups.{In};
+ghost use Rattle.dr_plan.specs.declared.points.Point.TheVariants.{Cut};
+ghost use Rattle.dr_plan.specs.Points.{script_of};
+ghost use Rattle.dr_sweep.specs.Comes.{FailsAt};
+ghost use Rattle.dr_sweep.specs.Parts.{name_at, starts, starts_by, first_write, is_reached, IsRowWhereReached, Gives, Adds, AddsWhereReached, AddsWrite, AreWithin, AreRows, FailsIn, IsOf, parts_of};
+ghost use Rattle.dr_sweep.specs.declared.parts.Part.TheVariants.{Within};
+
+use crate::parts::Part;
+use crate::point::{PointFault, try_point};
+use crate::reach::stops_in;
+use crate::row::row_of;
+use dr_ids::Fault;
+use dr_model::{Journal, Name, Step};
+use dr_plan::{Point, SweepPlan, Torn, is_same_name};
+use dr_rows::Row;
+use dr_script::{Line, read_line};
+use std::alloc::{AllocError, Global};
+
+/// The server of a disaster.
+fn name_at(plan: &SweepPlan, disaster: usize, server: usize) -> Option<&Name>
+    ensures { option_copied result ≡ name_at plan.now disaster server }
+{
+    plan.disasters().get(disaster)?.servers().get(server)
+}
+
+/// Whether these steps are the start of that server, and no other.
+fn starts_by(steps: &Line, name: &Name) -> bool
+    ensures { result ≡ starts_by name.now (Ok steps.now) }
+{
+    if steps.len() != 1 {
+        return false;
+    }
+    match steps.step(0) {
+        Some(Step::Start { server }) => is_same_name(server, name),
+        _ => false,
+    }
+}
+
+/// Whether the line starts that server.
+fn starts(alloc: Global, line: &[u8], name: &Name) -> Result<bool, AllocError>
+    ensures { IfOk result (λ found. found ≡ starts name.now line.now) }
+{
+    let mut steps = Line::new(alloc);
+    match read_line(alloc, line, &mut steps) {
+        Ok(()) => Ok(starts_by(&steps, name)),
+        Err(Fault::NoMemory) => Err(AllocError),
+        Err(Fault::Refused(_)) => Ok(false),
+    }
+}
+
+/// The count of the first device write of a server in a tried line that a fuse can cut short.
+fn first_write(
+    alloc: Global,
+    plan: &SweepPlan,
+    disaster: usize,
+    line: usize,
+    server: usize,
+) -> Result<u32, AllocError>
+    ensures { IfOk result (λ first. first ≡ first_write plan.now disaster line server) }
+{
+    let Some(name) = name_at(plan, disaster, server) else {
+        return Ok(0);
+    };
+    match plan.tried().get(line) {
+        Some(tried) => Ok(u32::from(starts(alloc, tried.bytes(), name)?)),
+        None => Ok(0),
+    }
+}
+
+/// Whether in the run of a point its server was stopped in the tried line.
+fn is_reached(plan: &SweepPlan, point: Point, journal: &Journal) -> bool
+    ensures { result ≡ is_reached plan.now point journal.now.events }
+{
+    match point {
+        Point::Cut {
+            disaster,
+            line,
+            server,
+            ..
+        } => match name_at(plan, disaster, server) {
+            Some(name) => stops_in(journal, name, plan.setup().len() as u128 + line as u128 + 2),
+            None => false,
+        },
+        Point::Gap { .. } => true,
+    }
+}
+
+/// The row of a point whose run left that journal, where it was reached.
+fn row_where_reached(
+    alloc: Global,
+    plan: &SweepPlan,
+    point: Point,
+    journal: &Journal,
+) -> Result<Option<Row>, AllocError>
+    ensures { IfOk result (IsRowWhereReached plan.now point journal.now.events) }
+{
+    if !is_reached(plan, point, journal) {
+        return Ok(None);
+    }
+    match row_of(alloc, plan, point, journal) {
+        Ok(row) => Ok(Some(row)),
+        Err(fault) => Err(fault),
+    }
+}
+
+/// Runs the script of a point, and gives its row, where the point is reached.
+fn row_at(alloc: Global, plan: &SweepPlan, point: Point) -> Result<Option<Row>, PointFault>
+    requires { IsSome (script_of plan.now point) }
+    ensures gives { IfOk result (Gives plan.now point) }
+    ensures fails { IfErr result (FailsAt plan.now point) }
+{
+    let journal = try_point(alloc, plan, point)?;
+    match row_where_reached(alloc, plan, point, &journal) {
+        Ok(row) => Ok(row),
+        Err(_) => Err(PointFault::NoMemory),
+    }
+}
+
+/// Adds a row, where there is one, and says whether there is.
+fn push_some(rows: &mut Vec<Row>, row: Option<Row>) -> Result<bool, AllocError>
+    ensures pushed { OnOk result (rows.new.items ≡ rows.old.items ++ cons_option row []) }
+    ensures says { IfOk result (λ some. some ≡ is_some row) }
+{
+    match row {
+        Some(row) => {
+            rows.push(row)?;
+            Ok(true)
+        }
+        None => Ok(false),
+    }
+}
+
+/// Adds the row of a point where it is reached, and says whether it is.
+fn add_row(
+    alloc: Global,
+    plan: &SweepPlan,
+    point: Point,
+    rows: &mut Vec<Row>,
+) -> Result<bool, PointFault>
+    requires { IsSome (script_of plan.now point) }
+    ensures adds { IfOk result (AddsWhereReached plan.now point (point ∷ []) rows.old.items rows.new.items) }
+    ensures fails { IfErr result (FailsAt plan.now point) }
+{
+    let row = row_at(alloc, plan, point)?;
+    Ok(push_some(rows, row)?)
+}
+
+/// The point of a device write.
+fn cut_at(disaster: usize, line: usize, server: usize, write: u32, torn: Torn) -> Point
+    ensures { result ≡ Cut disaster line server write torn }
+{
+    Point::Cut {
+        disaster,
+        line,
+        server,
+        write,
+        torn,
+    }
+}
+
+/// Adds the rows of a device write where it is reached, and says whether it is.
+fn add_write(
+    alloc: Global,
+    plan: &SweepPlan,
+    disaster: usize,
+    line: usize,
+    server: usize,
+    write: u32,
+    rows: &mut Vec<Row>,
+) -> Result<bool, PointFault>
+    requires is_of { IsOf plan.now (Within disaster line server) }
+    ensures adds { IfOk result (AddsWrite plan.now disaster line server write rows.old.items rows.new.items) }
+    ensures fails { IfErr result (FailsIn plan.now (Within disaster line server)) }
+{
+    let unchanged = cut_at(disaster, line, server, write, Torn::Unchanged);
+    let zeros = cut_at(disaster, line, server, write, Torn::Zeros);
+    let ones = cut_at(disaster, line, server, write, Torn::Ones);
+    if !add_row(alloc, plan, unchanged, rows)? {
+        return Ok(false);
+    }
+    add_row(alloc, plan, zeros, rows)?;
+    add_row(alloc, plan, ones, rows)?;
+    Ok(true)
+}
+
+/// Adds the rows of a server's device writes in a tried line.
+fn add_within(
+    alloc: Global,
+    plan: &SweepPlan,
+    disaster: usize,
+    line: usize,
+    server: usize,
+    rows: &mut Vec<Row>,
+) -> Result<(), PointFault>
+    requires is_of { IsOf plan.now (Within disaster line server) }
+    ensures adds { OnOk result (Adds (AreWithin plan.now disaster line server) rows.old.items rows.new.items) }
+    ensures fails { IfErr result (FailsIn plan.now (Within disaster line server)) }
+{
+    let first = first_write(alloc, plan, disaster, line, server)?;
+    for write in first..u32::MAX {
+        if !add_write(alloc, plan, disaster, line, server, write, rows)? {
+            return Ok(());
+        }
+    }
+    Ok(())
+}
+
+/// Adds the rows of one part of a sweep, in order.
+pub(crate) fn add_part(
+    alloc: Global,
+    plan: &SweepPlan,
+    part: Part,
+    rows: &mut Vec<Row>,
+) -> Result<(), PointFault>
+    requires is_of { In part (parts_of plan.now) }
+    ensures adds { OnOk result (Adds (AreRows plan.now part) rows.old.items rows.new.items) }
+    ensures fails { IfErr result (FailsIn plan.now part) }
+{
+    match part {
+        Part::Between { disaster, line } => {
+            add_row(alloc, plan, Point::Gap { disaster, line }, rows)?;
+            Ok(())
+        }
+        Part::Within {
+            disaster,
+            line,
+            server,
+        } => add_within(alloc, plan, disaster, line, server, rows),
+    }
+}
