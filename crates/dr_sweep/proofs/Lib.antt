@@ -2,3 +2,4 @@
 pub mod PlaceLemmas
 pub mod TellLemmas
 pub mod ComesLemmas
+pub mod CallLemmas

@@ -2,4 +2,8 @@ pub mod Places
 pub mod Reach
 pub mod Answers
 pub mod Comes
+pub mod Rows
 pub mod Parts
+pub mod Ending
+pub mod Printing
+pub mod Calls
