@@ -1,16 +1,25 @@
 -- How a call of the program ends, by what was read and put.
-use Rattle.std.proofs.Common.{ℕ, ◌≡◌, ◌⊎◌, inl, inr, List, refl, ap, ◌∙◌, sym, subst, arith, Bool, true, false, Option, Result, Ok, Err}
+use Rattle.std.proofs.Common.{ℕ, ◌≡◌, ◌⊎◌, inl, inr, List, [], refl, ap, ◌∙◌, sym, subst, arith, Bool, true, false, Option, Some, None, Result, Ok, Err}
+use Rattle.std.specs.Option.{option_and_then}
 use Rattle.std.specs.Str.Lines.{lines}
 use Rattle.dr_logic.specs.Counts.{Counted, Rose}
 use Rattle.dr_io.specs.Given.{Gave, GavePart, Took}
+use Rattle.dr_plan.specs.declared.points.Point.{Point}
+use Rattle.dr_plan.specs.Points.{script_of}
 use Rattle.dr_plan.specs.Sweep.{Sweep}
+use Rattle.dr_rows.specs.Findings.{has_finding}
+use Rattle.dr_rows.specs.Outcome.{Outcome}
+use Rattle.dr_sweep.specs.declared.call.Reply.{Reply}
 use Rattle.dr_sweep.specs.declared.ending.Ending.{Ending}
 use Rattle.dr_sweep.specs.declared.ending.Ending.TheVariants.{Done, Finding, Usage, ReadFault, WriteFault, NoMemory, TooLong, BadPlan}
 use Rattle.dr_sweep.specs.declared.point.PointFault.{PointFault}
 use Rattle.dr_sweep.specs.declared.point.PointFault.TheVariants.{NoMemory as PointMemory, TooLong as PointLong}
 use Rattle.dr_sweep.specs.declared.printing.Asked.{Asked}
+use Rattle.dr_sweep.specs.declared.printing.Asked.TheVariants.{Rows, Script}
+use Rattle.dr_sweep.specs.declared.printing.View.{View}
 use Rattle.dr_sweep.specs.Ending.{is_read_fault, is_write_fault, finding_ending, fault_ending, ending_of}
-use Rattle.dr_sweep.specs.Calls.{FailsAtPart, IsAnswer, AnswersBy, BadBy, Puts, EndsUsage, EndsOn, EndsBad, EndsText, OfText, EndsSweep, IsSweep, usage_line, bad_line_text}
+use Rattle.dr_sweep.specs.Calls.{FailsAtPart, IsAnswer, IsReply, IsScript, IsShown, Puts, EndsUsage, EndsOn, EndsBad, EndsText, OfText, IsSweep, usage_line, bad_line_text}
+use Rattle.dr_sweep.specs.Parts.{AreSwept, parts_of}
 use Rattle.dr_top.specs.Offline.{IsTaken, HasTakenSome, NotTaken, TakesText}
 use Rattle.dr_top.specs.declared.offline.NotRead.{NotRead}
 use Rattle.dr_top.specs.declared.offline.NotRead.TheVariants.{ReadFault as OnSource, TooLong as PastLimit, NoMemory as OnMemory}
@@ -27,17 +36,23 @@ pub found-answered : (found : Bool) → is_answered (finding_ending found) ≡ t
 found-answered true = refl
 found-answered false = refl
 
-pub answered-no-fault : (ending : Ending) → is_answered ending ≡ true → is_write_fault ending ≡ false
-answered-no-fault Done yes = refl
-answered-no-fault Finding yes = refl
-answered-no-fault Usage yes = refl
-answered-no-fault ReadFault yes = refl
-answered-no-fault WriteFault yes = absurd (cc)
-answered-no-fault NoMemory yes = refl
-answered-no-fault TooLong yes = refl
-answered-no-fault BadPlan yes = refl
+-- the ending of a sweep that was printed is no fault
+pub found-no-fault : (ending : Ending) (found : Bool) → ending ≡ finding_ending found → is_write_fault ending ≡ false
+found-no-fault ending true is = ap is_write_fault is
+found-no-fault ending false is = ap is_write_fault is
 
 module _ {K : Type 0} (written : K → Option (List ℕ)) (faults : K → ℕ) (k k' : K) where
+  -- a text was put whole
+  pub put-whole : (text : List ℕ) (ending : Ending) → is_write_fault ending ≡ false → Gave written k k' text → faults k' ≡ faults k → Puts written k k' faults text ending ending
+  put-whole text Done not gave same = (refl, gave, same)
+  put-whole text Finding not gave same = (refl, gave, same)
+  put-whole text Usage not gave same = (refl, gave, same)
+  put-whole text ReadFault not gave same = (refl, gave, same)
+  put-whole text WriteFault not gave same = absurd cc
+  put-whole text NoMemory not gave same = (refl, gave, same)
+  put-whole text TooLong not gave same = (refl, gave, same)
+  put-whole text BadPlan not gave same = (refl, gave, same)
+
   module _ (plan : Sweep) (asked : Asked) where
     -- an answer was put
     pub answer-put : (text : List ℕ) (ending : Ending) → IsAnswer plan asked text ending → is_answered ending ≡ true → (result : Ending) → Puts written k k' faults text ending result → EndsOn written k k' faults plan asked result
@@ -49,6 +64,26 @@ module _ {K : Type 0} (written : K → Option (List ℕ)) (faults : K → ℕ) (
     answer-put text ending is yes NoMemory put = absurd (let same = put.0 in let other = ap is_answered same in cc)
     answer-put text ending is yes TooLong put = absurd (let same = put.0 in let other = ap is_answered same in cc)
     answer-put text ending is yes BadPlan put = absurd (let same = put.0 in let other = ap is_answered same in cc)
+
+  -- what is put of rows
+  module _ (plan : Sweep) (view : View) (rows : List Outcome) (are : AreSwept plan (parts_of plan) rows) (reply : Reply) (is : IsReply plan view rows reply) where
+    shown-so : IsShown plan view reply.text reply.ending
+    shown-so = record { rows = rows; are = are; says_so = is.0; ends = is.1 }
+
+    found-so : is_answered reply.ending ≡ true
+    found-so = ap is_answered is.1 ∙ found-answered (has_finding plan rows)
+
+    pub reply-put : (bytes : List ℕ) → bytes ≡ reply.text → (result : Ending) → Puts written k k' faults bytes reply.ending result → EndsOn written k k' faults plan (Rows view) result
+    reply-put bytes same result put = answer-put plan (Rows view) reply.text reply.ending shown-so found-so result (subst (λ text. Puts written k k' faults text reply.ending result) same put)
+
+  -- the script of a point, or none
+  module _ (plan : Sweep) (point : Option Point) where
+    pub script-put : (script : List ℕ) → Some script ≡ option_and_then (script_of plan) point → (bytes : List ℕ) → bytes ≡ script → (result : Ending) → Puts written k k' faults bytes Done result → EndsOn written k k' faults plan (Script point) result
+    script-put script is bytes same result put =
+      answer-put plan (Script point) script Done (subst (λ found. IsScript found script Done) is (refl, refl)) refl result (subst (λ text. Puts written k k' faults text Done result) same put)
+
+    pub none-put : None ≡ option_and_then (script_of plan) point → (result : Ending) → Puts written k k' faults usage_line Usage result → EndsOn written k k' faults plan (Script point) result
+    none-put is result put = answer-put plan (Script point) usage_line Usage (subst (λ found. IsScript found usage_line Usage) is (refl, refl)) refl result put
 
   -- the line on a text that is no plan was put
   pub bad-put : (line : ℕ) (result : Ending) → Puts written k k' faults (bad_line_text line) BadPlan result → EndsBad written k k' faults line result
@@ -118,3 +153,12 @@ pub text-not-read : {S K : Type 0} (left : S → Option (List ℕ)) (written : K
 text-not-read left written s s' k read_faults write_faults command OnSource taken = record { ends = (taken.0, refl); reads = taken.1; writes = refl }
 text-not-read left written s s' k read_faults write_faults command PastLimit taken = record { ends = inr (taken.0, refl); reads = taken.1; writes = refl }
 text-not-read left written s s' k read_faults write_faults command OnMemory taken = record { ends = (taken.0, refl); reads = taken.1; writes = refl }
+
+-- there was no memory to read the words
+pub sweep-unbegun : {S K : Type 0} (left : S → Option (List ℕ)) (written : K → Option (List ℕ)) (s : S) (k : K) (read_faults : S → ℕ) (write_faults : K → ℕ) (command : SweepCommand)
+    → IsSweep left written s s k k read_faults write_faults command NoMemory
+sweep-unbegun left written s k read_faults write_faults command = record {
+  ends = (record { text = []; took = λ told is. (told, is, refl); within = record { bytes = omega arith; lines = omega arith } }, refl);
+  reads = refl;
+  writes = refl;
+}

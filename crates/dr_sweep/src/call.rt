@@ -36,6 +36,7 @@ fn put_text<K: Sink>(sink: &mut K, text: &[u8], ending: Ending) -> Ending
 }
 
 /// A text to be put, and how a call ends that has put it.
+#[derive(Drop)]
 struct Reply {
     text: Text,
     ending: Ending,
