@@ -36,34 +36,18 @@ pub found-answered : (found : Bool) → is_answered (finding_ending found) ≡ t
 found-answered true = refl
 found-answered false = refl
 
--- the ending of a sweep that was printed is no fault
-pub found-no-fault : (ending : Ending) (found : Bool) → ending ≡ finding_ending found → is_write_fault ending ≡ false
-found-no-fault ending true is = ap is_write_fault is
-found-no-fault ending false is = ap is_write_fault is
-
 module _ {K : Type 0} (written : K → Option (List ℕ)) (faults : K → ℕ) (k k' : K) where
-  -- a text was put whole
-  pub put-whole : (text : List ℕ) (ending : Ending) → is_write_fault ending ≡ false → Gave written k k' text → faults k' ≡ faults k → Puts written k k' faults text ending ending
-  put-whole text Done not gave same = (refl, gave, same)
-  put-whole text Finding not gave same = (refl, gave, same)
-  put-whole text Usage not gave same = (refl, gave, same)
-  put-whole text ReadFault not gave same = (refl, gave, same)
-  put-whole text WriteFault not gave same = absurd cc
-  put-whole text NoMemory not gave same = (refl, gave, same)
-  put-whole text TooLong not gave same = (refl, gave, same)
-  put-whole text BadPlan not gave same = (refl, gave, same)
-
   module _ (plan : Sweep) (asked : Asked) where
     -- an answer was put
     pub answer-put : (text : List ℕ) (ending : Ending) → IsAnswer plan asked text ending → is_answered ending ≡ true → (result : Ending) → Puts written k k' faults text ending result → EndsOn written k k' faults plan asked result
-    answer-put text ending is yes Done put = (record { text = text; is = subst (λ e. IsAnswer plan asked text e) put.0 is; gave = put.1 }, put.2)
-    answer-put text ending is yes Finding put = (record { text = text; is = subst (λ e. IsAnswer plan asked text e) put.0 is; gave = put.1 }, put.2)
-    answer-put text ending is yes Usage put = (record { text = text; is = subst (λ e. IsAnswer plan asked text e) put.0 is; gave = put.1 }, put.2)
-    answer-put text ending is yes WriteFault put = (record { text = text; ending = ending; is = is; gave = put.0 }, put.1)
-    answer-put text ending is yes ReadFault put = absurd (let same = put.0 in let other = ap is_answered same in cc)
-    answer-put text ending is yes NoMemory put = absurd (let same = put.0 in let other = ap is_answered same in cc)
-    answer-put text ending is yes TooLong put = absurd (let same = put.0 in let other = ap is_answered same in cc)
-    answer-put text ending is yes BadPlan put = absurd (let same = put.0 in let other = ap is_answered same in cc)
+    answer-put text end is answered Done put = (record { text = text; is = subst (λ e. IsAnswer plan asked text e) put.0 is; gave = put.1 }, put.2)
+    answer-put text end is answered Finding put = (record { text = text; is = subst (λ e. IsAnswer plan asked text e) put.0 is; gave = put.1 }, put.2)
+    answer-put text end is answered Usage put = (record { text = text; is = subst (λ e. IsAnswer plan asked text e) put.0 is; gave = put.1 }, put.2)
+    answer-put text end is answered WriteFault put = (record { text = text; ending = end; is = is; gave = put.0 }, put.1)
+    answer-put text end is answered ReadFault put = absurd (let same = put.0 in let other = ap is_answered same in cc)
+    answer-put text end is answered NoMemory put = absurd (let same = put.0 in let other = ap is_answered same in cc)
+    answer-put text end is answered TooLong put = absurd (let same = put.0 in let other = ap is_answered same in cc)
+    answer-put text end is answered BadPlan put = absurd (let same = put.0 in let other = ap is_answered same in cc)
 
   -- what is put of rows
   module _ (plan : Sweep) (view : View) (rows : List Outcome) (are : AreSwept plan (parts_of plan) rows) (reply : Reply) (is : IsReply plan view rows reply) where
@@ -84,34 +68,6 @@ module _ {K : Type 0} (written : K → Option (List ℕ)) (faults : K → ℕ) (
 
     pub none-put : None ≡ option_and_then (script_of plan) point → (result : Ending) → Puts written k k' faults usage_line Usage result → EndsOn written k k' faults plan (Script point) result
     none-put is result put = answer-put plan (Script point) usage_line Usage (subst (λ found. IsScript found usage_line Usage) is (refl, refl)) refl result put
-
-  -- the line on a text that is no plan was put
-  pub bad-put : (line : ℕ) (result : Ending) → Puts written k k' faults (bad_line_text line) BadPlan result → EndsBad written k k' faults line result
-  bad-put line BadPlan put = (put.1, put.2)
-  bad-put line WriteFault put = (put.0, put.1)
-  bad-put line Done put = absurd (let same = put.0 in cc)
-  bad-put line Finding put = absurd (let same = put.0 in cc)
-  bad-put line Usage put = absurd (let same = put.0 in cc)
-  bad-put line ReadFault put = absurd (let same = put.0 in cc)
-  bad-put line NoMemory put = absurd (let same = put.0 in cc)
-  bad-put line TooLong put = absurd (let same = put.0 in cc)
-
-  -- the usage line was put
-  pub usage-put : (result : Ending) → Puts written k k' faults usage_line Usage result → EndsUsage written k k' faults result
-  usage-put NoMemory put = absurd (let same = put.0 in cc)
-  usage-put Done put = put
-  usage-put Finding put = put
-  usage-put Usage put = put
-  usage-put ReadFault put = put
-  usage-put WriteFault put = put
-  usage-put TooLong put = put
-  usage-put BadPlan put = put
-
-module _ {K : Type 0} (written : K → Option (List ℕ)) (faults : K → ℕ) (k : K) where
-  -- a point has no row
-  pub part-fails : (plan : Sweep) (asked : Asked) (fault : PointFault) → FailsAtPart plan fault → EndsOn written k k faults plan asked (fault_ending fault)
-  part-fails plan asked PointMemory fails = (refl, refl)
-  part-fails plan asked PointLong fails = ((fails, refl), refl)
 
 module _ {S K : Type 0} (left : S → Option (List ℕ)) (written : K → Option (List ℕ)) (s s' : S) (k k' : K) (read_faults : S → ℕ) (write_faults : K → ℕ) (command : SweepCommand) where
   some-taken : (text : List ℕ) → IsTaken left s s' text → HasTakenSome left s s'
@@ -146,19 +102,3 @@ module _ {S K : Type 0} (left : S → Option (List ℕ)) (written : K → Option
     text-read NoMemory ends = record { ends = (some-taken text taken, no-memory ends); reads = kept; writes = counts NoMemory ends }
     text-read TooLong ends = record { ends = inl (of-text TooLong ends); reads = kept; writes = counts TooLong ends }
     text-read BadPlan ends = record { ends = of-text BadPlan ends; reads = kept; writes = counts BadPlan ends }
-
--- a text wasn't read to its end
-pub text-not-read : {S K : Type 0} (left : S → Option (List ℕ)) (written : K → Option (List ℕ)) (s s' : S) (k : K) (read_faults : S → ℕ) (write_faults : K → ℕ) (command : SweepCommand) (fault : NotRead)
-    → NotTaken left s s' read_faults fault → IsSweep left written s s' k k read_faults write_faults command (ending_of fault)
-text-not-read left written s s' k read_faults write_faults command OnSource taken = record { ends = (taken.0, refl); reads = taken.1; writes = refl }
-text-not-read left written s s' k read_faults write_faults command PastLimit taken = record { ends = inr (taken.0, refl); reads = taken.1; writes = refl }
-text-not-read left written s s' k read_faults write_faults command OnMemory taken = record { ends = (taken.0, refl); reads = taken.1; writes = refl }
-
--- there was no memory to read the words
-pub sweep-unbegun : {S K : Type 0} (left : S → Option (List ℕ)) (written : K → Option (List ℕ)) (s : S) (k : K) (read_faults : S → ℕ) (write_faults : K → ℕ) (command : SweepCommand)
-    → IsSweep left written s s k k read_faults write_faults command NoMemory
-sweep-unbegun left written s k read_faults write_faults command = record {
-  ends = (record { text = []; took = λ told is. (told, is, refl); within = record { bytes = omega arith; lines = omega arith } }, refl);
-  reads = refl;
-  writes = refl;
-}

@@ -103,8 +103,8 @@ module _ {K : Type 0} (written : K → Option (List ℕ)) (sink sink' : K) where
   module _ (faults : K → ℕ) where
     -- a text was put, and the call ends so; or a front of it was, where the sink failed
     abbrev pub Puts : List ℕ → Ending → Ending → Type 0
-    Puts text ending WriteFault = GavePart written sink sink' text × Rose (faults sink) (faults sink')
-    Puts text ending result = (ending ≡ result) × Gave written sink sink' text × (faults sink' ≡ faults sink)
+    Puts text end WriteFault = GavePart written sink sink' text × Rose (faults sink) (faults sink')
+    Puts text end result = (end ≡ result) × Gave written sink sink' text × (faults sink' ≡ faults sink)
 
     -- words that are no command: the usage line; nothing where there was no memory to read them
     abbrev pub EndsUsage : Ending → Type 0
