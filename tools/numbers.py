@@ -1,7 +1,7 @@
 #!/usr/bin/env python3
-"""Writes what README.md counts and shows: the numbers, and the script of the first screen beside its answers.
+"""Writes what README.md counts and shows, the numbers and the script of the first screen beside its answers, and the report in docs/SWEEPS.md.
 
-    tools/numbers.py            writes both between their markers
+    tools/numbers.py            writes them between their markers
     tools/numbers.py --check    compares them with the sources, and ends with 1 where one differs
 """
 import re
@@ -9,8 +9,8 @@ import sys
 from pathlib import Path
 
 ROOT = Path(__file__).resolve().parent.parent
-PAGE = ROOT / "README.md"
 SCREEN = ROOT / "examples" / "first-group"
+REPORT = ROOT / "examples" / "sweeps" / "two-hosts.report"
 
 
 def lines_of(pattern):
@@ -58,30 +58,37 @@ def screen():
     return ["```"] + [f"{line:{width}}   {', '.join(answers.get(n, []))}".rstrip() for n, line in script] + ["```"]
 
 
-def between(text, name, lines):
+def report():
+    """The report on the first plan of a sweep."""
+    return ["```"] + REPORT.read_text().splitlines() + ["```"]
+
+
+def between(page, text, name, lines):
     """The text with these lines between the two markers of a name."""
     begin, end = f"<!-- {name} -->\n", f"<!-- end of {name} -->\n"
     if text.count(begin) != 1 or text.count(end) != 1:
-        sys.exit(f"README.md:1: lacks the markers of its {name}")
+        sys.exit(f"{page}:1: lacks the markers of its {name}")
     before, _, rest = text.partition(begin)
     return before + begin + "\n".join(lines) + "\n" + end + rest.partition(end)[2]
 
 
 def main(words):
-    text = PAGE.read_text(encoding="utf-8")
-    parts = {"screen": screen(), "numbers": numbers()}
-    if words == ["--check"]:
-        stale = [name for name, lines in parts.items() if between(text, name, lines) != text]
-        for name in stale:
-            print(f"README.md:1: its {name} isn't what tools/numbers.py writes")
-        return 1 if stale else 0
-    if words:
+    if words not in ([], ["--check"]):
         print(__doc__)
         return 2
-    for name, lines in parts.items():
-        text = between(text, name, lines)
-    PAGE.write_text(text, encoding="utf-8")
-    return 0
+    stale = False
+    for page, parts in {"README.md": {"screen": screen(), "numbers": numbers()}, "docs/SWEEPS.md": {"report": report()}}.items():
+        text = (ROOT / page).read_text(encoding="utf-8")
+        for name, lines in parts.items():
+            made = between(page, text, name, lines)
+            if words and made != text:
+                print(f"{page}:1: its {name} isn't what tools/numbers.py writes")
+                stale = True
+            elif not words:
+                text = made
+        if not words:
+            (ROOT / page).write_text(text, encoding="utf-8")
+    return 1 if stale else 0
 
 
 if __name__ == "__main__":

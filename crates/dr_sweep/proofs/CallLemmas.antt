@@ -1,16 +1,25 @@
 -- How a call of the program ends, by what was read and put.
-use Rattle.std.proofs.Common.{ℕ, ◌≡◌, ◌⊎◌, inl, inr, List, refl, ap, ◌∙◌, sym, subst, arith, Bool, true, false, Option, Result, Ok, Err}
+use Rattle.std.proofs.Common.{ℕ, ◌≡◌, ◌⊎◌, inl, inr, List, [], refl, ap, ◌∙◌, sym, subst, arith, Bool, true, false, Option, Some, None, Result, Ok, Err}
+use Rattle.std.specs.Option.{option_and_then}
 use Rattle.std.specs.Str.Lines.{lines}
 use Rattle.dr_logic.specs.Counts.{Counted, Rose}
 use Rattle.dr_io.specs.Given.{Gave, GavePart, Took}
+use Rattle.dr_plan.specs.declared.points.Point.{Point}
+use Rattle.dr_plan.specs.Points.{script_of}
 use Rattle.dr_plan.specs.Sweep.{Sweep}
+use Rattle.dr_rows.specs.Findings.{has_finding}
+use Rattle.dr_rows.specs.Outcome.{Outcome}
+use Rattle.dr_sweep.specs.declared.call.Reply.{Reply}
 use Rattle.dr_sweep.specs.declared.ending.Ending.{Ending}
 use Rattle.dr_sweep.specs.declared.ending.Ending.TheVariants.{Done, Finding, Usage, ReadFault, WriteFault, NoMemory, TooLong, BadPlan}
 use Rattle.dr_sweep.specs.declared.point.PointFault.{PointFault}
 use Rattle.dr_sweep.specs.declared.point.PointFault.TheVariants.{NoMemory as PointMemory, TooLong as PointLong}
 use Rattle.dr_sweep.specs.declared.printing.Asked.{Asked}
+use Rattle.dr_sweep.specs.declared.printing.Asked.TheVariants.{Rows, Script}
+use Rattle.dr_sweep.specs.declared.printing.View.{View}
 use Rattle.dr_sweep.specs.Ending.{is_read_fault, is_write_fault, finding_ending, fault_ending, ending_of}
-use Rattle.dr_sweep.specs.Calls.{FailsAtPart, IsAnswer, AnswersBy, BadBy, Puts, EndsUsage, EndsOn, EndsBad, EndsText, OfText, EndsSweep, IsSweep, usage_line, bad_line_text}
+use Rattle.dr_sweep.specs.Calls.{FailsAtPart, IsAnswer, IsReply, IsScript, IsShown, Puts, EndsUsage, EndsOn, EndsBad, EndsText, OfText, IsSweep, usage_line, bad_line_text}
+use Rattle.dr_sweep.specs.Parts.{AreSwept, parts_of}
 use Rattle.dr_top.specs.Offline.{IsTaken, HasTakenSome, NotTaken, TakesText}
 use Rattle.dr_top.specs.declared.offline.NotRead.{NotRead}
 use Rattle.dr_top.specs.declared.offline.NotRead.TheVariants.{ReadFault as OnSource, TooLong as PastLimit, NoMemory as OnMemory}
@@ -27,56 +36,38 @@ pub found-answered : (found : Bool) → is_answered (finding_ending found) ≡ t
 found-answered true = refl
 found-answered false = refl
 
-pub answered-no-fault : (ending : Ending) → is_answered ending ≡ true → is_write_fault ending ≡ false
-answered-no-fault Done yes = refl
-answered-no-fault Finding yes = refl
-answered-no-fault Usage yes = refl
-answered-no-fault ReadFault yes = refl
-answered-no-fault WriteFault yes = absurd (cc)
-answered-no-fault NoMemory yes = refl
-answered-no-fault TooLong yes = refl
-answered-no-fault BadPlan yes = refl
-
 module _ {K : Type 0} (written : K → Option (List ℕ)) (faults : K → ℕ) (k k' : K) where
   module _ (plan : Sweep) (asked : Asked) where
     -- an answer was put
     pub answer-put : (text : List ℕ) (ending : Ending) → IsAnswer plan asked text ending → is_answered ending ≡ true → (result : Ending) → Puts written k k' faults text ending result → EndsOn written k k' faults plan asked result
-    answer-put text ending is yes Done put = (record { text = text; is = subst (λ e. IsAnswer plan asked text e) put.0 is; gave = put.1 }, put.2)
-    answer-put text ending is yes Finding put = (record { text = text; is = subst (λ e. IsAnswer plan asked text e) put.0 is; gave = put.1 }, put.2)
-    answer-put text ending is yes Usage put = (record { text = text; is = subst (λ e. IsAnswer plan asked text e) put.0 is; gave = put.1 }, put.2)
-    answer-put text ending is yes WriteFault put = (record { text = text; ending = ending; is = is; gave = put.0 }, put.1)
-    answer-put text ending is yes ReadFault put = absurd (let same = put.0 in let other = ap is_answered same in cc)
-    answer-put text ending is yes NoMemory put = absurd (let same = put.0 in let other = ap is_answered same in cc)
-    answer-put text ending is yes TooLong put = absurd (let same = put.0 in let other = ap is_answered same in cc)
-    answer-put text ending is yes BadPlan put = absurd (let same = put.0 in let other = ap is_answered same in cc)
+    answer-put text end is answered Done put = (record { text = text; is = subst (λ e. IsAnswer plan asked text e) put.0 is; gave = put.1 }, put.2)
+    answer-put text end is answered Finding put = (record { text = text; is = subst (λ e. IsAnswer plan asked text e) put.0 is; gave = put.1 }, put.2)
+    answer-put text end is answered Usage put = (record { text = text; is = subst (λ e. IsAnswer plan asked text e) put.0 is; gave = put.1 }, put.2)
+    answer-put text end is answered WriteFault put = (record { text = text; ending = end; is = is; gave = put.0 }, put.1)
+    answer-put text end is answered ReadFault put = absurd (let same = put.0 in let other = ap is_answered same in cc)
+    answer-put text end is answered NoMemory put = absurd (let same = put.0 in let other = ap is_answered same in cc)
+    answer-put text end is answered TooLong put = absurd (let same = put.0 in let other = ap is_answered same in cc)
+    answer-put text end is answered BadPlan put = absurd (let same = put.0 in let other = ap is_answered same in cc)
 
-  -- the line on a text that is no plan was put
-  pub bad-put : (line : ℕ) (result : Ending) → Puts written k k' faults (bad_line_text line) BadPlan result → EndsBad written k k' faults line result
-  bad-put line BadPlan put = (put.1, put.2)
-  bad-put line WriteFault put = (put.0, put.1)
-  bad-put line Done put = absurd (let same = put.0 in cc)
-  bad-put line Finding put = absurd (let same = put.0 in cc)
-  bad-put line Usage put = absurd (let same = put.0 in cc)
-  bad-put line ReadFault put = absurd (let same = put.0 in cc)
-  bad-put line NoMemory put = absurd (let same = put.0 in cc)
-  bad-put line TooLong put = absurd (let same = put.0 in cc)
+  -- what is put of rows
+  module _ (plan : Sweep) (view : View) (rows : List Outcome) (are : AreSwept plan (parts_of plan) rows) (reply : Reply) (is : IsReply plan view rows reply) where
+    shown-so : IsShown plan view reply.text reply.ending
+    shown-so = record { rows = rows; are = are; says_so = is.0; ends = is.1 }
 
-  -- the usage line was put
-  pub usage-put : (result : Ending) → Puts written k k' faults usage_line Usage result → EndsUsage written k k' faults result
-  usage-put NoMemory put = absurd (let same = put.0 in cc)
-  usage-put Done put = put
-  usage-put Finding put = put
-  usage-put Usage put = put
-  usage-put ReadFault put = put
-  usage-put WriteFault put = put
-  usage-put TooLong put = put
-  usage-put BadPlan put = put
+    found-so : is_answered reply.ending ≡ true
+    found-so = ap is_answered is.1 ∙ found-answered (has_finding plan rows)
 
-module _ {K : Type 0} (written : K → Option (List ℕ)) (faults : K → ℕ) (k : K) where
-  -- a point has no row
-  pub part-fails : (plan : Sweep) (asked : Asked) (fault : PointFault) → FailsAtPart plan fault → EndsOn written k k faults plan asked (fault_ending fault)
-  part-fails plan asked PointMemory fails = (refl, refl)
-  part-fails plan asked PointLong fails = ((fails, refl), refl)
+    pub reply-put : (bytes : List ℕ) → bytes ≡ reply.text → (result : Ending) → Puts written k k' faults bytes reply.ending result → EndsOn written k k' faults plan (Rows view) result
+    reply-put bytes same result put = answer-put plan (Rows view) reply.text reply.ending shown-so found-so result (subst (λ text. Puts written k k' faults text reply.ending result) same put)
+
+  -- the script of a point, or none
+  module _ (plan : Sweep) (point : Option Point) where
+    pub script-put : (script : List ℕ) → Some script ≡ option_and_then (script_of plan) point → (bytes : List ℕ) → bytes ≡ script → (result : Ending) → Puts written k k' faults bytes Done result → EndsOn written k k' faults plan (Script point) result
+    script-put script is bytes same result put =
+      answer-put plan (Script point) script Done (subst (λ found. IsScript found script Done) is (refl, refl)) refl result (subst (λ text. Puts written k k' faults text Done result) same put)
+
+    pub none-put : None ≡ option_and_then (script_of plan) point → (result : Ending) → Puts written k k' faults usage_line Usage result → EndsOn written k k' faults plan (Script point) result
+    none-put is result put = answer-put plan (Script point) usage_line Usage (subst (λ found. IsScript found usage_line Usage) is (refl, refl)) refl result put
 
 module _ {S K : Type 0} (left : S → Option (List ℕ)) (written : K → Option (List ℕ)) (s s' : S) (k k' : K) (read_faults : S → ℕ) (write_faults : K → ℕ) (command : SweepCommand) where
   some-taken : (text : List ℕ) → IsTaken left s s' text → HasTakenSome left s s'
@@ -111,10 +102,3 @@ module _ {S K : Type 0} (left : S → Option (List ℕ)) (written : K → Option
     text-read NoMemory ends = record { ends = (some-taken text taken, no-memory ends); reads = kept; writes = counts NoMemory ends }
     text-read TooLong ends = record { ends = inl (of-text TooLong ends); reads = kept; writes = counts TooLong ends }
     text-read BadPlan ends = record { ends = of-text BadPlan ends; reads = kept; writes = counts BadPlan ends }
-
--- a text wasn't read to its end
-pub text-not-read : {S K : Type 0} (left : S → Option (List ℕ)) (written : K → Option (List ℕ)) (s s' : S) (k : K) (read_faults : S → ℕ) (write_faults : K → ℕ) (command : SweepCommand) (fault : NotRead)
-    → NotTaken left s s' read_faults fault → IsSweep left written s s' k k read_faults write_faults command (ending_of fault)
-text-not-read left written s s' k read_faults write_faults command OnSource taken = record { ends = (taken.0, refl); reads = taken.1; writes = refl }
-text-not-read left written s s' k read_faults write_faults command PastLimit taken = record { ends = inr (taken.0, refl); reads = taken.1; writes = refl }
-text-not-read left written s s' k read_faults write_faults command OnMemory taken = record { ends = (taken.0, refl); reads = taken.1; writes = refl }

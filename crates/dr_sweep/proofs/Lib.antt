@@ -6,3 +6,4 @@ pub mod ComesLemmas
 pub mod PartLemmas
 pub mod RowLemmas
 pub mod FateLemmas
+pub mod CallLemmas

@@ -13,6 +13,7 @@ use Rattle.dr_plan.specs.Points.{script_of}
 use Rattle.dr_plan.specs.Sweep.{Sweep}
 use Rattle.dr_rows.specs.Findings.{has_finding}
 use Rattle.dr_rows.specs.Outcome.{Outcome}
+use Rattle.dr_sweep.specs.declared.call.Reply.{Reply}
 use Rattle.dr_sweep.specs.declared.ending.Ending.{Ending}
 use Rattle.dr_sweep.specs.declared.ending.Ending.TheVariants.{Done, Finding, Usage, ReadFault, WriteFault, NoMemory, TooLong, BadPlan}
 use Rattle.dr_sweep.specs.declared.parts.Part.{Part}
@@ -52,6 +53,10 @@ pub record IsShown (plan : Sweep) (view : View) (text : List ℕ) (ending : Endi
   pub are : AreSwept plan (parts_of plan) rows
   pub says_so : text ≡ says view plan rows
   pub ends : ending ≡ finding_ending (has_finding plan rows)
+
+-- a text to be put of rows, and how a call ends that has put it
+abbrev pub IsReply : Sweep → View → List Outcome → Reply → Type 0
+IsReply plan view rows reply = (reply.text ≡ says view plan rows) × (reply.ending ≡ finding_ending (has_finding plan rows))
 
 -- the script of a point, or the usage line
 abbrev pub IsScript : Option (List ℕ) → List ℕ → Ending → Type 0
@@ -98,8 +103,8 @@ module _ {K : Type 0} (written : K → Option (List ℕ)) (sink sink' : K) where
   module _ (faults : K → ℕ) where
     -- a text was put, and the call ends so; or a front of it was, where the sink failed
     abbrev pub Puts : List ℕ → Ending → Ending → Type 0
-    Puts text ending WriteFault = GavePart written sink sink' text × Rose (faults sink) (faults sink')
-    Puts text ending result = (ending ≡ result) × Gave written sink sink' text × (faults sink' ≡ faults sink)
+    Puts text end WriteFault = GavePart written sink sink' text × Rose (faults sink) (faults sink')
+    Puts text end result = (end ≡ result) × Gave written sink sink' text × (faults sink' ≡ faults sink)
 
     -- words that are no command: the usage line; nothing where there was no memory to read them
     abbrev pub EndsUsage : Ending → Type 0

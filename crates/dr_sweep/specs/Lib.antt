@@ -4,3 +4,6 @@ pub mod Answers
 pub mod Comes
 pub mod Rows
 pub mod Parts
+pub mod Ending
+pub mod Printing
+pub mod Calls

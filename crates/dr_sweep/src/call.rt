@@ -2,8 +2,9 @@
 
 ghost use Rattle.std.specs.Prelude.{◌≡◌, Some, None, IfOk, false, string_bytes};
 ghost use Rattle.std.specs.Str.Lines.{lines};
-ghost use Rattle.dr_sweep.specs.Calls.{bad_line_text, usage_line, Puts, EndsOn, EndsBad, EndsText, IsSweep, EndsUsage};
+ghost use Rattle.dr_sweep.specs.Calls.{bad_line_text, usage_line, IsReply, Puts, EndsOn, EndsBad, EndsText, IsSweep, EndsUsage};
 ghost use Rattle.dr_sweep.specs.Ending.{is_write_fault};
+ghost use Rattle.dr_sweep.specs.Parts.{AreSwept, parts_of};
 ghost use Rattle.dr_sweep.specs.declared.ending.Ending.TheVariants.{Usage};
 ghost use Rattle.dr_sweep.specs.declared.printing.Asked.TheVariants.{Rows, Script};
 ghost use Rattle.dr_words.specs.Sweep.{sweep_command_of};
@@ -12,9 +13,10 @@ ghost use Rattle.dr_words.specs.declared.sweep.SweepCommand.{SweepCommand};
 use crate::ending::{Ending, ending_of, fault_ending, finding_ending};
 use crate::printing::{Asked, View, asked_of, says, script_of};
 use crate::walk::all_rows;
+use dr_ids::Text;
 use dr_io::{Sink, Source};
 use dr_plan::{PlanFault, Point, SweepPlan, read_plan};
-use dr_rows::has_finding;
+use dr_rows::{Row, has_finding};
 use dr_top::{put_all, read_text};
 use dr_words::{SweepCommand, sweep_command_of};
 use std::alloc::{AllocError, Global};
@@ -33,6 +35,47 @@ fn put_text<K: Sink>(sink: &mut K, text: &[u8], ending: Ending) -> Ending
     }
 }
 
+/// A text to be put, and how a call ends that has put it.
+#[derive(Drop)]
+struct Reply {
+    text: Text,
+    ending: Ending,
+}
+
+/// What is put of the rows of a plan.
+fn reply_of(
+    alloc: Global,
+    plan: &SweepPlan,
+    view: View,
+    rows: &[Row],
+) -> Result<Reply, AllocError>
+    ensures { IfOk result (IsReply plan.now view rows.now) }
+{
+    let text = says(alloc, view, plan, rows)?;
+    let found = has_finding(alloc, plan, rows)?;
+    Ok(Reply {
+        text,
+        ending: finding_ending(found),
+    })
+}
+
+/// Puts what is asked for of the rows of a plan.
+fn put_rows<K: Sink>(
+    alloc: Global,
+    plan: &SweepPlan,
+    view: View,
+    rows: &[Row],
+    sink: &mut K,
+) -> Ending
+    requires { AreSwept plan.now (parts_of plan.now) rows.now }
+    ensures { EndsOn K.written sink.old sink.new K.faults plan.now (Rows view) result }
+{
+    match reply_of(alloc, plan, view, rows) {
+        Ok(reply) => put_text(sink, reply.text.bytes(), reply.ending),
+        Err(_) => Ending::NoMemory,
+    }
+}
+
 /// Sweeps over a plan, and puts what is asked for of its rows.
 fn show<K: Sink, Q: Sink>(
     alloc: Global,
@@ -43,17 +86,10 @@ fn show<K: Sink, Q: Sink>(
 ) -> Ending
     ensures { EndsOn K.written sink.old sink.new K.faults plan.now (Rows view) result }
 {
-    let rows = match all_rows(alloc, plan, progress) {
-        Ok(rows) => rows,
-        Err(fault) => return fault_ending(fault),
-    };
-    let Ok(text) = says(alloc, view, plan, &rows) else {
-        return Ending::NoMemory;
-    };
-    let Ok(found) = has_finding(alloc, plan, &rows) else {
-        return Ending::NoMemory;
-    };
-    put_text(sink, text.bytes(), finding_ending(found))
+    match all_rows(alloc, plan, progress) {
+        Ok(rows) => put_rows(alloc, plan, view, &rows, sink),
+        Err(fault) => fault_ending(fault),
+    }
 }
 
 /// Puts the script of a point, or the usage line where the plan has no such point.
@@ -139,7 +175,7 @@ fn carry_out<S: Source, K: Sink, Q: Sink>(
 }
 
 /// Puts the usage line.
-fn usage<K: Sink>(sink: &mut K) -> Ending
+pub fn usage<K: Sink>(sink: &mut K) -> Ending
     ensures { Puts K.written sink.old sink.new K.faults usage_line Usage result }
 {
     put_text(sink, USAGE, Ending::Usage)

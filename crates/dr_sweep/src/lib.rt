@@ -7,15 +7,20 @@
 #![tactic(auto)]
 
 mod answers;
+mod call;
+mod ending;
 mod parts;
 mod places;
 mod point;
+mod printing;
 mod reach;
 mod row;
 mod rows;
 mod walk;
 
 pub use answers::answers_of;
+pub use call::{sweep, usage};
+pub use ending::Ending;
 pub use parts::{Part, parts_of};
 pub use places::stop_of;
 pub use point::{PointFault, lines_before, try_point};

@@ -4,7 +4,7 @@
 #![tactic(auto)]
 
 use dr_io::{StdSink, StdSource};
-use dr_sweep::{Ending, sweep};
+use dr_sweep::{Ending, sweep, usage};
 use std::alloc::Global;
 use std::process::ExitCode;
 use std::{env, io};
@@ -20,16 +20,16 @@ fn words(alloc: Global, rt: &HostRuntime) -> io::Result<Vec<String>> {
 
 fn main(rt: HostRuntime) -> ExitCode {
     let alloc = rt.alloc();
+    let mut sink = StdSink::new(rt.stdout());
     let words = match words(alloc, &rt) {
         Ok(words) => words,
-        // A word that isn't UTF-8 makes no command.
+        // A word that isn't UTF-8 is no command.
         Err(error) if error.kind() == io::ErrorKind::InvalidData => {
-            return ExitCode::from(Ending::Usage.code());
+            return ExitCode::from(usage(&mut sink).code());
         }
         Err(_) => return ExitCode::from(Ending::NoMemory.code()),
     };
     let mut source = StdSource::new(rt.stdin());
-    let mut sink = StdSink::new(rt.stdout());
     let mut progress = StdSink::new(rt.stderr());
     let ending = sweep(alloc, &words, &mut source, &mut sink, &mut progress);
     ExitCode::from(ending.code())
