@@ -1,9 +1,8 @@
 -- How a call of the program ends, by what was read and put.
-use Rattle.std.proofs.Common.{ℕ, ◌≡◌, ◌⊎◌, inl, inr, List, [], refl, ap, ◌∙◌, sym, subst, arith, Bool, true, false, Option, Some, None, Result, Ok, Err}
+use Rattle.std.proofs.Common.{ℕ, ◌≡◌, inl, inr, List, refl, ap, ◌∙◌, sym, subst, Bool, true, false, Option, Some, None}
 use Rattle.std.specs.Option.{option_and_then}
 use Rattle.std.specs.Str.Lines.{lines}
-use Rattle.dr_logic.specs.Counts.{Counted, Rose}
-use Rattle.dr_io.specs.Given.{Gave, GavePart, Took}
+use Rattle.dr_logic.specs.Counts.{Counted}
 use Rattle.dr_plan.specs.declared.points.Point.{Point}
 use Rattle.dr_plan.specs.Points.{script_of}
 use Rattle.dr_plan.specs.Sweep.{Sweep}
@@ -12,17 +11,13 @@ use Rattle.dr_rows.specs.Outcome.{Outcome}
 use Rattle.dr_sweep.specs.declared.call.Reply.{Reply}
 use Rattle.dr_sweep.specs.declared.ending.Ending.{Ending}
 use Rattle.dr_sweep.specs.declared.ending.Ending.TheVariants.{Done, Finding, Usage, ReadFault, WriteFault, NoMemory, TooLong, BadPlan}
-use Rattle.dr_sweep.specs.declared.point.PointFault.{PointFault}
-use Rattle.dr_sweep.specs.declared.point.PointFault.TheVariants.{NoMemory as PointMemory, TooLong as PointLong}
 use Rattle.dr_sweep.specs.declared.printing.Asked.{Asked}
 use Rattle.dr_sweep.specs.declared.printing.Asked.TheVariants.{Rows, Script}
 use Rattle.dr_sweep.specs.declared.printing.View.{View}
-use Rattle.dr_sweep.specs.Ending.{is_read_fault, is_write_fault, finding_ending, fault_ending, ending_of}
-use Rattle.dr_sweep.specs.Calls.{FailsAtPart, IsAnswer, IsReply, IsScript, IsShown, Puts, EndsUsage, EndsOn, EndsBad, EndsText, OfText, IsSweep, usage_line, bad_line_text}
+use Rattle.dr_sweep.specs.Ending.{is_write_fault, finding_ending}
+use Rattle.dr_sweep.specs.Calls.{IsAnswer, IsReply, IsScript, IsShown, Puts, EndsOn, EndsText, OfText, IsSweep, usage_line}
 use Rattle.dr_sweep.specs.Parts.{AreSwept, parts_of}
-use Rattle.dr_top.specs.Offline.{IsTaken, HasTakenSome, NotTaken, TakesText}
-use Rattle.dr_top.specs.declared.offline.NotRead.{NotRead}
-use Rattle.dr_top.specs.declared.offline.NotRead.TheVariants.{ReadFault as OnSource, TooLong as PastLimit, NoMemory as OnMemory}
+use Rattle.dr_top.specs.Offline.{IsTaken, HasTakenSome}
 use Rattle.dr_words.specs.declared.sweep.SweepCommand.{SweepCommand}
 
 -- a call that has put an answer ends so
@@ -64,7 +59,7 @@ module _ {K : Type 0} (written : K → Option (List ℕ)) (faults : K → ℕ) (
   module _ (plan : Sweep) (point : Option Point) where
     pub script-put : (script : List ℕ) → Some script ≡ option_and_then (script_of plan) point → (bytes : List ℕ) → bytes ≡ script → (result : Ending) → Puts written k k' faults bytes Done result → EndsOn written k k' faults plan (Script point) result
     script-put script is bytes same result put =
-      answer-put plan (Script point) script Done (subst (λ found. IsScript found script Done) is (refl, refl)) refl result (subst (λ text. Puts written k k' faults text Done result) same put)
+        answer-put plan (Script point) script Done (subst (λ found. IsScript found script Done) is (refl, refl)) refl result (subst (λ text. Puts written k k' faults text Done result) same put)
 
     pub none-put : None ≡ option_and_then (script_of plan) point → (result : Ending) → Puts written k k' faults usage_line Usage result → EndsOn written k k' faults plan (Script point) result
     none-put is result put = answer-put plan (Script point) usage_line Usage (subst (λ found. IsScript found usage_line Usage) is (refl, refl)) refl result put

@@ -6,7 +6,6 @@ use Rattle.std.specs.Str.Lines.{lines}
 use Rattle.dr_logic.specs.Counts.{Counted, Rose}
 use Rattle.dr_io.specs.Given.{Gave, GavePart}
 use Rattle.dr_model.specs.Groups.{In}
-use Rattle.dr_plan.specs.declared.points.Point.{Point}
 use Rattle.dr_plan.specs.Outcome.{IsFirstBad}
 use Rattle.dr_plan.specs.Parts.{IsPlan}
 use Rattle.dr_plan.specs.Points.{script_of}

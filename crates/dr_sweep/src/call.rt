@@ -43,12 +43,7 @@ struct Reply {
 }
 
 /// What is put of the rows of a plan.
-fn reply_of(
-    alloc: Global,
-    plan: &SweepPlan,
-    view: View,
-    rows: &[Row],
-) -> Result<Reply, AllocError>
+fn reply_of(alloc: Global, plan: &SweepPlan, view: View, rows: &[Row]) -> Result<Reply, AllocError>
     ensures { IfOk result (IsReply plan.now view rows.now) }
 {
     let text = says(alloc, view, plan, rows)?;

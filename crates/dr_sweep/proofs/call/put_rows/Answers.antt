@@ -1,4 +1,3 @@
-use Rattle.std.proofs.Common.{◌≡◌}
 use Rattle.dr_sweep.proofs.CallLemmas.{reply-put}
 use Rattle.dr_sweep.proofs.call.put_rows.Goals as goal
 
