@@ -5,7 +5,6 @@ use Rattle.std.specs.Option.{option_and_then}
 use Rattle.std.specs.Str.Lines.{lines}
 use Rattle.dr_logic.specs.Counts.{Counted, Rose}
 use Rattle.dr_io.specs.Given.{Gave, GavePart}
-use Rattle.dr_model.specs.Groups.{In}
 use Rattle.dr_plan.specs.Outcome.{IsFirstBad}
 use Rattle.dr_plan.specs.Parts.{IsPlan}
 use Rattle.dr_plan.specs.Points.{script_of}
@@ -15,14 +14,11 @@ use Rattle.dr_rows.specs.Outcome.{Outcome}
 use Rattle.dr_sweep.specs.declared.call.Reply.{Reply}
 use Rattle.dr_sweep.specs.declared.ending.Ending.{Ending}
 use Rattle.dr_sweep.specs.declared.ending.Ending.TheVariants.{Done, Finding, Usage, ReadFault, WriteFault, NoMemory, TooLong, BadPlan}
-use Rattle.dr_sweep.specs.declared.parts.Part.{Part}
-use Rattle.dr_sweep.specs.declared.point.PointFault.{PointFault}
-use Rattle.dr_sweep.specs.declared.point.PointFault.TheVariants.{NoMemory as PointMemory, TooLong as PointLong}
 use Rattle.dr_sweep.specs.declared.printing.Asked.{Asked}
 use Rattle.dr_sweep.specs.declared.printing.Asked.TheVariants.{Rows, Script}
 use Rattle.dr_sweep.specs.declared.printing.View.{View}
 use Rattle.dr_sweep.specs.Ending.{is_read_fault, is_write_fault, finding_ending}
-use Rattle.dr_sweep.specs.Parts.{AreSwept, FailsIn, parts_of}
+use Rattle.dr_sweep.specs.Parts.{AreSwept, FailsLong, parts_of}
 use Rattle.dr_sweep.specs.Printing.{says, asked_of}
 use Rattle.dr_top.specs.Offline.{IsTaken, HasTakenSome, HasTakenTooMuch}
 use Rattle.dr_words.specs.declared.sweep.SweepCommand.{SweepCommand}
@@ -34,17 +30,6 @@ usage_line = codes "usage: sweep [rows | picture | script LINE SERVER WRITE TORN
 -- what is put of a text that is no plan
 abbrev pub bad_line_text : ℕ → List ℕ
 bad_line_text line = codes "bad plan line " ++ decimal line ++ 10 ∷ []
-
--- why a plan has no rows: in one of its parts a point has none
-pub record FailsLong (plan : Sweep) : Type 0 where
-  pub part : Part
-  pub among : In part (parts_of plan)
-  pub fails : FailsIn plan part PointLong
-
--- by the fault
-abbrev pub FailsAtPart : Sweep → PointFault → Type 0
-FailsAtPart plan PointMemory = Unit {0}
-FailsAtPart plan PointLong = FailsLong plan
 
 -- the text on all rows of a plan; a sweep ends as its findings say
 pub record IsShown (plan : Sweep) (view : View) (text : List ℕ) (ending : Ending) : Type 0 where
