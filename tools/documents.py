@@ -16,7 +16,7 @@ DOCUMENTS = ("README.md", "CONTRIBUTING.md", "docs/*.md", "examples/README.md")
 NOTES = ("crates/*/src/lib.rt", "crates/*/src/main.rt", "crates/*/proofs/Lib.antt")
 SOURCES = ("crates/**/*.rt", "crates/**/*.antt", "crates/*/data/*", "crates/*/must-fail/*", "crates/scenarios/std*", "examples/*",
            "bench/*", "tools/*", ".ci/run", "crates.txt", "HANDLES")
-SIZES = {"README.md": 12_000, "docs/PROOFS.md": 20_000}
+SIZES = {"README.md": 12_288, "docs/PROOFS.md": 20_000}
 
 # Words of the toolchain that no source needs to have; names in capitals stand for others.
 FOREIGN = {"allow-holes", "arith", "grind", "omega", "sum_by", "unfolding"}
