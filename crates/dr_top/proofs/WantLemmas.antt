@@ -21,7 +21,7 @@ less len spare n lt = let le = memory-grows len (len + spare) (omega arith) in o
 wants-less : (w : World) (asked : Result Step ℕ) (spare : ℕ) → WantsMemory w asked (length w.events + spare) → WantsMemory w asked (length w.events)
 wants-less w asked spare wants = record {
   room = wants.room;
-  asks = elim wants.asks [ | inl grows ↦ inl (less (length w.events) spare (memory_for (length w.events + room_taken asked w.events)) grows) | inr row ↦ inr row ];
+  asks = elim wants.asks [ inl grows ↦ inl (less (length w.events) spare (memory_for (length w.events + room_taken asked w.events)) grows) | inr row ↦ inr row ];
 }
 
 pub step-wants : (number : ℕ) (steps : List Step) (i : ℕ) (s : Step) (w : World) (spare : ℕ) → slice_get steps i ≡ Some s → WantsMemory w (Ok s) (length w.events + spare) → StepWants i (tasks_read number (Ok steps)) w

@@ -74,4 +74,4 @@ pub returns-in_err-reserve-clause-wanted : goal.returns-in_err-reserve-clause-wa
 returns-in_err-reserve-clause-wanted g c below =
     let w = here (g.P.Plant.state c.args.plant.now) c.args.config.now c.args.tables.now c.args.journal.now.events in
     let held = length w.events + c.args.journal.now.spare in
-    err-always c.from_residual.result (image-room w held  (sym c.if-not-has_room_for.ensures) c.in_err-reserve.ensures.grows)
+    err-always c.from_residual.result (image-room w held (sym c.if-not-has_room_for.ensures) c.in_err-reserve.ensures.grows)
