@@ -6,7 +6,7 @@ use Rattle.std.specs.Str.{bytes_eq}
 use Rattle.dr_model.specs.declared.event.Event.{Event}
 use Rattle.dr_model.specs.declared.step.Name.{Name}
 use Rattle.dr_model.specs.declared.step.Step.{Step}
-use Rattle.dr_model.specs.declared.step.Step.TheVariants.{Start}
+use Rattle.dr_model.specs.declared.step.Step.TheVariants.{Start, Stop}
 use Rattle.dr_model.specs.Grammar.{line_of}
 use Rattle.dr_model.specs.Groups.{In}
 use Rattle.dr_model.specs.LineText.{name_text}
@@ -48,19 +48,20 @@ parts_of plan = flat_map (disaster_parts plan) (range_with_len 0 (length plan.lo
 abbrev pub name_at : Sweep → ℕ → ℕ → Option Name
 name_at plan disaster server = option_and_then (λ names. slice_get names server) (slice_get plan.loses disaster)
 
--- by the steps of a line: it starts that server
-abbrev pub starts_by : Name → Result (List Step) ℕ → Bool
-starts_by name (Ok (Start server ∷ [])) = bytes_eq (name_text server) (name_text name)
-starts_by name _ = false
+-- By the steps of a line: the count of the first device write of that server that a fuse can cut short. A start takes away a fuse that is at 0. A line
+-- that stops the server itself has no such write, so the count is one that no fuse has.
+abbrev pub first_by : Name → Result (List Step) ℕ → ℕ
+first_by name (Ok (Start server ∷ [])) = if bytes_eq (name_text server) (name_text name) then 1 else 0
+first_by name (Ok (Stop server ∷ [])) = if bytes_eq (name_text server) (name_text name) then 2 ^ 32 - 1 else 0
+first_by name _ = 0
 
--- the line starts that server
-abbrev pub starts : Name → List ℕ → Bool
-starts name line = starts_by name (line_of line)
+-- of a line
+abbrev pub first_in : Name → List ℕ → ℕ
+first_in name line = first_by name (line_of line)
 
--- the count of the first device write of a server in a tried line that a fuse can cut short: a start takes away a fuse that is at 0
+-- of a server of a disaster in a tried line
 abbrev pub first_write : Sweep → ℕ → ℕ → ℕ → ℕ
-first_write plan disaster line server =
-    if option_map_or (λ name. option_map_or (starts name) (slice_get plan.tried line) false) (name_at plan disaster server) false then 1 else 0
+first_write plan disaster line server = option_map_or (λ name. option_map_or (first_in name) (slice_get plan.tried line) 0) (name_at plan disaster server) 0
 
 -- in the run of a point that left these events its server was stopped in the tried line, which comes behind the line that arms the fuse
 abbrev pub is_reached : Sweep → Point → List Event → Bool

@@ -1,13 +1,15 @@
 //! The rows of one part of a sweep.
 
-ghost use Rattle.std.specs.Prelude.{◌≡◌, ◌++◌, ◌∷◌, [], IfOk, IfErr, OnOk, IsSome, is_some, Ok};
+ghost use Rattle.std.specs.Prelude.{◌≡◌, ◌++◌, ◌∷◌, [], IfOk, IfErr, OnOk, IsSome, is_some, Ok, if◌then◌else◌};
+ghost use Rattle.std.specs.Str.{bytes_eq};
 ghost use Rattle.std.specs.List.{cons_option};
 ghost use Rattle.std.specs.Option.{option_copied};
 ghost use Rattle.dr_model.specs.Groups.{In};
+ghost use Rattle.dr_model.specs.LineText.{name_text};
 ghost use Rattle.dr_plan.specs.declared.points.Point.TheVariants.{Cut};
 ghost use Rattle.dr_plan.specs.Points.{script_of};
 ghost use Rattle.dr_sweep.specs.Comes.{FailsAt};
-ghost use Rattle.dr_sweep.specs.Parts.{name_at, starts, starts_by, first_write, is_reached, IsRowWhereReached, Gives, Adds, AddsWhereReached, AddsWrite, AreWithin, AreRows, FailsIn, IsOf, parts_of};
+ghost use Rattle.dr_sweep.specs.Parts.{name_at, first_by, first_in, first_write, is_reached, IsRowWhereReached, Gives, Adds, AddsWhereReached, AddsWrite, AreWithin, AreRows, FailsIn, IsOf, parts_of};
 ghost use Rattle.dr_sweep.specs.declared.parts.Part.TheVariants.{Within};
 
 use crate::parts::Part;
@@ -28,28 +30,37 @@ fn name_at(plan: &SweepPlan, disaster: usize, server: usize) -> Option<&Name>
     plan.disasters().get(disaster)?.servers().get(server)
 }
 
-/// Whether these steps are the start of that server, and no other.
-fn starts_by(steps: &Line, name: &Name) -> bool
-    ensures { result ≡ starts_by name.now (Ok steps.now) }
+/// That count where the step is about that server, and else 0.
+fn count_if(server: &Name, name: &Name, count: u32) -> u32
+    ensures { result ≡ (if bytes_eq (name_text server.now) (name_text name.now) then count else 0) }
+{
+    if is_same_name(server, name) { count } else { 0 }
+}
+
+/// By the steps of a line: the count of the first device write of that server that a fuse can cut short; of a line that stops the server
+/// itself, which has none, one that no fuse has.
+fn first_by(steps: &Line, name: &Name) -> u32
+    ensures { result ≡ first_by name.now (Ok steps.now) }
 {
     if steps.len() != 1 {
-        return false;
+        return 0;
     }
     match steps.step(0) {
-        Some(Step::Start { server }) => is_same_name(server, name),
-        _ => false,
+        Some(Step::Start { server }) => count_if(server, name, 1),
+        Some(Step::Stop { server }) => count_if(server, name, u32::MAX),
+        _ => 0,
     }
 }
 
-/// Whether the line starts that server.
-fn starts(alloc: Global, line: &[u8], name: &Name) -> Result<bool, AllocError>
-    ensures { IfOk result (λ found. found ≡ starts name.now line.now) }
+/// The same by the line.
+fn first_in(alloc: Global, line: &[u8], name: &Name) -> Result<u32, AllocError>
+    ensures { IfOk result (λ first. first ≡ first_in name.now line.now) }
 {
     let mut steps = Line::new(alloc);
     match read_line(alloc, line, &mut steps) {
-        Ok(()) => Ok(starts_by(&steps, name)),
+        Ok(()) => Ok(first_by(&steps, name)),
         Err(Fault::NoMemory) => Err(AllocError),
-        Err(Fault::Refused(_)) => Ok(false),
+        Err(Fault::Refused(_)) => Ok(0),
     }
 }
 
@@ -67,7 +78,7 @@ fn first_write(
         return Ok(0);
     };
     match plan.tried().get(line) {
-        Some(tried) => Ok(u32::from(starts(alloc, tried.bytes(), name)?)),
+        Some(tried) => first_in(alloc, tried.bytes(), name),
         None => Ok(0),
     }
 }
