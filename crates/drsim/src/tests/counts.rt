@@ -8,7 +8,7 @@ ghost use Rattle.dr_model.specs.Histories.{Write};
 ghost use Rattle.dr_model.specs.Control.{Volume};
 ghost use Rattle.dr_model.specs.Moves as machine;
 ghost use Rattle.dr_moves.specs.Entered.{is_calm};
-ghost use Rattle.dr_moves.specs.Made.{Asks};
+ghost use Rattle.dr_moves.specs.Made.{Asks, room_for};
 ghost use Rattle.dr_moves.specs.Moves.{move_of};
 ghost use Rattle.drsim.specs.Two.{AreReady};
 
@@ -98,6 +98,7 @@ fn kind(number: u8) -> Move
     ensures target { machine.target (move_of result) ≡ 4096 }
     ensures asks { (s : PlantState) (t : ConfigTable) → Asks s t (move_of result) }
     ensures calm { is_calm (move_of result) ≡ true }
+    ensures few { (x : Volume) → room_for (move_of result) x ≤ 8 }
     ensures carries { (volume : ℕ → Volume) (contents : ℕ → ℕ → List ℕ) (write : ℕ → Write) → machine.carried (move_of result) volume contents write ≡ None }
 {
     let v = SOURCE;
