@@ -30,7 +30,7 @@ for lines in 60 120 1000; do
     least=0
     for ((round = 0; round < (lines < 1000 ? 3 : 1); round++)); do
         begin=$(date +%s%N)
-        "$program" rows < "$scratch/plan" > "$scratch/rows" 2> /dev/null
+        "$program" rows < "$scratch/plan" > "$scratch/rows" 2> /dev/null || [ $? -eq 1 ] # findings are none of its business
         spent=$((($(date +%s%N) - begin) / 1000000 + 1))
         if ((least == 0 || spent < least)); then least=$spent; fi
     done
