@@ -716,8 +716,7 @@ fn carry_planned<P: Plant>(
     }
 }
 
-/// Carries out a step that is one plan, and answers it. It is refused where the journal has no room. Where there is no memory
-/// nothing has changed.
+/// Carries out a step that is one plan, and answers it; refused where the journal has no room. Without memory nothing has changed.
 fn carry_alone<P: Plant>(
     plant: &mut P,
     config: &mut Config,
