@@ -1,4 +1,6 @@
-//! Tries the points of a plan of a sweep, and finds what a run came to in its journal.
+//! Sweeps over a plan: runs each of its points, and prints what these runs came to, by their journals.
+//!
+//! `sweep` is the call that the program makes (`sweep`, `usage`); `usage` puts the usage line.
 //!
 //! `try_point` runs the script of a point to its end on a plant of its own and gives its journal (`comes`), or says why there is none
 //! (`fails`). `parts_of` lists the parts of a sweep in order: the gaps between tried lines, and the servers whose device writes are cut short
