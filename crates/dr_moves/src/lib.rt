@@ -3,13 +3,15 @@
 //! `Move` has every kind of move; `target_of`, `next_fields` and `telling` are its rows of the machine's catalogue. `make`
 //! makes any of them: it opens the volume's record once, takes the next fields from what was opened, changes the record with
 //! the track that the move carries, and tells the journal. Where the server stops, `Stop` says whether the move counts as
-//! done. `make_move` is the same as an entry of a plan, and `act` does whatever an entry comes to (`Next`). `carry` does so
-//! with the entries of a plan that are left (`Entries`), in order, until one ends it or a server stops. `Asks` (specs) is
-//! what a kind of move asks of the plant, and `Kept` what stays over each of these calls. `shift` makes a move whose fields
-//! its caller gives.
+//! done. `make_opened` is the same for a caller who has opened the volume, and `make_by` for one who has its fields.
+//! `make_move` is `make` as an entry of a plan, `make_move_by` is `make_by` as one, and `act` does whatever an entry comes
+//! to (`Next`). `carry` does so with the entries of a plan that are left (`Entries`), in order, until one ends it or a
+//! server stops. `Asks` (specs) is what a kind of move asks of the plant, and `Kept` what stays over each of these calls.
+//! `shift` makes a move whose fields its caller gives.
 #![tactic(auto)]
 
 mod acts;
+mod at_hand;
 mod attempt_fields;
 mod carrying;
 mod flash_fields;
@@ -24,6 +26,7 @@ mod shifting;
 mod told;
 
 pub use acts::{Stop, make, make_move, make_ready};
+pub use at_hand::{make_by, make_move_by, make_opened};
 pub use carrying::{Entries, Next, act, carry};
 pub use flash_fields::{
     altered, closed, fetched, given_up, made, noted, restored, resynced, rewritten, turned,
