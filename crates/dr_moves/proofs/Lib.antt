@@ -1,5 +1,6 @@
 -- Read first: `MoveRows.antt`, `MoveFits.antt`, `MoveTracks.antt`, `AsideLemmas.antt`, `StopRows.antt`, `EnteredLemmas.antt`: what
 -- holds of each kind of move, one clause a kind, or one for all that are alike; `TurnMade.antt`: the machine's turn, from what was made of the volume;
+-- `ChangeLemmas.antt`: what a move asks of its volume, and the facts of `Made` and of what stays, from what the device writes left;
 -- `KeptLemmas.antt`: what stays, also along two calls in a row; `EntryLemmas.antt`, and `Ends.antt` of `dr_facts`: entry by entry;
 -- `HeardLemmas.antt`: what lies beside shows, behind news; `ActedLemmas.antt`: what an entry came to was done.
 -- - **A move of a kind**: `make_move` with the move as a value. Where the kind stands in the call, its rows of the catalogue
@@ -27,6 +28,7 @@ pub mod MoveTracks
 pub mod AsideLemmas
 pub mod TurnMade
 pub mod KeptLemmas
+pub mod ChangeLemmas
 pub mod TurnLemmas
 pub mod ShiftLemmas
 pub mod LeadLemmas

@@ -3,8 +3,9 @@
 //! `Move` has every kind of move; `target_of`, `next_fields` and `telling` are its rows of the machine's catalogue. `make`
 //! makes any of them: it opens the volume's record once, takes the next fields from what was opened, changes the record with
 //! the track that the move carries, and tells the journal. Where the server stops, `Stop` says whether the move counts as
-//! done. `make_move` is the same as an entry of a plan. `Asks` (specs) is what a kind of move asks of the plant, and `Kept`
-//! what stays over each of these calls. `shift` makes a move whose fields its caller gives.
+//! done. `make_opened` is the same for a caller who has opened the volume, and `make_by` for one who has its fields.
+//! `make_move` is `make` as an entry of a plan, and `make_move_by` is `make_by` as one. `Asks` (specs) is what a kind of move
+//! asks of the plant, and `Kept` what stays over each of these calls. `shift` makes a move whose fields its caller gives.
 //!
 //! What a run knows besides devices and journal, the host's pending writes, the sessions and the paths, is `Beside`: it hears
 //! `News`, and what it shows changes as the machine's does. `make_beside` is `make` of a move that may land a host write,
@@ -15,6 +16,7 @@
 #![tactic(auto)]
 
 mod acts;
+mod at_hand;
 mod attempt_fields;
 mod beside;
 mod carrying;
@@ -32,6 +34,7 @@ mod shifting;
 mod told;
 
 pub use acts::{Stop, make, make_move, make_ready};
+pub use at_hand::{make_by, make_move_by, make_opened};
 pub use beside::{Beside, News, Nothing};
 pub use carrying::{Entries, Next, act, act_beside, carry, carry_beside};
 pub use flash_fields::{
