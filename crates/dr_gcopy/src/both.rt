@@ -1,6 +1,6 @@
 //! The two moves of a command on a pair, one after the other.
 
-ghost use Rattle.std.specs.Prelude.{◌≡◌, ◌≢◌, ℕ, ◌≤◌, ◌+◌, true, List, IsSome, OnOk, OnErr};
+ghost use Rattle.std.specs.Prelude.{◌≡◌, ◌≢◌, ℕ, ◌≤◌, ◌+◌, true, refl, List, IsSome, OnOk, OnErr};
 ghost use Rattle.dr_plant.specs.State.{PlantState};
 ghost use Rattle.dr_config.specs.Table.{place_of};
 ghost use Rattle.dr_model.specs.declared.event.Event.{Event};
@@ -8,7 +8,7 @@ ghost use Rattle.dr_model.specs.PairEntries.{let_go, tell_paused};
 ghost use Rattle.dr_volume.specs.Update.{IsAsBefore};
 ghost use Rattle.dr_volume.specs.View.{Rest};
 ghost use Rattle.dr_moves.specs.Checks.{is_stop};
-ghost use Rattle.dr_moves.specs.Coming.{next_of, MayCome, Went, NotTarget, cost_of};
+ghost use Rattle.dr_moves.specs.Coming.{next_of, MayCome, Went, NotTarget, cost_of, most_of};
 ghost use Rattle.dr_moves.specs.Here.{world_seen, refusal_of, armed_in};
 ghost use Rattle.dr_moves.specs.Made.{IsAt, Kept};
 ghost use Rattle.dr_moves.specs.Turns.{Leads, Fails};
@@ -21,7 +21,7 @@ use crate::reach::reach_refusal;
 use dr_config::Config;
 use dr_ids::{Refusal, VolumeId};
 use dr_model::{Journal, PairState, Part};
-use dr_moves::{Entries, Move, Next, carry};
+use dr_moves::{Entries, Move, Next, Nothing, carry};
 use dr_plant::Plant;
 use dr_volume::peek_fields;
 
@@ -63,6 +63,7 @@ fn first_next<P: Plant>(
     ensures comes { (r : Rest) (events : List Event) → first_of a.0 b.0 command.now (world_seen (P.state plant.now) config.now r events).control ≡ next_of result }
     ensures may { MayCome (P.state plant.now) config.now result }
     ensures cost { cost_of result (P.state plant.now) config.now ≤ 1 }
+    ensures most { most_of result (P.state plant.now) config.now ≤ 2 }
     ensures apart { (q : ℕ) → q ≢ a.0 → q ≢ b.0 → NotTarget result q }
     ensures stands { (u : PlantState) → Went (P.state plant.now) u config.now result → CanEnd u config.now a.0 b.0 command.now }
 {
@@ -90,6 +91,7 @@ fn let_go_next<P: Plant>(plant: &P, config: &Config, a: VolumeId, b: VolumeId) -
     ensures comes { (r : Rest) (events : List Event) → let_go a.0 b.0 (world_seen (P.state plant.now) config.now r events).control ≡ next_of result }
     ensures may { MayCome (P.state plant.now) config.now result }
     ensures cost { cost_of result (P.state plant.now) config.now ≤ 0 }
+    ensures most { most_of result (P.state plant.now) config.now ≤ 1 }
     ensures apart { (q : ℕ) → q ≢ b.0 → NotTarget result q }
 {
     if !is_secondary_of(&peek_fields(plant, config, b), a) {
@@ -106,6 +108,7 @@ fn tell_next<P: Plant>(plant: &P, config: &Config, a: VolumeId, b: VolumeId) -> 
     ensures comes { (r : Rest) (events : List Event) → tell_paused a.0 b.0 (world_seen (P.state plant.now) config.now r events).control ≡ next_of result }
     ensures may { MayCome (P.state plant.now) config.now result }
     ensures cost { cost_of result (P.state plant.now) config.now ≤ 0 }
+    ensures most { most_of result (P.state plant.now) config.now ≤ 1 }
     ensures apart { (q : ℕ) → q ≢ b.0 → NotTarget result q }
 {
     if let Some(_) = reach_refusal(plant, config, a, b) {
@@ -133,6 +136,7 @@ fn second_next<P: Plant>(
     ensures comes { (r : Rest) (events : List Event) → second_of a.0 b.0 command.now (world_seen (P.state plant.now) config.now r events).control ≡ next_of result }
     ensures may { MayCome (P.state plant.now) config.now result }
     ensures cost { cost_of result (P.state plant.now) config.now ≤ 0 }
+    ensures most { most_of result (P.state plant.now) config.now ≤ 1 }
     ensures apart { (q : ℕ) → q ≢ a.0 → q ≢ b.0 → NotTarget result q }
 {
     match command {
@@ -161,16 +165,18 @@ struct Moves {
     stage: Stage,
 }
 
-impl<P: Plant> Entries<P> for Moves {
+impl<P: Plant> Entries<P, Nothing> for Moves {
     ghost left = { λ x c. left_of x.a.0 x.b.0 x.command x.stage };
 
     ghost first = { λ x c. entry_of x.a.0 x.b.0 x.command x.stage };
 
-    ghost stands = { λ x s c. CanGo s c x.a.0 x.b.0 x.command x.stage };
+    ghost stands = { λ x s _ c. CanGo s c x.a.0 x.b.0 x.command x.stage };
 
-    ghost spares = { λ x s c q. (q ≢ x.a.0) × (q ≢ x.b.0) };
+    ghost makes = { λ x done s _ u _ c. BothAlone s u c x.a.0 x.b.0 };
 
     ghost room = { λ x c. room_of x.stage };
+
+    ghost most = { λ x c. room_of x.stage + 1 };
 
     fn count(&self, config: &Config) -> usize {
         match self.stage {
@@ -180,7 +186,7 @@ impl<P: Plant> Entries<P> for Moves {
         }
     }
 
-    fn next(&mut self, plant: &P, config: &Config) -> Next {
+    fn next(&mut self, plant: &P, config: &Config, beside: &Nothing) -> Next {
         match self.stage {
             Stage::First => {
                 self.stage = Stage::Second;
@@ -193,6 +199,8 @@ impl<P: Plant> Entries<P> for Moves {
             Stage::Over => Next::Pass,
         }
     }
+
+    ghost none_left = { λ x s y c none q na nb. record { volume = refl; tracks = refl } };
 }
 
 /// Carries out the two moves of a command on the pair of a and b. Fails where a server stops in one or goes off at a read.
