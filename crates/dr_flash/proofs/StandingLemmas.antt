@@ -1,9 +1,8 @@
 -- The targets of a volume, from one volume of the configuration to the next.
-use Rattle.std.proofs.Common.{ℕ, zero, suc, ◌≡◌, ◌≤◌, ◌+◌, Bool, true, false, ◌&&◌, ◌||◌, cond, List, [], ◌∷◌, drop, length, slice_get, nat_lt, arith, refl, sym, ◌∙◌, ap, Some, None}
+use Rattle.std.proofs.Common.{ℕ, zero, suc, ◌≡◌, ◌+◌, Bool, true, false, ◌&&◌, ◌||◌, cond, List, [], ◌∷◌, drop, length, slice_get, nat_lt, arith, refl, sym, ◌∙◌, ap, Some, None}
 use Rattle.std.specs.Prelude.{option_map, filter, if◌then◌else◌}
 use Rattle.std.specs.List.{list_any}
 use Rattle.std.proofs.Math.Numerals.{suc-eq-add-one}
-use Rattle.std.proofs.lemmas.List.{drop_all}
 use Rattle.std.proofs.lemmas.Bool.Decides.{nat_tests}
 use Rattle.dr_plant.specs.State.{PlantState}
 use Rattle.dr_config.specs.Table.{ConfigTable, place_of}
@@ -42,9 +41,6 @@ module _ (s : PlantState) (t : ConfigTable) (v place u : ℕ) (at : Some u ≡ o
       anys : (b : Bool) (xs : List ℕ) → list_any (λ u. so (volume_seen s t u).fields) (cond b (u ∷ xs) xs) ≡ ((b && so (volume_seen s t u).fields) || list_any (λ u. so (volume_seen s t u).fields) xs)
       anys true xs = refl
       anys false xs = refl
-
-pub targets-none : (s : PlantState) (t : ConfigTable) (v place : ℕ) → length t.volumes ≤ place → targets_from s t v place ≡ []
-targets-none s t v place all = ap (λ es. filter (λ u. copies_from v (volume_seen s t u).fields) (ids_of es)) (drop_all place t.volumes all)
 
 or-assoc : (a b x : Bool) → ((a || b) || x) ≡ (a || (b || x))
 or-assoc true b x = refl

@@ -1,15 +1,12 @@
 -- What a track reads as, by what was opened; volumes of one server can be read together.
-use Rattle.std.proofs.Common.{ℕ, ◌≡◌, Bool, true, false, ◌&&◌, not, cond, refl, sym, ◌∙◌, ap}
-use Rattle.std.specs.Prelude.{is_some, if◌then◌else◌}
+use Rattle.std.proofs.Common.{ℕ, ◌≡◌, Bool, true, false, ◌&&◌, not, cond, refl, ◌∙◌, ap}
+use Rattle.std.specs.Prelude.{if◌then◌else◌}
 use Rattle.std.specs.FinSet.{contains}
-use Rattle.dr_plant.specs.State.{PlantState, after_read, can_read, passes_read}
+use Rattle.dr_plant.specs.State.{PlantState, after_read, can_read}
 use Rattle.dr_plant.proofs.StateLemmas.{read_done}
-use Rattle.dr_config.specs.Table.{ConfigTable, place_of}
+use Rattle.dr_config.specs.Table.{ConfigTable}
 use Rattle.dr_model.specs.Control.{Volume}
-use Rattle.dr_volume.specs.View.{volume_seen, track_seen, device_of}
-use Rattle.dr_volume.proofs.UnreadLaws.{lies-at}
-use Rattle.dr_volume.proofs.UpdateLaws.{server-seen}
-use Rattle.dr_moves.specs.Here.{IsAtRest}
+use Rattle.dr_volume.specs.View.{volume_seen, track_seen}
 use Rattle.dr_flash.specs.Views.{view_seen}
 
 -- where the read of a device passes, the read of a track's own block passes too, wanted or not
@@ -20,15 +17,6 @@ own-read s d false can = refl
 pub own-done : (s : PlantState) (d : ℕ) (wanted : Bool) → can_read s d ≡ true → (if wanted then can_read s d else true) ≡ true
 own-done s d true can = can
 own-done s d false can = refl
-
--- a volume's device is its server's
-owner : (c : ConfigTable) (s : PlantState) (v : ℕ) → IsAtRest s c → is_some (place_of c v) ≡ true → s.owner (device_of c v) ≡ (volume_seen s c v).server
-owner c s v rest defined = let x = lies-at c s v defined (rest.sizes v) rest.stands in sym (server-seen c s v (device_of c v) x.0 x.1)
-
-pub reads-with : (c : ConfigTable) (s : PlantState) (v u : ℕ) → IsAtRest s c → is_some (place_of c v) ≡ true → is_some (place_of c u) ≡ true → (volume_seen s c v).server ≡ (volume_seen s c u).server
-    → can_read s (device_of c v) ≡ true → can_read s (device_of c u) ≡ true
-reads-with c s v u rest defined there same can =
-    ap (λ o. s.on o && passes_read (s.read_fuse o)) (owner c s u rest there ∙ sym same ∙ sym (owner c s v rest defined)) ∙ can
 
 -- a target that doesn't hold the track shows its source's
 pub view-source : (s : PlantState) (c : ConfigTable) (v k : ℕ) (f : Volume) → volume_seen s c v ≡ f → f.fields.related ≡ true → contains f.fields.own k ≡ false → view_seen s c v k ≡ track_seen s c f.fields.source k

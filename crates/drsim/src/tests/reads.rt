@@ -1,16 +1,20 @@
-//! A write of a source whose target has to keep the track first, where reads fail after so many device writes.
+//! A host write on a source whose target has to keep the track first, where reads fail after so many device writes.
 
 ghost use Rattle.std.specs.Prelude.{◌≡◌, ◌≤◌, ◌<◌, ◌+◌, true, OnOk, IfOk, [], IsSome};
 ghost use Rattle.dr_plant.specs.State.{IsFresh};
 ghost use Rattle.dr_config.specs.Table.{StandsFor};
+ghost use Rattle.dr_metro.specs.Here.{IsTold};
+ghost use Rattle.dr_metro.specs.Waiting.{IsIssuedAs};
 ghost use Rattle.drsim.specs.Two.{AreReady, IsOne, two, with_volumes};
 
 use dr_config::Config;
-use dr_flash::{establish, write_source};
-use dr_ids::{Fault, Refusal, ServerId, VolumeId};
-use dr_model::Journal;
+use dr_flash::establish;
+use dr_host::Host;
+use dr_ids::{Fault, ServerId, VolumeId, WriteId};
+use dr_metro::{Target, land_kept};
+use dr_model::{Event, Journal};
 use dr_moves::FlashOptions;
-use dr_plant::{ModelPlant, Plant, Stopped};
+use dr_plant::{Block, ModelPlant, Plant, Stopped};
 use dr_volume::{peek_fields, read_track, redo};
 use std::alloc::{AllocError, Global};
 
@@ -32,23 +36,60 @@ pub(super) fn define<P: Plant>(plant: &mut P, config: &mut Config) -> Result<(),
     Ok(())
 }
 
-/// Writes the track of the source.
+/// The track of the source, on the one server.
+const TARGET: Target = Target {
+    volume: SOURCE,
+    server: ServerId(0),
+    track: 0,
+    offset: 0,
+};
+
+/// Issues the first write of a host, on the whole track of the source.
+fn issue(host: &mut Host, journal: &mut Journal, bytes: &Block) -> Result<WriteId, Fault>
+    requires fresh { host.old ≡ record { issued = 0; pending = [] } }
+    requires room { 1 ≤ journal.old.spare }
+    ensures told { OnOk result (IsTold host.new journal.new.events) }
+    ensures pending { IfOk result (λ w. IsIssuedAs host.new journal.new.events w.0 TARGET bytes.now) }
+    ensures room { journal.old.spare ≤ journal.new.spare + 1 }
+{
+    let _issued = host.issued();
+    let w = host.issue(SOURCE, 0, 0, bytes)?;
+    let track = *bytes;
+    journal.push(Event::Issue {
+        w: w.0,
+        volume: SOURCE.0,
+        track: 0,
+        offset: 0,
+        len: 64,
+        bytes: track,
+    });
+    Ok(w)
+}
+
+/// Writes the track of the source, as a host does. Answers whether that was done.
 fn write<P: Plant>(
+    alloc: Global,
     plant: &mut P,
     config: &Config,
     journal: &mut Journal,
     byte: u8,
-) -> Result<(), Refusal>
+) -> bool
     requires ready { AreReady (P.state plant.old) config.now }
     requires on { (P.state plant.old).on 0 ≡ true }
-    requires room { 3 ≤ journal.old.spare }
+    requires room { 5 ≤ journal.old.spare }
     ensures ready { AreReady (P.state plant.new) config.now }
-    ensures on { OnOk result ((P.state plant.new).on 0 ≡ true) }
-    ensures room { journal.old.spare ≤ journal.new.spare + 3 }
+    ensures on { result ≡ true → (P.state plant.new).on 0 ≡ true }
+    ensures room { journal.old.spare ≤ journal.new.spare + 4 }
 {
-    let fields = peek_fields(plant, config, SOURCE);
-    write_source(plant, config, journal, SOURCE, 0, &[byte; 64], &fields)?;
-    Ok(())
+    let mut host = Host::new(alloc);
+    let bytes = [byte; 64];
+    let Ok(w) = issue(&mut host, journal, &bytes) else {
+        return false;
+    };
+    match land_kept(plant, config, &mut host, journal, w, TARGET, &bytes) {
+        Ok(()) => plant.is_on(0),
+        Err(_) => false,
+    }
 }
 
 /// Lets reads fail after so many device writes.
@@ -98,14 +139,14 @@ fn shown<P: Plant>(plant: &mut P, config: &Config) -> Result<u8, Stopped>
     first_byte(plant, config, COPY)
 }
 
-/// Makes the second volume a target of the first, which was written before.
-fn relate<P: Plant>(plant: &mut P, config: &Config, journal: &mut Journal) -> Result<(), Refusal>
+/// Makes the second volume a target of the first, which was written before. Answers whether that was done.
+fn relate<P: Plant>(alloc: Global, plant: &mut P, config: &Config, journal: &mut Journal) -> bool
     requires ready { AreReady (P.state plant.old) config.now }
     requires on { (P.state plant.old).on 0 ≡ true }
-    requires room { 8 ≤ journal.old.spare }
+    requires room { 11 ≤ journal.old.spare }
     ensures ready { AreReady (P.state plant.new) config.now }
-    ensures on { OnOk result ((P.state plant.new).on 0 ≡ true) }
-    ensures room { 3 ≤ journal.new.spare }
+    ensures on { result ≡ true → (P.state plant.new).on 0 ≡ true }
+    ensures room { 5 ≤ journal.new.spare }
 {
     let options = FlashOptions {
         nocopy: true,
@@ -114,8 +155,13 @@ fn relate<P: Plant>(plant: &mut P, config: &Config, journal: &mut Journal) -> Re
         inhibited: false,
         sequence: 0,
     };
-    write(plant, config, journal, 1)?;
-    establish(plant, config, journal, SOURCE, COPY, &options)
+    if !write(alloc, plant, config, journal, 1) {
+        return false;
+    }
+    match establish(plant, config, journal, SOURCE, COPY, &options) {
+        Ok(()) => true,
+        Err(_) => false,
+    }
 }
 
 /// The first bytes of the source and of what the target shows, once both can be read again.
@@ -130,6 +176,7 @@ fn seen<P: Plant>(plant: &mut P, config: &Config) -> Result<(u8, u8), Stopped>
 
 /// Whether a write was done where reads fail after so many device writes, and what is seen then.
 fn tried<P: Plant>(
+    alloc: Global,
     plant: &mut P,
     config: &Config,
     journal: &mut Journal,
@@ -137,11 +184,13 @@ fn tried<P: Plant>(
 ) -> Option<(bool, u8, u8)>
     requires ready { AreReady (P.state plant.old) config.now }
     requires on { (P.state plant.old).on 0 ≡ true }
-    requires room { 8 ≤ journal.old.spare }
+    requires room { 11 ≤ journal.old.spare }
 {
-    relate(plant, config, journal).ok()?;
+    if !relate(alloc, plant, config, journal) {
+        return None;
+    }
     arm(plant, config, after);
-    let done = write(plant, config, journal, 2).is_ok();
+    let done = write(alloc, plant, config, journal, 2);
     let (source, copy) = seen(plant, config).ok()?;
     Some((done, source, copy))
 }
@@ -151,12 +200,12 @@ pub(super) fn stopped_at(alloc: Global, after: u32) -> Result<Option<(bool, u8, 
     let mut plant = ModelPlant::new(alloc);
     let mut config = Config::new(alloc);
     let mut journal = Journal::new(alloc);
-    journal.reserve(8)?;
+    journal.reserve(11)?;
     let Ok(_) = config.add_server(b"A") else {
         return Err(AllocError);
     };
     let Ok(()) = define(&mut plant, &mut config) else {
         return Err(AllocError);
     };
-    Ok(tried(&mut plant, &config, &mut journal, after))
+    Ok(tried(alloc, &mut plant, &config, &mut journal, after))
 }
