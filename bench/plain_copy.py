@@ -28,7 +28,7 @@ OPENING, CLOSING = "{([", "})]"
 
 # Blocks that hold ghost items alone.
 MODEL = re.compile(r"^impl(<[^>\n]*>)? Model for [^{\n]+\{\s*\}\n", re.M)
-HEAD = re.compile(r"(?://!.*\n|\s*\n)*")
+HEAD = re.compile(r"(?://!.*\n|\n)*")
 CRATE = re.compile(r"\b(dr_\w+)::")
 
 # Derives that only proofs, or the text of errors that nobody prints, need.

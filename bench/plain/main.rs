@@ -39,7 +39,10 @@ impl Write for Stream {
 
 fn main() -> ExitCode {
     // A word that isn't UTF-8 is no command.
-    let words: Option<Vec<String>> = std::env::args_os().skip(1).map(|word| word.into_string().ok()).collect();
+    let words: Option<Vec<String>> = std::env::args_os()
+        .skip(1)
+        .map(|word| word.into_string().ok())
+        .collect();
     let status = drsim(
         Global,
         &words.unwrap_or_default(),

@@ -14,8 +14,12 @@ pub fn command_of(_: Global, words: &[String]) -> Result<Option<Command>, AllocE
     let texts: Vec<&str> = words.iter().map(String::as_str).collect();
     Ok(match *texts {
         ["run"] => Some(Command::Run),
-        ["recover", session] => read_session(session.as_bytes()).map(|session| Command::Recover { session }),
-        ["trial", number] => read_number(number.as_bytes(), u32::MAX).map(|number| Command::Trial { number }),
+        ["recover", session] => {
+            read_session(session.as_bytes()).map(|session| Command::Recover { session })
+        }
+        ["trial", number] => {
+            read_number(number.as_bytes(), u32::MAX).map(|number| Command::Trial { number })
+        }
         _ => None,
     })
 }
