@@ -1,0 +1,18 @@
+//! The allocator that is passed, and its failures.
+
+/// The one allocator.
+#[derive(Clone, Copy)]
+pub struct Global;
+
+/// There is no memory.
+#[derive(Debug, Clone, Copy)]
+pub struct AllocError;
+
+/// There is no memory for a value, which is handed back.
+pub struct AllocFailed<T>(pub T);
+
+impl<T> From<AllocFailed<T>> for AllocError {
+    fn from(_: AllocFailed<T>) -> AllocError {
+        AllocError
+    }
+}
