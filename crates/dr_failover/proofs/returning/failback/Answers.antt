@@ -9,7 +9,7 @@ use Rattle.dr_moves.specs.Here.{world_seen, armed_in, refusal_of}
 use Rattle.dr_moves.proofs.EntryLemmas.{ends-clear, ends-why}
 use Rattle.dr_moves.proofs.TurnLemmas.{ok-along}
 use Rattle.dr_gcopy.specs.Kinds.{part_of}
-use Rattle.dr_gcopy.proofs.PairChecks.{unless-stopped, counted-stops, servers-apart}
+use Rattle.dr_gcopy.proofs.PairChecks.{unless-stopped, servers-apart}
 use Rattle.dr_gcopy.proofs.TwoMoves.{ends-by}
 use Rattle.dr_gmirror.specs.Orders.{with_sessions}
 use Rattle.dr_failover.specs.Steps.{failback_moves}
@@ -36,23 +36,24 @@ returns-in-Some-yield_refusal-clause-carried g c r =
     (c.in_default.ensures.checked q ev (armed_in s) w (Some c.in-Some-yield_refusal.why) _
     (ends-why (armed_in s) w (plans.yield_refusal c.args.y.0) c.in-Some-yield_refusal.why (failback_moves c.args.x.0 c.args.y.0) (sym (c.in-Some-yield_refusal.ensures.refusal r ev))))
 
-pub turn_both-requires-clause-primary : goal.turn_both-requires-clause-primary
-turn_both-requires-clause-primary g c =
-    (leads-partner c.args.y.0 c.part_of.result (volume_seen (g.P.Plant.state c.args.plant.now) c.args.config.now c.args.x.0).fields c.in_default.ensures.leads).0
-
-pub turn_both-requires-clause-apart : goal.turn_both-requires-clause-apart
-turn_both-requires-clause-apart g c is =
+pub turn_both-requires-clause-can : goal.turn_both-requires-clause-can
+turn_both-requires-clause-can g c =
     let s = g.P.Plant.state c.args.plant.now in
     let t = c.args.config.now in
-    let leads = leads-partner c.args.y.0 c.part_of.result (volume_seen s t c.args.x.0).fields c.in_default.ensures.leads in
-    servers-apart s t c.args.x.0 c.args.y.0 (subst (λ (y : ℕ). (volume_seen s t c.args.x.0).server ≢ (volume_seen s t y).server) leads.1 (c.requires.partner.apart leads.0)) (sym is)
-
-pub turn_both-requires-clause-size : goal.turn_both-requires-clause-size
-turn_both-requires-clause-size g c =
-    let s = g.P.Plant.state c.args.plant.now in
-    let t = c.args.config.now in
-    let leads = leads-partner c.args.y.0 c.part_of.result (volume_seen s t c.args.x.0).fields c.in_default.ensures.leads in
-    subst (λ (y : ℕ). (volume_seen s t y).tracks ≡ (volume_seen s t c.args.x.0).tracks) leads.1 (c.requires.partner.size leads.0)
+    let x = c.args.x.0 in
+    let y = c.args.y.0 in
+    let leads = leads-partner y c.part_of.result (volume_seen s t x).fields c.in_default.ensures.leads in
+    record {
+      running = c.in_default.ensures.running;
+      size = subst (λ (y : ℕ). (volume_seen s t y).tracks ≡ (volume_seen s t x).tracks) leads.1 (c.requires.partner.size leads.0);
+      follows = record {
+        first = c.requires.first;
+        second = c.requires.second;
+        reached = c.in_default.ensures.reached;
+        primary = leads.0;
+        apart = λ is. servers-apart s t x y (subst (λ (y : ℕ). (volume_seen s t x).server ≢ (volume_seen s t y).server) leads.1 (c.requires.partner.apart leads.0)) (sym is);
+      };
+    }
 
 pub returns-clause-carried : goal.returns-clause-carried
 returns-clause-carried g c r =
@@ -71,9 +72,6 @@ returns-clause-carried g c r =
 
 pub returns-clause-unchanged : goal.returns-clause-unchanged
 returns-clause-unchanged g c calm = unless-stopped _ c.turn_both.result c.turn_both.ensures.stops calm
-
-pub returns-clause-faults : goal.returns-clause-faults
-returns-clause-faults g c = counted-stops c.turn_both.result _ _ c.turn_both.ensures.stops c.turn_both.ensures.faults
 
 pub returns-clause-turned : goal.returns-clause-turned
 returns-clause-turned g c =
