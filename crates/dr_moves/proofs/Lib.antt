@@ -31,3 +31,5 @@ pub mod EntryLemmas
 pub mod EnteredLemmas
 pub mod StopRows
 pub mod ActedLemmas
+pub mod WentLemmas
+pub mod PlacingLemmas

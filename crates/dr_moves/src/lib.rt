@@ -5,8 +5,8 @@
 //! the track that the move carries, and tells the journal. Where the server stops, `Stop` says whether the move counts as
 //! done. `make_move` is the same as an entry of a plan, and `act` does whatever an entry comes to (`Next`). `carry` does so
 //! with the entries of a plan that are left (`Entries`), in order, until one ends it or a server stops. `Asks` (specs) is
-//! what a kind of move asks of the plant, and `Kept` what stays over each of these calls. `shift` makes a move whose fields
-//! its caller gives.
+//! what a kind of move asks of the plant, and `Kept` what stays over each of these calls. `place_staged` puts a staged track in
+//! its place as a server starts. `shift` makes a move whose fields its caller gives.
 #![tactic(auto)]
 
 mod acts;
@@ -18,6 +18,7 @@ mod options;
 mod pair_fields;
 mod pairs;
 mod place;
+mod placing;
 mod reads;
 mod sets;
 mod shifting;
@@ -36,6 +37,7 @@ pub use pair_fields::{
 };
 pub use pairs::{is_quiet, is_unpaired, pair_state};
 pub use place::{server_of, tracks_of};
+pub use placing::place_staged;
 pub use reads::read_told;
 pub use sets::{is_whole, lowest, rest};
 pub use shifting::shift;
