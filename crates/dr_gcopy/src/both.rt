@@ -1,6 +1,6 @@
 //! The two moves of a command on a pair, one after the other.
 
-ghost use Rattle.std.specs.Prelude.{◌≡◌, ◌≢◌, ℕ, ◌≤◌, ◌+◌, true, List, IsSome, OnOk, OnErr};
+ghost use Rattle.std.specs.Prelude.{◌≡◌, ◌≢◌, ℕ, ◌≤◌, ◌+◌, true, refl, List, IsSome, OnOk, OnErr};
 ghost use Rattle.dr_plant.specs.State.{PlantState};
 ghost use Rattle.dr_config.specs.Table.{place_of};
 ghost use Rattle.dr_model.specs.declared.event.Event.{Event};
@@ -168,7 +168,7 @@ impl<P: Plant> Entries<P> for Moves {
 
     ghost stands = { λ x s c. CanGo s c x.a.0 x.b.0 x.command x.stage };
 
-    ghost spares = { λ x s c q. (q ≢ x.a.0) × (q ≢ x.b.0) };
+    ghost makes = { λ x done s u c. BothAlone s u c x.a.0 x.b.0 };
 
     ghost room = { λ x c. room_of x.stage };
 
@@ -193,6 +193,8 @@ impl<P: Plant> Entries<P> for Moves {
             Stage::Over => Next::Pass,
         }
     }
+
+    ghost none_left = { λ x s c none q na nb. record { volume = refl; tracks = refl } };
 }
 
 /// Carries out the two moves of a command on the pair of a and b. Fails where a server stops in one or goes off at a read.

@@ -62,6 +62,18 @@ Went s u c (Do m) = WentBy s u c (move_of m) None
 Went s u c (Bring m v t) = WentBy s u c (move_of m) (Some (t, track_seen s c v.0 t))
 Went s u c (End r) = ⊥
 
+-- From s to u that move was cut short: its volume is as before or moved, and every other as before.
+pub record CutBy (s u : PlantState) (c : ConfigTable) (m : machine.Move) (t : Carried) : Type 0 where
+  pub either : IsAsBefore s u c (target m) ⊎ IsMoved s u c (target m) (fields_left m (volume_seen s c (target m))) t
+  pub others : OthersStay s u c (target m)
+
+-- From s to u what an entry came to was cut short; a refusal does nothing.
+abbrev pub CutIn : PlantState → PlantState → ConfigTable → Next → Type 0
+CutIn s u c Pass = ⊥
+CutIn s u c (Do m) = CutBy s u c (move_of m) None
+CutIn s u c (Bring m v t) = CutBy s u c (move_of m) (Some (t, track_seen s c v.0 t))
+CutIn s u c (End r) = u ≡ s
+
 -- it doesn't move volume q
 abbrev pub NotTarget : Next → ℕ → Type 0
 NotTarget Pass q = Unit {0}
@@ -88,6 +100,7 @@ pub record Acted (s u : PlantState) (c : ConfigTable) (old new : Log) (next : Ne
   pub advances : OnOk result ((r : Rest) (d : Entry) → d (world_seen s c r old.events).control ≡ next_of next → Advances (world_seen s c r old.events) d (world_seen u c r new.events))
   pub halts : OnErr result ((r : Rest) (d : Entry) → d (world_seen s c r old.events).control ≡ next_of next → Halts (armed_in s) (world_seen s c r old.events) d (world_seen u c r new.events) (refusal_of result))
   pub went : OnOk result (Went s u c next)
+  pub cut : OnErr result (CutIn s u c next)
   pub kept : Kept s u c old new (cost_of next s c + 1) (is_stop (refusal_of result)) result
   pub refused : OnErr result (RefusedAs s c next (refusal_of result))
   pub room_left : OnOk result (old.spare ≡ new.spare + cost_of next s c)

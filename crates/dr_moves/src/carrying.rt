@@ -1,14 +1,13 @@
 //! Entries of a plan, carried out in order.
 
-ghost use Rattle.std.specs.Prelude.{◌≡◌, ℕ, ◌<◌, ◌≤◌, ◌+◌, List, ◌∷◌, length, OnOk, OnErr};
+ghost use Rattle.std.specs.Prelude.{◌≡◌, ℕ, ◌<◌, ◌≤◌, ◌+◌, Bool, true, false, List, [], ◌∷◌, length, OnOk, OnErr, is_ok};
 ghost use Rattle.dr_plant.specs.State.{PlantState};
 ghost use Rattle.dr_config.specs.Table.{ConfigTable};
 ghost use Rattle.dr_model.specs.declared.event.Event.{Event};
 ghost use Rattle.dr_model.specs.Carry.{Entry};
-ghost use Rattle.dr_volume.specs.Update.{IsAsBefore};
 ghost use Rattle.dr_volume.specs.View.{Rest};
 ghost use Rattle.dr_moves.specs.Checks.{is_stop};
-ghost use Rattle.dr_moves.specs.Coming.{next_of, MayCome, Went, NotTarget, cost_of, Acted};
+ghost use Rattle.dr_moves.specs.Coming.{next_of, MayCome, Went, CutIn, cost_of, Acted};
 ghost use Rattle.dr_moves.specs.declared.carrying.Next.TheVariants as TheNext;
 ghost use Rattle.dr_moves.specs.Here.{world_seen, armed_in, refusal_of};
 ghost use Rattle.dr_moves.specs.Made.{IsAt, Kept};
@@ -37,8 +36,9 @@ pub enum Next {
 
 /// The entries of a plan that are left: each says what it comes to in the state that those before it left.
 ///
-/// `left` is the list of them, and `first` the first. `stands` is what holds of plant and configuration before it comes, `spares`
-/// says which volumes none of them moves, and `room` is how many events they tell at most.
+/// `left` is the list of them, and `first` the first. `stands` is what holds of plant and configuration before it comes, and `room`
+/// is how many events they tell at most. `makes` is what holds of the state in which they begin and of the one in which they ended,
+/// well or cut short: each of them extends it backwards.
 pub trait Entries<P: Plant> {
     ghost left: { Self → ConfigTable → List Entry };
 
@@ -46,7 +46,7 @@ pub trait Entries<P: Plant> {
 
     ghost stands: { Self → PlantState → ConfigTable → Type 0 };
 
-    ghost spares: { Self → PlantState → ConfigTable → ℕ → Type 0 };
+    ghost makes: { Self → Bool → PlantState → PlantState → ConfigTable → Type 0 };
 
     ghost room: { Self → ConfigTable → ℕ };
 
@@ -63,8 +63,11 @@ pub trait Entries<P: Plant> {
         ensures comes { (r : Rest) (events : List Event) → first self.old config.now (world_seen (P.state plant.now) config.now r events).control ≡ next_of result }
         ensures may { MayCome (P.state plant.now) config.now result }
         ensures stands { (u : PlantState) → Went (P.state plant.now) u config.now result → stands self.new u config.now }
-        ensures spares { (q : ℕ) → spares self.old (P.state plant.now) config.now q → NotTarget result q × ((u : PlantState) → IsAsBefore (P.state plant.now) u config.now q → spares self.new u config.now q) }
+        ensures goes_on { (done : Bool) (u w : PlantState) → Went (P.state plant.now) u config.now result → makes self.new done u w config.now → makes self.old done (P.state plant.now) w config.now }
+        ensures cut { (u : PlantState) → CutIn (P.state plant.now) u config.now result → makes self.old false (P.state plant.now) u config.now }
         ensures room { cost_of result (P.state plant.now) config.now + room self.new config.now ≤ room self.old config.now };
+
+    ghost none_left: { (x : Self) (s : PlantState) (c : ConfigTable) → left x c ≡ [] → makes x true s s c };
 }
 
 /// Does what an entry comes to: nothing, or its move. Fails with its refusal, or with `Refusal::Stopped` where a server stops in
@@ -136,7 +139,7 @@ pub fn carry<P: Plant, E: Entries<P>>(
     ensures leads { OnOk result ((r : Rest) → Leads (world_seen (P.state plant.old) config.now r journal.old.events) (E.left entries.old config.now) (world_seen (P.state plant.new) config.now r journal.new.events)) }
     ensures fails { OnErr result ((r : Rest) → Fails (armed_in (P.state plant.old)) (world_seen (P.state plant.old) config.now r journal.old.events) (E.left entries.old config.now) (world_seen (P.state plant.new) config.now r journal.new.events) (refusal_of result)) }
     ensures stands { OnOk result (E.stands entries.new (P.state plant.new) config.now) }
-    ensures others { (q : ℕ) → E.spares entries.old (P.state plant.old) config.now q → IsAsBefore (P.state plant.old) (P.state plant.new) config.now q }
+    ensures makes { E.makes entries.old (is_ok result) (P.state plant.old) (P.state plant.new) config.now }
     ensures kept { Kept (P.state plant.old) (P.state plant.new) config.now journal.old journal.new (E.room entries.old config.now + 1) (is_stop (refusal_of result)) result }
     ensures room_left { OnOk result (journal.old.spare ≤ journal.new.spare + E.room entries.old config.now) }
 {

@@ -1,10 +1,12 @@
-use Rattle.std.proofs.Common.{◌++◌, ◌∷◌, arith, length, ap, sym, subst, Some}
-use Rattle.std.specs.Prelude.{Ok}
+use Rattle.std.proofs.Common.{◌++◌, ◌∷◌, true, false, arith, length, ap, sym, subst, Some}
+use Rattle.std.specs.Prelude.{Result, Ok, is_ok}
+use Rattle.std.proofs.lemmas.List.{nil_from_length}
+use Rattle.dr_ids.specs.declared.refusal.Refusal.{Refusal}
 use Rattle.dr_model.specs.ReadStops.{Ends}
 use Rattle.dr_moves.specs.Here.{world_seen, armed_in, refusal_of}
 use Rattle.dr_moves.proofs.ActedLemmas.{err-is}
 use Rattle.dr_logic.proofs.Results.{err-always}
-use Rattle.dr_moves.proofs.KeptLemmas.{wider-armed, kept-then, before-then}
+use Rattle.dr_moves.proofs.KeptLemmas.{wider-armed, kept-then}
 use Rattle.dr_facts.proofs.Ends.{ends-wider}
 use Rattle.dr_moves.proofs.carrying.carry.Goals as goal
 
@@ -24,14 +26,20 @@ returns-in_err-act-clause-fails g c =
     (ends-wider (armed_in s) (armed_in s0) (wider-armed s0 s c.loop.invariant.kept.unarmed) u (Some e) (world_seen s t r c.loop.journal.events) (first ∷ (more ++ ds))
     (c.in_err-act.ensures.acted.halts r first (c.next-next.ensures.comes r c.loop.journal.events) (more ++ ds))))))
 
-pub returns-in_err-act-clause-others : goal.returns-in_err-act-clause-others
-returns-in_err-act-clause-others g c q spare =
-    let before = c.loop.invariant.others q spare in
-    let here = c.next-next.ensures.spares q before.1 in
-    before-then (g.P.Plant.state c.args.plant.now) (g.P.Plant.state c.loop.plant) (g.P.Plant.state c.act.new.plant) c.args.config.now q before.0 (c.act.ensures.acted.others q here.0)
+pub returns-in_err-act-clause-makes : goal.returns-in_err-act-clause-makes
+returns-in_err-act-clause-makes g c =
+    let s0 = g.P.Plant.state c.args.plant.now in
+    let u = g.P.Plant.state c.act.new.plant in
+    let t = c.args.config.now in
+    subst (λ (r : Result (Unit {0}) Refusal). g.E.Entries.makes c.args.entries.now (is_ok r) s0 u t) (sym (err-is c.from_residual.result c.in_err-act.field-0.0 c.from_residual.ensures.0 c.from_residual.ensures.1))
+    (c.loop.invariant.makes false u (c.next-next.ensures.cut u c.in_err-act.ensures.acted.cut))
 
-pub returns-clause-others : goal.returns-clause-others
-returns-clause-others g c q spare = (c.loop.invariant.others q spare).0
+pub returns-clause-makes : goal.returns-clause-makes
+returns-clause-makes g c =
+    let t = c.args.config.now in
+    let u = g.P.Plant.state c.loop.plant in
+    let over = nil_from_length (g.E.Entries.left c.loop.entries t) (let l = c.loop in omega (arith, l)) in
+    c.loop.invariant.makes true u (g.met.E.Entries.none_left c.loop.entries u t over)
 
 pub loop-preserved : goal.loop-preserved
 loop-preserved g c =
@@ -50,11 +58,7 @@ loop-preserved g c =
           (c.in_ok-act.ensures.acted.advances r first (c.next-next.ensures.comes r c.loop.journal.events) armed w q (more ++ ds) ends));
       count = let n = c.loop.invariant.count in let goes = ap length c.next-next.ensures.goes in omega (arith, n, goes);
       stands = c.next-next.ensures.stands u c.in_ok-act.ensures.acted.went;
-      others = λ q spare.
-          let before = c.loop.invariant.others q spare in
-          let here = c.next-next.ensures.spares q before.1 in
-          let same = c.act.ensures.acted.others q here.0 in
-          (before-then s0 s u t q before.0 same, here.1 u same);
+      makes = λ done w made. c.loop.invariant.makes done w (c.next-next.ensures.goes_on done u w c.in_ok-act.ensures.acted.went made);
       kept = kept-then s0 s u t c.args.journal.now c.loop.journal c.act.new.journal _ _ _ (Ok tt) c.loop.invariant.kept c.in_ok-act.ensures.acted.kept (omega (arith, before, cost, spent));
       room = omega (arith, before, cost, spent);
     }

@@ -1,9 +1,9 @@
 use Rattle.std.proofs.Common.{ℕ, ◌≡◌, ◌≤◌, ◌+◌, ◌++◌, Bool, false, List, Option, length, Ok}
 use Rattle.dr_ids.specs.declared.refusal.Refusal.{Refusal}
+use Rattle.dr_plant.specs.State.{PlantState}
 use Rattle.dr_model.specs.Control.{World}
 use Rattle.dr_model.specs.Carry.{Entry}
 use Rattle.dr_model.specs.ReadStops.{Ends}
-use Rattle.dr_volume.specs.Update.{IsAsBefore}
 use Rattle.dr_volume.specs.View.{Rest}
 use Rattle.dr_moves.specs.Here.{world_seen}
 use Rattle.dr_moves.specs.Made.{Kept}
@@ -16,7 +16,8 @@ invariant-loop g l = record {
       → Ends armed u q (world_seen (g.P.Plant.state l.fn.plant) l.config r l.fn.journal.events) (g.E.Entries.left l.fn.entries l.config ++ ds);
   count : length (g.E.Entries.left l.entries l.config) + l.counter ≡ l.end;
   stands : g.E.Entries.stands l.entries (g.P.Plant.state l.plant) l.config;
-  others : (q : ℕ) → g.E.Entries.spares l.fn.entries (g.P.Plant.state l.fn.plant) l.config q → IsAsBefore (g.P.Plant.state l.fn.plant) (g.P.Plant.state l.plant) l.config q × g.E.Entries.spares l.entries (g.P.Plant.state l.plant) l.config q;
+  -- and so does what those that are left make
+  makes : (done : Bool) (w : PlantState) → g.E.Entries.makes l.entries done (g.P.Plant.state l.plant) w l.config → g.E.Entries.makes l.fn.entries done (g.P.Plant.state l.fn.plant) w l.config;
   kept : Kept (g.P.Plant.state l.fn.plant) (g.P.Plant.state l.plant) l.config l.fn.journal l.journal (g.E.Entries.room l.fn.entries l.config + 1) false {E = Refusal} (Ok tt);
   room : l.fn.journal.spare + g.E.Entries.room l.entries l.config ≤ l.journal.spare + g.E.Entries.room l.fn.entries l.config;
 }

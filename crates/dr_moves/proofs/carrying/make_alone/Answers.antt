@@ -13,6 +13,6 @@ make_move-requires-clause-room g c = room-few (move_of c.args.m.now) (volume_see
 pub returns : goal.returns
 returns g c = record {
   acted =
-      acted-by (g.P.Plant.state c.args.plant.now) (g.P.Plant.state c.make_move.new.plant) c.args.config.now c.args.journal.now c.make_move.new.journal (move_of c.args.m.now) (Do c.args.m.now) None refl (λ w. w) (λ r is. is) refl (λ q ne. ne) c.make_move.result
-      c.make_move.ensures.entered c.make_move.ensures.moved c.make_move.ensures.others c.make_move.ensures.kept c.make_move.ensures.room_left;
+      acted-by (g.P.Plant.state c.args.plant.now) (g.P.Plant.state c.make_move.new.plant) c.args.config.now c.args.journal.now c.make_move.new.journal (move_of c.args.m.now) (Do c.args.m.now) None refl (λ w. w) (λ k. k) (λ r is. is) refl (λ q ne. ne) c.make_move.result
+      c.make_move.ensures.entered c.make_move.ensures.moved c.make_move.ensures.others c.make_move.ensures.old_or_new c.make_move.ensures.kept c.make_move.ensures.room_left;
 }

@@ -1,5 +1,7 @@
 use Rattle.std.proofs.Common.{◌∙◌}
 use Rattle.dr_moves.specs.Here.{world_seen}
+use Rattle.dr_moves.proofs.ActedLemmas.{went-others, cut-others}
+use Rattle.dr_moves.proofs.KeptLemmas.{before-then}
 use Rattle.dr_gcopy.specs.Both.{entry_of}
 use Rattle.dr_gcopy.proofs.both.MovesEntries.next.Goals as goal
 
@@ -12,3 +14,19 @@ pub returns-in-Second-clause-comes : goal.returns-in-Second-clause-comes
 returns-in-Second-clause-comes g c r events =
     let x = c.args.self.now in
     (λ i. entry_of x.a.0 x.b.0 x.command (c.in-Second.is i) (world_seen (g.P.Plant.state c.args.plant.now) c.args.config.now r events).control) ∙ c.second_next.ensures.comes r events
+
+pub returns-in-First-clause-goes_on : goal.returns-in-First-clause-goes_on
+returns-in-First-clause-goes_on g c done u w went rest q na nb =
+    let s = g.P.Plant.state c.args.plant.now in
+    before-then s u w c.args.config.now q (went-others s u c.args.config.now c.first_next.result went q (c.first_next.ensures.apart q na nb)) (rest q na nb)
+
+pub returns-in-First-clause-cut : goal.returns-in-First-clause-cut
+returns-in-First-clause-cut g c u cut q na nb = cut-others (g.P.Plant.state c.args.plant.now) u c.args.config.now c.first_next.result cut q (c.first_next.ensures.apart q na nb)
+
+pub returns-in-Second-clause-goes_on : goal.returns-in-Second-clause-goes_on
+returns-in-Second-clause-goes_on g c done u w went rest q na nb =
+    let s = g.P.Plant.state c.args.plant.now in
+    before-then s u w c.args.config.now q (went-others s u c.args.config.now c.second_next.result went q (c.second_next.ensures.apart q na nb)) (rest q na nb)
+
+pub returns-in-Second-clause-cut : goal.returns-in-Second-clause-cut
+returns-in-Second-clause-cut g c u cut q na nb = cut-others (g.P.Plant.state c.args.plant.now) u c.args.config.now c.second_next.result cut q (c.second_next.ensures.apart q na nb)
