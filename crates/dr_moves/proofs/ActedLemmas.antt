@@ -1,5 +1,5 @@
 -- What an entry came to was done.
-use Rattle.std.proofs.Common.{ℕ, ◌≡◌, ◌≢◌, ◌≤◌, ◌+◌, ◌⊎◌, true, false, ◌∷◌, length, arith, refl, sym, ◌∙◌, ap, subst, Option, Some, None}
+use Rattle.std.proofs.Common.{ℕ, ◌≡◌, ◌≢◌, ◌≤◌, ◌+◌, ◌⊎◌, inl, inr, true, false, ◌∷◌, length, arith, refl, sym, ◌∙◌, ap, subst, Option, Some, None}
 use Rattle.std.specs.Prelude.{Result, Ok, Err, OnOk, is_err}
 use Rattle.std.specs.Result.{IsErrAnd}
 use Rattle.dr_ids.specs.declared.refusal.Refusal.{Refusal}
@@ -13,7 +13,7 @@ use Rattle.dr_model.specs.Refusals.{stopped}
 use Rattle.dr_volume.specs.Update.{IsAsBefore, IsMoved, OthersStay}
 use Rattle.dr_volume.specs.View.{Rest, volume_seen}
 use Rattle.dr_moves.specs.Checks.{is_stop}
-use Rattle.dr_moves.specs.Coming.{next_of, RefusedAs, Went, WentBy, CutBy, CutIn, NotTarget, cost_of, Acted}
+use Rattle.dr_moves.specs.Coming.{next_of, RefusedAs, Went, WentBy, CutBy, CutIn, NotTarget, cost_of, GoesOn, Acted}
 use Rattle.dr_moves.specs.Entered.{Entered}
 use Rattle.dr_logic.specs.Counts.{Counted}
 use Rattle.dr_moves.specs.Here.{world_seen, armed_in, refusal_of, IsAtRest}
@@ -75,6 +75,14 @@ cut-others s u c Pass cut q ne = absurd cut
 cut-others s u c (Do m) cut q ne = cut.others q ne
 cut-others s u c (Bring m v t) cut q ne = cut.others q ne
 cut-others s u c (End r) cut q ne = before-same c s u cut q
+
+-- what is no refusal fails by a stop alone
+pub goes-stops : (s : PlantState) (c : ConfigTable) (next : Next) → GoesOn next → (r : Option Refusal) → RefusedAs s c next r → is_stop r ≡ true
+goes-stops s c Pass goes r refused = absurd refused
+goes-stops s c (Do m) goes r refused = ap is_stop refused
+goes-stops s c (Bring m v t) goes r (inl refused) = ap is_stop refused
+goes-stops s c (Bring m v t) goes r (inr refused) = ap is_stop refused
+goes-stops s c (End why) goes r refused = absurd goes
 
 nothing-kept : (s : PlantState) (c : ConfigTable) (j : Log) (res : Result (Unit {0}) Refusal) → IsAt s c → is_stop (refusal_of res) ≡ false → (n : ℕ) → OnOk res (s.on ≡ s.on) → Kept s s c j j n (is_stop (refusal_of res)) res
 nothing-kept s c j res at calm n on = record {

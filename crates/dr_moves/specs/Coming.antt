@@ -95,6 +95,11 @@ RefusedAs s c (Do m) r = r ≡ Some (stopped (volume_seen s c (target (move_of m
 RefusedAs s c (Bring m u t) r = (r ≡ Some (stopped (volume_seen s c u.0).server)) ⊎ (r ≡ Some (stopped (volume_seen s c (target (move_of m))).server))
 RefusedAs s c (End why) r = r ≡ Some why
 
+-- it is no refusal, so that nothing but a stop can end the entries
+abbrev pub GoesOn : Next → Type 0
+GoesOn (End r) = ⊥
+GoesOn _ = Unit {0}
+
 -- The call did what an entry came to: each entry that comes to that leads on, or ends all.
 pub record Acted (s u : PlantState) (c : ConfigTable) (old new : Log) (next : Next) (result : Result (Unit {0}) Refusal) : Type 0 where
   pub advances : OnOk result ((r : Rest) (d : Entry) → d (world_seen s c r old.events).control ≡ next_of next → Advances (world_seen s c r old.events) d (world_seen u c r new.events))

@@ -1,13 +1,14 @@
 //! Entries of a plan, carried out in order.
 
-ghost use Rattle.std.specs.Prelude.{◌≡◌, ℕ, ◌<◌, ◌≤◌, ◌+◌, Bool, true, false, List, [], ◌∷◌, length, OnOk, OnErr, is_ok};
+ghost use Rattle.std.specs.Prelude.{◌≡◌, ℕ, ◌<◌, ◌≤◌, ◌+◌, Bool, true, false, List, [], ◌∷◌, length, Option, OnOk, OnErr, is_ok};
+ghost use Rattle.dr_ids.specs.declared.refusal.Refusal.{Refusal};
 ghost use Rattle.dr_plant.specs.State.{PlantState};
 ghost use Rattle.dr_config.specs.Table.{ConfigTable};
 ghost use Rattle.dr_model.specs.declared.event.Event.{Event};
 ghost use Rattle.dr_model.specs.Carry.{Entry};
 ghost use Rattle.dr_volume.specs.View.{Rest};
 ghost use Rattle.dr_moves.specs.Checks.{is_stop};
-ghost use Rattle.dr_moves.specs.Coming.{next_of, MayCome, Went, CutIn, cost_of, Acted};
+ghost use Rattle.dr_moves.specs.Coming.{next_of, MayCome, Went, CutIn, RefusedAs, cost_of, Acted};
 ghost use Rattle.dr_moves.specs.declared.carrying.Next.TheVariants as TheNext;
 ghost use Rattle.dr_moves.specs.Here.{world_seen, armed_in, refusal_of};
 ghost use Rattle.dr_moves.specs.Made.{IsAt, Kept};
@@ -38,7 +39,7 @@ pub enum Next {
 ///
 /// `left` is the list of them, and `first` the first. `stands` is what holds of plant and configuration before it comes, and `room`
 /// is how many events they tell at most. `makes` is what holds of the state in which they begin and of the one in which they ended,
-/// well or cut short: each of them extends it backwards.
+/// well or cut short: each of them extends it backwards. `refuses` is what they may fail with.
 pub trait Entries<P: Plant> {
     ghost left: { Self → ConfigTable → List Entry };
 
@@ -47,6 +48,8 @@ pub trait Entries<P: Plant> {
     ghost stands: { Self → PlantState → ConfigTable → Type 0 };
 
     ghost makes: { Self → Bool → PlantState → PlantState → ConfigTable → Type 0 };
+
+    ghost refuses: { Self → ConfigTable → Option Refusal → Type 0 };
 
     ghost room: { Self → ConfigTable → ℕ };
 
@@ -65,6 +68,8 @@ pub trait Entries<P: Plant> {
         ensures stands { (u : PlantState) → Went (P.state plant.now) u config.now result → stands self.new u config.now }
         ensures goes_on { (done : Bool) (u w : PlantState) → Went (P.state plant.now) u config.now result → makes self.new done u w config.now → makes self.old done (P.state plant.now) w config.now }
         ensures cut { (u : PlantState) → CutIn (P.state plant.now) u config.now result → makes self.old false (P.state plant.now) u config.now }
+        ensures refused { (r : Option Refusal) → RefusedAs (P.state plant.now) config.now result r → refuses self.old config.now r }
+        ensures later { (r : Option Refusal) → refuses self.new config.now r → refuses self.old config.now r }
         ensures room { cost_of result (P.state plant.now) config.now + room self.new config.now ≤ room self.old config.now };
 
     ghost none_left: { (x : Self) (s : PlantState) (c : ConfigTable) → left x c ≡ [] → makes x true s s c };
@@ -140,8 +145,10 @@ pub fn carry<P: Plant, E: Entries<P>>(
     ensures fails { OnErr result ((r : Rest) → Fails (armed_in (P.state plant.old)) (world_seen (P.state plant.old) config.now r journal.old.events) (E.left entries.old config.now) (world_seen (P.state plant.new) config.now r journal.new.events) (refusal_of result)) }
     ensures stands { OnOk result (E.stands entries.new (P.state plant.new) config.now) }
     ensures makes { E.makes entries.old (is_ok result) (P.state plant.old) (P.state plant.new) config.now }
+    ensures refused { OnErr result (E.refuses entries.old config.now (refusal_of result)) }
     ensures kept { Kept (P.state plant.old) (P.state plant.new) config.now journal.old journal.new (E.room entries.old config.now + 1) (is_stop (refusal_of result)) result }
     ensures room_left { OnOk result (journal.old.spare ≤ journal.new.spare + E.room entries.old config.now) }
+    ensures no_more { OnOk result (journal.new.spare ≤ journal.old.spare) }
 {
     for _ in 0..entries.count(config) {
         let next = entries.next(plant, config);

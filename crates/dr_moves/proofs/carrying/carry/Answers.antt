@@ -1,5 +1,5 @@
 use Rattle.std.proofs.Common.{◌++◌, ◌∷◌, true, false, arith, length, ap, sym, subst, Some}
-use Rattle.std.specs.Prelude.{Result, Ok, is_ok}
+use Rattle.std.specs.Prelude.{Result, Ok, OnErr, is_ok}
 use Rattle.std.proofs.lemmas.List.{nil_from_length}
 use Rattle.dr_ids.specs.declared.refusal.Refusal.{Refusal}
 use Rattle.dr_model.specs.ReadStops.{Ends}
@@ -34,6 +34,11 @@ returns-in_err-act-clause-makes g c =
     subst (λ (r : Result (Unit {0}) Refusal). g.E.Entries.makes c.args.entries.now (is_ok r) s0 u t) (sym (err-is c.from_residual.result c.in_err-act.field-0.0 c.from_residual.ensures.0 c.from_residual.ensures.1))
     (c.loop.invariant.makes false u (c.next-next.ensures.cut u c.in_err-act.ensures.acted.cut))
 
+pub returns-in_err-act-clause-refused : goal.returns-in_err-act-clause-refused
+returns-in_err-act-clause-refused g c =
+    subst (λ (r : Result (Unit {0}) Refusal). OnErr r (g.E.Entries.refuses c.args.entries.now c.args.config.now (refusal_of r))) (sym (err-is c.from_residual.result c.in_err-act.field-0.0 c.from_residual.ensures.0 c.from_residual.ensures.1))
+    (c.loop.invariant.refuses (Some c.in_err-act.field-0.0) (c.next-next.ensures.refused (Some c.in_err-act.field-0.0) c.in_err-act.ensures.acted.refused))
+
 pub returns-clause-makes : goal.returns-clause-makes
 returns-clause-makes g c =
     let t = c.args.config.now in
@@ -60,5 +65,7 @@ loop-preserved g c =
       stands = c.next-next.ensures.stands u c.in_ok-act.ensures.acted.went;
       makes = λ done w made. c.loop.invariant.makes done w (c.next-next.ensures.goes_on done u w c.in_ok-act.ensures.acted.went made);
       kept = kept-then s0 s u t c.args.journal.now c.loop.journal c.act.new.journal _ _ _ (Ok tt) c.loop.invariant.kept c.in_ok-act.ensures.acted.kept (omega (arith, before, cost, spent));
+      refuses = λ q later. c.loop.invariant.refuses q (c.next-next.ensures.later q later);
       room = omega (arith, before, cost, spent);
+      no_more = let fewer = c.loop.invariant.no_more in omega (arith, fewer, spent);
     }
