@@ -1,5 +1,5 @@
 -- What the targets of a source keep, from one volume of the configuration to the next.
-use Rattle.std.proofs.Common.{ℕ, ◌≡◌, ◌≤◌, ◌<◌, ◌+◌, suc, zero, arith, inl, inr, nat_eq, true, false, List, [], ◌∷◌, drop, length, map, slice_get, refl, sym, ◌∙◌, ap, subst, Option, Some, None}
+use Rattle.std.proofs.Common.{ℕ, ◌≡◌, ◌≤◌, ◌<◌, ◌+◌, suc, zero, arith, inl, inr, nat_eq, true, false, not, List, [], ◌∷◌, drop, length, map, slice_get, refl, sym, ◌∙◌, ap, subst, Option, Some, None}
 use Rattle.std.specs.Prelude.{option_map, unwrap_or, is_some, ◌&&◌}
 use Rattle.std.proofs.Math.Numerals.{suc-eq-add-one}
 use Rattle.std.proofs.lemmas.List.{drop_all}
@@ -11,6 +11,7 @@ use Rattle.dr_model.specs.Entries.{keep_on, copies_from}
 use Rattle.dr_volume.specs.View.{ids_of, volume_seen}
 use Rattle.dr_volume.proofs.HeadLaws.{entry-there}
 use Rattle.dr_flash.specs.Heads.{id_at}
+use Rattle.dr_flash.specs.Views.{kept_for}
 use Rattle.dr_moves.proofs.FitLemmas.{target-no_source}
 use Rattle.dr_moves.specs.Fit.{RelationsFit}
 use Rattle.dr_ids.specs.declared.names.VolumeId.{VolumeId}
@@ -59,6 +60,9 @@ no-own s t v fit =
         | inr p ↦ p.0
       ]
     ] refl
+
+pub kept-no_own : (s : PlantState) (t : ConfigTable) (v : ℕ) → RelationsFit s t → kept_for v (volume_seen s t v).fields ≡ false
+kept-no_own s t v fit = ap (λ b. b && not (volume_seen s t v).fields.reversing) (no-own s t v fit)
 
 -- the volume at a place below the count
 pub id-there : (t : ConfigTable) (i : ℕ) → i < length t.volumes → Some (id_at t i) ≡ option_map (λ (e : VolumeEntry). e.id) (slice_get t.volumes i)

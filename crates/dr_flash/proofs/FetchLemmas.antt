@@ -1,12 +1,12 @@
 -- A source is read where its target can be, and what the background copy comes to.
-use Rattle.std.proofs.Common.{ℕ, List, ◌≡◌, true, ◌&&◌, sym, ◌∙◌, ap, Option, None, Some}
+use Rattle.std.proofs.Common.{ℕ, List, ◌≡◌, true, ◌&&◌, sym, ◌∙◌, ap, Option, None}
 use Rattle.std.specs.Prelude.{is_some, if◌then◌else◌}
 use Rattle.dr_plant.specs.State.{PlantState, can_read, passes_read}
 use Rattle.dr_config.specs.Table.{ConfigTable, StandsFor, place_of}
 use Rattle.dr_model.specs.declared.event.Event.{Event}
 use Rattle.dr_model.specs.Control.{World, Volume}
 use Rattle.dr_model.specs.Moves.{Fetch}
-use Rattle.dr_model.specs.Carry.{Pass, now}
+use Rattle.dr_model.specs.Carry.{now}
 use Rattle.dr_model.specs.Entries.{fetch_next, lowest_missing, on_found}
 use Rattle.dr_model.specs.Relations.{lowest, rest}
 use Rattle.dr_volume.specs.declared.fields.Fields.{Fields}
@@ -26,6 +26,7 @@ pub can-alike : (s : PlantState) (t : ConfigTable) (v u : ℕ) → StandsFor t s
 can-alike s t v u stands defined fits =
     ap (λ o. s.on o && passes_read (s.read_fuse o)) (owned s t u stands fits.defined ∙ sym fits.same_server ∙ sym (owned s t v stands defined))
 
+-- what is fetched next is the lowest track that is missing
 module _ (s : PlantState) (t : ConfigTable) (r : Rest) (events : List Event) (v n : ℕ) (f : Fields) (shows : plain f ≡ (volume_seen s t v).fields) (sized : (volume_seen s t v).tracks ≡ n) (o : Option ℕ) (found : o ≡ (if f.related then lowest n (rest n f.own) else None)) where
   abbrev w : World
   w = world_seen s t r events
@@ -33,8 +34,5 @@ module _ (s : PlantState) (t : ConfigTable) (r : Rest) (events : List Event) (v 
   pub missing-is : lowest_missing v w.control ≡ o
   missing-is = (λ i. if (sym shows i).related then lowest (sized i) (rest (sized i) (sym shows i).own) else None) ∙ sym found
 
-  pub fetch-none : o ≡ None → fetch_next v w.control ≡ Pass
-  fetch-none none = ap (λ x. on_found x (λ k. now (Fetch v k)) w.control) (missing-is ∙ none)
-
-  pub fetch-some : (k : ℕ) → o ≡ Some k → fetch_next v w.control ≡ now (Fetch v k) w.control
-  fetch-some k some = ap (λ x. on_found x (λ k. now (Fetch v k)) w.control) (missing-is ∙ some)
+  pub fetch-is : fetch_next v w.control ≡ on_found o (λ k. now (Fetch v k)) w.control
+  fetch-is = ap (λ x. on_found x (λ k. now (Fetch v k)) w.control) missing-is

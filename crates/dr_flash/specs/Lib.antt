@@ -1,5 +1,5 @@
 pub mod Views
 pub mod Heads
-pub mod Writes
+pub mod Keeping
 pub mod Standing
 pub mod HostWrites

@@ -1,7 +1,6 @@
 -- What a track of a plant's volume reads as.
-use Rattle.std.specs.Prelude.{◌≡◌, ◌≢◌, ℕ, Bool, true, false, not, ◌&&◌, List}
+use Rattle.std.specs.Prelude.{◌≡◌, ◌≢◌, ℕ, Bool, true, not, ◌&&◌, List}
 use Rattle.std.specs.FinSet.{contains}
-use Rattle.dr_logic.specs.Bytes.{zeros}
 use Rattle.dr_plant.specs.State.{PlantState}
 use Rattle.dr_config.specs.Table.{ConfigTable}
 use Rattle.dr_model.specs.Layout.{Fields}
@@ -25,10 +24,6 @@ OthersShow s u t v = (q k : ℕ) → q ≢ v → view_seen u t q k ≡ view_seen
 abbrev pub kept_for : ℕ → Fields → Bool
 kept_for v f = copies_from v f && not f.reversing
 
--- it is restored onto v, and shows track k of it
-abbrev pub shows_restored : ℕ → Fields → ℕ → Bool
-shows_restored v f k = copies_from v f && f.reversing && not (contains f.own k)
-
 -- q holds track k, or is no target
 abbrev pub HoldsTrack : PlantState → ConfigTable → ℕ → ℕ → Type 0
 HoldsTrack s t k q = (volume_seen s t q).fields.related ≡ true → contains (volume_seen s t q).fields.own k ≡ true
@@ -36,12 +31,3 @@ HoldsTrack s t k q = (volume_seen s t q).fields.related ≡ true → contains (v
 -- Where q was in s a target of v that isn't restored onto it, it holds track k in u, or is no target any more.
 abbrev pub KeepsTrack : PlantState → PlantState → ConfigTable → ℕ → ℕ → ℕ → Type 0
 KeepsTrack s u t v k q = kept_for v (volume_seen s t q).fields ≡ true → HoldsTrack u t k q
-
--- The tracks but k that are blank by these fields read zeros.
-abbrev pub ReadsZeros : PlantState → ConfigTable → ℕ → Fields → ℕ → Type 0
-ReadsZeros s t v f k = (n : ℕ) → n ≢ k → contains f.blank n ≡ true → track_seen s t v n ≡ zeros
-
--- From s to u every track of every volume but v shows what it did, or is track k of v that a target shows which is restored
--- onto v.
-abbrev pub OthersShowBut : PlantState → PlantState → ConfigTable → ℕ → ℕ → Type 0
-OthersShowBut s u t v k = (q n : ℕ) → q ≢ v → (n ≡ k → shows_restored v (volume_seen s t q).fields k ≡ false) → view_seen u t q n ≡ view_seen s t q n

@@ -25,7 +25,7 @@ use crate::standing::{counted_refusal, relation_state};
 use dr_config::Config;
 use dr_ids::{Refusal, VolumeId};
 use dr_model::Journal;
-use dr_moves::{Telling, Told, server_of, shift, tracks_of, withdrawn};
+use dr_moves::{Move, make_move_by, server_of};
 use dr_plant::Plant;
 use dr_volume::{Fields, peek_fields};
 
@@ -34,45 +34,6 @@ fn is_plain_target(f: &Fields, s: VolumeId) -> bool
     ensures { result ≡ (copies_from s.0 (plain f.now) && (not f.now.revertible && not f.now.reversing)) }
 {
     f.related && f.source.0 == s.0 && !f.revertible && !f.reversing
-}
-
-/// Ends the relationship of a target: the tracks that it doesn't hold read zeros.
-fn part<P: Plant>(
-    plant: &mut P,
-    config: &Config,
-    journal: &mut Journal,
-    t: VolumeId,
-    f: &Fields,
-) -> Result<(), Refusal>
-    requires rest { IsAtRest (P.state plant.old) config.now }
-    requires fit { RelationsFit (P.state plant.old) config.now }
-    requires defined { IsSome (place_of config.now t.0) }
-    requires running { (P.state plant.old).on (volume_seen (P.state plant.old) config.now t.0).server ≡ true }
-    requires shows { Shows (P.state plant.old) config.now t.0 f.now }
-    requires related { f.now.related ≡ true }
-    requires room { 257 ≤ journal.old.spare }
-    ensures advances { OnOk result ((r : Rest) → Advances (world_seen (P.state plant.old) config.now r journal.old.events) (now (Withdraw t.0)) (world_seen (P.state plant.new) config.now r journal.new.events)) }
-    ensures halts { OnErr result ((r : Rest) → Halts (armed_in (P.state plant.old)) (world_seen (P.state plant.old) config.now r journal.old.events) (now (Withdraw t.0)) (world_seen (P.state plant.new) config.now r journal.new.events) (refusal_of result)) }
-    ensures refused { OnErr result (refusal_of result ≡ Some (stopped (volume_seen (P.state plant.old) config.now t.0).server)) }
-    ensures rest { IsAtRest (P.state plant.new) config.now }
-    ensures fit { RelationsFit (P.state plant.new) config.now }
-    ensures unarmed { (q : ℕ) → (P.state plant.old).read_fuse q ≡ None → (P.state plant.new).read_fuse q ≡ None }
-    ensures faults { Counted (is_err result) (P.state plant.old).faults (P.state plant.new).faults }
-    ensures others { OthersStay (P.state plant.old) (P.state plant.new) config.now t.0 }
-    ensures shows { OnOk result ((k : ℕ) → view_seen (P.state plant.new) config.now t.0 k ≡ (if contains (volume_seen (P.state plant.old) config.now t.0).fields.own k then track_seen (P.state plant.old) config.now t.0 k else zeros)) }
-    ensures others_show { OthersShow (P.state plant.old) (P.state plant.new) config.now t.0 }
-    ensures on { OnOk result ((P.state plant.new).on ≡ (P.state plant.old).on) }
-    ensures room { journal.old.spare ≤ journal.new.spare + 257 }
-    ensures spare { length journal.new.events + journal.new.spare ≡ length journal.old.events + journal.old.spare }
-{
-    let tracks = tracks_of(config, t);
-    let next = withdrawn(tracks, f);
-    let told = Telling::of(Told::Blanked {
-        volume: t.0,
-        tracks,
-        own: f.own,
-    });
-    shift(plant, config, journal, t, &next, None, &told)
 }
 
 /// Ends the relationship of target t of s; the caller knows both volumes. The tracks that t doesn't hold read zeros from then
@@ -116,5 +77,6 @@ pub fn withdraw<P: Plant>(
     if !is_plain_target(&fields, s) {
         return Err(relation_state(plant, config, t));
     }
-    part(plant, config, journal, t, &fields)
+    let m = Move::Withdraw { v: t };
+    make_move_by(plant, config, journal, &m, &fields, None)
 }

@@ -21,10 +21,11 @@ ghost use Rattle.dr_moves.specs.Here.{world_seen, refusal_of, armed_in, IsAtRest
 ghost use Rattle.dr_moves.specs.Turns.{Advances, Halts};
 ghost use Rattle.dr_flash.specs.Views.{AllShow};
 
+use crate::taking::take;
 use dr_config::Config;
 use dr_ids::{Refusal, VolumeId};
-use dr_model::{Event, Journal};
-use dr_moves::{Telling, Told, closed, fetched, lowest, read_told, rest, shift, tracks_of};
+use dr_model::Journal;
+use dr_moves::{Move, lowest, rest, tracks_of};
 use dr_plant::{Block, Plant, Stopped};
 use dr_volume::{Fields, open, peek_fields, read_track};
 
@@ -59,87 +60,6 @@ pub fn read_target<P: Plant>(
         return read_track(plant, config, source, t, into);
     }
     opened.read_track(plant, config, v, t, into)
-}
-
-/// Stores at target u the bytes of track t of its source, as the background copy does.
-fn store_fetched<P: Plant>(
-    plant: &mut P,
-    config: &Config,
-    journal: &mut Journal,
-    u: VolumeId,
-    t: u16,
-    f: &Fields,
-    bytes: &Block,
-) -> Result<(), Refusal>
-    requires rest { IsAtRest (P.state plant.old) config.now }
-    requires fit { RelationsFit (P.state plant.old) config.now }
-    requires defined { IsSome (place_of config.now u.0) }
-    requires running { (P.state plant.old).on (volume_seen (P.state plant.old) config.now u.0).server ≡ true }
-    requires shows { Shows (P.state plant.old) config.now u.0 f.now }
-    requires related { f.now.related ≡ true }
-    requires within { t < (volume_seen (P.state plant.old) config.now u.0).tracks }
-    requires missing { contains f.now.own t ≡ false }
-    requires bytes { bytes.now ≡ track_seen (P.state plant.old) config.now f.now.source.0 t }
-    requires room { 2 ≤ journal.old.spare }
-    ensures advances { OnOk result ((r : Rest) → Advances (world_seen (P.state plant.old) config.now r journal.old.events) (now (Fetch u.0 t)) (world_seen (P.state plant.new) config.now r journal.new.events)) }
-    ensures halts { OnErr result ((r : Rest) → Halts (armed_in (P.state plant.old)) (world_seen (P.state plant.old) config.now r journal.old.events) (now (Fetch u.0 t)) (world_seen (P.state plant.new) config.now r journal.new.events) (refusal_of result)) }
-    ensures refused { OnErr result (refusal_of result ≡ Some (stopped (volume_seen (P.state plant.old) config.now u.0).server)) }
-    ensures rest { IsAtRest (P.state plant.new) config.now }
-    ensures fit { RelationsFit (P.state plant.new) config.now }
-    ensures unarmed { (q : ℕ) → (P.state plant.old).read_fuse q ≡ None → (P.state plant.new).read_fuse q ≡ None }
-    ensures faults { Counted (is_err result) (P.state plant.old).faults (P.state plant.new).faults }
-    ensures others { OthersStay (P.state plant.old) (P.state plant.new) config.now u.0 }
-    ensures show { AllShow (P.state plant.old) (P.state plant.new) config.now }
-    ensures on { OnOk result ((P.state plant.new).on ≡ (P.state plant.old).on) }
-    ensures room { journal.old.spare ≤ journal.new.spare + 2 }
-    ensures room_left { OnOk result (journal.old.spare ≤ journal.new.spare + 1) }
-    ensures spare { length journal.new.events + journal.new.spare ≡ length journal.old.events + journal.old.spare }
-{
-    let tracks = tracks_of(config, u);
-    let track = *bytes;
-    let next = closed(tracks, &fetched(f, t));
-    let told = Telling::of(Told::One(Event::Copied {
-        volume: u.0,
-        track: t,
-    }));
-    shift(plant, config, journal, u, &next, Some((t, track)), &told)
-}
-
-/// Target u takes track t of its source, as the background copy does.
-fn fetch<P: Plant>(
-    plant: &mut P,
-    config: &Config,
-    journal: &mut Journal,
-    u: VolumeId,
-    t: u16,
-    f: &Fields,
-) -> Result<(), Refusal>
-    requires rest { IsAtRest (P.state plant.old) config.now }
-    requires fit { RelationsFit (P.state plant.old) config.now }
-    requires defined { IsSome (place_of config.now u.0) }
-    requires running { (P.state plant.old).on (volume_seen (P.state plant.old) config.now u.0).server ≡ true }
-    requires shows { Shows (P.state plant.old) config.now u.0 f.now }
-    requires related { f.now.related ≡ true }
-    requires within { t < (volume_seen (P.state plant.old) config.now u.0).tracks }
-    requires missing { contains f.now.own t ≡ false }
-    requires room { 2 ≤ journal.old.spare }
-    ensures advances { OnOk result ((r : Rest) → Advances (world_seen (P.state plant.old) config.now r journal.old.events) (now (Fetch u.0 t)) (world_seen (P.state plant.new) config.now r journal.new.events)) }
-    ensures halts { OnErr result ((r : Rest) → Halts (armed_in (P.state plant.old)) (world_seen (P.state plant.old) config.now r journal.old.events) (now (Fetch u.0 t)) (world_seen (P.state plant.new) config.now r journal.new.events) (refusal_of result)) }
-    ensures refused { OnErr result (refusal_of result ≡ Some (stopped (volume_seen (P.state plant.old) config.now u.0).server)) }
-    ensures rest { IsAtRest (P.state plant.new) config.now }
-    ensures fit { RelationsFit (P.state plant.new) config.now }
-    ensures unarmed { (q : ℕ) → (P.state plant.old).read_fuse q ≡ None → (P.state plant.new).read_fuse q ≡ None }
-    ensures faults { Counted (is_err result) (P.state plant.old).faults (P.state plant.new).faults }
-    ensures others { OthersStay (P.state plant.old) (P.state plant.new) config.now u.0 }
-    ensures show { AllShow (P.state plant.old) (P.state plant.new) config.now }
-    ensures on { OnOk result ((P.state plant.new).on ≡ (P.state plant.old).on) }
-    ensures room { journal.old.spare ≤ journal.new.spare + 2 }
-    ensures room_left { OnOk result (journal.old.spare ≤ journal.new.spare + 1) }
-    ensures spare { length journal.new.events + journal.new.spare ≡ length journal.old.events + journal.old.spare }
-{
-    let mut bytes = [0; 64];
-    read_told(plant, config, journal, f.source, t, &mut bytes)?;
-    store_fetched(plant, config, journal, u, t, f, &bytes)
 }
 
 /// The lowest track that a target of n tracks doesn't hold; none where the volume is no target.
@@ -191,6 +111,7 @@ pub fn copy_step<P: Plant>(
     let Some(t) = next_missing(tracks, &fields) else {
         return Ok(false);
     };
-    fetch(plant, config, journal, v, t, &fields)?;
+    let m = Move::Fetch { v, t };
+    take(plant, config, journal, &m, v, t, &fields)?;
     Ok(true)
 }

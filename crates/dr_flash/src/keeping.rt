@@ -11,7 +11,9 @@ ghost use Rattle.dr_volume.specs.Update.{IsAsBefore};
 ghost use Rattle.dr_volume.specs.View.{Rest, volume_seen, ids_of};
 ghost use Rattle.dr_moves.specs.Fit.{RelationsFit};
 ghost use Rattle.dr_moves.specs.Here.{world_seen, refusal_of, armed_in, IsAtRest};
+ghost use Rattle.dr_moves.specs.Made.{IsAt};
 ghost use Rattle.dr_moves.specs.Turns.{Leads, Fails};
+ghost use Rattle.dr_flash.specs.Keeping.{KeptAll};
 ghost use Rattle.dr_flash.specs.Views.{AllShow, kept_for, KeepsTrack};
 
 use crate::keep::keep_at;
@@ -19,6 +21,26 @@ use dr_config::Config;
 use dr_ids::{Refusal, VolumeId};
 use dr_model::Journal;
 use dr_plant::Plant;
+
+/// The targets of v keep track t, one after another.
+fn keep_all<P: Plant>(
+    plant: &mut P,
+    config: &Config,
+    journal: &mut Journal,
+    v: VolumeId,
+    t: u16,
+) -> Result<(), Refusal>
+    requires at { IsAt (P.state plant.old) config.now }
+    requires running { (P.state plant.old).on (volume_seen (P.state plant.old) config.now v.0).server ≡ true }
+    requires within { t < (volume_seen (P.state plant.old) config.now v.0).tracks }
+    requires room { length config.now.volumes + 1 ≤ journal.old.spare }
+    ensures kept_all { KeptAll (P.state plant.old) (P.state plant.new) config.now journal.old journal.new v.0 t result }
+{
+    for place in 0..config.volumes() {
+        keep_at(plant, config, journal, v, t, place)?;
+    }
+    Ok(())
+}
 
 /// Before track t of volume v changes, each target of v that isn't restored onto it keeps the track, or notes the change
 /// where it holds the track already, in order of definition. The volume's server is on. Fails where the server stops in a
@@ -54,8 +76,5 @@ pub fn copy_first<P: Plant>(
     ensures room_left { OnOk result (journal.old.spare ≤ journal.new.spare + length config.now.volumes) }
     ensures spare { length journal.new.events + journal.new.spare ≡ length journal.old.events + journal.old.spare }
 {
-    for place in 0..config.volumes() {
-        keep_at(plant, config, journal, v, t, place)?;
-    }
-    Ok(())
+    keep_all(plant, config, journal, v, t)
 }

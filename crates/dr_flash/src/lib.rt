@@ -23,8 +23,8 @@ mod keep;
 mod keeping;
 mod making;
 mod standing;
+mod taking;
 mod views;
-mod writing;
 
 pub use ending::withdraw;
 pub use fetching::{copy_step, read_target};
@@ -35,4 +35,3 @@ pub use standing::{
     counted_refusal, is_revertible, is_settled, relation_state, write_refusal, write_refusal_by,
 };
 pub use views::view_of;
-pub use writing::{write_source, write_source_telling, write_target};

@@ -22,10 +22,8 @@ ghost use Rattle.dr_flash.specs.Views.{view_seen, OthersShow};
 use crate::standing::{look_at_targets, relation_state};
 use dr_config::Config;
 use dr_ids::{Kind, Refusal, VolumeId, Which};
-use dr_model::{Event, Journal};
-use dr_moves::{
-    FlashOptions, Telling, Told, is_unpaired, made, pair_state, server_of, shift, tracks_of,
-};
+use dr_model::Journal;
+use dr_moves::{FlashOptions, Move, is_unpaired, make_move, pair_state, server_of, tracks_of};
 use dr_plant::Plant;
 use dr_volume::peek_fields;
 
@@ -87,46 +85,6 @@ fn free_refusal<P: Plant>(plant: &P, config: &Config, s: VolumeId, t: VolumeId) 
     None
 }
 
-/// Makes t, which stands in no relationship, a target of s.
-fn relate<P: Plant>(
-    plant: &mut P,
-    config: &Config,
-    journal: &mut Journal,
-    s: VolumeId,
-    t: VolumeId,
-    o: &FlashOptions,
-) -> Result<(), Refusal>
-    requires rest { IsAtRest (P.state plant.old) config.now }
-    requires fit { RelationsFit (P.state plant.old) config.now }
-    requires defined { IsSome (place_of config.now t.0) }
-    requires running { (P.state plant.old).on (volume_seen (P.state plant.old) config.now t.0).server ≡ true }
-    requires source { SourceFits (is_some (place_of config.now s.0)) (volume_seen (P.state plant.old) config.now t.0) (volume_seen (P.state plant.old) config.now s.0) }
-    requires apart { s.0 ≢ t.0 }
-    requires lone { (u : ℕ) → (volume_seen (P.state plant.old) config.now u).fields.related ≡ true → (volume_seen (P.state plant.old) config.now u).fields.source ≢ t.0 }
-    requires room { 2 ≤ journal.old.spare }
-    ensures advances { OnOk result ((r : Rest) → Advances (world_seen (P.state plant.old) config.now r journal.old.events) (now (Relate t.0 s.0 (choices o.now))) (world_seen (P.state plant.new) config.now r journal.new.events)) }
-    ensures halts { OnErr result ((r : Rest) → Halts (armed_in (P.state plant.old)) (world_seen (P.state plant.old) config.now r journal.old.events) (now (Relate t.0 s.0 (choices o.now))) (world_seen (P.state plant.new) config.now r journal.new.events) (refusal_of result)) }
-    ensures refused { OnErr result (refusal_of result ≡ Some (stopped (volume_seen (P.state plant.old) config.now t.0).server)) }
-    ensures rest { IsAtRest (P.state plant.new) config.now }
-    ensures fit { RelationsFit (P.state plant.new) config.now }
-    ensures unarmed { (q : ℕ) → (P.state plant.old).read_fuse q ≡ None → (P.state plant.new).read_fuse q ≡ None }
-    ensures faults { Counted (is_err result) (P.state plant.old).faults (P.state plant.new).faults }
-    ensures others { OthersStay (P.state plant.old) (P.state plant.new) config.now t.0 }
-    ensures shows { OnOk result ((k : ℕ) → view_seen (P.state plant.new) config.now t.0 k ≡ view_seen (P.state plant.old) config.now s.0 k) }
-    ensures others_show { OthersShow (P.state plant.old) (P.state plant.new) config.now t.0 }
-    ensures on { OnOk result ((P.state plant.new).on ≡ (P.state plant.old).on) }
-    ensures room { journal.old.spare ≤ journal.new.spare + 2 }
-    ensures spare { length journal.new.events + journal.new.spare ≡ length journal.old.events + journal.old.spare }
-{
-    let fields = peek_fields(plant, config, t);
-    let next = made(s, o, &fields);
-    let told = Telling::of(Told::One(Event::Set {
-        volume: t.0,
-        from: s.0,
-    }));
-    shift(plant, config, journal, t, &next, None, &told)
-}
-
 /// Makes t a target of s; the caller knows both volumes. Refused, in this order, where the server of s is off, s and t are
 /// one, their servers or sizes differ, t is a target or a source, s is a target, t has a part in a pair, or s has 12 targets.
 /// Fails too where the server stops in the move or goes off at a read. The journal needs room for two events.
@@ -167,5 +125,7 @@ pub fn establish<P: Plant>(
     if let Some(why) = free_refusal(plant, config, s, t) {
         return Err(why);
     }
-    relate(plant, config, journal, s, t, o)
+    let options = *o;
+    let m = Move::Relate { v: t, s, options };
+    make_move(plant, config, journal, &m, None)
 }

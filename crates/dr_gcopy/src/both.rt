@@ -8,7 +8,7 @@ ghost use Rattle.dr_model.specs.PairEntries.{let_go, tell_paused};
 ghost use Rattle.dr_volume.specs.Update.{IsAsBefore};
 ghost use Rattle.dr_volume.specs.View.{Rest};
 ghost use Rattle.dr_moves.specs.Checks.{is_stop};
-ghost use Rattle.dr_moves.specs.Coming.{next_of, MayCome, Went, NotTarget, GoesOn, cost_of};
+ghost use Rattle.dr_moves.specs.Coming.{next_of, MayCome, Went, NotTarget, GoesOn, cost_of, most_of};
 ghost use Rattle.dr_moves.specs.Here.{world_seen, refusal_of, armed_in};
 ghost use Rattle.dr_moves.specs.Made.{IsAt, Kept};
 ghost use Rattle.dr_moves.specs.Turns.{Leads, Fails};
@@ -21,7 +21,7 @@ use crate::reach::reach_refusal;
 use dr_config::Config;
 use dr_ids::{Refusal, VolumeId};
 use dr_model::{Journal, PairState, Part};
-use dr_moves::{Entries, Move, Next, carry};
+use dr_moves::{Entries, Move, Next, Nothing, carry};
 use dr_plant::Plant;
 use dr_volume::peek_fields;
 
@@ -63,6 +63,7 @@ fn first_next<P: Plant>(
     ensures comes { (r : Rest) (events : List Event) → first_of a.0 b.0 command.now (world_seen (P.state plant.now) config.now r events).control ≡ next_of result }
     ensures may { MayCome (P.state plant.now) config.now result }
     ensures cost { cost_of result (P.state plant.now) config.now ≤ 1 }
+    ensures most { most_of result (P.state plant.now) config.now ≤ 2 }
     ensures goes_on { GoesOn result }
     ensures apart { (q : ℕ) → q ≢ a.0 → q ≢ b.0 → NotTarget result q }
     ensures stands { (u : PlantState) → Went (P.state plant.now) u config.now result → CanEnd u config.now a.0 b.0 command.now }
@@ -91,6 +92,7 @@ fn let_go_next<P: Plant>(plant: &P, config: &Config, a: VolumeId, b: VolumeId) -
     ensures comes { (r : Rest) (events : List Event) → let_go a.0 b.0 (world_seen (P.state plant.now) config.now r events).control ≡ next_of result }
     ensures may { MayCome (P.state plant.now) config.now result }
     ensures cost { cost_of result (P.state plant.now) config.now ≤ 0 }
+    ensures most { most_of result (P.state plant.now) config.now ≤ 1 }
     ensures goes_on { GoesOn result }
     ensures apart { (q : ℕ) → q ≢ b.0 → NotTarget result q }
 {
@@ -108,6 +110,7 @@ fn tell_next<P: Plant>(plant: &P, config: &Config, a: VolumeId, b: VolumeId) -> 
     ensures comes { (r : Rest) (events : List Event) → tell_paused a.0 b.0 (world_seen (P.state plant.now) config.now r events).control ≡ next_of result }
     ensures may { MayCome (P.state plant.now) config.now result }
     ensures cost { cost_of result (P.state plant.now) config.now ≤ 0 }
+    ensures most { most_of result (P.state plant.now) config.now ≤ 1 }
     ensures goes_on { GoesOn result }
     ensures apart { (q : ℕ) → q ≢ b.0 → NotTarget result q }
 {
@@ -136,6 +139,7 @@ fn second_next<P: Plant>(
     ensures comes { (r : Rest) (events : List Event) → second_of a.0 b.0 command.now (world_seen (P.state plant.now) config.now r events).control ≡ next_of result }
     ensures may { MayCome (P.state plant.now) config.now result }
     ensures cost { cost_of result (P.state plant.now) config.now ≤ 0 }
+    ensures most { most_of result (P.state plant.now) config.now ≤ 1 }
     ensures goes_on { GoesOn result }
     ensures apart { (q : ℕ) → q ≢ a.0 → q ≢ b.0 → NotTarget result q }
 {
@@ -165,18 +169,20 @@ struct Moves {
     stage: Stage,
 }
 
-impl<P: Plant> Entries<P> for Moves {
+impl<P: Plant> Entries<P, Nothing> for Moves {
     ghost left = { λ x c. left_of x.a.0 x.b.0 x.command x.stage };
 
     ghost first = { λ x c. entry_of x.a.0 x.b.0 x.command x.stage };
 
-    ghost stands = { λ x s c. CanGo s c x.a.0 x.b.0 x.command x.stage };
+    ghost stands = { λ x s _ c. CanGo s c x.a.0 x.b.0 x.command x.stage };
 
-    ghost makes = { λ x done s u c. BothAlone s u c x.a.0 x.b.0 };
+    ghost makes = { λ x done s _ u _ c. BothAlone s u c x.a.0 x.b.0 };
 
     ghost refuses = { λ x c r. is_stop r ≡ true };
 
     ghost room = { λ x c. room_of x.stage };
+
+    ghost most = { λ x c. room_of x.stage + 1 };
 
     fn count(&self, config: &Config) -> usize {
         match self.stage {
@@ -186,7 +192,7 @@ impl<P: Plant> Entries<P> for Moves {
         }
     }
 
-    fn next(&mut self, plant: &P, config: &Config) -> Next {
+    fn next(&mut self, plant: &P, config: &Config, beside: &Nothing) -> Next {
         match self.stage {
             Stage::First => {
                 self.stage = Stage::Second;
@@ -200,7 +206,7 @@ impl<P: Plant> Entries<P> for Moves {
         }
     }
 
-    ghost none_left = { λ x s c none q na nb. record { volume = refl; tracks = refl } };
+    ghost none_left = { λ x s y c none q na nb. record { volume = refl; tracks = refl } };
 }
 
 /// Carries out the two moves of a command on the pair of a and b. Fails where a server stops in one or goes off at a read.

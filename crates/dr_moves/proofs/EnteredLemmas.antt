@@ -7,6 +7,7 @@ use Rattle.dr_config.specs.Table.{ConfigTable}
 use Rattle.dr_model.specs.declared.event.Event.{Event}
 use Rattle.dr_model.specs.Histories.{histories}
 use Rattle.dr_model.specs.Layout.{Fields}
+use Rattle.dr_model.specs.Log.{Log}
 use Rattle.dr_model.specs.Moves.{Move, Land, Overwrite, LandBoth, Carried, target, fields_left, carried, told, told_in_stop, landed}
 use Rattle.dr_model.specs.Carry.{turn, update, now}
 use Rattle.dr_model.specs.ReadStops.{GoesOff}
@@ -14,8 +15,9 @@ use Rattle.dr_model.specs.Refusals.{stopped}
 use Rattle.dr_volume.specs.View.{Rest, volume_seen, track_seen}
 use Rattle.dr_moves.specs.Entered.{is_calm, Entered}
 use Rattle.dr_moves.specs.Here.{world_seen, armed_in, refusal_of}
-use Rattle.dr_moves.specs.Made.{after_done, after_stop}
+use Rattle.dr_moves.specs.Made.{after_done, after_stop, Made}
 use Rattle.dr_moves.specs.Told.{events_of}
+use Rattle.dr_moves.specs.declared.acts.Stop.{Stop}
 use Rattle.dr_moves.specs.declared.told.Telling.{Telling}
 use Rattle.dr_moves.specs.Turns.{made_by}
 use Rattle.dr_facts.proofs.Ends.{ends-none}
@@ -62,6 +64,20 @@ module _ (s u : PlantState) (c : ConfigTable) (before after : List Event) (m : M
         halts = stops;
         refused = refused;
       }
+
+-- such a move was made
+module _ (s u : PlantState) (c : ConfigTable) (old new : Log) (m : Move) (v : ℕ) (t : Carried) (calm : is_calm m ≡ true) where
+  pub entered-done : Made s u c old new m v t (Ok tt) → Entered s u c old.events new.events m v (Ok tt)
+  entered-done made = entered-by s u c old.events new.events m v (Ok tt) (λ r. made.turned r ∙ ap (λ (q : Rest). (world_seen u c q new.events, None)) (calm-done m calm r)) tt tt
+
+  pub entered-stopped : (stop : Stop) → Made s u c old new m v t (Err stop) → Entered s u c old.events new.events m v (Err (stopped stop.server.0))
+  entered-stopped stop made =
+      entered-by s u c old.events new.events m v (Err (stopped stop.server.0)) tt
+      (λ r. elim (made.turned r) [
+        | inl off ↦ inl off.1
+        | inr is ↦ inr (is ∙ ap (λ (q : Rest). (world_seen u c q new.events, Some stop.server.0)) (calm-stop m calm stop.counts r) ∙ ap (λ n. (world_seen u c r new.events, Some n)) made.server)
+      ])
+      (ap (λ n. Some (stopped n)) made.server)
 
 -- the same from a change of the volume to these fields, and what was told of it
 module _ (s u : PlantState) (c : ConfigTable) (before after : List Event) (m : Move) (v : ℕ) (f : Fields) (t : Carried) (telling : Telling) (is_target : target m ≡ v) (calm : is_calm m ≡ true) (on : s.on (volume_seen s c (target m)).server ≡ true)

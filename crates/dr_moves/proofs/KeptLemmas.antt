@@ -1,6 +1,6 @@
 -- What stays: where one volume moved, and along two calls in a row.
-use Rattle.std.proofs.Common.{ℕ, Bool, true, false, ◌≡◌, ◌≤◌, ◌+◌, ◌⊎◌, refl, sym, ap, subst, ◌∙◌, arith, None, Some}
-use Rattle.std.specs.Prelude.{◌&&◌, nat_lt, is_some, max, Result, Ok, Err}
+use Rattle.std.proofs.Common.{ℕ, Bool, true, false, ◌≡◌, ◌≤◌, ◌+◌, ◌⊎◌, refl, sym, ap, subst, ◌∙◌, arith, length, None, Some}
+use Rattle.std.specs.Prelude.{◌&&◌, nat_lt, is_some, max, Result, Ok, Err, OnOk}
 use Rattle.dr_logic.specs.Counts.{Counted}
 use Rattle.dr_ids.specs.declared.refusal.Refusal.{Refusal}
 use Rattle.dr_plant.specs.State.{PlantState}
@@ -12,11 +12,10 @@ use Rattle.dr_model.specs.Moves.{Carried}
 use Rattle.dr_volume.specs.Update.{IsAsBefore, IsMoved, OthersStay}
 use Rattle.dr_volume.specs.View.{IsSettled}
 use Rattle.dr_moves.specs.Aside.{KeepsAside, AsideFits}
-use Rattle.dr_moves.specs.Checks.{is_stop}
 use Rattle.dr_moves.specs.Fit.{LeavesFit}
-use Rattle.dr_moves.specs.Here.{armed_in, refusal_of}
+use Rattle.dr_moves.specs.Here.{armed_in, IsAtRest}
 use Rattle.dr_moves.specs.Made.{IsAt, Kept}
-use Rattle.dr_moves.proofs.FitLemmas.{fit-after}
+use Rattle.dr_moves.proofs.FitLemmas.{fit-same, fit-after}
 use Rattle.dr_moves.proofs.ShiftLemmas.{rest-after}
 
 pub at-after : (s u : PlantState) (c : ConfigTable) (v : ℕ) (f : Fields) (t : Carried) → IsAsBefore s u c v ⊎ IsMoved s u c v f t → OthersStay s u c v → IsAt s c → StandsFor c u → ((q : ℕ) → IsSettled s c q → IsSettled u c q) → LeavesFit s c v f → IsAt u c
@@ -45,27 +44,47 @@ room-one a b m n h = grind (arith, h)
 pub aside-same : (s u : PlantState) (c : ConfigTable) → ((q : ℕ) → IsAsBefore s u c q) → AsideFits s c → AsideFits u c
 aside-same s u c same fit = record { aside = λ q. subst (λ (x : Volume). KeepsAside x.fields) (sym (same q).volume) (fit.aside q) }
 
--- what stays along two calls in a row
-pub kept-then : (s m u : PlantState) (c : ConfigTable) (old mid new : Log) (a b most : ℕ) (res : Result (Unit {0}) Refusal) → Kept s m c old mid a false {E = Refusal} (Ok tt) → Kept m u c mid new b (is_stop (refusal_of res)) res
-    → old.spare ≤ new.spare + most → Kept s u c old new most (is_stop (refusal_of res)) res
-kept-then s m u c old mid new a b most (Ok x) first second room = record {
-  at = second.at;
-  aside = λ fit. second.aside (first.aside fit);
-  unarmed = λ q none. second.unarmed q (first.unarmed q none);
-  faults = second.faults ∙ first.faults;
-  on = second.on ∙ first.on;
-  room = room;
-  spare = second.spare ∙ first.spare;
-}
-kept-then s m u c old mid new a b most (Err e) first second room = record {
-  at = second.at;
-  aside = λ fit. second.aside (first.aside fit);
-  unarmed = λ q none. second.unarmed q (first.unarmed q none);
-  faults = let same : m.faults ≡ s.faults = first.faults in subst (λ n. Counted (is_stop (Some e)) n u.faults) same second.faults;
+-- a server went off at a read
+pub kept-gone : (s u : PlantState) (c : ConfigTable) (old new : Log) (most : ℕ) {E : Type 0} (why : E) → 1 ≤ most → IsAt s c → ((q : ℕ) → IsAsBefore s u c q) → IsAtRest u c → ((q : ℕ) → s.read_fuse q ≡ None → u.read_fuse q ≡ None) → Counted true s.faults u.faults
+    → old.spare ≤ new.spare + 1 → length new.events + new.spare ≡ length old.events + old.spare → Kept s u c old new most true {E = E} (Err why)
+kept-gone s u c old new most why one at same rest unarmed faults room spare = record {
+  at = record { rest = rest; fit = fit-same s u c same at.fit };
+  aside = aside-same s u c same;
+  unarmed = unarmed;
+  faults = faults;
   on = tt;
+  room = omega (arith, one, room);
+  spare = spare;
+}
+
+-- in more room
+pub kept-more : (s u : PlantState) (c : ConfigTable) (old new : Log) (few most : ℕ) {counts : Bool} {E : Type 0} (res : Result (Unit {0}) E) → few ≤ most → Kept s u c old new few counts res → Kept s u c old new most counts res
+kept-more s u c old new few most res le kept = record {
+  at = kept.at;
+  aside = kept.aside;
+  unarmed = kept.unarmed;
+  faults = kept.faults;
+  on = kept.on;
+  room = let h = kept.room in omega (arith, h, le);
+  spare = kept.spare;
+}
+
+-- what stays along two calls in a row
+pub kept-then : (s m u : PlantState) (c : ConfigTable) (old mid new : Log) (a b most : ℕ) {counts : Bool} (res : Result (Unit {0}) Refusal) → Kept s m c old mid a false {E = Refusal} (Ok tt) → Kept m u c mid new b counts res
+    → old.spare ≤ new.spare + most → Kept s u c old new most counts res
+kept-then s m u c old mid new a b most {counts = counts} res first second room = record {
+  at = second.at;
+  aside = λ fit. second.aside (first.aside fit);
+  unarmed = λ q none. second.unarmed q (first.unarmed q none);
+  faults = let same : m.faults ≡ s.faults = first.faults in subst (λ n. Counted counts n u.faults) same second.faults;
+  on = along res second.on;
   room = room;
   spare = second.spare ∙ first.spare;
 }
+  where
+    along : (r : Result (Unit {0}) Refusal) → OnOk r (u.on ≡ m.on) → OnOk r (u.on ≡ s.on)
+    along (Ok x) on = on ∙ first.on
+    along (Err e) on = tt
 
 pub before-then : (s t u : PlantState) (c : ConfigTable) (q : ℕ) → IsAsBefore s t c q → IsAsBefore t u c q → IsAsBefore s u c q
 before-then s t u c q a b = record { volume = b.volume ∙ a.volume; tracks = b.tracks ∙ a.tracks }

@@ -36,34 +36,46 @@ read-passed s server w u e ends =
       | false ↦ λ h. absurd (let never : false ≡ true = h.stopped in cc)
     ] ends
 
-module _ (c : ConfigTable) (s t : PlantState) (v : ℕ) (f : Fields) (m : Carried) (rest : IsAtRest s c) (defined : is_some (place_of c v) ≡ true) (up : s.on (volume_seen s c v).server ≡ true)
+module _ (c : ConfigTable) (s t : PlantState) (v : ℕ) (f : Fields) (m : Carried) (stands : StandsFor c s) (size : (volume_seen s c v).tracks ≤ 256) (defined : is_some (place_of c v) ≡ true) (up : s.on (volume_seen s c v).server ≡ true)
     (told : Telling) (r : Rest) (events now : List Event) (before after : Bool) (was : before ≡ (volume_seen s c v).slot) (is : after ≡ (volume_seen t c v).slot)
     (tells : now ≡ events ++ told_in_stop (not (beq after before)) told (volume_seen s c v).server) where
   -- the read was stopped
-  burnt : passes_read (s.read_fuse (volume_seen s c v).server) ≡ false → EndsAs (world_seen t c r events) true (ended (shut (world_seen s c r events) (volume_seen s c v).server) true false) → GoesOff (armed_in s) (world_seen t c r now) (Some (stopped (volume_seen s c v).server)) (world_seen s c r events)
+  burnt : passes_read (s.read_fuse (volume_seen s c v).server) ≡ false → EndsAs (world_seen t c r events) true (ended (shut (world_seen s c r events) (volume_seen s c v).server) true false)
+      → (not (beq after before) ≡ false) × GoesOff (armed_in s) (world_seen t c r now) (Some (stopped (volume_seen s c v).server)) (world_seen s c r events)
   burnt stuck ends =
       let server = (volume_seen s c v).server in
-      let kept : after ≡ before = is ∙ ap (λ (w : World). (w.control.volume v).slot) ends.world ∙ sym was in
-      let silent : now ≡ events ++ Stopped server 0 ∷ [] = tells ∙ ap (λ b. events ++ told_in_stop b told server) (same-beq after before kept) in
-      record {
-        server = server;
-        on = on-running s server up;
-        is_armed = is-armed s server (lies-low c s v defined (rest.sizes v) rest.stands) (armed-of (s.read_fuse server) stuck);
-        world = ap (world_seen t c r) silent ∙ ap (λ (w : World). record w { events = events ++ Stopped server 0 ∷ [] }) ends.world;
-        refusal = refl;
-      }
+      let kept = same-beq after before (is ∙ ap (λ (w : World). (w.control.volume v).slot) ends.world ∙ sym was) in
+      let silent : now ≡ events ++ Stopped server 0 ∷ [] = tells ∙ ap (λ b. events ++ told_in_stop b told server) kept in (
+        kept,
+        record {
+          server = server;
+          on = on-running s server up;
+          is_armed = is-armed s server (lies-low c s v defined size stands) (armed-of (s.read_fuse server) stuck);
+          world = ap (world_seen t c r) silent ∙ ap (λ (w : World). record w { events = events ++ Stopped server 0 ∷ [] }) ends.world;
+          refusal = refl;
+        },
+      )
 
   -- or the move was
-  pub stopped-by : EndsAs (world_seen t c r events) true (after_reading s (volume_seen s c v).server (world_seen s c r events) (update (world_seen s c r events) v f m)) → GoesOff (armed_in s) (world_seen t c r now) (Some (stopped (volume_seen s c v).server)) (world_seen s c r events)
-      ⊎ (made_by (update (world_seen s c r events) v f m) (volume_seen s c v).server told ≡ (world_seen t c r now, Some (volume_seen s c v).server))
-  stopped-by ends =
+  pub burnt-or-cut : EndsAs (world_seen t c r events) true (after_reading s (volume_seen s c v).server (world_seen s c r events) (update (world_seen s c r events) v f m))
+      → ((not (beq after before) ≡ false) × GoesOff (armed_in s) (world_seen t c r now) (Some (stopped (volume_seen s c v).server)) (world_seen s c r events)) ⊎ EndsAs (world_seen t c r events) true (update (world_seen s c r events) v f m)
+  burnt-or-cut ends =
       let server = (volume_seen s c v).server in
       let w = world_seen s c r events in
       let u = world_seen t c r events in
-      elim (passes_read (s.read_fuse server)) as (λ p. passes_read (s.read_fuse server) ≡ p → EndsAs u true (if p then update w v f m else ended (shut w server) true false) → GoesOff (armed_in s) (world_seen t c r now) (Some (stopped server)) w ⊎ (made_by (update w v f m) server told ≡ (world_seen t c r now, Some server))) [
-        | true ↦ λ passes h. inr (made-stops u (update w v f m) server told (not (beq after before)) now h (done-by w u v f m before after h was is) tells)
+      elim (passes_read (s.read_fuse server)) as (λ p. passes_read (s.read_fuse server) ≡ p → EndsAs u true (if p then update w v f m else ended (shut w server) true false) → ((not (beq after before) ≡ false) × GoesOff (armed_in s) (world_seen t c r now) (Some (stopped server)) w) ⊎ EndsAs u true (update w v f m)) [
+        | true ↦ λ passes h. inr h
         | false ↦ λ stuck h. inl (burnt stuck h)
       ] refl ends
+
+  pub stopped-by : EndsAs (world_seen t c r events) true (after_reading s (volume_seen s c v).server (world_seen s c r events) (update (world_seen s c r events) v f m)) → GoesOff (armed_in s) (world_seen t c r now) (Some (stopped (volume_seen s c v).server)) (world_seen s c r events)
+      ⊎ (made_by (update (world_seen s c r events) v f m) (volume_seen s c v).server told ≡ (world_seen t c r now, Some (volume_seen s c v).server))
+  stopped-by ends = elim (burnt-or-cut ends) [
+    | inl off ↦ inl off.1
+    | inr h ↦ inr
+        (made-stops (world_seen t c r events) (update (world_seen s c r events) v f m) (volume_seen s c v).server told (not (beq after before)) now h
+        (done-by (world_seen s c r events) (world_seen t c r events) v f m before after h was is) tells)
+  ]
 
 -- and what it leaves is at rest
 pub rest-after : (c : ConfigTable) (s t : PlantState) (v : ℕ) (f : Fields) (m : Carried) → IsAtRest s c → StandsFor c t → ((q : ℕ) → IsSettled s c q → IsSettled t c q) → IsAsBefore s t c v ⊎ IsMoved s t c v f m → OthersStay s t c v → IsAtRest t c

@@ -8,5 +8,8 @@ pub mod Checks
 pub mod Moves
 pub mod Made
 pub mod Ready
+pub mod Beside
+pub mod Acts
+pub mod Heard
 pub mod Entered
 pub mod Coming

@@ -3,7 +3,7 @@
 ghost use Rattle.std.specs.Prelude.{◌≡◌, ◌≤◌, ◌+◌, ◌⊎◌, true, length, OnOk, is_err};
 ghost use Rattle.dr_model.specs.Histories.{histories};
 ghost use Rattle.dr_model.specs.Moves as machine;
-ghost use Rattle.dr_volume.specs.Opened.{IsOpened};
+ghost use Rattle.dr_volume.specs.Opened.{IsOpened, OthersOpened};
 ghost use Rattle.dr_volume.specs.Update.{IsAsBefore, IsMoved, OthersStay};
 ghost use Rattle.dr_volume.specs.View.{volume_seen, track_seen};
 ghost use Rattle.dr_moves.specs.Entered.{is_calm, Entered};
@@ -29,8 +29,9 @@ pub struct Stop {
     pub counts: bool,
 }
 
-/// Makes a move of a volume that was opened: its next fields are those of the move, by what was opened.
-fn change<P: Plant>(
+/// Makes a move of a volume that was opened: its next fields are those of the move, by what was opened, and what was opened becomes
+/// what the move leaves.
+pub(crate) fn change<P: Plant>(
     plant: &mut P,
     config: &Config,
     journal: &mut Journal,
@@ -48,6 +49,8 @@ fn change<P: Plant>(
     ensures either { IsAsBefore (P.state plant.old) (P.state plant.new) config.now v.0 ⊎ IsMoved (P.state plant.old) (P.state plant.new) config.now v.0 (machine.fields_left (move_of m.now) (volume_seen (P.state plant.old) config.now v.0)) track }
     ensures stayed { Stayed (P.state plant.old) (P.state plant.new) config.now journal.old journal.new (volume_seen (P.state plant.old) config.now v.0).server (room_for (move_of m.now) (volume_seen (P.state plant.old) config.now v.0)) result }
     ensures room_left { OnOk result (journal.old.spare ≡ journal.new.spare + length (machine.told (move_of m.now) (volume_seen (P.state plant.old) config.now v.0))) }
+    ensures opened { OnOk result (IsOpened (P.state plant.new) config.now v.0 opened.new) }
+    ensures others_opened { OthersOpened (P.state plant.old) (P.state plant.new) config.now v.0 }
 {
     let size = tracks_of(config, v);
     let fields = opened.fields();

@@ -82,19 +82,19 @@ pub(crate) fn tell(journal: &mut Journal, told: &Told)
             tracks,
             own,
         } => {
-            tell_left(journal, left);
+            tell_event(journal, left);
             tell_returned(journal, *volume, *source, *tracks, own);
         }
     }
 }
 
-/// Tells that a target leaves its session, where it does.
-fn tell_left(journal: &mut Journal, left: &Option<Event>)
-    requires { length (event_of left.now) ≤ journal.old.spare }
-    ensures events { journal.new.events ≡ journal.old.events ++ event_of left.now }
-    ensures spare { journal.old.spare ≡ journal.new.spare + length (event_of left.now) }
+/// Tells the journal an event, where there is one.
+pub(crate) fn tell_event(journal: &mut Journal, event: &Option<Event>)
+    requires { length (event_of event.now) ≤ journal.old.spare }
+    ensures events { journal.new.events ≡ journal.old.events ++ event_of event.now }
+    ensures spare { journal.old.spare ≡ journal.new.spare + length (event_of event.now) }
 {
-    if let Some(event) = left {
+    if let Some(event) = event {
         journal.push(*event);
     }
 }

@@ -15,7 +15,7 @@ use Rattle.dr_moves.specs.Coming.{MayCome, NotTarget, RefusedAs, cost_of}
 use Rattle.dr_moves.specs.Here.{refusal_of}
 use Rattle.dr_moves.specs.Moves.{move_of}
 use Rattle.dr_moves.specs.declared.carrying.Next.{Next}
-use Rattle.dr_moves.specs.declared.carrying.Next.TheVariants.{Pass, Do, Bring, End}
+use Rattle.dr_moves.specs.declared.carrying.Next.TheVariants.{Pass, Do}
 use Rattle.dr_moves.specs.declared.moves.Move.TheVariants as move
 use Rattle.dr_revert.specs.Turns.{Turns}
 
@@ -23,27 +23,23 @@ module _ (s : PlantState) (c : ConfigTable) (v : ℕ) where
   pub turn-may : (next : Next) → Turns s c v next → MayCome s c next
   turn-may Pass turns = tt
   turn-may (Do m) turns = turns.make
-  turn-may (Bring m u t) turns = absurd turns
-  turn-may (End why) turns = absurd turns
+  turn-may _ turns = absurd turns
 
   pub turn-few : (next : Next) → Turns s c v next → cost_of next s c ≤ 1
   turn-few Pass turns = omega arith
   turn-few (Do m) turns = subst (λ q. length (told (move_of m) (volume_seen s c q)) ≤ 1) (sym turns.aims) turns.few
-  turn-few (Bring m u t) turns = absurd turns
-  turn-few (End why) turns = absurd turns
+  turn-few _ turns = absurd turns
 
   pub turn-refused : (next : Next) → Turns s c v next → (r : Result (Unit {0}) Refusal) → OnErr r (RefusedAs s c next (refusal_of r)) → OnErr r (refusal_of r ≡ Some (stopped (volume_seen s c v).server))
   turn-refused next turns (Ok x) refused = tt
   turn-refused Pass turns (Err e) refused = absurd refused
   turn-refused (Do m) turns (Err e) refused = refused ∙ ap (λ q. Some (stopped (volume_seen s c q).server)) turns.aims
-  turn-refused (Bring m u t) turns (Err e) refused = absurd turns
-  turn-refused (End why) turns (Err e) refused = absurd turns
+  turn-refused _ turns (Err e) refused = absurd turns
 
   pub turn-others : (u : PlantState) (next : Next) → Turns s c v next → ((q : ℕ) → NotTarget next q → IsAsBefore s u c q) → OthersStay s u c v
   turn-others u Pass turns same q ne = same q tt
   turn-others u (Do m) turns same q ne = same q (λ e. ne (e ∙ turns.aims))
-  turn-others u (Bring m w t) turns same q ne = absurd turns
-  turn-others u (End why) turns same q ne = absurd turns
+  turn-others u _ turns same q ne = absurd turns
 
 -- the four moves of a target
 module _ (s : PlantState) (c : ConfigTable) (v : VolumeId) (defined : is_some (place_of c v.0) ≡ true) (running : s.on (volume_seen s c v.0).server ≡ true) where

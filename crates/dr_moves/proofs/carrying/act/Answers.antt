@@ -1,15 +1,17 @@
-use Rattle.std.proofs.Common.{sym, subst}
-use Rattle.std.specs.Prelude.{Ok, Err}
-use Rattle.dr_moves.specs.Coming.{MayCome, Acted}
-use Rattle.dr_moves.proofs.ActedLemmas.{acted-pass, acted-end}
+use Rattle.std.proofs.Common.{◌+◌, arith}
+use Rattle.dr_moves.specs.Coming.{most_of, cost_of}
+use Rattle.dr_moves.proofs.ActedLemmas.{most-few, acted-wider}
 use Rattle.dr_moves.proofs.carrying.act.Goals as goal
 
-pub returns-in-Pass : goal.returns-in-Pass
-returns-in-Pass g c =
-    let s = g.P.Plant.state c.args.plant.now in
-    record { acted = subst (λ n. Acted s s c.args.config.now c.args.journal.now c.args.journal.now n (Ok tt)) (sym c.in-Pass.is) (acted-pass s c.args.config.now c.args.journal.now c.requires.at) }
+pub act_beside-requires-clause-room : goal.act_beside-requires-clause-room
+act_beside-requires-clause-room g c = most-few c.args.next.now (g.P.Plant.state c.args.plant.now) c.args.config.now c.args.journal.now.spare c.requires.room
 
-pub returns-in-End : goal.returns-in-End
-returns-in-End g c =
+pub returns : goal.returns
+returns g c =
     let s = g.P.Plant.state c.args.plant.now in
-    record { acted = subst (λ n. Acted s s c.args.config.now c.args.journal.now c.args.journal.now n (Err c.in-End.why)) (sym c.in-End.is) (acted-end s c.args.config.now c.args.journal.now c.in-End.why c.requires.at (subst (MayCome s c.args.config.now) c.in-End.is c.requires.may)) }
+    let t = c.args.config.now in
+    let next = c.args.next.now in
+    record {
+      acted = acted-wider (λ n x. x) (λ x r. r) (record {}) (record {}) s (g.P.Plant.state c.act_beside.new.plant) t c.args.journal.now c.act_beside.new.journal next (most_of next s t) (cost_of next s t + 1) c.act_beside.result
+          (most-few next s t (cost_of next s t + 1) (omega arith)) c.act_beside.ensures.acted;
+    }

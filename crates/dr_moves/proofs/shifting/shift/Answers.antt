@@ -30,7 +30,7 @@ returns-in-Err-clause-failed g c r =
     subst (λ (x : ServerId). GoesOff (armed_in s) (world_seen (g.P.Plant.state c.update.new.plant) t r c.tell_stop.new.journal.events) (Some (Stopped x)) (world_seen s t r c.args.journal.now.events)
     ⊎ (made_by (machine.update (world_seen s t r c.args.journal.now.events) v (plain c.args.next.now) c.args.track) (volume_seen s t v).server c.args.told.now ≡ (world_seen (g.P.Plant.state c.update.new.plant) t r c.tell_stop.new.journal.events, Some (volume_seen s t v).server)))
     (λ i. record { 0 = c.server_of-server.ensures.seen s i })
-    (stopped-by t s (g.P.Plant.state c.update.new.plant) v (plain c.args.next.now) c.args.track c.requires.rest c.requires.defined c.requires.running c.args.told.now r c.args.journal.now.events c.tell_stop.new.journal.events
+    (stopped-by t s (g.P.Plant.state c.update.new.plant) v (plain c.args.next.now) c.args.track c.requires.rest.stands (c.requires.rest.sizes v) c.requires.defined c.requires.running c.args.told.now r c.args.journal.now.events c.tell_stop.new.journal.events
     c.slot-before.result c.slot.result c.slot-before.ensures c.slot.ensures
     (c.tell_stop.ensures.events ∙ ap (λ o. c.args.journal.now.events ++ told_in_stop (not (beq c.slot.result c.slot-before.result)) c.args.told.now o) (sym (c.server_of-server.ensures.seen s)))
     (c.in-Err.ensures.exact (record r { events = c.args.journal.now.events })))

@@ -1,0 +1,48 @@
+use Rattle.std.proofs.Common.{◌≡◌, true, false, not, ◌&&◌, ap, sym, ◌∙◌}
+use Rattle.std.specs.FinSet.{contains}
+use Rattle.dr_model.specs.Layout.{Fields}
+use Rattle.dr_model.specs.Moves.{Keep, Note}
+use Rattle.dr_volume.specs.View.{volume_seen}
+use Rattle.dr_moves.proofs.TurnLemmas.{ok-along}
+use Rattle.dr_flash.proofs.KeepLemmas.{keeps-new, keeps-noted, passes-held, kept-nothing, kept-by}
+use Rattle.dr_flash.proofs.keep.keep_target.Goals as goal
+
+pub returns-then-not-contains : goal.returns-then-not-contains
+returns-then-not-contains g c =
+    let s = g.P.Plant.state c.args.plant.now in
+    let t = c.args.config.now in
+    let v = c.args.v.0 in
+    let k = c.args.t in
+    let q = c.args.u.0 in
+    let shows = c.peek_fields-fields.ensures.fields in
+    let new : contains (volume_seen s t q).fields.own k ≡ false = ap (λ (f : Fields). contains f.own k) (sym shows) ∙ sym c.contains.ensures.found ∙ c.if-not-contains.true in
+    record {
+      kept_on = kept-by s (g.P.Plant.state c.take.new.plant) t c.args.journal.now c.take.new.journal v k q (Keep q k) c.requires.at.fit c.requires.kept (λ r. keeps-new s t r c.args.journal.now.events v k q c.requires.kept new) c.take.result c.take.ensures.unseen c.take.ensures.held;
+    }
+
+pub returns-then-is_news : goal.returns-then-is_news
+returns-then-is_news g c =
+    let s = g.P.Plant.state c.args.plant.now in
+    let t = c.args.config.now in
+    let v = c.args.v.0 in
+    let k = c.args.t in
+    let q = c.args.u.0 in
+    let shows = c.peek_fields-fields.ensures.fields in
+    let held : contains (volume_seen s t q).fields.own k ≡ true = ap (λ (f : Fields). contains f.own k) (sym shows) ∙ sym c.contains.ensures.found ∙ c.if-not-contains.false in
+    let news = ap (λ (f : Fields). f.recorded && not (contains f.source_changes k)) (sym shows) ∙ sym c.is_news.ensures ∙ c.if-is_news.true in
+    record {
+      kept_on = kept-by s (g.P.Plant.state c.note.new.plant) t c.args.journal.now c.note.new.journal v k q (Note q k) c.requires.at.fit c.requires.kept (λ r. keeps-noted s t r c.args.journal.now.events v k q c.requires.kept held news) c.note.result c.note.ensures.unseen
+          (ok-along c.note.result c.note.ensures.held (λ same related. same ∙ held));
+    }
+
+pub returns : goal.returns
+returns g c =
+    let s = g.P.Plant.state c.args.plant.now in
+    let t = c.args.config.now in
+    let v = c.args.v.0 in
+    let k = c.args.t in
+    let q = c.args.u.0 in
+    let shows = c.peek_fields-fields.ensures.fields in
+    let held : contains (volume_seen s t q).fields.own k ≡ true = ap (λ (f : Fields). contains f.own k) (sym shows) ∙ sym c.contains.ensures.found ∙ c.if-not-contains.false in
+    let old = ap (λ (f : Fields). f.recorded && not (contains f.source_changes k)) (sym shows) ∙ sym c.is_news.ensures ∙ c.if-is_news.false in
+    record { kept_on = kept-nothing s t c.args.journal.now v k q c.requires.at (λ r. passes-held s t r c.args.journal.now.events v k q c.requires.kept held old) (λ is related. held) }
