@@ -54,9 +54,9 @@ module _ (s u w : PlantState) (c : ConfigTable) (x : Change) (l m v place : ℕ)
   }
 
   -- it was cut short
-  pub passed-cut : CutIn s u c next → HasPassed x false s u c l m place
-  passed-cut cut = record {
-    before = λ q low. cut-others s u c next cut q (step.alone q (before-other q low));
+  pub passed-cut : (counts : Bool) → CutIn s u c counts next → HasPassed x false s u c l m place
+  passed-cut counts cut = record {
+    before = λ q low. cut-others s u c counts next cut q (step.alone q (before-other q low));
     changed = λ never. absurd (let e : false ≡ true = never in cc);
   }
 

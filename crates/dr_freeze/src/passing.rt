@@ -15,7 +15,7 @@ use crate::changes::{Change, change_next};
 use dr_config::Config;
 use dr_ids::{Lss, Refusal};
 use dr_model::Journal;
-use dr_moves::{Entries, Next, carry};
+use dr_moves::{Entries, Next, Nothing, carry};
 use dr_plant::Plant;
 
 /// A freeze or a thaw from logical subsystem l to m, of the volumes from a place in the configuration on.
@@ -27,30 +27,32 @@ struct Changes {
     place: usize,
 }
 
-impl<P: Plant> Entries<P> for Changes {
+impl<P: Plant> Entries<P, Nothing> for Changes {
     ghost left = { λ e c. changes_from c e.x e.l.0 e.m.0 e.place };
 
     ghost first = { λ e c. get_or (changes_from c e.x e.l.0 e.m.0 e.place) 0 pass_on };
 
-    ghost stands = { λ e s c. Unit {0} };
+    ghost stands = { λ e s _ c. Unit {0} };
 
-    ghost makes = { λ e done s u c. HasPassed e.x done s u c e.l.0 e.m.0 e.place };
+    ghost makes = { λ e done s _ u _ c. HasPassed e.x done s u c e.l.0 e.m.0 e.place };
 
     ghost refuses = { λ e c r. is_stop r ≡ true };
 
     ghost room = { λ e c. length (changes_from c e.x e.l.0 e.m.0 e.place) };
 
+    ghost most = { λ e c. length (changes_from c e.x e.l.0 e.m.0 e.place) + 1 };
+
     fn count(&self, config: &Config) -> usize {
         config.volumes().saturating_sub(self.place)
     }
 
-    fn next(&mut self, plant: &P, config: &Config) -> Next {
+    fn next(&mut self, plant: &P, config: &Config, beside: &Nothing) -> Next {
         let v = config.volume_at(self.place).unwrap();
         self.place = config.volumes().min(self.place + 1);
         change_next(plant, config, self.x, self.l, self.m, v)
     }
 
-    ghost none_left = { λ e s c none. passed-none e.x s c e.l.0 e.m.0 e.place none };
+    ghost none_left = { λ e s y c none. passed-none e.x s c e.l.0 e.m.0 e.place none };
 }
 
 /// Each primary between the two logical subsystems is frozen, or thawed. Fails where a server stops in a move or goes off at
