@@ -20,7 +20,7 @@ use crate::owners::belongs;
 use dr_config::Config;
 use dr_ids::{Refusal, ServerId, VolumeId};
 use dr_model::Journal;
-use dr_moves::{Entries, Move, Next, carry};
+use dr_moves::{Entries, Move, Next, Nothing, carry};
 use dr_plant::Plant;
 use dr_volume::{is_held, peek_fields};
 
@@ -47,30 +47,32 @@ struct Holds {
     place: usize,
 }
 
-impl<P: Plant> Entries<P> for Holds {
+impl<P: Plant> Entries<P, Nothing> for Holds {
     ghost left = { λ x c. lift_from c x.s.0 x.place };
 
     ghost first = { λ x c. get_or (lift_from c x.s.0 x.place) 0 pass_on };
 
-    ghost stands = { λ x s c. s.on x.s.0 ≡ true };
+    ghost stands = { λ x s _ c. s.on x.s.0 ≡ true };
 
-    ghost makes = { λ x done s u c. Unit {0} };
+    ghost makes = { λ x done s _ u _ c. Unit {0} };
 
     ghost refuses = { λ x c r. r ≡ Some (stopped x.s.0) };
 
     ghost room = { λ x c. 0 };
 
+    ghost most = { λ x c. 1 };
+
     fn count(&self, config: &Config) -> usize {
         config.volumes().saturating_sub(self.place)
     }
 
-    fn next(&mut self, plant: &P, config: &Config) -> Next {
+    fn next(&mut self, plant: &P, config: &Config, beside: &Nothing) -> Next {
         let v = config.volume_at(self.place).unwrap();
         self.place = config.volumes().min(self.place + 1);
         lift_next(plant, config, self.s, v)
     }
 
-    ghost none_left = { λ x s c none. tt };
+    ghost none_left = { λ x s y c none. tt };
 }
 
 /// Ends the holds of the volumes of a server that is on, in order of definition, until the server stops.

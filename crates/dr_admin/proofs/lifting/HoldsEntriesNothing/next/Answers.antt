@@ -8,11 +8,12 @@ use Rattle.dr_model.specs.RecoveryPlans.{pass_on}
 use Rattle.dr_moves.specs.Coming.{next_of, MayCome, RefusedAs, cost_of}
 use Rattle.dr_moves.specs.Here.{world_seen}
 use Rattle.dr_moves.specs.declared.carrying.Next.{Next}
+use Rattle.dr_moves.proofs.ActedLemmas.{most-few}
 use Rattle.dr_moves.proofs.WentLemmas.{went-on}
 use Rattle.dr_flash.proofs.CopyLemmas.{volume-there}
 use Rattle.dr_admin.specs.Starting.{lift_from}
 use Rattle.dr_admin.proofs.LiftLemmas.{lift-first, lift-count, lift-comes, lift-may, lift-refused, lift-silent}
-use Rattle.dr_admin.proofs.lifting.HoldsEntries.next.Goals as goal
+use Rattle.dr_admin.proofs.lifting.HoldsEntriesNothing.next.Goals as goal
 
 there : (t : ConfigTable) (server place : ℕ) → 0 < length (lift_from t server place) → place < length t.volumes
 there t server place some = let e = lift-count t server place in omega (arith, e, some)
@@ -74,3 +75,19 @@ returns-clause-room g c =
     let defined = ap is_some (subst (λ o. IfSome o (λ v. place_of t v.0 ≡ Some c.args.self.now.place)) c.unwrap-v.ensures c.volume_at.ensures.place) in
     let silent : cost_of c.lift_next.result s t ≡ 0 = subst (λ (n : Next). cost_of n s t ≡ 0) (sym c.lift_next.ensures) (lift-silent s t c.unwrap-v.result c.args.self.now.s.0 defined c.requires.stands) in
     omega (arith, silent)
+
+pub returns-clause-most : goal.returns-clause-most
+returns-clause-most g c =
+    let s = g.P.Plant.state c.args.plant.now in
+    let t = c.args.config.now in
+    let defined = ap is_some (subst (λ o. IfSome o (λ v. place_of t v.0 ≡ Some c.args.self.now.place)) c.unwrap-v.ensures c.volume_at.ensures.place) in
+    let silent : cost_of c.lift_next.result s t ≡ 0 = subst (λ (n : Next). cost_of n s t ≡ 0) (sym c.lift_next.ensures) (lift-silent s t c.unwrap-v.result c.args.self.now.s.0 defined c.requires.stands) in
+    omega (arith, silent)
+
+pub returns-clause-stop : goal.returns-clause-stop
+returns-clause-stop g c =
+    let s = g.P.Plant.state c.args.plant.now in
+    let t = c.args.config.now in
+    let defined = ap is_some (subst (λ o. IfSome o (λ v. place_of t v.0 ≡ Some c.args.self.now.place)) c.unwrap-v.ensures c.volume_at.ensures.place) in
+    let silent : cost_of c.lift_next.result s t ≡ 0 = subst (λ (n : Next). cost_of n s t ≡ 0) (sym c.lift_next.ensures) (lift-silent s t c.unwrap-v.result c.args.self.now.s.0 defined c.requires.stands) in
+    most-few c.lift_next.result s t 1 (omega (arith, silent))
