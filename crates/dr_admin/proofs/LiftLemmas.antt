@@ -1,58 +1,80 @@
 -- What the end of the holds of a server's volumes comes to.
-use Rattle.std.proofs.Common.{ℕ, ◌≡◌, ◌<◌, ◌≤◌, ◌+◌, List, [], ◌∷◌, ◌++◌, length, map, slice_get, refl, ap, ◌∙◌, sym, subst, Bool, true, false, ◌&&◌, cond, Option, Some, None}
-use Rattle.std.specs.Prelude.{option_map, Result, Ok, Err, if◌then◌else◌}
-use Rattle.std.proofs.lemmas.List.{drop_all, append-nil}
+use Rattle.std.proofs.Common.{ℕ, ◌≡◌, ◌<◌, ◌+◌, ◌-◌, List, [], ◌∷◌, ◌++◌, length, map, slice_get, refl, ap, ◌∙◌, sym, subst, Bool, true, false, ◌&&◌, cond, Option, Some, None}
+use Rattle.std.specs.Prelude.{is_some, option_map, Result, Ok, Err, if◌then◌else◌}
+use Rattle.std.proofs.Math.ListN.{length-drop, length-map}
+use Rattle.std.proofs.lemmas.Bool.{and_parts}
+use Rattle.std.proofs.lemmas.List.{append-nil}
+use Rattle.dr_ids.specs.declared.names.VolumeId.{VolumeId}
 use Rattle.dr_ids.specs.declared.refusal.Refusal.{Refusal}
 use Rattle.dr_plant.specs.State.{PlantState}
-use Rattle.dr_config.specs.Table.{ConfigTable}
+use Rattle.dr_config.specs.Table.{ConfigTable, place_of}
 use Rattle.dr_config.specs.declared.entries.VolumeEntry.{VolumeEntry}
 use Rattle.dr_host.specs.Writes.{has_owner}
 use Rattle.dr_model.specs.declared.event.Event.{Event}
 use Rattle.dr_model.specs.declared.said.Addition.TheVariants.{Alone}
 use Rattle.dr_model.specs.declared.said.Said.TheVariants.{Done, Refused}
-use Rattle.dr_model.specs.Refusals.{server_off}
+use Rattle.dr_model.specs.Refusals.{server_off, stopped}
 use Rattle.dr_model.specs.Control.{World}
-use Rattle.dr_model.specs.Carry.{Entry, Do, Pass, Make}
-use Rattle.dr_model.specs.Entries.{fields_at}
+use Rattle.dr_model.specs.Layout.{Fields}
+use Rattle.dr_model.specs.Carry.{Do, Pass, Make}
 use Rattle.dr_model.specs.Moves.{Lift}
 use Rattle.dr_model.specs.Pairs.{held}
 use Rattle.dr_model.specs.ReadStops.{Ends}
 use Rattle.dr_model.specs.Plans.{Plan, expire_plan, expire_on, refuses}
 use Rattle.dr_model.specs.WriteEntries.{lift_on}
-use Rattle.dr_volume.specs.View.{Rest, ids_of}
+use Rattle.dr_volume.specs.View.{Rest, volume_seen}
 use Rattle.dr_volume.proofs.WorldLaws.{on-seen}
+use Rattle.dr_moves.specs.Coming.{next_of, MayCome, RefusedAs, cost_of}
 use Rattle.dr_moves.specs.Here.{world_seen, refusal_of}
-use Rattle.dr_moves.specs.Turns.{Advances, Halts}
+use Rattle.dr_moves.specs.declared.carrying.Next.TheVariants as next
+use Rattle.dr_moves.specs.declared.moves.Move.TheVariants as move
 use Rattle.dr_flash.proofs.CopyLemmas.{ids-next}
-use Rattle.dr_facts.proofs.Ends.{ends-skips, ends-none}
+use Rattle.dr_facts.proofs.Ends.{ends-none}
 use Rattle.dr_admin.specs.Answering.{Comes, lift_answer}
-use Rattle.dr_admin.specs.Starting.{lift_from}
-use Rattle.dr_admin.proofs.OwnerLemmas.{belongs-seen}
+use Rattle.dr_admin.specs.Starting.{lift_from, lifted_by}
+use Rattle.dr_admin.proofs.OwnerLemmas.{belongs-seen, own-server}
 
 -- a volume's entry comes first of what is left
-module _ (t : ConfigTable) (v server place : ℕ) (at : Some v ≡ option_map (λ (x : VolumeEntry). x.id) (slice_get t.volumes place)) where
-  abbrev behind : List Entry
-  behind = lift_from t server (place + 1)
+pub lift-first : (t : ConfigTable) (v server place : ℕ) → Some v ≡ option_map (λ (x : VolumeEntry). x.id) (slice_get t.volumes place) → lift_from t server place ≡ lift_on server v ∷ lift_from t server (place + 1)
+lift-first t v server place at = ap (map (lift_on server)) (ids-next t place v at)
 
-  next_is : lift_from t server place ≡ lift_on server v ∷ behind
-  next_is = ap (map (lift_on server)) (ids-next t place v at)
+-- so many are left
+pub lift-count : (t : ConfigTable) (server place : ℕ) → length (lift_from t server place) ≡ length t.volumes - place
+lift-count t server place = simp (length-map, length-drop)
 
-  -- a volume of another server is passed over
-  pub lifted-skip : (s : PlantState) (r : Rest) (ev : List Event) (armed : ℕ → Bool) (u : World) (q : Option Refusal) → has_owner t v server ≡ false → Ends armed u q (world_seen s t r ev) behind → Ends armed u q (world_seen s t r ev) (lift_from t server place)
-  lifted-skip s r ev armed u q other more =
-      let w : World = world_seen s t r ev in
-      subst (Ends armed u q w) (sym next_is)
-      (ends-skips armed u q w (lift_on server v) behind (ap (λ b. if b && held (fields_at w.control v) then Do (Make (Lift v)) else Pass) (belongs-seen s t r ev v server ∙ other)) more)
+-- what the entry comes to
+pub lift-comes : (s : PlantState) (t : ConfigTable) (r : Rest) (ev : List Event) (v : VolumeId) (server : ℕ) → lift_on server v.0 (world_seen s t r ev).control ≡ next_of (lifted_by v (has_owner t v.0 server) (volume_seen s t v.0).fields)
+lift-comes s t r ev v server = ap (λ b. if b && held f then Do (Make (Lift v.0)) else Pass) (belongs-seen s t r ev v.0 server) ∙ when (has_owner t v.0 server && held f)
+  where
+    f : Fields
+    f = (volume_seen s t v.0).fields
 
-  pub lifted-goes : (w w1 : World) → Advances w (lift_on server v) w1 → (armed : ℕ → Bool) (u : World) (q : Option Refusal) → Ends armed u q w1 behind → Ends armed u q w (lift_from t server place)
-  lifted-goes w w1 first armed u q more = subst (Ends armed u q w) (sym next_is) (first armed u q behind more)
+    when : (b : Bool) → (if b then Do (Make (Lift v.0)) else Pass) ≡ next_of (if b then next.Do (move.Lift v) else next.Pass)
+    when true = refl
+    when false = refl
 
-  pub lifted-stops : (armed : ℕ → Bool) (w u : World) (q : Option Refusal) → Halts armed w (lift_on server v) u q → Ends armed u q w (lift_from t server place)
-  lifted-stops armed w u q ends = subst (Ends armed u q w) (sym next_is) (ends behind)
+-- a move that may come, of a volume of the server
+module _ (s : PlantState) (t : ConfigTable) (v : VolumeId) (server : ℕ) (defined : is_some (place_of t v.0) ≡ true) (on : s.on server ≡ true) where
+  may-if : (b : Bool) → (b ≡ true → has_owner t v.0 server ≡ true) → MayCome s t (if b then next.Do (move.Lift v) else next.Pass)
+  may-if true own = record { may = record { defined = defined; running = ap s.on (own-server s t v.0 server (own refl)) ∙ on; asks = tt }; calm = refl; carries = λ w. refl }
+  may-if false own = tt
 
--- no volume is left
-pub lifted-all : (armed : ℕ → Bool) (w : World) (t : ConfigTable) (server place : ℕ) → length t.volumes ≤ place → Ends armed w None w (lift_from t server place)
-lifted-all armed w t server place all = subst (Ends armed w None w) (sym (ap (λ es. map (lift_on server) (ids_of es)) (drop_all place t.volumes all))) (ends-none armed w None w (record { world = refl; refusal = refl }))
+  refused-if : (b : Bool) → (b ≡ true → has_owner t v.0 server ≡ true) → (q : Option Refusal) → RefusedAs s t (if b then next.Do (move.Lift v) else next.Pass) q → q ≡ Some (stopped server)
+  refused-if true own q is = is ∙ ap (λ n. Some (stopped n)) (own-server s t v.0 server (own refl))
+  refused-if false own q is = absurd is
+
+  silent-if : (b : Bool) → cost_of (if b then next.Do (move.Lift v) else next.Pass) s t ≡ 0
+  silent-if true = refl
+  silent-if false = refl
+
+  pub lift-may : MayCome s t (lifted_by v (has_owner t v.0 server) (volume_seen s t v.0).fields)
+  lift-may = may-if _ (λ is. (and_parts _ _ is).0)
+
+  pub lift-refused : (q : Option Refusal) → RefusedAs s t (lifted_by v (has_owner t v.0 server) (volume_seen s t v.0).fields) q → q ≡ Some (stopped server)
+  lift-refused = refused-if _ (λ is. (and_parts _ _ is).0)
+
+  pub lift-silent : cost_of (lifted_by v (has_owner t v.0 server) (volume_seen s t v.0).fields) s t ≡ 0
+  lift-silent = silent-if _
 
 -- the plan, where the server is off, and where it is on
 module _ (s : PlantState) (t : ConfigTable) (r : Rest) (ev : List Event) (server : ℕ) (low : server < 8) where

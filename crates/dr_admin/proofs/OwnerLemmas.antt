@@ -1,9 +1,8 @@
 -- Whose a volume is, for the configuration and for the machine.
-use Rattle.std.proofs.Common.{ℕ, ◌≡◌, ◌≢◌, ◌⊎◌, inl, inr, List, [], ◌∷◌, refl, ap, ◌∙◌, sym, arith, Bool, true, false, ◌&&◌, ◌||◌, cond, nat_eq, Option, Some, None}
-use Rattle.std.specs.Prelude.{is_some, ◌==◌}
-use Rattle.std.specs.List.{list_any, find}
+use Rattle.std.proofs.Common.{ℕ, ◌≡◌, ◌≢◌, inl, inr, List, ap, ◌∙◌, sym, Bool, true, false, ◌&&◌, nat_eq, Some, None}
+use Rattle.std.specs.Prelude.{is_some}
 use Rattle.std.specs.Option.{option_map_or}
-use Rattle.std.proofs.lemmas.Bool.Decides.{Decides-eqb, nat_tests}
+use Rattle.std.proofs.lemmas.Bool.Decides.{Decides-eqb}
 use Rattle.dr_plant.specs.State.{PlantState}
 use Rattle.dr_config.specs.Table.{ConfigTable, place_of, entry_of}
 use Rattle.dr_config.specs.declared.entries.VolumeEntry.{VolumeEntry}
@@ -11,10 +10,9 @@ use Rattle.dr_config.proofs.Lookups.{entry-at-place, place-of-entry, either}
 use Rattle.dr_host.specs.Writes.{has_owner}
 use Rattle.dr_model.specs.declared.event.Event.{Event}
 use Rattle.dr_model.specs.WriteEntries.{belongs}
-use Rattle.dr_volume.specs.View.{Rest, volume_seen, ids_of}
+use Rattle.dr_volume.specs.View.{Rest, volume_seen}
 use Rattle.dr_volume.proofs.VolumeLaws.{volume-placed}
 use Rattle.dr_moves.specs.Here.{world_seen}
-use Rattle.dr_config.proofs.KeyLaws.{eqb-turned}
 use Rattle.dr_volume.proofs.WorldLaws.{any_id}
 
 server-of : (s : PlantState) (t : ConfigTable) (v : ℕ) (e : VolumeEntry) → entry_of t v ≡ Some e → (volume_seen s t v).server ≡ e.server

@@ -8,9 +8,7 @@ use Rattle.dr_model.specs.Sessions.{Session, changed, raised, with_member}
 use Rattle.dr_model.specs.SessionEntries.{first_number, add_entries}
 use Rattle.dr_admin.specs.Adding.{outside_of, taken_in, member_planned, lone_refusal, pair_refusal, placed_in, enrol_refusal, entries_planned, sessions_planned, unless_stop}
 use Rattle.dr_ids.specs.declared.refusal.Refusal.{Refusal}
-use Rattle.dr_model.specs.declared.state.Part.{Part}
-use Rattle.dr_model.specs.declared.state.Part.TheVariants.{Absent, Metro, Global}
-use Rattle.dr_model.specs.Layout.{is_part}
+use Rattle.dr_model.specs.declared.state.Part.TheVariants.{Global}
 use Rattle.dr_model.specs.Pairs.{is_kind}
 use Rattle.dr_model.specs.Control.{Control}
 use Rattle.dr_model.specs.Entries.{fields_at, is_running, pair_state, relation_state}

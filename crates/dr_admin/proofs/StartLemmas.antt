@@ -1,15 +1,13 @@
 -- What starting a server comes to: its volumes write their staged tracks to their places and go on, and a write is
 -- acknowledged.
-use Rattle.std.proofs.Common.{ℕ, ◌≡◌, ◌≢◌, ◌<◌, ◌≤◌, ◌+◌, ◌⊎◌, inl, inr, List, [], ◌∷◌, ◌++◌, length, slice_get, refl, ap, ◌∙◌, sym, subst, arith, Bool, true, false, not, ◌&&◌, cond, nat_eq, Option, Some, None, unwrap_or}
+use Rattle.std.proofs.Common.{ℕ, ◌≡◌, ◌≢◌, ◌<◌, ◌≤◌, ◌+◌, ◌⊎◌, inl, inr, List, [], ◌∷◌, ◌++◌, length, slice_get, refl, ap, ◌∙◌, sym, subst, arith, Bool, true, false, ◌&&◌, cond, nat_eq, Option, Some, None, unwrap_or}
 use Rattle.std.specs.Prelude.{is_some, option_map, Result, Ok, Err, IfOk, OnErr, if◌then◌else◌}
 use Rattle.std.proofs.lemmas.Bool.Decides.{eqb_tells}
 use Rattle.std.proofs.lemmas.List.{drop_all, append-nil, append_assoc}
-use Rattle.std.proofs.lemmas.Bool.{false≢true}
 use Rattle.dr_logic.specs.Tables.{at}
 use Rattle.dr_ids.specs.declared.names.WriteId.{WriteId}
 use Rattle.dr_ids.specs.declared.refusal.Refusal.{Refusal}
-use Rattle.dr_plant.specs.State as plant
-use Rattle.dr_plant.specs.State.{PlantState, started, started_read, started_write, passes_read}
+use Rattle.dr_plant.specs.State.{PlantState, started, started_read, started_write}
 use Rattle.dr_plant.specs.declared.plant.WriteFuse.{WriteFuse}
 use Rattle.dr_config.specs.Table.{ConfigTable, StandsFor, place_of}
 use Rattle.dr_config.specs.declared.entries.VolumeEntry.{VolumeEntry}
@@ -18,113 +16,52 @@ use Rattle.dr_host.specs.Writes as writes
 use Rattle.dr_host.specs.Writes.{Writes, has_owner, without}
 use Rattle.dr_host.proofs.Seen.{seen-landed, seen-without}
 use Rattle.dr_model.specs.declared.event.Event.{Event}
-use Rattle.dr_model.specs.declared.event.Event.TheVariants.{Ack, Stopped, Started}
+use Rattle.dr_model.specs.declared.event.Event.TheVariants.{Ack, Started}
 use Rattle.dr_model.specs.declared.said.Addition.TheVariants.{Alone}
 use Rattle.dr_model.specs.declared.said.Said.TheVariants.{Done, Refused}
-use Rattle.dr_model.specs.Refusals.{stopped}
 use Rattle.dr_model.specs.Control.{World}
-use Rattle.dr_model.specs.Carry.{Ended, ended, Entry, Do, Pass, Make, Redo, Acknowledge, act, redo, acknowledged}
-use Rattle.dr_model.specs.ReadStops.{Ends, shut}
+use Rattle.dr_model.specs.Carry.{Entry, Do, Pass, Make, Redo, Acknowledge, acknowledged}
+use Rattle.dr_model.specs.ReadStops.{Ends}
 use Rattle.dr_model.specs.Plans.{Plan, only_says, landed_on, acknowledge_if, acknowledge_on, says_acked, fuse_at_start, starting, start_plan, start_on}
 use Rattle.dr_model.specs.Entries.{fields_at}
 use Rattle.dr_model.specs.Moves.{Restart}
 use Rattle.dr_model.specs.Pairs.{must_restart}
 use Rattle.dr_model.specs.WriteEntries.{redo_on, restart_on, start_entries}
-use Rattle.dr_model.proofs.CarryLemmas.{act-redo, act-acknowledge}
-use Rattle.dr_volume.specs.View.{Rest, volume_seen, volume_at, ids_of, device_of, fuses_seen, fuse_seen, IsSettled, TracksSettled}
-use Rattle.dr_volume.specs.Update.{IsAsBefore, EndsAs, after_reading}
-use Rattle.dr_volume.proofs.UnreadLaws.{armed-of}
+use Rattle.dr_model.proofs.CarryLemmas.{act-acknowledge}
+use Rattle.dr_volume.specs.View.{Rest, volume_seen, volume_at, ids_of, fuses_seen, fuse_seen, IsSettled, TracksSettled}
+use Rattle.dr_volume.specs.Update.{IsAsBefore}
 use Rattle.dr_volume.proofs.WorldLaws.{on-at, on-seen, fuses-at, fuse-seen}
 use Rattle.dr_moves.specs.Here.{world_seen, armed_in, IsAtRest}
 use Rattle.dr_moves.specs.Turns.{Advances, Halts}
 use Rattle.dr_flash.proofs.CopyLemmas.{ids-next}
 use Rattle.dr_moves.proofs.KeptLemmas.{wider-armed}
-use Rattle.dr_facts.proofs.Ends.{ends-off, ends-none, ends-skips, ends-goes, ends-stops, ends-wider}
-use Rattle.dr_moves.proofs.ReadLemmas.{on-running, is-armed}
-use Rattle.dr_moves.specs.Ready.{StandsReady}
+use Rattle.dr_facts.proofs.Ends.{ends-none, ends-skips, ends-goes, ends-wider}
+use Rattle.dr_moves.specs.Ready.{StandsReady, Stayed}
+use Rattle.dr_model.specs.Log.{Log}
+use Rattle.dr_logic.specs.Counts.{Counted}
 use Rattle.dr_admin.specs.Answering.{Comes, write_number}
 use Rattle.dr_admin.specs.Starting.{hosted, IsLater, IsStarting, start_from, start_events, acks, without_acked}
 use Rattle.dr_admin.proofs.OwnerLemmas.{belongs-seen, own-server, other-server}
 use Rattle.dr_config.proofs.Lookups.{either}
 use Rattle.dr_logic.proofs.Tables.{at_same, at_other}
 
--- the server, whose read fuse is armed, went off before any write
-record Shuts (armed : ℕ → Bool) (server : ℕ) (w u : World) (failed : Bool) : Type 0 where
-  is_armed : armed server ≡ true
-  world : u ≡ shut w server
-  answer : failed ≡ true
-
--- an act that begins with a read ends as the machine's, or at that read
-split : (s : PlantState) (server : ℕ) (w u : World) (b : Bool) (e : Ended) → server < 8 → EndsAs u b (after_reading s server w e) → EndsAs u b e ⊎ Shuts (armed_in s) server w u b
-split s server w u b e low ends =
-    elim (passes_read (s.read_fuse server)) as (λ p. passes_read (s.read_fuse server) ≡ p → EndsAs u b (if p then e else ended (shut w server) true false) → EndsAs u b e ⊎ Shuts (armed_in s) server w u b) [
-      | true ↦ λ pass h. inl h
-      | false ↦ λ stuck h. inr (record { is_armed = is-armed s server low (armed-of (s.read_fuse server) stuck); world = h.world; answer = h.stopped })
-    ] refl ends
-
--- a volume's staged track is written to its place, or the server stops in that write
+-- what a volume writes to its place
 module _ (s : PlantState) (t : ConfigTable) (r : Rest) (ev : List Event) (v server : ℕ) where
   abbrev w : World
   w = world_seen s t r ev
-
-  abbrev e : Ended
-  e = redo w v
-
-  abbrev o : ℕ
-  o = (volume_seen s t v).server
 
   -- what is looked at first is the volume
   entry_is : (b : Bool) → has_owner t v server ≡ b → redo_on server v w.control ≡ (if b then Do (Redo v) else Pass)
   entry_is b owned = ap (λ b. if b then Do (Redo v) else Pass) (belongs-seen s t r ev v server ∙ owned)
 
-  redo_by : (stopped : Bool) → w.control.on o ≡ true → stopped ≡ e.stopped → act w (Redo v) ≡ (if stopped then (record e.world { events = ev ++ Stopped o 0 ∷ [] }, Some o) else (e.world, None))
-  redo_by stopped on is =
-      act-redo w v
-      ∙ ap (λ b. cond (not b) (w, None) (cond e.stopped (record e.world { events = ev ++ Stopped o 0 ∷ [] }, Some o) (e.world, None))) on
-      ∙ ap (λ b. cond b (record e.world { events = ev ++ Stopped o 0 ∷ [] }, Some o) (e.world, None)) (sym is)
+  pub redo-comes : has_owner t v server ≡ true → redo_on server v w.control ≡ Do (Redo v)
+  redo-comes owned = entry_is true owned
 
   -- a volume of another server is passed over
   pub others-skip : (armed : ℕ → Bool) (u : World) (q : Option Refusal) (rest : List Entry) → has_owner t v server ≡ false → Ends armed u q w rest → Ends armed u q w (redo_on server v ∷ restart_on server v ∷ rest)
   others-skip armed u q rest other more =
       ends-skips armed u q w (redo_on server v) (restart_on server v ∷ rest) (entry_is false other)
       (ends-skips armed u q w (restart_on server v) rest (ap (λ b. if b && must_restart (fields_at w.control v) then Do (Make (Restart v)) else Pass) (belongs-seen s t r ev v server ∙ other)) more)
-
-  -- from the plant after the call
-  module _ (s' : PlantState) (low : server < 8) (on : s.on server ≡ true) (owned : has_owner t v server ≡ true) where
-    own : o ≡ server
-    own = own-server s t v server owned
-
-    on_own : w.control.on o ≡ true
-    on_own = ap w.control.on own ∙ on-running s server on
-
-    redone-ends : (stopped : Bool) → EndsAs (world_seen s' t r ev) stopped (after_reading s o w e) → EndsAs (world_seen s' t r ev) stopped e ⊎ Shuts (armed_in s) server w (world_seen s' t r ev) stopped
-    redone-ends stopped ends = elim (split s o w (world_seen s' t r ev) stopped e (subst (λ x. x < 8) (sym own) low) ends) [
-      | inl x ↦ inl x
-      | inr x ↦ inr (subst (λ q. Shuts (armed_in s) q w (world_seen s' t r ev) stopped) own x)
-    ]
-
-    pub redone-advances : EndsAs (world_seen s' t r ev) false (after_reading s o w e) → Advances w (redo_on server v) (world_seen s' t r ev)
-    redone-advances ends armed u q ds more = elim (redone-ends false ends) [
-      | inl x ↦ ends-goes armed u q w (world_seen s' t r ev) (redo_on server v) ds (Redo v) (entry_is true owned) (redo_by false on_own x.stopped ∙ ap (λ (y : World). (y, None)) (sym x.world)) more
-      | inr x ↦ absurd (false≢true x.answer)
-    ]
-
-    pub redone-halts : (mid : List Event) → EndsAs (world_seen s' t r ev) true (after_reading s o w e) → mid ≡ ev ++ Stopped server 0 ∷ [] → Halts (armed_in s) w (redo_on server v) (world_seen s' t r mid) (Some (stopped server))
-    redone-halts mid ends told ds = elim (redone-ends true ends) [
-      | inl x ↦
-          ends-stops (armed_in s) (world_seen s' t r mid) (Some (stopped server)) w (redo_on server v) ds (Redo v) server (entry_is true owned)
-          (redo_by true on_own x.stopped
-          ∙ ap (λ (y : World). (record y { events = ev ++ Stopped o 0 ∷ [] }, Some o)) (sym x.world)
-          ∙ ap (λ q. (record (world_seen s' t r ev) { events = ev ++ Stopped q 0 ∷ [] }, Some q)) own
-          ∙ ap (λ es. (world_seen s' t r es, Some server)) (sym told)) refl
-      | inr x ↦ ends-off (armed_in s) (world_seen s' t r mid) (Some (stopped server)) w (redo_on server v ∷ ds) (record {
-        server = server;
-        on = on-running s server on;
-        is_armed = x.is_armed;
-        world = ap (world_seen s' t r) told ∙ ap (λ (y : World). record y { events = ev ++ Stopped server 0 ∷ [] }) x.world;
-        refusal = refl;
-      })
-    ]
 
 -- a volume's two entries come first of what is left
 module _ (t : ConfigTable) (v server place : ℕ) (at : Some v ≡ option_map (λ (x : VolumeEntry). x.id) (slice_get t.volumes place)) (more : List Entry) where
@@ -196,11 +133,11 @@ module _ (s : PlantState) (t : ConfigTable) (v server place : ℕ) (starting : I
           | inr p ↦ let ne = p.1 in let le = l.later in inr (still-later u (place + 1) (record { own = l.own; at = l.at; stands = l.stands; later = omega arith }))
         ]
 
-    pub starting-goes : s'.on ≡ s.on → TracksSettled (s'.block (device_of t v)) (volume_seen s' t v).staged → IsStarting s' t server (place + 1)
+    pub starting-goes : s'.on ≡ s.on → IsSettled s' t v → IsStarting s' t server (place + 1)
     starting-goes on done = record {
       stands = stands;
       on = ap (λ f. f server) on ∙ starting.on;
-      settled = λ u. settled-next u (λ _. done) (starting.settled u);
+      settled = λ u. settled-next u done (starting.settled u);
       sizes = λ u. subst (λ x. x ≤ 256) (sym (ap (λ x. x.tracks) (same u).volume)) (starting.sizes u);
     }
 
@@ -228,6 +165,42 @@ module _ (s s' : PlantState) (t : ConfigTable) (server place : ℕ) (starting : 
 
   pub rest-stopped : s'.on server ≡ false → IsAtRest s' t
   rest-stopped off = record { stands = stands; settled = λ u. settled-off u off (starting.settled u); sizes = sizes-still }
+
+-- what stays along two calls in a row, where the first told nothing
+pub stayed-then : (s m u : PlantState) (t : ConfigTable) (old mid new : Log) (server : ℕ) (res : Result (Unit {0}) Refusal) → mid ≡ old → Stayed s m t old mid server 1 {E = Refusal} (Ok tt) → Stayed m u t mid new server 1 res → Stayed s u t old new server 1 res
+stayed-then s m u t old mid new server (Ok x) silent first second = record {
+  stands = second.stands;
+  settled = λ q is. second.settled q (first.settled q is);
+  unarmed = λ q none. second.unarmed q (first.unarmed q none);
+  faults = second.faults ∙ first.faults;
+  on = second.on ∙ first.on;
+  off = tt;
+  room = subst (λ (j : Log). j.spare ≤ new.spare + 1) silent second.room;
+  spare = second.spare ∙ first.spare;
+}
+stayed-then s m u t old mid new server (Err e) silent first second = record {
+  stands = second.stands;
+  settled = λ q is. second.settled q (first.settled q is);
+  unarmed = λ q none. second.unarmed q (first.unarmed q none);
+  faults = let same : m.faults ≡ s.faults = first.faults in subst (λ n. Counted true n u.faults) same second.faults;
+  on = tt;
+  off = second.off;
+  room = subst (λ (j : Log). j.spare ≤ new.spare + 1) silent second.room;
+  spare = second.spare ∙ first.spare;
+}
+
+-- where nothing was done
+pub stayed-same : (s : PlantState) (t : ConfigTable) (j : Log) (server : ℕ) → StandsFor t s → Stayed s s t j j server 1 {E = Refusal} (Ok tt)
+stayed-same s t j server stands = record {
+  stands = stands;
+  settled = λ q is. is;
+  unarmed = λ q none. none;
+  faults = refl;
+  on = refl;
+  off = tt;
+  room = omega arith;
+  spare = refl;
+}
 
 -- what holds of one volume and of all others holds of each
 pub of-each : (P : ℕ → Type 0) (v : ℕ) → P v → ((u : ℕ) → u ≢ v → P u) → (u : ℕ) → P u

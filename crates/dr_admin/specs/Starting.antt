@@ -1,17 +1,23 @@
 -- A server that starts, while its volumes write their staged tracks to their places and go on, and one whose volumes' holds
 -- end, in order of definition; and the host's pending writes among what a state shows.
-use Rattle.std.specs.Prelude.{◌≡◌, ℕ, ◌≤◌, ◌⊎◌, Bool, true, false, List, [], ◌∷◌, map, drop, Option, Some, None, if◌then◌else◌}
+use Rattle.std.specs.Prelude.{◌≡◌, ℕ, ◌≤◌, ◌⊎◌, Bool, ◌&&◌, true, false, List, [], ◌∷◌, map, drop, Option, Some, None, if◌then◌else◌}
+use Rattle.dr_ids.specs.declared.names.VolumeId.{VolumeId}
 use Rattle.dr_plant.specs.State.{PlantState}
 use Rattle.dr_config.specs.Table.{ConfigTable, StandsFor, place_of}
 use Rattle.dr_host.specs.Seen as host
 use Rattle.dr_host.specs.Writes.{Writes, landed_on, without}
 use Rattle.dr_model.specs.Carry.{Entry}
 use Rattle.dr_model.specs.Control.{World}
+use Rattle.dr_model.specs.Layout.{Fields}
+use Rattle.dr_model.specs.Pairs.{held}
 use Rattle.dr_model.specs.WriteEntries.{start_entries, lift_on}
 use Rattle.dr_model.specs.declared.event.Event.{Event}
 use Rattle.dr_model.specs.declared.event.Event.TheVariants.{Started, Ack}
 use Rattle.dr_volume.specs.View.{Rest, volume_seen, ids_of, IsSettled}
 use Rattle.dr_moves.specs.Here.{world_seen}
+use Rattle.dr_moves.specs.declared.carrying.Next.{Next}
+use Rattle.dr_moves.specs.declared.carrying.Next.TheVariants as next
+use Rattle.dr_moves.specs.declared.moves.Move.TheVariants as move
 
 -- the rest of a state, with the host's writes in it
 abbrev pub with_writes : Rest → Writes → Rest
@@ -28,6 +34,10 @@ start_from t server place = start_entries server (ids_of (drop place t.volumes))
 -- and where the holds of its volumes end
 abbrev pub lift_from : ConfigTable → ℕ → ℕ → List Entry
 lift_from t server place = map (lift_on server) (ids_of (drop place t.volumes))
+
+-- what becomes of the holds of a volume with these fields, which is the server's or isn't
+abbrev pub lifted_by : VolumeId → Bool → Fields → Next
+lifted_by v b f = if b && held f then next.Do (move.Lift v) else next.Pass
 
 -- a volume of the server that stands at that place or behind it
 pub record IsLater (s : PlantState) (t : ConfigTable) (server place v : ℕ) : Type 0 where

@@ -5,55 +5,23 @@ ghost use Rattle.dr_logic.specs.Counts.{Counted};
 ghost use Rattle.dr_config.specs.Table.{place_of};
 ghost use Rattle.dr_model.specs.Layout.{is_part};
 ghost use Rattle.dr_model.specs.ReadStops.{Ends};
-ghost use Rattle.dr_model.specs.SessionEntries.{add_entries};
 ghost use Rattle.dr_model.specs.Sessions as model;
 ghost use Rattle.dr_volume.specs.View.{Rest, volume_seen};
 ghost use Rattle.dr_moves.specs.Checks.{is_stop};
 ghost use Rattle.dr_moves.specs.Fit.{RelationsFit};
-ghost use Rattle.dr_moves.specs.Here as flash;
 ghost use Rattle.dr_moves.specs.Here.{world_seen, armed_in, IsAtRest};
 ghost use Rattle.dr_session.specs.Kept.{refusal_of};
 ghost use Rattle.dr_admin.specs.Adding.{member_planned, enrol_refusal, entries_planned, sessions_planned, unless_stop, AddsSo};
-ghost use Rattle.dr_admin.specs.Targets.{IsTargetReady};
 
 use crate::checks::new_member;
 use crate::members::take_in;
 use crate::numbers::first_number;
+use crate::raising::raise_both;
 use dr_config::Config;
-use dr_coord::{raise_attempt, raise_floor};
-use dr_ids::{Fault, Lss, Member, Refusal, SessionId, VolumeId};
+use dr_ids::{Fault, Lss, SessionId, VolumeId};
 use dr_model::Journal;
 use dr_plant::Plant;
 use dr_session::Sessions;
-
-/// The attempt of the primary and the floor of the target of a member are raised to n, where they are lower.
-fn raise_both<P: Plant>(
-    plant: &mut P,
-    config: &Config,
-    journal: &mut Journal,
-    m: &Member,
-    n: u32,
-) -> Result<(), Refusal>
-    requires rest { IsAtRest (P.state plant.old) config.now }
-    requires fit { RelationsFit (P.state plant.old) config.now }
-    requires ready { IsTargetReady (P.state plant.old) config.now m.now }
-    requires room { 1 ≤ journal.old.spare }
-    ensures carried { (r : Rest) → Ends (armed_in (P.state plant.old)) (world_seen (P.state plant.new) config.now r journal.new.events) (flash.refusal_of result) (world_seen (P.state plant.old) config.now r journal.old.events) (add_entries m.now n) }
-    ensures stops { OnErr result (is_stop (flash.refusal_of result) ≡ true) }
-    ensures rest { IsAtRest (P.state plant.new) config.now }
-    ensures fit { RelationsFit (P.state plant.new) config.now }
-    ensures unarmed { (q : ℕ) → (P.state plant.old).read_fuse q ≡ None → (P.state plant.new).read_fuse q ≡ None }
-    ensures faults { Counted (is_stop (flash.refusal_of result)) (P.state plant.old).faults (P.state plant.new).faults }
-    ensures on { OnOk result ((P.state plant.new).on ≡ (P.state plant.old).on) }
-    ensures room { journal.old.spare ≤ journal.new.spare + 1 }
-    ensures room_left { OnOk result (journal.old.spare ≡ journal.new.spare) }
-    ensures spare { length journal.new.events + journal.new.spare ≡ length journal.old.events + journal.old.spare }
-{
-    match raise_attempt(plant, config, journal, m.a, n) {
-        Ok(()) => raise_floor(plant, config, journal, m.c, n),
-        Err(why) => Err(why),
-    }
-}
 
 /// Primary a, which is defined, becomes a member of session s, which is defined, with its secondary b and the only target of b
 /// whose relationship is recorded and inhibited. From then on attempts count from n, the greatest number that the session, a, b

@@ -20,6 +20,7 @@ mod members;
 mod numbers;
 mod owners;
 mod pairing;
+mod raising;
 mod starting;
 mod targets;
 

@@ -1,59 +1,78 @@
 //! The holds of a server's volumes end.
 
-ghost use Rattle.std.specs.Prelude.{◌≡◌, ℕ, ◌+◌, ◌<◌, ◌≤◌, Bool, true, false, ◌++◌, length, List, Option, Some, None, OnOk, OnErr, is_err};
+ghost use Rattle.std.specs.Prelude.{◌≡◌, ℕ, ◌+◌, ◌<◌, ◌≤◌, true, false, length, List, Some, get_or, IsSome, OnOk, OnErr};
 ghost use Rattle.dr_logic.specs.Counts.{Counted};
-ghost use Rattle.dr_ids.specs.declared.refusal.Refusal.{Refusal};
-ghost use Rattle.dr_model.specs.Carry.{Entry};
-ghost use Rattle.dr_model.specs.Control.{World};
+ghost use Rattle.dr_config.specs.Table.{place_of};
+ghost use Rattle.dr_host.specs.Writes.{has_owner};
 ghost use Rattle.dr_model.specs.Plans.{expire_on};
 ghost use Rattle.dr_model.specs.ReadStops.{Ends};
+ghost use Rattle.dr_model.specs.RecoveryPlans.{pass_on};
 ghost use Rattle.dr_model.specs.Refusals.{stopped, server_off};
-ghost use Rattle.dr_volume.specs.View.{Rest};
+ghost use Rattle.dr_volume.specs.View.{Rest, volume_seen};
 ghost use Rattle.dr_moves.specs.Checks.{is_stop};
 ghost use Rattle.dr_moves.specs.Fit.{RelationsFit};
 ghost use Rattle.dr_moves.specs.Here.{world_seen, refusal_of, armed_in, IsAtRest};
-ghost use Rattle.dr_moves.specs.Turns.{Fails};
+ghost use Rattle.dr_moves.specs.Made.{IsAt, Kept};
 ghost use Rattle.dr_admin.specs.Answering.{Comes, lift_answer};
-ghost use Rattle.dr_admin.specs.Starting.{lift_from};
+ghost use Rattle.dr_admin.specs.Starting.{lift_from, lifted_by};
 
 use crate::owners::belongs;
 use dr_config::Config;
-use dr_coord::expire;
-use dr_ids::{Refusal, ServerId};
+use dr_ids::{Refusal, ServerId, VolumeId};
 use dr_model::Journal;
+use dr_moves::{Entries, Move, Next, Nothing, carry};
 use dr_plant::Plant;
+use dr_volume::{is_held, peek_fields};
 
-/// Ends the holds of the volume at a place, where it is the server's.
-fn lift_at<P: Plant>(
-    plant: &mut P,
-    config: &Config,
-    journal: &mut Journal,
+/// The holds of a volume end, where it is the server's, which is on, and has any.
+fn lift_next<P: Plant>(plant: &P, config: &Config, s: ServerId, v: VolumeId) -> Next
+    requires at { IsAt (P.state plant.now) config.now }
+    requires defined { IsSome (place_of config.now v.0) }
+    requires on { (P.state plant.now).on s.0 ≡ true }
+    ensures { result ≡ lifted_by v (has_owner config.now v.0 s.0) (volume_seen (P.state plant.now) config.now v.0).fields }
+{
+    if !belongs(config, v, s) {
+        return Next::Pass;
+    }
+    if !is_held(&peek_fields(plant, config, v)) {
+        return Next::Pass;
+    }
+    Next::Do(Move::Lift { v })
+}
+
+/// The holds of a server's volumes, from a place in the configuration on.
+#[derive(Drop)]
+struct Holds {
     s: ServerId,
     place: usize,
-) -> Result<(), Refusal>
-    requires rest { IsAtRest (P.state plant.old) config.now }
-    requires fit { RelationsFit (P.state plant.old) config.now }
-    requires on { (P.state plant.old).on s.0 ≡ true }
-    requires within { place < length config.now.volumes }
-    requires room { 1 ≤ journal.old.spare }
-    ensures goes { OnOk result ((r : Rest) (armed : ℕ → Bool) (u : World) (q : Option Refusal) → Ends armed u q (world_seen (P.state plant.new) config.now r journal.new.events) (lift_from config.now s.0 (place + 1))
-        → Ends armed u q (world_seen (P.state plant.old) config.now r journal.old.events) (lift_from config.now s.0 place)) }
-    ensures ends { OnErr result ((r : Rest) → Ends (armed_in (P.state plant.old)) (world_seen (P.state plant.new) config.now r journal.new.events) (refusal_of result) (world_seen (P.state plant.old) config.now r journal.old.events) (lift_from config.now s.0 place)) }
-    ensures stopped { OnErr result (refusal_of result ≡ Some (stopped s.0)) }
-    ensures faults { Counted (is_err result) (P.state plant.old).faults (P.state plant.new).faults }
-    ensures rest { IsAtRest (P.state plant.new) config.now }
-    ensures fit { RelationsFit (P.state plant.new) config.now }
-    ensures unarmed { (q : ℕ) → (P.state plant.old).read_fuse q ≡ None → (P.state plant.new).read_fuse q ≡ None }
-    ensures on { OnOk result ((P.state plant.new).on ≡ (P.state plant.old).on) }
-    ensures room { journal.old.spare ≤ journal.new.spare + 1 }
-    ensures room_left { OnOk result (journal.old.spare ≡ journal.new.spare) }
-    ensures spare { length journal.new.events + journal.new.spare ≡ length journal.old.events + journal.old.spare }
-{
-    let v = config.volume_at(place).unwrap();
-    if !belongs(config, v, s) {
-        return Ok(());
+}
+
+impl<P: Plant> Entries<P, Nothing> for Holds {
+    ghost left = { λ x c. lift_from c x.s.0 x.place };
+
+    ghost first = { λ x c. get_or (lift_from c x.s.0 x.place) 0 pass_on };
+
+    ghost stands = { λ x s _ c. s.on x.s.0 ≡ true };
+
+    ghost makes = { λ x done s _ u _ c. Unit {0} };
+
+    ghost refuses = { λ x c r. r ≡ Some (stopped x.s.0) };
+
+    ghost room = { λ x c. 0 };
+
+    ghost most = { λ x c. 1 };
+
+    fn count(&self, config: &Config) -> usize {
+        config.volumes().saturating_sub(self.place)
     }
-    expire(plant, config, journal, v)
+
+    fn next(&mut self, plant: &P, config: &Config, beside: &Nothing) -> Next {
+        let v = config.volume_at(self.place).unwrap();
+        self.place = config.volumes().min(self.place + 1);
+        lift_next(plant, config, self.s, v)
+    }
+
+    ghost none_left = { λ x s y c none. tt };
 }
 
 /// Ends the holds of the volumes of a server that is on, in order of definition, until the server stops.
@@ -63,25 +82,16 @@ fn lift_all<P: Plant>(
     journal: &mut Journal,
     s: ServerId,
 ) -> Result<(), Refusal>
-    requires rest { IsAtRest (P.state plant.old) config.now }
-    requires fit { RelationsFit (P.state plant.old) config.now }
+    requires at { IsAt (P.state plant.old) config.now }
     requires on { (P.state plant.old).on s.0 ≡ true }
     requires room { 1 ≤ journal.old.spare }
     ensures carried { (r : Rest) → Ends (armed_in (P.state plant.old)) (world_seen (P.state plant.new) config.now r journal.new.events) (refusal_of result) (world_seen (P.state plant.old) config.now r journal.old.events) (lift_from config.now s.0 0) }
     ensures stopped { OnErr result (refusal_of result ≡ Some (stopped s.0)) }
-    ensures faults { Counted (is_err result) (P.state plant.old).faults (P.state plant.new).faults }
-    ensures rest { IsAtRest (P.state plant.new) config.now }
-    ensures fit { RelationsFit (P.state plant.new) config.now }
-    ensures unarmed { (q : ℕ) → (P.state plant.old).read_fuse q ≡ None → (P.state plant.new).read_fuse q ≡ None }
-    ensures on { OnOk result ((P.state plant.new).on ≡ (P.state plant.old).on) }
-    ensures room { journal.old.spare ≤ journal.new.spare + 1 }
+    ensures kept { Kept (P.state plant.old) (P.state plant.new) config.now journal.old journal.new 1 (is_stop (refusal_of result)) result }
     ensures room_left { OnOk result (journal.old.spare ≡ journal.new.spare) }
-    ensures spare { length journal.new.events + journal.new.spare ≡ length journal.old.events + journal.old.spare }
 {
-    for place in 0..config.volumes() {
-        lift_at(plant, config, journal, s, place)?;
-    }
-    Ok(())
+    let mut holds = Holds { s, place: 0 };
+    carry(plant, config, journal, &mut holds)
 }
 
 /// Ends all holds of the server's volumes, in order of definition: none is long busy any more, and a coordination hold ends

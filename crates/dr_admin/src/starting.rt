@@ -15,6 +15,7 @@ ghost use Rattle.dr_model.specs.Refusals.{stopped};
 ghost use Rattle.dr_model.specs.WriteEntries.{redo_on, restart_on};
 ghost use Rattle.dr_volume.specs.View.{Rest, IsSettled};
 ghost use Rattle.dr_moves.specs.Here.{world_seen, refusal_of, armed_in, IsAtRest};
+ghost use Rattle.dr_moves.specs.Ready.{Stayed};
 ghost use Rattle.dr_moves.specs.Turns.{Advances, Halts, Leads, Fails};
 ghost use Rattle.dr_admin.specs.Answering.{Comes, write_number, start_answer};
 ghost use Rattle.dr_admin.specs.Starting.{hosted, IsStarting, start_from, acked_at, without_acked, acks, start_events};
@@ -25,8 +26,8 @@ use dr_coord::restart;
 use dr_host::Host;
 use dr_ids::{Refusal, ServerId, VolumeId, WriteId};
 use dr_model::{Event, Journal};
+use dr_moves::place_staged;
 use dr_plant::Plant;
-use dr_volume::redo;
 
 /// Acknowledges the write that had landed on a volume of the server in a stop, where there is one, and gives its number. The
 /// journal needs room for an event.
@@ -56,34 +57,19 @@ fn redo_own<P: Plant>(
     place: usize,
 ) -> Result<(), Refusal>
     requires starting { IsStarting (P.state plant.old) config.now s.0 place }
-    requires known { s.0 < 8 }
     requires at { place_of config.now v.0 ≡ Some place }
     requires owned { has_owner config.now v.0 s.0 ≡ true }
     requires room { 1 ≤ journal.old.spare }
     ensures advances { OnOk result ((r : Rest) → Advances (world_seen (P.state plant.old) config.now r journal.old.events) (redo_on s.0 v.0) (world_seen (P.state plant.new) config.now r journal.new.events)) }
     ensures halts { OnErr result ((r : Rest) → Halts (armed_in (P.state plant.old)) (world_seen (P.state plant.old) config.now r journal.old.events) (redo_on s.0 v.0) (world_seen (P.state plant.new) config.now r journal.new.events) (refusal_of result)) }
     ensures stopped { OnErr result (refusal_of result ≡ Some (stopped s.0)) }
-    ensures faults { Counted (is_err result) (P.state plant.old).faults (P.state plant.new).faults }
     ensures starting { OnOk result (IsStarting (P.state plant.new) config.now s.0 (place + 1)) }
     ensures settled { OnOk result (IsSettled (P.state plant.new) config.now v.0) }
     ensures rest { OnErr result (IsAtRest (P.state plant.new) config.now) }
-    ensures unarmed { (q : ℕ) → (P.state plant.old).read_fuse q ≡ None → (P.state plant.new).read_fuse q ≡ None }
-    ensures on { OnOk result ((P.state plant.new).on ≡ (P.state plant.old).on) }
-    ensures off { OnErr result ((P.state plant.new).on s.0 ≡ false) }
+    ensures stayed { Stayed (P.state plant.old) (P.state plant.new) config.now journal.old journal.new s.0 1 result }
     ensures told { OnOk result (journal.new ≡ journal.old) }
-    ensures room { journal.old.spare ≤ journal.new.spare + 1 }
-    ensures spare { length journal.new.events + journal.new.spare ≡ length journal.old.events + journal.old.spare }
 {
-    match redo(plant, config, v) {
-        Ok(()) => Ok(()),
-        Err(_) => {
-            journal.push(Event::Stopped {
-                server: s.0,
-                write: 0,
-            });
-            Err(Refusal::Stopped { server: s })
-        }
-    }
+    place_staged(plant, config, journal, v)
 }
 
 /// Lets the server's volume before a place go on, whose staged track stands at its place.
@@ -103,15 +89,10 @@ fn restart_own<P: Plant>(
     ensures advances { OnOk result ((r : Rest) → Advances (world_seen (P.state plant.old) config.now r journal.old.events) (restart_on s.0 v.0) (world_seen (P.state plant.new) config.now r journal.new.events)) }
     ensures halts { OnErr result ((r : Rest) → Halts (armed_in (P.state plant.old)) (world_seen (P.state plant.old) config.now r journal.old.events) (restart_on s.0 v.0) (world_seen (P.state plant.new) config.now r journal.new.events) (refusal_of result)) }
     ensures stopped { OnErr result (refusal_of result ≡ Some (stopped s.0)) }
-    ensures faults { Counted (is_err result) (P.state plant.old).faults (P.state plant.new).faults }
     ensures starting { OnOk result (IsStarting (P.state plant.new) config.now s.0 (place + 1)) }
     ensures rest { OnErr result (IsAtRest (P.state plant.new) config.now) }
-    ensures unarmed { (q : ℕ) → (P.state plant.old).read_fuse q ≡ None → (P.state plant.new).read_fuse q ≡ None }
-    ensures on { OnOk result ((P.state plant.new).on ≡ (P.state plant.old).on) }
-    ensures off { OnErr result ((P.state plant.new).on s.0 ≡ false) }
+    ensures stayed { Stayed (P.state plant.old) (P.state plant.new) config.now journal.old journal.new s.0 1 result }
     ensures told { OnOk result (journal.new ≡ journal.old) }
-    ensures room { journal.old.spare ≤ journal.new.spare + 1 }
-    ensures spare { length journal.new.events + journal.new.spare ≡ length journal.old.events + journal.old.spare }
 {
     restart(plant, config, journal, v)
 }
@@ -125,22 +106,16 @@ fn go_on_at<P: Plant>(
     place: usize,
 ) -> Result<(), Refusal>
     requires starting { IsStarting (P.state plant.old) config.now s.0 place }
-    requires known { s.0 < 8 }
     requires within { place < length config.now.volumes }
     requires room { 1 ≤ journal.old.spare }
     ensures goes { OnOk result ((r : Rest) (armed : ℕ → Bool) (u : World) (q : Option Refusal) (ds : List Entry) → Ends armed u q (world_seen (P.state plant.new) config.now r journal.new.events) (start_from config.now s.0 (place + 1) ++ ds)
         → Ends armed u q (world_seen (P.state plant.old) config.now r journal.old.events) (start_from config.now s.0 place ++ ds)) }
     ensures fails { OnErr result ((r : Rest) → Fails (armed_in (P.state plant.old)) (world_seen (P.state plant.old) config.now r journal.old.events) (start_from config.now s.0 place) (world_seen (P.state plant.new) config.now r journal.new.events) (refusal_of result)) }
     ensures stopped { OnErr result (refusal_of result ≡ Some (stopped s.0)) }
-    ensures faults { Counted (is_err result) (P.state plant.old).faults (P.state plant.new).faults }
     ensures starting { OnOk result (IsStarting (P.state plant.new) config.now s.0 (place + 1)) }
     ensures rest { OnErr result (IsAtRest (P.state plant.new) config.now) }
-    ensures unarmed { (q : ℕ) → (P.state plant.old).read_fuse q ≡ None → (P.state plant.new).read_fuse q ≡ None }
-    ensures on { OnOk result ((P.state plant.new).on ≡ (P.state plant.old).on) }
-    ensures off { OnErr result ((P.state plant.new).on s.0 ≡ false) }
+    ensures stayed { Stayed (P.state plant.old) (P.state plant.new) config.now journal.old journal.new s.0 1 result }
     ensures told { OnOk result (journal.new ≡ journal.old) }
-    ensures room { journal.old.spare ≤ journal.new.spare + 1 }
-    ensures spare { length journal.new.events + journal.new.spare ≡ length journal.old.events + journal.old.spare }
 {
     let v = config.volume_at(place).unwrap();
     if !belongs(config, v, s) {
@@ -161,19 +136,13 @@ fn go_on_all<P: Plant>(
     s: ServerId,
 ) -> Result<(), Refusal>
     requires starting { IsStarting (P.state plant.old) config.now s.0 0 }
-    requires known { s.0 < 8 }
     requires room { 1 ≤ journal.old.spare }
     ensures leads { OnOk result ((r : Rest) → Leads (world_seen (P.state plant.old) config.now r journal.old.events) (start_from config.now s.0 0) (world_seen (P.state plant.new) config.now r journal.new.events)) }
     ensures fails { OnErr result ((r : Rest) → Fails (armed_in (P.state plant.old)) (world_seen (P.state plant.old) config.now r journal.old.events) (start_from config.now s.0 0) (world_seen (P.state plant.new) config.now r journal.new.events) (refusal_of result)) }
     ensures stopped { OnErr result (refusal_of result ≡ Some (stopped s.0)) }
-    ensures faults { Counted (is_err result) (P.state plant.old).faults (P.state plant.new).faults }
     ensures rest { IsAtRest (P.state plant.new) config.now }
-    ensures unarmed { (q : ℕ) → (P.state plant.old).read_fuse q ≡ None → (P.state plant.new).read_fuse q ≡ None }
-    ensures on { OnOk result ((P.state plant.new).on ≡ (P.state plant.old).on) }
-    ensures off { OnErr result ((P.state plant.new).on s.0 ≡ false) }
+    ensures stayed { Stayed (P.state plant.old) (P.state plant.new) config.now journal.old journal.new s.0 1 result }
     ensures told { OnOk result (journal.new ≡ journal.old) }
-    ensures room { journal.old.spare ≤ journal.new.spare + 1 }
-    ensures spare { length journal.new.events + journal.new.spare ≡ length journal.old.events + journal.old.spare }
 {
     for place in 0..config.volumes() {
         go_on_at(plant, config, journal, s, place)?;

@@ -1,7 +1,7 @@
 -- The primaries between two logical subsystems: what the machine's test of them is, and that a freeze or a thaw of one leaves
 -- them what they are.
-use Rattle.std.proofs.Common.{ℕ, ◌≡◌, ◌<◌, inl, inr, Bool, true, false, true≢false, not, ◌&&◌, ◌||◌, List, refl, sym, ◌∙◌, ap, subst, Option, Some, None, nat_eq}
-use Rattle.std.specs.Prelude.{if◌then◌else◌, unwrap_or, Result, Ok, Err, OnOk}
+use Rattle.std.proofs.Common.{ℕ, ◌≡◌, ◌<◌, inl, inr, Bool, true, false, true≢false, ◌&&◌, ◌||◌, List, refl, sym, ◌∙◌, ap, subst, Some, None, nat_eq}
+use Rattle.std.specs.Prelude.{if◌then◌else◌, unwrap_or}
 use Rattle.std.proofs.lemmas.Bool.{cases_eq, and_parts}
 use Rattle.std.proofs.lemmas.Bool.Decides.{Decides-eqb}
 use Rattle.dr_plant.specs.State.{PlantState}
@@ -12,16 +12,13 @@ use Rattle.dr_model.specs.Layout.{Fields, is_part}
 use Rattle.dr_model.specs.Control.{Volume, World}
 use Rattle.dr_model.specs.Entries.{subsystem}
 use Rattle.dr_model.specs.Moves.{Suspend, Thaw}
-use Rattle.dr_ids.specs.declared.refusal.Refusal.{Refusal}
 use Rattle.dr_model.specs.Pairs.{suspended}
-use Rattle.dr_model.specs.Carry.{Pass, Do, Make, Entry, now}
+use Rattle.dr_model.specs.Carry.{Pass, Do, Make}
 use Rattle.dr_model.specs.WriteEntries.{is_between, freeze_on, thaw_on}
 use Rattle.dr_volume.specs.View.{Rest, volume_seen, volume_at}
 use Rattle.dr_volume.specs.Update.{IsMoved, OthersStay}
 use Rattle.dr_volume.proofs.VolumeLaws.{volume-placed}
 use Rattle.dr_moves.specs.Here.{world_seen}
-use Rattle.dr_moves.specs.Turns.{Advances, Halts}
-use Rattle.dr_facts.proofs.Ends.{ends-skips, ends-alike}
 use Rattle.dr_freeze.specs.Between.{pairs_with, between, StillBetween}
 use Rattle.dr_freeze.specs.Changes.{IsFrozen}
 use Rattle.dr_freeze.specs.Checks.{owner_in}
@@ -42,23 +39,11 @@ module _ (s : PlantState) (t : ConfigTable) (r : Rest) (events : List Event) (l 
   between-seen : is_between w.control l m v ≡ between s t l m v
   between-seen = λ i. nat_eq (subsystem v) l && (on-seen s (volume_seen s t v).server low i && (is_part (volume_seen s t v).fields.primary && nat_eq (subsystem (volume_seen s t v).fields.primary_partner) m))
 
-  pub freeze-comes : between s t l m v ≡ true → freeze_on l m v w.control ≡ now (Suspend v true) w.control
-  freeze-comes is = ap (λ b. if b then Do (Make (Suspend v true)) else Pass) (between-seen ∙ is)
+  pub freeze-by : (b : Bool) → between s t l m v ≡ b → freeze_on l m v w.control ≡ (if b then Do (Make (Suspend v true)) else Pass)
+  freeze-by b is = ap (λ b. if b then Do (Make (Suspend v true)) else Pass) (between-seen ∙ is)
 
-  pub freeze-skips : between s t l m v ≡ false → Advances w (freeze_on l m v) w
-  freeze-skips not_so armed u q ds more = ends-skips armed u q w (freeze_on l m v) ds (ap (λ b. if b then Do (Make (Suspend v true)) else Pass) (between-seen ∙ not_so)) more
-
-  thaw-by : (a b : Bool) → between s t l m v ≡ a → (volume_seen s t v).fields.long_busy ≡ b → thaw_on l m v w.control ≡ (if a && b then Do (Make (Thaw v)) else Pass)
+  pub thaw-by : (a b : Bool) → between s t l m v ≡ a → (volume_seen s t v).fields.long_busy ≡ b → thaw_on l m v w.control ≡ (if a && b then Do (Make (Thaw v)) else Pass)
   thaw-by a b is busy = λ i. if (between-seen ∙ is) i && busy i then Do (Make (Thaw v)) else Pass
-
-  pub thaw-comes : between s t l m v ≡ true → (volume_seen s t v).fields.long_busy ≡ true → thaw_on l m v w.control ≡ now (Thaw v) w.control
-  thaw-comes is busy = thaw-by true true is busy
-
-  pub thaw-skips : between s t l m v ≡ false → Advances w (thaw_on l m v) w
-  thaw-skips not_so armed u q ds more = ends-skips armed u q w (thaw_on l m v) ds (thaw-by false _ not_so refl) more
-
-  pub thaw-free : between s t l m v ≡ true → (volume_seen s t v).fields.long_busy ≡ false → Advances w (thaw_on l m v) w
-  thaw-free is free armed u q ds more = ends-skips armed u q w (thaw_on l m v) ds (thaw-by true false is free) more
 
 -- a volume moved, and keeps its part and its partner
 module _ (s u : PlantState) (t : ConfigTable) (l m v : ℕ) where

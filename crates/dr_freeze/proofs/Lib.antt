@@ -1,5 +1,5 @@
-pub mod ThawLemmas
 pub mod BetweenLemmas
+pub mod StepLemmas
 pub mod PassLemmas
 pub mod EndLemmas
 pub mod OwnerLemmas

@@ -1,3 +1,4 @@
 pub mod Between
 pub mod Changes
+pub mod Passing
 pub mod Checks

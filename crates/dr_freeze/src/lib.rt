@@ -12,6 +12,5 @@ mod changes;
 mod checks;
 mod freezing;
 mod passing;
-mod thawing;
 
 pub use freezing::{freeze, thaw};

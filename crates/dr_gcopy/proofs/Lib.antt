@@ -1,4 +1,4 @@
--- Read first: `PairChecks.antt`: checks; `BothLemmas.antt`: entries that refuse nothing; `RanLemmas.antt`, `SendLemmas.antt`: calls in a row, and
+-- Read first: `PairChecks.antt`: checks; `RanLemmas.antt`, `SendLemmas.antt`: calls in a row, and
 -- a track sent; `DrainLemmas.antt`: tracks that are left; `DifferenceLemmas.antt`, `FirstLemmas.antt`: the first difference.
 -- - **A premise over whatever entries come to** (`room` of `drain`: for each k, what the sends of k tracks lead to has
 --   room) lets a loop below the laws of every run ask for room that only the laws can count. The caller proves it by `carry-adds`
@@ -16,7 +16,6 @@ pub mod PairLemmas
 pub mod ReachLemmas
 pub mod PairChecks
 pub mod TwoMoves
-pub mod BothLemmas
 pub mod FirstLemmas
 pub mod DifferenceLemmas
 pub mod SendMoves

@@ -8,7 +8,7 @@ ghost use Rattle.dr_model.specs.PairEntries.{let_go, tell_paused};
 ghost use Rattle.dr_volume.specs.Update.{IsAsBefore};
 ghost use Rattle.dr_volume.specs.View.{Rest};
 ghost use Rattle.dr_moves.specs.Checks.{is_stop};
-ghost use Rattle.dr_moves.specs.Coming.{next_of, MayCome, Went, NotTarget, cost_of, most_of};
+ghost use Rattle.dr_moves.specs.Coming.{next_of, MayCome, Went, NotTarget, GoesOn, cost_of, most_of};
 ghost use Rattle.dr_moves.specs.Here.{world_seen, refusal_of, armed_in};
 ghost use Rattle.dr_moves.specs.Made.{IsAt, Kept};
 ghost use Rattle.dr_moves.specs.Turns.{Leads, Fails};
@@ -64,6 +64,7 @@ fn first_next<P: Plant>(
     ensures may { MayCome (P.state plant.now) config.now result }
     ensures cost { cost_of result (P.state plant.now) config.now ≤ 1 }
     ensures most { most_of result (P.state plant.now) config.now ≤ 2 }
+    ensures goes_on { GoesOn result }
     ensures apart { (q : ℕ) → q ≢ a.0 → q ≢ b.0 → NotTarget result q }
     ensures stands { (u : PlantState) → Went (P.state plant.now) u config.now result → CanEnd u config.now a.0 b.0 command.now }
 {
@@ -92,6 +93,7 @@ fn let_go_next<P: Plant>(plant: &P, config: &Config, a: VolumeId, b: VolumeId) -
     ensures may { MayCome (P.state plant.now) config.now result }
     ensures cost { cost_of result (P.state plant.now) config.now ≤ 0 }
     ensures most { most_of result (P.state plant.now) config.now ≤ 1 }
+    ensures goes_on { GoesOn result }
     ensures apart { (q : ℕ) → q ≢ b.0 → NotTarget result q }
 {
     if !is_secondary_of(&peek_fields(plant, config, b), a) {
@@ -109,6 +111,7 @@ fn tell_next<P: Plant>(plant: &P, config: &Config, a: VolumeId, b: VolumeId) -> 
     ensures may { MayCome (P.state plant.now) config.now result }
     ensures cost { cost_of result (P.state plant.now) config.now ≤ 0 }
     ensures most { most_of result (P.state plant.now) config.now ≤ 1 }
+    ensures goes_on { GoesOn result }
     ensures apart { (q : ℕ) → q ≢ b.0 → NotTarget result q }
 {
     if let Some(_) = reach_refusal(plant, config, a, b) {
@@ -137,6 +140,7 @@ fn second_next<P: Plant>(
     ensures may { MayCome (P.state plant.now) config.now result }
     ensures cost { cost_of result (P.state plant.now) config.now ≤ 0 }
     ensures most { most_of result (P.state plant.now) config.now ≤ 1 }
+    ensures goes_on { GoesOn result }
     ensures apart { (q : ℕ) → q ≢ a.0 → q ≢ b.0 → NotTarget result q }
 {
     match command {
@@ -173,6 +177,8 @@ impl<P: Plant> Entries<P, Nothing> for Moves {
     ghost stands = { λ x s _ c. CanGo s c x.a.0 x.b.0 x.command x.stage };
 
     ghost makes = { λ x done s _ u _ c. BothAlone s u c x.a.0 x.b.0 };
+
+    ghost refuses = { λ x c r. is_stop r ≡ true };
 
     ghost room = { λ x c. room_of x.stage };
 

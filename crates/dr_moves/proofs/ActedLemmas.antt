@@ -1,5 +1,5 @@
 -- What an entry came to was done.
-use Rattle.std.proofs.Common.{ℕ, ◌≡◌, ◌≢◌, ◌≤◌, ◌+◌, ◌++◌, Bool, true, false, ◌∷◌, length, arith, refl, sym, ◌∙◌, ap, subst, Option, Some, None}
+use Rattle.std.proofs.Common.{ℕ, ◌≡◌, ◌≢◌, ◌≤◌, ◌+◌, ◌++◌, inl, inr, Bool, true, false, ◌∷◌, length, arith, refl, sym, ◌∙◌, ap, subst, Option, Some, None}
 use Rattle.std.specs.Prelude.{option_map, Result, Ok, Err, OnOk, OnErr, is_err}
 use Rattle.std.specs.Result.{IsErrAnd}
 use Rattle.std.proofs.lemmas.List.{length-append}
@@ -17,7 +17,7 @@ use Rattle.dr_volume.specs.View.{Rest, volume_seen}
 use Rattle.dr_moves.specs.Acts.{act_of, act_news, act_told}
 use Rattle.dr_moves.specs.Beside.{heard}
 use Rattle.dr_moves.specs.Checks.{is_stop}
-use Rattle.dr_moves.specs.Coming.{next_of, done_news, stop_news, RefusedAs, Went, WentBy, CutBy, CutIn, NotTarget, cost_of, most_of, ActedBeside}
+use Rattle.dr_moves.specs.Coming.{next_of, done_news, stop_news, RefusedAs, Went, WentBy, CutBy, CutIn, NotTarget, GoesOn, cost_of, most_of, ActedBeside}
 use Rattle.dr_moves.specs.Entered.{is_calm}
 use Rattle.dr_moves.specs.Heard.{landed_by, settled_by, marked_by, heard_of, refused_by}
 use Rattle.dr_logic.specs.Counts.{Counted}
@@ -116,6 +116,16 @@ module _ {B : Type 0} (after : News → B → B) (rest : B → Rest → Rest) (x
     room_left = tt;
     others = λ q ne. made.others q (aims q ne);
   }
+
+-- what is no refusal fails by a stop alone
+pub goes-stops : (s : PlantState) (c : ConfigTable) (next : Next) → GoesOn next → (r : Option Refusal) → RefusedAs s c next r → is_stop r ≡ true
+goes-stops s c Pass goes r refused = absurd refused
+goes-stops s c (Do m) goes r refused = ap is_stop refused
+goes-stops s c (Bring m v t) goes r (inl refused) = ap is_stop refused
+goes-stops s c (Bring m v t) goes r (inr refused) = ap is_stop refused
+goes-stops s c (Open v k n) goes r refused = ap is_stop refused
+goes-stops s c (Perform a) goes r refused = absurd refused
+goes-stops s c (End why) goes r refused = absurd goes
 
 nothing-kept : (s : PlantState) (c : ConfigTable) (j : Log) (res : Result (Unit {0}) Refusal) → IsAt s c → is_stop (refusal_of res) ≡ false → (n : ℕ) → OnOk res (s.on ≡ s.on) → Kept s s c j j n (is_stop (refusal_of res)) res
 nothing-kept s c j res at calm n on = record {

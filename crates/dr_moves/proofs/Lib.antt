@@ -36,4 +36,6 @@ pub mod EntryLemmas
 pub mod EnteredLemmas
 pub mod StopRows
 pub mod ActedLemmas
+pub mod WentLemmas
+pub mod PlacingLemmas
 pub mod HeardLemmas

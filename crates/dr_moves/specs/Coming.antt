@@ -146,6 +146,11 @@ RefusedAs s c (Open v k n) r = r ≡ Some (stopped (volume_seen s c v.0).server)
 RefusedAs s c (End why) r = r ≡ Some why
 RefusedAs s c _ r = ⊥
 
+-- it is no refusal, so that nothing but a stop can end the entries
+abbrev pub GoesOn : Next → Type 0
+GoesOn (End r) = ⊥
+GoesOn _ = Unit {0}
+
 -- The call did what an entry came to: each entry that comes to that leads on, or ends all. What lies beside was x, and is y;
 -- so many events were told at most.
 pub record ActedBeside {B : Type 0} (after : News → B → B) (rest : B → Rest → Rest) (x y : B) (s u : PlantState) (c : ConfigTable) (old new : Log) (next : Next) (most : ℕ) (result : Result (Unit {0}) Refusal) : Type 0 where

@@ -1,6 +1,7 @@
 //! Entries of a plan, carried out in order.
 
-ghost use Rattle.std.specs.Prelude.{◌≡◌, ℕ, ◌<◌, ◌≤◌, ◌+◌, Bool, true, false, List, [], ◌∷◌, length, OnOk, OnErr, is_ok};
+ghost use Rattle.std.specs.Prelude.{◌≡◌, ℕ, ◌<◌, ◌≤◌, ◌+◌, Bool, true, false, List, [], ◌∷◌, length, Option, OnOk, OnErr, is_ok};
+ghost use Rattle.dr_ids.specs.declared.refusal.Refusal.{Refusal};
 ghost use Rattle.dr_plant.specs.State.{PlantState};
 ghost use Rattle.dr_config.specs.Table.{ConfigTable};
 ghost use Rattle.dr_model.specs.declared.event.Event.{Event};
@@ -8,7 +9,7 @@ ghost use Rattle.dr_model.specs.Carry.{Entry};
 ghost use Rattle.dr_volume.specs.View.{Rest};
 ghost use Rattle.dr_moves.specs.Beside.{heard};
 ghost use Rattle.dr_moves.specs.Checks.{is_stop};
-ghost use Rattle.dr_moves.specs.Coming.{next_of, done_news, stop_news, MayCome, MayComeBy, Went, CutIn, cost_of, most_of, Acted, ActedBeside};
+ghost use Rattle.dr_moves.specs.Coming.{next_of, done_news, stop_news, MayCome, MayComeBy, Went, CutIn, RefusedAs, cost_of, most_of, Acted, ActedBeside};
 ghost use Rattle.dr_moves.specs.Heard.{if_counts, refused_by};
 ghost use Rattle.dr_moves.specs.Here.{world_seen, armed_in, refusal_of};
 ghost use Rattle.dr_moves.specs.Made.{IsAt, Kept};
@@ -49,6 +50,7 @@ pub enum Next {
 /// `left` is the list of them, and `first` the first. `stands` is what holds of plant, what lies beside and configuration before it
 /// comes. `room` is how many events they tell at most where all goes well, and `most` also where a server stops. `makes` is what
 /// holds of the state in which they begin and of the one in which they ended, well or cut short: each of them extends it backwards.
+/// `refuses` is what they may fail with.
 pub trait Entries<P: Plant, B: Beside> {
     ghost left: { Self → ConfigTable → List Entry };
 
@@ -57,6 +59,8 @@ pub trait Entries<P: Plant, B: Beside> {
     ghost stands: { Self → PlantState → B → ConfigTable → Type 0 };
 
     ghost makes: { Self → Bool → PlantState → B → PlantState → B → ConfigTable → Type 0 };
+
+    ghost refuses: { Self → ConfigTable → Option Refusal → Type 0 };
 
     ghost room: { Self → ConfigTable → ℕ };
 
@@ -77,6 +81,8 @@ pub trait Entries<P: Plant, B: Beside> {
         ensures stands { (u : PlantState) → Went (P.state plant.now) u config.now result → stands self.new u (heard B.after (done_news result) beside.now) config.now }
         ensures goes_on { (done : Bool) (u w : PlantState) (z : B) → Went (P.state plant.now) u config.now result → makes self.new done u (heard B.after (done_news result) beside.now) w z config.now → makes self.old done (P.state plant.now) beside.now w z config.now }
         ensures cut { (u : PlantState) (counts : Bool) → CutIn (P.state plant.now) u config.now counts result → makes self.old false (P.state plant.now) beside.now u (heard B.after (if_counts counts (stop_news result)) beside.now) config.now }
+        ensures refused { (r : Option Refusal) → RefusedAs (P.state plant.now) config.now result r → refuses self.old config.now r }
+        ensures later { (r : Option Refusal) → refuses self.new config.now r → refuses self.old config.now r }
         ensures room { cost_of result (P.state plant.now) config.now + room self.new config.now ≤ room self.old config.now }
         ensures most { cost_of result (P.state plant.now) config.now + most self.new config.now ≤ most self.old config.now }
         ensures stop { most_of result (P.state plant.now) config.now ≤ most self.old config.now };
@@ -209,8 +215,10 @@ pub fn carry_beside<P: Plant, B: Beside, E: Entries<P, B>>(
     ensures fails { OnErr result ((r : Rest) → Fails (armed_in (P.state plant.old)) (world_seen (P.state plant.old) config.now (B.rest beside.old r) journal.old.events) (E.left entries.old config.now) (world_seen (P.state plant.new) config.now (B.rest beside.new r) journal.new.events) (refusal_of result)) }
     ensures stands { OnOk result (E.stands entries.new (P.state plant.new) beside.new config.now) }
     ensures makes { E.makes entries.old (is_ok result) (P.state plant.old) beside.old (P.state plant.new) beside.new config.now }
+    ensures refused { OnErr result (E.refuses entries.old config.now (refusal_of result)) }
     ensures kept { Kept (P.state plant.old) (P.state plant.new) config.now journal.old journal.new (E.most entries.old config.now) (is_stop (refusal_of result)) result }
     ensures room_left { OnOk result (journal.old.spare ≤ journal.new.spare + E.room entries.old config.now) }
+    ensures no_more { OnOk result (journal.new.spare ≤ journal.old.spare) }
 {
     for _ in 0..entries.count(config) {
         let next = entries.next(plant, config, beside);
@@ -233,8 +241,10 @@ pub fn carry<P: Plant, E: Entries<P, Nothing>>(
     ensures fails { OnErr result ((r : Rest) → Fails (armed_in (P.state plant.old)) (world_seen (P.state plant.old) config.now r journal.old.events) (E.left entries.old config.now) (world_seen (P.state plant.new) config.now r journal.new.events) (refusal_of result)) }
     ensures stands { OnOk result (E.stands entries.new (P.state plant.new) (record {}) config.now) }
     ensures makes { E.makes entries.old (is_ok result) (P.state plant.old) (record {}) (P.state plant.new) (record {}) config.now }
+    ensures refused { OnErr result (E.refuses entries.old config.now (refusal_of result)) }
     ensures kept { Kept (P.state plant.old) (P.state plant.new) config.now journal.old journal.new (E.most entries.old config.now) (is_stop (refusal_of result)) result }
     ensures room_left { OnOk result (journal.old.spare ≤ journal.new.spare + E.room entries.old config.now) }
+    ensures no_more { OnOk result (journal.new.spare ≤ journal.old.spare) }
 {
     let mut nothing = Nothing;
     carry_beside(plant, config, journal, &mut nothing, entries)

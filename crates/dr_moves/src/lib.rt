@@ -5,7 +5,8 @@
 //! the track that the move carries, and tells the journal. Where the server stops, `Stop` says whether the move counts as
 //! done. `make_opened` is the same for a caller who has opened the volume, and `make_by` for one who has its fields.
 //! `make_move` is `make` as an entry of a plan, and `make_move_by` is `make_by` as one. `Asks` (specs) is what a kind of move
-//! asks of the plant, and `Kept` what stays over each of these calls. `shift` makes a move whose fields its caller gives.
+//! asks of the plant, and `Kept` what stays over each of these calls. `place_staged` puts a staged track in its place as a server starts. `shift` makes a move
+//! whose fields its caller gives.
 //!
 //! What a run knows besides devices and journal, the host's pending writes, the sessions and the paths, is `Beside`: it hears
 //! `News`, and what it shows changes as the machine's does. `make_beside` is `make` of a move that may land a host write,
@@ -28,6 +29,7 @@ mod pair_fields;
 mod pairs;
 mod performing;
 mod place;
+mod placing;
 mod reads;
 mod sets;
 mod shifting;
@@ -50,6 +52,7 @@ pub use pair_fields::{
 pub use pairs::{is_quiet, is_unpaired, pair_state};
 pub use performing::{Act, perform};
 pub use place::{server_of, tracks_of};
+pub use placing::place_staged;
 pub use reads::read_told;
 pub use sets::{is_whole, lowest, rest};
 pub use shifting::shift;

@@ -21,10 +21,11 @@ use dr_plant::{Block, Plant};
 use dr_volume::{Opened, open, read_track};
 
 /// Tells that the server of a volume went off by itself.
-fn gone_off(config: &Config, journal: &mut Journal, v: VolumeId) -> Refusal
+pub(crate) fn gone_off(config: &Config, journal: &mut Journal, v: VolumeId) -> Refusal
     requires defined { IsSome (place_of config.now v.0) }
     requires room { 1 ≤ journal.old.spare }
     ensures refusal { (s : PlantState) → result ≡ stopped (volume_seen s config.now v.0).server }
+    ensures known { (s : PlantState) → (volume_seen s config.now v.0).server < 8 }
     ensures events { (s : PlantState) → journal.new.events ≡ journal.old.events ++ Event.Stopped (volume_seen s config.now v.0).server 0 ∷ [] }
     ensures room { journal.old.spare ≡ journal.new.spare + 1 }
     ensures spare { length journal.new.events + journal.new.spare ≡ length journal.old.events + journal.old.spare }

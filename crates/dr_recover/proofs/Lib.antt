@@ -2,6 +2,7 @@
 -- of every exit, each in a line from its `carried`.
 pub mod EachLemmas
 pub mod MemberLemmas
+pub mod StepLemmas
 pub mod PlanLemmas
 pub mod LookLemmas
 pub mod ActLemmas

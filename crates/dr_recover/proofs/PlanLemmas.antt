@@ -1,6 +1,7 @@
 -- The plan of a recovery, from what the calls say.
-use Rattle.std.proofs.Common.{ℕ, ◌≡◌, Bool, true, List, [], ◌∷◌, ◌++◌, map, refl, sym, ◌∙◌, ap, subst, Option, Some, None}
+use Rattle.std.proofs.Common.{ℕ, ◌≡◌, Bool, List, [], ◌∷◌, ◌++◌, map, refl, sym, ◌∙◌, ap, subst, Option, Some, None}
 use Rattle.std.specs.Prelude.{Result, Ok, Err}
+use Rattle.std.proofs.lemmas.List.{append_assoc}
 use Rattle.dr_ids.specs.declared.names.Member.{Member}
 use Rattle.dr_ids.specs.declared.refusal.Decision.{Decision}
 use Rattle.dr_ids.specs.declared.refusal.Refusal.{Refusal}
@@ -18,11 +19,12 @@ use Rattle.dr_model.specs.RecoveryPlans.{secondary_refusal, decided_in, take_ove
 use Rattle.dr_volume.specs.View.{Rest}
 use Rattle.dr_moves.specs.Here.{world_seen, refusal_of}
 use Rattle.dr_moves.specs.Turns.{Leads, Fails}
-use Rattle.dr_facts.proofs.Ends.{ends-goes, ends-none, ends-wider}
+use Rattle.dr_facts.proofs.Ends.{ends-goes, ends-none}
 use Rattle.dr_gmirror.specs.Exchange.{PlanEnds}
 use Rattle.dr_gmirror.proofs.ExchangeLemmas.{refused-plan, silent-ends, follow-nothing}
 use Rattle.dr_recover.specs.declared.recovery.Recovered.{Recovered}
 use Rattle.dr_recover.specs.Outcomes.{recover_behind, recovery_said}
+use Rattle.dr_recover.specs.Steps.{moves_of}
 
 -- ---- the entries
 
@@ -45,20 +47,16 @@ module _ (s : ℕ) (d : Decision) (ms : List Member) where
   abbrev last : List Entry
   last = end_recovery s ∷ []
 
-  abbrev settles : List Entry
-  settles = map (settle_on s d) ms
+  all-are : moves_of s d ms ++ last ≡ recover_entries s d ms
+  all-are = append_assoc (map take_over_on ms) (map (settle_on s d) ms) last
 
-  -- a takeover failed
-  pub takes-fail : (armed : ℕ → Bool) (w u : World) (r : Option Refusal) → Fails armed w (map take_over_on ms) u r → Ends armed u r w (recover_entries s d ms)
-  takes-fail armed w u r fails = fails (settles ++ last)
-
-  -- a commit or a revert failed, where fuses may be fewer
-  pub settles-fail : (armed more : ℕ → Bool) → ((q : ℕ) → armed q ≡ true → more q ≡ true) → (w v u : World) (r : Option Refusal) → Leads w (map take_over_on ms) v → Fails armed v (map (settle_on s d) ms) u r → Ends more u r w (recover_entries s d ms)
-  settles-fail armed more wider w v u r takes fails = takes more u r (settles ++ last) (ends-wider armed more wider u r v (settles ++ last) (fails last))
+  -- a move failed
+  pub moves-fail : (armed : ℕ → Bool) (w u : World) (r : Option Refusal) → Fails armed w (moves_of s d ms) u r → Ends armed u r w (recover_entries s d ms)
+  moves-fail armed w u r fails = subst (Ends armed u r w) all-are (fails last)
 
   -- all was done
-  pub all-done : (armed : ℕ → Bool) (w v x u : World) (r : Option Refusal) → Leads w (map take_over_on ms) v → Leads v (map (settle_on s d) ms) x → Ends armed u r x (end_recovery s ∷ []) → Ends armed u r w (recover_entries s d ms)
-  all-done armed w v x u r takes settled ends = takes armed u r (settles ++ last) (settled armed u r last ends)
+  pub all-done : (armed : ℕ → Bool) (w v u : World) (r : Option Refusal) → Leads w (moves_of s d ms) v → Ends armed u r v (end_recovery s ∷ []) → Ends armed u r w (recover_entries s d ms)
+  all-done armed w v u r leads ends = subst (Ends armed u r w) all-are (leads armed u r last ends)
 
   -- ---- the plan
 

@@ -16,13 +16,14 @@ ghost use Rattle.dr_recover.specs.Outcomes.{act_said, lets_by};
 
 use crate::checks::settle_refusal;
 use crate::looks::revertible_target;
-use crate::settling::settle_member;
+use crate::settling::settle_next;
 use dr_config::Config;
 use dr_flash::relation_state;
 use dr_gmirror::{decide_over, member_with};
 use dr_ids::{Refusal, SessionId, VolumeId};
 use dr_model::Journal;
 use dr_plant::Plant;
+use dr_revert::turn_target;
 use dr_session::Sessions;
 use dr_volume::peek_head;
 
@@ -70,5 +71,6 @@ pub fn act<P: Plant>(
     if let Some(why) = settle_refusal(plant, config, ss, s, commit, decided) {
         return Err(why);
     }
-    settle_member(plant, config, journal, s, decided, &m)
+    let next = settle_next(plant, config, s, decided, &m);
+    turn_target(plant, config, journal, m.c, &next)
 }

@@ -16,6 +16,7 @@ mod checks;
 mod looks;
 mod recovery;
 mod settling;
+mod steps;
 mod taking;
 
 pub use acting::act;

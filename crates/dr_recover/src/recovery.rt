@@ -18,8 +18,7 @@ ghost use Rattle.dr_gmirror.specs.Exchange.{PlanEnds};
 ghost use Rattle.dr_gmirror.specs.Orders.{AreReady, with_sessions};
 ghost use Rattle.dr_recover.specs.Outcomes.{recover_behind, recovery_said, RecoversAlike, IsRecovered};
 
-use crate::settling::settle_all;
-use crate::taking::take_over_all;
+use crate::steps::carry_all;
 use dr_config::Config;
 use dr_gmirror::{decide_over, secondary_refusal};
 use dr_ids::{Decision, Refusal, SessionId};
@@ -103,8 +102,7 @@ pub fn recover<P: Plant>(
         return Err(why);
     }
     let decision = decide_over(plant, config, ss, s);
-    take_over_all(plant, config, journal, ss, s)?;
-    settle_all(plant, config, journal, ss, s, decision)?;
+    carry_all(plant, config, journal, ss, s, decision)?;
     let group = group_of(decide_over(plant, config, ss, s));
     end_recovery(journal, s, group);
     Ok(Recovered { group, decision })

@@ -1,6 +1,5 @@
 use Rattle.std.proofs.Common.{◌≡◌, ◌∙◌, sym, true, false}
 use Rattle.dr_moves.specs.Here.{world_seen, armed_in}
-use Rattle.dr_moves.proofs.EntryLemmas.{counted-stop}
 use Rattle.dr_admin.proofs.LiftLemmas.{comes-off, comes-lifted}
 use Rattle.dr_admin.proofs.lifting.lift.Goals as goal
 
@@ -22,6 +21,3 @@ returns-clause-refused g c off = let e : true ≡ false = c.if-not-is_on.ensures
 
 pub returns-clause-unchanged : goal.returns-clause-unchanged
 returns-clause-unchanged g c off = let e : true ≡ false = c.if-not-is_on.ensures ∙ off in absurd cc
-
-pub returns-clause-faults : goal.returns-clause-faults
-returns-clause-faults g c = counted-stop c.lift_all.result _ _ c.args.s.0 c.lift_all.ensures.faults c.lift_all.ensures.stopped

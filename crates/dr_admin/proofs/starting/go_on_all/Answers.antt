@@ -1,12 +1,15 @@
-use Rattle.std.proofs.Common.{arith, sym, subst, ◌∙◌, ◌≤◌, ◌++◌, length, Some}
-use Rattle.dr_logic.specs.Counts.{Counted, Rose}
+use Rattle.std.proofs.Common.{arith, refl, sym, subst, ◌∙◌, ◌≤◌, ◌++◌, length, Some}
+use Rattle.std.specs.Prelude.{Result, Ok, Err}
+use Rattle.dr_ids.specs.declared.refusal.Refusal.{Refusal}
 use Rattle.dr_model.specs.ReadStops.{Ends}
 use Rattle.dr_moves.specs.Here.{world_seen, armed_in}
 use Rattle.dr_moves.proofs.KeptLemmas.{wider-armed}
 use Rattle.dr_facts.proofs.Ends.{ends-wider}
+use Rattle.dr_moves.specs.Ready.{Stayed}
+use Rattle.dr_moves.proofs.ActedLemmas.{err-is}
 use Rattle.dr_moves.proofs.TurnLemmas.{refused-by}
 use Rattle.dr_admin.specs.Starting.{start_from}
-use Rattle.dr_admin.proofs.StartLemmas.{rest-started, started-all}
+use Rattle.dr_admin.proofs.StartLemmas.{rest-started, started-all, stayed-then, stayed-same}
 use Rattle.dr_admin.proofs.starting.go_on_all.Goals as goal
 use Rattle.dr_logic.proofs.Results.{err-always}
 
@@ -14,9 +17,9 @@ pub loop-place-preserved : goal.loop-place-preserved
 loop-place-preserved g c = record {
   left = λ r armed u q ds more. c.loop-place.invariant.left r armed u q ds (c.in_ok-go_on_at.ensures.goes r armed u q ds more);
   starting = c.in_ok-go_on_at.ensures.starting;
-  unarmed = λ q none. c.in_ok-go_on_at.ensures.unarmed q (c.loop-place.invariant.unarmed q none);
-  faults = c.in_ok-go_on_at.ensures.faults ∙ c.loop-place.invariant.faults;
-  on = c.in_ok-go_on_at.ensures.on ∙ c.loop-place.invariant.on;
+  stayed =
+      stayed-then (g.P.Plant.state c.args.plant.now) (g.P.Plant.state c.loop-place.plant) (g.P.Plant.state c.go_on_at.new.plant) c.args.config.now c.args.journal.now c.loop-place.journal c.go_on_at.new.journal c.args.s.0 (Ok tt)
+      c.loop-place.invariant.told c.loop-place.invariant.stayed c.in_ok-go_on_at.ensures.stayed;
   told = c.in_ok-go_on_at.ensures.told ∙ c.loop-place.invariant.told;
 }
 
@@ -30,15 +33,22 @@ returns-in_err-go_on_at-clause-fails g c =
     let u = world_seen (g.P.Plant.state c.go_on_at.new.plant) t r c.go_on_at.new.journal.events in
     subst (λ q. Ends (armed_in s0) u q (world_seen s0 t r c.args.journal.now.events) (start_from t c.args.s.0 0 ++ ds)) (sym (refused-by c.from_residual.result e c.from_residual.ensures.0 c.from_residual.ensures.1))
     (c.loop-place.invariant.left r (armed_in s0) u (Some e) ds
-    (ends-wider (armed_in s) (armed_in s0) (wider-armed s0 s c.loop-place.invariant.unarmed) u (Some e) _ _ (c.in_err-go_on_at.ensures.fails r ds))))
+    (ends-wider (armed_in s) (armed_in s0) (wider-armed s0 s c.loop-place.invariant.stayed.unarmed) u (Some e) _ _ (c.in_err-go_on_at.ensures.fails r ds))))
 
-pub returns-in_err-go_on_at-clause-unarmed : goal.returns-in_err-go_on_at-clause-unarmed
-returns-in_err-go_on_at-clause-unarmed g c q none = c.in_err-go_on_at.ensures.unarmed q (c.loop-place.invariant.unarmed q none)
+pub returns-in_err-go_on_at-clause-stayed : goal.returns-in_err-go_on_at-clause-stayed
+returns-in_err-go_on_at-clause-stayed g c =
+    subst (λ (res : Result (Unit {0}) Refusal). Stayed (g.P.Plant.state c.args.plant.now) (g.P.Plant.state c.go_on_at.new.plant) c.args.config.now c.args.journal.now c.go_on_at.new.journal c.args.s.0 1 res)
+    (sym (err-is c.from_residual.result c.in_err-go_on_at.field-0.0 c.from_residual.ensures.0 c.from_residual.ensures.1))
+    (stayed-then (g.P.Plant.state c.args.plant.now) (g.P.Plant.state c.loop-place.plant) (g.P.Plant.state c.go_on_at.new.plant) c.args.config.now c.args.journal.now c.loop-place.journal c.go_on_at.new.journal c.args.s.0 (Err c.in_err-go_on_at.field-0.0)
+    c.loop-place.invariant.told c.loop-place.invariant.stayed c.in_err-go_on_at.ensures.stayed)
 
-pub returns-in_err-go_on_at-clause-faults : goal.returns-in_err-go_on_at-clause-faults
-returns-in_err-go_on_at-clause-faults g c =
-    let u = g.P.Plant.state c.go_on_at.new.plant in
-    subst (λ b. Counted b (g.P.Plant.state c.args.plant.now).faults u.faults) (sym c.from_residual.ensures.0) (subst (λ n. Rose n u.faults) c.loop-place.invariant.faults c.in_err-go_on_at.ensures.faults)
+pub loop-place-init : goal.loop-place-init
+loop-place-init g c = record {
+  left = λ r armed u q ds more. more;
+  starting = c.requires.starting;
+  stayed = stayed-same (g.P.Plant.state c.args.plant.now) c.args.config.now c.args.journal.now c.args.s.0 c.requires.starting.stands;
+  told = refl;
+}
 
 pub returns-clause-leads : goal.returns-clause-leads
 returns-clause-leads g c r armed u q ds more =
@@ -50,9 +60,3 @@ pub returns-clause-rest : goal.returns-clause-rest
 returns-clause-rest g c =
     rest-started (g.P.Plant.state c.loop-place.plant) c.args.config.now c.args.s.0 c.loop-place.place c.loop-place.invariant.starting
     (let e = c.volumes-place-end.ensures.count in let f = c.loop-place-test.false in omega arith)
-
-pub returns-clause-unarmed : goal.returns-clause-unarmed
-returns-clause-unarmed g c q none = c.loop-place.invariant.unarmed q none
-
-pub returns-clause-faults : goal.returns-clause-faults
-returns-clause-faults g c = c.loop-place.invariant.faults

@@ -1,10 +1,11 @@
-use Rattle.std.proofs.Common.{ℕ, ◌≡◌, ◌++◌, Bool, List, Option, None}
+use Rattle.std.proofs.Common.{ℕ, ◌≡◌, ◌++◌, Bool, List, Option, Ok}
 use Rattle.dr_ids.specs.declared.refusal.Refusal.{Refusal}
 use Rattle.dr_model.specs.Control.{World}
 use Rattle.dr_model.specs.Carry.{Entry}
 use Rattle.dr_model.specs.ReadStops.{Ends}
 use Rattle.dr_volume.specs.View.{Rest}
 use Rattle.dr_moves.specs.Here.{world_seen}
+use Rattle.dr_moves.specs.Ready.{Stayed}
 use Rattle.dr_admin.specs.Starting.{IsStarting, start_from}
 use Rattle.dr_admin.proofs.starting.go_on_all.Given as goal
 
@@ -14,8 +15,6 @@ invariant-loop-place g l = record {
   left : (r : Rest) (armed : ℕ → Bool) (u : World) (q : Option Refusal) (ds : List Entry) → Ends armed u q (world_seen (g.P.Plant.state l.plant) l.config r l.journal.events) (start_from l.config l.s.0 l.place ++ ds)
       → Ends armed u q (world_seen (g.P.Plant.state l.fn.plant) l.config r l.fn.journal.events) (start_from l.config l.s.0 0 ++ ds);
   starting : IsStarting (g.P.Plant.state l.plant) l.config l.s.0 l.place;
-  unarmed : (q : ℕ) → (g.P.Plant.state l.fn.plant).read_fuse q ≡ None → (g.P.Plant.state l.plant).read_fuse q ≡ None;
-  faults : (g.P.Plant.state l.plant).faults ≡ (g.P.Plant.state l.fn.plant).faults;
-  on : (g.P.Plant.state l.plant).on ≡ (g.P.Plant.state l.fn.plant).on;
+  stayed : Stayed (g.P.Plant.state l.fn.plant) (g.P.Plant.state l.plant) l.config l.fn.journal l.journal l.s.0 1 {E = Refusal} (Ok tt);
   told : l.journal ≡ l.fn.journal;
 }

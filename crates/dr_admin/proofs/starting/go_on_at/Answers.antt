@@ -4,7 +4,7 @@ use Rattle.dr_ids.specs.declared.names.VolumeId.{VolumeId}
 use Rattle.dr_config.specs.Table.{place_of}
 use Rattle.dr_moves.specs.Here.{world_seen, refusal_of}
 use Rattle.dr_moves.proofs.TurnLemmas.{ok-along, err-along}
-use Rattle.dr_admin.proofs.StartLemmas.{started-skip, started-goes, started-fails, started-stops, starting-skip}
+use Rattle.dr_admin.proofs.StartLemmas.{started-skip, started-goes, started-fails, started-stops, starting-skip, stayed-then, stayed-same}
 use Rattle.dr_admin.proofs.starting.go_on_at.Goals as goal
 
 pub returns-then-not-belongs-clause-goes : goal.returns-then-not-belongs-clause-goes
@@ -35,10 +35,18 @@ returns-in-Ok-clause-fails g c =
     let s = g.P.Plant.state c.args.plant.now in let s1 = g.P.Plant.state c.redo_own.new.plant in let s2 = g.P.Plant.state c.restart_own.new.plant in let t = c.args.config.now in
     err-along c.restart_own.result c.restart_own.ensures.halts c.restart_own.ensures.halts (λ end _ r ds.
     started-stops t c.unwrap-v.result.0 c.args.s.0 c.args.place (sym (ap (option_map (λ (v : VolumeId). v.0)) c.unwrap-v.ensures) ∙ c.volume_at.ensures.value) ds
-    s s1 (world_seen s t r c.args.journal.now.events) (world_seen s1 t r c.redo_own.new.journal.events) (world_seen s2 t r c.restart_own.new.journal.events) (refusal_of c.restart_own.result) c.in-Ok.ensures.unarmed (c.in-Ok.ensures.advances r) (end r))
+    s s1 (world_seen s t r c.args.journal.now.events) (world_seen s1 t r c.redo_own.new.journal.events) (world_seen s2 t r c.restart_own.new.journal.events) (refusal_of c.restart_own.result) c.in-Ok.ensures.stayed.unarmed (c.in-Ok.ensures.advances r) (end r))
 
 pub returns-in-Err-clause-fails : goal.returns-in-Err-clause-fails
 returns-in-Err-clause-fails g c r ds =
     let s = g.P.Plant.state c.args.plant.now in let s1 = g.P.Plant.state c.redo_own.new.plant in let t = c.args.config.now in
     started-fails t c.unwrap-v.result.0 c.args.s.0 c.args.place (sym (ap (option_map (λ (v : VolumeId). v.0)) c.unwrap-v.ensures) ∙ c.volume_at.ensures.value) ds
     _ (world_seen s t r c.args.journal.now.events) (world_seen s1 t r c.redo_own.new.journal.events) (Some c.in-Err.why) (c.in-Err.ensures.halts r)
+
+pub returns-then-not-belongs-clause-stayed : goal.returns-then-not-belongs-clause-stayed
+returns-then-not-belongs-clause-stayed g c = stayed-same (g.P.Plant.state c.args.plant.now) c.args.config.now c.args.journal.now c.args.s.0 c.requires.starting.stands
+
+pub returns-in-Ok-clause-stayed : goal.returns-in-Ok-clause-stayed
+returns-in-Ok-clause-stayed g c =
+    stayed-then (g.P.Plant.state c.args.plant.now) (g.P.Plant.state c.redo_own.new.plant) (g.P.Plant.state c.restart_own.new.plant) c.args.config.now c.args.journal.now c.redo_own.new.journal c.restart_own.new.journal c.args.s.0 c.restart_own.result
+    c.in-Ok.ensures.told c.in-Ok.ensures.stayed c.restart_own.ensures.stayed

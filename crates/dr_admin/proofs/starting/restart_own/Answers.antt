@@ -30,10 +30,19 @@ pub returns-clause-stopped : goal.returns-clause-stopped
 returns-clause-stopped g c =
     err-along c.restart.result c.restart.ensures.refused c.restart.ensures.refused (λ is _. is ∙ ap (λ q. Some (stopped q)) (own-server (g.P.Plant.state c.args.plant.now) c.args.config.now c.args.v.0 c.args.s.0 c.requires.owned))
 
-pub returns-clause-off : goal.returns-clause-off
-returns-clause-off g c =
+pub returns-clause-stayed : goal.returns-clause-stayed
+returns-clause-stayed g c =
     let s = g.P.Plant.state c.args.plant.now in let s' = g.P.Plant.state c.restart.new.plant in
-    err-along c.restart.result c.restart.ensures.off c.restart.ensures.off (λ off _. sym (ap s'.on (own-server s c.args.config.now c.args.v.0 c.args.s.0 c.requires.owned)) ∙ off)
+    record {
+      stands = c.restart.ensures.stands;
+      settled = c.restart.ensures.settled;
+      unarmed = c.restart.ensures.unarmed;
+      faults = c.restart.ensures.faults;
+      on = c.restart.ensures.on;
+      off = err-along c.restart.result c.restart.ensures.off c.restart.ensures.off (λ off _. sym (ap s'.on (own-server s c.args.config.now c.args.v.0 c.args.s.0 c.requires.owned)) ∙ off);
+      room = c.restart.ensures.room;
+      spare = c.restart.ensures.spare;
+    }
 
 pub returns-clause-starting : goal.returns-clause-starting
 returns-clause-starting g c =

@@ -31,10 +31,10 @@ returns-in-Ok-clause-told g c =
     (c.acknowledge.ensures.told ∙ ap (λ j. j.events ++ acks (write_number c.acknowledge.result)) c.in-Ok.ensures.told)
 
 pub returns-in-Ok-clause-unarmed : goal.returns-in-Ok-clause-unarmed
-returns-in-Ok-clause-unarmed g c q none = c.in-Ok.ensures.unarmed q (started-unarmed (g.P.Plant.state c.args.plant.now) (g.P.Plant.state c.start.new.self) c.args.s.0 q c.start.ensures none)
+returns-in-Ok-clause-unarmed g c q none = c.in-Ok.ensures.stayed.unarmed q (started-unarmed (g.P.Plant.state c.args.plant.now) (g.P.Plant.state c.start.new.self) c.args.s.0 q c.start.ensures none)
 
 pub returns-in-Ok-clause-faults : goal.returns-in-Ok-clause-faults
-returns-in-Ok-clause-faults g c = c.in-Ok.ensures.faults ∙ started-faults (g.P.Plant.state c.args.plant.now) (g.P.Plant.state c.start.new.self) c.args.s.0 c.start.ensures
+returns-in-Ok-clause-faults g c = c.in-Ok.ensures.stayed.faults ∙ started-faults (g.P.Plant.state c.args.plant.now) (g.P.Plant.state c.start.new.self) c.args.s.0 c.start.ensures
 
 pub returns-in-Err-clause-plan : goal.returns-in-Err-clause-plan
 returns-in-Err-clause-plan g c r =
@@ -47,11 +47,11 @@ returns-in-Err-clause-plan g c r =
     (ends-wider (armed_in s1) (armed_in s) (wider-armed s s1 (λ q. started-unarmed s s1 c.args.s.0 q c.start.ensures)) u (Some why) _ _ (c.in-Err.ensures.fails (with_writes r h) (acknowledge_on c.args.s.0 ∷ []))))
 
 pub returns-in-Err-clause-unarmed : goal.returns-in-Err-clause-unarmed
-returns-in-Err-clause-unarmed g c q none = c.in-Err.ensures.unarmed q (started-unarmed (g.P.Plant.state c.args.plant.now) (g.P.Plant.state c.start.new.self) c.args.s.0 q c.start.ensures none)
+returns-in-Err-clause-unarmed g c q none = c.in-Err.ensures.stayed.unarmed q (started-unarmed (g.P.Plant.state c.args.plant.now) (g.P.Plant.state c.start.new.self) c.args.s.0 q c.start.ensures none)
 
 pub returns-in-Err-clause-faults : goal.returns-in-Err-clause-faults
 returns-in-Err-clause-faults g c =
-    subst (λ n. Rose n (g.P.Plant.state c.go_on_all.new.plant).faults) (started-faults (g.P.Plant.state c.args.plant.now) (g.P.Plant.state c.start.new.self) c.args.s.0 c.start.ensures) c.in-Err.ensures.faults
+    subst (λ n. Rose n (g.P.Plant.state c.go_on_all.new.plant).faults) (started-faults (g.P.Plant.state c.args.plant.now) (g.P.Plant.state c.start.new.self) c.args.s.0 c.start.ensures) c.in-Err.ensures.stayed.faults
 
 pub returns-in-Ok-clause-on : goal.returns-in-Ok-clause-on
-returns-in-Ok-clause-on g c = c.in-Ok.ensures.on ∙ started-on (g.P.Plant.state c.args.plant.now) (g.P.Plant.state c.start.new.self) c.args.s.0 c.start.ensures
+returns-in-Ok-clause-on g c = c.in-Ok.ensures.stayed.on ∙ started-on (g.P.Plant.state c.args.plant.now) (g.P.Plant.state c.start.new.self) c.args.s.0 c.start.ensures

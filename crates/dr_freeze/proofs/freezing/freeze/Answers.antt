@@ -1,5 +1,4 @@
-use Rattle.std.proofs.Common.{◌≡◌, [], ◌∷◌, sym, subst, ◌∙◌, Some, None, true, false}
-use Rattle.dr_logic.specs.Counts.{Counted}
+use Rattle.std.proofs.Common.{◌≡◌, [], ◌∷◌, sym, ◌∙◌, Some, None, true, false}
 use Rattle.dr_model.specs.WriteEntries.{freeze_entries, end_freeze}
 use Rattle.dr_volume.specs.View.{ids_of}
 use Rattle.dr_moves.specs.Here.{world_seen, armed_in}
@@ -30,18 +29,14 @@ returns-in-Err-clause-carried g c r =
     (c.in-Err.ensures.fails r (end_freeze c.args.l.0 c.args.m.0 ∷ []))
 
 pub returns-in-Ok-clause-rest : goal.returns-in-Ok-clause-rest
-returns-in-Ok-clause-rest g c = rest-without (g.P.Plant.state c.change_all.new.plant) c.args.config.now c.end_freeze.new.config c.args.l.0 c.args.m.0 c.end_freeze.ensures.removed c.in-Ok.ensures.rest
+returns-in-Ok-clause-rest g c = rest-without (g.P.Plant.state c.change_all.new.plant) c.args.config.now c.end_freeze.new.config c.args.l.0 c.args.m.0 c.end_freeze.ensures.removed c.in-Ok.ensures.kept.at.rest
 
 pub returns-in-Ok-clause-fit : goal.returns-in-Ok-clause-fit
-returns-in-Ok-clause-fit g c = fit-without (g.P.Plant.state c.change_all.new.plant) c.args.config.now c.end_freeze.new.config c.args.l.0 c.args.m.0 c.end_freeze.ensures.removed c.in-Ok.ensures.fit
+returns-in-Ok-clause-fit g c = fit-without (g.P.Plant.state c.change_all.new.plant) c.args.config.now c.end_freeze.new.config c.args.l.0 c.args.m.0 c.end_freeze.ensures.removed c.in-Ok.ensures.kept.at.fit
 
 pub returns-in-Ok-clause-frozen : goal.returns-in-Ok-clause-frozen
 returns-in-Ok-clause-frozen g c =
     all-frozen (g.P.Plant.state c.change_all.new.plant) c.args.config.now c.end_freeze.new.config c.args.l.0 c.args.m.0 c.end_freeze.ensures.removed (g.P.Plant.state c.args.plant.now) c.in_default.ensures.sound c.in_default.ensures.running c.in-Ok.ensures.changed
-
-pub returns-in-Err-clause-faults : goal.returns-in-Err-clause-faults
-returns-in-Err-clause-faults g c =
-    subst (λ b. Counted b (g.P.Plant.state c.args.plant.now).faults (g.P.Plant.state c.change_all.new.plant).faults) (sym c.in-Err.ensures.stops) c.in-Err.ensures.faults
 
 pub returns-in-Err-clause-unchanged : goal.returns-in-Err-clause-unchanged
 returns-in-Err-clause-unchanged g c calm = absurd (let no : true ≡ false = sym c.in-Err.ensures.stops ∙ calm in cc)

@@ -1,5 +1,4 @@
-use Rattle.std.proofs.Common.{◌≡◌, [], ◌∷◌, sym, subst, ◌∙◌, Some, None, true, false}
-use Rattle.dr_logic.specs.Counts.{Counted}
+use Rattle.std.proofs.Common.{◌≡◌, [], ◌∷◌, sym, ◌∙◌, Some, None, true, false}
 use Rattle.dr_model.specs.WriteEntries.{thaw_entries, end_thaw}
 use Rattle.dr_volume.specs.View.{ids_of}
 use Rattle.dr_moves.specs.Here.{world_seen, armed_in}
@@ -32,10 +31,6 @@ returns-in-Err-clause-carried g c r =
 pub returns-in-Ok-clause-thawed : goal.returns-in-Ok-clause-thawed
 returns-in-Ok-clause-thawed g c =
     all-thawed (g.P.Plant.state c.args.plant.now) (g.P.Plant.state c.change_all.new.plant) c.args.config.now c.args.l.0 c.args.m.0 c.in_default.ensures.sound c.in_default.ensures.running c.in-Ok.ensures.changed
-
-pub returns-in-Err-clause-faults : goal.returns-in-Err-clause-faults
-returns-in-Err-clause-faults g c =
-    subst (λ b. Counted b (g.P.Plant.state c.args.plant.now).faults (g.P.Plant.state c.change_all.new.plant).faults) (sym c.in-Err.ensures.stops) c.in-Err.ensures.faults
 
 pub returns-in-Err-clause-unchanged : goal.returns-in-Err-clause-unchanged
 returns-in-Err-clause-unchanged g c calm = absurd (let no : true ≡ false = sym c.in-Err.ensures.stops ∙ calm in cc)

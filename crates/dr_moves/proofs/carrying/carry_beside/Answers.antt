@@ -1,5 +1,5 @@
 use Rattle.std.proofs.Common.{◌++◌, ◌∷◌, true, false, arith, length, ap, sym, subst, Some}
-use Rattle.std.specs.Prelude.{Result, Ok, is_ok}
+use Rattle.std.specs.Prelude.{Result, Ok, OnErr, is_ok}
 use Rattle.std.proofs.lemmas.List.{nil_from_length}
 use Rattle.dr_ids.specs.declared.refusal.Refusal.{Refusal}
 use Rattle.dr_model.specs.ReadStops.{Ends}
@@ -40,6 +40,12 @@ returns-in_err-act_beside-clause-makes g c =
     subst (λ (r : Result (Unit {0}) Refusal). g.E.Entries.makes c.args.entries.now (is_ok r) s0 c.args.beside.now u y t) (sym (err-is c.from_residual.result c.in_err-act_beside.field-0.0 c.from_residual.ensures.0 c.from_residual.ensures.1))
     (c.loop.invariant.makes false u y (subst (λ z. g.E.Entries.makes c.loop.entries false s c.loop.beside u z t) (sym cut.heard) (c.next-next.ensures.cut u cut.counts cut.cut)))
 
+pub returns-in_err-act_beside-clause-refused : goal.returns-in_err-act_beside-clause-refused
+returns-in_err-act_beside-clause-refused g c =
+    let e = c.in_err-act_beside.field-0.0 in
+    subst (λ (r : Result (Unit {0}) Refusal). OnErr r (g.E.Entries.refuses c.args.entries.now c.args.config.now (refusal_of r))) (sym (err-is c.from_residual.result e c.from_residual.ensures.0 c.from_residual.ensures.1))
+    (c.loop.invariant.refuses (Some e) (c.next-next.ensures.refused (Some e) c.in_err-act_beside.ensures.acted.refused))
+
 pub returns-clause-makes : goal.returns-clause-makes
 returns-clause-makes g c =
     let t = c.args.config.now in
@@ -73,4 +79,6 @@ loop-preserved g c =
       kept = kept-then s0 s u t c.args.journal.now c.loop.journal c.act_beside.new.journal _ _ _ (Ok tt) c.loop.invariant.kept acted.kept (omega (arith, most, costs, spent));
       room = omega (arith, before, cost, spent);
       most = omega (arith, most, costs, spent);
+      refuses = λ q later. c.loop.invariant.refuses q (c.next-next.ensures.later q later);
+      no_more = let fewer = c.loop.invariant.no_more in omega (arith, fewer, spent);
     }

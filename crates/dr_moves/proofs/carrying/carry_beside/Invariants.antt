@@ -18,7 +18,9 @@ invariant-loop g l = record {
   stands : g.E.Entries.stands l.entries (g.P.Plant.state l.plant) l.beside l.config;
   -- and so does what those that are left make
   makes : (done : Bool) (w : PlantState) (z : g.row.B.Denot) → g.E.Entries.makes l.entries done (g.P.Plant.state l.plant) l.beside w z l.config → g.E.Entries.makes l.fn.entries done (g.P.Plant.state l.fn.plant) l.fn.beside w z l.config;
+  refuses : (q : Option Refusal) → g.E.Entries.refuses l.entries l.config q → g.E.Entries.refuses l.fn.entries l.config q;
   kept : Kept (g.P.Plant.state l.fn.plant) (g.P.Plant.state l.plant) l.config l.fn.journal l.journal (g.E.Entries.most l.fn.entries l.config) false {E = Refusal} (Ok tt);
   room : l.fn.journal.spare + g.E.Entries.room l.entries l.config ≤ l.journal.spare + g.E.Entries.room l.fn.entries l.config;
   most : l.fn.journal.spare + g.E.Entries.most l.entries l.config ≤ l.journal.spare + g.E.Entries.most l.fn.entries l.config;
+  no_more : l.journal.spare ≤ l.fn.journal.spare;
 }

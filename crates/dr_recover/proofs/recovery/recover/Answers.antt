@@ -4,13 +4,12 @@ use Rattle.dr_model.specs.ReadStops.{Ends}
 use Rattle.dr_model.specs.RecoveryPlans.{decided_in, group_of, recover_entries}
 use Rattle.dr_model.specs.Sessions.{session_in, members_in}
 use Rattle.dr_moves.specs.Here.{world_seen, armed_in}
-use Rattle.dr_moves.proofs.KeptLemmas.{wider-armed}
 use Rattle.dr_moves.proofs.TurnLemmas.{refused-by}
 use Rattle.dr_gmirror.specs.Exchange.{PlanEnds}
 use Rattle.dr_gmirror.specs.Orders.{with_sessions}
 use Rattle.dr_recover.specs.Outcomes.{recover_behind}
-use Rattle.dr_recover.proofs.EachLemmas.{all-ready, all-running}
-use Rattle.dr_recover.proofs.PlanLemmas.{recovery-ends, takes-fail, settles-fail, all-done, plan-failed, plan-done, plan-behind, plan-off, says-failed, never}
+use Rattle.dr_recover.proofs.EachLemmas.{all-ready}
+use Rattle.dr_recover.proofs.PlanLemmas.{recovery-ends, moves-fail, all-done, plan-failed, plan-done, plan-behind, plan-off, says-failed, never}
 use Rattle.dr_recover.proofs.KeepsLemmas.{alike-by, is-recovered}
 use Rattle.dr_recover.proofs.recovery.recover.Goals as goal
 
@@ -26,49 +25,25 @@ returns-in-Some-clause-refused g c r why is = (c.in-Some.ensures.refusal (with_s
 pub returns-in-Some-clause-ends : goal.returns-in-Some-clause-ends
 returns-in-Some-clause-ends g c r none = never _ c.in-Some.why (sym none) (sym (c.in-Some.ensures.refusal (with_sessions c.args.ss.now.sessions r) c.args.journal.now.events))
 
-pub returns-in_err-take_over_all-clause-carried : goal.returns-in_err-take_over_all-clause-carried
-returns-in_err-take_over_all-clause-carried g c r =
+pub carry_all-requires-clause-can : goal.carry_all-requires-clause-can
+carry_all-requires-clause-can g c = record { members = c.requires.members; running = c.in_default.ensures.running; aside = c.requires.aside }
+
+pub returns-in_err-carry_all-clause-ends : goal.returns-in_err-carry_all-clause-ends
+returns-in_err-carry_all-clause-ends g c r none =
     let s0 = g.P.Plant.state c.args.plant.now in
     let t = c.args.config.now in
     let q = with_sessions c.args.ss.now.sessions r in
     let ms = members_in (session_in c.args.ss.now.sessions c.args.s.0) in
     let k = c.args.s.0 in
     let w = world_seen s0 t q c.args.journal.now.events in
-    let d = c.decide_over-decision.result in
-    let u = world_seen (g.P.Plant.state c.take_over_all.new.plant) t q c.take_over_all.new.journal.events in
-    let e = c.in_err-take_over_all.field-0.0 in
-    subst (λ a. PlanEnds (armed_in s0) w (recover_behind w.control k ms) u a) (sym (says-failed c.from_residual.result e (refused-by c.from_residual.result e c.from_residual.ensures.0 c.from_residual.ensures.1)))
-    (plan-behind k d ms (armed_in s0) w u (Refused e) (c.in_default.ensures.refusal q c.args.journal.now.events) (c.decide_over-decision.ensures.decides q c.args.journal.now.events)
-    (plan-failed k d ms (armed_in s0) w u e (takes-fail k d ms (armed_in s0) w u (Some e) (c.in_err-take_over_all.ensures.fails q))))
-
-pub returns-in_err-take_over_all-clause-refused : goal.returns-in_err-take_over_all-clause-refused
-returns-in_err-take_over_all-clause-refused g c r why is = never _ why (c.in_default.ensures.refusal (with_sessions c.args.ss.now.sessions r) c.args.journal.now.events) is
-
-pub returns-in_err-take_over_all-clause-ends : goal.returns-in_err-take_over_all-clause-ends
-returns-in_err-take_over_all-clause-ends g c r none =
-    let s0 = g.P.Plant.state c.args.plant.now in
-    let t = c.args.config.now in
-    let q = with_sessions c.args.ss.now.sessions r in
-    let ms = members_in (session_in c.args.ss.now.sessions c.args.s.0) in
-    let k = c.args.s.0 in
-    let w = world_seen s0 t q c.args.journal.now.events in
-    let d = c.decide_over-decision.result in
-    let u = world_seen (g.P.Plant.state c.take_over_all.new.plant) t q c.take_over_all.new.journal.events in
-    let e = c.in_err-take_over_all.field-0.0 in
+    let u = world_seen (g.P.Plant.state c.carry_all.new.plant) t q c.carry_all.new.journal.events in
+    let e = c.in_err-carry_all.field-0.0 in
     subst (λ o. Ends (armed_in s0) u o w (recover_entries k (decided_in k w.control) ms)) (sym (refused-by c.from_residual.result e c.from_residual.ensures.0 c.from_residual.ensures.1))
     (subst (λ d. Ends (armed_in s0) u (Some e) w (recover_entries k d ms)) (c.decide_over-decision.ensures.decides q c.args.journal.now.events)
-    (takes-fail k d ms (armed_in s0) w u (Some e) (c.in_err-take_over_all.ensures.fails q)))
+    (moves-fail k c.decide_over-decision.result ms (armed_in s0) w u (Some e) (c.in_err-carry_all.ensures.fails q)))
 
-pub settle_all-requires-clause-members : goal.settle_all-requires-clause-members
-settle_all-requires-clause-members g c =
-    all-ready (g.P.Plant.state c.args.plant.now) (g.P.Plant.state c.take_over_all.new.plant) c.args.config.now (members_in (session_in c.args.ss.now.sessions c.args.s.0)) c.requires.members
-
-pub settle_all-requires-clause-running : goal.settle_all-requires-clause-running
-settle_all-requires-clause-running g c =
-    all-running (g.P.Plant.state c.args.plant.now) (g.P.Plant.state c.take_over_all.new.plant) c.args.config.now (members_in (session_in c.args.ss.now.sessions c.args.s.0)) c.in_ok-take_over_all.ensures.on c.requires.members c.in_default.ensures.running
-
-pub returns-in_err-settle_all-clause-carried : goal.returns-in_err-settle_all-clause-carried
-returns-in_err-settle_all-clause-carried g c r =
+pub returns-in_err-carry_all-clause-carried : goal.returns-in_err-carry_all-clause-carried
+returns-in_err-carry_all-clause-carried g c r =
     let s0 = g.P.Plant.state c.args.plant.now in
     let t = c.args.config.now in
     let q = with_sessions c.args.ss.now.sessions r in
@@ -76,33 +51,18 @@ returns-in_err-settle_all-clause-carried g c r =
     let k = c.args.s.0 in
     let w = world_seen s0 t q c.args.journal.now.events in
     let d = c.decide_over-decision.result in
-    let u = world_seen (g.P.Plant.state c.settle_all.new.plant) t q c.settle_all.new.journal.events in
-    let e = c.in_err-settle_all.field-0.0 in
-    subst (λ a. PlanEnds (armed_in s0) w (recover_behind w.control k ms) u a) (sym (says-failed c.from_residual-in_err-settle_all.result e (refused-by c.from_residual-in_err-settle_all.result e c.from_residual-in_err-settle_all.ensures.0 c.from_residual-in_err-settle_all.ensures.1)))
+    let u = world_seen (g.P.Plant.state c.carry_all.new.plant) t q c.carry_all.new.journal.events in
+    let e = c.in_err-carry_all.field-0.0 in
+    subst (λ a. PlanEnds (armed_in s0) w (recover_behind w.control k ms) u a) (sym (says-failed c.from_residual.result e (refused-by c.from_residual.result e c.from_residual.ensures.0 c.from_residual.ensures.1)))
     (plan-behind k d ms (armed_in s0) w u (Refused e) (c.in_default.ensures.refusal q c.args.journal.now.events) (c.decide_over-decision.ensures.decides q c.args.journal.now.events)
-    (plan-failed k d ms (armed_in s0) w u e (settles-fail k d ms (armed_in (g.P.Plant.state c.take_over_all.new.plant)) (armed_in s0) (wider-armed s0 (g.P.Plant.state c.take_over_all.new.plant) c.take_over_all.ensures.unarmed) w (world_seen (g.P.Plant.state c.take_over_all.new.plant) t q c.take_over_all.new.journal.events) u (Some e) (c.in_ok-take_over_all.ensures.leads q) (c.in_err-settle_all.ensures.fails q))))
+    (plan-failed k d ms (armed_in s0) w u e (moves-fail k d ms (armed_in s0) w u (Some e) (c.in_err-carry_all.ensures.fails q))))
 
-pub returns-in_err-settle_all-clause-refused : goal.returns-in_err-settle_all-clause-refused
-returns-in_err-settle_all-clause-refused g c r why is = never _ why (c.in_default.ensures.refusal (with_sessions c.args.ss.now.sessions r) c.args.journal.now.events) is
-
-pub returns-in_err-settle_all-clause-ends : goal.returns-in_err-settle_all-clause-ends
-returns-in_err-settle_all-clause-ends g c r none =
-    let s0 = g.P.Plant.state c.args.plant.now in
-    let t = c.args.config.now in
-    let q = with_sessions c.args.ss.now.sessions r in
-    let ms = members_in (session_in c.args.ss.now.sessions c.args.s.0) in
-    let k = c.args.s.0 in
-    let w = world_seen s0 t q c.args.journal.now.events in
-    let d = c.decide_over-decision.result in
-    let u = world_seen (g.P.Plant.state c.settle_all.new.plant) t q c.settle_all.new.journal.events in
-    let e = c.in_err-settle_all.field-0.0 in
-    subst (λ o. Ends (armed_in s0) u o w (recover_entries k (decided_in k w.control) ms)) (sym (refused-by c.from_residual-in_err-settle_all.result e c.from_residual-in_err-settle_all.ensures.0 c.from_residual-in_err-settle_all.ensures.1))
-    (subst (λ d. Ends (armed_in s0) u (Some e) w (recover_entries k d ms)) (c.decide_over-decision.ensures.decides q c.args.journal.now.events)
-    (settles-fail k d ms (armed_in (g.P.Plant.state c.take_over_all.new.plant)) (armed_in s0) (wider-armed s0 (g.P.Plant.state c.take_over_all.new.plant) c.take_over_all.ensures.unarmed) w (world_seen (g.P.Plant.state c.take_over_all.new.plant) t q c.take_over_all.new.journal.events) u (Some e) (c.in_ok-take_over_all.ensures.leads q) (c.in_err-settle_all.ensures.fails q)))
+pub returns-in_err-carry_all-clause-refused : goal.returns-in_err-carry_all-clause-refused
+returns-in_err-carry_all-clause-refused g c r why is = never _ why (c.in_default.ensures.refusal (with_sessions c.args.ss.now.sessions r) c.args.journal.now.events) is
 
 pub decide_over-requires-clause-members : goal.decide_over-requires-clause-members
 decide_over-requires-clause-members g c =
-    all-ready (g.P.Plant.state c.args.plant.now) (g.P.Plant.state c.settle_all.new.plant) c.args.config.now (members_in (session_in c.args.ss.now.sessions c.args.s.0)) c.requires.members
+    all-ready (g.P.Plant.state c.args.plant.now) (g.P.Plant.state c.carry_all.new.plant) c.args.config.now (members_in (session_in c.args.ss.now.sessions c.args.s.0)) c.requires.members
 
 pub returns-clause-carried : goal.returns-clause-carried
 returns-clause-carried g c r =
@@ -113,11 +73,11 @@ returns-clause-carried g c r =
     let k = c.args.s.0 in
     let w = world_seen s0 t q c.args.journal.now.events in
     let d = c.decide_over-decision.result in
-    let u = world_seen (g.P.Plant.state c.settle_all.new.plant) t q c.end_recovery.new.journal.events in
+    let u = world_seen (g.P.Plant.state c.carry_all.new.plant) t q c.end_recovery.new.journal.events in
     plan-behind k d ms (armed_in s0) w u _ (c.in_default.ensures.refusal q c.args.journal.now.events) (c.decide_over-decision.ensures.decides q c.args.journal.now.events)
     (plan-done k d ms (armed_in s0) w u c.group_of-group.result (c.group_of-group.ensures ∙ ap group_of (c.decide_over.ensures.decides q c.end_recovery.new.journal.events))
-    (all-done k d ms (armed_in s0) w (world_seen (g.P.Plant.state c.take_over_all.new.plant) t q c.take_over_all.new.journal.events) (world_seen (g.P.Plant.state c.settle_all.new.plant) t q c.settle_all.new.journal.events) u None (c.in_ok-take_over_all.ensures.leads q) (c.in_ok-settle_all.ensures.leads q)
-    (recovery-ends (armed_in s0) (g.P.Plant.state c.settle_all.new.plant) t q c.settle_all.new.journal.events c.end_recovery.new.journal.events k c.group_of-group.result (c.group_of-group.ensures ∙ ap group_of (c.decide_over.ensures.decides q c.settle_all.new.journal.events)) c.end_recovery.ensures.events)))
+    (all-done k d ms (armed_in s0) w (world_seen (g.P.Plant.state c.carry_all.new.plant) t q c.carry_all.new.journal.events) u None (c.in_ok-carry_all.ensures.leads q)
+    (recovery-ends (armed_in s0) (g.P.Plant.state c.carry_all.new.plant) t q c.carry_all.new.journal.events c.end_recovery.new.journal.events k c.group_of-group.result (c.group_of-group.ensures ∙ ap group_of (c.decide_over.ensures.decides q c.carry_all.new.journal.events)) c.end_recovery.ensures.events)))
 
 pub returns-clause-refused : goal.returns-clause-refused
 returns-clause-refused g c r why is = never _ why (c.in_default.ensures.refusal (with_sessions c.args.ss.now.sessions r) c.args.journal.now.events) is
@@ -131,10 +91,10 @@ returns-clause-ends g c r none =
     let k = c.args.s.0 in
     let w = world_seen s0 t q c.args.journal.now.events in
     let d = c.decide_over-decision.result in
-    let u = world_seen (g.P.Plant.state c.settle_all.new.plant) t q c.end_recovery.new.journal.events in
+    let u = world_seen (g.P.Plant.state c.carry_all.new.plant) t q c.end_recovery.new.journal.events in
     subst (λ d. Ends (armed_in s0) u None w (recover_entries k d ms)) (c.decide_over-decision.ensures.decides q c.args.journal.now.events)
-    (all-done k d ms (armed_in s0) w (world_seen (g.P.Plant.state c.take_over_all.new.plant) t q c.take_over_all.new.journal.events) (world_seen (g.P.Plant.state c.settle_all.new.plant) t q c.settle_all.new.journal.events) u None (c.in_ok-take_over_all.ensures.leads q) (c.in_ok-settle_all.ensures.leads q)
-    (recovery-ends (armed_in s0) (g.P.Plant.state c.settle_all.new.plant) t q c.settle_all.new.journal.events c.end_recovery.new.journal.events k c.group_of-group.result (c.group_of-group.ensures ∙ ap group_of (c.decide_over.ensures.decides q c.settle_all.new.journal.events)) c.end_recovery.ensures.events))
+    (all-done k d ms (armed_in s0) w (world_seen (g.P.Plant.state c.carry_all.new.plant) t q c.carry_all.new.journal.events) u None (c.in_ok-carry_all.ensures.leads q)
+    (recovery-ends (armed_in s0) (g.P.Plant.state c.carry_all.new.plant) t q c.carry_all.new.journal.events c.end_recovery.new.journal.events k c.group_of-group.result (c.group_of-group.ensures ∙ ap group_of (c.decide_over.ensures.decides q c.carry_all.new.journal.events)) c.end_recovery.ensures.events))
 
 pub returns-clause-decision : goal.returns-clause-decision
 returns-clause-decision g c r = c.decide_over-decision.ensures.decides (with_sessions c.args.ss.now.sessions r) c.args.journal.now.events
@@ -149,26 +109,19 @@ returns-in-Some-clause-keeps g c r x found sound =
     let q = with_sessions c.args.ss.now.sessions r in
     alike-by (armed_in s0) (world_seen s0 t q c.args.journal.now.events) (world_seen s0 t q c.args.journal.now.events) c.args.s.0 x found sound _ (returns-in-Some-clause-carried g c r)
 
-pub returns-in_err-take_over_all-clause-keeps : goal.returns-in_err-take_over_all-clause-keeps
-returns-in_err-take_over_all-clause-keeps g c r x found sound =
+pub returns-in_err-carry_all-clause-keeps : goal.returns-in_err-carry_all-clause-keeps
+returns-in_err-carry_all-clause-keeps g c r x found sound =
     let s0 = g.P.Plant.state c.args.plant.now in
     let t = c.args.config.now in
     let q = with_sessions c.args.ss.now.sessions r in
-    alike-by (armed_in s0) (world_seen s0 t q c.args.journal.now.events) (world_seen (g.P.Plant.state c.take_over_all.new.plant) t q c.take_over_all.new.journal.events) c.args.s.0 x found sound _ (returns-in_err-take_over_all-clause-carried g c r)
-
-pub returns-in_err-settle_all-clause-keeps : goal.returns-in_err-settle_all-clause-keeps
-returns-in_err-settle_all-clause-keeps g c r x found sound =
-    let s0 = g.P.Plant.state c.args.plant.now in
-    let t = c.args.config.now in
-    let q = with_sessions c.args.ss.now.sessions r in
-    alike-by (armed_in s0) (world_seen s0 t q c.args.journal.now.events) (world_seen (g.P.Plant.state c.settle_all.new.plant) t q c.settle_all.new.journal.events) c.args.s.0 x found sound _ (returns-in_err-settle_all-clause-carried g c r)
+    alike-by (armed_in s0) (world_seen s0 t q c.args.journal.now.events) (world_seen (g.P.Plant.state c.carry_all.new.plant) t q c.carry_all.new.journal.events) c.args.s.0 x found sound _ (returns-in_err-carry_all-clause-carried g c r)
 
 pub returns-clause-keeps : goal.returns-clause-keeps
 returns-clause-keeps g c r x found sound =
     let s0 = g.P.Plant.state c.args.plant.now in
     let t = c.args.config.now in
     let q = with_sessions c.args.ss.now.sessions r in
-    alike-by (armed_in s0) (world_seen s0 t q c.args.journal.now.events) (world_seen (g.P.Plant.state c.settle_all.new.plant) t q c.end_recovery.new.journal.events) c.args.s.0 x found sound _ (returns-clause-carried g c r)
+    alike-by (armed_in s0) (world_seen s0 t q c.args.journal.now.events) (world_seen (g.P.Plant.state c.carry_all.new.plant) t q c.end_recovery.new.journal.events) c.args.s.0 x found sound _ (returns-clause-carried g c r)
 
 pub returns-clause-recovers : goal.returns-clause-recovers
 returns-clause-recovers g c r x found sound =
@@ -176,5 +129,5 @@ returns-clause-recovers g c r x found sound =
     let t = c.args.config.now in
     let q = with_sessions c.args.ss.now.sessions r in
     let running = sym (c.in_default.ensures.refusal q c.args.journal.now.events) in
-    is-recovered (armed_in s0) (world_seen s0 t q c.args.journal.now.events) (world_seen (g.P.Plant.state c.settle_all.new.plant) t q c.end_recovery.new.journal.events) c.args.s.0 x found sound
+    is-recovered (armed_in s0) (world_seen s0 t q c.args.journal.now.events) (world_seen (g.P.Plant.state c.carry_all.new.plant) t q c.end_recovery.new.journal.events) c.args.s.0 x found sound
     running (returns-clause-ends g c r running) _ (returns-clause-group g c r) (returns-clause-decision g c r)

@@ -1,6 +1,6 @@
 use Rattle.std.proofs.Common.{◌∙◌}
 use Rattle.dr_moves.specs.Here.{world_seen}
-use Rattle.dr_moves.proofs.ActedLemmas.{went-others, cut-others}
+use Rattle.dr_moves.proofs.ActedLemmas.{went-others, cut-others, goes-stops}
 use Rattle.dr_moves.proofs.KeptLemmas.{before-then}
 use Rattle.dr_gcopy.specs.Both.{entry_of}
 use Rattle.dr_gcopy.proofs.both.MovesEntriesNothing.next.Goals as goal
@@ -30,3 +30,9 @@ returns-in-Second-clause-goes_on g c done u w z went rest q na nb =
 
 pub returns-in-Second-clause-cut : goal.returns-in-Second-clause-cut
 returns-in-Second-clause-cut g c u counts cut q na nb = cut-others (g.P.Plant.state c.args.plant.now) u c.args.config.now counts c.second_next.result cut q (c.second_next.ensures.apart q na nb)
+
+pub returns-in-First-clause-refused : goal.returns-in-First-clause-refused
+returns-in-First-clause-refused g c = goes-stops (g.P.Plant.state c.args.plant.now) c.args.config.now c.first_next.result c.first_next.ensures.goes_on
+
+pub returns-in-Second-clause-refused : goal.returns-in-Second-clause-refused
+returns-in-Second-clause-refused g c = goes-stops (g.P.Plant.state c.args.plant.now) c.args.config.now c.second_next.result c.second_next.ensures.goes_on
