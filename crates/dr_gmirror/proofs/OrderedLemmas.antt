@@ -9,6 +9,7 @@ use Rattle.std.proofs.Math.Bool.{and-false}
 use Rattle.dr_logic.specs.Counts.{Counted}
 use Rattle.dr_ids.specs.declared.names.Member.{Member}
 use Rattle.dr_ids.specs.declared.refusal.Refusal.{Refusal}
+use Rattle.dr_laws_sound.proofs.SessionCosts.{few-on}
 use Rattle.dr_plant.specs.State.{PlantState}
 use Rattle.dr_config.specs.Table.{ConfigTable}
 use Rattle.dr_model.specs.Carry.{Entry}
@@ -21,6 +22,7 @@ use Rattle.dr_moves.specs.Checks.{is_stop}
 use Rattle.dr_moves.specs.Here.{world_seen, armed_in, refusal_of}
 use Rattle.dr_moves.specs.Made.{IsAt, Kept}
 use Rattle.dr_moves.specs.Turns.{Leads, Fails}
+use Rattle.dr_moves.proofs.ActedLemmas.{nothing-kept, least}
 use Rattle.dr_moves.proofs.KeptLemmas.{kept-then, wider-armed}
 use Rattle.dr_moves.proofs.LeadLemmas.{then-leads, then-fails, fails-first}
 use Rattle.dr_gcopy.proofs.SendLemmas.{fails-wider}
@@ -28,14 +30,7 @@ use Rattle.dr_gmirror.specs.Orders.{with_sessions, to_begin, MayOrder, is_seal, 
 use Rattle.dr_gmirror.specs.Ordered.{at_once, Ordered}
 use Rattle.dr_gmirror.proofs.OrderLemmas.{waits-kept, waits-more, member-split}
 
--- what stays where nothing was done
-pub nothing-kept : (s : PlantState) (c : ConfigTable) (old : Log) (res : Result (Unit {0}) Refusal) → IsAt s c → is_stop (refusal_of res) ≡ false → (most : ℕ) → OnOk res (s.on ≡ s.on) → Kept s s c old old most (is_stop (refusal_of res)) res
-nothing-kept s c old res at calm most on = record { at = at; aside = λ fit. fit; unarmed = λ q none. none; faults = subst (λ b. Counted b s.faults s.faults) (sym calm) refl; on = on; room = omega arith; spare = refl }
-
 -- the members on a server: no more than all, and than all up to a place
-pub few-on : (x : ℕ) (ms : List Member) → length (members_on x ms) ≤ length ms
-few-on x ms = let all = length-filter_both (is_on x) (λ m. not (is_on x m)) (λ m. refl) ms in omega (arith, all)
-
 pub few-so-far : (x : ℕ) (ms : List Member) (i : ℕ) → length (members_on x (take i ms)) ≤ i
 few-so-far x ms i = let few = few-on x (take i ms) in let some = length-take i ms in omega (arith, few, some)
 
@@ -69,9 +64,6 @@ module _ (s u : PlantState) (c : ConfigTable) (old new : Log) (ss : List Session
   abbrev es : List Entry
   es = order_entries work k n (m ∷ [])
 
-  more-room : (a b most more : ℕ) → a ≤ b + most → most ≤ more → a ≤ b + more
-  more-room a b most more h large = omega (arith, h, large)
-
   pub ordered-one : (b : Bool) → ((r : Rest) → Leads (world_seen s c r old.events) es (world_seen u c r new.events)) → b ≡ waits_in work (sync_seen u c) (m ∷ []) → (is_seal work ≡ true → (q : ℕ) → sync_seen u c q ≡ sync_seen s c q)
       → Kept s u c old new 2 false {E = Refusal} (Ok tt) → old.spare ≤ new.spare + 1 → Ordered s u c old new ss ss work k n (m ∷ []) (Ok b)
   ordered-one b leads waits sync kept left = record {
@@ -81,7 +73,7 @@ module _ (s u : PlantState) (c : ConfigTable) (old new : Log) (ss : List Session
     sync = sync;
     may = may;
     members = refl;
-    kept = record { at = kept.at; aside = kept.aside; unarmed = kept.unarmed; faults = kept.faults; on = kept.on; room = more-room old.spare new.spare 2 (1 + (to_begin ss k n + 1)) kept.room (omega arith); spare = kept.spare };
+    kept = record { at = kept.at; aside = kept.aside; unarmed = kept.unarmed; faults = kept.faults; on = kept.on; room = least old.spare new.spare 2 (1 + (to_begin ss k n + 1)) kept.room (omega arith); spare = kept.spare };
     left = omega (arith, left);
   }
 
@@ -94,7 +86,7 @@ module _ (s u : PlantState) (c : ConfigTable) (old new : Log) (ss : List Session
     sync = tt;
     may = may;
     members = refl;
-    kept = record { at = kept.at; aside = kept.aside; unarmed = kept.unarmed; faults = kept.faults; on = tt; room = more-room old.spare new.spare 2 (1 + (to_begin ss k n + 1)) kept.room (omega arith); spare = kept.spare };
+    kept = record { at = kept.at; aside = kept.aside; unarmed = kept.unarmed; faults = kept.faults; on = tt; room = least old.spare new.spare 2 (1 + (to_begin ss k n + 1)) kept.room (omega arith); spare = kept.spare };
     left = tt;
   }
 

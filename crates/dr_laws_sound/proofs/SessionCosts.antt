@@ -123,7 +123,7 @@ order-short work s n (m ∷ ms) =
     let a : length (member_entries work s n m) ≤ 3 = member-short work s n m in
     let b : length (order_entries work s n ms) ≤ length ms * 3 = order-short work s n ms in omega arith
 
-few-on : (x : ℕ) (ms : List Member) → length (members_on x ms) ≤ length ms
+pub few-on : (x : ℕ) (ms : List Member) → length (members_on x ms) ≤ length ms
 few-on x [] = omega arith
 few-on x (m ∷ ms) = let le : length (cond (is_on x m) (m ∷ members_on x ms) (members_on x ms)) ≤ length ms + 1 = by (is_on x m) (few-on x ms) in omega arith
   where

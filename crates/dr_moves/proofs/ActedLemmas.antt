@@ -81,7 +81,7 @@ pub calm-heard : {B : Type 0} (after : News → B → B) (x y : B) (m : Move) (r
 calm-heard after x y m res calm is = is ∙ ap (λ o. heard after (heard_of (option_map Settled o) (option_map Landed o) res) x) (calm-lands m calm)
 
 -- in less room
-least : (a m n k : ℕ) → a ≤ m + n → n ≤ k → a ≤ m + k
+pub least : (a m n k : ℕ) → a ≤ m + n → n ≤ k → a ≤ m + k
 least a m n k h l = omega (arith, h, l)
 
 module _ {B : Type 0} (after : News → B → B) (rest : B → Rest → Rest) (x y : B) (s u : PlantState) (c : ConfigTable) (old new : Log) (m : machine.Move) (next : Next) (t : Carried) (goes : WentBy s u c m t → Went s u c next) (cuts : (b : Bool) → CutBy s u c b m t → CutIn s u c b next)
@@ -127,7 +127,7 @@ goes-stops s c (Open v k n) goes r refused = ap is_stop refused
 goes-stops s c (Perform a) goes r refused = absurd refused
 goes-stops s c (End why) goes r refused = absurd goes
 
-nothing-kept : (s : PlantState) (c : ConfigTable) (j : Log) (res : Result (Unit {0}) Refusal) → IsAt s c → is_stop (refusal_of res) ≡ false → (n : ℕ) → OnOk res (s.on ≡ s.on) → Kept s s c j j n (is_stop (refusal_of res)) res
+pub nothing-kept : (s : PlantState) (c : ConfigTable) (j : Log) (res : Result (Unit {0}) Refusal) → IsAt s c → is_stop (refusal_of res) ≡ false → (n : ℕ) → OnOk res (s.on ≡ s.on) → Kept s s c j j n (is_stop (refusal_of res)) res
 nothing-kept s c j res at calm n on = record {
   at = at;
   aside = λ fit. fit;

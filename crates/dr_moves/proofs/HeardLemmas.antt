@@ -12,6 +12,7 @@ use Rattle.dr_model.specs.Layout.{Fields}
 use Rattle.dr_model.specs.Moves.{Hold, Carried}
 use Rattle.dr_model.specs.ReadStops.{GoesOff}
 use Rattle.dr_model.specs.Refusals.{stopped}
+use Rattle.dr_facts.proofs.Turns.{equal-same, equal-not}
 use Rattle.dr_volume.specs.View.{Rest, volume_seen}
 use Rattle.dr_moves.specs.Acts.{act_of, act_news, act_told}
 use Rattle.dr_moves.specs.Beside.{rest_after, table_after, heard, Takes}
@@ -83,16 +84,8 @@ open-is : (w u : World) (v k n : ℕ) (o : Option ℕ) (b : Bool) → equal (w.c
 unfolding act
 open-is w u v k n o b slots is = ap (opened_by w v k) is ∙ ap (λ x. (cond x u (attempt_begun u k), o)) slots
 
-equal-same : (b : Bool) → equal b b ≡ true
-equal-same true = refl
-equal-same false = refl
-
-equal-other : (b : Bool) → equal b (not b) ≡ false
-equal-other true = refl
-equal-other false = refl
-
 slots-by : (counts : Bool) (s u : PlantState) (c : ConfigTable) (v : ℕ) (f : Fields) (t : Carried) → Came counts s u c v f t → equal (volume_seen s c v).slot (volume_seen u c v).slot ≡ not counts
-slots-by true s u c v f t came = ap (λ (x : Volume). equal (volume_seen s c v).slot x.slot) came.volume ∙ equal-other (volume_seen s c v).slot
+slots-by true s u c v f t came = ap (λ (x : Volume). equal (volume_seen s c v).slot x.slot) came.volume ∙ equal-not (volume_seen s c v).slot
 slots-by false s u c v f t came = ap (λ (x : Volume). equal (volume_seen s c v).slot x.slot) came.volume ∙ equal-same (volume_seen s c v).slot
 
 module _ {B : Type 0} (takes : B → News → Type 0) (after : News → B → B) (rest : B → Rest → Rest) (shows_rest : (n : News) (x : B) (r : Rest) → takes x n → rest (after n x) r ≡ rest_after n (rest x r)) (x y : B) where

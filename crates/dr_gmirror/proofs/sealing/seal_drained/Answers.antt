@@ -9,7 +9,7 @@ use Rattle.dr_moves.proofs.EntryLemmas.{counted-stop, only-stops, move-advances,
 use Rattle.dr_flash.proofs.CheckLemmas.{same-test, differ-test}
 use Rattle.dr_moves.proofs.TurnLemmas.{ok-along, err-along}
 use Rattle.dr_gmirror.proofs.SealLemmas.{refusal-drained, seal-skips, seal-comes, sync-kept}
-use Rattle.dr_gmirror.proofs.OrderedLemmas.{nothing-kept}
+use Rattle.dr_moves.proofs.ActedLemmas.{nothing-kept}
 use Rattle.dr_gmirror.proofs.sealing.seal_drained.Goals as goal
 
 pub returns-in-Some-clause-fails : goal.returns-in-Some-clause-fails

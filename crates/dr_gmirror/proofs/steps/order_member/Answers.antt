@@ -11,7 +11,8 @@ use Rattle.dr_moves.proofs.EntryLemmas.{counted-stop, one-checked}
 use Rattle.dr_moves.proofs.TurnLemmas.{ok-along}
 use Rattle.dr_gmirror.specs.Ordered.{at_once}
 use Rattle.dr_gmirror.specs.Orders.{sync_seen}
-use Rattle.dr_gmirror.proofs.OrderedLemmas.{ordered-as, ordered-one, ordered-ended, ordered-apart, nothing-kept}
+use Rattle.dr_gmirror.proofs.OrderedLemmas.{ordered-as, ordered-one, ordered-ended, ordered-apart}
+use Rattle.dr_moves.proofs.ActedLemmas.{nothing-kept}
 use Rattle.dr_gmirror.proofs.steps.order_member.Goals as goal
 
 pub returns-in-Hold : goal.returns-in-Hold
