@@ -15,7 +15,7 @@ use crate::taking::take_over_next;
 use dr_config::Config;
 use dr_ids::{Decision, Member, Refusal, SessionId};
 use dr_model::Journal;
-use dr_moves::{Entries, Next, carry};
+use dr_moves::{Entries, Next, Nothing, carry};
 use dr_plant::Plant;
 use dr_session::Sessions;
 
@@ -41,24 +41,26 @@ impl<'a> Steps<'a> {
     }
 }
 
-impl<'a, P: Plant> Entries<P> for Steps<'a> {
+impl<'a, P: Plant> Entries<P, Nothing> for Steps<'a> {
     ghost left = { λ x c. drop x.done (moves_of x.s.0 x.decided (model.members_in (model.session_in x.ss.now.sessions x.s.0))) };
 
     ghost first = { λ x c. get_or (moves_of x.s.0 x.decided (model.members_in (model.session_in x.ss.now.sessions x.s.0))) x.done pass_on };
 
-    ghost stands = { λ x s c. CanGo s c (model.members_in (model.session_in x.ss.now.sessions x.s.0)) };
+    ghost stands = { λ x s _ c. CanGo s c (model.members_in (model.session_in x.ss.now.sessions x.s.0)) };
 
-    ghost makes = { λ x done s u c. Unit {0} };
+    ghost makes = { λ x done s _ u _ c. Unit {0} };
 
     ghost refuses = { λ x c r. is_stop r ≡ true };
 
     ghost room = { λ x c. length (drop x.done (moves_of x.s.0 x.decided (model.members_in (model.session_in x.ss.now.sessions x.s.0)))) };
 
+    ghost most = { λ x c. length (drop x.done (moves_of x.s.0 x.decided (model.members_in (model.session_in x.ss.now.sessions x.s.0)))) + 1 };
+
     fn count(&self, config: &Config) -> usize {
         (self.members + self.members).saturating_sub(self.done)
     }
 
-    fn next(&mut self, plant: &P, config: &Config) -> Next {
+    fn next(&mut self, plant: &P, config: &Config, beside: &Nothing) -> Next {
         let at = self.done;
         self.done += 1;
         if at < self.members {
@@ -68,7 +70,7 @@ impl<'a, P: Plant> Entries<P> for Steps<'a> {
         }
     }
 
-    ghost none_left = { λ x s c none. tt };
+    ghost none_left = { λ x s y c none. tt };
 }
 
 /// Takes over the secondaries of a session's members, whose servers are on, in order of members, and then commits or reverts

@@ -3,7 +3,7 @@ use Rattle.dr_model.specs.Sessions.{session_in, members_in}
 use Rattle.dr_moves.specs.Here.{world_seen}
 use Rattle.dr_recover.proofs.EachLemmas.{target-running}
 use Rattle.dr_recover.proofs.StepLemmas.{move-taken, move-settled, can-still}
-use Rattle.dr_recover.proofs.steps.StepsEntries.next.Goals as goal
+use Rattle.dr_recover.proofs.steps.StepsEntriesNothing.next.Goals as goal
 
 pub take_over_next-requires-clause-secondary : goal.take_over_next-requires-clause-secondary
 take_over_next-requires-clause-secondary g c = (c.requires.stands.members c.args.self.now.done c.member.result c.member.ensures).secondary
