@@ -1,6 +1,6 @@
 -- A session whose attempt has begun: its members, its last number, and what may begin then.
 use Rattle.std.proofs.Common.{ℕ, ◌≡◌, ◌≤◌, ◌+◌, Bool, true, false, cond, ◌==◌, nat_lt, arith, List, [], ◌∷◌, refl, sym, ◌∙◌, ap, subst, Option, None, Some, option_map}
-use Rattle.std.specs.Prelude.{unwrap_or, Result, Ok, Err, OnOk, OnErr, if◌then◌else◌}
+use Rattle.std.specs.Prelude.{unwrap_or, Result, Ok, Err, IfOk, OnOk, OnErr, if◌then◌else◌}
 use Rattle.std.proofs.lemmas.Bool.{and_parts}
 use Rattle.std.proofs.lemmas.Bool.Decides.{nat_tests}
 use Rattle.dr_ids.specs.declared.names.Member.{Member}
@@ -20,7 +20,9 @@ use Rattle.dr_moves.specs.Made.{Kept}
 use Rattle.dr_moves.specs.Turns.{Leads, Fails}
 use Rattle.dr_coord.specs.Changes.{begins, begun_if, rest_after}
 use Rattle.dr_gmirror.specs.Orders.{with_sessions, last_in, to_begin, begun_in, MayBegin}
-use Rattle.dr_gmirror.specs.Ordered.{at_once, Ordered}
+use Rattle.dr_moves.proofs.KeptLemmas.{kept-more}
+use Rattle.dr_moves.proofs.TurnLemmas.{ok-along}
+use Rattle.dr_gmirror.specs.Ordered.{done_of, at_once, Ordered}
 
 -- the session that was changed
 pub session-changed : (s : ℕ) (f : Session → Session) → ((x : Session) → (f x).number ≡ x.number) → (ss : List Session) → session_in (changed s f ss) s ≡ option_map f (session_in ss s)
@@ -117,27 +119,22 @@ module _ (s u : PlantState) (t : ConfigTable) (old new : Log) (before after : Li
   rest-is : (r : Rest) → rest_after first s u t m.a.0 k (with_sessions before r) ≡ with_sessions after r
   rest-is r = begun-rest (begins first s u t m.a.0) before k r ∙ ap (λ z. with_sessions z r) (sym sessions)
 
+  by : (res : Result Bool Refusal) → OnOk res ((r : Rest) → Leads (was (with_sessions before r)) es (now (with_sessions after r))) → OnErr res ((r : Rest) → Fails (armed_in s) (was (with_sessions before r)) es (now (with_sessions after r)) (refusal_of res))
+      → IfOk res (λ w. w ≡ false) → Kept s u t old new (if first then 3 else 2) (is_stop (refusal_of res)) (done_of res) → OnOk res (old.spare ≤ new.spare + (if begins first s u t m.a.0 then 2 else 1)) → Ordered s u t old new before after phases.Hold k n (m ∷ []) res
+  by res leads fails waits kept left = record {
+    leads = leads;
+    fails = fails;
+    waits = waits;
+    sync = ok-along res left (λ h is. absurd (let no : true ≡ false = sym is in cc));
+    may = subst (λ z. MayBegin z k n) (sym sessions) (may-begun (begins first s u t m.a.0) before k n may low);
+    members = ap (λ z. members_in (session_in z k)) sessions ∙ members-begun (begins first s u t m.a.0) before k;
+    kept = kept-more s u t old new (if first then 3 else 2) (1 + (to_begin before k n + 1)) (done_of res) (let is = room-first before k n first is_first in omega (arith, is)) kept;
+    left = ok-along res left (λ h. subst (λ z. old.spare + to_begin z k n ≤ new.spare + (1 + to_begin before k n)) (sym sessions) (left-begun old.spare new.spare (begins first s u t m.a.0) before k n may low h));
+  }
+
   pub held-ordered : (res : Result (Unit {0}) Refusal) → OnOk res ((r : Rest) → nat_lt (last_of (was r).control k) n ≡ first → Leads (was r) es (now (rest_after first s u t m.a.0 k r)))
       → OnErr res ((r : Rest) → nat_lt (last_of (was r).control k) n ≡ first → Fails (armed_in s) (was r) es (now (rest_after first s u t m.a.0 k r)) (refusal_of res))
       → OnOk res (old.spare ≤ new.spare + (if begins first s u t m.a.0 then 2 else 1)) → Kept s u t old new (if first then 3 else 2) (is_stop (refusal_of res)) res
       → Ordered s u t old new before after phases.Hold k n (m ∷ []) (at_once res)
-  held-ordered (Ok x) leads fails left kept = record {
-    leads = λ r. subst (λ (z : Rest). Leads (was (with_sessions before r)) es (now z)) (rest-is r) (leads (with_sessions before r) (sym is_first));
-    fails = tt;
-    waits = refl;
-    sync = λ is. absurd cc;
-    may = subst (λ z. MayBegin z k n) (sym sessions) (may-begun (begins first s u t m.a.0) before k n may low);
-    members = ap (λ z. members_in (session_in z k)) sessions ∙ members-begun (begins first s u t m.a.0) before k;
-    kept = record { at = kept.at; aside = kept.aside; unarmed = kept.unarmed; faults = kept.faults; on = kept.on; room = let is = room-first before k n first is_first in let h = kept.room in omega (arith, is, h); spare = kept.spare };
-    left = subst (λ z. old.spare + to_begin z k n ≤ new.spare + (1 + to_begin before k n)) (sym sessions) (left-begun old.spare new.spare (begins first s u t m.a.0) before k n may low left);
-  }
-  held-ordered (Err e) leads fails left kept = record {
-    leads = tt;
-    fails = λ r. subst (λ (z : Rest). Fails (armed_in s) (was (with_sessions before r)) es (now z) (refusal_of {T = Unit {0}} (Err e))) (rest-is r) (fails (with_sessions before r) (sym is_first));
-    waits = tt;
-    sync = tt;
-    may = subst (λ z. MayBegin z k n) (sym sessions) (may-begun (begins first s u t m.a.0) before k n may low);
-    members = ap (λ z. members_in (session_in z k)) sessions ∙ members-begun (begins first s u t m.a.0) before k;
-    kept = record { at = kept.at; aside = kept.aside; unarmed = kept.unarmed; faults = kept.faults; on = tt; room = let is = room-first before k n first is_first in let h = kept.room in omega (arith, is, h); spare = kept.spare };
-    left = tt;
-  }
+  held-ordered (Ok x) leads fails left kept = by (Ok false) (λ r. subst (λ (z : Rest). Leads (was (with_sessions before r)) es (now z)) (rest-is r) (leads (with_sessions before r) (sym is_first))) tt refl kept left
+  held-ordered (Err e) leads fails left kept = by (Err e) tt (λ r. subst (λ (z : Rest). Fails (armed_in s) (was (with_sessions before r)) es (now z) (refusal_of {T = Unit {0}} (Err e))) (rest-is r) (fails (with_sessions before r) (sym is_first))) tt kept tt

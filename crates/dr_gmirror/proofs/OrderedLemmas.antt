@@ -1,6 +1,6 @@
 -- An order on members, one after the other.
 use Rattle.std.proofs.Common.{ℕ, suc, ◌≡◌, ◌≤◌, ◌+◌, Bool, true, false, ◌&&◌, ◌||◌, not, arith, List, [], ◌∷◌, ◌++◌, length, take, drop, slice_get, refl, sym, ◌∙◌, ap, subst, Some}
-use Rattle.std.specs.Prelude.{Result, Ok, Err, OnOk, OnErr}
+use Rattle.std.specs.Prelude.{Result, Ok, Err, IfOk, OnOk, OnErr}
 use Rattle.std.proofs.lemmas.List.{append_assoc, length-append, length-take}
 use Rattle.std.proofs.lemmas.List.Elements.{filter-append}
 use Rattle.std.proofs.lemmas.List.Filters.{length-filter_both}
@@ -22,12 +22,13 @@ use Rattle.dr_moves.specs.Checks.{is_stop}
 use Rattle.dr_moves.specs.Here.{world_seen, armed_in, refusal_of}
 use Rattle.dr_moves.specs.Made.{IsAt, Kept}
 use Rattle.dr_moves.specs.Turns.{Leads, Fails}
-use Rattle.dr_moves.proofs.ActedLemmas.{nothing-kept, least}
-use Rattle.dr_moves.proofs.KeptLemmas.{kept-then, wider-armed}
+use Rattle.dr_moves.proofs.ActedLemmas.{nothing-kept}
+use Rattle.dr_moves.proofs.KeptLemmas.{kept-more, kept-then, wider-armed}
 use Rattle.dr_moves.proofs.LeadLemmas.{then-leads, then-fails, fails-first}
+use Rattle.dr_moves.proofs.TurnLemmas.{ok-along, err-along}
 use Rattle.dr_gcopy.proofs.SendLemmas.{fails-wider}
 use Rattle.dr_gmirror.specs.Orders.{with_sessions, to_begin, MayOrder, is_seal, sync_seen, must_wait, waits_in}
-use Rattle.dr_gmirror.specs.Ordered.{at_once, Ordered}
+use Rattle.dr_gmirror.specs.Ordered.{done_of, at_once, Ordered}
 use Rattle.dr_gmirror.proofs.OrderLemmas.{waits-kept, waits-more, member-split}
 
 -- the members on a server: no more than all, and than all up to a place
@@ -64,43 +65,28 @@ module _ (s u : PlantState) (c : ConfigTable) (old new : Log) (ss : List Session
   abbrev es : List Entry
   es = order_entries work k n (m ∷ [])
 
-  pub ordered-one : (b : Bool) → ((r : Rest) → Leads (world_seen s c r old.events) es (world_seen u c r new.events)) → b ≡ waits_in work (sync_seen u c) (m ∷ []) → (is_seal work ≡ true → (q : ℕ) → sync_seen u c q ≡ sync_seen s c q)
-      → Kept s u c old new 2 false {E = Refusal} (Ok tt) → old.spare ≤ new.spare + 1 → Ordered s u c old new ss ss work k n (m ∷ []) (Ok b)
-  ordered-one b leads waits sync kept left = record {
-    leads = λ r. leads (with_sessions ss r);
-    fails = tt;
+  pub ordered-by : (res : Result Bool Refusal) → OnOk res ((r : Rest) → Leads (world_seen s c r old.events) es (world_seen u c r new.events)) → OnErr res ((r : Rest) → Fails (armed_in s) (world_seen s c r old.events) es (world_seen u c r new.events) (refusal_of res))
+      → IfOk res (λ waits. waits ≡ waits_in work (sync_seen u c) (m ∷ [])) → OnOk res (is_seal work ≡ true → (q : ℕ) → sync_seen u c q ≡ sync_seen s c q) → Kept s u c old new 2 (is_stop (refusal_of res)) (done_of res)
+      → OnOk res (old.spare ≤ new.spare + 1) → Ordered s u c old new ss ss work k n (m ∷ []) res
+  ordered-by res leads fails waits sync kept left = record {
+    leads = ok-along res leads (λ l r. l (with_sessions ss r));
+    fails = err-along res fails fails (λ f _ r. f (with_sessions ss r));
     waits = waits;
     sync = sync;
     may = may;
     members = refl;
-    kept = record { at = kept.at; aside = kept.aside; unarmed = kept.unarmed; faults = kept.faults; on = kept.on; room = least old.spare new.spare 2 (1 + (to_begin ss k n + 1)) kept.room (omega arith); spare = kept.spare };
-    left = omega (arith, left);
-  }
-
-  pub ordered-ended : (e : Refusal) → ((r : Rest) → Fails (armed_in s) (world_seen s c r old.events) es (world_seen u c r new.events) (refusal_of {T = Unit {0}} (Err e))) → Kept s u c old new 2 (is_stop (refusal_of {T = Unit {0}} (Err e))) {E = Refusal} (Err e)
-      → Ordered s u c old new ss ss work k n (m ∷ []) (Err e)
-  ordered-ended e fails kept = record {
-    leads = tt;
-    fails = λ r. fails (with_sessions ss r);
-    waits = tt;
-    sync = tt;
-    may = may;
-    members = refl;
-    kept = record { at = kept.at; aside = kept.aside; unarmed = kept.unarmed; faults = kept.faults; on = tt; room = least old.spare new.spare 2 (1 + (to_begin ss k n + 1)) kept.room (omega arith); spare = kept.spare };
-    left = tt;
+    kept = kept-more s u c old new 2 (1 + (to_begin ss k n + 1)) (done_of res) (omega arith) kept;
+    left = ok-along res left (λ h. omega (arith, h));
   }
 
   -- one that has to wait for nothing
   pub ordered-apart : (actual : Work) (res : Result (Unit {0}) Refusal) (r : Result Bool Refusal) → actual ≡ work → r ≡ at_once res → is_seal work ≡ false
       → OnOk res ((r : Rest) → Leads (world_seen s c r old.events) es (world_seen u c r new.events)) → OnErr res ((r : Rest) → Fails (armed_in s) (world_seen s c r old.events) es (world_seen u c r new.events) (refusal_of res))
       → Kept s u c old new 2 (is_stop (refusal_of res)) res → OnOk res (old.spare ≤ new.spare + 1) → Ordered s u c old new ss ss actual k n (m ∷ []) r
-  ordered-apart actual res r is says free leads fails kept left = ordered-as s u c old new ss ss work actual k n (m ∷ []) (at_once res) r is says (by res leads fails kept left)
-    where
-      by : (res : Result (Unit {0}) Refusal) → OnOk res ((r : Rest) → Leads (world_seen s c r old.events) es (world_seen u c r new.events)) → OnErr res ((r : Rest) → Fails (armed_in s) (world_seen s c r old.events) es (world_seen u c r new.events) (refusal_of res))
-          → Kept s u c old new 2 (is_stop (refusal_of res)) res → OnOk res (old.spare ≤ new.spare + 1) → Ordered s u c old new ss ss work k n (m ∷ []) (at_once res)
-      by (Ok x) leads fails kept left =
-          ordered-one false leads (sym (ap (λ b. b && (must_wait (sync_seen u c) m || false)) free)) (λ is. absurd (let no : true ≡ false = sym is ∙ free in cc)) kept left
-      by (Err e) leads fails kept left = ordered-ended e fails kept
+  ordered-apart actual (Ok x) r is says free leads fails kept left =
+      ordered-as s u c old new ss ss work actual k n (m ∷ []) (Ok false) r is says
+      (ordered-by (Ok false) leads tt (sym (ap (λ b. b && (must_wait (sync_seen u c) m || false)) free)) (λ is. absurd (let no : true ≡ false = sym is ∙ free in cc)) kept left)
+  ordered-apart actual (Err e) r is says free leads fails kept left = ordered-as s u c old new ss ss work actual k n (m ∷ []) (Err e) r is says (ordered-by (Err e) tt fails tt tt kept tt)
 
 -- and on those behind them
 module _ (s m u : PlantState) (c : ConfigTable) (old mid new : Log) (before amid after : List Session) (work : Work) (k n : ℕ) (xs ys : List Member) (a : Bool) (first : Ordered s m c old mid before amid work k n xs (Ok a)) where

@@ -11,7 +11,7 @@ use Rattle.dr_moves.proofs.EntryLemmas.{counted-stop, one-checked}
 use Rattle.dr_moves.proofs.TurnLemmas.{ok-along}
 use Rattle.dr_gmirror.specs.Ordered.{at_once}
 use Rattle.dr_gmirror.specs.Orders.{sync_seen}
-use Rattle.dr_gmirror.proofs.OrderedLemmas.{ordered-as, ordered-one, ordered-ended, ordered-apart}
+use Rattle.dr_gmirror.proofs.OrderedLemmas.{ordered-as, ordered-by, ordered-apart}
 use Rattle.dr_moves.proofs.ActedLemmas.{nothing-kept}
 use Rattle.dr_gmirror.proofs.steps.order_member.Goals as goal
 
@@ -61,7 +61,7 @@ returns-in-Ok g c =
     let t = c.args.config.now in
     let m = c.args.m.now in
     ordered-as s u t c.args.journal.now c.seal.new.journal c.args.ss.now.sessions c.args.ss.now.sessions phases.Seal (work_of c.args.kind) c.args.s.0 c.args.n (m ∷ []) _ _ (ap work_of c.in-Seal.is) refl
-    (ordered-one s u t c.args.journal.now c.seal.new.journal c.args.ss.now.sessions phases.Seal c.args.s.0 c.args.n m tt (not c.in-Ok.done) c.in-Ok.ensures.leads
+    (ordered-by s u t c.args.journal.now c.seal.new.journal c.args.ss.now.sessions phases.Seal c.args.s.0 c.args.n m tt (Ok (not c.in-Ok.done)) c.in-Ok.ensures.leads tt
     (ap not (c.in-Ok.ensures.drained ∙ ap is_bare (sym (c.in-Ok.ensures.kept m.a.0))) ∙ sym (or-false (not (is_bare (sync_seen u t m.a.0)))))
     (λ _. c.in-Ok.ensures.kept)
     (search (rules, c.in-Ok.ensures.faults, c.in-Ok.ensures.on))
@@ -73,8 +73,7 @@ returns-in-Err g c =
     let u = g.P.Plant.state c.seal.new.plant in
     let t = c.args.config.now in
     ordered-as s u t c.args.journal.now c.seal.new.journal c.args.ss.now.sessions c.args.ss.now.sessions phases.Seal (work_of c.args.kind) c.args.s.0 c.args.n (c.args.m.now ∷ []) _ _ (ap work_of c.in-Seal.is) refl
-    (ordered-ended s u t c.args.journal.now c.seal.new.journal c.args.ss.now.sessions phases.Seal c.args.s.0 c.args.n c.args.m.now tt c.in-Err.why c.in-Err.ensures.fails
-    (search (rules, c.in-Err.ensures.faults)))
+    (ordered-by s u t c.args.journal.now c.seal.new.journal c.args.ss.now.sessions phases.Seal c.args.s.0 c.args.n c.args.m.now tt (Err c.in-Err.why) tt c.in-Err.ensures.fails tt tt (search (rules, c.in-Err.ensures.faults)) tt)
 
 pub returns-in-None : goal.returns-in-None
 returns-in-None g c =
@@ -83,8 +82,8 @@ returns-in-None g c =
     let a = c.args.m.now.a.0 in
     let b = c.args.m.now.b.0 in
     ordered-as s s t c.args.journal.now c.args.journal.now c.args.ss.now.sessions c.args.ss.now.sessions phases.Report (work_of c.args.kind) c.args.s.0 c.args.n (c.args.m.now ∷ []) _ _ (ap work_of c.in-Report.is) refl
-    (ordered-one s s t c.args.journal.now c.args.journal.now c.args.ss.now.sessions phases.Report c.args.s.0 c.args.n c.args.m.now tt false
-    (λ r. one-checked (world_seen s t r c.args.journal.now.events) (reach_refusal a b) None (c.in-None.ensures.refusal r c.args.journal.now.events)) refl (λ _ q. refl)
+    (ordered-by s s t c.args.journal.now c.args.journal.now c.args.ss.now.sessions phases.Report c.args.s.0 c.args.n c.args.m.now tt (Ok false)
+    (λ r. one-checked (world_seen s t r c.args.journal.now.events) (reach_refusal a b) None (c.in-None.ensures.refusal r c.args.journal.now.events)) tt refl (λ _ q. refl)
     (nothing-kept s t c.args.journal.now (Ok tt) c.requires.at refl 2 refl) (omega arith))
 
 pub returns-in-Some : goal.returns-in-Some
@@ -94,6 +93,6 @@ returns-in-Some g c =
     let a = c.args.m.now.a.0 in
     let b = c.args.m.now.b.0 in
     ordered-as s s t c.args.journal.now c.args.journal.now c.args.ss.now.sessions c.args.ss.now.sessions phases.Report (work_of c.args.kind) c.args.s.0 c.args.n (c.args.m.now ∷ []) _ _ (ap work_of c.in-Report.is) refl
-    (ordered-ended s s t c.args.journal.now c.args.journal.now c.args.ss.now.sessions phases.Report c.args.s.0 c.args.n c.args.m.now tt c.in-Some.why
-    (λ r. one-checked (world_seen s t r c.args.journal.now.events) (reach_refusal a b) (Some c.in-Some.why) (c.in-Some.ensures.refusal r c.args.journal.now.events) (armed_in s))
-    (nothing-kept s t c.args.journal.now (Err c.in-Some.why) c.requires.at c.in-Some.ensures.calm 2 tt))
+    (ordered-by s s t c.args.journal.now c.args.journal.now c.args.ss.now.sessions phases.Report c.args.s.0 c.args.n c.args.m.now tt (Err c.in-Some.why) tt
+    (λ r. one-checked (world_seen s t r c.args.journal.now.events) (reach_refusal a b) (Some c.in-Some.why) (c.in-Some.ensures.refusal r c.args.journal.now.events) (armed_in s)) tt tt
+    (nothing-kept s t c.args.journal.now (Err c.in-Some.why) c.requires.at c.in-Some.ensures.calm 2 tt) tt)
