@@ -66,7 +66,13 @@ impl<'a, P: Plant> Entries<P, Nothing> for Steps<'a> {
         if at < self.members {
             take_over_next(plant, config, &self.member(at))
         } else {
-            settle_next(plant, config, self.s, self.decided, &self.member(at - self.members))
+            settle_next(
+                plant,
+                config,
+                self.s,
+                self.decided,
+                &self.member(at - self.members),
+            )
         }
     }
 
