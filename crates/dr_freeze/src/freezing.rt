@@ -19,7 +19,8 @@ use crate::checks::{freeze_refusal, thaw_refusal};
 use crate::passing::change_all;
 use dr_config::Config;
 use dr_ids::{Lss, Refusal};
-use dr_model::{Event, Journal};
+use dr_model::Journal;
+use dr_moves::{Act, Nothing, perform};
 use dr_plant::Plant;
 
 /// The path is removed, and the journal is told that the freeze ended.
@@ -30,8 +31,7 @@ fn end_freeze(config: &mut Config, journal: &mut Journal, l: Lss, m: Lss)
     ensures room { journal.old.spare ≡ journal.new.spare + 1 }
     ensures spare { length journal.new.events + journal.new.spare ≡ length journal.old.events + journal.old.spare }
 {
-    config.remove_path(l, m);
-    journal.push(Event::Frozen { src: l.0, tgt: m.0 });
+    perform(journal, config, &Act::EndFreeze { l, m });
 }
 
 /// The journal is told that the thaw ended.
@@ -41,7 +41,7 @@ fn end_thaw(journal: &mut Journal, l: Lss, m: Lss)
     ensures room { journal.old.spare ≡ journal.new.spare + 1 }
     ensures spare { length journal.new.events + journal.new.spare ≡ length journal.old.events + journal.old.spare }
 {
-    journal.push(Event::Thawed { src: l.0, tgt: m.0 });
+    perform(journal, &mut Nothing, &Act::EndThaw { l, m });
 }
 
 /// Freezes the pairs from logical subsystem l, which has a volume, to m: each primary in l with its secondary in m is

@@ -22,7 +22,8 @@ use crate::steps::carry_all;
 use dr_config::Config;
 use dr_gmirror::{decide_over, secondary_refusal};
 use dr_ids::{Decision, Refusal, SessionId};
-use dr_model::{Event, Journal};
+use dr_model::Journal;
+use dr_moves::{Act, Nothing, perform};
 use dr_plant::Plant;
 use dr_session::Sessions;
 
@@ -51,10 +52,8 @@ fn end_recovery(journal: &mut Journal, s: SessionId, group: Option<u32>)
     ensures room { journal.old.spare ≡ journal.new.spare + 1 }
     ensures spare { length journal.new.events + journal.new.spare ≡ length journal.old.events + journal.old.spare }
 {
-    journal.push(Event::Recovered {
-        session: s.0,
-        group: group.unwrap_or(0),
-    });
+    let n = group.unwrap_or(0);
+    perform(journal, &mut Nothing, &Act::EndRecovery { s, n });
 }
 
 /// Recovers a session: what is to be done with its members' targets is decided by what they show; each secondary is taken
