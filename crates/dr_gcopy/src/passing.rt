@@ -27,7 +27,7 @@ use dr_config::Config;
 use dr_flash::copy_first;
 use dr_ids::{Refusal, VolumeId};
 use dr_model::Journal;
-use dr_moves::{Telling, Told, read_told, shift, struck};
+use dr_moves::{Move, make_move_by, read_told};
 use dr_plant::{Block, Plant};
 use dr_volume::{Fields, peek_fields};
 
@@ -51,16 +51,8 @@ fn strike_by<P: Plant>(
     ensures stops { OnErr result (is_stop (refusal_of result) ≡ true) }
     ensures moved { OnOk result (IsMoved (P.state plant.old) (P.state plant.new) config.now a.0 (pairs.struck last (volume_seen (P.state plant.old) config.now a.0).fields t) None) }
 {
-    let next = struck(last, fields, t);
-    shift(
-        plant,
-        config,
-        journal,
-        a,
-        &next,
-        None,
-        &Telling::of(Told::Nothing),
-    )
+    let strike = Move::Strike { v: a, t, last };
+    make_move_by(plant, config, journal, &strike, fields, None)
 }
 
 /// Secondary b stores these bytes of track t of its primary a, which then strikes the track off.

@@ -17,8 +17,8 @@ ghost use Rattle.dr_moves.specs.Turns.{Advances, Halts};
 
 use dr_config::Config;
 use dr_ids::{Refusal, VolumeId};
-use dr_model::{Event, Journal};
-use dr_moves::{Move, Telling, Told, make_move, received, shift};
+use dr_model::Journal;
+use dr_moves::{Move, make_move, make_move_by};
 use dr_plant::{Block, Plant};
 use dr_volume::peek_fields;
 
@@ -59,13 +59,14 @@ pub fn store<P: Plant>(
     ensures spare { length journal.new.events + journal.new.spare ≡ length journal.old.events + journal.old.spare }
 {
     let track = *bytes;
-    let next = received(last, &peek_fields(plant, config, b), t);
-    let told = Telling::of(Told::One(Event::Sent {
-        volume: a.0,
-        track: t,
-        to: b.0,
-    }));
-    shift(plant, config, journal, b, &next, Some((t, track)), &told)
+    let fields = peek_fields(plant, config, b);
+    let store = Move::Store {
+        v: b,
+        t,
+        u: a,
+        last,
+    };
+    make_move_by(plant, config, journal, &store, &fields, Some((t, track)))
 }
 
 /// Primary a, whose server is on, strikes off track t, which its secondary has stored. With the last track of a Metro

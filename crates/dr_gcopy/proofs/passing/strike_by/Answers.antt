@@ -1,58 +1,23 @@
-use Rattle.std.proofs.Common.{◌≡◌, ◌≢◌, arith, ap, refl, sym, subst, ◌∙◌, None, length}
+use Rattle.std.proofs.Common.{◌≢◌, arith, ap, sym}
 use Rattle.dr_model.specs.Carry.{Do, Make}
-use Rattle.dr_model.specs.Histories.{histories}
-use Rattle.dr_model.specs.Layout.{Fields}
-use Rattle.dr_model.specs.Lawful.{IsLawful}
 use Rattle.dr_model.specs.Moves.{Strike}
 use Rattle.dr_model.specs.PairEntries.{strike_on}
-use Rattle.dr_model.specs.Pairs.{struck}
-use Rattle.dr_volume.specs.Plain.{plain}
-use Rattle.dr_volume.specs.Update.{IsMoved}
 use Rattle.dr_volume.specs.View.{volume_seen}
 use Rattle.dr_moves.specs.Checks.{is_stop}
-use Rattle.dr_moves.specs.Told.{events_of}
-use Rattle.dr_moves.specs.Turns.{room_of}
-use Rattle.dr_moves.specs.declared.told.Telling.{Telling}
-use Rattle.dr_moves.proofs.EnteredLemmas.{entered-so}
-use Rattle.dr_moves.proofs.MoveFits.{fits-by}
 use Rattle.dr_moves.proofs.TurnLemmas.{ok-along, err-along}
 use Rattle.dr_gcopy.proofs.RanLemmas.{ran-made, stays-by}
 use Rattle.dr_gcopy.proofs.passing.strike_by.Goals as goal
 
-pub shift-requires-clause-lawful : goal.shift-requires-clause-lawful
-shift-requires-clause-lawful g c =
-    let s = g.P.Plant.state c.args.plant.now in
-    let t = c.args.config.now in
-    (fits-by s t c.requires.at.fit (Strike c.args.a.0 c.args.t c.args.last) c.args.a.0 (plain c.struck-next.result) None (histories c.args.journal.now.events).write refl (c.struck-next.ensures ∙ ap (λ (f : Fields). struck c.args.last f c.args.t) c.requires.says.fields) refl
-    (subst (λ (f : Fields). IsLawful (volume_seen s t c.args.a.0).tracks f) c.requires.says.fields c.requires.says.lawful) c.requires.may.asks).lawful
-
-pub shift-requires-clause-leaves : goal.shift-requires-clause-leaves
-shift-requires-clause-leaves g c =
-    let s = g.P.Plant.state c.args.plant.now in
-    let t = c.args.config.now in
-    (fits-by s t c.requires.at.fit (Strike c.args.a.0 c.args.t c.args.last) c.args.a.0 (plain c.struck-next.result) None (histories c.args.journal.now.events).write refl (c.struck-next.ensures ∙ ap (λ (f : Fields). struck c.args.last f c.args.t) c.requires.says.fields) refl
-    (subst (λ (f : Fields). IsLawful (volume_seen s t c.args.a.0).tracks f) c.requires.says.fields c.requires.says.lawful) c.requires.may.asks).leaves
-
 pub returns-clause-ran : goal.returns-clause-ran
 returns-clause-ran g c =
     let s = g.P.Plant.state c.args.plant.now in
-    let u = g.P.Plant.state c.shift.new.plant in
+    let u = g.P.Plant.state c.make_move_by.new.plant in
     let t = c.args.config.now in
-    let m = Strike c.args.a.0 c.args.t c.args.last in
-    let h = c.shift.ensures in
-    let entered = entered-so s u t c.args.journal.now.events c.shift.new.journal.events m c.args.a.0 (plain c.struck-next.result) None c.of.result refl refl c.requires.may.running (c.struck-next.ensures ∙ ap (λ (f : Fields). struck c.args.last f c.args.t) c.requires.says.fields) refl
-    (sym (ap (λ (y : Telling). events_of y.done) c.of.ensures)) (sym (ap (λ (y : Telling). events_of y.in_stop) c.of.ensures)) (sym (ap (λ (y : Telling). y.landed) c.of.ensures)) c.shift.result h.done h.failed h.refused in
-    ran-made s u t c.args.journal.now c.shift.new.journal m (strike_on c.args.a.0 c.args.t) (λ q. q ≢ c.args.a.0) 1 0 c.shift.result (λ r. ap (λ l. Do (Make (Strike c.args.a.0 c.args.t l))) (sym c.requires.last)) entered.advances entered.halts
-    (stays-by s u t c.args.journal.now c.shift.new.journal (λ q. q ≢ c.args.a.0) 1 0 (volume_seen s t c.args.a.0).server c.shift.result h.refused h.rest h.fit h.unarmed h.faults h.others h.on
-    (let few : room_of c.of.result ≡ 1 = ap room_of c.of.ensures in let most = h.room in omega (arith, few, most))
-    (let none : length (events_of c.of.result.done) ≡ 0 = ap (λ (y : Telling). length (events_of y.done)) c.of.ensures in ok-along c.shift.result h.room_left (λ is. omega (arith, none, is))) h.spare)
+    let h = c.make_move_by.ensures in
+    let k = h.kept in
+    ran-made s u t c.args.journal.now c.make_move_by.new.journal (Strike c.args.a.0 c.args.t c.args.last) (strike_on c.args.a.0 c.args.t) (λ q. q ≢ c.args.a.0) 1 0 c.make_move_by.result (λ r. ap (λ l. Do (Make (Strike c.args.a.0 c.args.t l))) (sym c.requires.last)) h.entered.advances h.entered.halts
+    (stays-by s u t c.args.journal.now c.make_move_by.new.journal (λ q. q ≢ c.args.a.0) 1 0 (volume_seen s t c.args.a.0).server c.make_move_by.result h.entered.refused k.at.rest k.at.fit k.unarmed k.faults h.others k.on k.room
+    (ok-along c.make_move_by.result h.room_left (λ is. omega (arith, is))) k.spare)
 
 pub returns-clause-stops : goal.returns-clause-stops
-returns-clause-stops g c = err-along c.shift.result c.shift.ensures.refused c.shift.ensures.refused (λ refused _. ap is_stop refused)
-
-pub returns-clause-moved : goal.returns-clause-moved
-returns-clause-moved g c =
-    let s = g.P.Plant.state c.args.plant.now in
-    let u = g.P.Plant.state c.shift.new.plant in
-    let t = c.args.config.now in
-    ok-along c.shift.result c.shift.ensures.moved (λ is. subst (λ f. IsMoved s u t c.args.a.0 f None) (c.struck-next.ensures ∙ ap (λ (f : Fields). struck c.args.last f c.args.t) c.requires.says.fields) is)
+returns-clause-stops g c = err-along c.make_move_by.result c.make_move_by.ensures.entered.refused c.make_move_by.ensures.entered.refused (λ refused _. ap is_stop refused)
