@@ -89,6 +89,8 @@ impl<P: Plant> Entries<P, Nothing> for Turn {
 
     ghost makes = { λ t done s _ u _ c. Makes t.stage done s u c t.x.0 t.y.0 };
 
+    ghost refuses = { λ t c r. is_stop r ≡ true };
+
     ghost room = { λ t c. 0 };
 
     ghost most = { λ t c. 1 };

@@ -2,19 +2,10 @@ use Rattle.std.proofs.Common.{[], refl}
 use Rattle.dr_volume.specs.View.{Rest}
 use Rattle.dr_moves.specs.Here.{world_seen, armed_in}
 use Rattle.dr_moves.proofs.TurnLemmas.{ok-along, err-along}
-use Rattle.dr_gcopy.proofs.BothLemmas.{stops-alone}
 use Rattle.dr_failover.specs.Steps.{failback_moves}
 use Rattle.dr_failover.specs.Turning.{BothMade}
 use Rattle.dr_failover.proofs.TurningLemmas.{made-ok}
 use Rattle.dr_failover.proofs.turning.turn_both.Goals as goal
-
-pub returns-clause-stops : goal.returns-clause-stops
-returns-clause-stops g c =
-    let s = g.P.Plant.state c.args.plant.now in
-    let t = c.args.config.now in
-    let r : Rest = record { issued = 0; pending = []; sessions = []; events = [] } in
-    stops-alone (armed_in s) (world_seen s t r c.args.journal.now.events) (world_seen (g.P.Plant.state c.carry.new.plant) t r c.carry.new.journal.events) (failback_moves c.args.x.0 c.args.y.0) (λ k. tt, (λ k. tt, tt))
-    c.carry.result (err-along c.carry.result c.carry.ensures.fails c.carry.ensures.fails (λ fails _. fails r))
 
 pub returns-clause-turned : goal.returns-clause-turned
 returns-clause-turned g c =

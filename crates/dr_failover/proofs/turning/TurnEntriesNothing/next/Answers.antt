@@ -4,6 +4,8 @@ use Rattle.dr_model.specs.Moves.{target, told}
 use Rattle.dr_volume.specs.View.{volume_seen}
 use Rattle.dr_moves.specs.Coming.{MayMake, WentBy, CutBy}
 use Rattle.dr_moves.specs.Here.{world_seen}
+use Rattle.dr_moves.proofs.ActedLemmas.{goes-stops}
+use Rattle.dr_moves.specs.declared.carrying.Next.TheVariants as TheNext
 use Rattle.dr_failover.specs.Turning.{entry_of, CanGo, Makes}
 use Rattle.dr_failover.proofs.TurningLemmas.{fall-may, yield-may, fall-stands, fall-goes, fall-cut, yield-goes, yield-cut}
 use Rattle.dr_failover.proofs.turning.TurnEntriesNothing.next.Goals as goal
@@ -84,3 +86,9 @@ returns-in-Follow-clause-most g c = subst (λ m. length (told m (volume_seen (g.
 
 pub returns-in-Follow-clause-stop : goal.returns-in-Follow-clause-stop
 returns-in-Follow-clause-stop g c = subst (λ m. length (told m (volume_seen (g.P.Plant.state c.args.plant.now) c.args.config.now (target m))) + 1 ≤ 1) (sym c.yield_on.ensures) (omega arith)
+
+pub returns-in-Fall-clause-refused : goal.returns-in-Fall-clause-refused
+returns-in-Fall-clause-refused g c = goes-stops (g.P.Plant.state c.args.plant.now) c.args.config.now (TheNext.Do c.fall_back_on.result) tt
+
+pub returns-in-Follow-clause-refused : goal.returns-in-Follow-clause-refused
+returns-in-Follow-clause-refused g c = goes-stops (g.P.Plant.state c.args.plant.now) c.args.config.now (TheNext.Do c.yield_on.result) tt
