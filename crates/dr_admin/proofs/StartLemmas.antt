@@ -14,20 +14,19 @@ use Rattle.dr_config.specs.declared.entries.VolumeEntry.{VolumeEntry}
 use Rattle.dr_config.proofs.Lists.{position-within}
 use Rattle.dr_host.specs.Writes as writes
 use Rattle.dr_host.specs.Writes.{Writes, has_owner, without}
-use Rattle.dr_host.proofs.Seen.{seen-landed, seen-without}
+use Rattle.dr_host.proofs.Seen.{seen-landed}
 use Rattle.dr_model.specs.declared.event.Event.{Event}
-use Rattle.dr_model.specs.declared.event.Event.TheVariants.{Ack, Started}
+use Rattle.dr_model.specs.declared.event.Event.TheVariants.{Started}
 use Rattle.dr_model.specs.declared.said.Addition.TheVariants.{Alone}
 use Rattle.dr_model.specs.declared.said.Said.TheVariants.{Done, Refused}
 use Rattle.dr_model.specs.Control.{World}
-use Rattle.dr_model.specs.Carry.{Entry, Do, Pass, Make, Redo, Acknowledge, acknowledged}
+use Rattle.dr_model.specs.Carry.{Entry, Do, Pass, Make, Redo, Acknowledge}
 use Rattle.dr_model.specs.ReadStops.{Ends}
 use Rattle.dr_model.specs.Plans.{Plan, only_says, landed_on, acknowledge_if, acknowledge_on, says_acked, fuse_at_start, starting, start_plan, start_on}
 use Rattle.dr_model.specs.Entries.{fields_at}
 use Rattle.dr_model.specs.Moves.{Restart}
 use Rattle.dr_model.specs.Pairs.{must_restart}
 use Rattle.dr_model.specs.WriteEntries.{redo_on, restart_on, start_entries}
-use Rattle.dr_model.proofs.CarryLemmas.{act-acknowledge}
 use Rattle.dr_volume.specs.View.{Rest, volume_seen, volume_at, ids_of, fuses_seen, fuse_seen, IsSettled, TracksSettled}
 use Rattle.dr_volume.specs.Update.{IsAsBefore}
 use Rattle.dr_volume.proofs.WorldLaws.{on-at, on-seen, fuses-at, fuse-seen}
@@ -35,7 +34,7 @@ use Rattle.dr_moves.specs.Here.{world_seen, armed_in, IsAtRest}
 use Rattle.dr_moves.specs.Turns.{Advances, Halts}
 use Rattle.dr_flash.proofs.CopyLemmas.{ids-next}
 use Rattle.dr_moves.proofs.KeptLemmas.{wider-armed}
-use Rattle.dr_facts.proofs.Ends.{ends-none, ends-skips, ends-goes, ends-wider}
+use Rattle.dr_facts.proofs.Ends.{ends-none, ends-skips, ends-wider}
 use Rattle.dr_moves.specs.Ready.{StandsReady, Stayed}
 use Rattle.dr_model.specs.Log.{Log}
 use Rattle.dr_logic.specs.Counts.{Counted}
@@ -302,16 +301,8 @@ module _ (s : PlantState) (t : ConfigTable) (r : Rest) (h : Writes) (ev : List E
   pub acked-none : (armed : ℕ → Bool) → writes.landed_on t server h.pending ≡ None → Ends armed x None x (acknowledge_on server ∷ [])
   acked-none armed none = ends-skips armed x None x (acknowledge_on server) [] (ap acknowledge_if (sym landed-here ∙ none)) (ends-none armed x None x (record { world = refl; refusal = refl }))
 
-  acked-is : (n : ℕ) (h' : Writes) (now : List Event) → h' ≡ without h n → now ≡ ev ++ Ack n ∷ [] → hosted s t r h' now ≡ acknowledged x n
-  acked-is n h' now gone told =
-      ap (λ (y : Writes). hosted s t r y now) gone
-      ∙ (λ i. record x { control = record x.control { pending = seen-without n h.pending i }; events = told i })
-
-  pub acked-one : (armed : ℕ → Bool) (n : ℕ) (h' : Writes) (now : List Event) → writes.landed_on t server h.pending ≡ Some n → h' ≡ without h n → now ≡ ev ++ Ack n ∷ []
-      → Ends armed (hosted s t r h' now) None x (acknowledge_on server ∷ [])
-  acked-one armed n h' now one gone told =
-      ends-goes armed (hosted s t r h' now) None x (acknowledged x n) (acknowledge_on server) [] (Acknowledge n) (ap acknowledge_if (sym landed-here ∙ one)) (act-acknowledge x n)
-      (ends-none armed (hosted s t r h' now) None (acknowledged x n) (record { world = acked-is n h' now gone told; refusal = refl }))
+  pub acked-comes : (n : ℕ) → writes.landed_on t server h.pending ≡ Some n → acknowledge_on server x.control ≡ Do (Acknowledge n)
+  acked-comes n one = ap acknowledge_if (sym landed-here ∙ one)
 
   -- ---- the plan of a start
 

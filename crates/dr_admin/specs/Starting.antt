@@ -4,7 +4,7 @@ use Rattle.std.specs.Prelude.{◌≡◌, ℕ, ◌≤◌, ◌⊎◌, Bool, ◌&&�
 use Rattle.dr_ids.specs.declared.names.VolumeId.{VolumeId}
 use Rattle.dr_plant.specs.State.{PlantState}
 use Rattle.dr_config.specs.Table.{ConfigTable, StandsFor, place_of}
-use Rattle.dr_host.specs.Seen as host
+use Rattle.dr_host.specs.Hearing.{with_writes}
 use Rattle.dr_host.specs.Writes.{Writes, landed_on, without}
 use Rattle.dr_model.specs.Carry.{Entry}
 use Rattle.dr_model.specs.Control.{World}
@@ -18,10 +18,6 @@ use Rattle.dr_moves.specs.Here.{world_seen}
 use Rattle.dr_moves.specs.declared.carrying.Next.{Next}
 use Rattle.dr_moves.specs.declared.carrying.Next.TheVariants as next
 use Rattle.dr_moves.specs.declared.moves.Move.TheVariants as move
-
--- the rest of a state, with the host's writes in it
-abbrev pub with_writes : Rest → Writes → Rest
-with_writes r h = record r { issued = h.issued; pending = map host.pending_seen h.pending }
 
 -- the state that plant, configuration, the rest, the host's writes and a journal show
 abbrev pub hosted : PlantState → ConfigTable → Rest → Writes → List Event → World

@@ -26,7 +26,7 @@ use dr_coord::restart;
 use dr_host::Host;
 use dr_ids::{Refusal, ServerId, VolumeId, WriteId};
 use dr_model::{Event, Journal};
-use dr_moves::place_staged;
+use dr_moves::{Act, perform, place_staged};
 use dr_plant::Plant;
 
 /// Acknowledges the write that had landed on a volume of the server in a stop, where there is one, and gives its number. The
@@ -42,8 +42,7 @@ fn acknowledge(config: &Config, journal: &mut Journal, h: &mut Host, s: ServerId
     let Some(w) = h.landed_on(config, s) else {
         return None;
     };
-    h.finish(w);
-    journal.push(Event::Ack { w: w.0 });
+    perform(journal, h, &Act::Acknowledge { w });
     Some(w)
 }
 

@@ -1,5 +1,5 @@
 -- What the machine has of the pending writes, after each call.
-use Rattle.std.proofs.Common.{◌≡◌, ℕ, true, false, not, cond, ◌&&◌, nat_le, List, [], ◌∷◌, ◌++◌, length, map, filter, replicate, ◌-◌, Some, None, option_map, refl, sym, ◌∙◌, ap}
+use Rattle.std.proofs.Common.{◌≡◌, ℕ, true, false, cond, ◌&&◌, nat_le, List, [], ◌∷◌, ◌++◌, length, map, replicate, ◌-◌, Some, None, option_map, refl, sym, ◌∙◌, ap}
 use Rattle.std.specs.List.{find}
 use Rattle.std.proofs.lemmas.List.{map-append, length-map}
 use Rattle.std.proofs.Math.Seq.{take-append_seam}
@@ -13,27 +13,9 @@ use Rattle.dr_model.specs.Moves as moves
 use Rattle.dr_model.specs.Plans as plans
 use Rattle.dr_model.specs.WriteEntries as writes
 use Rattle.dr_host.specs.declared.pending.Pending.{Pending}
-use Rattle.dr_host.specs.Writes.{Writes, number, has_number, is_other, bytes_of, written, marked, issue_refusal, has_owner, has_landed, landed_on}
+use Rattle.dr_host.specs.Writes.{Writes, number, has_number, bytes_of, written, issue_refusal, has_owner, has_landed, landed_on}
 use Rattle.dr_host.specs.Seen.{pending_seen}
-use Rattle.dr_host.proofs.Each.{landed_is}
-
--- one has landed
-pub seen-marked : (n : ℕ) (ps : List Pending) → map pending_seen (marked n ps) ≡ moves.marked n (map pending_seen ps)
-seen-marked n [] = refl
-seen-marked n (p ∷ ps) =
-    elim (has_number n p) as (λ b. (pending_seen (cond b (landed_is p) p) ∷ map pending_seen (marked n ps)) ≡ cond b (record (pending_seen p) { landed = true }) (pending_seen p) ∷ moves.marked n (map pending_seen ps)) [
-      | true ↦ ap (λ xs. pending_seen (landed_is p) ∷ xs) (seen-marked n ps)
-      | false ↦ ap (λ xs. pending_seen p ∷ xs) (seen-marked n ps)
-    ]
-
--- one is acknowledged
-pub seen-without : (n : ℕ) (ps : List Pending) → map pending_seen (filter (is_other n) ps) ≡ filter (moves.is_other n) (map pending_seen ps)
-seen-without n [] = refl
-seen-without n (p ∷ ps) =
-    elim (has_number n p) as (λ b. map pending_seen (cond (not b) (p ∷ filter (is_other n) ps) (filter (is_other n) ps)) ≡ cond (not b) (pending_seen p ∷ filter (moves.is_other n) (map pending_seen ps)) (filter (moves.is_other n) (map pending_seen ps))) [
-      | true ↦ seen-without n ps
-      | false ↦ ap (λ xs. pending_seen p ∷ xs) (seen-without n ps)
-    ]
+pub use Rattle.dr_host.specs.Seen.{seen-marked, seen-without}
 
 -- one more is issued
 pub seen-push : (ps : List Pending) (n v track offset : ℕ) (bytes : List ℕ)

@@ -1,13 +1,14 @@
 use Rattle.std.proofs.Common.{sym, ap, ◌∙◌, subst, [], ◌∷◌, ◌++◌, Some, None}
 use Rattle.dr_logic.specs.Counts.{Rose}
 use Rattle.dr_plant.specs.State.{PlantState}
+use Rattle.dr_host.specs.Hearing.{with_writes}
 use Rattle.dr_model.specs.Plans.{acknowledge_on}
 use Rattle.dr_model.specs.ReadStops.{Ends}
 use Rattle.dr_moves.specs.Here.{armed_in}
 use Rattle.dr_moves.proofs.KeptLemmas.{wider-armed}
 use Rattle.dr_facts.proofs.Ends.{ends-wider}
 use Rattle.dr_admin.specs.Answering.{write_number}
-use Rattle.dr_admin.specs.Starting.{hosted, with_writes, IsStarting, start_from, acks}
+use Rattle.dr_admin.specs.Starting.{hosted, IsStarting, start_from, acks}
 use Rattle.dr_admin.proofs.StartLemmas.{starting-first, started-unarmed, started-faults, started-on, comes-done, comes-failed, told-both}
 use Rattle.dr_admin.proofs.starting.turn_on.Goals as goal
 
