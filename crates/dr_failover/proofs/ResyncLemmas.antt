@@ -19,7 +19,7 @@ use Rattle.dr_model.specs.Relations.{lowest, in_order}
 use Rattle.dr_facts.proofs.Ends.{ends-passed, ends-none}
 use Rattle.dr_moves.specs.Checks.{Checked, is_stop}
 use Rattle.dr_moves.proofs.EntryLemmas.{refuses}
-use Rattle.dr_gcopy.specs.Followed.{Follows, EndsFollowed}
+use Rattle.dr_moves.specs.Followed.{Follows, EndsFollowed}
 use Rattle.dr_gcopy.proofs.DrainLemmas.{first-some, first-none}
 use Rattle.dr_failover.specs.Steps.{copying_refusal, copying_checks}
 

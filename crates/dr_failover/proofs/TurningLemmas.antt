@@ -1,6 +1,5 @@
 -- The two moves of a failback: what they ask, and what they leave.
 use Rattle.std.proofs.Common.{ℕ, ◌≡◌, inr, Bool, true, false, refl, sym, ◌∙◌, ap, subst, None}
-use Rattle.std.specs.Prelude.{Result, Ok, Err, OnOk, is_ok}
 use Rattle.dr_plant.specs.State.{PlantState}
 use Rattle.dr_config.specs.Table.{ConfigTable}
 use Rattle.dr_model.specs.Control.{Volume}
@@ -68,8 +67,3 @@ module _ (s : PlantState) (c : ConfigTable) (x y : ℕ) where
 
   pub yield-cut : (u : PlantState) (counts : Bool) → CutBy s u c counts (yield_seen s c x y) None → SecondMade false s u c x y
   yield-cut u counts cut = record { moved = λ never. absurd cc; either = came-either counts s u c y (yielded_seen s c y x) None cut.came; others = cut.others }
-
--- what is made, where all went well
-pub made-ok : {T E : Type 0} (res : Result T E) (makes : Bool → Type 0) → makes (is_ok res) → OnOk res (makes true)
-made-ok (Ok x) makes made = made
-made-ok (Err e) makes made = tt

@@ -16,7 +16,7 @@ ghost use Rattle.dr_volume.specs.View.{Rest, volume_seen};
 ghost use Rattle.dr_moves.specs.Checks.{OnNone, is_stop};
 ghost use Rattle.dr_moves.specs.Fit.{RelationsFit};
 ghost use Rattle.dr_moves.specs.Here.{world_seen, refusal_of, armed_in, IsAtRest};
-ghost use Rattle.dr_gcopy.specs.Followed.{EndsFollowed};
+ghost use Rattle.dr_moves.specs.Followed.{EndsFollowed};
 ghost use Rattle.dr_failover.specs.Steps.{copying_refusal, resync_entries};
 ghost use Rattle.dr_failover.specs.Outcomes.{HasPartner, IsOneSent};
 

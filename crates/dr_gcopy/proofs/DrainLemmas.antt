@@ -14,7 +14,7 @@ use Rattle.dr_model.specs.Relations.{in_order}
 use Rattle.dr_model.specs.PairEntries.{send_entries, sends, tracks_to_send}
 use Rattle.dr_moves.specs.Turns.{Leads}
 use Rattle.dr_flash.proofs.CheckLemmas.{same-test, differ-test}
-use Rattle.dr_gcopy.specs.Followed.{FailsFollowed}
+use Rattle.dr_moves.specs.Followed.{FailsFollowed}
 use Rattle.dr_gcopy.specs.Sending.{enough}
 use Rattle.dr_facts.proofs.Costs.{in_order-short}
 use Rattle.dr_moves.proofs.LeadLemmas.{then-leads, then-fails, fails-first}

@@ -25,7 +25,7 @@ use Rattle.dr_moves.proofs.KeptLemmas.{before-then, wider-armed}
 use Rattle.dr_moves.proofs.LeadLemmas.{then-leads, then-fails, fails-first}
 use Rattle.dr_moves.proofs.TurnLemmas.{ok-along, err-along}
 use Rattle.dr_gcopy.specs.Ran.{Stays, Ran, CanPass}
-use Rattle.dr_gcopy.proofs.SendLemmas.{fails-wider}
+use Rattle.dr_moves.proofs.LeadLemmas.{fails-wider}
 
 pub ran-then : (s m u : PlantState) (c : ConfigTable) (old mid new : Log) (es fs : List Entry) (P Q R : ℕ → Type 0) (most least more less n k : ℕ) → ((q : ℕ) → R q → P q) → ((q : ℕ) → R q → Q q) → least + more ≤ n → least + less ≤ k
     → Ran s m c old mid es P most least (Ok tt) → (res : Result (Unit {0}) Refusal) → Ran m u c mid new fs Q more less res → Ran s u c old new (es ++ fs) R n k res

@@ -21,16 +21,12 @@ use Rattle.dr_model.specs.ReadStops.{Ends}
 use Rattle.dr_model.specs.Entries.{copies_from, fields_at, is_running, subsystem}
 use Rattle.dr_model.specs.PairEntries.{end_if, refuse_if, link_down, has_path, are_linked, reach_refusal, send_refusal, suspend_where, suspend_running}
 use Rattle.dr_volume.specs.View.{Rest, volume_seen, volume_at, volume_on, on_seen}
-use Rattle.dr_gcopy.specs.Followed.{EndsSo, Follows, EndsFollowed, FailsFollowed}
 use Rattle.dr_moves.specs.Fit.{RelationsFit}
 use Rattle.dr_moves.specs.Here.{refusal_of}
 use Rattle.dr_moves.specs.Turns.{Advances, Halts, Leads, Fails}
 use Rattle.dr_moves.proofs.EntryLemmas.{led, failed}
 use Rattle.dr_facts.proofs.Ends.{ends-none, ends-skips, ends-refused, ends-alike, ends-wider}
 use Rattle.dr_volume.proofs.WorldLaws.{on-seen}
-
-pub fails-wider : (armed more : ℕ → Bool) → ((q : ℕ) → armed q ≡ true → more q ≡ true) → (w u : World) (r : Option Refusal) (es : List Entry) → Fails armed w es u r → Fails more w es u r
-fails-wider armed more wider w u r es fails ds = ends-wider armed more wider u r w (es ++ ds) (fails ds)
 
 -- the entries end as those that led on or failed say
 pub ends-by : {T : Type 0} (res : Result T Refusal) (armed : ℕ → Bool) (w u : Rest → World) (es : List Entry)
@@ -99,9 +95,6 @@ follows-off a k off = ap (λ b. cond b (Do (Make (Suspend a false))) Pass) (and_
 pub follows-on : (a : ℕ) (k : Control) → is_part (fields_at k a).primary ≡ true → is_running a k ≡ true → suspend_running a k ≡ now (Suspend a false) k
 follows-on a k part on = λ i. cond (part i && on i) (Do (Make (Suspend a false))) Pass
 
-pub nothing-follows : (armed : ℕ → Bool) (w : World) (d : Entry) → d w.control ≡ Pass → EndsSo armed w (d ∷ []) w
-nothing-follows armed w d is = record { refusal = None; ends = ends-skips armed w None w d [] is (ends-none armed w None w (record { world = refl; refusal = refl })) }
-
 -- a primary that can't send is suspended first
 pub suspends : (w : World) (why : Control → Option Refusal) (a : ℕ) (r : Refusal) → why w.control ≡ Some r → suspend_where why a w.control ≡ now (Suspend a false) w.control
 suspends w why a r is = ap (λ o. cond (is_some o) (Do (Make (Suspend a false))) Pass) is
@@ -132,21 +125,3 @@ reached-on a b k none = by (has_path a b k) (is_running b k) (are_linked a b k) 
 
 pub on-of-seen : (s : PlantState) (server : ℕ) → server < 8 → on_seen s server ≡ true → s.on server ≡ true
 on-of-seen s server low h = sym (on-seen s server low) ∙ h
-
--- more servers may be armed
-pub follows-wider : (armed more : ℕ → Bool) → ((q : ℕ) → armed q ≡ true → more q ≡ true) → (v : World) (r : Option Refusal) (follows : ℕ → List Entry) (u : World) → Follows armed v r follows u → Follows more v r follows u
-follows-wider armed more wider v (Some (Stopped s)) follows u h = record { refusal = h.refusal; ends = ends-wider armed more wider u h.refusal v (follows s.0) h.ends }
-follows-wider armed more wider v r follows u h = h
-
-pub failed-wider : (armed more : ℕ → Bool) → ((q : ℕ) → armed q ≡ true → more q ≡ true) → (w u : World) (es : List Entry) (follows : ℕ → List Entry) (r : Option Refusal) → FailsFollowed armed w es follows u r → FailsFollowed more w es follows u r
-failed-wider armed more wider w u es follows r h = record {
-  middle = h.middle;
-  fails = fails-wider armed more wider w h.middle r es h.fails;
-  followed = follows-wider armed more wider h.middle r follows u h.followed;
-}
-
--- the entries end so, and what follows them, as those that led on or failed say
-pub followed-by : {T : Type 0} (res : Result T Refusal) (armed : ℕ → Bool) (w u : Rest → World) (es : List Entry) (follows : ℕ → List Entry) → OnOk res ((r : Rest) → Leads (w r) es (u r)) → OnErr res ((r : Rest) → FailsFollowed armed (w r) es follows (u r) (refusal_of res))
-    → (r : Rest) → EndsFollowed armed (w r) es follows (u r) (refusal_of res)
-followed-by (Ok x) armed w u es follows leads fails r = record { middle = u r; ends = led armed (w r) (u r) es (leads r); followed = refl }
-followed-by (Err e) armed w u es follows leads fails r = let h = fails r in record { middle = h.middle; ends = failed armed (w r) h.middle (Some e) es h.fails; followed = h.followed }

@@ -1,4 +1,4 @@
--- Two entries in a row, and what comes of them.
+-- A volume stays on its server; how entries that led on or failed end.
 use Rattle.std.proofs.Common.{ℕ, Bool, ◌≡◌, true, List, [], ◌∷◌, sym, ◌∙◌, Option, Some, None}
 use Rattle.std.specs.Prelude.{is_some, Result, Ok, Err, OnOk, OnErr}
 use Rattle.dr_ids.specs.declared.refusal.Refusal.{Refusal}
@@ -10,17 +10,8 @@ use Rattle.dr_model.specs.ReadStops.{Ends}
 use Rattle.dr_volume.specs.View.{Rest, volume_seen}
 use Rattle.dr_moves.specs.Here.{armed_in, refusal_of}
 use Rattle.dr_moves.specs.Turns.{Advances, Halts, Leads, Fails}
-use Rattle.dr_facts.proofs.Ends.{ends-wider}
-use Rattle.dr_moves.proofs.KeptLemmas.{wider-armed}
 use Rattle.dr_moves.proofs.EntryLemmas.{led, failed}
 use Rattle.dr_moves.proofs.PlaceLaws.{entry-found}
-
-pub two-lead : (w v u : World) (d e : Entry) → Advances w d v → Advances v e u → Leads w (d ∷ e ∷ []) u
-two-lead w v u d e first second armed x r ds more = first armed x r (e ∷ ds) (second armed x r ds more)
-
--- the second is carried out where fuses may be fewer
-pub second-fails : (s m : PlantState) (w v u : World) (r : Option Refusal) (d e : Entry) → ((q : ℕ) → s.read_fuse q ≡ None → m.read_fuse q ≡ None) → Advances w d v → Halts (armed_in m) v e u r → Fails (armed_in s) w (d ∷ e ∷ []) u r
-second-fails s m w v u r d e unarmed first halts ds = first (armed_in s) u r (e ∷ ds) (ends-wider (armed_in m) (armed_in s) (wider-armed s m unarmed) u r v (e ∷ ds) (halts ds))
 
 -- a volume stays on its server
 pub server-stays : (s u : PlantState) (t : ConfigTable) (v : ℕ) → is_some (place_of t v) ≡ true → (volume_seen u t v).server ≡ (volume_seen s t v).server

@@ -2,6 +2,5 @@ pub mod Kinds
 pub mod Steps
 pub mod Differences
 pub mod Sending
-pub mod Followed
 pub mod Both
 pub mod Ran

@@ -12,7 +12,7 @@ ghost use Rattle.dr_moves.specs.Checks.{is_stop};
 ghost use Rattle.dr_moves.specs.Fit.{RelationsFit};
 ghost use Rattle.dr_moves.specs.Here.{world_seen, refusal_of, armed_in, IsAtRest};
 ghost use Rattle.dr_moves.specs.Turns.{Leads};
-ghost use Rattle.dr_gcopy.specs.Followed.{EndsFollowed, FailsFollowed};
+ghost use Rattle.dr_moves.specs.Followed.{EndsFollowed, FailsFollowed};
 ghost use Rattle.dr_gcopy.specs.Sending.{enough};
 
 use crate::sending::send_to;

@@ -20,7 +20,7 @@ use Rattle.dr_model.specs.SessionEntries.{member_entries, is_on, members_on, ord
 use Rattle.dr_volume.specs.View.{Rest}
 use Rattle.dr_moves.specs.Here.{world_seen}
 use Rattle.dr_moves.specs.Turns.{Leads, Fails}
-use Rattle.dr_gcopy.proofs.SendLemmas.{fails-wider}
+use Rattle.dr_moves.proofs.LeadLemmas.{fails-wider}
 use Rattle.dr_gcopy.proofs.TwoMoves.{server-stays}
 use Rattle.dr_gmirror.specs.Orders.{IsMemberReady, is_seal, is_report, sync_seen, must_wait, waits_in}
 use Rattle.dr_moves.proofs.LeadLemmas.{then-leads, then-fails, fails-first}

@@ -27,7 +27,7 @@ use Rattle.dr_moves.specs.Checks.{OnNone, is_stop}
 use Rattle.dr_moves.specs.Here.{refusal_of}
 use Rattle.dr_flash.specs.HostWrites.{write_refusal}
 use Rattle.dr_facts.proofs.Ends.{ends-skips, ends-goes, ends-passed, ends-refused}
-use Rattle.dr_gcopy.specs.Followed.{Follows}
+use Rattle.dr_moves.specs.Followed.{Follows}
 use Rattle.dr_metro.specs.Here.{IsTold}
 use Rattle.dr_metro.specs.Landing.{landed}
 use Rattle.dr_metro.specs.Syncing.{over_entries, collided_entries, parts, entries_by, waits_by}

@@ -12,7 +12,7 @@ ghost use Rattle.dr_volume.specs.View.{Rest};
 ghost use Rattle.dr_moves.specs.Checks.{is_stop};
 ghost use Rattle.dr_moves.specs.Fit.{RelationsFit};
 ghost use Rattle.dr_moves.specs.Here.{world_seen, armed_in, IsAtRest};
-ghost use Rattle.dr_gcopy.specs.Followed.{EndsSo, Follows};
+ghost use Rattle.dr_moves.specs.Followed.{EndsSo, Follows};
 
 use dr_config::Config;
 use dr_gcopy::{follow_stop, suspend};

@@ -21,7 +21,7 @@ ghost use Rattle.dr_moves.specs.Here.{world_seen, refusal_of, armed_in, IsAtRest
 ghost use Rattle.dr_moves.specs.Made.{IsPrimary};
 ghost use Rattle.dr_flash.specs.Standing.{HasNoTarget};
 ghost use Rattle.dr_gcopy.specs.Both.{IsOn};
-ghost use Rattle.dr_gcopy.specs.Followed.{EndsFollowed};
+ghost use Rattle.dr_moves.specs.Followed.{EndsFollowed};
 ghost use Rattle.dr_metro.specs.Here.{here, IsTold};
 ghost use Rattle.dr_metro.specs.Mirroring.{Mirrors, MayPair};
 ghost use Rattle.dr_metro.specs.declared.sync.WriteEnd.TheVariants.{Landed};

@@ -1,6 +1,6 @@
 -- Entries that pass, that come to an act, that are checks, and that led on or failed.
 use Rattle.std.proofs.Common.{ℕ, ◌≡◌, ◌⊎◌, inl, inr, Bool, true, false, List, [], ◌∷◌, refl, sym, ◌∙◌, ap, subst, Option, None, Some}
-use Rattle.std.specs.Prelude.{Result, Ok, Err, OnOk, OnErr, is_err}
+use Rattle.std.specs.Prelude.{Result, Ok, Err, OnOk, OnErr, is_ok, is_err}
 use Rattle.std.proofs.lemmas.List.{append-nil}
 use Rattle.dr_logic.specs.Counts.{Counted}
 use Rattle.dr_ids.specs.declared.refusal.Refusal.{Refusal}
@@ -77,3 +77,8 @@ led armed w v es leads = subst (Ends armed v None w) (append-nil es) (leads arme
 
 pub failed : (armed : ℕ → Bool) (w u : World) (r : Option Refusal) (es : List Entry) → Fails armed w es u r → Ends armed u r w es
 failed armed w u r es fails = subst (Ends armed u r w) (append-nil es) (fails [])
+
+-- what was made, where all went well
+pub made-ok : {T E : Type 0} (res : Result T E) (makes : Bool → Type 0) → makes (is_ok res) → OnOk res (makes true)
+made-ok (Ok x) makes made = made
+made-ok (Err e) makes made = tt

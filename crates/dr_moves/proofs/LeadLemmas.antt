@@ -1,8 +1,9 @@
-use Rattle.std.proofs.Common.{List, ◌++◌, sym, subst, ℕ, Bool, Option}
+use Rattle.std.proofs.Common.{List, ◌++◌, ◌≡◌, sym, subst, ℕ, Bool, true, Option}
 use Rattle.std.proofs.lemmas.List.{append_assoc}
 use Rattle.dr_model.specs.Control.{World}
 use Rattle.dr_model.specs.Carry.{Entry}
 use Rattle.dr_model.specs.ReadStops.{Ends}
+use Rattle.dr_facts.proofs.Ends.{ends-wider}
 use Rattle.dr_moves.specs.Turns.{Leads, Fails}
 use Rattle.dr_ids.specs.declared.refusal.Refusal.{Refusal}
 
@@ -14,3 +15,7 @@ then-fails armed w v u r es fs first fails ds = subst (Ends armed u r w) (sym (a
 
 pub fails-first : (armed : ℕ → Bool) (w u : World) (r : Option Refusal) (es fs : List Entry) → Fails armed w es u r → Fails armed w (es ++ fs) u r
 fails-first armed w u r es fs fails ds = subst (Ends armed u r w) (sym (append_assoc es fs ds)) (fails (fs ++ ds))
+
+-- more servers may be armed
+pub fails-wider : (armed more : ℕ → Bool) → ((q : ℕ) → armed q ≡ true → more q ≡ true) → (w u : World) (r : Option Refusal) (es : List Entry) → Fails armed w es u r → Fails more w es u r
+fails-wider armed more wider w u r es fails ds = ends-wider armed more wider u r w (es ++ ds) (fails ds)

@@ -13,3 +13,4 @@ pub mod Acts
 pub mod Heard
 pub mod Entered
 pub mod Coming
+pub mod Followed

@@ -31,7 +31,7 @@ use Rattle.dr_moves.specs.Here.{world_seen, armed_in, IsAtRest}
 use Rattle.dr_moves.specs.Turns.{Leads}
 use Rattle.dr_moves.proofs.EntryLemmas.{refuses}
 use Rattle.dr_facts.proofs.Ends.{ends-passed, ends-none}
-use Rattle.dr_gcopy.specs.Followed.{EndsFollowed, Follows}
+use Rattle.dr_moves.specs.Followed.{EndsFollowed, Follows}
 use Rattle.dr_steps.specs.Here.{here, IsTold, Carries}
 use Rattle.dr_steps.proofs.CarriesLemmas.{carries}
 use Rattle.dr_steps.proofs.LandLemmas.{exact, told-through}

@@ -50,7 +50,7 @@ use Rattle.dr_volume.specs.View.{on_seen, volume_seen, ReadsPass}
 use Rattle.dr_moves.specs.Checks.{is_stop}
 use Rattle.dr_flash.specs.Views.{view_seen}
 use Rattle.dr_moves.specs.Here.{refusal_of, armed_in}
-use Rattle.dr_gcopy.specs.Followed.{EndsFollowed, Follows}
+use Rattle.dr_moves.specs.Followed.{EndsFollowed, Follows}
 use Rattle.dr_metro.specs.Here as metro
 use Rattle.dr_metro.specs.Syncing.{end_of}
 use Rattle.dr_metro.specs.declared.sync.WriteEnd.{WriteEnd}

@@ -15,7 +15,7 @@ ghost use Rattle.dr_volume.specs.View.{volume_seen};
 ghost use Rattle.dr_moves.specs.Fit.{RelationsFit};
 ghost use Rattle.dr_moves.specs.Here.{refusal_of, armed_in};
 ghost use Rattle.dr_flash.specs.Views.{view_seen};
-ghost use Rattle.dr_gcopy.specs.Followed.{EndsFollowed};
+ghost use Rattle.dr_moves.specs.Followed.{EndsFollowed};
 ghost use Rattle.dr_steps.specs.Faults.{CountsStop};
 ghost use Rattle.dr_steps.specs.Here.{here, said_of, answered_by, OnAnswer, OnSaid, OnNoMemory, OnRefused, StepLeads, IsReady, IsTold};
 ghost use Rattle.dr_steps.specs.Wants.{WantsRow};

@@ -4,7 +4,7 @@ use Rattle.dr_model.specs.PairEntries.{sends, suspend_after, tracks_to_send}
 use Rattle.dr_model.specs.Relations.{lowest}
 use Rattle.dr_volume.specs.View.{volume_seen, ids_of}
 use Rattle.dr_moves.specs.Here.{world_seen, armed_in}
-use Rattle.dr_gcopy.specs.Followed.{EndsFollowed}
+use Rattle.dr_moves.specs.Followed.{EndsFollowed}
 use Rattle.dr_failover.specs.Steps.{copying_checks}
 use Rattle.dr_failover.proofs.ResyncLemmas.{copying-checked, duplex-refused, never-duplex, calm-follows, followed-behind, one-sent, none-sent, nothing-sent}
 use Rattle.dr_failover.proofs.resync.resync_step.Goals as goal

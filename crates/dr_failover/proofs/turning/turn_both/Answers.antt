@@ -1,10 +1,10 @@
 use Rattle.std.proofs.Common.{[], refl}
 use Rattle.dr_volume.specs.View.{Rest}
 use Rattle.dr_moves.specs.Here.{world_seen, armed_in}
+use Rattle.dr_moves.proofs.EntryLemmas.{made-ok}
 use Rattle.dr_moves.proofs.TurnLemmas.{ok-along, err-along}
 use Rattle.dr_failover.specs.Steps.{failback_moves}
 use Rattle.dr_failover.specs.Turning.{BothMade}
-use Rattle.dr_failover.proofs.TurningLemmas.{made-ok}
 use Rattle.dr_failover.proofs.turning.turn_both.Goals as goal
 
 pub returns-clause-turned : goal.returns-clause-turned

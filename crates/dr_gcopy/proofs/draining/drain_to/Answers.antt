@@ -8,8 +8,8 @@ use Rattle.dr_moves.specs.Here.{world_seen, armed_in}
 use Rattle.dr_moves.specs.Turns.{Leads}
 use Rattle.dr_moves.proofs.KeptLemmas.{wider-armed}
 use Rattle.dr_moves.proofs.TurnLemmas.{refused-by}
-use Rattle.dr_gcopy.specs.Followed.{FailsFollowed}
-use Rattle.dr_gcopy.proofs.SendLemmas.{failed-wider}
+use Rattle.dr_moves.specs.Followed.{FailsFollowed}
+use Rattle.dr_moves.proofs.FollowLemmas.{failed-wider}
 use Rattle.dr_gcopy.proofs.DrainLemmas.{Within, sent-next, sent-failed, all-sent, end-sent, count-sent, next-sent, within-next, in_order-next, first-some, first-none, take-next, drop-next, more-next}
 use Rattle.dr_gcopy.proofs.draining.drain_to.Goals as goal
 use Rattle.dr_logic.proofs.Results.{err-always}

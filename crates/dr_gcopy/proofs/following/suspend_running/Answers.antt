@@ -6,7 +6,8 @@ use Rattle.dr_model.specs.PairEntries.{suspend_running}
 use Rattle.dr_volume.specs.View.{on_seen}
 use Rattle.dr_moves.specs.Here.{world_seen, armed_in, refusal_of}
 use Rattle.dr_facts.proofs.Ends.{ends-alike}
-use Rattle.dr_gcopy.proofs.SendLemmas.{follows-absent, follows-off, follows-on, nothing-follows}
+use Rattle.dr_gcopy.proofs.SendLemmas.{follows-absent, follows-off, follows-on}
+use Rattle.dr_moves.proofs.FollowLemmas.{nothing-follows}
 use Rattle.dr_gcopy.proofs.following.suspend_running.Goals as goal
 use Rattle.dr_volume.proofs.WorldLaws.{on-seen}
 

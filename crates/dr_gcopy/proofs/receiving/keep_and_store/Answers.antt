@@ -12,7 +12,8 @@ use Rattle.dr_moves.specs.Turns.{Fails}
 use Rattle.dr_flash.proofs.CopyLemmas.{no-own}
 use Rattle.dr_moves.proofs.KeptLemmas.{before-then, wider-armed}
 use Rattle.dr_moves.proofs.TurnLemmas.{refused-by, ok-along, err-along}
-use Rattle.dr_gcopy.proofs.SendLemmas.{fails-wider, other-server}
+use Rattle.dr_moves.proofs.LeadLemmas.{fails-wider}
+use Rattle.dr_gcopy.proofs.SendLemmas.{other-server}
 use Rattle.dr_gcopy.proofs.receiving.keep_and_store.Goals as goal
 use Rattle.dr_logic.proofs.Results.{err-always}
 use Rattle.dr_moves.proofs.LeadLemmas.{then-leads, then-fails, fails-first}

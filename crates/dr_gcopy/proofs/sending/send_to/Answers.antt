@@ -2,7 +2,7 @@ use Rattle.std.proofs.Common.{Some}
 use Rattle.dr_model.specs.PairEntries.{suspend_after}
 use Rattle.dr_moves.specs.Here.{world_seen, armed_in}
 use Rattle.dr_moves.proofs.KeptLemmas.{before-then, wider-armed}
-use Rattle.dr_gcopy.proofs.SendLemmas.{follows-wider}
+use Rattle.dr_moves.proofs.FollowLemmas.{follows-wider}
 use Rattle.dr_gcopy.proofs.sending.send_to.Goals as goal
 
 pub returns-in-Err-clause-fails : goal.returns-in-Err-clause-fails

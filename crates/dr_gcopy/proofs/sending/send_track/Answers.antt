@@ -8,8 +8,8 @@ use Rattle.dr_volume.specs.Update.{IsAsBefore}
 use Rattle.dr_volume.specs.View.{Rest, volume_seen, ids_of}
 use Rattle.dr_moves.specs.Here.{world_seen, armed_in, refusal_of}
 use Rattle.dr_moves.specs.Turns.{Leads}
-use Rattle.dr_gcopy.specs.Followed.{FailsFollowed}
-use Rattle.dr_gcopy.proofs.SendLemmas.{followed-by}
+use Rattle.dr_moves.specs.Followed.{FailsFollowed}
+use Rattle.dr_moves.proofs.FollowLemmas.{followed-by}
 use Rattle.dr_gcopy.proofs.sending.send_track.Goals as goal
 
 pub returns-clause-leads : goal.returns-clause-leads

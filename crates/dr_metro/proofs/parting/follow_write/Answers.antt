@@ -6,7 +6,7 @@ use Rattle.dr_model.specs.PairEntries.{suspend_after}
 use Rattle.dr_model.specs.WriteEntries.{part_after}
 use Rattle.dr_moves.specs.Checks.{is_stop}
 use Rattle.dr_moves.specs.Here.{world_seen, armed_in}
-use Rattle.dr_gcopy.specs.Followed.{Follows}
+use Rattle.dr_moves.specs.Followed.{Follows}
 use Rattle.dr_metro.proofs.parting.follow_write.Goals as goal
 
 pub returns-then-collided-clause-follows : goal.returns-then-collided-clause-follows

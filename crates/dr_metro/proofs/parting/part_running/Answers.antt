@@ -9,7 +9,7 @@ use Rattle.dr_model.specs.WriteEntries.{part_running}
 use Rattle.dr_volume.specs.View.{on_seen}
 use Rattle.dr_moves.specs.Here.{world_seen, armed_in, refusal_of}
 use Rattle.dr_facts.proofs.Ends.{ends-alike}
-use Rattle.dr_gcopy.proofs.SendLemmas.{nothing-follows}
+use Rattle.dr_moves.proofs.FollowLemmas.{nothing-follows}
 use Rattle.dr_metro.proofs.SyncLemmas.{absent-part, off-part, on-part}
 use Rattle.dr_metro.proofs.parting.part_running.Goals as goal
 use Rattle.dr_volume.proofs.WorldLaws.{on-seen}

@@ -6,7 +6,7 @@ use Rattle.dr_model.specs.PairEntries.{suspend_after}
 use Rattle.dr_model.specs.WriteEntries.{part_after, after_write}
 use Rattle.dr_moves.specs.Here.{armed_in}
 use Rattle.dr_moves.proofs.KeptLemmas.{wider-armed}
-use Rattle.dr_gcopy.proofs.SendLemmas.{follows-wider}
+use Rattle.dr_moves.proofs.FollowLemmas.{follows-wider}
 use Rattle.dr_metro.specs.declared.sync.WriteEnd.TheVariants.{Landed}
 use Rattle.dr_metro.specs.Here.{here, rest_of}
 use Rattle.dr_metro.specs.Mirroring.{Mirrors, MayPair}

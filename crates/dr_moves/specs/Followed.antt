@@ -1,10 +1,15 @@
 -- Entries, and what follows the stop of a server in them.
-use Rattle.std.specs.Prelude.{◌≡◌, ℕ, Bool, List, Option, Some}
+use Rattle.std.specs.Prelude.{◌≡◌, ◌≤◌, ◌+◌, ℕ, Bool, List, length, Option, None, Some}
+use Rattle.dr_logic.specs.Counts.{Counted}
 use Rattle.dr_ids.specs.declared.refusal.Refusal.{Refusal}
 use Rattle.dr_ids.specs.declared.refusal.Refusal.TheVariants.{Stopped}
+use Rattle.dr_plant.specs.State.{PlantState}
+use Rattle.dr_config.specs.Table.{ConfigTable}
 use Rattle.dr_model.specs.Control.{World}
 use Rattle.dr_model.specs.Carry.{Entry}
+use Rattle.dr_model.specs.Log.{Log}
 use Rattle.dr_model.specs.ReadStops.{Ends}
+use Rattle.dr_moves.specs.Made.{IsAt}
 use Rattle.dr_moves.specs.Turns.{Fails}
 
 -- These entries, carried out from v on, end in u, whatever they are refused for.
@@ -28,3 +33,12 @@ pub record FailsFollowed (armed : ℕ → Bool) (w : World) (entries : List Entr
   pub middle : World
   pub fails : Fails armed w entries middle r
   pub followed : Follows armed middle r follows u
+
+-- What stays from s to u over what follows a stop, or no stop: configuration and plant agree, no read fuse is armed, the fault of
+-- the stop stays counted, and so many events are told at most.
+pub record KeptBehind (s u : PlantState) (c : ConfigTable) (old new : Log) (most : ℕ) (stopped : Bool) : Type 0 where
+  pub at : IsAt u c
+  pub unarmed : (q : ℕ) → s.read_fuse q ≡ None → u.read_fuse q ≡ None
+  pub faults : (f : ℕ) → Counted stopped f s.faults → Counted stopped f u.faults
+  pub room : old.spare ≤ new.spare + most
+  pub spare : length new.events + new.spare ≡ length old.events + old.spare
