@@ -5,8 +5,6 @@ use Rattle.dr_ids.specs.declared.refusal.Refusal.{Refusal}
 use Rattle.dr_plant.specs.State.{PlantState}
 use Rattle.dr_config.specs.Table.{ConfigTable}
 use Rattle.dr_model.specs.declared.event.Event.{Event}
-use Rattle.dr_model.specs.Histories.{histories}
-use Rattle.dr_model.specs.Layout.{Fields}
 use Rattle.dr_model.specs.Log.{Log}
 use Rattle.dr_model.specs.Moves.{Move, Land, Overwrite, LandBoth, Carried, target, fields_left, carried, told, told_in_stop, landed}
 use Rattle.dr_model.specs.Carry.{turn, update, now}
@@ -16,14 +14,9 @@ use Rattle.dr_volume.specs.View.{Rest, volume_seen, track_seen}
 use Rattle.dr_moves.specs.Entered.{is_calm, Entered}
 use Rattle.dr_moves.specs.Here.{world_seen, armed_in, refusal_of}
 use Rattle.dr_moves.specs.Made.{after_done, after_stop, Made}
-use Rattle.dr_moves.specs.Told.{events_of}
 use Rattle.dr_moves.specs.declared.acts.Stop.{Stop}
-use Rattle.dr_moves.specs.declared.told.Telling.{Telling}
-use Rattle.dr_moves.specs.Turns.{made_by}
 use Rattle.dr_facts.proofs.Ends.{ends-none}
 use Rattle.dr_moves.proofs.EntryLemmas.{move-advances, move-halts}
-use Rattle.dr_moves.proofs.ReadLemmas.{on-running}
-use Rattle.dr_moves.proofs.TurnLemmas.{turn-made}
 
 -- such a move settles no pending write
 pub calm-done : (m : Move) → is_calm m ≡ true → (r : Rest) → after_done m r ≡ r
@@ -78,25 +71,3 @@ module _ (s u : PlantState) (c : ConfigTable) (old new : Log) (m : Move) (v : �
         | inr is ↦ inr (is ∙ ap (λ (q : Rest). (world_seen u c q new.events, Some stop.server.0)) (calm-stop m calm stop.counts r) ∙ ap (λ n. (world_seen u c r new.events, Some n)) made.server)
       ])
       (ap (λ n. Some (stopped n)) made.server)
-
--- the same from a change of the volume to these fields, and what was told of it
-module _ (s u : PlantState) (c : ConfigTable) (before after : List Event) (m : Move) (v : ℕ) (f : Fields) (t : Carried) (telling : Telling) (is_target : target m ≡ v) (calm : is_calm m ≡ true) (on : s.on (volume_seen s c (target m)).server ≡ true)
-    (next : f ≡ fields_left m (volume_seen s c (target m))) (carries : carried m (volume_seen s c) (track_seen s c) (histories before).write ≡ t)
-    (done : told m (volume_seen s c (target m)) ≡ events_of telling.done) (in_stop : told_in_stop m (volume_seen s c (target m)) ≡ events_of telling.in_stop) (lands : landed m ≡ telling.landed) where
-  turned : (r : Rest) → turn (world_seen s c r before) m ≡ made_by (update (world_seen s c r before) v f t) (volume_seen s c v).server telling
-  turned r =
-      turn-made (world_seen s c r before) m telling f t (on-running s (volume_seen s c (target m)).server on)
-      (record {
-        done = done;
-        in_stop = in_stop;
-        landed = lands;
-        settles = λ ps. ap (λ (x : Rest). x.pending) (calm-done m calm (record r { pending = ps }));
-        settles_in_stop = λ ps. ap (λ (x : Rest). x.pending) (calm-stop m calm true (record r { pending = ps }));
-      }) (sym next) carries
-      ∙ (λ i. made_by (update (world_seen s c r before) (is_target i) f t) (volume_seen s c (is_target i)).server telling)
-
-  pub entered-so : (res : Result (Unit {0}) Refusal) → OnOk res ((r : Rest) → made_by (update (world_seen s c r before) v f t) (volume_seen s c v).server telling ≡ (world_seen u c r after, None))
-      → OnErr res ((r : Rest) → GoesOff (armed_in s) (world_seen u c r after) (refusal_of res) (world_seen s c r before) ⊎ (made_by (update (world_seen s c r before) v f t) (volume_seen s c v).server telling ≡ (world_seen u c r after, Some (volume_seen s c v).server)))
-      → OnErr res (refusal_of res ≡ Some (stopped (volume_seen s c v).server)) → Entered s u c before after m v res
-  entered-so (Ok x) went failed refused = entered-by s u c before after m v (Ok x) (λ r. turned r ∙ went r) tt tt
-  entered-so (Err e) went failed refused = entered-by s u c before after m v (Err e) tt (λ r. elim (failed r) [ inl off ↦ inl off | inr is ↦ inr (turned r ∙ is) ]) refused

@@ -16,7 +16,7 @@ use Rattle.dr_moves.specs.Fit.{LeavesFit}
 use Rattle.dr_moves.specs.Here.{armed_in, IsAtRest}
 use Rattle.dr_moves.specs.Made.{IsAt, Kept}
 use Rattle.dr_moves.proofs.FitLemmas.{fit-same, fit-after}
-use Rattle.dr_moves.proofs.ShiftLemmas.{rest-after}
+use Rattle.dr_moves.proofs.GateLemmas.{rest-after}
 
 pub at-after : (s u : PlantState) (c : ConfigTable) (v : ℕ) (f : Fields) (t : Carried) → IsAsBefore s u c v ⊎ IsMoved s u c v f t → OthersStay s u c v → IsAt s c → StandsFor c u → ((q : ℕ) → IsSettled s c q → IsSettled u c q) → LeavesFit s c v f → IsAt u c
 at-after s u c v f t how others at stands settled leaves = record {

@@ -1,5 +1,6 @@
 -- Read first: `MoveRows.antt`, `MoveFits.antt`, `MoveTracks.antt`, `AsideLemmas.antt`, `StopRows.antt`, `EnteredLemmas.antt`: what
--- holds of each kind of move, one clause a kind, or one for all that are alike; `TurnMade.antt`: the machine's turn, from what was made of the volume;
+-- holds of each kind of move, one clause a kind, or one for all that are alike; `TurnMade.antt`: the machine's turn, from what was made of the volume; `GateLemmas.antt`: of one that begins with the
+-- read of the gate;
 -- `ChangeLemmas.antt`: what a move asks of its volume, and the facts of `Made` and of what stays, from what the device writes left;
 -- `KeptLemmas.antt`: what stays, also along two calls in a row; `EntryLemmas.antt`, and `Ends.antt` of `dr_facts`: entry by entry;
 -- `HeardLemmas.antt`: what lies beside shows, behind news; `ActedLemmas.antt`: what an entry came to was done.
@@ -14,8 +15,6 @@
 --   `ends-passed` and one `refuses`, and calls compose by `++` of the lists, which computes.
 -- - **Read and move in two functions.** The one that reads has clauses that say what a read that passed leaves as it
 --   was; the search then carries `requires` and frame clauses across the read.
--- - **A move whose fields its caller gives** (`shift`, with `made_by` as its clause; `ShiftLemmas.antt`, `TurnLemmas.antt`): five parts a
---   kind, the next fields, what is told, `MoveFits`, `Tells` (all `refl`), and one of `advances` and `halts`.
 pub mod SetLaws
 pub mod TellLemmas
 pub mod PlaceLaws
@@ -30,7 +29,7 @@ pub mod TurnMade
 pub mod KeptLemmas
 pub mod ChangeLemmas
 pub mod TurnLemmas
-pub mod ShiftLemmas
+pub mod GateLemmas
 pub mod LeadLemmas
 pub mod EntryLemmas
 pub mod EnteredLemmas

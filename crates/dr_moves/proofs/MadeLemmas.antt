@@ -1,31 +1,12 @@
--- How a move has ended, from what the update of its volume left.
+-- Whether a stopped update counts as done, by the slots before it and behind.
 use Rattle.std.proofs.Common.{ℕ, ◌≡◌, List, ◌++◌, refl, ap, ◌∙◌, sym, Bool, true, false, not, cond, Some, None}
 use mathlib.Core.Bool.{beq}
-use Rattle.dr_model.specs.declared.event.Event.{Event}
 use Rattle.dr_model.specs.Layout.{Fields}
 use Rattle.dr_model.specs.Control.{World}
 use Rattle.dr_model.specs.Moves.{Carried, moved, updated}
 use Rattle.dr_model.specs.Carry.{update, ended, Ended, pass, writes, counts_by, spent, off}
 use Rattle.dr_volume.specs.Update.{EndsAs}
-use Rattle.dr_moves.specs.declared.told.Telling.{Telling}
-use Rattle.dr_moves.specs.Told.{events_of}
-use Rattle.dr_moves.specs.Turns.{made_by, told_in_stop}
 use Rattle.dr_logic.proofs.Tables.{at_same}
-
--- it was done
-pub made-goes : (u : World) (e : Ended) (s : ℕ) (told : Telling) (now : List Event) → EndsAs u false e → now ≡ u.events ++ events_of told.done → made_by e s told ≡ (record u { events = now }, None)
-made-goes u e s told now ends is =
-    ap (λ b. cond b (record e.world { events = e.world.events ++ told_in_stop e.done told s }, Some s) (record e.world { events = e.world.events ++ events_of told.done }, None)) (sym ends.stopped)
-    ∙ ap (λ (w : World). (record w { events = w.events ++ events_of told.done }, None)) (sym ends.world)
-    ∙ ap (λ es. (record u { events = es }, None)) (sym is)
-
--- its server stopped in it
-pub made-stops : (u : World) (e : Ended) (s : ℕ) (told : Telling) (done : Bool) (now : List Event) → EndsAs u true e → e.done ≡ done → now ≡ u.events ++ told_in_stop done told s → made_by e s told ≡ (record u { events = now }, Some s)
-made-stops u e s told done now ends is_done is =
-    ap (λ b. cond b (record e.world { events = e.world.events ++ told_in_stop e.done told s }, Some s) (record e.world { events = e.world.events ++ events_of told.done }, None)) (sym ends.stopped)
-    ∙ ap (λ b. (record e.world { events = e.world.events ++ told_in_stop b told s }, Some s)) is_done
-    ∙ ap (λ (w : World). (record w { events = w.events ++ told_in_stop done told s }, Some s)) (sym ends.world)
-    ∙ ap (λ es. (record u { events = es }, Some s)) (sym is)
 
 -- two slots differ
 abbrev pub differ : Bool → Bool → Bool

@@ -1,4 +1,4 @@
--- How a move ends for the machine and for the journal, and how an entry of a plan leads on.
+-- What is told in a stop, and how an entry of a plan leads on.
 use Rattle.std.specs.Prelude.{ℕ, Bool, List, [], ◌∷◌, ◌++◌, ◌+◌, length, max, Option, Some, None, if◌then◌else◌}
 use Rattle.dr_ids.specs.declared.refusal.Refusal.{Refusal}
 use Rattle.dr_model.specs.declared.event.Event.{Event}
@@ -12,12 +12,6 @@ use Rattle.dr_moves.specs.Told.{events_of}
 -- what the journal is told where the server stopped in a move that counts as done or doesn't
 abbrev pub told_in_stop : Bool → Telling → ℕ → List Event
 told_in_stop done told s = if done then events_of told.in_stop ++ Stopped s told.landed ∷ [] else Stopped s 0 ∷ []
-
--- an update of a volume on that server has ended, and the journal is told
-abbrev pub made_by : Ended → ℕ → Telling → Turn
-made_by e s told =
-    if e.stopped then (record e.world { events = e.world.events ++ told_in_stop e.done told s }, Some s)
-    else (record e.world { events = e.world.events ++ events_of told.done }, None)
 
 -- from w the entry leads to v: what ends the entries that follow ends all
 abbrev pub Advances : World → Entry → World → Type 0
@@ -34,7 +28,3 @@ Leads w es v = (armed : ℕ → Bool) (u : World) (r : Option Refusal) (ds : Lis
 -- or end all of them, however the plan goes on
 abbrev pub Fails : (ℕ → Bool) → World → List Entry → World → Option Refusal → Type 0
 Fails armed w es u r = (ds : List Entry) → Ends armed u r w (es ++ ds)
-
--- the most events that such a move tells
-abbrev pub room_of : Telling → ℕ
-room_of told = max (length (events_of told.done)) (length (events_of told.in_stop) + 1)

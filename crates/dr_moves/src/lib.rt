@@ -1,12 +1,12 @@
 //! Moves as values, and plans that are carried out.
 //!
-//! `Move` has every kind of move; `target_of`, `next_fields` and `telling` are its rows of the machine's catalogue. `make`
+//! `Move` has every kind of move; its rows of the machine's catalogue say its target, the next fields, and what it tells. `make`
 //! makes any of them: it opens the volume's record once, takes the next fields from what was opened, changes the record with
 //! the track that the move carries, and tells the journal. Where the server stops, `Stop` says whether the move counts as
 //! done. `make_opened` is the same for a caller who has opened the volume, and `make_by` for one who has its fields.
 //! `make_move` is `make` as an entry of a plan, and `make_move_by` is `make_by` as one. `Asks` (specs) is what a kind of move
-//! asks of the plant, and `Kept` what stays over each of these calls. `place_staged` puts a staged track in its place as a server starts. `shift` makes a move
-//! whose fields its caller gives.
+//! asks of the plant, and `Kept` what stays over each of these calls. `place_staged` puts a staged track in its place as a
+//! server starts.
 //!
 //! What a run knows besides devices and journal, the host's pending writes, the sessions and the paths, is `Beside`: it hears
 //! `News`, and what it shows changes as the machine's does. `make_beside` is `make` of a move that may land a host write,
@@ -32,28 +32,19 @@ mod place;
 mod placing;
 mod reads;
 mod sets;
-mod shifting;
 mod told;
 
 pub use acts::{Stop, make, make_move, make_ready};
 pub use at_hand::{make_by, make_move_by, make_opened};
 pub use beside::{Beside, News, Nothing};
 pub use carrying::{Entries, Next, act, act_beside, carry, carry_beside};
-pub use flash_fields::{
-    altered, closed, fetched, given_up, made, noted, restored, resynced, rewritten, turned,
-    withdrawn, written,
-};
 pub use hearing::{make_beside, open_attempt};
-pub use moves::{Move, next_fields, target_of, telling};
+pub use moves::Move;
 pub use options::FlashOptions;
-pub use pair_fields::{
-    is_engaged, is_torn, mirrored, received, struck, suspended, synced, thawed, unsynced, with_more,
-};
+pub use pair_fields::{is_engaged, is_torn, unsynced, with_more};
 pub use pairs::{is_quiet, is_unpaired, pair_state};
 pub use performing::{Act, perform};
 pub use place::{server_of, tracks_of};
 pub use placing::place_staged;
 pub use reads::read_told;
-pub use sets::{is_whole, lowest, rest};
-pub use shifting::shift;
-pub use told::{Telling, Told};
+pub use sets::{lowest, rest};

@@ -12,7 +12,7 @@ use Rattle.dr_moves.specs.Moves.{move_of}
 use Rattle.dr_moves.specs.Turns.{told_in_stop}
 use Rattle.dr_moves.proofs.ChangeLemmas.{rows-by, done-room, stop-room, done-left, stayed-done, stayed-stopped, made-done, made-stopped, either-left}
 use Rattle.dr_moves.proofs.MoveRows.{next-row}
-use Rattle.dr_moves.proofs.ShiftLemmas.{read-passed, burnt-or-cut}
+use Rattle.dr_moves.proofs.GateLemmas.{read-passed, burnt-or-cut}
 use Rattle.dr_moves.proofs.at_hand.change_by.Goals as goal
 
 pub next_fields-next-requires-clause-below : goal.next_fields-next-requires-clause-below

@@ -18,8 +18,7 @@ use Rattle.dr_volume.specs.Update.{EndsAs, after_reading, IsAsBefore, IsMoved, O
 use Rattle.dr_volume.proofs.UnreadLaws.{armed-of, lies-low}
 use Rattle.dr_moves.specs.declared.told.Telling.{Telling}
 use Rattle.dr_moves.specs.Here.{world_seen, armed_in, IsAtRest}
-use Rattle.dr_moves.specs.Turns.{made_by, told_in_stop}
-use Rattle.dr_moves.proofs.MadeLemmas.{made-stops, done-by}
+use Rattle.dr_moves.specs.Turns.{told_in_stop}
 use Rattle.dr_moves.proofs.ReadLemmas.{on-running, is-armed}
 
 same-beq : (a b : Bool) → a ≡ b → not (beq a b) ≡ false
@@ -67,15 +66,6 @@ module _ (c : ConfigTable) (s t : PlantState) (v : ℕ) (f : Fields) (m : Carrie
         | true ↦ λ passes h. inr h
         | false ↦ λ stuck h. inl (burnt stuck h)
       ] refl ends
-
-  pub stopped-by : EndsAs (world_seen t c r events) true (after_reading s (volume_seen s c v).server (world_seen s c r events) (update (world_seen s c r events) v f m)) → GoesOff (armed_in s) (world_seen t c r now) (Some (stopped (volume_seen s c v).server)) (world_seen s c r events)
-      ⊎ (made_by (update (world_seen s c r events) v f m) (volume_seen s c v).server told ≡ (world_seen t c r now, Some (volume_seen s c v).server))
-  stopped-by ends = elim (burnt-or-cut ends) [
-    | inl off ↦ inl off.1
-    | inr h ↦ inr
-        (made-stops (world_seen t c r events) (update (world_seen s c r events) v f m) (volume_seen s c v).server told (not (beq after before)) now h
-        (done-by (world_seen s c r events) (world_seen t c r events) v f m before after h was is) tells)
-  ]
 
 -- and what it leaves is at rest
 pub rest-after : (c : ConfigTable) (s t : PlantState) (v : ℕ) (f : Fields) (m : Carried) → IsAtRest s c → StandsFor c t → ((q : ℕ) → IsSettled s c q → IsSettled t c q) → IsAsBefore s t c v ⊎ IsMoved s t c v f m → OthersStay s t c v → IsAtRest t c
