@@ -1,10 +1,10 @@
 -- What is told in a stop, and how an entry of a plan leads on.
-use Rattle.std.specs.Prelude.{ℕ, Bool, List, [], ◌∷◌, ◌++◌, ◌+◌, length, max, Option, Some, None, if◌then◌else◌}
+use Rattle.std.specs.Prelude.{ℕ, Bool, List, [], ◌∷◌, ◌++◌, Option, if◌then◌else◌}
 use Rattle.dr_ids.specs.declared.refusal.Refusal.{Refusal}
 use Rattle.dr_model.specs.declared.event.Event.{Event}
 use Rattle.dr_model.specs.declared.event.Event.TheVariants.{Stopped}
 use Rattle.dr_model.specs.Control.{World}
-use Rattle.dr_model.specs.Carry.{Ended, Turn, Entry}
+use Rattle.dr_model.specs.Carry.{Entry}
 use Rattle.dr_model.specs.ReadStops.{Ends}
 use Rattle.dr_moves.specs.declared.told.Telling.{Telling}
 use Rattle.dr_moves.specs.Told.{events_of}
