@@ -1,32 +1,38 @@
--- An entry that comes to an act, from what the act made; checks before it; and a hold that begins an attempt.
-use Rattle.std.proofs.Common.{ℕ, ◌≡◌, ◌≤◌, ◌+◌, arith, ◌⊎◌, inl, inr, Bool, true, false, not, ◌&&◌, List, [], ◌∷◌, refl, sym, ◌∙◌, ap, subst, Option, None, Some, length}
-use Rattle.std.specs.Prelude.{nat_lt, if◌then◌else◌, Result, Ok, Err, OnOk, OnErr}
+-- What an entry of an attempt comes to; checks before it; and what a hold leaves.
+use Rattle.std.proofs.Common.{ℕ, ◌≡◌, ◌≢◌, ◌≤◌, ◌+◌, arith, ◌⊎◌, inl, inr, Bool, true, false, List, [], ◌∷◌, refl, sym, ◌∙◌, ap, subst, Option, None, Some}
+use Rattle.std.specs.Prelude.{nat_lt, is_some, if◌then◌else◌, Result, Ok, Err, OnOk, OnErr}
 use Rattle.std.specs.Option.{option_or}
-use Rattle.std.proofs.Math.Bool.{and-false, and-true}
+use Rattle.dr_ids.specs.declared.names.SessionId.{SessionId}
+use Rattle.dr_ids.specs.declared.names.VolumeId.{VolumeId}
 use Rattle.dr_ids.specs.declared.refusal.Refusal.{Refusal}
 use Rattle.dr_plant.specs.State.{PlantState}
-use Rattle.dr_config.specs.Table.{ConfigTable}
+use Rattle.dr_config.specs.Table.{ConfigTable, place_of}
 use Rattle.dr_model.specs.declared.event.Event.{Event}
-use Rattle.dr_model.specs.Layout.{Fields}
-use Rattle.dr_model.specs.Control.{Control, Volume, World}
+use Rattle.dr_model.specs.Control.{Control, World}
 use Rattle.dr_model.specs.Pairs.{records, is_engaged}
-use Rattle.dr_model.specs.Moves.{Hold, Free, Finish, told}
-use Rattle.dr_model.specs.Carry.{Act, Make, OpenAttempt, act, turn, opened_by, attempt_begun, Pass, Do, Entry, equal}
+use Rattle.dr_model.specs.Moves.{Hold, Free, Finish}
+use Rattle.dr_model.specs.Carry as machine
+use Rattle.dr_model.specs.Carry.{Make, OpenAttempt, Pass, Do}
+use Rattle.dr_model.specs.Log.{Log}
 use Rattle.dr_model.specs.PairEntries.{refuse_if}
-use Rattle.dr_model.specs.ReadStops.{GoesOff, Ends}
 use Rattle.dr_model.specs.SessionEntries.{last_of, hold_refusal, stale_refusal, hold_on, hold_entries, free_on, is_past, finish_on}
-use Rattle.dr_model.proofs.CarryLemmas.{act-move}
-use Rattle.dr_volume.specs.Update.{IsMoved}
+use Rattle.dr_volume.specs.Update.{OthersStay}
 use Rattle.dr_volume.specs.View.{Rest, volume_seen}
-use Rattle.dr_moves.specs.Checks.{Checked}
-use Rattle.dr_moves.specs.Made.{room_for}
-use Rattle.dr_moves.proofs.StopRows.{room-few}
-use Rattle.dr_moves.specs.Here.{world_seen, refusal_of}
-use Rattle.dr_moves.specs.Turns.{Advances, Leads, Fails}
-use Rattle.dr_moves.proofs.EntryLemmas.{led, failed, ends-clear, ends-why, skips}
-use Rattle.dr_coord.specs.Changes.{begins, begun_if, rest_after, void_on}
+use Rattle.dr_moves.specs.Beside.{heard}
+use Rattle.dr_moves.specs.Checks.{Checked, is_stop}
+use Rattle.dr_moves.specs.Coming.{next_of, done_news, MayComeBy, CutSo, NotTarget, RefusedAs, cost_of, most_of, ActedBeside}
+use Rattle.dr_moves.specs.Heard.{if_counts}
+use Rattle.dr_moves.specs.Here.{world_seen, armed_in, refusal_of}
+use Rattle.dr_moves.specs.Made.{IsPrimary, Kept}
+use Rattle.dr_moves.specs.Turns.{Leads, Fails}
+use Rattle.dr_moves.specs.declared.beside.News.{News}
+use Rattle.dr_moves.specs.declared.beside.News.TheVariants.{Begun}
+use Rattle.dr_moves.specs.declared.carrying.Next.{Next}
+use Rattle.dr_moves.proofs.KeptLemmas.{kept-more}
+use Rattle.dr_moves.proofs.TurnLemmas.{ok-along, err-along}
+use Rattle.dr_moves.proofs.EntryLemmas.{ends-clear, ends-why}
+use Rattle.dr_coord.specs.Changes.{hold_next, HoldHeard, void_on}
 use Rattle.dr_facts.proofs.Refusals.{none-both}
-use Rattle.dr_facts.proofs.Turns.{equal-same, equal-not}
 
 or-some : (a b : Option Refusal) (e : Refusal) → option_or a b ≡ Some e → (a ≡ Some e) ⊎ ((a ≡ None) × (b ≡ Some e))
 or-some None b e is = inr (refl, is)
@@ -40,6 +46,11 @@ two-checked w why also (Some e) is = λ armed ds. elim (or-some (why w.control) 
   | inl first ↦ ends-why armed w why e (refuse_if also ∷ ds) first
   | inr second ↦ ends-clear armed w (Some e) w why (refuse_if also ∷ ds) second.0 (ends-why armed w also e ds second.1)
 ]
+
+hold-is : (recorded first : Bool) (a : VolumeId) (k : SessionId) (n : ℕ) → ◌≡◌ {A = machine.Next} (if recorded then Pass else Do (if first then OpenAttempt a.0 k.0 n else Make (Hold a.0 k.0 n false))) (next_of (hold_next recorded first a k n))
+hold-is true first a k n = refl
+hold-is false true a k n = refl
+hold-is false false a k n = refl
 
 -- the entries of an attempt, by what the primary's fields say
 module _ (s : PlantState) (t : ConfigTable) (r : Rest) (events : List Event) (v : ℕ) where
@@ -64,80 +75,93 @@ module _ (s : PlantState) (t : ConfigTable) (r : Rest) (events : List Event) (v 
   pub void-comes : is_engaged (volume_seen s t v).fields ≡ true → void_on v w.control ≡ Do (Make (Finish v 0))
   void-comes is = ap (λ b. if b then Do (Make (Finish v 0)) else Pass) is
 
-  abbrev pub hold_act : ℕ → ℕ → Bool → Act
-  hold_act k n first = if first then OpenAttempt v k n else Make (Hold v k n false)
+-- a hold
+hold-comes : (w : World) (recorded first : Bool) (a : VolumeId) (k : SessionId) (n : ℕ) → recorded ≡ records n (w.control.volume a.0).fields → nat_lt (last_of w.control k.0) n ≡ first → hold_on k.0 a.0 n w.control ≡ next_of (hold_next recorded first a k n)
+hold-comes w recorded first a k n is so =
+    ap (λ b. if b then Pass else Do (if nat_lt (last_of w.control k.0) n then OpenAttempt a.0 k.0 n else Make (Hold a.0 k.0 n false))) (sym is)
+    ∙ ap (λ b. if recorded then Pass else Do (if b then OpenAttempt a.0 k.0 n else Make (Hold a.0 k.0 n false))) so
+    ∙ hold-is recorded first a k n
 
-  pub hold-skips : (k n : ℕ) → records n (volume_seen s t v).fields ≡ true → hold_on k v n w.control ≡ Pass
-  hold-skips k n is = ap (λ b. if b then Pass else Do (hold_act k n (nat_lt (last_of w.control k) n))) is
+-- what it asks, and the room that it needs
+pub hold-may : (takes : News → Type 0) (s : PlantState) (c : ConfigTable) (recorded first : Bool) (a : VolumeId) (k : SessionId) (n : ℕ) → is_some (place_of c a.0) ≡ true → s.on (volume_seen s c a.0).server ≡ true → IsPrimary s c a.0 → (first ≡ true → takes (Begun k)) → MayComeBy takes s c (hold_next recorded first a k n)
+hold-may takes s c true first a k n defined running part hears = tt
+hold-may takes s c false true a k n defined running part hears = (record { defined = defined; running = running; asks = part }, hears refl)
+hold-may takes s c false false a k n defined running part hears = record { may = record { defined = defined; running = running; asks = part }; calm = refl; carries = λ write. refl }
 
-  pub hold-comes : (k n : ℕ) (first : Bool) → records n (volume_seen s t v).fields ≡ false → nat_lt (last_of w.control k) n ≡ first → hold_on k v n w.control ≡ Do (hold_act k n first)
-  hold-comes k n first is so = ap (λ b. if b then Pass else Do (hold_act k n (nat_lt (last_of w.control k) n))) is ∙ ap (λ b. Do (hold_act k n b)) so
+pub hold-most : (s : PlantState) (c : ConfigTable) (recorded first : Bool) (a : VolumeId) (k : SessionId) (n m : ℕ) → (if first then 3 else 2) ≤ m → most_of (hold_next recorded first a k n) s c ≤ m
+hold-most s c true first a k n m h = omega arith
+hold-most s c false true a k n m h = omega (arith, h)
+hold-most s c false false a k n m h = omega (arith, h)
 
-  -- the first hold begins the session's attempt where it counts as done
-  act-open : (k n : ℕ) → act w (OpenAttempt v k n) ≡ opened_by w v k (turn w (Hold v k n true))
-  unfolding act
-  act-open k n = refl
+-- it moves no other volume
+hold-others : (recorded first : Bool) (a : VolumeId) (k : SessionId) (n q : ℕ) → q ≢ a.0 → NotTarget (hold_next recorded first a k n) q
+hold-others true first a k n q ne = tt
+hold-others false true a k n q ne = ne
+hold-others false false a k n q ne = ne
 
-  opened-if : (u : World) (b : Bool) (k : ℕ) (x : Option ℕ) → ◌≡◌ {A = World × Option ℕ} (if b then u else attempt_begun u k, x) (if not b then attempt_begun u k else u, x)
-  opened-if u true k x = refl
-  opened-if u false k x = refl
+-- and it is cut short by a stop alone
+hold-stops : (s : PlantState) (c : ConfigTable) (recorded first : Bool) (a : VolumeId) (k : SessionId) (n : ℕ) (e : Refusal) → RefusedAs s c (hold_next recorded first a k n) (Some e) → is_stop (Some e) ≡ true
+hold-stops s c true first a k n e is = absurd is
+hold-stops s c false true a k n e is = ap is_stop is
+hold-stops s c false false a k n e is = ap is_stop is
 
-  begun-if : (u : PlantState) (b : Bool) (k : ℕ) (told : List Event) → (if b then attempt_begun (world_seen u t r told) k else world_seen u t r told) ≡ world_seen u t (begun_if b k r) told
-  begun-if u true k told = refl
-  begun-if u false k told = refl
+hold-only-stops : (X : Type 0) (s : PlantState) (c : ConfigTable) (recorded first : Bool) (a : VolumeId) (k : SessionId) (n : ℕ) (res : Result (Unit {0}) Refusal) → OnErr res (RefusedAs s c (hold_next recorded first a k n) (refusal_of res)) → is_stop (refusal_of res) ≡ false → OnErr res X
+hold-only-stops X s c recorded first a k n (Ok x) is calm = tt
+hold-only-stops X s c recorded first a k n (Err e) is calm = absurd (let never : true ≡ false = sym (hold-stops s c recorded first a k n e is) ∙ calm in cc)
 
-  pub hold-act : (u : PlantState) (k n : ℕ) (first : Bool) (told : List Event) (x : Option ℕ) → turn w (Hold v k n first) ≡ (world_seen u t r told, x) → act w (hold_act k n first) ≡ (world_seen u t (rest_after first s u t v k r) told, x)
-  hold-act u k n true told x is =
-      act-open k n ∙ ap (opened_by w v k) is
-      ∙ opened-if (world_seen u t r told) (equal (volume_seen s t v).slot (volume_seen u t v).slot) k x
-      ∙ ap (λ (z : World). (z, x)) (begun-if u (not (equal (volume_seen s t v).slot (volume_seen u t v).slot)) k told)
-  hold-act u k n false told x is = act-move w (Hold v k n false) ∙ is
+-- what is heard of it
+module _ {B : Type 0} (after : News → B → B) (x y : B) (s u : PlantState) (c : ConfigTable) (a : VolumeId) (k : SessionId) (n before left : ℕ) where
+  heard-done : (recorded first : Bool) → y ≡ heard after (done_news (hold_next recorded first a k n)) x → before ≡ left + cost_of (hold_next recorded first a k n) s c → HoldHeard after x y k first recorded before left (Ok tt)
+  heard-done true first is spent = record { begun = false; only = λ no. absurd (let never : false ≡ true = no in cc); heard = is; done = λ no. absurd (let never : true ≡ false = no in cc); room_left = omega (arith, spent) }
+  heard-done false true is spent = record { begun = true; only = λ so. refl; heard = is; done = λ so. refl; room_left = omega (arith, spent) }
+  heard-done false false is spent = record { begun = false; only = λ so. so; heard = is; done = λ so. refl; room_left = omega (arith, spent) }
 
-pub rest-stays : (first : Bool) (s u : PlantState) (t : ConfigTable) (v k : ℕ) (r : Rest) → (volume_seen u t v).slot ≡ (volume_seen s t v).slot → rest_after first s u t v k r ≡ r
-rest-stays first s u t v k r same =
-    ap (λ b. begun_if (first && not (equal (volume_seen s t v).slot b)) k r) same
-    ∙ ap (λ b. begun_if (first && not b) k r) (equal-same (volume_seen s t v).slot)
-    ∙ ap (λ b. begun_if b k r) (and-false first)
+  none-heard : (counts : Bool) → y ≡ heard after (if_counts counts None) x → y ≡ x
+  none-heard true is = is
+  none-heard false is = is
 
-pub hold-off : (armed : ℕ → Bool) (s u : PlantState) (t : ConfigTable) (r : Rest) (events told : List Event) (v k : ℕ) (first : Bool) (why : Option Refusal) → GoesOff armed (world_seen u t r told) why (world_seen s t r events) → GoesOff armed (world_seen u t (rest_after first s u t v k r) told) why (world_seen s t r events)
-hold-off armed s u t r events told v k first why off =
-    subst (λ (z : Rest). GoesOff armed (world_seen u t z told) why (world_seen s t r events)) (sym (rest-stays first s u t v k r (ap (λ (z : World). (z.control.volume v).slot) off.world))) off
+  heard-cut : (recorded first : Bool) (e : Refusal) → CutSo after s u x y c (hold_next recorded first a k n) → HoldHeard after x y k first recorded before left (Err e)
+  heard-cut true first e cut = absurd cut.cut
+  heard-cut false true e cut = record { begun = cut.counts; only = λ so. refl; heard = cut.heard; done = tt; room_left = tt }
+  heard-cut false false e cut = record { begun = false; only = λ so. so; heard = none-heard cut.counts cut.heard; done = tt; room_left = tt }
 
--- a hold that is refused changes nothing
-pub hold-refused : (s : PlantState) (t : ConfigTable) (v b k n : ℕ) (first : Bool) (r : Rest) (events : List Event) (why : Refusal)
-    → Some why ≡ option_or (hold_refusal v b (world_seen s t r events).control) (stale_refusal v n (world_seen s t r events).control)
-    → (armed : ℕ → Bool) → Fails armed (world_seen s t r events) (hold_entries k v b n) (world_seen s t (rest_after first s s t v k r) events) (Some why)
-hold-refused s t v b k n first r events why is armed ds =
-    subst (λ (z : Rest). Ends armed (world_seen s t z events) (Some why) (world_seen s t r events) (refuse_if (hold_refusal v b) ∷ refuse_if (stale_refusal v n) ∷ hold_on k v n ∷ ds)) (sym (rest-stays first s s t v k r refl))
-    (two-checked (world_seen s t r events) (hold_refusal v b) (stale_refusal v n) (Some why) is armed (hold_on k v n ∷ ds))
+  hold-heard : (recorded first : Bool) (res : Result (Unit {0}) Refusal) → OnOk res (y ≡ heard after (done_news (hold_next recorded first a k n)) x) → OnErr res (CutSo after s u x y c (hold_next recorded first a k n)) → OnOk res (before ≡ left + cost_of (hold_next recorded first a k n) s c) → HoldHeard after x y k first recorded before left res
+  hold-heard recorded first (Ok z) is cut spent = heard-done recorded first is spent
+  hold-heard recorded first (Err e) is cut spent = heard-cut recorded first e cut
 
-pub hold-passes : (s : PlantState) (t : ConfigTable) (v k n : ℕ) (first : Bool) (r : Rest) (events : List Event) → records n (volume_seen s t v).fields ≡ true → Advances (world_seen s t r events) (hold_on k v n) (world_seen s t (rest_after first s s t v k r) events)
-hold-passes s t v k n first r events is =
-    subst (λ (z : Rest). Advances (world_seen s t r events) (hold_on k v n) (world_seen s t z events)) (sym (rest-stays first s s t v k r refl)) (skips (world_seen s t r events) (hold_on k v n) (hold-skips s t r events v k n is))
+-- a call that did what the hold comes to
+module _ {B : Type 0} (after : News → B → B) (rest : B → Rest → Rest) (x y : B) (s u : PlantState) (c : ConfigTable) (old new : Log) (a : VolumeId) (k : SessionId) (n : ℕ) (first : Bool) (next : Next)
+    (is : next ≡ hold_next (records n (volume_seen s c a.0).fields) first a k n) (res : Result (Unit {0}) Refusal) (acted : ActedBeside after rest x y s u c old new next (most_of next s c) res) where
+  abbrev recorded : Bool
+  recorded = records n (volume_seen s c a.0).fields
 
--- the entries end as those that led on or failed say, where that is so for this rest
-pub ends-so : (res : Result (Unit {0}) Refusal) (armed : ℕ → Bool) (w u : Rest → World) (es : List Entry) (So : Rest → Type 0) → OnOk res ((r : Rest) → So r → Leads (w r) es (u r)) → OnErr res ((r : Rest) → So r → Fails armed (w r) es (u r) (refusal_of res)) → (r : Rest) → So r → Ends armed (u r) (refusal_of res) (w r) es
-ends-so (Ok x) armed w u es So leads fails r so = led armed (w r) (u r) es (leads r so)
-ends-so (Err e) armed w u es So leads fails r so = failed armed (w r) (u r) (Some e) es (fails r so)
+  by : ActedBeside after rest x y s u c old new (hold_next recorded first a k n) (most_of (hold_next recorded first a k n) s c) res
+  by = subst (λ z. ActedBeside after rest x y s u c old new z (most_of z s c) res) is acted
 
--- where the move is done, the other slot is chosen
-pub begins-moved : (first : Bool) (s u : PlantState) (t : ConfigTable) (v : ℕ) (f : Fields) → IsMoved s u t v f None → begins first s u t v ≡ first
-begins-moved first s u t v f moved =
-    ap (λ (x : Volume). first && not (equal (volume_seen s t v).slot x.slot)) moved.volume
-    ∙ ap (λ b. first && not b) (equal-not (volume_seen s t v).slot)
-    ∙ and-true first
+  abbrev was : Rest → World
+  was r = world_seen s c (rest x r) old.events
 
-pub spare-left : (a b : ℕ) (first begun : Bool) → begun ≡ first → a ≡ b + (if first then 2 else 1) → a ≤ b + (if begun then 2 else 1)
-spare-left a b first begun is e = let same = ap {B = ℕ} (λ (c : Bool). if c then 2 else 1) is in omega (arith, same, e)
+  abbrev now : Rest → World
+  now r = world_seen u c (rest y r) new.events
 
--- a hold tells that the volume is cut, and the first one that its attempt begins
-hold-count : (v k n : ℕ) (first : Bool) (x : Volume) → length (told (Hold v k n first) x) ≡ (if first then 2 else 1)
-hold-count v k n true x = refl
-hold-count v k n false x = refl
+  pub acted-kept : Kept s u c old new (if first then 3 else 2) (is_stop (refusal_of res)) res
+  acted-kept = kept-more s u c old new (most_of (hold_next recorded first a k n) s c) (if first then 3 else 2) res (hold-most s c recorded first a k n (if first then 3 else 2) (omega arith)) by.kept
 
-pub hold-most : (v k n : ℕ) (first : Bool) (x : Volume) (m : ℕ) → (if first then 3 else 2) ≤ m → room_for (Hold v k n first) x ≤ m
-hold-most v k n true x m h = room-few (Hold v k n true) x m (omega (arith, h))
-hold-most v k n false x m h = room-few (Hold v k n false) x m (omega (arith, h))
+  pub acted-heard : HoldHeard after x y k first recorded old.spare new.spare res
+  acted-heard = hold-heard after x y s u c a k n old.spare new.spare recorded first res by.heard by.cut by.room_left
 
-pub hold-spent : (v k n : ℕ) (first : Bool) (x : Volume) (a b : ℕ) → a ≡ b + length (told (Hold v k n first) x) → a ≡ b + (if first then 2 else 1)
-hold-spent v k n first x a b h = subst (λ c. a ≡ b + c) (hold-count v k n first x) h
+  pub acted-others : OthersStay s u c a.0
+  acted-others q ne = by.others q (hold-others recorded first a k n q ne)
+
+  pub acted-unchanged : (X : Type 0) → is_stop (refusal_of res) ≡ false → OnErr res X
+  acted-unchanged X calm = hold-only-stops X s c recorded first a k n res by.refused calm
+
+  pub acted-leads : (b : ℕ) → ((r : Rest) → None ≡ option_or (hold_refusal a.0 b (was r).control) (stale_refusal a.0 n (was r).control)) → OnOk res ((r : Rest) → nat_lt (last_of (was r).control k.0) n ≡ first → Leads (was r) (hold_entries k.0 a.0 b n) (now r))
+  acted-leads b clear = ok-along res by.advances (λ goes r so armed w e ds more.
+      two-checked (was r) (hold_refusal a.0 b) (stale_refusal a.0 n) None (clear r) armed w e (hold_on k.0 a.0 n ∷ ds)
+      (goes r (hold_on k.0 a.0 n) (hold-comes (was r) recorded first a k n refl so) armed w e ds more))
+
+  pub acted-fails : (b : ℕ) → ((r : Rest) → None ≡ option_or (hold_refusal a.0 b (was r).control) (stale_refusal a.0 n (was r).control)) → OnErr res ((r : Rest) → nat_lt (last_of (was r).control k.0) n ≡ first → Fails (armed_in s) (was r) (hold_entries k.0 a.0 b n) (now r) (refusal_of res))
+  acted-fails b clear = err-along res by.halts by.halts (λ ends _ r so ds.
+      two-checked (was r) (hold_refusal a.0 b) (stale_refusal a.0 n) None (clear r) (armed_in s) (now r) (refusal_of res) (hold_on k.0 a.0 n ∷ ds)
+      (ends r (hold_on k.0 a.0 n) (hold-comes (was r) recorded first a k n refl so) ds))

@@ -1,5 +1,5 @@
 -- A move that tells nothing leaves the journal as it is.
-use Rattle.std.proofs.Common.{ℕ, ◌≡◌, Bool, true, false, not, List, [], ◌++◌, cond, refl, ap, sym, ◌∙◌, Option, None, Some}
+use Rattle.std.proofs.Common.{◌≡◌, Bool, true, false, not, List, [], ◌++◌, cond, ap, sym, ◌∙◌, None, Some}
 use Rattle.std.proofs.lemmas.List.{append-nil}
 use Rattle.dr_model.specs.declared.event.Event.{Event}
 use Rattle.dr_model.specs.Histories.{histories}

@@ -1,9 +1,9 @@
 -- A session whose attempt has begun: its members, its last number, and what may begin then.
 use Rattle.std.proofs.Common.{ℕ, ◌≡◌, ◌≤◌, ◌+◌, Bool, true, false, cond, ◌==◌, nat_lt, arith, List, [], ◌∷◌, refl, sym, ◌∙◌, ap, subst, Option, None, Some, option_map}
 use Rattle.std.specs.Prelude.{unwrap_or, Result, Ok, Err, IfOk, OnOk, OnErr, if◌then◌else◌}
-use Rattle.std.proofs.lemmas.Bool.{and_parts}
 use Rattle.std.proofs.lemmas.Bool.Decides.{nat_tests}
 use Rattle.dr_ids.specs.declared.names.Member.{Member}
+use Rattle.dr_ids.specs.declared.names.SessionId.{SessionId}
 use Rattle.dr_ids.specs.declared.refusal.Refusal.{Refusal}
 use Rattle.dr_plant.specs.State.{PlantState}
 use Rattle.dr_config.specs.Table.{ConfigTable}
@@ -18,7 +18,10 @@ use Rattle.dr_moves.specs.Checks.{is_stop}
 use Rattle.dr_moves.specs.Here.{world_seen, armed_in, refusal_of}
 use Rattle.dr_moves.specs.Made.{Kept}
 use Rattle.dr_moves.specs.Turns.{Leads, Fails}
-use Rattle.dr_coord.specs.Changes.{begins, begun_if, rest_after}
+use Rattle.dr_moves.specs.Beside.{heard}
+use Rattle.dr_moves.specs.Heard.{if_counts}
+use Rattle.dr_moves.specs.declared.beside.News.{News}
+use Rattle.dr_moves.specs.declared.beside.News.TheVariants.{Begun}
 use Rattle.dr_gmirror.specs.Orders.{with_sessions, last_in, to_begin, begun_in, MayBegin}
 use Rattle.dr_moves.proofs.KeptLemmas.{kept-more}
 use Rattle.dr_moves.proofs.TurnLemmas.{ok-along}
@@ -96,45 +99,47 @@ room-of false = refl
 pub room-first : (ss : List Session) (s n : ℕ) (first : Bool) → first ≡ nat_lt (last_in ss s) n → ◌≡◌ {A = ℕ} (if first then 3 else 2) (to_begin ss s n + 2)
 room-first ss s n first is = ap {B = ℕ} (λ (b : Bool). if b then 3 else 2) is ∙ room-of (nat_lt (last_in ss s) n)
 
--- the rest with the sessions
-pub begun-rest : (b : Bool) (ss : List Session) (s : ℕ) (r : Rest) → begun_if b s (with_sessions ss r) ≡ with_sessions (begun_in b ss s) r
-begun-rest true ss s r = refl
-begun-rest false ss s r = refl
+-- sessions that have heard of the begin, where there was one
+pub begun-heard : {B : Type 0} (k : SessionId) (b : Bool) (x y : B) (after : News → B → B) → y ≡ heard after (if_counts b (Some (Begun k))) x → (of : B → List Session) → ((z : B) → of (after (Begun k) z) ≡ changed k.0 begun (of z)) → of y ≡ begun_in b (of x) k.0
+begun-heard k true x y after is of so = ap of is ∙ so x
+begun-heard k false x y after is of so = ap of is
+
+-- what no news change
+pub same-heard : {A B : Type 0} (x y : B) (o : Option News) (after : News → B → B) → y ≡ heard after o x → (of : B → A) → ((n : News) (z : B) → of (after n z) ≡ of z) → of y ≡ of x
+same-heard x y None after is of so = ap of is
+same-heard x y (Some n) after is of so = ap of is ∙ so n x
 
 -- the hold of a member, behind which the session's attempt has begun where it did
-module _ (s u : PlantState) (t : ConfigTable) (old new : Log) (before after : List Session) (k n : ℕ) (m : Member) (first : Bool) (may : MayBegin before k n) (is_first : first ≡ nat_lt (last_in before k) n)
-    (sessions : after ≡ begun_in (begins first s u t m.a.0) before k) where
+module _ (s u : PlantState) (t : ConfigTable) (old new : Log) (before after : List Session) (k n : ℕ) (m : Member) (first did : Bool) (may : MayBegin before k n) (is_first : first ≡ nat_lt (last_in before k) n)
+    (only : did ≡ true → first ≡ true) (sessions : after ≡ begun_in did before k) where
   abbrev was : Rest → World
-  was r = world_seen s t r old.events
+  was r = world_seen s t (with_sessions before r) old.events
 
   abbrev now : Rest → World
-  now r = world_seen u t r new.events
+  now r = world_seen u t (with_sessions after r) new.events
 
   abbrev es : List Entry
   es = hold_entries k m.a.0 m.b.0 n
 
-  low : begins first s u t m.a.0 ≡ true → nat_lt (last_in before k) n ≡ true
-  low is = sym is_first ∙ (and_parts first _ is).0
+  low : did ≡ true → nat_lt (last_in before k) n ≡ true
+  low is = sym is_first ∙ only is
 
-  rest-is : (r : Rest) → rest_after first s u t m.a.0 k (with_sessions before r) ≡ with_sessions after r
-  rest-is r = begun-rest (begins first s u t m.a.0) before k r ∙ ap (λ z. with_sessions z r) (sym sessions)
-
-  by : (res : Result Bool Refusal) → OnOk res ((r : Rest) → Leads (was (with_sessions before r)) es (now (with_sessions after r))) → OnErr res ((r : Rest) → Fails (armed_in s) (was (with_sessions before r)) es (now (with_sessions after r)) (refusal_of res))
-      → IfOk res (λ w. w ≡ false) → Kept s u t old new (if first then 3 else 2) (is_stop (refusal_of res)) (done_of res) → OnOk res (old.spare ≤ new.spare + (if begins first s u t m.a.0 then 2 else 1)) → Ordered s u t old new before after phases.Hold k n (m ∷ []) res
+  by : (res : Result Bool Refusal) → OnOk res ((r : Rest) → Leads (was r) es (now r)) → OnErr res ((r : Rest) → Fails (armed_in s) (was r) es (now r) (refusal_of res))
+      → IfOk res (λ w. w ≡ false) → Kept s u t old new (if first then 3 else 2) (is_stop (refusal_of res)) (done_of res) → OnOk res (old.spare ≤ new.spare + (if did then 2 else 1)) → Ordered s u t old new before after phases.Hold k n (m ∷ []) res
   by res leads fails waits kept left = record {
     leads = leads;
     fails = fails;
     waits = waits;
     sync = ok-along res left (λ h is. absurd (let no : true ≡ false = sym is in cc));
-    may = subst (λ z. MayBegin z k n) (sym sessions) (may-begun (begins first s u t m.a.0) before k n may low);
-    members = ap (λ z. members_in (session_in z k)) sessions ∙ members-begun (begins first s u t m.a.0) before k;
+    may = subst (λ z. MayBegin z k n) (sym sessions) (may-begun did before k n may low);
+    members = ap (λ z. members_in (session_in z k)) sessions ∙ members-begun did before k;
     kept = kept-more s u t old new (if first then 3 else 2) (1 + (to_begin before k n + 1)) (done_of res) (let is = room-first before k n first is_first in omega (arith, is)) kept;
-    left = ok-along res left (λ h. subst (λ z. old.spare + to_begin z k n ≤ new.spare + (1 + to_begin before k n)) (sym sessions) (left-begun old.spare new.spare (begins first s u t m.a.0) before k n may low h));
+    left = ok-along res left (λ h. subst (λ z. old.spare + to_begin z k n ≤ new.spare + (1 + to_begin before k n)) (sym sessions) (left-begun old.spare new.spare did before k n may low h));
   }
 
-  pub held-ordered : (res : Result (Unit {0}) Refusal) → OnOk res ((r : Rest) → nat_lt (last_of (was r).control k) n ≡ first → Leads (was r) es (now (rest_after first s u t m.a.0 k r)))
-      → OnErr res ((r : Rest) → nat_lt (last_of (was r).control k) n ≡ first → Fails (armed_in s) (was r) es (now (rest_after first s u t m.a.0 k r)) (refusal_of res))
-      → OnOk res (old.spare ≤ new.spare + (if begins first s u t m.a.0 then 2 else 1)) → Kept s u t old new (if first then 3 else 2) (is_stop (refusal_of res)) res
+  pub held-ordered : (res : Result (Unit {0}) Refusal) → OnOk res ((r : Rest) → nat_lt (last_of (was r).control k) n ≡ first → Leads (was r) es (now r))
+      → OnErr res ((r : Rest) → nat_lt (last_of (was r).control k) n ≡ first → Fails (armed_in s) (was r) es (now r) (refusal_of res))
+      → OnOk res (old.spare ≤ new.spare + (if did then 2 else 1)) → Kept s u t old new (if first then 3 else 2) (is_stop (refusal_of res)) res
       → Ordered s u t old new before after phases.Hold k n (m ∷ []) (at_once res)
-  held-ordered (Ok x) leads fails left kept = by (Ok false) (λ r. subst (λ (z : Rest). Leads (was (with_sessions before r)) es (now z)) (rest-is r) (leads (with_sessions before r) (sym is_first))) tt refl kept left
-  held-ordered (Err e) leads fails left kept = by (Err e) tt (λ r. subst (λ (z : Rest). Fails (armed_in s) (was (with_sessions before r)) es (now z) (refusal_of {T = Unit {0}} (Err e))) (rest-is r) (fails (with_sessions before r) (sym is_first))) tt kept tt
+  held-ordered (Ok x) leads fails left kept = by (Ok false) (λ r. leads r (sym is_first)) tt refl kept left
+  held-ordered (Err e) leads fails left kept = by (Err e) tt (λ r. fails r (sym is_first)) tt kept tt
