@@ -1,11 +1,28 @@
 -- A session whose attempt has begun: its members, its last number, and what may begin then.
-use Rattle.std.proofs.Common.{ℕ, ◌≡◌, ◌≤◌, ◌+◌, Bool, true, false, cond, ◌==◌, nat_lt, arith, List, [], ◌∷◌, refl, sym, ◌∙◌, ap, Option, None, Some, option_map}
-use Rattle.std.specs.Prelude.{unwrap_or, if◌then◌else◌}
+use Rattle.std.proofs.Common.{ℕ, ◌≡◌, ◌≤◌, ◌+◌, Bool, true, false, cond, ◌==◌, nat_lt, arith, List, [], ◌∷◌, refl, sym, ◌∙◌, ap, subst, Option, None, Some, option_map}
+use Rattle.std.specs.Prelude.{unwrap_or, Result, Ok, Err, IfOk, OnOk, OnErr, if◌then◌else◌}
+use Rattle.std.proofs.lemmas.Bool.{and_parts}
 use Rattle.std.proofs.lemmas.Bool.Decides.{nat_tests}
+use Rattle.dr_ids.specs.declared.names.Member.{Member}
+use Rattle.dr_ids.specs.declared.refusal.Refusal.{Refusal}
+use Rattle.dr_plant.specs.State.{PlantState}
+use Rattle.dr_config.specs.Table.{ConfigTable}
 use Rattle.dr_model.specs.Sessions.{Session, session_in, members_in, mirror_in, begin_refusal, changed, begun}
+use Rattle.dr_model.specs.Carry.{Entry}
+use Rattle.dr_model.specs.Control.{World}
+use Rattle.dr_model.specs.Log.{Log}
+use Rattle.dr_model.specs.Phases as phases
+use Rattle.dr_model.specs.SessionEntries.{last_of, hold_entries}
 use Rattle.dr_volume.specs.View.{Rest}
-use Rattle.dr_coord.specs.Changes.{begun_if}
+use Rattle.dr_moves.specs.Checks.{is_stop}
+use Rattle.dr_moves.specs.Here.{world_seen, armed_in, refusal_of}
+use Rattle.dr_moves.specs.Made.{Kept}
+use Rattle.dr_moves.specs.Turns.{Leads, Fails}
+use Rattle.dr_coord.specs.Changes.{begins, begun_if, rest_after}
 use Rattle.dr_gmirror.specs.Orders.{with_sessions, last_in, to_begin, begun_in, MayBegin}
+use Rattle.dr_moves.proofs.KeptLemmas.{kept-more}
+use Rattle.dr_moves.proofs.TurnLemmas.{ok-along}
+use Rattle.dr_gmirror.specs.Ordered.{done_of, at_once, Ordered}
 
 -- the session that was changed
 pub session-changed : (s : ℕ) (f : Session → Session) → ((x : Session) → (f x).number ≡ x.number) → (ss : List Session) → session_in (changed s f ss) s ≡ option_map f (session_in ss s)
@@ -65,6 +82,13 @@ left-begun a e true ss s n may low h =
     omega (arith, h, none, one)
 left-begun a e false ss s n may low h = omega (arith, h)
 
+at-most-one : (b : Bool) → ◌≤◌ (if b then 1 else 0) 1
+at-most-one true = omega arith
+at-most-one false = omega arith
+
+pub to_begin-one : (ss : List Session) (s n : ℕ) → to_begin ss s n ≤ 1
+to_begin-one ss s n = at-most-one (nat_lt (last_in ss s) n)
+
 room-of : (b : Bool) → ◌≡◌ {A = ℕ} (if b then 3 else 2) ((if b then 1 else 0) + 2)
 room-of true = refl
 room-of false = refl
@@ -76,3 +100,41 @@ room-first ss s n first is = ap {B = ℕ} (λ (b : Bool). if b then 3 else 2) is
 pub begun-rest : (b : Bool) (ss : List Session) (s : ℕ) (r : Rest) → begun_if b s (with_sessions ss r) ≡ with_sessions (begun_in b ss s) r
 begun-rest true ss s r = refl
 begun-rest false ss s r = refl
+
+-- the hold of a member, behind which the session's attempt has begun where it did
+module _ (s u : PlantState) (t : ConfigTable) (old new : Log) (before after : List Session) (k n : ℕ) (m : Member) (first : Bool) (may : MayBegin before k n) (is_first : first ≡ nat_lt (last_in before k) n)
+    (sessions : after ≡ begun_in (begins first s u t m.a.0) before k) where
+  abbrev was : Rest → World
+  was r = world_seen s t r old.events
+
+  abbrev now : Rest → World
+  now r = world_seen u t r new.events
+
+  abbrev es : List Entry
+  es = hold_entries k m.a.0 m.b.0 n
+
+  low : begins first s u t m.a.0 ≡ true → nat_lt (last_in before k) n ≡ true
+  low is = sym is_first ∙ (and_parts first _ is).0
+
+  rest-is : (r : Rest) → rest_after first s u t m.a.0 k (with_sessions before r) ≡ with_sessions after r
+  rest-is r = begun-rest (begins first s u t m.a.0) before k r ∙ ap (λ z. with_sessions z r) (sym sessions)
+
+  by : (res : Result Bool Refusal) → OnOk res ((r : Rest) → Leads (was (with_sessions before r)) es (now (with_sessions after r))) → OnErr res ((r : Rest) → Fails (armed_in s) (was (with_sessions before r)) es (now (with_sessions after r)) (refusal_of res))
+      → IfOk res (λ w. w ≡ false) → Kept s u t old new (if first then 3 else 2) (is_stop (refusal_of res)) (done_of res) → OnOk res (old.spare ≤ new.spare + (if begins first s u t m.a.0 then 2 else 1)) → Ordered s u t old new before after phases.Hold k n (m ∷ []) res
+  by res leads fails waits kept left = record {
+    leads = leads;
+    fails = fails;
+    waits = waits;
+    sync = ok-along res left (λ h is. absurd (let no : true ≡ false = sym is in cc));
+    may = subst (λ z. MayBegin z k n) (sym sessions) (may-begun (begins first s u t m.a.0) before k n may low);
+    members = ap (λ z. members_in (session_in z k)) sessions ∙ members-begun (begins first s u t m.a.0) before k;
+    kept = kept-more s u t old new (if first then 3 else 2) (1 + (to_begin before k n + 1)) (done_of res) (let is = room-first before k n first is_first in omega (arith, is)) kept;
+    left = ok-along res left (λ h. subst (λ z. old.spare + to_begin z k n ≤ new.spare + (1 + to_begin before k n)) (sym sessions) (left-begun old.spare new.spare (begins first s u t m.a.0) before k n may low h));
+  }
+
+  pub held-ordered : (res : Result (Unit {0}) Refusal) → OnOk res ((r : Rest) → nat_lt (last_of (was r).control k) n ≡ first → Leads (was r) es (now (rest_after first s u t m.a.0 k r)))
+      → OnErr res ((r : Rest) → nat_lt (last_of (was r).control k) n ≡ first → Fails (armed_in s) (was r) es (now (rest_after first s u t m.a.0 k r)) (refusal_of res))
+      → OnOk res (old.spare ≤ new.spare + (if begins first s u t m.a.0 then 2 else 1)) → Kept s u t old new (if first then 3 else 2) (is_stop (refusal_of res)) res
+      → Ordered s u t old new before after phases.Hold k n (m ∷ []) (at_once res)
+  held-ordered (Ok x) leads fails left kept = by (Ok false) (λ r. subst (λ (z : Rest). Leads (was (with_sessions before r)) es (now z)) (rest-is r) (leads (with_sessions before r) (sym is_first))) tt refl kept left
+  held-ordered (Err e) leads fails left kept = by (Err e) tt (λ r. subst (λ (z : Rest). Fails (armed_in s) (was (with_sessions before r)) es (now z) (refusal_of {T = Unit {0}} (Err e))) (rest-is r) (fails (with_sessions before r) (sym is_first))) tt kept tt

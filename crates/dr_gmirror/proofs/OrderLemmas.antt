@@ -1,12 +1,12 @@
 -- Orders over members, one by one.
 use Rattle.std.proofs.Common.{ℕ, zero, suc, ◌≡◌, ◌≤◌, ◌<◌, ◌+◌, Bool, true, false, ◌&&◌, ◌||◌, cond, arith, List, [], ◌∷◌, ◌++◌, length, take, drop, slice_get, refl, sym, ◌∙◌, ap, subst, Option, Some}
-use Rattle.std.specs.Prelude.{if◌then◌else◌, is_some, Result, Ok, Err, IfOk}
+use Rattle.std.specs.Prelude.{if◌then◌else◌, is_some}
 use Rattle.std.specs.List.{list_any}
 use Rattle.std.proofs.lemmas.List.{append-nil}
 use Rattle.std.proofs.lemmas.List.Elements.{filter-append}
 use Rattle.std.proofs.lemmas.List.Folds.{list_any-append}
 use Rattle.std.proofs.lemmas.Grind.{flat_map-append}
-use Rattle.std.proofs.Math.Bool.{and-false, or-false, or-true}
+use Rattle.std.proofs.Math.Bool.{or-true}
 use Rattle.dr_ids.specs.declared.names.Member.{Member}
 use Rattle.dr_ids.specs.declared.refusal.Refusal.{Refusal}
 use Rattle.dr_bits.specs.Tracks.{Tracks}
@@ -25,18 +25,9 @@ use Rattle.dr_gcopy.proofs.TwoMoves.{server-stays}
 use Rattle.dr_gmirror.specs.Orders.{IsMemberReady, is_seal, is_report, sync_seen, must_wait, waits_in}
 use Rattle.dr_moves.proofs.LeadLemmas.{then-leads, then-fails, fails-first}
 
--- one member, on the server or elsewhere
+-- one member on the server
 pub entries-on : (work : phases.Work) (s n server : ℕ) (m : Member) → is_on server m ≡ true → order_entries work s n (members_on server (m ∷ [])) ≡ member_entries work s n m
 entries-on work s n server m is = ap (λ b. order_entries work s n (cond b (m ∷ []) [])) is ∙ append-nil (member_entries work s n m)
-
-pub entries-off : (work : phases.Work) (s n server : ℕ) (m : Member) → is_on server m ≡ false → order_entries work s n (members_on server (m ∷ [])) ≡ []
-entries-off work s n server m is = ap (λ b. order_entries work s n (cond b (m ∷ []) [])) is
-
-pub waits-on : (work : phases.Work) (sync : ℕ → Tracks) (server : ℕ) (m : Member) → is_on server m ≡ true → waits_in work sync (members_on server (m ∷ [])) ≡ (is_seal work && must_wait sync m)
-waits-on work sync server m is = ap (λ b. waits_in work sync (cond b (m ∷ []) [])) is ∙ ap (λ b. is_seal work && b) (or-false (must_wait sync m))
-
-pub waits-off : (work : phases.Work) (sync : ℕ → Tracks) (server : ℕ) (m : Member) → is_on server m ≡ false → waits_in work sync (members_on server (m ∷ [])) ≡ false
-waits-off work sync server m is = ap (λ b. waits_in work sync (cond b (m ∷ []) [])) is ∙ and-false (is_seal work)
 
 -- one member more
 pub entries-more : (work : phases.Work) (s n server : ℕ) (xs ys : List Member) → order_entries work s n (members_on server (xs ++ ys)) ≡ order_entries work s n (members_on server xs) ++ order_entries work s n (members_on server ys)
@@ -47,11 +38,8 @@ either-and : (a b c : Bool) → (a && (b || c)) ≡ ((a && b) || (a && c))
 either-and true b c = refl
 either-and false b c = refl
 
-pub waits-more : (work : phases.Work) (sync : ℕ → Tracks) (server : ℕ) (xs ys : List Member) → waits_in work sync (members_on server (xs ++ ys)) ≡ (waits_in work sync (members_on server xs) || waits_in work sync (members_on server ys))
-waits-more work sync server xs ys =
-    ap (λ ms. is_seal work && list_any (must_wait sync) ms) (filter-append (is_on server) xs ys)
-    ∙ ap (λ b. is_seal work && b) (list_any-append (must_wait sync) (members_on server xs) (members_on server ys))
-    ∙ either-and (is_seal work) _ _
+pub waits-more : (work : phases.Work) (sync : ℕ → Tracks) (xs ys : List Member) → waits_in work sync (xs ++ ys) ≡ (waits_in work sync xs || waits_in work sync ys)
+waits-more work sync xs ys = ap (λ b. is_seal work && b) (list_any-append (must_wait sync) xs ys) ∙ either-and (is_seal work) _ _
 
 -- of a seal nothing more is out of sync, and nothing else has to wait
 pub waits-kept : (work : phases.Work) (now next : ℕ → Tracks) (ms : List Member) → (is_seal work ≡ true → (q : ℕ) → next q ≡ now q) → waits_in work next ms ≡ waits_in work now ms
@@ -98,11 +86,6 @@ reply-is k phases.Commit s t ms waits reply other is says r events = says ∙ ap
 reply-is k phases.Revert s t ms waits reply other is says r events = says ∙ ap (λ b. if b then phases.NotYet else phases.Done) is
 reply-is k phases.Finish s t ms waits reply other is says r events = says ∙ ap (λ b. if b then phases.NotYet else phases.Done) is
 reply-is k phases.Report s t ms waits reply other is says r events = absurd cc
-
--- what holds of an answer, along another fact of it
-pub if-along : {T E : Type 0} {P Q : T → Type 0} (r : Result T E) → IfOk r P → ((x : T) → P x → Q x) → IfOk r Q
-if-along (Ok x) p f = f x p
-if-along (Err e) p f = tt
 
 -- a list from its parts, and all of it
 pub member-split : (ms : List Member) (i : ℕ) (m : Member) → Some m ≡ slice_get ms i → ms ≡ take i ms ++ (m ∷ [] ++ drop (suc i) ms)

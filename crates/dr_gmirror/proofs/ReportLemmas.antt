@@ -16,12 +16,9 @@ use Rattle.dr_model.specs.SessionEntries.{is_on, members_on, counts_in, counts_a
 pub shown-one : (s : ℕ) (k : Control) (m : Member) → shown_by_members s (m ∷ []) k ≡ (if counts_in s (fields_at k m.c.0) then shown_of (fields_at k m.c.0) ∷ [] else [])
 shown-one s k m = elim (counts_in s (fields_at k m.c.0)) as (λ b. map (shown_at k) (cond b (m ∷ []) []) ≡ (if b then shown_of (fields_at k m.c.0) ∷ [] else [])) [ true ↦ refl | false ↦ refl ]
 
--- one on the server or elsewhere
+-- one on the server
 pub shown-on : (s server : ℕ) (k : Control) (m : Member) → is_on server m ≡ true → shown_by_members s (members_on server (m ∷ [])) k ≡ shown_by_members s (m ∷ []) k
 shown-on s server k m is = ap (λ b. shown_by_members s (cond b (m ∷ []) []) k) is
-
-pub shown-off : (s server : ℕ) (k : Control) (m : Member) → is_on server m ≡ false → shown_by_members s (members_on server (m ∷ [])) k ≡ []
-shown-off s server k m is = ap (λ b. shown_by_members s (cond b (m ∷ []) []) k) is
 
 -- and more
 pub shown-more : (s server : ℕ) (k : Control) (xs ys : List Member) → shown_by_members s (members_on server (xs ++ ys)) k ≡ shown_by_members s (members_on server xs) k ++ shown_by_members s (members_on server ys) k

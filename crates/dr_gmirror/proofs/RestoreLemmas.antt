@@ -1,14 +1,11 @@
 -- The first member that passes a test, and what all members show, one by one.
-use Rattle.std.proofs.Common.{ℕ, zero, suc, ◌≡◌, ◌<◌, ◌+◌, arith, inl, inr, Bool, true, false, cond, not, List, [], ◌∷◌, ◌++◌, length, map, filter, take, slice_get, refl, sym, ◌∙◌, ap, subst, Option, Some, None}
+use Rattle.std.proofs.Common.{ℕ, zero, suc, ◌≡◌, ◌<◌, ◌+◌, arith, inl, inr, Bool, true, false, cond, List, [], ◌∷◌, ◌++◌, length, map, filter, take, slice_get, refl, sym, ◌∙◌, ap, subst, Option, Some, None}
 use Rattle.std.proofs.lemmas.List.{map-append}
 use Rattle.std.specs.List.{find}
 use Rattle.std.proofs.lemmas.Bool.{cases_eq}
 use Rattle.std.specs.Option.{option_or}
 use Rattle.dr_ids.specs.declared.names.Member.{Member}
 use Rattle.dr_ids.specs.declared.refusal.Refusal.{Refusal}
-use Rattle.dr_ids.specs.declared.refusal.Decision.{Decision}
-use Rattle.dr_ids.specs.declared.refusal.Decision.TheVariants.{Nothing}
-use Rattle.dr_ids.specs.declared.refusal.Refusal.TheVariants.{Forbidden}
 use Rattle.dr_model.specs.Control.{Control}
 use Rattle.dr_model.specs.Plans.{secondary_refusal, forbidden_unless, leaves_all, decided_in, settled_refusal}
 use Rattle.dr_model.specs.Sessions.{session_in, members_in}
@@ -56,10 +53,6 @@ pub all-more : (s : ℕ) (k : Control) (xs ys : List Member) → shown_by_member
 all-more s k xs ys = ap (map (shown_at k)) (filter-append (counts_at s k) xs ys) ∙ map-append (shown_at k) (filter (counts_at s k) xs) (filter (counts_at s k) ys)
 
 -- ---- the decision
-
-pub forbidden-so : (d : Decision) → ((n : ℕ) → d ≡ Nothing n → ⊥) → Some (Forbidden d) ≡ forbidden_unless (leaves_all d) d
-forbidden-so (Nothing n) other = absurd (other n refl)
-forbidden-so d other = refl
 
 -- a target that isn't a member's is left to its source
 pub settled-plain : (k : Control) (t s : ℕ) → (fields_at k t).member ≡ false → settled_refusal t s k ≡ None

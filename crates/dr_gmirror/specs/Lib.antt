@@ -1,3 +1,4 @@
 pub mod Orders
+pub mod Ordered
 pub mod Exchange
 pub mod Reports

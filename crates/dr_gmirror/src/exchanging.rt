@@ -22,6 +22,7 @@ ghost use Rattle.dr_volume.specs.View.{Rest};
 ghost use Rattle.dr_moves.specs.Checks.{OnNone, is_stop};
 ghost use Rattle.dr_moves.specs.Fit.{RelationsFit};
 ghost use Rattle.dr_moves.specs.Here.{world_seen, refusal_of, armed_in, IsAtRest};
+ghost use Rattle.dr_moves.specs.Made.{IsAt, Kept};
 ghost use Rattle.dr_moves.specs.Aside.{AsideFits};
 ghost use Rattle.dr_laws_recovery.specs.TakenOver.{IsLeft};
 ghost use Rattle.dr_gmirror.specs.Orders.{with_sessions, AreReady};
@@ -146,8 +147,7 @@ fn exchange_order<P: Plant>(
     order: Order,
     reply: bool,
 ) -> Result<(), Refusal>
-    requires rest { IsAtRest (P.state plant.old) config.now }
-    requires fit { RelationsFit (P.state plant.old) config.now }
+    requires at { IsAt (P.state plant.old) config.now }
     requires aside { AsideFits (P.state plant.old) config.now }
     requires members { AreReady (P.state plant.old) config.now (model.members_in (model.session_in ss.old.sessions s.0)) }
     requires running { (P.state plant.old).on server.0 ≡ true }
@@ -158,14 +158,7 @@ fn exchange_order<P: Plant>(
     ensures carried { (r : Rest) → PlanEnds (armed_in (P.state plant.old)) (world_seen (P.state plant.old) config.now (with_sessions ss.old.sessions r) journal.old.events)
         (plans.exchange_done s.0 server.0 reply (members_on server.0 (model.members_in (model.session_in ss.old.sessions s.0))) (Some (master.order_of order)))
         (world_seen (P.state plant.new) config.now (with_sessions ss.new.sessions r) journal.new.events) (exchange_answer result s.0 (world_seen (P.state plant.new) config.now (with_sessions ss.new.sessions r) journal.new.events).control) }
-    ensures rest { IsAtRest (P.state plant.new) config.now }
-    ensures fit { RelationsFit (P.state plant.new) config.now }
-    ensures aside { AsideFits (P.state plant.new) config.now }
-    ensures unarmed { (q : ℕ) → (P.state plant.old).read_fuse q ≡ None → (P.state plant.new).read_fuse q ≡ None }
-    ensures faults { Counted (is_stop (refusal_of result)) (P.state plant.old).faults (P.state plant.new).faults }
-    ensures on { OnOk result ((P.state plant.new).on ≡ (P.state plant.old).on) }
-    ensures room { journal.old.spare ≤ journal.new.spare + (length (model.members_in (model.session_in ss.old.sessions s.0)) + 2) }
-    ensures spare { length journal.new.events + journal.new.spare ≡ length journal.old.events + journal.old.spare }
+    ensures kept { Kept (P.state plant.old) (P.state plant.new) config.now journal.old journal.new (length (model.members_in (model.session_in ss.old.sessions s.0)) + 2) (is_stop (refusal_of result)) result }
 {
     match carry_out(plant, config, journal, ss, s, server, order) {
         Ok(y) => {

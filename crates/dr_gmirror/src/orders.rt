@@ -12,10 +12,12 @@ ghost use Rattle.dr_volume.specs.View.{Rest};
 ghost use Rattle.dr_moves.specs.Checks.{is_stop};
 ghost use Rattle.dr_moves.specs.Fit.{RelationsFit};
 ghost use Rattle.dr_moves.specs.Here.{world_seen, refusal_of, armed_in, IsAtRest};
+ghost use Rattle.dr_moves.specs.Made.{IsAt};
 ghost use Rattle.dr_moves.specs.Turns.{Leads, Fails};
 ghost use Rattle.dr_moves.specs.Aside.{AsideFits};
 ghost use Rattle.dr_gmirror.specs.Exchange.{members_in_reply};
 ghost use Rattle.dr_gmirror.specs.Orders.{with_sessions, MayOrder, AreReady, is_report};
+ghost use Rattle.dr_gmirror.specs.Ordered.{Ordered};
 
 use crate::settling::settle;
 use crate::steps::order_on;
@@ -39,6 +41,35 @@ fn reply_by(waits: bool) -> Reply
     ensures count { count_in result ≡ members_in_reply (reply_of result) }
 {
     if waits { Reply::NotYet } else { Reply::Done }
+}
+
+/// Carries an order out on the members of a server, in the order in which they came, and tells whether a seal has to wait.
+fn order_each<P: Plant>(
+    plant: &mut P,
+    config: &Config,
+    journal: &mut Journal,
+    ss: &mut Sessions,
+    s: SessionId,
+    server: ServerId,
+    order: Order,
+) -> Result<bool, Refusal>
+    requires at { IsAt (P.state plant.old) config.now }
+    requires aside { AsideFits (P.state plant.old) config.now }
+    requires members { AreReady (P.state plant.old) config.now (model.members_in (model.session_in ss.old.sessions s.0)) }
+    requires running { (P.state plant.old).on server.0 ≡ true }
+    requires begins { MayOrder (work_of order.kind) ss.old.sessions s.0 order.n }
+    requires room { length (model.members_in (model.session_in ss.old.sessions s.0)) + 2 ≤ journal.old.spare }
+    ensures { Ordered (P.state plant.old) (P.state plant.new) config.now journal.old journal.new ss.old.sessions ss.new.sessions (work_of order.kind) s.0 order.n (members_on server.0 (model.members_in (model.session_in ss.old.sessions s.0))) result }
+{
+    let mut waits = false;
+    for at in 0..ss.member_count(s) {
+        let m = ss.member_at(s, at).unwrap();
+        let wait = order_on(
+            plant, config, journal, ss, s, server, &m, order.kind, order.n,
+        )?;
+        waits |= wait;
+    }
+    Ok(waits)
 }
 
 /// A server, which is on, carries out an order on its members of a session, in the order in which they came, and replies: to a
@@ -87,13 +118,8 @@ pub fn carry_out<P: Plant>(
             Err(why) => Err(why),
         };
     }
-    let mut waits = false;
-    for at in 0..ss.member_count(s) {
-        let m = ss.member_at(s, at).unwrap();
-        let wait = order_on(
-            plant, config, journal, ss, s, server, &m, order.kind, order.n,
-        )?;
-        waits |= wait;
+    match order_each(plant, config, journal, ss, s, server, order) {
+        Ok(waits) => Ok(reply_by(waits)),
+        Err(why) => Err(why),
     }
-    Ok(reply_by(waits))
 }

@@ -15,6 +15,7 @@ ghost use Rattle.dr_volume.specs.View.{Rest, volume_seen};
 ghost use Rattle.dr_moves.specs.Checks.{is_stop};
 ghost use Rattle.dr_moves.specs.Fit.{RelationsFit};
 ghost use Rattle.dr_moves.specs.Here.{world_seen, refusal_of, armed_in, IsAtRest};
+ghost use Rattle.dr_moves.specs.Made.{IsAt, Kept};
 ghost use Rattle.dr_moves.specs.Turns.{Leads, Fails};
 ghost use Rattle.dr_moves.specs.Aside.{AsideFits};
 ghost use Rattle.dr_gmirror.specs.Orders.{sync_seen};
@@ -44,8 +45,7 @@ fn seal_drained<P: Plant>(
     m: &Member,
     n: u32,
 ) -> Result<(), Refusal>
-    requires rest { IsAtRest (P.state plant.old) config.now }
-    requires fit { RelationsFit (P.state plant.old) config.now }
+    requires at { IsAt (P.state plant.old) config.now }
     requires primary { IsSome (place_of config.now m.now.a.0) }
     requires secondary { IsSome (place_of config.now m.now.b.0) }
     requires drained { is_bare (volume_seen (P.state plant.old) config.now m.now.a.0).fields.out_of_sync ≡ true }
@@ -53,17 +53,10 @@ fn seal_drained<P: Plant>(
     ensures leads { OnOk result ((r : Rest) → Leads (world_seen (P.state plant.old) config.now r journal.old.events) (refuse_if (seal_refusal m.now.a.0 m.now.b.0) ∷ seal_on s.0 m.now.a.0 m.now.b.0 n ∷ []) (world_seen (P.state plant.new) config.now r journal.new.events)) }
     ensures fails { OnErr result ((r : Rest) → Fails (armed_in (P.state plant.old)) (world_seen (P.state plant.old) config.now r journal.old.events) (refuse_if (seal_refusal m.now.a.0 m.now.b.0) ∷ seal_on s.0 m.now.a.0 m.now.b.0 n ∷ []) (world_seen (P.state plant.new) config.now r journal.new.events) (refusal_of result)) }
     ensures unchanged { is_stop (refusal_of result) ≡ false → OnErr result ((P.state plant.new ≡ P.state plant.old) × (journal.new ≡ journal.old)) }
-    ensures rest { IsAtRest (P.state plant.new) config.now }
-    ensures fit { RelationsFit (P.state plant.new) config.now }
-    ensures aside { AsideFits (P.state plant.old) config.now → AsideFits (P.state plant.new) config.now }
-    ensures unarmed { (q : ℕ) → (P.state plant.old).read_fuse q ≡ None → (P.state plant.new).read_fuse q ≡ None }
-    ensures faults { Counted (is_stop (refusal_of result)) (P.state plant.old).faults (P.state plant.new).faults }
-    ensures kept { OnOk result ((q : ℕ) → sync_seen (P.state plant.new) config.now q ≡ sync_seen (P.state plant.old) config.now q) }
+    ensures sync { OnOk result ((q : ℕ) → sync_seen (P.state plant.new) config.now q ≡ sync_seen (P.state plant.old) config.now q) }
     ensures others { OthersStay (P.state plant.old) (P.state plant.new) config.now m.now.b.0 }
-    ensures on { OnOk result ((P.state plant.new).on ≡ (P.state plant.old).on) }
-    ensures room { journal.old.spare ≤ journal.new.spare + 2 }
+    ensures kept { Kept (P.state plant.old) (P.state plant.new) config.now journal.old journal.new 2 (is_stop (refusal_of result)) result }
     ensures room_left { OnOk result (journal.old.spare ≤ journal.new.spare + 1) }
-    ensures spare { length journal.new.events + journal.new.spare ≡ length journal.old.events + journal.old.spare }
 {
     if let Some(why) = send_refusal(plant, config, m.a, m.b) {
         return Err(why);

@@ -14,7 +14,7 @@ ghost use Rattle.dr_moves.specs.Checks.{is_stop};
 ghost use Rattle.dr_moves.specs.Here.{world_seen, refusal_of, armed_in};
 ghost use Rattle.dr_moves.specs.Turns.{Leads, Fails};
 ghost use Rattle.dr_gmirror.specs.Orders.{IsMemberReady, AreReady};
-ghost use Rattle.dr_gmirror.specs.Reports.{IsTrimmed};
+ghost use Rattle.dr_gmirror.specs.Reports.{IsTrimmed, Grown};
 
 use dr_config::Config;
 use dr_gcopy::reach_refusal;
@@ -61,9 +61,7 @@ fn counts_in(s: SessionId, f: &Fields) -> bool
 pub(crate) fn note_if(report: &mut Report, s: SessionId, f: &Fields)
     requires { report.old.count < 64 }
     ensures shown { shown_in report.new ≡ shown_in report.old ++ (if counts_in s.0 (plain f.now) then shown_of (plain f.now) ∷ [] else []) }
-    ensures low { report.new.count ≤ report.old.count + 1 }
-    ensures count { length (shown_in report.old) ≡ report.old.count → length (shown_in report.new) ≡ report.new.count }
-    ensures trimmed { IsTrimmed report.old → IsTrimmed report.new }
+    ensures grown { Grown report.old report.new }
 {
     if counts_in(s, f) {
         note(report, f.sequence, f.revertible);
@@ -85,9 +83,7 @@ fn settle_member<P: Plant>(
     ensures fails { OnErr result ((r : Rest) (events : List Event) → Fails (armed_in (P.state plant.now)) (world_seen (P.state plant.now) config.now r events) (report_entries m.now) (world_seen (P.state plant.now) config.now r events) (refusal_of result)) }
     ensures calm { is_stop (refusal_of result) ≡ false }
     ensures shown { OnOk result ((r : Rest) (events : List Event) → shown_in report.new ≡ shown_in report.old ++ shown_by_members s.0 (m.now ∷ []) (world_seen (P.state plant.now) config.now r events).control) }
-    ensures low { report.new.count ≤ report.old.count + 1 }
-    ensures count { length (shown_in report.old) ≡ report.old.count → length (shown_in report.new) ≡ report.new.count }
-    ensures trimmed { IsTrimmed report.old → IsTrimmed report.new }
+    ensures grown { Grown report.old report.new }
 {
     if let Some(why) = reach_refusal(plant, config, m.a, m.b) {
         return Err(why);
@@ -112,9 +108,7 @@ fn settle_on<P: Plant>(
     ensures fails { OnErr result ((n : ℕ) (r : Rest) (events : List Event) → Fails (armed_in (P.state plant.now)) (world_seen (P.state plant.now) config.now r events) (order_entries phases.Report s.0 n (members_on server.0 (m.now ∷ []))) (world_seen (P.state plant.now) config.now r events) (refusal_of result)) }
     ensures calm { is_stop (refusal_of result) ≡ false }
     ensures shown { OnOk result ((r : Rest) (events : List Event) → shown_in report.new ≡ shown_in report.old ++ shown_by_members s.0 (members_on server.0 (m.now ∷ [])) (world_seen (P.state plant.now) config.now r events).control) }
-    ensures low { report.new.count ≤ report.old.count + 1 }
-    ensures count { length (shown_in report.old) ≡ report.old.count → length (shown_in report.new) ≡ report.new.count }
-    ensures trimmed { IsTrimmed report.old → IsTrimmed report.new }
+    ensures grown { Grown report.old report.new }
 {
     if m.server.0 != server.0 {
         return Ok(());

@@ -1,17 +1,12 @@
 //! An order is carried out on a member.
 
-ghost use Rattle.std.specs.Prelude.{◌≡◌, ℕ, ◌≤◌, ◌+◌, ◌&&◌, true, [], ◌∷◌, length, None, IfOk, OnOk, OnErr};
-ghost use Rattle.dr_logic.specs.Counts.{Counted};
-ghost use Rattle.dr_model.specs.Sessions as model;
-ghost use Rattle.dr_model.specs.SessionEntries.{member_entries, members_on, order_entries};
+ghost use Rattle.std.specs.Prelude.{◌≡◌, ◌≤◌, ◌+◌, true, [], ◌∷◌};
+ghost use Rattle.dr_model.specs.SessionEntries.{members_on};
 ghost use Rattle.dr_master.specs.Seen.{work_of};
-ghost use Rattle.dr_volume.specs.View.{Rest};
-ghost use Rattle.dr_moves.specs.Checks.{is_stop};
-ghost use Rattle.dr_moves.specs.Fit.{RelationsFit};
-ghost use Rattle.dr_moves.specs.Here.{world_seen, refusal_of, armed_in, IsAtRest};
-ghost use Rattle.dr_moves.specs.Turns.{Leads, Fails};
 ghost use Rattle.dr_moves.specs.Aside.{AsideFits};
-ghost use Rattle.dr_gmirror.specs.Orders.{with_sessions, to_begin, MayOrder, IsMemberReady, is_seal, sync_seen, must_wait, waits_in};
+ghost use Rattle.dr_moves.specs.Made.{IsAt};
+ghost use Rattle.dr_gmirror.specs.Orders.{to_begin, MayOrder, IsMemberReady};
+ghost use Rattle.dr_gmirror.specs.Ordered.{at_once, Ordered};
 
 use crate::holding::hold_member;
 use crate::sealing::seal;
@@ -25,6 +20,16 @@ use dr_plant::Plant;
 use dr_revert::{commit, flash, revert};
 use dr_session::Sessions;
 
+/// An order that has to wait for nothing.
+fn at_once(done: Result<(), Refusal>) -> Result<bool, Refusal>
+    ensures { result ≡ at_once done }
+{
+    match done {
+        Ok(()) => Ok(false),
+        Err(why) => Err(why),
+    }
+}
+
 /// Carries an order out on a member, and tells whether it has to wait. For a report the member's secondary is to be reached,
 /// and nothing is done.
 fn order_member<P: Plant>(
@@ -37,58 +42,25 @@ fn order_member<P: Plant>(
     kind: OrderKind,
     n: u32,
 ) -> Result<bool, Refusal>
-    requires rest { IsAtRest (P.state plant.old) config.now }
-    requires fit { RelationsFit (P.state plant.old) config.now }
+    requires at { IsAt (P.state plant.old) config.now }
     requires aside { AsideFits (P.state plant.old) config.now }
     requires ready { IsMemberReady (P.state plant.old) config.now m.now }
     requires running { (P.state plant.old).on m.now.server.0 ≡ true }
     requires begins { MayOrder (work_of kind) ss.old.sessions s.0 n }
     requires room { to_begin ss.old.sessions s.0 n + 2 ≤ journal.old.spare }
-    ensures leads { OnOk result ((r : Rest) → Leads (world_seen (P.state plant.old) config.now (with_sessions ss.old.sessions r) journal.old.events) (member_entries (work_of kind) s.0 n m.now) (world_seen (P.state plant.new) config.now (with_sessions ss.new.sessions r) journal.new.events)) }
-    ensures fails { OnErr result ((r : Rest) → Fails (armed_in (P.state plant.old)) (world_seen (P.state plant.old) config.now (with_sessions ss.old.sessions r) journal.old.events) (member_entries (work_of kind) s.0 n m.now) (world_seen (P.state plant.new) config.now (with_sessions ss.new.sessions r) journal.new.events) (refusal_of result)) }
-    ensures waits { IfOk result (λ waits. waits ≡ (is_seal (work_of kind) && must_wait (sync_seen (P.state plant.new) config.now) m.now)) }
-    ensures kept { OnOk result (is_seal (work_of kind) ≡ true → (q : ℕ) → sync_seen (P.state plant.new) config.now q ≡ sync_seen (P.state plant.old) config.now q) }
-    ensures may { MayOrder (work_of kind) ss.new.sessions s.0 n }
-    ensures members { model.members_in (model.session_in ss.new.sessions s.0) ≡ model.members_in (model.session_in ss.old.sessions s.0) }
-    ensures rest { IsAtRest (P.state plant.new) config.now }
-    ensures fit { RelationsFit (P.state plant.new) config.now }
-    ensures aside { AsideFits (P.state plant.new) config.now }
-    ensures unarmed { (q : ℕ) → (P.state plant.old).read_fuse q ≡ None → (P.state plant.new).read_fuse q ≡ None }
-    ensures faults { Counted (is_stop (refusal_of result)) (P.state plant.old).faults (P.state plant.new).faults }
-    ensures on { OnOk result ((P.state plant.new).on ≡ (P.state plant.old).on) }
-    ensures room { journal.old.spare ≤ journal.new.spare + (to_begin ss.old.sessions s.0 n + 2) }
-    ensures room_left { OnOk result (journal.old.spare + to_begin ss.new.sessions s.0 n ≤ journal.new.spare + (1 + to_begin ss.old.sessions s.0 n)) }
-    ensures spare { length journal.new.events + journal.new.spare ≡ length journal.old.events + journal.old.spare }
+    ensures { Ordered (P.state plant.old) (P.state plant.new) config.now journal.old journal.new ss.old.sessions ss.new.sessions (work_of kind) s.0 n (m.now ∷ []) result }
 {
     match kind {
-        OrderKind::Hold => match hold_member(plant, config, journal, ss, s, m, n) {
-            Ok(()) => Ok(false),
-            Err(why) => Err(why),
-        },
-        OrderKind::Release => match release(plant, config, journal, m, n) {
-            Ok(()) => Ok(false),
-            Err(why) => Err(why),
-        },
+        OrderKind::Hold => at_once(hold_member(plant, config, journal, ss, s, m, n)),
+        OrderKind::Release => at_once(release(plant, config, journal, m, n)),
         OrderKind::Seal => match seal(plant, config, journal, s, m, n) {
             Ok(done) => Ok(!done),
             Err(why) => Err(why),
         },
-        OrderKind::Flash => match flash(plant, config, journal, s, m, n) {
-            Ok(()) => Ok(false),
-            Err(why) => Err(why),
-        },
-        OrderKind::Commit => match commit(plant, config, journal, s, m, n) {
-            Ok(()) => Ok(false),
-            Err(why) => Err(why),
-        },
-        OrderKind::Revert => match revert(plant, config, journal, s, m, n) {
-            Ok(()) => Ok(false),
-            Err(why) => Err(why),
-        },
-        OrderKind::Finish => match finish(plant, config, journal, m, n) {
-            Ok(()) => Ok(false),
-            Err(why) => Err(why),
-        },
+        OrderKind::Flash => at_once(flash(plant, config, journal, s, m, n)),
+        OrderKind::Commit => at_once(commit(plant, config, journal, s, m, n)),
+        OrderKind::Revert => at_once(revert(plant, config, journal, s, m, n)),
+        OrderKind::Finish => at_once(finish(plant, config, journal, m, n)),
         OrderKind::Report => match reach_refusal(plant, config, m.a, m.b) {
             None => Ok(false),
             Some(why) => Err(why),
@@ -108,28 +80,13 @@ pub(crate) fn order_on<P: Plant>(
     kind: OrderKind,
     n: u32,
 ) -> Result<bool, Refusal>
-    requires rest { IsAtRest (P.state plant.old) config.now }
-    requires fit { RelationsFit (P.state plant.old) config.now }
+    requires at { IsAt (P.state plant.old) config.now }
     requires aside { AsideFits (P.state plant.old) config.now }
     requires ready { IsMemberReady (P.state plant.old) config.now m.now }
     requires running { (P.state plant.old).on server.0 ≡ true }
     requires begins { MayOrder (work_of kind) ss.old.sessions s.0 n }
     requires room { to_begin ss.old.sessions s.0 n + 2 ≤ journal.old.spare }
-    ensures leads { OnOk result ((r : Rest) → Leads (world_seen (P.state plant.old) config.now (with_sessions ss.old.sessions r) journal.old.events) (order_entries (work_of kind) s.0 n (members_on server.0 (m.now ∷ []))) (world_seen (P.state plant.new) config.now (with_sessions ss.new.sessions r) journal.new.events)) }
-    ensures fails { OnErr result ((r : Rest) → Fails (armed_in (P.state plant.old)) (world_seen (P.state plant.old) config.now (with_sessions ss.old.sessions r) journal.old.events) (order_entries (work_of kind) s.0 n (members_on server.0 (m.now ∷ []))) (world_seen (P.state plant.new) config.now (with_sessions ss.new.sessions r) journal.new.events) (refusal_of result)) }
-    ensures waits { IfOk result (λ waits. waits ≡ waits_in (work_of kind) (sync_seen (P.state plant.new) config.now) (members_on server.0 (m.now ∷ []))) }
-    ensures kept { OnOk result (is_seal (work_of kind) ≡ true → (q : ℕ) → sync_seen (P.state plant.new) config.now q ≡ sync_seen (P.state plant.old) config.now q) }
-    ensures may { MayOrder (work_of kind) ss.new.sessions s.0 n }
-    ensures members { model.members_in (model.session_in ss.new.sessions s.0) ≡ model.members_in (model.session_in ss.old.sessions s.0) }
-    ensures rest { IsAtRest (P.state plant.new) config.now }
-    ensures fit { RelationsFit (P.state plant.new) config.now }
-    ensures aside { AsideFits (P.state plant.new) config.now }
-    ensures unarmed { (q : ℕ) → (P.state plant.old).read_fuse q ≡ None → (P.state plant.new).read_fuse q ≡ None }
-    ensures faults { Counted (is_stop (refusal_of result)) (P.state plant.old).faults (P.state plant.new).faults }
-    ensures on { OnOk result ((P.state plant.new).on ≡ (P.state plant.old).on) }
-    ensures room { journal.old.spare ≤ journal.new.spare + (to_begin ss.old.sessions s.0 n + 2) }
-    ensures room_left { OnOk result (journal.old.spare + to_begin ss.new.sessions s.0 n ≤ journal.new.spare + (1 + to_begin ss.old.sessions s.0 n)) }
-    ensures spare { length journal.new.events + journal.new.spare ≡ length journal.old.events + journal.old.spare }
+    ensures { Ordered (P.state plant.old) (P.state plant.new) config.now journal.old journal.new ss.old.sessions ss.new.sessions (work_of kind) s.0 n (members_on server.0 (m.now ∷ [])) result }
 {
     if m.server.0 != server.0 {
         return Ok(false);

@@ -1,25 +1,10 @@
--- A track with bytes laid over it, and what stays blank then.
-use Rattle.std.specs.Prelude.{if◌then◌else◌}
-use Rattle.std.proofs.Common.{ℕ, ◌≡◌, ◌≢◌, ◌<◌, ◌≤◌, ◌+◌, ◌-◌, inl, inr, Bool, refl, Some, List, length, get_or, set, take, ap, ◌∙◌, sym, arith, true, false, ◌&&◌, cond, nat_lt, nat_le}
+-- A track with bytes laid over it.
+use Rattle.std.proofs.Common.{ℕ, ◌≡◌, ◌≢◌, ◌<◌, ◌≤◌, ◌+◌, ◌-◌, inl, inr, List, length, get_or, set, take, ap, ◌∙◌, sym, arith, true, false, ◌&&◌, cond, nat_lt, nat_le}
 use Rattle.std.proofs.lemmas.Grind.{common_steps}
 use Rattle.std.proofs.lemmas.Bool.Decides.{nat_tests, eqb_tells, leb_tells}
 use Rattle.std.proofs.lemmas.List.{get_or-take, length-take-le}
 use Rattle.std.proofs.lemmas.List.FromFn.{fill_by_all}
-use Rattle.dr_plant.specs.State.{PlantState}
-use Rattle.dr_config.specs.Table.{ConfigTable}
-use Rattle.dr_model.specs.Control.{Volume}
-use Rattle.dr_model.specs.Lawful.{IsLawful}
-use Rattle.dr_model.specs.Relations.{closed, fetched, rewritten}
-use Rattle.dr_model.specs.Pairs.{written}
-use Rattle.dr_volume.specs.View.{volume_seen}
-use Rattle.dr_moves.specs.Fit.{RelationsFit}
-use Rattle.dr_moves.proofs.FitLemmas.{fit-kept}
-use Rattle.dr_moves.proofs.MoveFits.{covers-carried, MoveFits}
-use Rattle.dr_flash.proofs.MoveLemmas.{overwrite-fits}
-use Rattle.dr_metro.specs.Landing.{landed_on}
 use Rattle.dr_model.specs.Contents.{laid, byte_laid}
-use Rattle.dr_facts.proofs.Tracks.{not_removed_from}
-use Rattle.dr_facts.proofs.Lawful.{lawful-written}
 
 within : (o k n : ℕ) → o ≤ k → k < o + n → (nat_le o k && nat_lt k (o + n)) ≡ true
 within o k n a b = grind (arith, nat_tests)
@@ -72,19 +57,3 @@ unfolding laid
 laid-all o n bytes old track all sized h =
     let whole : take n bytes ≡ bytes = grind (arith, common_steps) in
     fill_by_all (byte_laid o bytes old) track 64 0 sized (λ k lt. h k lt ∙ ap (λ bs. byte_laid o bs old k) whole)
-
-module _ (s : PlantState) (c : ConfigTable) (v k : ℕ) (fit : RelationsFit s c) (lawful : IsLawful (volume_seen s c v).tracks (volume_seen s c v).fields) (low : k < (volume_seen s c v).tracks) (bytes : List ℕ) where
-  abbrev x : Volume
-  x = volume_seen s c v
-
-  lands-by : (target : Bool) → x.fields.related ≡ target
-      → MoveFits s c v (if target then closed x.tracks (rewritten (fetched x.fields k) k) else written x.fields k) (Some (k, bytes))
-  lands-by true is = overwrite-fits s c v fit lawful is k low 0 bytes
-  lands-by false is = record {
-    lawful = (lawful-written x.tracks x.fields lawful k low);
-    covers = covers-carried x.fields.blank k bytes;
-    leaves = fit-kept s c v (written x.fields k) fit (λ r. (r, refl)) (λ q h. not_removed_from x.fields.blank k q (fit.apart v q h));
-  }
-
-  pub lands-fit : MoveFits s c v (landed_on x k) (Some (k, bytes))
-  lands-fit = lands-by x.fields.related refl

@@ -31,7 +31,7 @@ use Rattle.dr_gcopy.specs.Followed.{Follows}
 use Rattle.dr_metro.specs.Here.{IsTold}
 use Rattle.dr_metro.specs.Landing.{landed}
 use Rattle.dr_metro.specs.Syncing.{over_entries, collided_entries, parts, entries_by, waits_by}
-use Rattle.dr_metro.proofs.LandLemmas.{told-through}
+use Rattle.dr_metro.proofs.ToldLemmas.{told-through}
 use Rattle.dr_logic.proofs.Truth.{false_true}
 use Rattle.dr_model.proofs.CarryLemmas.{act-drop}
 

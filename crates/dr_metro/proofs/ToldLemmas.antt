@@ -1,12 +1,17 @@
 -- The host's pending writes are those that the journal tells of, also after more events.
-use Rattle.std.proofs.Common.{ℕ, ◌≡◌, List, [], ◌∷◌, ◌++◌, refl, ap, ◌∙◌, sym, subst, Bool, true, false, cond}
+use Rattle.std.proofs.Common.{ℕ, ◌≡◌, List, [], ◌∷◌, ◌++◌, refl, ap, ◌∙◌, sym, subst, Bool, true, false, cond, Option}
+use Rattle.dr_ids.specs.declared.refusal.Refusal.{Refusal}
 use Rattle.dr_host.specs.Writes.{Writes, EachPending, bytes_of, without, with_marked}
 use Rattle.dr_host.specs.declared.pending.Pending.{Pending}
 use Rattle.dr_host.proofs.Each.{each-marked, each-without}
 use Rattle.dr_model.specs.declared.event.Event.{Event}
 use Rattle.dr_model.specs.declared.event.Event.TheVariants.{Ack}
 use Rattle.dr_model.specs.Histories.{Write, Histories, histories, after_event}
+use Rattle.dr_model.specs.Control.{World}
+use Rattle.dr_model.specs.Carry.{Entry}
+use Rattle.dr_model.specs.ReadStops.{Ends}
 use Rattle.dr_model.proofs.Images.{histories-push}
+use Rattle.dr_facts.proofs.Issued.{unissued}
 use Rattle.dr_plant.specs.State.{PlantState}
 use Rattle.dr_config.specs.Table.{ConfigTable}
 use Rattle.dr_metro.specs.Here.{IsTold, IsReady}
@@ -14,6 +19,11 @@ use Rattle.dr_metro.specs.Here.{IsTold, IsReady}
 -- a pending write is the one with that number
 abbrev pub IsWrite : (ℕ → Write) → Pending → Type 0
 IsWrite write p = write (p.w.0) ≡ record { volume = p.volume.0; track = p.track; offset = p.offset; bytes = bytes_of p }
+
+-- entries that ended so issued no write
+pub told-through : (armed : ℕ → Bool) (h : Writes) (w u : World) (ds : List Entry) (r : Option Refusal) → Ends armed u r w ds → IsTold h w.events → IsTold h u.events
+told-through armed h w u ds r ends told =
+    subst (λ write. EachPending (IsWrite write) h.pending) (sym (unissued armed u r w ds ends)) told
 
 -- an event that issues no write
 pub told-push : (h : Writes) (ev now : List Event) (e : Event) → ((x : Histories) → (after_event x e).write ≡ x.write) → now ≡ ev ++ e ∷ [] → IsTold h ev → IsTold h now

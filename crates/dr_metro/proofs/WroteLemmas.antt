@@ -4,11 +4,11 @@ use Rattle.std.specs.Prelude.{Result, Ok, Err, OnOk, OnErr, is_err}
 use Rattle.std.specs.Result.{IsErrAnd, IfOk}
 use Rattle.std.proofs.lemmas.Bool.{and_parts}
 use Rattle.std.proofs.lemmas.Bool.Decides.{eqb_tells}
-use Rattle.dr_logic.specs.Counts.{Counted}
+use Rattle.dr_logic.specs.Counts.{Counted, Rose}
 use Rattle.dr_logic.proofs.Truth.{false_true}
 use Rattle.dr_ids.specs.declared.refusal.Refusal.{Refusal}
 use Rattle.dr_plant.specs.State.{PlantState}
-use Rattle.dr_config.specs.Table.{ConfigTable}
+use Rattle.dr_config.specs.Table.{ConfigTable, StandsFor}
 use Rattle.dr_host.specs.Writes.{Writes}
 use Rattle.dr_host.specs.declared.pending.Pending.{Pending}
 use Rattle.dr_model.specs.declared.event.Event.{Event}
@@ -19,22 +19,24 @@ use Rattle.dr_model.specs.Control.{Control, Volume}
 use Rattle.dr_model.specs.Histories.{histories}
 use Rattle.dr_model.specs.Entries.{copies_from}
 use Rattle.dr_model.specs.Layout.{is_part}
-use Rattle.dr_model.specs.ReadStops.{Ends}
+use Rattle.dr_model.specs.ReadStops.{Ends, GoesOff}
 use Rattle.dr_model.specs.Refusals.{stopped}
 use Rattle.dr_model.specs.Sessions.{Session}
 use Rattle.dr_volume.specs.declared.fields.Fields.{Fields}
 use Rattle.dr_volume.specs.Update.{IsAsBefore}
-use Rattle.dr_volume.specs.View.{volume_seen, track_seen}
+use Rattle.dr_volume.specs.View.{Rest, volume_seen, track_seen, IsSettled}
 use Rattle.dr_volume.specs.Volume.{Says}
 use Rattle.dr_volume.proofs.SaysLaws.{says-along}
 use Rattle.dr_moves.specs.Checks.{is_stop}
 use Rattle.dr_moves.specs.Fit.{RelationsFit}
-use Rattle.dr_moves.specs.Here.{armed_in, refusal_of, IsAtRest}
+use Rattle.dr_moves.specs.Here.{world_seen, armed_in, refusal_of, IsAtRest}
 use Rattle.dr_moves.specs.Made.{IsAt, IsPrimary}
 use Rattle.dr_moves.proofs.ActedLemmas.{err-is}
 use Rattle.dr_moves.proofs.EntryLemmas.{led, failed, counted-stop}
 use Rattle.dr_moves.proofs.KeptLemmas.{wider-armed}
-use Rattle.dr_facts.proofs.Ends.{ends-wider, ends-none}
+use Rattle.dr_moves.proofs.FitLemmas.{fit-same}
+use Rattle.dr_moves.proofs.ReadLemmas.{rest-same}
+use Rattle.dr_facts.proofs.Ends.{ends-wider, ends-none, ends-off}
 use Rattle.dr_facts.proofs.Issued.{unissued}
 use Rattle.dr_flash.specs.Standing.{HasNoTarget}
 use Rattle.dr_flash.proofs.CopyLemmas.{no-own}
@@ -46,7 +48,7 @@ use Rattle.dr_metro.specs.Mirroring.{MayPair, CanLand}
 use Rattle.dr_metro.specs.Syncing.{end_of}
 use Rattle.dr_metro.specs.Writing.{IsDue, Wrote, landed_so}
 use Rattle.dr_metro.specs.declared.sync.WriteEnd.{WriteEnd}
-use Rattle.dr_metro.proofs.LandLemmas.{told-through}
+use Rattle.dr_metro.proofs.ToldLemmas.{told-through}
 
 -- entries that led on have issued no write, and so the pending ones are those of the journal still
 module _ (s m : PlantState) (c : ConfigTable) (h : Writes) (old mid : Log) (es : List Entry) (P : ℕ → Type 0) (most least : ℕ) where
@@ -150,6 +152,23 @@ wrote-by s u c h g old new es n server res refused carried rest fit told unarmed
   room = room;
   spare = spare;
 }
+
+-- a server that went off at a read
+pub wrote-gone : (s u : PlantState) (c : ConfigTable) (h : Writes) (old new : Log) (es : List Entry) (server : ℕ) → IsAt s c → IsTold h old.events → ((r : Rest) → GoesOff (armed_in s) (world_seen u c r new.events) (Some (stopped server)) (world_seen s c r old.events))
+    → ((q : ℕ) → IsAsBefore s u c q) → StandsFor c u → ((q : ℕ) → IsSettled s c q → IsSettled u c q) → ((q : ℕ) → s.read_fuse q ≡ None → u.read_fuse q ≡ None) → Rose s.faults u.faults → old.spare ≤ new.spare + 1 → length new.events + new.spare ≡ length old.events + old.spare
+    → Wrote s u c h h old new (λ k. es) 1 {T = Unit {0}} (Err (stopped server))
+wrote-gone s u c h old new es server at told gone same stands settled unarmed rose room spare =
+    let ends : (xs : List Session) → Ends (armed_in s) (here u c xs h new.events) (Some (stopped server)) (here s c xs h old.events) es = (λ xs. ends-off (armed_in s) (here u c xs h new.events) (Some (stopped server)) (here s c xs h old.events) es (gone (rest_of xs h old.events))) in
+    record {
+      carried = ends;
+      at = record { rest = rest-same c s u at.rest stands settled same; fit = fit-same s u c same at.fit };
+      told = told-through (armed_in s) h (here s c [] h old.events) (here u c [] h new.events) es (Some (stopped server)) (ends []) told;
+      unarmed = unarmed;
+      faults = rose;
+      issued = refl;
+      room = room;
+      spare = spare;
+    }
 
 -- what was carried out has landed
 module _ (res : Result (Unit {0}) Refusal) (r : Result WriteEnd Refusal) (is : r ≡ landed_so res) where

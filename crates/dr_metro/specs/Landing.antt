@@ -1,13 +1,22 @@
--- How a landing ends.
-use Rattle.std.specs.Prelude.{◌≡◌, ℕ, ◌⊎◌, Bool, true, if◌then◌else◌}
+-- How a host write lands on its volume alone.
+use Rattle.std.specs.Prelude.{◌≡◌, ℕ, ◌<◌, ◌≤◌, ◌+◌, Bool, true, List, length, is_some, Result, Ok, Err, if◌then◌else◌}
+use Rattle.dr_ids.specs.declared.refusal.Refusal.{Refusal}
+use Rattle.dr_ids.specs.declared.refusal.Refusal.TheVariants.{Stopped}
+use Rattle.dr_plant.specs.State.{PlantState}
+use Rattle.dr_config.specs.Table.{ConfigTable, place_of}
+use Rattle.dr_host.specs.Writes.{Writes, without, with_marked}
+use Rattle.dr_model.specs.declared.event.Event.{Event}
 use Rattle.dr_model.specs.Layout.{Fields}
-use Rattle.dr_model.specs.Control.{Volume, World}
+use Rattle.dr_model.specs.Control.{Volume}
 use Rattle.dr_model.specs.Pairs.{written}
 use Rattle.dr_model.specs.Relations.{closed, fetched, rewritten}
 use Rattle.dr_model.specs.Moves.{Move, Land, Overwrite}
-use Rattle.dr_model.specs.Carry.{Ended}
-use Rattle.dr_model.specs.ReadStops.{shut}
-use Rattle.dr_volume.specs.Update.{EndsAs}
+use Rattle.dr_volume.specs.View.{volume_seen}
+use Rattle.dr_moves.specs.Made.{IsAt}
+use Rattle.dr_moves.specs.declared.acts.Stop.{Stop}
+use Rattle.dr_metro.specs.Here.{IsTold}
+use Rattle.dr_metro.specs.Waiting.{IsIssuedAs}
+use Rattle.dr_metro.specs.declared.machine.Target.{Target}
 
 -- how a host write lands on a volume that is a target or isn't
 abbrev pub landing_move : Bool → ℕ → ℕ → ℕ → Move
@@ -21,12 +30,23 @@ landed n f t = if f.related then closed n (rewritten (fetched f t) t) else writt
 abbrev pub landed_on : Volume → ℕ → Fields
 landed_on u t = landed u.tracks u.fields t
 
--- The server, whose read fuse is armed, went off before any write.
-pub record Shuts (armed : ℕ → Bool) (server : ℕ) (w u : World) (failed : Bool) : Type 0 where
-  pub is_armed : armed server ≡ true
-  pub world : u ≡ shut w server
-  pub answer : failed ≡ true
+-- the host's writes once the move was made that lands write n: it is pending no more, or has landed where its server stopped in it
+abbrev pub writes_after : Writes → ℕ → Result (Unit {0}) Stop → Writes
+writes_after h n (Ok x) = without h n
+writes_after h n (Err stop) = if stop.counts then with_marked h n else h
 
--- from w to u a move ended as the machine's update, or a read of its server failed
-abbrev pub LandsAs : (ℕ → Bool) → ℕ → World → World → Bool → Ended → Type 0
-LandsAs armed server w u failed e = EndsAs u failed e ⊎ Shuts armed server w u failed
+-- and what that move comes to
+abbrev pub landed_by : Result (Unit {0}) Stop → Result (Unit {0}) Refusal
+landed_by (Ok x) = Ok tt
+landed_by (Err stop) = Err (Stopped stop.server)
+
+-- Pending write n can land on its volume alone, whose server is on, with these bytes at that place.
+pub record CanLandAlone (s : PlantState) (c : ConfigTable) (h : Writes) (events : List Event) (n : ℕ) (target : Target) (bytes : List ℕ) : Type 0 where
+  pub at : IsAt s c
+  pub told : IsTold h events
+  pub defined : is_some (place_of c target.volume.0) ≡ true
+  pub server : (volume_seen s c target.volume.0).server ≡ target.server.0
+  pub running : s.on target.server.0 ≡ true
+  pub within : target.track < (volume_seen s c target.volume.0).tracks
+  pub fits : target.offset + length bytes ≤ 64
+  pub pending : IsIssuedAs h events n target bytes

@@ -1,6 +1,6 @@
 pub mod Here
-pub mod Landing
 pub mod Waiting
+pub mod Landing
 pub mod Mirroring
 pub mod Syncing
 pub mod Writing

@@ -11,7 +11,8 @@ ghost use Rattle.dr_gcopy.specs.Both.{IsOn};
 ghost use Rattle.dr_metro.specs.Landing.{landed_on};
 ghost use Rattle.dr_metro.specs.Writing.{IsDue, Wrote};
 
-use crate::machine::{Target, land_kept, land_write_by};
+use crate::landing::land_by;
+use crate::machine::{Target, land_kept};
 use dr_config::Config;
 use dr_host::{Host, Pending};
 use dr_ids::{Refusal, ServerId};
@@ -87,7 +88,7 @@ pub(crate) fn write_by<P: Plant>(
         track: w.track,
         offset: w.offset,
     };
-    land_write_by(
+    land_by(
         plant,
         config,
         h,

@@ -16,32 +16,20 @@ ghost use Rattle.dr_model.specs.Refusals.{stopped};
 ghost use Rattle.dr_model.specs.Sessions.{Session};
 ghost use Rattle.dr_volume.specs.Update.{IsMoved, OthersStay};
 ghost use Rattle.dr_volume.specs.View.{volume_seen, track_seen};
-ghost use Rattle.dr_model.specs.declared.event.Event.TheVariants.{Ack};
-ghost use Rattle.dr_moves.specs.declared.told.Told.TheVariants.{Nothing, One};
 ghost use Rattle.dr_moves.specs.Fit.{RelationsFit};
 ghost use Rattle.dr_moves.specs.Here.{refusal_of, armed_in, IsAtRest};
 ghost use Rattle.dr_metro.specs.Here.{here, IsTold};
 ghost use Rattle.dr_metro.specs.Mirroring.{CanLand};
+ghost use Rattle.dr_metro.specs.Writing.{Wrote};
 
-use crate::machine::land_if;
+use crate::landing::settle_write;
 use dr_config::Config;
 use dr_host::Host;
 use dr_ids::{Refusal, VolumeId, WriteId};
-use dr_model::{Event, Journal};
-use dr_moves::{Telling, Told, shift, synced};
+use dr_model::Journal;
+use dr_moves::{Move, make_by};
 use dr_plant::{Block, Plant};
-use dr_volume::{Fields, peek_fields, slot};
-
-/// What a write that lands tells: it is acknowledged, but not where the server stops in it.
-fn telling_of(w: WriteId) -> Telling
-    ensures { result ≡ record { done = One (Ack w.0); in_stop = Nothing; landed = w.0 } }
-{
-    Telling {
-        done: Told::One(Event::Ack { w: w.0 }),
-        in_stop: Told::Nothing,
-        landed: w.0,
-    }
-}
+use dr_volume::{Fields, peek_fields};
 
 /// Lands pending write w on track t of primary v, whose server is on, and acknowledges it: the track gets these bytes,
 /// which its secondary has stored, and is out of sync no more. Fails where the server stops in the move or goes off at a
@@ -83,7 +71,7 @@ pub fn land_both<P: Plant>(
     land_both_by(plant, config, journal, h, w, v, t, bytes, &fields)
 }
 
-/// The same by the primary's fields, which are at hand.
+/// The same by the primary's fields, which are at hand: of the record the gate alone is read.
 pub(crate) fn land_both_by<P: Plant>(
     plant: &mut P,
     config: &Config,
@@ -97,39 +85,13 @@ pub(crate) fn land_both_by<P: Plant>(
 ) -> Result<(), Refusal>
     requires can { CanLand (P.state plant.old) config.now h.old journal.old.events w.0 v.0 t bytes.now fields.now }
     requires room { 1 ≤ journal.old.spare }
-    ensures carried { (xs : List Session) → Ends (armed_in (P.state plant.old)) (here (P.state plant.new) config.now xs h.new journal.new.events) (refusal_of result) (here (P.state plant.old) config.now xs h.old journal.old.events) (now (LandBoth w.0 v.0 t) ∷ []) }
+    ensures wrote { Wrote (P.state plant.old) (P.state plant.new) config.now h.old h.new journal.old journal.new (λ k. now (LandBoth w.0 v.0 t) ∷ []) 1 result }
     ensures refused { OnErr result (refusal_of result ≡ Some (stopped (volume_seen (P.state plant.old) config.now v.0).server)) }
-    ensures rest { IsAtRest (P.state plant.new) config.now }
-    ensures fit { RelationsFit (P.state plant.new) config.now }
-    ensures told { IsTold h.new journal.new.events }
-    ensures unarmed { (q : ℕ) → (P.state plant.old).read_fuse q ≡ None → (P.state plant.new).read_fuse q ≡ None }
-    ensures faults { Counted (is_err result) (P.state plant.old).faults (P.state plant.new).faults }
     ensures moved { OnOk result (IsMoved (P.state plant.old) (P.state plant.new) config.now v.0 (pairs.synced (volume_seen (P.state plant.old) config.now v.0).fields t) (Some (t, bytes.now))) }
     ensures others { OthersStay (P.state plant.old) (P.state plant.new) config.now v.0 }
-    ensures issued { h.new.issued ≡ h.old.issued }
-    ensures room { journal.old.spare ≤ journal.new.spare + 1 }
-    ensures spare { length journal.new.events + journal.new.spare ≡ length journal.old.events + journal.old.spare }
 {
-    let before = slot(plant, config, v);
+    let landing = Move::LandBoth { w, v, t };
     let track = *bytes;
-    let next = synced(fields, t);
-    match shift(
-        plant,
-        config,
-        journal,
-        v,
-        &next,
-        Some((t, track)),
-        &telling_of(w),
-    ) {
-        Ok(()) => {
-            h.finish(w);
-            Ok(())
-        }
-        Err(stop) => {
-            let landed = slot(plant, config, v) != before;
-            land_if(h, w, landed);
-            Err(stop)
-        }
-    }
+    let done = make_by(plant, config, journal, &landing, fields, Some((t, track)));
+    settle_write(h, w, done)
 }

@@ -1,27 +1,29 @@
-//! Landing a host write on a track, as one move of its volume.
+//! Landing a host write on a track of its volume alone, as one move.
 
-ghost use Rattle.std.specs.Prelude.{◌≡◌, ℕ, ◌+◌, ◌<◌, ◌≤◌, true, length, is_err, IsSome, Some, None, OnOk};
-ghost use Rattle.dr_logic.specs.Counts.{Counted};
-ghost use Rattle.dr_plant.specs.State.{PlantState, can_read};
-ghost use Rattle.dr_config.specs.Table.{place_of};
+ghost use Rattle.std.specs.Prelude.{◌≡◌, ◌+◌, ◌<◌, ◌≤◌, true, length, [], ◌∷◌, None, IsSome, Some, OnOk, OnErr, if◌then◌else◌};
+ghost use Rattle.std.specs.List.{find};
+ghost use Rattle.dr_host.specs.Writes.{has_number, with_marked};
 ghost use Rattle.dr_model.specs.Contents.{laid};
-ghost use Rattle.dr_model.specs.Carry as carry;
+ghost use Rattle.dr_model.specs.Entries.{land_on};
+ghost use Rattle.dr_model.specs.Refusals.{stopped};
+ghost use Rattle.dr_plant.specs.State.{can_read};
 ghost use Rattle.dr_volume.specs.Opened.{IsOpened};
-ghost use Rattle.dr_volume.specs.Plain.{plain};
-ghost use Rattle.dr_volume.specs.Update.{EndsAs};
-ghost use Rattle.dr_volume.specs.View.{Rest, world, volume_seen, device_of};
+ghost use Rattle.dr_volume.specs.View.{volume_seen, device_of};
 ghost use Rattle.dr_volume.specs.Volume.{Shows};
-ghost use Rattle.dr_moves.specs.Fit.{RelationsFit};
-ghost use Rattle.dr_moves.specs.Here.{IsAtRest, armed_in};
-ghost use Rattle.dr_flash.specs.Views.{view_seen};
-ghost use Rattle.dr_metro.specs.Landing.{LandsAs, landed, landed_on};
+ghost use Rattle.dr_moves.specs.Here.{refusal_of};
+ghost use Rattle.dr_moves.specs.Moves.{move_of};
+ghost use Rattle.dr_metro.specs.Landing.{landing_move, landed_on, writes_after, landed_by, CanLandAlone};
+ghost use Rattle.dr_metro.specs.Writing.{Wrote};
 
+use crate::machine::Target;
 use dr_config::Config;
 use dr_flash::view_of;
-use dr_ids::VolumeId;
-use dr_moves::{closed, fetched, rewritten, tracks_of, written};
-use dr_plant::{Block, Plant, Stopped};
-use dr_volume::{Fields, Opened, open_by, peek_fields};
+use dr_host::Host;
+use dr_ids::{Refusal, WriteId};
+use dr_model::{Event, Journal};
+use dr_moves::{Move, Stop, make_opened};
+use dr_plant::{Block, Plant};
+use dr_volume::{Fields, Opened, open_by};
 
 /// A track after bytes were written from an offset on.
 pub(crate) fn laid(old: &Block, offset: u8, bytes: &[u8]) -> Block
@@ -35,110 +37,113 @@ pub(crate) fn laid(old: &Block, offset: u8, bytes: &[u8]) -> Block
     track
 }
 
-/// The fields of a volume once a host write landed on a track of it; its size matters for a target alone.
-fn landed(config: &Config, v: VolumeId, f: &Fields, t: u16) -> Fields
-    requires defined { IsSome (place_of config.now v.0) }
-    requires within { t < 256 }
-    ensures { (s : PlantState) → plain result ≡ landed (volume_seen s config.now v.0).tracks (plain f.now) t }
+/// The move by which a host write lands on a volume, which is a target or isn't.
+fn landing_of(w: WriteId, target: Target, related: bool) -> Move
+    ensures { move_of result ≡ landing_move related w.0 target.volume.0 target.track }
 {
-    if f.related {
-        return closed(tracks_of(config, v), &rewritten(&fetched(f, t), t));
+    let v = target.volume;
+    let t = target.track;
+    if related {
+        return Move::Overwrite { w, v, t };
     }
-    written(f, t)
+    Move::Land { w, v, t }
 }
 
-/// Lands bytes on a track of a volume that was opened and whose device can still be read: one move.
+/// What becomes of pending write w by the move that lands it: where it was done, the write is pending no more; where its server
+/// stopped in it and it counts as done, the write has landed.
+pub(crate) fn settle_write(h: &mut Host, w: WriteId, done: Result<(), Stop>) -> Result<(), Refusal>
+    requires { IsSome (find (has_number w.0) h.old.pending) }
+    ensures writes { h.new ≡ writes_after h.old w.0 done }
+    ensures says { result ≡ landed_by done }
+{
+    match done {
+        Ok(()) => {
+            h.finish(w);
+            Ok(())
+        }
+        Err(stop) => {
+            land_if(h, w, stop.counts);
+            Err(Refusal::Stopped {
+                server: stop.server,
+            })
+        }
+    }
+}
+
+/// Marks a pending write, where it has landed in a stop.
+fn land_if(host: &mut Host, w: WriteId, landed: bool)
+    requires { IsSome (find (has_number w.0) host.old.pending) }
+    ensures { host.new ≡ (if landed then with_marked host.old w.0 else host.old) }
+{
+    if landed {
+        host.land(w);
+    }
+}
+
+/// Lands a pending write on its track of a volume that was opened and whose device can still be read.
 fn land_opened<P: Plant>(
     plant: &mut P,
     config: &Config,
+    host: &mut Host,
+    journal: &mut Journal,
+    w: WriteId,
+    target: Target,
     opened: &mut Opened,
-    v: VolumeId,
-    t: u16,
-    offset: u8,
     bytes: &[u8],
-) -> Result<(), Stopped>
-    requires rest { IsAtRest (P.state plant.old) config.now }
-    requires fit { RelationsFit (P.state plant.old) config.now }
-    requires defined { IsSome (place_of config.now v.0) }
-    requires opened { IsOpened (P.state plant.old) config.now v.0 opened.old }
-    requires passes { can_read (P.state plant.old) (device_of config.now v.0) ≡ true }
-    requires within { t < (volume_seen (P.state plant.old) config.now v.0).tracks }
-    requires fits { offset + length bytes.now ≤ 64 }
-    ensures exact { (r : Rest) → EndsAs (world (P.state plant.new) config.now r) (is_err result)
-        (carry.update (world (P.state plant.old) config.now r) v.0 (landed_on (volume_seen (P.state plant.old) config.now v.0) t) (Some (t, laid offset bytes.now (view_seen (P.state plant.old) config.now v.0 t)))) }
-    ensures left { OnOk result ((volume_seen (P.state plant.new) config.now v.0).fields ≡ landed_on (volume_seen (P.state plant.old) config.now v.0) t) }
-    ensures rest { IsAtRest (P.state plant.new) config.now }
-    ensures fit { RelationsFit (P.state plant.new) config.now }
-    ensures unarmed { (q : ℕ) → (P.state plant.old).read_fuse q ≡ None → (P.state plant.new).read_fuse q ≡ None }
-    ensures faults { Counted (is_err result) (P.state plant.old).faults (P.state plant.new).faults }
+) -> Result<(), Refusal>
+    requires can { CanLandAlone (P.state plant.old) config.now host.old journal.old.events w.0 target bytes.now }
+    requires opened { IsOpened (P.state plant.old) config.now target.volume.0 opened.old }
+    requires passes { can_read (P.state plant.old) (device_of config.now target.volume.0) ≡ true }
+    requires room { 1 ≤ journal.old.spare }
+    ensures wrote { Wrote (P.state plant.old) (P.state plant.new) config.now host.old host.new journal.old journal.new (λ k. land_on w.0 target.volume.0 target.track ∷ []) 1 result }
+    ensures refused { OnErr result (refusal_of result ≡ Some (stopped (volume_seen (P.state plant.old) config.now target.volume.0).server)) }
+    ensures left { OnOk result ((volume_seen (P.state plant.new) config.now target.volume.0).fields ≡ landed_on (volume_seen (P.state plant.old) config.now target.volume.0) target.track) }
 {
-    let old = view_of(plant, config, opened, v, t);
-    let track = laid(&old, offset, bytes);
-    let next = landed(config, v, opened.fields(), t);
-    opened.change(plant, config, v, &next, Some((t, track)))
-}
-
-/// Lands bytes on a track of a volume whose server is on: one move, which stores the whole new track. Of a target that
-/// doesn't hold the track, the bytes around them are those of its source. Fails where the server stops in it, or in a read
-/// before it.
-pub fn land<P: Plant>(
-    plant: &mut P,
-    config: &Config,
-    v: VolumeId,
-    t: u16,
-    offset: u8,
-    bytes: &[u8],
-) -> Result<(), Stopped>
-    requires rest { IsAtRest (P.state plant.old) config.now }
-    requires fit { RelationsFit (P.state plant.old) config.now }
-    requires defined { IsSome (place_of config.now v.0) }
-    requires running { (P.state plant.old).on (volume_seen (P.state plant.old) config.now v.0).server ≡ true }
-    requires within { t < (volume_seen (P.state plant.old) config.now v.0).tracks }
-    requires fits { offset + length bytes.now ≤ 64 }
-    ensures exact { (r : Rest) → LandsAs (armed_in (P.state plant.old)) (volume_seen (P.state plant.old) config.now v.0).server (world (P.state plant.old) config.now r) (world (P.state plant.new) config.now r) (is_err result)
-        (carry.update (world (P.state plant.old) config.now r) v.0 (landed_on (volume_seen (P.state plant.old) config.now v.0) t) (Some (t, laid offset bytes.now (view_seen (P.state plant.old) config.now v.0 t)))) }
-    ensures left { OnOk result ((volume_seen (P.state plant.new) config.now v.0).fields ≡ landed_on (volume_seen (P.state plant.old) config.now v.0) t) }
-    ensures rest { IsAtRest (P.state plant.new) config.now }
-    ensures fit { RelationsFit (P.state plant.new) config.now }
-    ensures unarmed { (q : ℕ) → (P.state plant.old).read_fuse q ≡ None → (P.state plant.new).read_fuse q ≡ None }
-    ensures faults { Counted (is_err result) (P.state plant.old).faults (P.state plant.new).faults }
-{
-    land_by(
+    let old = view_of(plant, config, opened, target.volume, target.track);
+    let track = laid(&old, target.offset, bytes);
+    let m = landing_of(w, target, opened.fields().related);
+    let done = make_opened(
         plant,
         config,
-        v,
-        &peek_fields(plant, config, v),
-        t,
-        offset,
-        bytes,
-    )
+        journal,
+        &m,
+        opened,
+        Some((target.track, track)),
+    );
+    settle_write(host, w, done)
 }
 
-/// The same by the volume's fields, which are at hand.
+/// Lands a pending write on its track of a volume whose server is on and whose fields are at hand: one move, which stores the whole
+/// new track. Of a target that doesn't hold the track, the bytes around those of the write are those of its source. Fails where the
+/// server stops in the move or goes off at a read: then the write stays pending, and it has landed where the move counts as done. The
+/// journal needs room for an event.
 pub(crate) fn land_by<P: Plant>(
     plant: &mut P,
     config: &Config,
-    v: VolumeId,
+    host: &mut Host,
+    journal: &mut Journal,
+    w: WriteId,
+    target: Target,
     fields: &Fields,
-    t: u16,
-    offset: u8,
     bytes: &[u8],
-) -> Result<(), Stopped>
-    requires rest { IsAtRest (P.state plant.old) config.now }
-    requires fit { RelationsFit (P.state plant.old) config.now }
-    requires defined { IsSome (place_of config.now v.0) }
-    requires running { (P.state plant.old).on (volume_seen (P.state plant.old) config.now v.0).server ≡ true }
-    requires within { t < (volume_seen (P.state plant.old) config.now v.0).tracks }
-    requires fits { offset + length bytes.now ≤ 64 }
-    requires shows { Shows (P.state plant.old) config.now v.0 fields.now }
-    ensures exact { (r : Rest) → LandsAs (armed_in (P.state plant.old)) (volume_seen (P.state plant.old) config.now v.0).server (world (P.state plant.old) config.now r) (world (P.state plant.new) config.now r) (is_err result)
-        (carry.update (world (P.state plant.old) config.now r) v.0 (landed_on (volume_seen (P.state plant.old) config.now v.0) t) (Some (t, laid offset bytes.now (view_seen (P.state plant.old) config.now v.0 t)))) }
-    ensures left { OnOk result ((volume_seen (P.state plant.new) config.now v.0).fields ≡ landed_on (volume_seen (P.state plant.old) config.now v.0) t) }
-    ensures rest { IsAtRest (P.state plant.new) config.now }
-    ensures fit { RelationsFit (P.state plant.new) config.now }
-    ensures unarmed { (q : ℕ) → (P.state plant.old).read_fuse q ≡ None → (P.state plant.new).read_fuse q ≡ None }
-    ensures faults { Counted (is_err result) (P.state plant.old).faults (P.state plant.new).faults }
+) -> Result<(), Refusal>
+    requires can { CanLandAlone (P.state plant.old) config.now host.old journal.old.events w.0 target bytes.now }
+    requires shows { Shows (P.state plant.old) config.now target.volume.0 fields.now }
+    requires room { 1 ≤ journal.old.spare }
+    ensures wrote { Wrote (P.state plant.old) (P.state plant.new) config.now host.old host.new journal.old journal.new (λ k. land_on w.0 target.volume.0 target.track ∷ []) 1 result }
+    ensures refused { OnErr result (refusal_of result ≡ Some (stopped (volume_seen (P.state plant.old) config.now target.volume.0).server)) }
+    ensures left { OnOk result ((volume_seen (P.state plant.new) config.now target.volume.0).fields ≡ landed_on (volume_seen (P.state plant.old) config.now target.volume.0) target.track) }
 {
-    let mut opened = open_by(plant, config, v, fields)?;
-    land_opened(plant, config, &mut opened, v, t, offset, bytes)
+    match open_by(plant, config, target.volume, fields) {
+        Ok(mut opened) => land_opened(plant, config, host, journal, w, target, &mut opened, bytes),
+        Err(_) => {
+            journal.push(Event::Stopped {
+                server: target.server.0,
+                write: 0,
+            });
+            Err(Refusal::Stopped {
+                server: target.server,
+            })
+        }
+    }
 }

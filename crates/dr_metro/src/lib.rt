@@ -4,8 +4,8 @@
 //! whether it landed or waits (`carried`, `end`); what follows where the secondary's server stops is in it.
 //! **Acknowledged on both sides**: where it landed on a Metro Mirror primary, the secondary's track is the same, or the
 //! primary has the track out of sync, or is Suspended (`mirrors`). `write_both` is the write on both sides (`carried`,
-//! `equal`), `unsync`, `mirror` and `land_both` its three moves, `land` and `land_write` the move of a host write on
-//! its volume alone, and `land_kept` that behind copy first (`carried`). `sync_write` reads its volume's fields once, and those of a
+//! `equal`), `unsync`, `mirror` and `land_both` its three moves, and `land_kept` a host write on its volume alone, behind copy first
+//! (`carried`). `sync_write` reads its volume's fields once, and those of a
 //! secondary that it goes to once; what it calls goes by them. Each call keeps the fields of all volumes lawful and fitting (`rest`,
 //! `fit`), also where reads may fail.
 #![tactic(auto)]
@@ -22,8 +22,7 @@ mod states;
 mod sync;
 
 pub use both::land_both;
-pub use landing::land;
-pub use machine::{Target, land_kept, land_write};
+pub use machine::{Target, land_kept};
 pub use mirroring::write_both;
 pub use moves::{mirror, unsync};
 pub use sync::{WriteEnd, sync_write};

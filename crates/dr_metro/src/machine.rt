@@ -22,9 +22,9 @@ use dr_config::Config;
 use dr_flash::copy_first;
 use dr_host::Host;
 use dr_ids::{Refusal, ServerId, VolumeId, WriteId};
-use dr_model::{Event, Journal};
+use dr_model::Journal;
 use dr_plant::Plant;
-use dr_volume::{Fields, peek_fields, slot};
+use dr_volume::peek_fields;
 
 /// Where a host write goes.
 #[derive(Clone, Copy)]
@@ -33,110 +33,6 @@ pub struct Target {
     pub server: ServerId,
     pub track: u16,
     pub offset: u8,
-}
-
-/// Lands a pending write on its track, where the volume's server is on, and acknowledges it. Where the server
-/// stops in it, the write stays pending; it has landed where the volume's other slot is chosen now.
-pub fn land_write<P: Plant>(
-    plant: &mut P,
-    config: &Config,
-    host: &mut Host,
-    journal: &mut Journal,
-    w: WriteId,
-    target: Target,
-    bytes: &[u8],
-) -> Result<(), Refusal>
-    requires rest { IsAtRest (P.state plant.old) config.now }
-    requires fit { RelationsFit (P.state plant.old) config.now }
-    requires told { IsTold host.old journal.old.events }
-    requires defined { IsSome (place_of config.now target.volume.0) }
-    requires server { (volume_seen (P.state plant.old) config.now target.volume.0).server ≡ target.server.0 }
-    requires running { (P.state plant.old).on target.server.0 ≡ true }
-    requires known { target.server.0 < 8 }
-    requires within { target.track < (volume_seen (P.state plant.old) config.now target.volume.0).tracks }
-    requires fits { target.offset + length bytes.now ≤ 64 }
-    requires room { 0 < journal.old.spare }
-    requires pending { IsIssuedAs host.old journal.old.events w.0 target bytes.now }
-    ensures carried { (xs : List Session) → Ends (armed_in (P.state plant.old)) (here (P.state plant.new) config.now xs host.new journal.new.events) (refusal_of result)
-        (here (P.state plant.old) config.now xs host.old journal.old.events) (land_on w.0 target.volume.0 target.track ∷ []) }
-    ensures stopped { OnErr result (refusal_of result ≡ Some (stopped target.server.0)) }
-    ensures left { OnOk result ((volume_seen (P.state plant.new) config.now target.volume.0).fields ≡ landed_on (volume_seen (P.state plant.old) config.now target.volume.0) target.track) }
-    ensures rest { IsAtRest (P.state plant.new) config.now }
-    ensures fit { RelationsFit (P.state plant.new) config.now }
-    ensures told { IsTold host.new journal.new.events }
-    ensures unarmed { (q : ℕ) → (P.state plant.old).read_fuse q ≡ None → (P.state plant.new).read_fuse q ≡ None }
-    ensures faults { Counted (is_err result) (P.state plant.old).faults (P.state plant.new).faults }
-    ensures issued { host.new.issued ≡ host.old.issued }
-    ensures room { journal.old.spare ≡ journal.new.spare + 1 }
-    ensures spare { length journal.new.events + journal.new.spare ≡ length journal.old.events + journal.old.spare }
-{
-    let fields = peek_fields(plant, config, target.volume);
-    land_write_by(plant, config, host, journal, w, target, &fields, bytes)
-}
-
-/// The same by the volume's fields, which are at hand.
-pub(crate) fn land_write_by<P: Plant>(
-    plant: &mut P,
-    config: &Config,
-    host: &mut Host,
-    journal: &mut Journal,
-    w: WriteId,
-    target: Target,
-    fields: &Fields,
-    bytes: &[u8],
-) -> Result<(), Refusal>
-    requires rest { IsAtRest (P.state plant.old) config.now }
-    requires fit { RelationsFit (P.state plant.old) config.now }
-    requires told { IsTold host.old journal.old.events }
-    requires defined { IsSome (place_of config.now target.volume.0) }
-    requires server { (volume_seen (P.state plant.old) config.now target.volume.0).server ≡ target.server.0 }
-    requires running { (P.state plant.old).on target.server.0 ≡ true }
-    requires known { target.server.0 < 8 }
-    requires within { target.track < (volume_seen (P.state plant.old) config.now target.volume.0).tracks }
-    requires fits { target.offset + length bytes.now ≤ 64 }
-    requires room { 0 < journal.old.spare }
-    requires pending { IsIssuedAs host.old journal.old.events w.0 target bytes.now }
-    requires shows { Shows (P.state plant.old) config.now target.volume.0 fields.now }
-    ensures carried { (xs : List Session) → Ends (armed_in (P.state plant.old)) (here (P.state plant.new) config.now xs host.new journal.new.events) (refusal_of result)
-        (here (P.state plant.old) config.now xs host.old journal.old.events) (land_on w.0 target.volume.0 target.track ∷ []) }
-    ensures stopped { OnErr result (refusal_of result ≡ Some (stopped target.server.0)) }
-    ensures left { OnOk result ((volume_seen (P.state plant.new) config.now target.volume.0).fields ≡ landed_on (volume_seen (P.state plant.old) config.now target.volume.0) target.track) }
-    ensures rest { IsAtRest (P.state plant.new) config.now }
-    ensures fit { RelationsFit (P.state plant.new) config.now }
-    ensures told { IsTold host.new journal.new.events }
-    ensures unarmed { (q : ℕ) → (P.state plant.old).read_fuse q ≡ None → (P.state plant.new).read_fuse q ≡ None }
-    ensures faults { Counted (is_err result) (P.state plant.old).faults (P.state plant.new).faults }
-    ensures issued { host.new.issued ≡ host.old.issued }
-    ensures room { journal.old.spare ≡ journal.new.spare + 1 }
-    ensures spare { length journal.new.events + journal.new.spare ≡ length journal.old.events + journal.old.spare }
-{
-    let before = slot(plant, config, target.volume);
-    match land_by(
-        plant,
-        config,
-        target.volume,
-        fields,
-        target.track,
-        target.offset,
-        bytes,
-    ) {
-        Ok(()) => {
-            host.finish(w);
-            journal.push(Event::Ack { w: w.0 });
-            Ok(())
-        }
-        Err(_) => {
-            let landed = slot(plant, config, target.volume) != before;
-            land_if(host, w, landed);
-            journal.push(Event::Stopped {
-                server: target.server.0,
-                write: write_in_stop(landed, w.0),
-            });
-            Err(Refusal::Stopped {
-                server: target.server,
-            })
-        }
-    }
 }
 
 /// Lands a pending write on its track of a volume whose server is on, after each target of the volume kept the track, and
@@ -176,22 +72,6 @@ pub fn land_kept<P: Plant>(
     ensures spare { length journal.new.events + journal.new.spare ≡ length journal.old.events + journal.old.spare }
 {
     copy_first(plant, config, journal, target.volume, target.track)?;
-    land_write(plant, config, host, journal, w, target, bytes)
-}
-
-/// Marks a pending write, where it has landed in a stop.
-pub(crate) fn land_if(host: &mut Host, w: WriteId, landed: bool)
-    requires { IsSome (find (has_number w.0) host.old.pending) }
-    ensures { host.new ≡ (if landed then with_marked host.old w.0 else host.old) }
-{
-    if landed {
-        host.land(w);
-    }
-}
-
-/// The write that a stop leaves landed, 0 for none.
-fn write_in_stop(landed: bool, w: u32) -> u32
-    ensures { result ≡ (if landed then w else 0) }
-{
-    if landed { w } else { 0 }
+    let fields = peek_fields(plant, config, target.volume);
+    land_by(plant, config, host, journal, w, target, &fields, bytes)
 }

@@ -6,13 +6,11 @@ ghost use Rattle.dr_config.specs.Table.{place_of};
 ghost use Rattle.dr_model.specs.Carry.{now};
 ghost use Rattle.dr_model.specs.Contents.{with_write};
 ghost use Rattle.dr_model.specs.Histories.{histories};
-ghost use Rattle.dr_model.specs.Lawful.{IsLawful};
 ghost use Rattle.dr_model.specs.Layout.{is_part};
 ghost use Rattle.dr_model.specs.Moves.{Unsync, Mirror};
 ghost use Rattle.dr_model.specs.Pairs as pairs;
 ghost use Rattle.dr_model.specs.ReadStops.{Ends};
 ghost use Rattle.dr_model.specs.Refusals.{stopped};
-ghost use Rattle.dr_volume.specs.Plain.{plain};
 ghost use Rattle.dr_volume.specs.Update.{IsMoved, OthersStay};
 ghost use Rattle.dr_volume.specs.View.{Rest, volume_seen, track_seen};
 ghost use Rattle.dr_volume.specs.Volume.{Says};
@@ -25,8 +23,8 @@ ghost use Rattle.dr_gcopy.specs.Ran.{Ran};
 
 use dr_config::Config;
 use dr_ids::{Refusal, VolumeId, WriteId};
-use dr_model::{Event, Journal};
-use dr_moves::{Move, Telling, Told, make_move, mirrored, shift};
+use dr_model::Journal;
+use dr_moves::{Move, make_move, make_move_by};
 use dr_plant::{Block, Plant};
 use dr_volume::Fields;
 
@@ -73,33 +71,24 @@ pub fn unsync<P: Plant>(
     make_move(plant, config, journal, &Move::Unsync { v, t }, None)
 }
 
-/// The same with the fields at hand that this leaves: of the record the gate alone is read.
+/// The same by the fields of the primary, which are at hand: of the record the gate alone is read.
 pub(crate) fn unsync_by<P: Plant>(
     plant: &mut P,
     config: &Config,
     journal: &mut Journal,
     v: VolumeId,
     t: u16,
-    next: &Fields,
+    fields: &Fields,
 ) -> Result<(), Refusal>
     requires at { IsAt (P.state plant.old) config.now }
     requires may { May (P.state plant.old) config.now (Unsync v.0 t) }
-    requires lawful { IsLawful (volume_seen (P.state plant.old) config.now v.0).tracks (volume_seen (P.state plant.old) config.now v.0).fields }
-    requires next { plain next.now ≡ pairs.unsynced (volume_seen (P.state plant.old) config.now v.0).fields t }
+    requires says { Says (P.state plant.old) config.now v.0 fields.now }
     requires room { 1 ≤ journal.old.spare }
     ensures ran { Ran (P.state plant.old) (P.state plant.new) config.now journal.old journal.new (now (Unsync v.0 t) ∷ []) (λ q. q ≢ v.0) 1 0 result }
     ensures stops { OnErr result (is_stop (refusal_of result) ≡ true) }
     ensures moved { OnOk result (IsMoved (P.state plant.old) (P.state plant.new) config.now v.0 (pairs.unsynced (volume_seen (P.state plant.old) config.now v.0).fields t) None) }
 {
-    shift(
-        plant,
-        config,
-        journal,
-        v,
-        next,
-        None,
-        &Telling::of(Told::Nothing),
-    )
+    make_move_by(plant, config, journal, &Move::Unsync { v, t }, fields, None)
 }
 
 /// Secondary u, whose server is on, stores these bytes of track t: those of its primary v with host write w over them.
@@ -159,19 +148,19 @@ pub(crate) fn mirror_by<P: Plant>(
     ensures stops { OnErr result (is_stop (refusal_of result) ≡ true) }
     ensures moved { OnOk result (IsMoved (P.state plant.old) (P.state plant.new) config.now m.to.0 (pairs.mirrored (volume_seen (P.state plant.old) config.now m.to.0).fields m.track) (Some (m.track, bytes.now))) }
 {
+    let store = Move::Mirror {
+        v: m.to,
+        t: m.track,
+        u: m.from,
+        w: m.write,
+    };
     let track = *bytes;
-    let next = mirrored(fields, m.track);
-    let told = Telling::of(Told::One(Event::Mirrored {
-        w: m.write.0,
-        volume: m.to.0,
-    }));
-    shift(
+    make_move_by(
         plant,
         config,
         journal,
-        m.to,
-        &next,
+        &store,
+        fields,
         Some((m.track, track)),
-        &told,
     )
 }

@@ -24,7 +24,7 @@ loop-at-preserved g c =
           ∙ ap (λ ys. shown_by_members c.args.s.0 (take c.loop-at.at ms) k ++ ys) (sym (shown-one c.args.s.0 k m))
           ∙ sym (all-more c.args.s.0 k (take c.loop-at.at ms) (m ∷ []))
           ∙ sym (ap (λ xs. shown_by_members c.args.s.0 xs k) (member-next ms c.loop-at.at m at));
-      low = let a = c.loop-at.invariant.low in let b = c.note_if.ensures.low in omega (arith, a, b);
+      low = let a = c.loop-at.invariant.low in let b = c.note_if.ensures.grown.low in omega (arith, a, b);
     }
 
 pub returns-clause-shown : goal.returns-clause-shown

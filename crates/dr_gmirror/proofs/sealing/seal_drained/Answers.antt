@@ -1,4 +1,5 @@
 use Rattle.std.proofs.Common.{arith, refl, ap, sym, ◌∙◌, ◌∷◌, None, Some, nat_eq}
+use Rattle.std.specs.Prelude.{Ok, Err}
 use Rattle.dr_model.specs.Moves.{Seal}
 use Rattle.dr_model.specs.SessionEntries.{seal_refusal, seal_on}
 use Rattle.dr_volume.specs.declared.head.Head.{Head}
@@ -8,6 +9,7 @@ use Rattle.dr_moves.proofs.EntryLemmas.{counted-stop, only-stops, move-advances,
 use Rattle.dr_flash.proofs.CheckLemmas.{same-test, differ-test}
 use Rattle.dr_moves.proofs.TurnLemmas.{ok-along, err-along}
 use Rattle.dr_gmirror.proofs.SealLemmas.{refusal-drained, seal-skips, seal-comes, sync-kept}
+use Rattle.dr_gmirror.proofs.OrderedLemmas.{nothing-kept}
 use Rattle.dr_gmirror.proofs.sealing.seal_drained.Goals as goal
 
 pub returns-in-Some-clause-fails : goal.returns-in-Some-clause-fails
@@ -54,15 +56,30 @@ pub returns-clause-unchanged : goal.returns-clause-unchanged
 returns-clause-unchanged g c calm =
     only-stops _ c.make_move.result (volume_seen (g.P.Plant.state c.args.plant.now) c.args.config.now c.args.m.now.b.0).server c.make_move.ensures.entered.refused calm
 
-pub returns-clause-faults : goal.returns-clause-faults
-returns-clause-faults g c =
-    counted-stop c.make_move.result _ _ (volume_seen (g.P.Plant.state c.args.plant.now) c.args.config.now c.args.m.now.b.0).server c.make_move.ensures.kept.faults c.make_move.ensures.entered.refused
-
-pub returns-clause-kept : goal.returns-clause-kept
-returns-clause-kept g c =
+pub returns-clause-sync : goal.returns-clause-sync
+returns-clause-sync g c =
     ok-along c.make_move.result c.make_move.ensures.moved (λ moved q.
     sync-kept (g.P.Plant.state c.args.plant.now) (g.P.Plant.state c.make_move.new.plant) c.args.config.now c.args.m.now.b.0 _ moved refl c.make_move.ensures.others q)
 
 pub returns-clause-room_left : goal.returns-clause-room_left
 returns-clause-room_left g c =
     ok-along c.make_move.result c.make_move.ensures.room_left (λ is. omega (arith, is))
+
+pub returns-clause-kept : goal.returns-clause-kept
+returns-clause-kept g c =
+    let k = c.make_move.ensures.kept in
+    record {
+      at = k.at;
+      aside = k.aside;
+      unarmed = k.unarmed;
+      faults = counted-stop c.make_move.result _ _ (volume_seen (g.P.Plant.state c.args.plant.now) c.args.config.now c.args.m.now.b.0).server k.faults c.make_move.ensures.entered.refused;
+      on = k.on;
+      room = k.room;
+      spare = k.spare;
+    }
+
+pub returns-in-Some-clause-kept : goal.returns-in-Some-clause-kept
+returns-in-Some-clause-kept g c = nothing-kept (g.P.Plant.state c.args.plant.now) c.args.config.now c.args.journal.now (Err c.in-Some.why) c.requires.at c.in-Some.ensures.calm 2 tt
+
+pub returns-then-peek_head-n-clause-kept : goal.returns-then-peek_head-n-clause-kept
+returns-then-peek_head-n-clause-kept g c = nothing-kept (g.P.Plant.state c.args.plant.now) c.args.config.now c.args.journal.now (Ok tt) c.requires.at refl 2 refl

@@ -54,9 +54,9 @@ loop-at-preserved g c =
           ∙ ap (λ xs. xs ++ shown_by_members c.args.s.0 (members_on c.args.server.0 (m ∷ [])) k) (c.loop-at.invariant.shown r events)
           ∙ sym (shown-more c.args.s.0 c.args.server.0 k _ (m ∷ []))
           ∙ sym (ap (λ xs. shown_by_members c.args.s.0 (members_on c.args.server.0 xs) k) (member-next ms c.loop-at.at m at));
-      low = let a = c.loop-at.invariant.low in let b = c.in_ok-settle_on.ensures.low in omega (arith, a, b);
-      count = c.in_ok-settle_on.ensures.count c.loop-at.invariant.count;
-      trimmed = c.in_ok-settle_on.ensures.trimmed c.loop-at.invariant.trimmed;
+      low = let a = c.loop-at.invariant.low in let b = c.settle_on.ensures.grown.low in omega (arith, a, b);
+      count = c.settle_on.ensures.grown.count c.loop-at.invariant.count;
+      trimmed = c.settle_on.ensures.grown.trimmed c.loop-at.invariant.trimmed;
     }
 
 pub returns-clause-leads : goal.returns-clause-leads

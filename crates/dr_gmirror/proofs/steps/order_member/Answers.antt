@@ -1,93 +1,97 @@
-use Rattle.std.proofs.Common.{sym, subst, None, Some}
+use Rattle.std.proofs.Common.{rules, not, false, arith, refl, ap, sym, ◌∙◌, ◌∷◌, [], None, Some}
+use Rattle.std.specs.Prelude.{Ok, Err}
+use Rattle.std.proofs.Math.Bool.{or-false}
 use Rattle.dr_master.specs.Seen.{work_of}
-use Rattle.dr_master.specs.declared.orders.OrderKind.{OrderKind}
+use Rattle.dr_model.specs.Phases as phases
 use Rattle.dr_model.specs.PairEntries.{reach_refusal}
-use Rattle.dr_model.specs.SessionEntries.{member_entries}
+use Rattle.dr_model.specs.Relations.{is_bare}
+use Rattle.dr_volume.specs.View.{volume_seen}
 use Rattle.dr_moves.specs.Here.{world_seen, armed_in}
-use Rattle.dr_moves.specs.Turns.{Leads, Fails}
-use Rattle.dr_moves.proofs.EntryLemmas.{one-checked}
-use Rattle.dr_gmirror.specs.Orders.{with_sessions}
+use Rattle.dr_moves.proofs.EntryLemmas.{counted-stop, one-checked}
+use Rattle.dr_moves.proofs.TurnLemmas.{ok-along}
+use Rattle.dr_gmirror.specs.Ordered.{at_once}
+use Rattle.dr_gmirror.specs.Orders.{sync_seen}
+use Rattle.dr_gmirror.proofs.OrderedLemmas.{ordered-as, ordered-by, ordered-apart, nothing-kept}
 use Rattle.dr_gmirror.proofs.steps.order_member.Goals as goal
 
-pub returns-in-Ok-clause-leads : goal.returns-in-Ok-clause-leads
-returns-in-Ok-clause-leads g c r =
-    subst (λ (k : OrderKind). Leads (world_seen (g.P.Plant.state c.args.plant.now) c.args.config.now (with_sessions c.args.ss.now.sessions r) c.args.journal.now.events) (member_entries (work_of k) c.args.s.0 c.args.n c.args.m.now) (world_seen (g.P.Plant.state c.hold_member.new.plant) c.args.config.now (with_sessions c.hold_member.new.ss.sessions r) c.hold_member.new.journal.events)) (sym c.in-Hold.is)
-    (c.in-Ok.ensures.leads r)
+pub returns-in-Hold : goal.returns-in-Hold
+returns-in-Hold g c =
+    ordered-as (g.P.Plant.state c.args.plant.now) (g.P.Plant.state c.hold_member.new.plant) c.args.config.now c.args.journal.now c.hold_member.new.journal c.args.ss.now.sessions c.hold_member.new.ss.sessions phases.Hold (work_of c.args.kind) c.args.s.0 c.args.n (c.args.m.now ∷ []) (at_once c.hold_member.result) c.at_once.result (ap work_of c.in-Hold.is) c.at_once.ensures c.hold_member.ensures
 
-pub returns-in-Err-clause-fails : goal.returns-in-Err-clause-fails
-returns-in-Err-clause-fails g c r =
-    subst (λ (k : OrderKind). Fails (armed_in (g.P.Plant.state c.args.plant.now)) (world_seen (g.P.Plant.state c.args.plant.now) c.args.config.now (with_sessions c.args.ss.now.sessions r) c.args.journal.now.events) (member_entries (work_of k) c.args.s.0 c.args.n c.args.m.now) (world_seen (g.P.Plant.state c.hold_member.new.plant) c.args.config.now (with_sessions c.hold_member.new.ss.sessions r) c.hold_member.new.journal.events) (Some c.in-Err.why)) (sym c.in-Hold.is)
-    (c.in-Err.ensures.fails r)
+pub returns-in-Release : goal.returns-in-Release
+returns-in-Release g c =
+    ordered-apart (g.P.Plant.state c.args.plant.now) (g.P.Plant.state c.release.new.plant) c.args.config.now c.args.journal.now c.release.new.journal c.args.ss.now.sessions phases.Release c.args.s.0 c.args.n c.args.m.now tt (work_of c.args.kind) c.release.result c.at_once-in-Release.result (ap work_of c.in-Release.is) c.at_once-in-Release.ensures refl
+    c.release.ensures.leads c.release.ensures.fails
+    (record { at = record { rest = c.release.ensures.rest; fit = c.release.ensures.fit }; aside = c.release.ensures.aside; unarmed = c.release.ensures.unarmed; faults = c.release.ensures.faults; on = c.release.ensures.on; room = let h = c.release.ensures.room in omega (arith, h); spare = c.release.ensures.spare })
+    (ok-along c.release.result c.release.ensures.room_left (λ h. omega (arith, h)))
 
-pub returns-in-Ok-release-clause-leads : goal.returns-in-Ok-release-clause-leads
-returns-in-Ok-release-clause-leads g c r =
-    subst (λ (k : OrderKind). Leads (world_seen (g.P.Plant.state c.args.plant.now) c.args.config.now (with_sessions c.args.ss.now.sessions r) c.args.journal.now.events) (member_entries (work_of k) c.args.s.0 c.args.n c.args.m.now) (world_seen (g.P.Plant.state c.release.new.plant) c.args.config.now (with_sessions c.args.ss.now.sessions r) c.release.new.journal.events)) (sym c.in-Release.is)
-    (c.in-Ok-release.ensures.leads (with_sessions c.args.ss.now.sessions r))
+pub returns-in-Flash : goal.returns-in-Flash
+returns-in-Flash g c =
+    ordered-apart (g.P.Plant.state c.args.plant.now) (g.P.Plant.state c.flash.new.plant) c.args.config.now c.args.journal.now c.flash.new.journal c.args.ss.now.sessions phases.Flash c.args.s.0 c.args.n c.args.m.now tt (work_of c.args.kind) c.flash.result c.at_once-in-Flash.result (ap work_of c.in-Flash.is) c.at_once-in-Flash.ensures refl
+    c.flash.ensures.leads c.flash.ensures.fails
+    (search rules)
+    c.flash.ensures.room_left
 
-pub returns-in-Err-release-clause-fails : goal.returns-in-Err-release-clause-fails
-returns-in-Err-release-clause-fails g c r =
-    subst (λ (k : OrderKind). Fails (armed_in (g.P.Plant.state c.args.plant.now)) (world_seen (g.P.Plant.state c.args.plant.now) c.args.config.now (with_sessions c.args.ss.now.sessions r) c.args.journal.now.events) (member_entries (work_of k) c.args.s.0 c.args.n c.args.m.now) (world_seen (g.P.Plant.state c.release.new.plant) c.args.config.now (with_sessions c.args.ss.now.sessions r) c.release.new.journal.events) (Some c.in-Err-release.why)) (sym c.in-Release.is)
-    (c.in-Err-release.ensures.fails (with_sessions c.args.ss.now.sessions r))
+pub returns-in-Commit : goal.returns-in-Commit
+returns-in-Commit g c =
+    ordered-apart (g.P.Plant.state c.args.plant.now) (g.P.Plant.state c.commit.new.plant) c.args.config.now c.args.journal.now c.commit.new.journal c.args.ss.now.sessions phases.Commit c.args.s.0 c.args.n c.args.m.now tt (work_of c.args.kind) c.commit.result c.at_once-in-Commit.result (ap work_of c.in-Commit.is) c.at_once-in-Commit.ensures refl
+    c.commit.ensures.leads c.commit.ensures.fails
+    (search rules)
+    c.commit.ensures.room_left
 
-pub returns-in-Ok-seal-clause-leads : goal.returns-in-Ok-seal-clause-leads
-returns-in-Ok-seal-clause-leads g c r =
-    subst (λ (k : OrderKind). Leads (world_seen (g.P.Plant.state c.args.plant.now) c.args.config.now (with_sessions c.args.ss.now.sessions r) c.args.journal.now.events) (member_entries (work_of k) c.args.s.0 c.args.n c.args.m.now) (world_seen (g.P.Plant.state c.seal.new.plant) c.args.config.now (with_sessions c.args.ss.now.sessions r) c.seal.new.journal.events)) (sym c.in-Seal.is)
-    (c.in-Ok-seal.ensures.leads (with_sessions c.args.ss.now.sessions r))
+pub returns-in-Revert : goal.returns-in-Revert
+returns-in-Revert g c =
+    ordered-apart (g.P.Plant.state c.args.plant.now) (g.P.Plant.state c.revert.new.plant) c.args.config.now c.args.journal.now c.revert.new.journal c.args.ss.now.sessions phases.Revert c.args.s.0 c.args.n c.args.m.now tt (work_of c.args.kind) c.revert.result c.at_once-in-Revert.result (ap work_of c.in-Revert.is) c.at_once-in-Revert.ensures refl
+    c.revert.ensures.leads c.revert.ensures.fails
+    (search rules)
+    c.revert.ensures.room_left
 
-pub returns-in-Err-seal-clause-fails : goal.returns-in-Err-seal-clause-fails
-returns-in-Err-seal-clause-fails g c r =
-    subst (λ (k : OrderKind). Fails (armed_in (g.P.Plant.state c.args.plant.now)) (world_seen (g.P.Plant.state c.args.plant.now) c.args.config.now (with_sessions c.args.ss.now.sessions r) c.args.journal.now.events) (member_entries (work_of k) c.args.s.0 c.args.n c.args.m.now) (world_seen (g.P.Plant.state c.seal.new.plant) c.args.config.now (with_sessions c.args.ss.now.sessions r) c.seal.new.journal.events) (Some c.in-Err-seal.why)) (sym c.in-Seal.is)
-    (c.in-Err-seal.ensures.fails (with_sessions c.args.ss.now.sessions r))
+pub returns-in-Finish : goal.returns-in-Finish
+returns-in-Finish g c =
+    ordered-apart (g.P.Plant.state c.args.plant.now) (g.P.Plant.state c.finish.new.plant) c.args.config.now c.args.journal.now c.finish.new.journal c.args.ss.now.sessions phases.Finish c.args.s.0 c.args.n c.args.m.now tt (work_of c.args.kind) c.finish.result c.at_once-in-Finish.result (ap work_of c.in-Finish.is) c.at_once-in-Finish.ensures refl
+    c.finish.ensures.advances c.finish.ensures.halts
+    (record { at = record { rest = c.finish.ensures.rest; fit = c.finish.ensures.fit }; aside = c.finish.ensures.aside; unarmed = c.finish.ensures.unarmed; faults = counted-stop c.finish.result _ _ (volume_seen (g.P.Plant.state c.args.plant.now) c.args.config.now c.args.m.now.a.0).server c.finish.ensures.faults c.finish.ensures.refused; on = c.finish.ensures.on; room = let h = c.finish.ensures.room in omega (arith, h); spare = c.finish.ensures.spare })
+    (ok-along c.finish.result c.finish.ensures.room_left (λ h. omega (arith, h)))
 
-pub returns-in-Ok-finish-clause-leads : goal.returns-in-Ok-finish-clause-leads
-returns-in-Ok-finish-clause-leads g c r =
-    subst (λ (k : OrderKind). Leads (world_seen (g.P.Plant.state c.args.plant.now) c.args.config.now (with_sessions c.args.ss.now.sessions r) c.args.journal.now.events) (member_entries (work_of k) c.args.s.0 c.args.n c.args.m.now) (world_seen (g.P.Plant.state c.finish.new.plant) c.args.config.now (with_sessions c.args.ss.now.sessions r) c.finish.new.journal.events)) (sym c.in-Finish.is)
-    (c.in-Ok-finish.ensures.advances (with_sessions c.args.ss.now.sessions r))
-
-pub returns-in-Err-finish-clause-fails : goal.returns-in-Err-finish-clause-fails
-returns-in-Err-finish-clause-fails g c r =
-    subst (λ (k : OrderKind). Fails (armed_in (g.P.Plant.state c.args.plant.now)) (world_seen (g.P.Plant.state c.args.plant.now) c.args.config.now (with_sessions c.args.ss.now.sessions r) c.args.journal.now.events) (member_entries (work_of k) c.args.s.0 c.args.n c.args.m.now) (world_seen (g.P.Plant.state c.finish.new.plant) c.args.config.now (with_sessions c.args.ss.now.sessions r) c.finish.new.journal.events) (Some c.in-Err-finish.why)) (sym c.in-Finish.is)
-    (c.in-Err-finish.ensures.halts (with_sessions c.args.ss.now.sessions r))
-
-pub returns-in-Ok-flash-clause-leads : goal.returns-in-Ok-flash-clause-leads
-returns-in-Ok-flash-clause-leads g c r =
-    subst (λ (k : OrderKind). Leads (world_seen (g.P.Plant.state c.args.plant.now) c.args.config.now (with_sessions c.args.ss.now.sessions r) c.args.journal.now.events) (member_entries (work_of k) c.args.s.0 c.args.n c.args.m.now) (world_seen (g.P.Plant.state c.flash.new.plant) c.args.config.now (with_sessions c.args.ss.now.sessions r) c.flash.new.journal.events)) (sym c.in-Flash.is)
-    (c.in-Ok-flash.ensures.leads (with_sessions c.args.ss.now.sessions r))
-
-pub returns-in-Err-flash-clause-fails : goal.returns-in-Err-flash-clause-fails
-returns-in-Err-flash-clause-fails g c r =
-    subst (λ (k : OrderKind). Fails (armed_in (g.P.Plant.state c.args.plant.now)) (world_seen (g.P.Plant.state c.args.plant.now) c.args.config.now (with_sessions c.args.ss.now.sessions r) c.args.journal.now.events) (member_entries (work_of k) c.args.s.0 c.args.n c.args.m.now) (world_seen (g.P.Plant.state c.flash.new.plant) c.args.config.now (with_sessions c.args.ss.now.sessions r) c.flash.new.journal.events) (Some c.in-Err-flash.why)) (sym c.in-Flash.is)
-    (c.in-Err-flash.ensures.fails (with_sessions c.args.ss.now.sessions r))
-
-pub returns-in-Ok-commit-clause-leads : goal.returns-in-Ok-commit-clause-leads
-returns-in-Ok-commit-clause-leads g c r =
-    subst (λ (k : OrderKind). Leads (world_seen (g.P.Plant.state c.args.plant.now) c.args.config.now (with_sessions c.args.ss.now.sessions r) c.args.journal.now.events) (member_entries (work_of k) c.args.s.0 c.args.n c.args.m.now) (world_seen (g.P.Plant.state c.commit.new.plant) c.args.config.now (with_sessions c.args.ss.now.sessions r) c.commit.new.journal.events)) (sym c.in-Commit.is)
-    (c.in-Ok-commit.ensures.leads (with_sessions c.args.ss.now.sessions r))
-
-pub returns-in-Err-commit-clause-fails : goal.returns-in-Err-commit-clause-fails
-returns-in-Err-commit-clause-fails g c r =
-    subst (λ (k : OrderKind). Fails (armed_in (g.P.Plant.state c.args.plant.now)) (world_seen (g.P.Plant.state c.args.plant.now) c.args.config.now (with_sessions c.args.ss.now.sessions r) c.args.journal.now.events) (member_entries (work_of k) c.args.s.0 c.args.n c.args.m.now) (world_seen (g.P.Plant.state c.commit.new.plant) c.args.config.now (with_sessions c.args.ss.now.sessions r) c.commit.new.journal.events) (Some c.in-Err-commit.why)) (sym c.in-Commit.is)
-    (c.in-Err-commit.ensures.fails (with_sessions c.args.ss.now.sessions r))
-
-pub returns-in-Ok-revert-clause-leads : goal.returns-in-Ok-revert-clause-leads
-returns-in-Ok-revert-clause-leads g c r =
-    subst (λ (k : OrderKind). Leads (world_seen (g.P.Plant.state c.args.plant.now) c.args.config.now (with_sessions c.args.ss.now.sessions r) c.args.journal.now.events) (member_entries (work_of k) c.args.s.0 c.args.n c.args.m.now) (world_seen (g.P.Plant.state c.revert.new.plant) c.args.config.now (with_sessions c.args.ss.now.sessions r) c.revert.new.journal.events)) (sym c.in-Revert.is)
-    (c.in-Ok-revert.ensures.leads (with_sessions c.args.ss.now.sessions r))
-
-pub returns-in-Err-revert-clause-fails : goal.returns-in-Err-revert-clause-fails
-returns-in-Err-revert-clause-fails g c r =
-    subst (λ (k : OrderKind). Fails (armed_in (g.P.Plant.state c.args.plant.now)) (world_seen (g.P.Plant.state c.args.plant.now) c.args.config.now (with_sessions c.args.ss.now.sessions r) c.args.journal.now.events) (member_entries (work_of k) c.args.s.0 c.args.n c.args.m.now) (world_seen (g.P.Plant.state c.revert.new.plant) c.args.config.now (with_sessions c.args.ss.now.sessions r) c.revert.new.journal.events) (Some c.in-Err-revert.why)) (sym c.in-Revert.is)
-    (c.in-Err-revert.ensures.fails (with_sessions c.args.ss.now.sessions r))
-
-pub returns-in-None-clause-leads : goal.returns-in-None-clause-leads
-returns-in-None-clause-leads g c r =
-    let w = world_seen (g.P.Plant.state c.args.plant.now) c.args.config.now (with_sessions c.args.ss.now.sessions r) c.args.journal.now.events in
-    subst (λ (k : OrderKind). Leads w (member_entries (work_of k) c.args.s.0 c.args.n c.args.m.now) w) (sym c.in-Report.is)
-    (one-checked w (reach_refusal c.args.m.now.a.0 c.args.m.now.b.0) None (c.in-None.ensures.refusal (with_sessions c.args.ss.now.sessions r) c.args.journal.now.events))
-
-pub returns-in-Some-clause-fails : goal.returns-in-Some-clause-fails
-returns-in-Some-clause-fails g c r =
+pub returns-in-Ok : goal.returns-in-Ok
+returns-in-Ok g c =
     let s = g.P.Plant.state c.args.plant.now in
-    let w = world_seen s c.args.config.now (with_sessions c.args.ss.now.sessions r) c.args.journal.now.events in
-    subst (λ (k : OrderKind). Fails (armed_in s) w (member_entries (work_of k) c.args.s.0 c.args.n c.args.m.now) w (Some c.in-Some.why)) (sym c.in-Report.is)
-    (one-checked w (reach_refusal c.args.m.now.a.0 c.args.m.now.b.0) (Some c.in-Some.why) (c.in-Some.ensures.refusal (with_sessions c.args.ss.now.sessions r) c.args.journal.now.events) (armed_in s))
+    let u = g.P.Plant.state c.seal.new.plant in
+    let t = c.args.config.now in
+    let m = c.args.m.now in
+    ordered-as s u t c.args.journal.now c.seal.new.journal c.args.ss.now.sessions c.args.ss.now.sessions phases.Seal (work_of c.args.kind) c.args.s.0 c.args.n (m ∷ []) _ _ (ap work_of c.in-Seal.is) refl
+    (ordered-by s u t c.args.journal.now c.seal.new.journal c.args.ss.now.sessions phases.Seal c.args.s.0 c.args.n m tt (Ok (not c.in-Ok.done)) c.in-Ok.ensures.leads tt
+    (ap not (c.in-Ok.ensures.drained ∙ ap is_bare (sym (c.in-Ok.ensures.kept m.a.0))) ∙ sym (or-false (not (is_bare (sync_seen u t m.a.0)))))
+    (λ _. c.in-Ok.ensures.kept)
+    (search (rules, c.in-Ok.ensures.faults, c.in-Ok.ensures.on))
+    c.in-Ok.ensures.room_left)
+
+pub returns-in-Err : goal.returns-in-Err
+returns-in-Err g c =
+    let s = g.P.Plant.state c.args.plant.now in
+    let u = g.P.Plant.state c.seal.new.plant in
+    let t = c.args.config.now in
+    ordered-as s u t c.args.journal.now c.seal.new.journal c.args.ss.now.sessions c.args.ss.now.sessions phases.Seal (work_of c.args.kind) c.args.s.0 c.args.n (c.args.m.now ∷ []) _ _ (ap work_of c.in-Seal.is) refl
+    (ordered-by s u t c.args.journal.now c.seal.new.journal c.args.ss.now.sessions phases.Seal c.args.s.0 c.args.n c.args.m.now tt (Err c.in-Err.why) tt c.in-Err.ensures.fails tt tt (search (rules, c.in-Err.ensures.faults)) tt)
+
+pub returns-in-None : goal.returns-in-None
+returns-in-None g c =
+    let s = g.P.Plant.state c.args.plant.now in
+    let t = c.args.config.now in
+    let a = c.args.m.now.a.0 in
+    let b = c.args.m.now.b.0 in
+    ordered-as s s t c.args.journal.now c.args.journal.now c.args.ss.now.sessions c.args.ss.now.sessions phases.Report (work_of c.args.kind) c.args.s.0 c.args.n (c.args.m.now ∷ []) _ _ (ap work_of c.in-Report.is) refl
+    (ordered-by s s t c.args.journal.now c.args.journal.now c.args.ss.now.sessions phases.Report c.args.s.0 c.args.n c.args.m.now tt (Ok false)
+    (λ r. one-checked (world_seen s t r c.args.journal.now.events) (reach_refusal a b) None (c.in-None.ensures.refusal r c.args.journal.now.events)) tt refl (λ _ q. refl)
+    (nothing-kept s t c.args.journal.now (Ok tt) c.requires.at refl 2 refl) (omega arith))
+
+pub returns-in-Some : goal.returns-in-Some
+returns-in-Some g c =
+    let s = g.P.Plant.state c.args.plant.now in
+    let t = c.args.config.now in
+    let a = c.args.m.now.a.0 in
+    let b = c.args.m.now.b.0 in
+    ordered-as s s t c.args.journal.now c.args.journal.now c.args.ss.now.sessions c.args.ss.now.sessions phases.Report (work_of c.args.kind) c.args.s.0 c.args.n (c.args.m.now ∷ []) _ _ (ap work_of c.in-Report.is) refl
+    (ordered-by s s t c.args.journal.now c.args.journal.now c.args.ss.now.sessions phases.Report c.args.s.0 c.args.n c.args.m.now tt (Err c.in-Some.why) tt
+    (λ r. one-checked (world_seen s t r c.args.journal.now.events) (reach_refusal a b) (Some c.in-Some.why) (c.in-Some.ensures.refusal r c.args.journal.now.events) (armed_in s)) tt tt
+    (nothing-kept s t c.args.journal.now (Err c.in-Some.why) c.requires.at c.in-Some.ensures.calm 2 tt) tt)

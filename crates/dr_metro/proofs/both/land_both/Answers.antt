@@ -1,3 +1,7 @@
+use Rattle.std.proofs.Common.{ap}
+use Rattle.dr_moves.specs.Checks.{is_stop}
+use Rattle.dr_moves.proofs.TurnLemmas.{err-along}
+use Rattle.dr_gcopy.proofs.RanLemmas.{counted-failed}
 use Rattle.dr_metro.proofs.both.land_both.Goals as goal
 
 pub land_both_by-requires-clause-can : goal.land_both_by-requires-clause-can
@@ -14,3 +18,6 @@ land_both_by-requires-clause-can g c =
       bytes = q.bytes;
       says = record { fields = c.peek_fields-fields.ensures.fields; lawful = c.peek_fields-fields.ensures.lawful };
     }
+
+pub returns-clause-faults : goal.returns-clause-faults
+returns-clause-faults g c = counted-failed c.land_both_by.result _ _ (err-along c.land_both_by.result c.land_both_by.ensures.refused c.land_both_by.ensures.refused (λ refused _. ap is_stop refused)) c.land_both_by.ensures.wrote.faults

@@ -1,72 +1,62 @@
-use Rattle.std.proofs.Common.{◌≡◌, ◌<◌, ap, sym, subst, ◌∙◌, true, inl, Some}
-use Rattle.std.specs.Prelude.{is_err, OnOk}
-use Rattle.dr_logic.specs.Counts.{Counted}
+use Rattle.std.proofs.Common.{◌≡◌, ◌++◌, ◌∷◌, [], true, arith, ap, sym, subst, ◌∙◌, length, Some}
+use Rattle.std.specs.Prelude.{Err, OnOk, OnErr}
+use Rattle.std.proofs.lemmas.List.{length-append}
 use Rattle.dr_plant.specs.State.{PlantState, can_read}
-use Rattle.dr_model.specs.Contents.{laid}
-use Rattle.dr_model.specs.Carry as carry
+use Rattle.dr_model.specs.declared.event.Event.TheVariants.{Stopped}
+use Rattle.dr_model.specs.Entries.{land_on}
+use Rattle.dr_model.specs.Refusals.{stopped}
 use Rattle.dr_volume.specs.Opened.{IsOpened}
-use Rattle.dr_volume.specs.View.{world, volume_seen, device_of}
-use Rattle.dr_volume.specs.Update.{EndsAs}
-use Rattle.dr_moves.specs.Fit.{RelationsFit}
-use Rattle.dr_moves.specs.Here.{IsAtRest}
-use Rattle.dr_flash.specs.Views.{view_seen}
-use Rattle.dr_moves.proofs.ReadLemmas.{left-unread, rest-same}
-use Rattle.dr_moves.proofs.FitLemmas.{fit-same}
-use Rattle.dr_metro.specs.Landing.{landed_on}
-use Rattle.dr_metro.proofs.LandLemmas.{lands-unread}
-use Rattle.dr_metro.proofs.FaultLemmas.{counted-unread}
+use Rattle.dr_volume.specs.View.{volume_seen, device_of}
+use Rattle.dr_moves.specs.Here.{refusal_of}
+use Rattle.dr_moves.proofs.ReadLemmas.{left-unread, unread-gone, unread-rose}
+use Rattle.dr_metro.specs.Landing.{landed_on, CanLandAlone}
+use Rattle.dr_metro.specs.Writing.{Wrote}
+use Rattle.dr_metro.proofs.WroteLemmas.{wrote-gone}
 use Rattle.dr_metro.proofs.landing.land_by.Goals as goal
-
-pub returns-in_err-opened-clause-exact : goal.returns-in_err-opened-clause-exact
-returns-in_err-opened-clause-exact g c r =
-    lands-unread c.args.config.now (g.P.Plant.state c.args.plant.now) (g.P.Plant.state c.open_by.new.plant) c.args.v.0 c.requires.rest c.requires.defined c.in_err-opened.ensures.done c.in_err-opened.ensures.state
-    c.requires.running r _ _ c.from_residual.ensures.0
-
-pub returns-in_err-opened-clause-rest : goal.returns-in_err-opened-clause-rest
-returns-in_err-opened-clause-rest g c =
-    let x = left-unread c.args.config.now (g.P.Plant.state c.args.plant.now) (g.P.Plant.state c.open_by.new.plant) c.args.v.0 c.requires.rest.stands (c.requires.rest.sizes c.args.v.0) c.requires.defined c.in_err-opened.ensures.done c.in_err-opened.ensures.state in
-    rest-same c.args.config.now (g.P.Plant.state c.args.plant.now) (g.P.Plant.state c.open_by.new.plant) c.requires.rest x.stands x.settled x.same
-
-pub returns-in_err-opened-clause-fit : goal.returns-in_err-opened-clause-fit
-returns-in_err-opened-clause-fit g c =
-    fit-same (g.P.Plant.state c.args.plant.now) (g.P.Plant.state c.open_by.new.plant) c.args.config.now
-    (left-unread c.args.config.now (g.P.Plant.state c.args.plant.now) (g.P.Plant.state c.open_by.new.plant) c.args.v.0 c.requires.rest.stands (c.requires.rest.sizes c.args.v.0) c.requires.defined c.in_err-opened.ensures.done c.in_err-opened.ensures.state).same c.requires.fit
-
-pub returns-in_err-opened-clause-unarmed : goal.returns-in_err-opened-clause-unarmed
-returns-in_err-opened-clause-unarmed g c =
-    (left-unread c.args.config.now (g.P.Plant.state c.args.plant.now) (g.P.Plant.state c.open_by.new.plant) c.args.v.0 c.requires.rest.stands (c.requires.rest.sizes c.args.v.0) c.requires.defined c.in_err-opened.ensures.done c.in_err-opened.ensures.state).unarmed
-
-pub returns-in_err-opened-clause-faults : goal.returns-in_err-opened-clause-faults
-returns-in_err-opened-clause-faults g c =
-    counted-unread c.from_residual.result (g.P.Plant.state c.args.plant.now) (g.P.Plant.state c.open_by.new.plant) (device_of c.args.config.now c.args.v.0) c.in_err-opened.ensures.done c.in_err-opened.ensures.state c.from_residual.ensures.0
 
 pub land_opened-requires : goal.land_opened-requires
 land_opened-requires g c =
     let t = c.args.config.now in
-    let v = c.args.v.0 in
-    let same = sym c.in_ok-opened.ensures.same in
+    let v = c.args.target.volume.0 in
+    let same = sym c.in-Ok.ensures.same in
     record {
-      rest = subst (λ s. IsAtRest s t) same c.requires.rest;
-      fit = subst (λ s. RelationsFit s t) same c.requires.fit;
-      defined = c.requires.defined;
-      opened = subst (λ s. IsOpened s t v c.in_ok-opened.opened) same c.in_ok-opened.ensures.opened;
-      passes = subst (λ s. can_read s (device_of t v) ≡ true) same (sym c.in_ok-opened.ensures.done);
-      within = subst (λ s. c.args.t < (volume_seen s t v).tracks) same c.requires.within;
-      fits = c.requires.fits;
+      can = subst (λ (y : PlantState). CanLandAlone y t c.args.host.now c.args.journal.now.events c.args.w.0 c.args.target c.args.bytes.now) same c.requires.can;
+      opened = subst (λ (y : PlantState). IsOpened y t v c.in-Ok.opened) same c.in-Ok.ensures.opened;
+      passes = subst (λ (y : PlantState). can_read y (device_of t v) ≡ true) same (sym c.in-Ok.ensures.done);
+      room = c.requires.room;
     }
 
-pub returns : goal.returns
-returns g c =
-    let t = c.args.config.now in
-    let v = c.args.v.0 in
+pub returns-in-Ok-clause-wrote : goal.returns-in-Ok-clause-wrote
+returns-in-Ok-clause-wrote g c =
+    subst (λ (y : PlantState). Wrote y (g.P.Plant.state c.land_opened.new.plant) c.args.config.now c.args.host.now c.land_opened.new.host c.args.journal.now c.land_opened.new.journal (λ z. land_on c.args.w.0 c.args.target.volume.0 c.args.target.track ∷ []) 1 c.land_opened.result) c.in-Ok.ensures.same c.land_opened.ensures.wrote
+
+pub returns-in-Ok-clause-refused : goal.returns-in-Ok-clause-refused
+returns-in-Ok-clause-refused g c =
+    subst (λ (y : PlantState). OnErr c.land_opened.result (refusal_of c.land_opened.result ≡ Some (stopped (volume_seen y c.args.config.now c.args.target.volume.0).server))) c.in-Ok.ensures.same c.land_opened.ensures.refused
+
+pub returns-in-Ok-clause-left : goal.returns-in-Ok-clause-left
+returns-in-Ok-clause-left g c =
+    let v = c.args.target.volume.0 in
+    subst (λ (y : PlantState). OnOk c.land_opened.result ((volume_seen (g.P.Plant.state c.land_opened.new.plant) c.args.config.now v).fields ≡ landed_on (volume_seen y c.args.config.now v) c.args.target.track)) c.in-Ok.ensures.same c.land_opened.ensures.left
+
+pub returns-in-Err-clause-wrote : goal.returns-in-Err-clause-wrote
+returns-in-Err-clause-wrote g c =
     let s = g.P.Plant.state c.args.plant.now in
-    let u = g.P.Plant.state c.land_opened.new.plant in
-    let same = c.in_ok-opened.ensures.same in
-    record {
-      exact = λ r. inl (subst (λ (y : PlantState). EndsAs (world u t r) (is_err c.land_opened.result) (carry.update (world y t r) v (landed_on (volume_seen y t v) c.args.t) (Some (c.args.t, laid c.args.offset c.args.bytes.now (view_seen y t v c.args.t))))) same (c.land_opened.ensures.exact r));
-      left = subst (λ (y : PlantState). OnOk c.land_opened.result ((volume_seen u t v).fields ≡ landed_on (volume_seen y t v) c.args.t)) same c.land_opened.ensures.left;
-      rest = c.land_opened.ensures.rest;
-      fit = c.land_opened.ensures.fit;
-      unarmed = λ q none. c.land_opened.ensures.unarmed q (ap (λ (x : PlantState). x.read_fuse q) same ∙ none);
-      faults = subst (λ (x : PlantState). Counted (is_err c.land_opened.result) x.faults u.faults) same c.land_opened.ensures.faults;
-    }
+    let u = g.P.Plant.state c.open_by.new.plant in
+    let t = c.args.config.now in
+    let v = c.args.target.volume.0 in
+    let can = c.requires.can in
+    let rest = can.at.rest in
+    let x = left-unread t s u v rest.stands (rest.sizes v) can.defined c.in-Err.ensures.done c.in-Err.ensures.state in
+    let old = c.args.journal.now in
+    let new = c.push.new.self in
+    let told : new.events ≡ old.events ++ Stopped (volume_seen s t v).server 0 ∷ [] = c.push.ensures.events ∙ ap (λ q. old.events ++ Stopped q 0 ∷ []) (sym can.server) in
+    subst (λ q. Wrote s u t c.args.host.now c.args.host.now old new (λ z. land_on c.args.w.0 v c.args.target.track ∷ []) 1 {T = Unit {0}} (Err (stopped q))) can.server
+    (wrote-gone s u t c.args.host.now old new (land_on c.args.w.0 v c.args.target.track ∷ []) (volume_seen s t v).server can.at can.told
+    (λ r. unread-gone t s u v rest.stands (rest.sizes v) can.defined c.in-Err.ensures.done c.in-Err.ensures.state (ap s.on can.server ∙ can.running) r old.events new.events told)
+    x.same x.stands x.settled x.unarmed (unread-rose t s u v rest.stands (rest.sizes v) can.defined c.in-Err.ensures.done c.in-Err.ensures.state)
+    (let h = c.push.ensures.spare in omega (arith, h))
+    (let h = c.push.ensures.spare in let e = ap length c.push.ensures.events in let l = length-append old.events (Stopped c.args.target.server.0 0 ∷ []) in omega (arith, h, e, l)))
+
+pub returns-in-Err-clause-refused : goal.returns-in-Err-clause-refused
+returns-in-Err-clause-refused g c = ap (λ q. Some (stopped q)) (sym c.requires.can.server)

@@ -1,76 +1,87 @@
-use Rattle.std.proofs.Common.{◌≡◌, ◌<◌, Some, ap, arith, sym, subst, ◌∙◌}
-use Rattle.std.specs.Prelude.{is_err}
+use Rattle.std.proofs.Common.{ℕ, List, ◌≡◌, ◌≤◌, ap, sym, subst, ◌∙◌, ◌∷◌, [], Some}
+use Rattle.std.specs.Prelude.{OnOk, OnErr}
 use Rattle.dr_plant.specs.State.{PlantState}
-use Rattle.dr_config.specs.Table.{StandsFor}
 use Rattle.dr_model.specs.Contents.{laid}
-use Rattle.dr_model.specs.Lawful.{IsLawful}
-use Rattle.dr_model.specs.Carry as carry
-use Rattle.dr_volume.specs.Plain.{plain}
+use Rattle.dr_model.specs.Entries.{land_on}
+use Rattle.dr_model.specs.Histories.{histories}
+use Rattle.dr_model.specs.Layout.{Fields}
+use Rattle.dr_model.specs.Moves.{Move, target, carried}
+use Rattle.dr_model.specs.Refusals.{stopped}
 use Rattle.dr_volume.specs.Opened.{IsOpened}
-use Rattle.dr_volume.specs.View.{world, volume_seen, IsSettled}
-use Rattle.dr_volume.specs.Update.{EndsAs, Covers}
-use Rattle.dr_moves.specs.Fit.{RelationsFit, LeavesFit}
-use Rattle.dr_moves.specs.Here.{IsAtRest}
-use Rattle.dr_flash.specs.Views.{view_seen}
-use Rattle.dr_model.specs.Control.{Volume}
-use Rattle.dr_moves.proofs.TurnLemmas.{ok-along}
-use Rattle.dr_moves.proofs.FitLemmas.{fit-after}
-use Rattle.dr_moves.proofs.MoveFits.{MoveFits}
-use Rattle.dr_metro.specs.Landing.{landed, landed_on}
-use Rattle.dr_metro.proofs.LandingLemmas.{lands-fit}
-use Rattle.dr_metro.proofs.FaultLemmas.{counted-by}
+use Rattle.dr_volume.specs.Plain.{plain}
+use Rattle.dr_volume.specs.View.{volume_seen, track_seen}
+use Rattle.dr_moves.specs.Here.{refusal_of}
+use Rattle.dr_moves.specs.Made.{IsAt, May, room_for}
+use Rattle.dr_moves.specs.Moves.{move_of}
+use Rattle.dr_metro.specs.Landing.{landing_move, landed_on}
+use Rattle.dr_metro.specs.Writing.{Wrote}
+use Rattle.dr_metro.proofs.LandedLemmas.{alone-target, alone-may, alone-carries, alone-room, alone-wrote, alone-refused, alone-landed}
 use Rattle.dr_metro.proofs.landing.land_opened.Goals as goal
-use Rattle.dr_moves.proofs.ShiftLemmas.{rest-after}
 
-pub landed-next-requires : goal.landed-next-requires
-landed-next-requires g c =
-    let few = c.requires.rest.sizes c.args.v.0 in
-    let inside = c.requires.within in
-    record { defined = c.requires.defined; within = omega (arith, few, inside) }
-
-pub change-requires : goal.change-requires
-change-requires g c =
-    let t = c.args.config.now in
-    let v = c.args.v.0 in
-    let s = g.P.Plant.state c.args.plant.now in
-    let same = sym c.view_of-old.ensures.same in
-    let shows = subst (λ f. plain f ≡ (volume_seen s t v).fields) (sym c.fields.ensures) c.requires.opened.shows.fields in
-    let given : plain c.landed-next.result ≡ landed_on (volume_seen s t v) c.args.t =
-    c.landed-next.ensures s ∙ ap (λ f. landed (volume_seen s t v).tracks f c.args.t) shows in
-    let law = subst (λ f. IsLawful (volume_seen s t v).tracks f) c.requires.opened.shows.fields c.requires.opened.shows.lawful in
-    let fits = subst (λ f. MoveFits s t v f (Some (c.args.t, c.laid-track.result))) (sym given) (lands-fit s t v c.args.t c.requires.fit law c.requires.within c.laid-track.result) in
-    record {
-      defined = c.requires.defined;
-      stands = subst (λ x. StandsFor t x) same c.requires.rest.stands;
-      opened = subst (λ x. IsOpened x t v c.args.opened.now) same c.requires.opened;
-      lawful = subst (λ x. IsLawful (volume_seen x t v).tracks (plain c.landed-next.result)) same fits.lawful;
-      within = subst (λ x. c.args.t < (volume_seen x t v).tracks) same c.requires.within;
-      settled = subst (λ x. IsSettled x t v) same (c.requires.rest.settled v);
-      covers = subst (λ x. Covers (volume_seen x t v).fields.blank c.landed-next.result.blank (Some (c.args.t, c.laid-track.result))) same fits.covers;
-    }
-
-pub returns : goal.returns
-returns g c =
-    let t = c.args.config.now in
-    let v = c.args.v.0 in
+pub make_opened-done-requires : goal.make_opened-done-requires
+make_opened-done-requires g c =
     let s = g.P.Plant.state c.args.plant.now in
     let x = g.P.Plant.state c.view_of-old.new.plant in
-    let u = g.P.Plant.state c.change.new.plant in
-    let same : x ≡ s = c.view_of-old.ensures.same in
-    let shows = subst (λ f. plain f ≡ (volume_seen s t v).fields) (sym c.fields.ensures) c.requires.opened.shows.fields in
-    let given : plain c.landed-next.result ≡ landed_on (volume_seen s t v) c.args.t =
-    c.landed-next.ensures s ∙ ap (λ f. landed (volume_seen s t v).tracks f c.args.t) shows in
-    let law = subst (λ f. IsLawful (volume_seen s t v).tracks f) c.requires.opened.shows.fields c.requires.opened.shows.lawful in
-    let fits = lands-fit s t v c.args.t c.requires.fit law c.requires.within c.laid-track.result in
-    let track = c.laid-track.ensures ∙ ap (laid c.args.offset c.args.bytes.now) c.view_of-old.ensures.bytes in
+    let t = c.args.config.now in
+    let n = c.args.w.0 in
+    let v = c.args.target.volume.0 in
+    let k = c.args.target.track in
+    let m = move_of c.landing_of-m.result in
+    let can = c.requires.can in
+    let same = sym c.view_of-old.ensures.same in
+    let write = (histories c.args.journal.now.events).write in
+    let related = (volume_seen s t v).fields.related in
+    let is : m ≡ landing_move related n v k = c.landing_of-m.ensures ∙ ap (λ (f : Fields). landing_move f.related n v k) (ap plain c.fields.ensures ∙ c.requires.opened.shows.fields) in
+    let aims : target m ≡ v = ap target is ∙ alone-target s t n v k related in
+    let bytes : c.laid-track.result ≡ _ = c.laid-track.ensures ∙ ap (laid c.args.target.offset c.args.bytes.now) c.view_of-old.ensures.bytes in
     record {
-      exact = λ r. subst (λ (y : PlantState). EndsAs (world u t r) (is_err c.change.result) (carry.update (world y t r) v (landed_on (volume_seen s t v) c.args.t) (Some (c.args.t, laid c.args.offset c.args.bytes.now (view_seen s t v c.args.t))))) same
-          (subst (λ f. EndsAs (world u t r) (is_err c.change.result) (carry.update (world x t r) v f (Some (c.args.t, laid c.args.offset c.args.bytes.now (view_seen s t v c.args.t))))) given
-          (subst (λ b. EndsAs (world u t r) (is_err c.change.result) (carry.update (world x t r) v (plain c.landed-next.result) (Some (c.args.t, b)))) track (c.change.ensures.exact r)));
-      left = ok-along c.change.result c.change.ensures.done (λ is. ap (λ (y : Volume). y.fields) is.volume ∙ given);
-      rest = rest-after t x u v _ _ (subst (λ y. IsAtRest y t) (sym same) c.requires.rest) c.change.ensures.stands c.change.ensures.settled c.change.ensures.old_or_new c.change.ensures.others;
-      fit = fit-after x u t v (plain c.landed-next.result) _ (subst (λ y. RelationsFit y t) (sym same) c.requires.fit)
-          (subst (λ y. LeavesFit y t v (plain c.landed-next.result)) (sym same) (subst (λ f. LeavesFit s t v f) (sym given) fits.leaves)) c.change.ensures.old_or_new c.change.ensures.others;
-      faults = counted-by c.change.result s.faults x.faults u.faults (ap (λ (y : PlantState). y.faults) same) c.change.ensures.fault c.change.ensures.no_fault;
-      unarmed = λ q none. c.change.ensures.unarmed q (ap (λ (y : PlantState). y.read_fuse q) same ∙ none);
+      at = subst (λ (y : PlantState). IsAt y t) same can.at;
+      may = subst (λ (y : PlantState). May y t m) same (subst (May s t) (sym is) (alone-may s t n v k can.defined (ap s.on can.server ∙ can.running) can.within));
+      opened = subst (λ (y : PlantState). IsOpened y t (target m) c.args.opened.now) same (subst (λ q. IsOpened s t q c.args.opened.now) (sym aims) c.requires.opened);
+      carries = subst (λ (y : PlantState). carried m (volume_seen y t) (track_seen y t) write ≡ Some (k, c.laid-track.result)) same
+          (ap (λ (z : Move). carried z (volume_seen s t) (track_seen s t) write) is ∙ alone-carries s t n v k write c.args.target.offset c.args.bytes.now can.pending.issue ∙ ap (λ (b : List ℕ). Some (k, b)) (sym bytes));
+      room = subst (λ j. j ≤ c.args.journal.now.spare) (sym (ap (λ (z : Move). room_for z (volume_seen x t (target z))) is ∙ alone-room s t n v k related _)) c.requires.room;
     }
+
+pub returns-clause-wrote : goal.returns-clause-wrote
+returns-clause-wrote g c =
+    let x = g.P.Plant.state c.view_of-old.new.plant in
+    let u = g.P.Plant.state c.make_opened-done.new.plant in
+    let t = c.args.config.now in
+    let n = c.args.w.0 in
+    let v = c.args.target.volume.0 in
+    let k = c.args.target.track in
+    let same = c.view_of-old.ensures.same in
+    let is : move_of c.landing_of-m.result ≡ landing_move (volume_seen x t v).fields.related n v k =
+    c.landing_of-m.ensures ∙ ap (λ (f : Fields). landing_move f.related n v k) (ap plain c.fields.ensures ∙ c.requires.opened.shows.fields ∙ ap (λ (y : PlantState). (volume_seen y t v).fields) (sym same)) in
+    subst (λ (y : PlantState). Wrote y u t c.args.host.now c.settle_write.new.h c.args.journal.now c.make_opened-done.new.journal (λ z. land_on n v k ∷ []) 1 c.settle_write.result) same
+    (alone-wrote x u t n v k c.args.journal.now c.make_opened-done.new.journal (move_of c.landing_of-m.result) is (Some (k, c.laid-track.result)) c.make_opened-done.result c.settle_write.result c.settle_write.ensures.says c.make_opened-done.ensures.made
+    c.args.host.now c.settle_write.new.h c.settle_write.ensures.writes c.requires.can.told c.make_opened-done.ensures.kept)
+
+pub returns-clause-refused : goal.returns-clause-refused
+returns-clause-refused g c =
+    let x = g.P.Plant.state c.view_of-old.new.plant in
+    let u = g.P.Plant.state c.make_opened-done.new.plant in
+    let t = c.args.config.now in
+    let n = c.args.w.0 in
+    let v = c.args.target.volume.0 in
+    let k = c.args.target.track in
+    let same = c.view_of-old.ensures.same in
+    let is : move_of c.landing_of-m.result ≡ landing_move (volume_seen x t v).fields.related n v k =
+    c.landing_of-m.ensures ∙ ap (λ (f : Fields). landing_move f.related n v k) (ap plain c.fields.ensures ∙ c.requires.opened.shows.fields ∙ ap (λ (y : PlantState). (volume_seen y t v).fields) (sym same)) in
+    subst (λ (y : PlantState). OnErr c.settle_write.result (refusal_of c.settle_write.result ≡ Some (stopped (volume_seen y t v).server))) same
+    (alone-refused x u t n v k c.args.journal.now c.make_opened-done.new.journal (move_of c.landing_of-m.result) is (Some (k, c.laid-track.result)) c.make_opened-done.result c.settle_write.result c.settle_write.ensures.says c.make_opened-done.ensures.made)
+
+pub returns-clause-left : goal.returns-clause-left
+returns-clause-left g c =
+    let x = g.P.Plant.state c.view_of-old.new.plant in
+    let u = g.P.Plant.state c.make_opened-done.new.plant in
+    let t = c.args.config.now in
+    let n = c.args.w.0 in
+    let v = c.args.target.volume.0 in
+    let k = c.args.target.track in
+    let same = c.view_of-old.ensures.same in
+    let is : move_of c.landing_of-m.result ≡ landing_move (volume_seen x t v).fields.related n v k =
+    c.landing_of-m.ensures ∙ ap (λ (f : Fields). landing_move f.related n v k) (ap plain c.fields.ensures ∙ c.requires.opened.shows.fields ∙ ap (λ (y : PlantState). (volume_seen y t v).fields) (sym same)) in
+    subst (λ (y : PlantState). OnOk c.settle_write.result ((volume_seen u t v).fields ≡ landed_on (volume_seen y t v) k)) same
+    (alone-landed x u t n v k c.args.journal.now c.make_opened-done.new.journal (move_of c.landing_of-m.result) is (Some (k, c.laid-track.result)) c.make_opened-done.result c.settle_write.result c.settle_write.ensures.says c.make_opened-done.ensures.made)

@@ -16,7 +16,7 @@ use Rattle.dr_metro.specs.Here.{here, rest_of}
 use Rattle.dr_metro.specs.Mirroring.{CanSettle, CanStore, mirror_entries}
 use Rattle.dr_metro.specs.Writing.{Wrote}
 use Rattle.dr_metro.specs.declared.moves.Route.{Route}
-use Rattle.dr_metro.proofs.LandLemmas.{told-through}
+use Rattle.dr_metro.proofs.ToldLemmas.{told-through}
 use Rattle.dr_metro.proofs.RouteLemmas.{laid-bytes, some-found}
 use Rattle.dr_metro.proofs.WroteLemmas.{wrote-by, wrote-within}
 use Rattle.dr_metro.proofs.mirroring.read_and_store.Goals as goal

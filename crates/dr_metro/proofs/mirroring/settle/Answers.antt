@@ -11,7 +11,7 @@ use Rattle.dr_flash.proofs.MoveLemmas.{stored-track}
 use Rattle.dr_gcopy.proofs.PairChecks.{servers-apart}
 use Rattle.dr_gcopy.proofs.SendLemmas.{other-server}
 use Rattle.dr_logic.proofs.Results.{err-always}
-use Rattle.dr_metro.proofs.WroteLemmas.{wrote-then, wrote-failed, wrote-by, land-before}
+use Rattle.dr_metro.proofs.WroteLemmas.{wrote-then, wrote-failed, land-before}
 use Rattle.dr_metro.proofs.mirroring.settle.Goals as goal
 
 pub returns-in_err-keep_found-clause-wrote : goal.returns-in_err-keep_found-clause-wrote
@@ -45,10 +45,8 @@ returns-clause-wrote g c =
     let v = c.args.m.from.0 in
     let n = length t.volumes in
     let last = now (LandBoth c.args.m.write.0 v c.args.m.track) ∷ [] in
-    let e = c.land_both_by.ensures in
     wrote-then s m t c.args.h.now c.args.journal.now c.keep_found.new.journal (copy_first (ids_of t.volumes) v c.args.m.track) (λ q. copies_from v (volume_seen s t q).fields ≡ false) (n + 1) n
-    u c.land_both_by.new.h c.land_both_by.new.journal last 1 (n + 1) c.land_both_by.result (omega arith) c.in_ok-keep_found.ensures.ran
-    (wrote-by m u t c.args.h.now c.land_both_by.new.h c.keep_found.new.journal c.land_both_by.new.journal last 1 (volume_seen m t v).server c.land_both_by.result e.refused e.carried e.rest e.fit e.told e.unarmed e.faults e.issued e.room e.spare)
+    u c.land_both_by.new.h c.land_both_by.new.journal last 1 (n + 1) c.land_both_by.result (omega arith) c.in_ok-keep_found.ensures.ran c.land_both_by.ensures.wrote
 
 pub returns-clause-stops : goal.returns-clause-stops
 returns-clause-stops g c = err-along c.land_both_by.result c.land_both_by.ensures.refused c.land_both_by.ensures.refused (λ refused _. ap is_stop refused)

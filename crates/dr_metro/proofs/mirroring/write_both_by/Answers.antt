@@ -1,8 +1,7 @@
-use Rattle.std.proofs.Common.{◌≢◌, ◌∷◌, [], ◌+◌, length, arith, ap, refl, sym, subst, ◌∙◌, None}
+use Rattle.std.proofs.Common.{◌≡◌, ◌≢◌, ◌∷◌, [], ◌+◌, length, arith, ap, sym, subst, ◌∙◌}
 use Rattle.std.specs.Prelude.{Ok}
 use Rattle.dr_model.specs.Carry.{now}
 use Rattle.dr_model.specs.Control.{Volume}
-use Rattle.dr_model.specs.Histories.{histories}
 use Rattle.dr_model.specs.Layout.{Fields, is_part}
 use Rattle.dr_model.specs.Lawful.{IsLawful}
 use Rattle.dr_model.specs.Moves.{Unsync}
@@ -12,7 +11,7 @@ use Rattle.dr_volume.specs.Plain.{plain}
 use Rattle.dr_volume.specs.View.{ids_of, volume_seen}
 use Rattle.dr_volume.proofs.SaysLaws.{says-along}
 use Rattle.dr_moves.specs.Checks.{is_stop}
-use Rattle.dr_moves.proofs.MoveFits.{fits-by}
+use Rattle.dr_moves.proofs.PlaceLaws.{seen-lawful}
 use Rattle.dr_moves.proofs.TurnLemmas.{refused-by}
 use Rattle.dr_gcopy.proofs.PairChecks.{servers-apart}
 use Rattle.dr_logic.proofs.Results.{err-always}
@@ -23,14 +22,6 @@ use Rattle.dr_metro.proofs.mirroring.write_both_by.Goals as goal
 
 pub unsync_by-requires-clause-may : goal.unsync_by-requires-clause-may
 unsync_by-requires-clause-may g c = let can = c.requires.can in record { defined = can.due.defined; running = can.running; asks = (can.due.within, can.primary) }
-
-pub unsync_by-requires-clause-lawful : goal.unsync_by-requires-clause-lawful
-unsync_by-requires-clause-lawful g c =
-    let x = volume_seen (g.P.Plant.state c.args.plant.now) c.args.config.now c.args.w.now.volume.0 in
-    subst (λ (f : Fields). IsLawful x.tracks f) c.requires.can.says.fields c.requires.can.says.lawful
-
-pub unsync_by-requires-clause-next : goal.unsync_by-requires-clause-next
-unsync_by-requires-clause-next g c = c.unsynced-next.ensures ∙ ap (λ (f : Fields). unsynced f c.args.w.now.track) c.requires.can.says.fields
 
 pub returns-in_err-unsync_by-clause-wrote : goal.returns-in_err-unsync_by-clause-wrote
 returns-in_err-unsync_by-clause-wrote g c =
@@ -58,12 +49,10 @@ read_and_store-requires-clause-can g c =
     let w = c.args.w.now in
     let v = w.volume.0 in
     let u = c.args.u.0 in
-    let x = volume_seen s t v in
     let can = c.requires.can in
     let ran = c.in_ok-unsync_by.ensures.ran in
     let moved = c.in_ok-unsync_by.ensures.moved.volume in
-    let next = c.unsynced-next.ensures ∙ ap (λ (f : Fields). unsynced f w.track) can.says.fields in
-    let law = subst (λ (f : Fields). IsLawful x.tracks f) can.says.fields can.says.lawful in
+    let is : plain c.unsynced-next.result ≡ (volume_seen m t v).fields = c.unsynced-next.ensures ∙ ap (λ (f : Fields). unsynced f w.track) can.says.fields ∙ sym (ap (λ (y : Volume). y.fields) moved) in
     let told = ran-told s m t h c.args.journal.now c.unsync_by.new.journal (now (Unsync v w.track) ∷ []) (λ q. q ≢ v) 1 0 (Ok tt) ran can.due.told in
     record {
       due = due-still s m t h c.args.journal.now.events c.unsync_by.new.journal.events w ran.stays.at told can.due;
@@ -72,9 +61,8 @@ read_and_store-requires-clause-can g c =
       pair = pair-still s m t v u can.pair;
       reached = on-still s m t u ran.stays.on can.reached;
       says = record {
-        fields = next ∙ sym (ap (λ (y : Volume). y.fields) moved);
-        lawful = subst (λ (y : Volume). IsLawful y.tracks (plain c.unsynced-next.result)) (sym moved)
-            (fits-by s t can.due.at.fit (Unsync v w.track) v (plain c.unsynced-next.result) None (histories c.args.journal.now.events).write refl next refl law (can.due.within, can.primary)).lawful;
+        fields = is;
+        lawful = subst (λ (f : Fields). IsLawful (volume_seen m t v).tracks f) (sym is) (seen-lawful m t v can.due.defined (ran.stays.at.rest.sizes v) ran.stays.at.rest.stands);
       };
       says_to = says-along s m t u c.args.to.now (ran.stays.others u (λ e. servers-apart s t v u can.pair.two_servers (sym e))).volume can.says_to;
       alone = λ none. none-moved s m t v ran.stays.at.fit (λ q ne. ran.stays.others q ne) (can.alone none);
