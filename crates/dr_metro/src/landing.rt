@@ -1,8 +1,8 @@
 //! Landing a host write on a track of its volume alone, as one move.
 
-ghost use Rattle.std.specs.Prelude.{◌≡◌, ◌+◌, ◌<◌, ◌≤◌, true, length, [], ◌∷◌, None, IsSome, Some, OnOk, OnErr, if◌then◌else◌};
+ghost use Rattle.std.specs.Prelude.{◌≡◌, ◌+◌, ◌<◌, ◌≤◌, true, length, [], ◌∷◌, None, IsSome, Some, OnOk, OnErr};
 ghost use Rattle.std.specs.List.{find};
-ghost use Rattle.dr_host.specs.Writes.{has_number, with_marked};
+ghost use Rattle.dr_host.specs.Writes.{has_number};
 ghost use Rattle.dr_model.specs.Contents.{laid};
 ghost use Rattle.dr_model.specs.Entries.{land_on};
 ghost use Rattle.dr_model.specs.Refusals.{stopped};
@@ -21,7 +21,7 @@ use dr_flash::view_of;
 use dr_host::Host;
 use dr_ids::{Refusal, WriteId};
 use dr_model::{Event, Journal};
-use dr_moves::{Move, Stop, make_opened};
+use dr_moves::{Beside, Move, News, Stop, make_opened};
 use dr_plant::{Block, Plant};
 use dr_volume::{Fields, Opened, open_by};
 
@@ -58,25 +58,17 @@ pub(crate) fn settle_write(h: &mut Host, w: WriteId, done: Result<(), Stop>) -> 
 {
     match done {
         Ok(()) => {
-            h.finish(w);
+            h.hear(&News::Settled(w));
             Ok(())
         }
         Err(stop) => {
-            land_if(h, w, stop.counts);
+            if stop.counts {
+                h.hear(&News::Landed(w));
+            }
             Err(Refusal::Stopped {
                 server: stop.server,
             })
         }
-    }
-}
-
-/// Marks a pending write, where it has landed in a stop.
-fn land_if(host: &mut Host, w: WriteId, landed: bool)
-    requires { IsSome (find (has_number w.0) host.old.pending) }
-    ensures { host.new ≡ (if landed then with_marked host.old w.0 else host.old) }
-{
-    if landed {
-        host.land(w);
     }
 }
 
