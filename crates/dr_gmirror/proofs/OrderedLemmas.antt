@@ -24,9 +24,8 @@ use Rattle.dr_moves.specs.Made.{IsAt, Kept}
 use Rattle.dr_moves.specs.Turns.{Leads, Fails}
 use Rattle.dr_moves.proofs.ActedLemmas.{nothing-kept}
 use Rattle.dr_moves.proofs.KeptLemmas.{kept-more, kept-then, wider-armed}
-use Rattle.dr_moves.proofs.LeadLemmas.{then-leads, then-fails, fails-first}
+use Rattle.dr_moves.proofs.LeadLemmas.{then-leads, then-fails, fails-first, fails-wider}
 use Rattle.dr_moves.proofs.TurnLemmas.{ok-along, err-along}
-use Rattle.dr_gcopy.proofs.SendLemmas.{fails-wider}
 use Rattle.dr_gmirror.specs.Orders.{with_sessions, to_begin, MayOrder, is_seal, sync_seen, must_wait, waits_in}
 use Rattle.dr_gmirror.specs.Ordered.{done_of, at_once, Ordered}
 use Rattle.dr_gmirror.proofs.OrderLemmas.{waits-kept, waits-more, member-split}
