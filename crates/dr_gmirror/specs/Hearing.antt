@@ -6,7 +6,7 @@ use Rattle.dr_session.specs.Kept.{SessionTable}
 use Rattle.dr_volume.specs.View.{Rest}
 use Rattle.dr_moves.specs.Beside as beside
 use Rattle.dr_moves.specs.declared.beside.News.{News}
-use Rattle.dr_moves.specs.declared.beside.News.TheVariants.{Settled, Landed, Begun, Removed}
+use Rattle.dr_moves.specs.declared.beside.News.TheVariants.{Settled, Landed, Begun, Removed, Unchanged}
 use Rattle.dr_gmirror.specs.Orders.{with_sessions}
 
 -- where the session's master lets it begin
@@ -24,9 +24,11 @@ shows-sessions (Begun k) x r may = refl
 shows-sessions (Settled w) x r may = absurd may
 shows-sessions (Landed w) x r may = absurd may
 shows-sessions (Removed l m) x r may = absurd may
+shows-sessions Unchanged x r may = absurd may
 
 pub shows-paths : (n : News) (ss : List Session) (c : ConfigTable) → MayHear ss n → c ≡ beside.table_after n c
 shows-paths (Begun k) ss c may = refl
 shows-paths (Settled w) ss c may = absurd may
 shows-paths (Landed w) ss c may = absurd may
 shows-paths (Removed l m) ss c may = absurd may
+shows-paths Unchanged ss c may = absurd may

@@ -7,7 +7,7 @@ use Rattle.dr_host.specs.Seen.{seen-marked, seen-without}
 use Rattle.dr_host.specs.Writes.{Writes, has_number, with_marked, without}
 use Rattle.dr_moves.specs.Beside.{rest_after, table_after}
 use Rattle.dr_moves.specs.declared.beside.News.{News}
-use Rattle.dr_moves.specs.declared.beside.News.TheVariants.{Settled, Landed, Begun, Removed}
+use Rattle.dr_moves.specs.declared.beside.News.TheVariants.{Settled, Landed, Begun, Removed, Unchanged}
 use Rattle.dr_volume.specs.View.{Rest}
 
 -- the rest of a state, with the host's writes in it
@@ -32,6 +32,7 @@ shows-writes (Settled w) h r can = λ i. record r { issued = h.issued; pending =
 shows-writes (Landed w) h r can = λ i. record r { issued = h.issued; pending = seen-marked w.0 h.pending i }
 shows-writes (Begun s) h r can = absurd can
 shows-writes (Removed l m) h r can = absurd can
+shows-writes Unchanged h r can = absurd can
 
 -- and no path is the host's
 pub keeps-table : (n : News) (h : Writes) (c : ConfigTable) → Hears h n → c ≡ table_after n c
@@ -39,3 +40,4 @@ keeps-table (Settled w) h c can = refl
 keeps-table (Landed w) h c can = refl
 keeps-table (Begun s) h c can = absurd can
 keeps-table (Removed l m) h c can = absurd can
+keeps-table Unchanged h c can = absurd can

@@ -20,6 +20,7 @@ impl Beside for Host {
             News::Landed(w) => self.land(*w),
             News::Begun(_) => {}
             News::Removed(_, _) => {}
+            News::Unchanged => {}
         }
     }
 

@@ -13,7 +13,7 @@ use Rattle.dr_model.specs.Carry.{Make, OpenAttempt, Entry}
 use Rattle.dr_volume.specs.Update.{IsAsBefore, IsMoved, OthersStay}
 use Rattle.dr_volume.specs.View.{Rest, volume_seen, track_seen}
 use Rattle.dr_moves.specs.Acts.{act_of, act_news, act_told}
-use Rattle.dr_moves.specs.Beside.{heard, Takes}
+use Rattle.dr_moves.specs.Beside.{heard, Takes, is_unchanged}
 use Rattle.dr_moves.specs.Checks.{is_stop}
 use Rattle.dr_moves.specs.Entered.{is_calm}
 use Rattle.dr_moves.specs.Heard.{if_counts}
@@ -76,9 +76,9 @@ MayComeBy takes s c (Open v k n) = May s c (Hold v.0 k.0 n true) × takes (Begun
 MayComeBy takes s c (Perform a) = MayPerform takes a
 MayComeBy takes s c (End r) = is_stop (Some r) ≡ false
 
--- the same where nothing is heard
+-- the same where nothing lies beside
 abbrev pub MayCome : PlantState → ConfigTable → Next → Type 0
-MayCome s c next = MayComeBy (λ n. ⊥) s c next
+MayCome s c next = MayComeBy is_unchanged s c next
 
 -- From s to u that move was made, and nothing else.
 pub record WentBy (s u : PlantState) (c : ConfigTable) (m : machine.Move) (t : Carried) : Type 0 where

@@ -20,6 +20,8 @@ pub enum News {
     Begun(SessionId),
     /// The path from one logical subsystem to another is removed.
     Removed(Lss, Lss),
+    /// Nothing: all is as it was.
+    Unchanged,
 }
 
 /// What lies beside, and hears news.
@@ -45,12 +47,14 @@ pub trait Beside {
     ghost shows_table: { (n : News) (x : Self) (c : ConfigTable) → takes x n → table (after n x) c ≡ table_after n (table x c) };
 }
 
-/// Nothing lies beside, and nothing is heard.
+/// Nothing lies beside: it hears nothing that would change it.
 #[derive(Clone, Copy)]
 pub struct Nothing;
 
 impl Beside for Nothing {
-    ghost takes = { λ x n. ⊥ };
+    ghost use Rattle.dr_moves.specs.Beside.{is_unchanged, rest-unchanged, table-unchanged};
+
+    ghost takes = { λ x n. is_unchanged n };
 
     ghost after = { λ n x. x };
 
@@ -60,9 +64,9 @@ impl Beside for Nothing {
 
     fn hear(&mut self, news: &News) {}
 
-    ghost shows_rest = { λ n x r never. absurd never };
+    ghost shows_rest = { λ n x r is. rest-unchanged n r is };
 
-    ghost shows_table = { λ n x c never. absurd never };
+    ghost shows_table = { λ n x c is. table-unchanged n c is };
 }
 
 impl Beside for Config {
