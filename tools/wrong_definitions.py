@@ -23,7 +23,7 @@ from pathlib import Path
 TOP = Path(__file__).resolve().parent.parent
 CRATES = (
     "dr_logic dr_ids dr_model dr_facts dr_laws_sessions dr_laws_attempts dr_laws_cuts dr_laws_closed dr_laws_targets "
-    "dr_laws_sound dr_laws_freezes dr_laws_recovery dr_laws_return"
+    "dr_laws_sound dr_laws_freezes dr_laws_flashes dr_laws_recovery dr_laws_return"
 ).split()
 # What counts events, lists what is told of which kind, or says how a definition is cut into parts: no law.
 TECHNICAL = re.compile(r"Costs|Spends|Counting|Limits|Texts|Cases|Journal")
@@ -67,7 +67,7 @@ ROWS = [
         (sound("WriteCosts"), "by true = small-do w (Make (Overwrite n v t))", "by true = small-do w (Drop n)"),
         (sound("Lands"), "Do (Make (cond b (Overwrite p.w v p.track) (Land p.w v p.track)))) is_k", "Do (cond b (Drop p.w) (Make (Land p.w v p.track)))) is_k"),
         (sound("Lands"), "(Do (Make (Overwrite p.w v p.track))) (ap (λ b. Do (Make (cond b (Overwrite p.w v p.track) (Land p.w v p.track)))) is)", "(Do (Drop p.w)) (ap (λ b. Do (cond b (Drop p.w) (Make (Land p.w v p.track)))) is)"),
-        (sound("Lands"), "        record { runs = on; allowed = record { low = (waits w s p one).low; from = f.source; related = related; forward = forward; settled = settled }; fits = tt; group = ((s.rows.structure.flags v).persists, uncounted-by w.control s.attempts v (λ t. false_true writable t.inhibits)); ready = may-ack w s p one on },", "        each-on (λ p a. a.landed) _ (may-ack w s p one on).coming,"),
+        (sound("Lands"), "        record { runs = on; allowed = record { low = (waits w s p one).low; from = f.source; related = related; forward = forward; settled = settled; let_go = (or_parts f.coordination f.flash_hold open_to).1 }; fits = tt; group = ((s.rows.structure.flags v).persists, uncounted-by w.control s.attempts v (λ t. false_true writable t.inhibits)); ready = may-ack w s p one on },", "        each-on (λ p a. a.landed) _ (may-ack w s p one on).coming,"),
         (sound("Lands"), "use Rattle.dr_model.specs.Allowed.", "use Rattle.dr_laws_closed.proofs.Pendings.{each-on}\nuse Rattle.dr_model.specs.Allowed."),
     ),
     Row(
@@ -102,6 +102,11 @@ ROWS = [
         (sound("HushedPlans"), "(is_between k l m v) (Do (Make (Suspend v true))) Pass", "(is_between k l m v) (Do (Make (Suspend v false))) Pass"),
         (sound("WriteCosts"), "(λ k. is_between k l m v) (Suspend v true) (suspend-once v true", "(λ k. is_between k l m v) (Suspend v false) (suspend-once v false"),
         ("dr_laws_freezes/proofs/FairCases.antt", "pass-or k _ (Do (Make (Suspend v true)))", "pass-or k _ (Do (Make (Suspend v false)))"),
+    ),
+    Row(
+        "flash_hold_holds_nothing",
+        "a host write on a volume that has a flash hold alone doesn't wait",
+        (spec("Pairs"), "held f = f.coordination || f.long_busy || f.flash_hold", "held f = f.coordination || f.long_busy"),
     ),
     Row(
         "resumed_full_duplex_with_tracks_left",

@@ -1,5 +1,5 @@
 -- What the end of the holds of a server's volumes comes to.
-use Rattle.std.proofs.Common.{ℕ, ◌≡◌, ◌<◌, ◌+◌, ◌-◌, List, [], ◌∷◌, ◌++◌, length, map, slice_get, refl, ap, ◌∙◌, sym, subst, Bool, true, false, ◌&&◌, cond, Option, Some, None}
+use Rattle.std.proofs.Common.{ℕ, ◌≡◌, ◌<◌, ◌≤◌, ◌+◌, ◌-◌, List, [], ◌∷◌, ◌++◌, length, map, slice_get, refl, ap, ◌∙◌, sym, subst, Bool, true, false, ◌&&◌, cond, Option, Some, None, arith}
 use Rattle.std.specs.Prelude.{is_some, option_map, Result, Ok, Err, if◌then◌else◌}
 use Rattle.std.proofs.Math.ListN.{length-drop, length-map}
 use Rattle.std.proofs.lemmas.Bool.{and_parts}
@@ -17,7 +17,7 @@ use Rattle.dr_model.specs.Refusals.{server_off, stopped}
 use Rattle.dr_model.specs.Control.{World}
 use Rattle.dr_model.specs.Layout.{Fields}
 use Rattle.dr_model.specs.Carry.{Do, Pass, Make}
-use Rattle.dr_model.specs.Moves.{Lift}
+use Rattle.dr_model.specs.Moves.{Lift, told_freed}
 use Rattle.dr_model.specs.Pairs.{held}
 use Rattle.dr_model.specs.ReadStops.{Ends}
 use Rattle.dr_model.specs.Plans.{Plan, expire_plan, expire_on, refuses}
@@ -26,6 +26,7 @@ use Rattle.dr_volume.specs.View.{Rest, volume_seen}
 use Rattle.dr_volume.proofs.WorldLaws.{on-seen}
 use Rattle.dr_moves.specs.Coming.{next_of, MayCome, RefusedAs, cost_of}
 use Rattle.dr_moves.specs.Here.{world_seen, refusal_of}
+use Rattle.dr_moves.specs.declared.carrying.Next.{Next}
 use Rattle.dr_moves.specs.declared.carrying.Next.TheVariants as next
 use Rattle.dr_moves.specs.declared.moves.Move.TheVariants as move
 use Rattle.dr_flash.proofs.CopyLemmas.{ids-next}
@@ -53,6 +54,18 @@ lift-comes s t r ev v server = ap (λ b. if b && held f then Do (Make (Lift v.0)
     when true = refl
     when false = refl
 
+-- at most the end of a flash hold is told
+few-freed : (v : ℕ) (had : Bool) → length (told_freed v had) ≤ 1
+few-freed v true = omega arith
+few-freed v false = omega arith
+
+pub lift-few : (s : PlantState) (t : ConfigTable) (v : VolumeId) (server : ℕ) (n : Next) → n ≡ lifted_by v (has_owner t v.0 server) (volume_seen s t v.0).fields → cost_of n s t ≤ 1
+lift-few s t v server n is = subst (λ n. cost_of n s t ≤ 1) (sym is) (by (has_owner t v.0 server && held (volume_seen s t v.0).fields))
+  where
+    by : (b : Bool) → cost_of (if b then next.Do (move.Lift v) else next.Pass) s t ≤ 1
+    by true = few-freed v.0 (volume_seen s t v.0).fields.flash_hold
+    by false = omega arith
+
 -- a move that may come, of a volume of the server
 module _ (s : PlantState) (t : ConfigTable) (v : VolumeId) (server : ℕ) (defined : is_some (place_of t v.0) ≡ true) (on : s.on server ≡ true) where
   may-if : (b : Bool) → (b ≡ true → has_owner t v.0 server ≡ true) → MayCome s t (if b then next.Do (move.Lift v) else next.Pass)
@@ -63,18 +76,11 @@ module _ (s : PlantState) (t : ConfigTable) (v : VolumeId) (server : ℕ) (defin
   refused-if true own q is = is ∙ ap (λ n. Some (stopped n)) (own-server s t v.0 server (own refl))
   refused-if false own q is = absurd is
 
-  silent-if : (b : Bool) → cost_of (if b then next.Do (move.Lift v) else next.Pass) s t ≡ 0
-  silent-if true = refl
-  silent-if false = refl
-
   pub lift-may : MayCome s t (lifted_by v (has_owner t v.0 server) (volume_seen s t v.0).fields)
   lift-may = may-if _ (λ is. (and_parts _ _ is).0)
 
   pub lift-refused : (q : Option Refusal) → RefusedAs s t (lifted_by v (has_owner t v.0 server) (volume_seen s t v.0).fields) q → q ≡ Some (stopped server)
   lift-refused = refused-if _ (λ is. (and_parts _ _ is).0)
-
-  pub lift-silent : cost_of (lifted_by v (has_owner t v.0 server) (volume_seen s t v.0).fields) s t ≡ 0
-  lift-silent = silent-if _
 
 -- the plan, where the server is off, and where it is on
 module _ (s : PlantState) (t : ConfigTable) (r : Rest) (ev : List Event) (server : ℕ) (low : server < 8) where

@@ -1,4 +1,4 @@
--- Entries with a test, which end the holds of a volume, or let it go on as its server starts.
+-- An entry with a test, which lets a volume go on as its server starts; and entries that are passed.
 use Rattle.std.proofs.Common.{ℕ, ◌≡◌, Bool, true, false, ◌&&◌, nat_eq, List, [], ◌∷◌, refl, ◌∙◌, ap, None}
 use Rattle.std.specs.Prelude.{is_some, if◌then◌else◌}
 use Rattle.std.proofs.lemmas.Bool.Decides.{Decides-eqb}
@@ -6,10 +6,10 @@ use Rattle.dr_plant.specs.State.{PlantState}
 use Rattle.dr_config.specs.Table.{ConfigTable, place_of}
 use Rattle.dr_model.specs.declared.event.Event.{Event}
 use Rattle.dr_model.specs.Control.{World}
-use Rattle.dr_model.specs.Pairs.{held, must_restart}
-use Rattle.dr_model.specs.Moves.{Move, Lift, Restart}
+use Rattle.dr_model.specs.Pairs.{must_restart}
+use Rattle.dr_model.specs.Moves.{Move, Restart}
 use Rattle.dr_model.specs.Carry.{Pass, Do, Make, Entry, now}
-use Rattle.dr_model.specs.WriteEntries.{belongs, lift_on, restart_on}
+use Rattle.dr_model.specs.WriteEntries.{belongs, restart_on}
 use Rattle.dr_volume.specs.View.{Rest, volume_seen}
 use Rattle.dr_moves.specs.Here.{world_seen}
 use Rattle.dr_moves.specs.Turns.{Advances}
@@ -34,17 +34,11 @@ module _ (s : PlantState) (t : ConfigTable) (r : Rest) (events : List Event) (v 
   entry-is : (so : Bool) (m : Move) → (if belongs w.control server v && so then Do (Make m) else Pass) ≡ (if so then Do (Make m) else Pass)
   entry-is so m = ap (λ b. if b && so then Do (Make m) else Pass) belongs-seen
 
-  -- no hold to end, or nothing to go on from
-  pub lift-skips : held (volume_seen s t v).fields ≡ false → Advances w (lift_on server v) w
-  lift-skips free armed u q ds more = ends-skips armed u q w (lift_on server v) ds (entry-is (held (volume_seen s t v).fields) (Lift v) ∙ ap (λ b. if b then Do (Make (Lift v)) else Pass) free) more
-
+  -- nothing to go on from
   pub restart-skips : must_restart (volume_seen s t v).fields ≡ false → Advances w (restart_on server v) w
   restart-skips fine armed u q ds more = ends-skips armed u q w (restart_on server v) ds (entry-is (must_restart (volume_seen s t v).fields) (Restart v) ∙ ap (λ b. if b then Do (Make (Restart v)) else Pass) fine) more
 
   -- else the move comes
-  pub lift-comes : held (volume_seen s t v).fields ≡ true → lift_on server v w.control ≡ now (Lift v) w.control
-  lift-comes is = entry-is (held (volume_seen s t v).fields) (Lift v) ∙ ap (λ b. if b then Do (Make (Lift v)) else Pass) is
-
   pub restart-comes : must_restart (volume_seen s t v).fields ≡ true → restart_on server v w.control ≡ now (Restart v) w.control
   restart-comes is = entry-is (must_restart (volume_seen s t v).fields) (Restart v) ∙ ap (λ b. if b then Do (Make (Restart v)) else Pass) is
 

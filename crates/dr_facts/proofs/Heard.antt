@@ -8,7 +8,7 @@ use Rattle.dr_model.specs.declared.event.Event.TheVariants.{Volume as VolumeDefi
 use Rattle.dr_model.specs.Histories.{Lists, Histories, joined, after_event}
 use Rattle.dr_model.specs.Layout.{Tracks}
 use Rattle.dr_model.specs.Relations.{rest, in_order}
-use Rattle.dr_model.specs.Moves.{told_blank}
+use Rattle.dr_model.specs.Moves.{told_blank, told_freed}
 use Rattle.dr_facts.specs.Heard.{Unheard, AllUnheard}
 use Rattle.dr_facts.proofs.Tables.{at_cases, at2_cases}
 
@@ -55,6 +55,10 @@ module _ (P : ℕ → Type 0) where
   pub unheard-suspended : (v x : ℕ) (b : Bool) → AllUnheard P v (cond b [] (Suspended x ∷ []))
   unheard-suspended v x true = tt
   unheard-suspended v x false = (tt, tt)
+
+  pub unheard-freed : (v x : ℕ) (b : Bool) → AllUnheard P v (told_freed x b)
+  unheard-freed v x true = (tt, tt)
+  unheard-freed v x false = tt
 
   pub unheard-held : (v x s n : ℕ) (first : Bool) → AllUnheard P v (cond first (Begin s n ∷ Cut s n x ∷ []) (Cut s n x ∷ []))
   unheard-held v x s n true = (tt, (tt, tt))

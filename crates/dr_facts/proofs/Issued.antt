@@ -10,7 +10,7 @@ use Rattle.dr_model.specs.Relations.{rest, in_order, is_bare, turned, given_up}
 use Rattle.dr_model.specs.Histories.{Histories, histories, after_event}
 use Rattle.dr_model.specs.Control.{Volume, World}
 use Rattle.dr_model.specs.Pairs.{is_suspended}
-use Rattle.dr_model.specs.Moves.{Move, Carried, Land, Overwrite, LandBoth, Withdraw, Reverse, Release, Suspend, Hold, target, next_fields, carried, told, told_in_stop, told_blank, landed, updated}
+use Rattle.dr_model.specs.Moves.{Move, Carried, Land, Overwrite, LandBoth, Withdraw, Reverse, Release, Suspend, Lift, Hold, target, next_fields, carried, told, told_in_stop, told_blank, told_freed, landed, updated}
 use Rattle.dr_model.specs.Carry.{Act, Make, OpenAttempt, Redo, Acknowledge, Drop, EndFreeze, EndThaw, EndRecovery, Next, Pass, Do, End, Entry, Turn, Ended, ended, update, spent, off, pass, writes, counts_by, turn, finished, cut_short, redo, redo_writes, act, equal, attempt_begun}
 use Rattle.dr_model.specs.ReadStops.{GoesOff, IsEnd, EndsTurn, EndsNext, Ends}
 use Rattle.dr_model.proofs.Images.{histories-append}
@@ -30,6 +30,10 @@ suspended : (h : Histories) (none : Bool) (v : ℕ) → (after h (cond none [] (
 suspended h true v = refl
 suspended h false v = refl
 
+freed : (h : Histories) (v : ℕ) (had : Bool) → (after h (told_freed v had)).write ≡ h.write
+freed h v true = refl
+freed h v false = refl
+
 held : (h : Histories) (first : Bool) (s n v : ℕ) → (after h (cond first (Begin s n ∷ Cut s n v ∷ []) (Cut s n v ∷ []))).write ≡ h.write
 held h true s n v = refl
 held h false s n v = refl
@@ -41,6 +45,7 @@ told-writes h (Reverse v (Some p)) u = restored h (is_bare (turned u.fields).own
 told-writes h (Release v t) u = restored h (is_bare (given_up u.fields t).own) v u.fields.source u.tracks (given_up u.fields t).own
 told-writes h (Hold v s n first) u = held h first s n v
 told-writes h (Suspend v busy) u = suspended h (is_suspended u.fields.primary_state) v
+told-writes h (Lift v) u = freed h v u.fields.flash_hold
 told-writes h m u = refl
 
 pub stop-writes : (h : Histories) (m : Move) (u : Volume) → (after h (told_in_stop m u)).write ≡ h.write

@@ -5,7 +5,7 @@ use Rattle.dr_model.specs.declared.state.Part.{Part}
 use Rattle.dr_model.specs.declared.state.PairState.{PairState}
 use Rattle.dr_model.specs.Layout.{Tracks, Fields, is_part}
 use Rattle.dr_model.specs.Lawful.{Low, HasSets, NoPrimary, NoSecondary, NoRelation, IsLawful}
-use Rattle.dr_model.specs.Pairs.{altered, written, held_for, freed, sealed, past_attempt, with_attempt, with_floor, no_member, is_engaged, is_torn, suspended, made_secondary, made_primary, no_primary, no_secondary, received, struck, resumed, taken_over, unsynced, mirrored, synced, thawed, lifted, restarted, fallen_back, yielded}
+use Rattle.dr_model.specs.Pairs.{altered, written, held_for, freed, sealed, past_attempt, with_attempt, with_floor, no_member, is_engaged, is_torn, suspended, made_secondary, made_primary, no_primary, no_secondary, received, struck, resumed, taken_over, unsynced, mirrored, synced, thawed, flash_held, flash_freed, lifted, restarted, fallen_back, yielded}
 use Rattle.dr_model.specs.Relations.{Choices, rest, parted_if, fetched, noted, rewritten, made, withdrawn_if, resynced, turned, given_up, flashed, committed, reverted}
 use Rattle.dr_facts.proofs.Sets.{if_false, in_cond, in_none, in_more, rest_low, low_all, from_union}
 use Rattle.dr_model.proofs.LawfulLemmas.{removed}
@@ -165,6 +165,7 @@ module _ (n : ℕ) (f : Fields) (law : IsLawful n f) where
         secondary_partner = g.secondary_partner;
         seal = g.seal;
         floor = g.floor;
+        flash_hold = g.flash_hold;
         blank = g.blank;
       })
   lawful-paired g first second blank primary secondary = record {
@@ -256,6 +257,13 @@ module _ (n : ℕ) (f : Fields) (law : IsLawful n f) where
   -- writes wait no more, or a volume goes on after a stop; without a part in a pair nothing changes
   pub lawful-thawed : IsLawful n (thawed f)
   lawful-thawed = lawful-paired (thawed f) old.out_of_sync_low old.change_recording_low old.blank_low (λ h. let o = law.primary h in (o.0, o.1, o.2, refl, o.4, o.5, o.6)) law.secondary
+
+  -- a flash hold stands in no part
+  pub lawful-flash_held : IsLawful n (flash_held f)
+  lawful-flash_held = lawful-paired (flash_held f) old.out_of_sync_low old.change_recording_low old.blank_low law.primary law.secondary
+
+  pub lawful-flash_freed : IsLawful n (flash_freed f)
+  lawful-flash_freed = lawful-paired (flash_freed f) old.out_of_sync_low old.change_recording_low old.blank_low law.primary law.secondary
 
   pub lawful-lifted : IsLawful n (lifted f)
   lawful-lifted = lawful-paired (lifted f) (low-voided f.coordination) (low-if f.coordination _ old.change_recording_low) old.blank_low

@@ -1,15 +1,22 @@
 -- Checks of a call, as entries.
-use Rattle.std.proofs.Common.{ℕ, zero, suc, ◌≡◌, ◌≢◌, ◌<◌, ◌≤◌, Bool, true, false, not, ◌&&◌, ◌||◌, cond, List, [], ◌∷◌, length, slice_get, nat_eq, nat_lt, arith, inl, inr, refl, sym, ◌∙◌, ap, subst, Some, None}
+use Rattle.std.proofs.Common.{ℕ, zero, suc, ◌≡◌, ◌≢◌, ◌<◌, ◌≤◌, Bool, true, false, not, ◌&&◌, ◌||◌, cond, List, [], ◌∷◌, ◌++◌, length, slice_get, nat_eq, nat_lt, arith, inl, inr, refl, sym, ◌∙◌, ap, subst, Option, Some, None}
 use Rattle.std.specs.Prelude.{filter}
 use Rattle.std.specs.List.{list_any}
 use Rattle.std.proofs.lemmas.Bool.Decides.{eqb_tells, Decides-eqb}
 use Rattle.std.proofs.lemmas.Bool.{or_right, lt-ltb, le-ltb}
+use Rattle.std.proofs.lemmas.List.{append_assoc}
+use Rattle.dr_ids.specs.declared.refusal.Refusal.{Refusal}
 use Rattle.dr_plant.specs.State.{PlantState}
 use Rattle.dr_config.specs.Table.{ConfigTable, place_of}
 use Rattle.dr_config.specs.declared.entries.VolumeEntry.{VolumeEntry}
 use Rattle.dr_config.proofs.Lookups.{entry-at-place}
+use Rattle.dr_model.specs.Carry.{Entry}
+use Rattle.dr_model.specs.Control.{World}
 use Rattle.dr_model.specs.Entries.{copies_from}
+use Rattle.dr_model.specs.ReadStops.{Ends}
 use Rattle.dr_volume.specs.View.{volume_seen, volume_at, ids_of}
+use Rattle.dr_moves.specs.Checks.{Checked}
+use Rattle.dr_moves.specs.Turns.{Leads}
 use Rattle.dr_flash.specs.Standing.{targets_in}
 use Rattle.dr_flash.proofs.StandingLemmas.{any-count}
 
@@ -55,3 +62,8 @@ lone-by s t v n count none u related is =
           let some = listed (λ u. copies_from v (volume_seen s t u).fields) t.volumes d x.0 x.1 own in
           omega (arith, some, count, none)
     ] refl
+
+-- checks, and more behind them
+pub then-checked : (w : World) (es fs : List Entry) (o : Option Refusal) → Leads w es w → Checked w fs o → Checked w (es ++ fs) o
+then-checked w es fs None first more = λ armed u r ds k. subst (Ends armed u r w) (sym (append_assoc es fs ds)) (first armed u r (fs ++ ds) (more armed u r ds k))
+then-checked w es fs (Some e) first more = λ armed ds. subst (Ends armed w (Some e) w) (sym (append_assoc es fs ds)) (first armed w (Some e) (fs ++ ds) (more armed ds))

@@ -1,7 +1,8 @@
 //! FlashCopy relationships between volumes of one server: made, ended and carried out, one move of a volume at a time.
 //!
 //! FlashCopy on a plant. `establish` and `withdraw` end as the machine's entries of `mkflash` and `rmflash` say, each
-//! refusal included (`carried`), and a refusal that is no stop changes nothing (`unchanged`). `copy_step` is the
+//! refusal included (`carried`), and a refusal that is no stop changes nothing (`unchanged`). The parts of `establish` can be
+//! called one by one: `establish_refusal` is its checks, and `make_target` its move. `copy_step` is the
 //! background copy of one track, the lowest that is missing (`carried`, `left`). `copy_first` makes each target of a
 //! source keep a track, in order of definition (`carried`), and `keep_on` one volume (`advances`, `halts`). `read_target`
 //! and `view_of` give what a track of a target shows (`bytes`). **What volumes show**: after `establish` the target shows
@@ -27,7 +28,7 @@ pub use ending::withdraw;
 pub use fetching::{copy_step, read_target};
 pub use keep::keep_on;
 pub use keeping::copy_first;
-pub use making::establish;
+pub use making::{establish, establish_refusal, make_target};
 pub use standing::{
     counted_refusal, is_revertible, is_settled, relation_state, write_refusal, write_refusal_by,
 };

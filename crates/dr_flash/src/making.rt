@@ -1,6 +1,6 @@
 //! Making a relationship.
 
-ghost use Rattle.std.specs.Prelude.{◌≡◌, ◌≢◌, ℕ, ◌<◌, ◌≤◌, ◌+◌, List, true, false, None, Some, IsSome, OnOk, OnErr, is_err, is_some, length};
+ghost use Rattle.std.specs.Prelude.{◌≡◌, ◌≢◌, ℕ, ◌<◌, ◌≤◌, ◌+◌, List, [], ◌∷◌, true, false, None, Some, IsSome, OnOk, OnErr, is_err, is_some, length};
 ghost use Rattle.dr_logic.specs.Counts.{Counted};
 ghost use Rattle.dr_plant.specs.State.{PlantState};
 ghost use Rattle.dr_config.specs.Table.{StandsFor, place_of};
@@ -15,8 +15,10 @@ ghost use Rattle.dr_volume.specs.View.{Rest, volume_seen};
 ghost use Rattle.dr_moves.specs.Checks.{Checked, OnNone, is_stop};
 ghost use Rattle.dr_moves.specs.Fit.{SourceFits, RelationsFit};
 ghost use Rattle.dr_moves.specs.Here.{world_seen, refusal_of, armed_in, IsAtRest};
+ghost use Rattle.dr_moves.specs.Made.{MayRelate};
 ghost use Rattle.dr_moves.specs.Options.{choices};
 ghost use Rattle.dr_moves.specs.Turns.{Advances, Halts};
+ghost use Rattle.dr_flash.specs.Making.{establish_checks};
 ghost use Rattle.dr_flash.specs.Views.{view_seen, OthersShow};
 
 use crate::standing::{look_at_targets, relation_state};
@@ -85,6 +87,68 @@ fn free_refusal<P: Plant>(plant: &P, config: &Config, s: VolumeId, t: VolumeId) 
     None
 }
 
+/// Why t can't become a target of s, which both are there. In this order: the server of s is off, s and t are one, their servers or
+/// sizes differ, t is a target or a source, s is a target, t has a part in a pair, or s has 12 targets. Where nothing is refused the
+/// move may come (`may`).
+pub fn establish_refusal<P: Plant>(
+    plant: &P,
+    config: &Config,
+    s: VolumeId,
+    t: VolumeId,
+) -> Option<Refusal>
+    requires stands { StandsFor config.now (P.state plant.now) }
+    requires source { IsSome (place_of config.now s.0) }
+    requires target { IsSome (place_of config.now t.0) }
+    ensures checked { (r : Rest) (events : List Event) → Checked (world_seen (P.state plant.now) config.now r events) (establish_checks (world_seen (P.state plant.now) config.now r events).control s.0 t.0) result }
+    ensures calm { is_stop result ≡ false }
+    ensures running { OnNone result ((P.state plant.now).on (volume_seen (P.state plant.now) config.now s.0).server ≡ true) }
+    ensures may { OnNone result (MayRelate (P.state plant.now) config.now t.0 s.0) }
+{
+    let server = server_of(config, s);
+    if !plant.is_on(server.0) {
+        return Some(Refusal::ServerOff { server });
+    }
+    if let Some(why) = alike_refusal(config, s, t) {
+        return Some(why);
+    }
+    free_refusal(plant, config, s, t)
+}
+
+/// Makes t a target of s, which nothing refuses. Fails where the server stops in the move or goes off at a read. The journal needs
+/// room for two events.
+pub fn make_target<P: Plant>(
+    plant: &mut P,
+    config: &Config,
+    journal: &mut Journal,
+    s: VolumeId,
+    t: VolumeId,
+    o: &FlashOptions,
+) -> Result<(), Refusal>
+    requires rest { IsAtRest (P.state plant.old) config.now }
+    requires fit { RelationsFit (P.state plant.old) config.now }
+    requires target { IsSome (place_of config.now t.0) }
+    requires running { (P.state plant.old).on (volume_seen (P.state plant.old) config.now s.0).server ≡ true }
+    requires may { MayRelate (P.state plant.old) config.now t.0 s.0 }
+    requires room { 2 ≤ journal.old.spare }
+    ensures carried { (r : Rest) → Ends (armed_in (P.state plant.old)) (world_seen (P.state plant.new) config.now r journal.new.events) (refusal_of result) (world_seen (P.state plant.old) config.now r journal.old.events)
+        (now (Relate t.0 s.0 (choices o.now)) ∷ []) }
+    ensures refused { OnErr result (refusal_of result ≡ Some (stopped (volume_seen (P.state plant.old) config.now t.0).server)) }
+    ensures rest { IsAtRest (P.state plant.new) config.now }
+    ensures fit { RelationsFit (P.state plant.new) config.now }
+    ensures unarmed { (q : ℕ) → (P.state plant.old).read_fuse q ≡ None → (P.state plant.new).read_fuse q ≡ None }
+    ensures faults { Counted (is_stop (refusal_of result)) (P.state plant.old).faults (P.state plant.new).faults }
+    ensures others { OthersStay (P.state plant.old) (P.state plant.new) config.now t.0 }
+    ensures shows { OnOk result ((k : ℕ) → view_seen (P.state plant.new) config.now t.0 k ≡ view_seen (P.state plant.old) config.now s.0 k) }
+    ensures others_show { OthersShow (P.state plant.old) (P.state plant.new) config.now t.0 }
+    ensures on { OnOk result ((P.state plant.new).on ≡ (P.state plant.old).on) }
+    ensures room { journal.old.spare ≤ journal.new.spare + 2 }
+    ensures spare { length journal.new.events + journal.new.spare ≡ length journal.old.events + journal.old.spare }
+{
+    let options = *o;
+    let m = Move::Relate { v: t, s, options };
+    make_move(plant, config, journal, &m, None)
+}
+
 /// Makes t a target of s; the caller knows both volumes. Refused, in this order, where the server of s is off, s and t are
 /// one, their servers or sizes differ, t is a target or a source, s is a target, t has a part in a pair, or s has 12 targets.
 /// Fails too where the server stops in the move or goes off at a read. The journal needs room for two events.
@@ -115,17 +179,8 @@ pub fn establish<P: Plant>(
     ensures room { journal.old.spare ≤ journal.new.spare + 2 }
     ensures spare { length journal.new.events + journal.new.spare ≡ length journal.old.events + journal.old.spare }
 {
-    let server = server_of(config, s);
-    if !plant.is_on(server.0) {
-        return Err(Refusal::ServerOff { server });
-    }
-    if let Some(why) = alike_refusal(config, s, t) {
+    if let Some(why) = establish_refusal(plant, config, s, t) {
         return Err(why);
     }
-    if let Some(why) = free_refusal(plant, config, s, t) {
-        return Err(why);
-    }
-    let options = *o;
-    let m = Move::Relate { v: t, s, options };
-    make_move(plant, config, journal, &m, None)
+    make_target(plant, config, journal, s, t, o)
 }

@@ -69,7 +69,7 @@ pub still-same : (s u : PlantState) (t : ConfigTable) (l m : ℕ) → u ≡ s �
 still-same s u t l m same v = ap (λ x. between x t l m v) same
 
 -- the server of a volume in l is that of l
-server-owned : (s : PlantState) (t : ConfigTable) (l v d : ℕ) → IsSoundConfig t → place_of t v ≡ Some d → nat_eq (subsystem v) l ≡ true → (volume_seen s t v).server ≡ owner_in t l
+pub server-owned : (s : PlantState) (t : ConfigTable) (l v d : ℕ) → IsSoundConfig t → place_of t v ≡ Some d → nat_eq (subsystem v) l ≡ true → (volume_seen s t v).server ≡ owner_in t l
 server-owned s t l v d sound at in_l =
     let e = entry-at-place t v d at in
     let own : lss_owner t (lss_of e.0.id) ≡ Some e.0.server = (sound.volume d e.0 e.1).lss in

@@ -28,7 +28,7 @@ pub changes-count : (t : ConfigTable) (x : Change) (l m place : ℕ) → length 
 changes-count t x l m place = simp (length-map, length-drop)
 
 -- two volumes don't stand at one place
-place-own : (c : ConfigTable) (q v d : ℕ) → place_of c q ≡ Some d → place_of c v ≡ Some d → q ≡ v
+pub place-own : (c : ConfigTable) (q v d : ℕ) → place_of c q ≡ Some d → place_of c v ≡ Some d → q ≡ v
 place-own c q v d a b =
     let e = entry-at-place c q d a in
     let f = entry-at-place c v d b in

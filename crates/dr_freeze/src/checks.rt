@@ -12,8 +12,8 @@ use dr_config::Config;
 use dr_ids::{Kind, Lss, Refusal};
 use dr_plant::Plant;
 
-/// Why a thaw is refused: the server of l is off.
-pub(crate) fn thaw_refusal<P: Plant>(plant: &P, config: &Config, l: Lss) -> Option<Refusal>
+/// Why a thaw is refused, and whatever else is done with the volumes of logical subsystem l alone: its server is off.
+pub fn thaw_refusal<P: Plant>(plant: &P, config: &Config, l: Lss) -> Option<Refusal>
     requires owned { IsSome (lss_owner config.now l.0) }
     ensures checked { (r : Rest) (events : List Event) → Checked (world_seen (P.state plant.now) config.now r events) (thaw_checks (owner_in config.now l.0)) result }
     ensures running { OnNone result ((P.state plant.now).on (owner_in config.now l.0) ≡ true) }

@@ -1,26 +1,17 @@
 -- Checks that may refuse for several reasons, as entries.
-use Rattle.std.proofs.Common.{ℕ, ◌≡◌, ◌≢◌, Bool, true, false, List, ◌++◌, sym, ◌∙◌, ap, subst, Option, Some, None}
+use Rattle.std.proofs.Common.{ℕ, ◌≡◌, ◌≢◌, Bool, true, false, sym, ◌∙◌, ap, subst, Option, Some, None}
 use Rattle.std.specs.Prelude.{Result, Ok, Err, OnErr, is_err}
-use Rattle.std.proofs.lemmas.List.{append_assoc}
 use Rattle.dr_logic.specs.Counts.{Counted}
 use Rattle.dr_ids.specs.declared.refusal.Refusal.{Refusal}
 use Rattle.dr_plant.specs.State.{PlantState}
 use Rattle.dr_config.specs.Table.{ConfigTable}
-use Rattle.dr_model.specs.Control.{Control, World}
-use Rattle.dr_model.specs.Carry.{Entry}
-use Rattle.dr_model.specs.ReadStops.{Ends}
+use Rattle.dr_model.specs.Control.{Control}
 use Rattle.dr_volume.specs.View.{volume_seen}
-use Rattle.dr_moves.specs.Checks.{Checked, OnNone, is_stop}
+use Rattle.dr_moves.specs.Checks.{OnNone, is_stop}
 use Rattle.dr_moves.specs.Here.{refusal_of}
-use Rattle.dr_moves.specs.Turns.{Leads}
 
 abbrev never : Control → Bool
 never k = false
-
--- checks, and more behind them
-pub then-checked : (w : World) (es fs : List Entry) (o : Option Refusal) → Leads w es w → Checked w fs o → Checked w (es ++ fs) o
-then-checked w es fs None first more = λ armed u r ds k. subst (Ends armed u r w) (sym (append_assoc es fs ds)) (first armed u r (fs ++ ds) (more armed u r ds k))
-then-checked w es fs (Some e) first more = λ armed ds. subst (Ends armed w (Some e) w) (sym (append_assoc es fs ds)) (first armed w (Some e) (fs ++ ds) (more armed ds))
 
 pub on-none : (o : Option Refusal) (P : Type 0) → P → OnNone o P
 on-none None P p = p

@@ -15,11 +15,11 @@ MayHear ss (Begun k) = begin_refusal (mirror_in (session_in ss k.0)) ≡ None
 MayHear ss _ = ⊥
 
 -- the sessions then
-abbrev pub table_after : News → SessionTable → SessionTable
-table_after (Begun k) x = record x { sessions = changed k.0 begun x.sessions }
-table_after _ x = x
+abbrev pub sessions_after : News → SessionTable → SessionTable
+sessions_after (Begun k) x = record x { sessions = changed k.0 begun x.sessions }
+sessions_after _ x = x
 
-pub shows-sessions : (n : News) (x : SessionTable) (r : Rest) → MayHear x.sessions n → with_sessions (table_after n x).sessions r ≡ beside.rest_after n (with_sessions x.sessions r)
+pub shows-sessions : (n : News) (x : SessionTable) (r : Rest) → MayHear x.sessions n → with_sessions (sessions_after n x).sessions r ≡ beside.rest_after n (with_sessions x.sessions r)
 shows-sessions (Begun k) x r may = refl
 shows-sessions (Settled w) x r may = absurd may
 shows-sessions (Landed w) x r may = absurd may

@@ -23,11 +23,11 @@ struct Hearing<'a> {
 impl<'a> Beside for Hearing<'a> {
     ghost use Rattle.std.specs.Prelude.{refl};
     ghost use Rattle.dr_gmirror.specs.Orders.{with_sessions};
-    ghost use Rattle.dr_gmirror.specs.Hearing.{MayHear, table_after, shows-sessions, shows-paths};
+    ghost use Rattle.dr_gmirror.specs.Hearing.{MayHear, sessions_after, shows-sessions, shows-paths};
 
     ghost takes = { λ x n. MayHear x.ss.now.sessions n };
 
-    ghost after = { λ n x. record x { ss = record x.ss { now = table_after n x.ss.now } } };
+    ghost after = { λ n x. record x { ss = record x.ss { now = sessions_after n x.ss.now } } };
 
     ghost rest = { λ x r. with_sessions x.ss.now.sessions r };
 

@@ -9,9 +9,9 @@ use Rattle.dr_model.specs.Histories.{Histories, Write, histories, after_event, l
 use Rattle.dr_model.specs.Relations.{rest, in_order, is_bare, turned, given_up}
 use Rattle.dr_model.specs.Control.{Volume}
 use Rattle.dr_model.specs.Pairs.{is_suspended}
-use Rattle.dr_model.specs.Moves.{Move, Land, Overwrite, Relate, Withdraw, Resync, Reverse, Restore, Release, Store, Suspend, Mirror, LandBoth, Hold, Leave, Flash, Revert, Keep, Fetch, TakeOver, Seal, Commit, told, told_in_stop, told_blank}
+use Rattle.dr_model.specs.Moves.{Move, Land, Overwrite, Relate, Withdraw, Resync, Reverse, Restore, Release, Store, Suspend, Mirror, LandBoth, Hold, Leave, Flash, Revert, Keep, Fetch, TakeOver, Seal, Commit, told, told_in_stop, told_blank, FlashHold, FlashFree, Lift, told_freed}
 use Rattle.dr_model.proofs.Images.{histories-append}
-use Rattle.dr_facts.proofs.Heard.{elsewhere, unheard-event, unheard-write, unheard-blanked, unheard-restored, unheard-suspended, unheard-held}
+use Rattle.dr_facts.proofs.Heard.{elsewhere, unheard-event, unheard-write, unheard-blanked, unheard-restored, unheard-suspended, unheard-held, unheard-freed}
 use Rattle.dr_laws_cuts.specs.Once.{NoCut, NoCuts}
 use Rattle.dr_model.specs.Cuts.{cuts, next_cuts}
 use Rattle.dr_laws_cuts.proofs.Journal.{cuts-quiet}
@@ -54,6 +54,10 @@ pub still-restored : (v s n : ℕ) (own : Tracks) (b : Bool) → AllStill (cond 
 still-restored v s n own true = still-append (told_blank v n own) (Restored s v ∷ []) (still-blanked v (in_order n (rest n own))) (tt, tt)
 still-restored v s n own false = tt
 
+pub still-freed : (v : ℕ) (b : Bool) → AllStill (told_freed v b)
+still-freed v true = (tt, tt)
+still-freed v false = tt
+
 pub still-suspended : (v : ℕ) (b : Bool) → AllStill (cond b [] (Suspended v ∷ []))
 still-suspended v true = tt
 still-suspended v false = (tt, tt)
@@ -80,6 +84,7 @@ module _ (events : List Event) where
       ∙ fold-still (standing_event (standing events) (Left u.fields.session a)) _ (still-restored v u.fields.source u.tracks (turned u.fields).own (is_bare (turned u.fields).own))
   standing-told (Release v t) u = standing-still events _ (still-restored v u.fields.source u.tracks (given_up u.fields t).own (is_bare (given_up u.fields t).own))
   standing-told (Suspend v busy) u = standing-still events _ (still-suspended v (is_suspended u.fields.primary_state))
+  standing-told (Lift v) u = standing-still events _ (still-freed v u.fields.flash_hold)
   standing-told (Hold v s n true) u = standing-append events (Begin s n ∷ Cut s n v ∷ [])
   standing-told (Hold v s n false) u = standing-append events (Cut s n v ∷ [])
   standing-told m u = standing-append events (told m u)
@@ -113,6 +118,9 @@ told-apart write (Restore x t from) u v ne = (ne, tt)
 told-apart write (Release x t) u v ne = unheard-restored (OfOther write v) v x u.fields.source u.tracks (given_up u.fields t).own _ ne
 told-apart write (Store x t from last) u v ne = (ne, tt)
 told-apart write (Suspend x busy) u v ne = unheard-suspended (OfOther write v) v x _
+told-apart write (FlashHold x) u v ne = (tt, tt)
+told-apart write (FlashFree x) u v ne = (tt, tt)
+told-apart write (Lift x) u v ne = unheard-freed (OfOther write v) v x _
 told-apart write (TakeOver x) u v ne = (tt, tt)
 told-apart write (Mirror x t from n) u v ne = (ne, tt)
 told-apart write (Hold x s n first) u v ne = unheard-held (OfOther write v) v x s n first

@@ -7,7 +7,7 @@ use Rattle.dr_model.specs.declared.event.Event.TheVariants.{Cut, Blanked, Restor
 use Rattle.dr_model.specs.Histories.{Histories, histories, after_event, lists}
 use Rattle.dr_model.specs.Layout.{Tracks}
 use Rattle.dr_model.specs.Relations.{rest, in_order}
-use Rattle.dr_model.specs.Moves.{told_blank}
+use Rattle.dr_model.specs.Moves.{told_blank, told_freed}
 use Rattle.dr_model.specs.Cuts.{Past, past, cuts, past_event, cuts_after, cut_for}
 use Rattle.dr_laws_cuts.specs.Once.{no_past, IsNew, AllNew, CutOnce, NoCut, NoCuts}
 
@@ -91,6 +91,10 @@ map-quiet f (x ∷ xs) quiet = (quiet x, map-quiet f xs quiet)
 pub restored-quiet : (v s n : ℕ) (own : Tracks) (b : Bool) → NoCuts (cond b (told_blank v n own ++ Restored s v ∷ []) [])
 restored-quiet v s n own true = no-more (told_blank v n own) (Restored s v ∷ []) (blank-quiet v (in_order n (rest n own))) (tt, tt)
 restored-quiet v s n own false = tt
+
+pub freed-quiet : (v : ℕ) (b : Bool) → NoCuts (told_freed v b)
+freed-quiet v true = (tt, tt)
+freed-quiet v false = tt
 
 pub suspended-quiet : (v : ℕ) (b : Bool) → NoCuts (cond b [] (Suspended v ∷ []))
 suspended-quiet v true = tt

@@ -6,13 +6,13 @@ use Rattle.dr_model.specs.declared.event.Event.TheVariants.{Begin, Cut}
 use Rattle.dr_model.specs.Histories.{Histories, Write, lists}
 use Rattle.dr_model.specs.Relations.{rest, in_order, turned, given_up}
 use Rattle.dr_model.specs.Control.{Volume}
-use Rattle.dr_model.specs.Moves.{Move, Land, Overwrite, Keep, Relate, Withdraw, Fetch, Resync, Reverse, Restore, Release, Store, Suspend, TakeOver, Mirror, LandBoth, Hold, Seal, Leave, Flash, Commit, Revert, told, told_in_stop}
+use Rattle.dr_model.specs.Moves.{Move, Land, Overwrite, Keep, Relate, Withdraw, Fetch, Resync, Reverse, Restore, Release, Store, Suspend, TakeOver, Mirror, LandBoth, FlashHold, FlashFree, Lift, Hold, Seal, Leave, Flash, Commit, Revert, told, told_in_stop}
 use Rattle.dr_model.specs.Table.{Table}
 use Rattle.dr_model.specs.Laws.{Each, SoundRows}
 use Rattle.dr_model.specs.Allowed.{Allowed}
 use Rattle.dr_model.specs.Cuts.{Cuts, RowCuts, cuts, cut_for, next_cuts}
 use Rattle.dr_laws_cuts.specs.Once.{AllNew, CutOnce, NoCuts, HoldsNew}
-use Rattle.dr_laws_cuts.proofs.Journal.{past-history, cuts-append, cut-pushed, cuts-quiet, once-append, once-quiet, blank-quiet, restored-quiet, suspended-quiet}
+use Rattle.dr_laws_cuts.proofs.Journal.{past-history, cuts-append, cut-pushed, cuts-quiet, once-append, once-quiet, blank-quiet, restored-quiet, suspended-quiet, freed-quiet}
 use Rattle.dr_laws_cuts.proofs.KeepsCut.{fresh}
 
 abbrev pub IsNoHold : Move → Type 0
@@ -34,6 +34,9 @@ told-quiet (Restore v t from) u no-hold = (tt, tt)
 told-quiet (Release v t) u no-hold = restored-quiet v u.fields.source u.tracks (given_up u.fields t).own _
 told-quiet (Store v t from last) u no-hold = (tt, tt)
 told-quiet (Suspend v busy) u no-hold = suspended-quiet v _
+told-quiet (FlashHold v) u no-hold = (tt, tt)
+told-quiet (FlashFree v) u no-hold = (tt, tt)
+told-quiet (Lift v) u no-hold = freed-quiet v u.fields.flash_hold
 told-quiet (TakeOver v) u no-hold = (tt, tt)
 told-quiet (Mirror v t from n) u no-hold = (tt, tt)
 told-quiet (LandBoth n v t) u no-hold = (tt, tt)
@@ -62,6 +65,7 @@ module _ (events : List Event) where
   cuts-told (Reverse v left) u = cuts-quiet events _ (told-quiet (Reverse v left) u tt)
   cuts-told (Release v t) u = cuts-quiet events _ (told-quiet (Release v t) u tt)
   cuts-told (Suspend v busy) u = cuts-quiet events _ (told-quiet (Suspend v busy) u tt)
+  cuts-told (Lift v) u = cuts-quiet events _ (told-quiet (Lift v) u tt)
   cuts-told m u = cuts-append events (told m u)
 
   -- and where the server stopped in it

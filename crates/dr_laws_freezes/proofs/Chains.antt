@@ -1,5 +1,5 @@
 -- The moments of a run come one after the other as they may, where the acts of its plans are fair.
-use Rattle.std.proofs.Common.{ℕ, ◌≡◌, ◌<◌, ◌+◌, refl, ap, sym, ◌∙◌, subst, true, false, List, [], ◌∷◌, ◌++◌, append_assoc, filter, Option, Some, None}
+use Rattle.std.proofs.Common.{ℕ, ◌≡◌, ◌<◌, ◌+◌, refl, ap, sym, ◌∙◌, subst, true, false, nat_eq, List, [], ◌∷◌, ◌++◌, append_assoc, filter, Option, Some, None}
 use Rattle.std.proofs.lemmas.List.{append-nil}
 use Rattle.dr_ids.specs.declared.refusal.Refusal.{Refusal}
 use Rattle.dr_ids.specs.declared.refusal.Refusal.TheVariants.{Stopped as StoppedIn}
@@ -9,7 +9,7 @@ use Rattle.dr_model.specs.declared.said.Said.{Said}
 use Rattle.dr_model.specs.Answers.{answer}
 use Rattle.dr_model.specs.Histories.{Histories, histories, lists}
 use Rattle.dr_model.specs.Sessions.{Session}
-use Rattle.dr_model.specs.Control.{Control, Fuse, World}
+use Rattle.dr_model.specs.Control.{Control, Fuse, World, Volume}
 use Rattle.dr_model.specs.Moves.{Move, Hold, is_write}
 use Rattle.dr_model.specs.Carry.{Act, Make, OpenAttempt, Redo, Acknowledge, Drop, EndFreeze, EndThaw, EndRecovery, Turn, Next, Pass, Do, End, Entry, Outcome, continue, go, carry, dropped, frozen, thawed, recovered}
 use Rattle.dr_model.specs.Plans.{Plan, plan, only_says}
@@ -23,12 +23,13 @@ use Rattle.dr_laws_freezes.specs.Moments.{on_from, on_next, worlds, worlds_after
 use Rattle.dr_laws_sound.proofs.Turns.{done, done_in_stop, opened_in_stop, not_done, fused, place, server_of, server_at, after_act, Writes, Counts, act-cases}
 use Rattle.dr_laws_sound.proofs.Due.{waiting-settled}
 use Rattle.dr_laws_freezes.proofs.Fair.{Fair, tag_after, come, come-open}
-use Rattle.dr_laws_freezes.proofs.KeepsWindow.{AllSilent}
+use Rattle.dr_laws_freezes.proofs.KeepsWindow.{AllPassing}
 use Rattle.dr_laws_freezes.proofs.KeepsStep.{Step, Does, Stops, Acks, Others, Passes, Acknowledges, Unchanged}
 use Rattle.dr_laws_freezes.proofs.Windows.{Good, Chain, Last, Then}
 use Rattle.dr_laws_sound.proofs.Cases.{Says, plan-case}
 use Rattle.dr_laws_sound.proofs.Parts.{Comes, Ways, way-formed, compared-case, Ending, OnePlan, imaged-case}
 use Rattle.dr_logic.proofs.Truth.{false_true}
+use Rattle.std.specs.List.{list_any}
 
 -- what an act asks where it comes
 abbrev pub FairAct : Option ℕ → World → Act → Type 0
@@ -48,34 +49,36 @@ act_tag (OpenAttempt v s n) tag = tag
 act_tag a tag = None
 
 -- events that no list hears of
-pub told-unchanged : (w u : World) (es : List Event) → u.events ≡ w.events ++ es → AllSilent es → histories (w.events ++ es) ≡ histories w.events → u.control.volume ≡ w.control.volume → u.contents ≡ w.contents → u.control.issued ≡ w.control.issued
-    → ((v t : ℕ) → waiting u.control.pending v t ≡ waiting w.control.pending v t) → Unchanged w u es
-told-unchanged w u es events silent same volume contents issued waits = record {
+pub told-unchanged : (w u : World) (es : List Event) → u.events ≡ w.events ++ es → AllPassing es → histories (w.events ++ es) ≡ histories w.events → u.control.volume ≡ w.control.volume → u.contents ≡ w.contents → u.control.issued ≡ w.control.issued
+    → u.control.volumes ≡ w.control.volumes → ((v t : ℕ) → waiting u.control.pending v t ≡ waiting w.control.pending v t) → Unchanged w u es
+told-unchanged w u es events silent same volume contents issued volumes waits = record {
   events = events;
   silent = silent;
   writes = λ n lt. ap (λ es. (histories es).write n) events ∙ ap (λ (h : Histories). h.write n) same;
   issued = λ n lt. subst (λ i. n < i + 1) (sym issued) lt;
   waits = waits;
+  there = λ v there. ap (list_any (nat_eq v)) volumes ∙ there;
   volume = λ v there. λ i. volume i v;
+  holds = λ v h. ap (λ (g : ℕ → Volume). (g v).fields.flash_hold) (sym volume) ∙ h;
   contents = λ v there t. λ i. contents i v t;
   lists = λ v there t. ap (λ es. lists es v t) events ∙ ap (λ (h : Histories). h.now v t) same;
   acked = λ n h. ap (λ es. (histories es).write n) events ∙ ap (λ (h : Histories). h.write n) same;
 }
 
 pub not-unchanged : (w : World) (s : ℕ) (f : Option Fuse) → Unchanged w (not_done w s f) (Stopped s 0 ∷ [])
-not-unchanged w s f = told-unchanged w (not_done w s f) (Stopped s 0 ∷ []) refl (tt, tt) (histories-append w.events (Stopped s 0 ∷ [])) refl refl refl (λ v t. refl)
+not-unchanged w s f = told-unchanged w (not_done w s f) (Stopped s 0 ∷ []) refl (tt, tt) (histories-append w.events (Stopped s 0 ∷ [])) refl refl refl refl (λ v t. refl)
 
 -- an act that is done
 act-step : (tag : Option ℕ) (w : World) (a : Act) (f : Option Fuse) → FairAct tag w a → Step tag w (act_tag a tag) (after_act w a f)
 act-step tag w (Make m) f fair = Does m f (come w m fair.0) fair.1
 act-step tag w (OpenAttempt v s n) f fair = let m : Move = Hold v s n true in Others tag (done w m f) _ (Does m f (come-open w v s n fair) tt)
-act-step tag w (Redo v) f fair = Passes None (fused w (server_at w v) f) [] (told-unchanged w (fused w (server_at w v) f) [] (sym (append-nil w.events)) tt (ap histories (append-nil w.events)) refl refl refl (λ v t. refl)) (λ n h. absurd cc)
+act-step tag w (Redo v) f fair = Passes None (fused w (server_at w v) f) [] (told-unchanged w (fused w (server_at w v) f) [] (sym (append-nil w.events)) tt (ap histories (append-nil w.events)) refl refl refl refl (λ v t. refl)) (λ n h. absurd cc)
 act-step tag w (Acknowledge n) f fair = Acks n fair
 act-step tag w (Drop n) f fair =
-    Passes None (dropped w n) [] (told-unchanged w (dropped w n) [] (sym (append-nil w.events)) tt (ap histories (append-nil w.events)) refl refl refl (λ v t. waiting-settled n v t w.control.pending fair)) (λ n h. absurd cc)
-act-step tag w (EndFreeze l m) f fair = Passes None (frozen w l m) (Frozen l m ∷ []) (told-unchanged w (frozen w l m) (Frozen l m ∷ []) refl (tt, tt) (histories-append w.events (Frozen l m ∷ [])) refl refl refl (λ v t. refl)) (λ n h. absurd cc)
-act-step tag w (EndThaw l m) f fair = Passes None (thawed w l m) (Thawed l m ∷ []) (told-unchanged w (thawed w l m) (Thawed l m ∷ []) refl (tt, tt) (histories-append w.events (Thawed l m ∷ [])) refl refl refl (λ v t. refl)) (λ n h. absurd cc)
-act-step tag w (EndRecovery s n) f fair = Passes None (recovered w s n) (Recovered s n ∷ []) (told-unchanged w (recovered w s n) (Recovered s n ∷ []) refl (tt, tt) (histories-append w.events (Recovered s n ∷ [])) refl refl refl (λ v t. refl)) (λ n h. absurd cc)
+    Passes None (dropped w n) [] (told-unchanged w (dropped w n) [] (sym (append-nil w.events)) tt (ap histories (append-nil w.events)) refl refl refl refl (λ v t. waiting-settled n v t w.control.pending fair)) (λ n h. absurd cc)
+act-step tag w (EndFreeze l m) f fair = Passes None (frozen w l m) (Frozen l m ∷ []) (told-unchanged w (frozen w l m) (Frozen l m ∷ []) refl (tt, tt) (histories-append w.events (Frozen l m ∷ [])) refl refl refl refl (λ v t. refl)) (λ n h. absurd cc)
+act-step tag w (EndThaw l m) f fair = Passes None (thawed w l m) (Thawed l m ∷ []) (told-unchanged w (thawed w l m) (Thawed l m ∷ []) refl (tt, tt) (histories-append w.events (Thawed l m ∷ [])) refl refl refl refl (λ v t. refl)) (λ n h. absurd cc)
+act-step tag w (EndRecovery s n) f fair = Passes None (recovered w s n) (Recovered s n ∷ []) (told-unchanged w (recovered w s n) (Recovered s n ∷ []) refl (tt, tt) (histories-append w.events (Recovered s n ∷ [])) refl refl refl refl (λ v t. refl)) (λ n h. absurd cc)
 
 pub act-runs : (tag : Option ℕ) (w : World) (a : Act) → Writes a → FairAct tag w a → Runs w (place a)
 act-runs tag w (Make m) d fair = fair.0.runs
@@ -158,10 +161,10 @@ good-none w rows = record { rows = rows; low = λ n is. absurd cc; out = λ n is
 abbrev pub Closes : World → (World → Option Refusal → World) → Type 0
 Closes first over = (w : World) (k : Control) (ss : List Session) (r : Option Refusal) → k ≡ record w.control { sessions = ss } → (told : List Event) × Unchanged w (over (record w { control = k }) r) told
 
-close : (w u : World) (k : Control) (ss : List Session) (told : List Event) → k ≡ record w.control { sessions = ss } → AllSilent told → histories (w.events ++ told) ≡ histories w.events
-    → u.events ≡ w.events ++ told → u.control.volume ≡ k.volume → u.contents ≡ w.contents → u.control.issued ≡ k.issued → u.control.pending ≡ k.pending → Unchanged w u told
-close w u k ss told same silent lists events volume contents issued pending =
-    told-unchanged w u told events silent lists (volume ∙ ap (λ (k : Control). k.volume) same) contents (issued ∙ ap (λ (k : Control). k.issued) same)
+close : (w u : World) (k : Control) (ss : List Session) (told : List Event) → k ≡ record w.control { sessions = ss } → AllPassing told → histories (w.events ++ told) ≡ histories w.events
+    → u.events ≡ w.events ++ told → u.control.volume ≡ k.volume → u.contents ≡ w.contents → u.control.issued ≡ k.issued → u.control.volumes ≡ k.volumes → u.control.pending ≡ k.pending → Unchanged w u told
+close w u k ss told same silent lists events volume contents issued volumes pending =
+    told-unchanged w u told events silent lists (volume ∙ ap (λ (k : Control). k.volume) same) contents (issued ∙ ap (λ (k : Control). k.issued) same) (volumes ∙ ap (λ (k : Control). k.volumes) same)
     (λ v t. ap (λ ps. waiting ps v t) pending ∙ ap (λ (k : Control). waiting k.pending v t) same)
 
 abbrev pub ended : World → World → ℕ → Said → World
@@ -170,10 +173,10 @@ ended first w line a = masters_lost first (said w line a)
 said-closes : (first : World) (line : ℕ) (p : Plan) → Closes first (λ w r. ended first w line (answered p w.control r))
 said-closes first line p w k ss r same =
     let a : Said = answered p k r in
-    (answer line a ∷ [], close w (ended first (record w { control = k }) line a) k ss (answer line a ∷ []) same (tt, tt) (histories-append w.events (answer line a ∷ [])) refl refl refl refl refl)
+    (answer line a ∷ [], close w (ended first (record w { control = k }) line a) k ss (answer line a ∷ []) same (tt, tt) (histories-append w.events (answer line a ∷ [])) refl refl refl refl refl refl)
 
 lost-closes : (first : World) → Closes first (λ w r. masters_lost first w)
-lost-closes first w k ss r same = ([], close w (masters_lost first (record w { control = k })) k ss [] same tt (ap histories (append-nil w.events)) (sym (append-nil w.events)) refl refl refl refl)
+lost-closes first w k ss r same = ([], close w (masters_lost first (record w { control = k })) k ss [] same tt (ap histories (append-nil w.events)) (sym (append-nil w.events)) refl refl refl refl refl)
 
 -- K holds between steps
 module _ (K : World → Type 0) (rows : (w : World) → K w → SoundRows (table w)) (answers : (first w : World) (line : ℕ) (a : Said) → K w → K (ended first w line a)) where

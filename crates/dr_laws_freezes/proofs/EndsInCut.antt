@@ -12,7 +12,7 @@ use Rattle.dr_laws_freezes.proofs.Windows.{Ends, window-ends}
 use Rattle.dr_laws_freezes.proofs.FairSteps.{chain-of}
 
 -- the last of the moments is the run's world
-last-behind : (before : List World) (w first : World) (later : List World) → last_of w (before ++ (first ∷ later)) ≡ last_of first later
+pub last-behind : (before : List World) (w first : World) (later : List World) → last_of w (before ++ (first ∷ later)) ≡ last_of first later
 last-behind [] w first later = refl
 last-behind (b ∷ bs) w first later = last-behind bs b first later
 
@@ -29,7 +29,7 @@ last-from (t ∷ ts) w =
     let u : World = after_task w t in
     ap (λ us. last_of w (us ++ moments_from u ts)) (sym (append_assoc before last (u ∷ []))) ∙ last-step (before ++ last) w u (moments_from u ts) ∙ last-from ts u
 
-last-moment : (tasks : List Task) (before later : List World) (first : World) → moments tasks ≡ before ++ (first ∷ later) → last_of first later ≡ run tasks
+pub last-moment : (tasks : List Task) (before later : List World) (first : World) → moments tasks ≡ before ++ (first ∷ later) → last_of first later ≡ run tasks
 last-moment tasks before later first is = sym (last-behind before nothing first later) ∙ ap (last_of nothing) (sym is) ∙ last-from tasks nothing
 
 -- each volume of a run has its tracks on its device

@@ -1,5 +1,5 @@
 -- Each step's plan is fair.
-use Rattle.std.proofs.Common.{ℕ, ◌≡◌, refl, ap, sym, Bool, true, false, cond, List, [], ◌∷◌, map, Option, Some, None}
+use Rattle.std.proofs.Common.{ℕ, ◌≡◌, refl, ap, sym, Bool, true, false, cond, List, [], ◌∷◌, ◌++◌, map, Option, Some, None}
 use Rattle.std.proofs.lemmas.List.{append-nil}
 use Rattle.dr_ids.specs.declared.refusal.Refusal.{Refusal}
 use Rattle.dr_ids.specs.declared.refusal.Refusal.TheVariants.{Stopped as StoppedIn}
@@ -12,11 +12,11 @@ use Rattle.dr_model.specs.Answers.{answer}
 use Rattle.dr_model.specs.Histories.{histories}
 use Rattle.dr_model.specs.Relations.{Choices}
 use Rattle.dr_model.specs.Control.{Control, World}
-use Rattle.dr_model.specs.Carry.{Make, Next, Pass, Do, Entry}
-use Rattle.dr_model.specs.Moves.{Suspend, Thaw, Lift, Follow, DropPrimary, DropSecondary}
+use Rattle.dr_model.specs.Carry.{Make, Next, Pass, Do, Entry, now}
+use Rattle.dr_model.specs.Moves.{Suspend, Thaw, Lift, Follow, DropPrimary, DropSecondary, Relate, FlashHold, FlashFree}
 use Rattle.dr_model.specs.PairEntries.{end_if, refuse_if, remove_both}
-use Rattle.dr_model.specs.WriteEntries.{freeze_on, end_freeze, thaw_on, end_thaw, lift_on}
-use Rattle.dr_model.specs.Plans.{Plan, counted_refusal, restore_refusal, entries_plan, make_flash_plan, remove_flash_plan, resync_flash_plan, reverse_flash_plan, remove_pair_plan, pause_pair_plan, resume_pair_plan, failover_plan, failback_plan, compare_plan, expire_plan, freeze_done, unfreeze_done}
+use Rattle.dr_model.specs.WriteEntries.{freeze_on, end_freeze, thaw_on, end_thaw, lift_on, flash_hold_on, flash_free_on}
+use Rattle.dr_model.specs.Plans.{Plan, counted_refusal, restore_refusal, entries_plan, make_flash_plan, remove_flash_plan, resync_flash_plan, reverse_flash_plan, remove_pair_plan, pause_pair_plan, resume_pair_plan, failover_plan, failback_plan, compare_plan, expire_plan, freeze_done, unfreeze_done, hold_first, release_done}
 use Rattle.dr_model.specs.Runs.{masters_lost, said}
 use Rattle.dr_model.specs.Table.{table}
 use Rattle.dr_model.specs.Laws.{SoundRows}
@@ -25,7 +25,7 @@ use Rattle.dr_laws_sound.proofs.FitsFlash.{as_begun, sound-begun, along-flash, a
 use Rattle.dr_laws_sound.proofs.FitsPairs.{along-remove, along-pause, along-resume}
 use Rattle.dr_laws_sound.proofs.FitsFailover.{along-failover, along-failback, along-compare}
 use Rattle.dr_laws_sound.proofs.FitsSessions.{sound-lost}
-use Rattle.dr_laws_sound.proofs.FitsHolds.{freezes, thaws, lifts}
+use Rattle.dr_laws_sound.proofs.FitsHolds.{freezes, thaws, lifts, releases}
 use Rattle.dr_laws_sound.proofs.Steps.{sound-said}
 use Rattle.dr_laws_freezes.proofs.Tidy.{tidy-same, fresh-told}
 use Rattle.dr_laws_freezes.proofs.Chains.{ended, Fairly, fairly-nil, EndFin, PlanFin, PlanFair, good-none, told-unchanged}
@@ -70,7 +70,7 @@ module _ (w : World) (k : Between w) (entries : List Entry) (a : Said) where
   pub entries-fair : Fairly (PlanFin Between rows-between answers-between p) None (as_begun w) entries → Fair w p
   entries-fair fairly = record {
     told = [];
-    begins = told-unchanged w (as_begun w) [] refl tt (ap histories (append-nil w.events)) refl refl refl (λ v t. refl);
+    begins = told-unchanged w (as_begun w) [] refl tt (ap histories (append-nil w.events)) refl refl refl refl (λ v t. refl);
     entries = fairly;
     last = λ k. (k.sessions, refl);
   }
@@ -90,12 +90,16 @@ easy-refuse why k = by (why k)
     by None = tt
     by (Some r) = tt
 
+easy-relate : (freeze : Bool) (s t : ℕ) (choices : Choices) → AllEasy (hold_first freeze s ++ now (Relate t s choices) ∷ [])
+easy-relate true s t choices = easy-cons (flash_hold_on s) _ (λ k. pass-or k _ Pass (Do (Make (FlashHold s))) tt tt) (easy-cons (now (Relate t s choices)) [] (λ k. tt) easy-nil)
+easy-relate false s t choices = easy-cons (now (Relate t s choices)) [] (λ k. tt) easy-nil
+
 module _ (w : World) (k : Between w) where
-  pub fair-flash : (dev : Option Name) (s t : ℕ) (choices : Choices) → Fair w (make_flash_plan w.control dev s t choices)
+  pub fair-flash : (dev : Option Name) (s t : ℕ) (freeze : Bool) (choices : Choices) → Fair w (make_flash_plan w.control dev s t freeze choices)
   unfolding AllEasy
-  fair-flash dev s t choices = easy-plan w k _ _
-      (easy-check _ _, (easy-check _ _, (easy-check _ _, (easy-check _ _, (easy-check _ _, (easy-check _ _, (easy-check _ _, (easy-check _ _, (easy-check _ _, (easy-check _ _, (easy-check _ _, (easy-check _ _, ((λ k. tt), tt)))))))))))))
-      (along-flash w k.sound dev s t choices)
+  fair-flash dev s t freeze choices = easy-plan w k _ _
+      (easy-check _ _, (easy-check _ _, (easy-check _ _, (easy-check _ _, (easy-check _ _, (easy-check _ _, (easy-check _ _, (easy-check _ _, (easy-check _ _, (easy-check _ _, (easy-check _ _, (easy-check _ _, easy-relate freeze s t choices))))))))))))
+      (along-flash w k.sound dev s t freeze choices)
 
   pub fair-withdraw : (dev : Option Name) (s t : ℕ) → Fair w (remove_flash_plan w.control dev s t)
   unfolding AllEasy
@@ -119,6 +123,9 @@ module _ (w : World) (k : Between w) where
   fair-thaw l m =
       easy-plan w k _ _ (easy-append (map (thaw_on l m) w.control.volumes) (end_thaw l m ∷ []) (easy-map (thaw_on l m) w.control.volumes (λ v k. pass-or k _ (Do (Make (Thaw v))) Pass tt tt)) (easy-cons (end_thaw l m) [] (λ k. tt) easy-nil))
       (thaws l m w.control.volumes (as_begun w) (sound-begun w k.sound))
+
+  pub fair-release : (l : ℕ) → Fair w (release_done w.control l)
+  fair-release l = easy-plan w k _ _ (easy-map (flash_free_on l) w.control.volumes (λ v k. pass-or k _ (Do (Make (FlashFree v))) Pass tt tt)) (releases l w.control.volumes (as_begun w) (sound-begun w k.sound))
 
   pub fair-expire : (x : ℕ) → w.control.on x ≡ true → Fair w (expire_plan w.control x)
   fair-expire x on = easy-plan w k _ _ (easy-map (lift_on x) w.control.volumes (λ v k. pass-or k _ (Do (Make (Lift v))) Pass tt tt)) (lifts x w.control.volumes (as_begun w) (sound-begun w k.sound) on)

@@ -208,7 +208,7 @@ module _ (w : World) (k : Between w) (a : ℕ) (most : Option ℕ) where
       let b : Between u = begun-between w k in
       record {
         told = [];
-        begins = told-unchanged w u [] refl tt (ap histories (append-nil w.events)) refl refl refl (λ v t. refl);
+        begins = told-unchanged w u [] refl tt (ap histories (append-nil w.events)) refl refl refl refl (λ v t. refl);
         entries =
             fairly-check Fins fins u b (is_defined a) _ _ (along-drain w k.sound a most) (λ there al.
             fairly-check Fins fins u b (is_running a) _ _ al (λ on al.

@@ -55,7 +55,7 @@ module _ (w : World) (k : Between w) where
         let b : Between u = record { sound = begins-sound holds; tidy = tidy-same w u refl refl (λ j h. h) (fresh-told w u [] refl refl k.tidy.fresh.unacked (λ n. refl) k.tidy.fresh) k.tidy } in
         record {
           told = [];
-          begins = told-unchanged w u [] refl tt (ap histories (append-nil w.events)) refl refl refl (λ v t. refl);
+          begins = told-unchanged w u [] refl tt (ap histories (append-nil w.events)) refl refl refl refl (λ v t. refl);
           entries = fairly-nil (PlanFin Between rows-between answers-between p) None u (good-none u b.sound.rows) b;
           last = λ k. (k.sessions, refl);
         }
@@ -87,7 +87,7 @@ module _ (w : World) (k : Between w) where
     pub fair-leaving : AllEasy entries → Fair w q
     fair-leaving easy = record {
       told = [];
-      begins = told-unchanged w (begun w q) [] refl tt (ap histories (append-nil w.events)) refl refl refl (λ v t. refl);
+      begins = told-unchanged w (begun w q) [] refl tt (ap histories (append-nil w.events)) refl refl refl refl (λ v t. refl);
       entries = easy-ended Fins refused orders.ends ends entries (begun w q) (begun-between w k) easy orders.entries;
       last = leaves;
     }

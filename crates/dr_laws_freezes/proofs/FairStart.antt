@@ -111,7 +111,7 @@ module _ (s : ℕ) where
                     (λ n lt. ap (λ b. b || false) (ne_eqb x.w n (above x.w w.control.issued n waits.number lt))) g.fresh;
               };
             } in (
-              record { volume = x.volume; track = x.track; on_volume = waits.volume; on_track = waits.track; here = gone.here; gone = gone.gone; else = gone.else },
+              record { number = waits.number; volume = x.volume; track = x.track; on_volume = waits.volume; on_track = waits.track; here = gone.here; gone = gone.gone; else = gone.else },
               λ f. fairly-nil Fin None u (good-none u b.sound.rows) b,
               (tt, λ d f. absurd d),
             )
@@ -193,7 +193,7 @@ module _ (s : ℕ) where
         let u : World = begun w0 p in
         record {
           told = Started s ∷ [];
-          begins = told-unchanged w0 u (Started s ∷ []) refl (tt, tt) (histories-append w0.events (Started s ∷ [])) refl refl refl (λ v t. refl);
+          begins = told-unchanged w0 u (Started s ∷ []) refl (tt, tt) (histories-append w0.events (Started s ∷ [])) refl refl refl refl (λ v t. refl);
           entries = volumes-go w0.control.volumes u (record {
             inner = starts.begins s w0 k.sound;
             clean = λ v there runs none. elim (eqb_tells (servers w0.control v) s) [

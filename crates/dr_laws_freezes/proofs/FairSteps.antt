@@ -18,7 +18,7 @@ use Rattle.dr_model.specs.Runs.{Task}
 use Rattle.dr_laws_freezes.specs.Moments.{moments_from}
 use Rattle.dr_laws_freezes.specs.Windows.{FreezeCut}
 use Rattle.dr_laws_closed.proofs.Regroups.{regroups-same}
-use Rattle.dr_laws_sound.proofs.Cases.{Case, Says, DefinesServer, DefinesVolume, SetsLink, Issues, Writes, Applies, Lists, Shows, Stops, Arms, Starts, MakesFlash, RemovesFlash, ResyncsFlash, ReversesFlash, Copies, MakesPath, RemovesPath, MakesPair, RemovesPair, PausesPair, ResumesPair, FailsOver, FailsBack, Compares, Drains, Expires, Freezes, Unfreezes, MakesSession, RemovesSession, MakesMirror, PausesMirror, RemovesMirror, Aborts, AddsMember, RemovesMember, Exchanges, Recovers, Settles, added, expelled, aborted, ordered}
+use Rattle.dr_laws_sound.proofs.Cases.{Case, Says, DefinesServer, DefinesVolume, SetsLink, Issues, Writes, Applies, Lists, Shows, Stops, Arms, Starts, MakesFlash, RemovesFlash, ResyncsFlash, ReversesFlash, Copies, MakesPath, RemovesPath, MakesPair, RemovesPair, PausesPair, ResumesPair, FailsOver, FailsBack, Compares, Drains, Expires, Freezes, Unfreezes, MakesSession, RemovesSession, MakesMirror, PausesMirror, RemovesMirror, Aborts, AddsMember, RemovesMember, Exchanges, Recovers, Settles, added, expelled, aborted, ordered, Releases}
 use Rattle.dr_laws_sound.proofs.Steps.{sound-nothing, case-holds, ending-holds}
 use Rattle.dr_laws_sound.proofs.FitsMembers.{orders-added, orders-expelled}
 use Rattle.dr_laws_sound.proofs.FitsOrders.{orders-ordered}
@@ -30,7 +30,7 @@ use Rattle.dr_laws_freezes.proofs.FairSessions.{leaving, fair-sessions, fair-lea
 use Rattle.dr_laws_freezes.proofs.Windows.{Chain, freeze-cut}
 use Rattle.dr_laws_freezes.proofs.Chains.{run-chain}
 use Rattle.dr_laws_freezes.proofs.FairPlans.{Between}
-use Rattle.dr_laws_freezes.proofs.FairCases.{rows-between, answers-between, loses-between, Fair, fair-flash, fair-withdraw, fair-resync, fair-reverse, fair-freeze, fair-thaw, fair-expire, fair-pause, fair-resume, fair-failover, fair-failback, fair-compare, fair-remove}
+use Rattle.dr_laws_freezes.proofs.FairCases.{rows-between, answers-between, loses-between, Fair, fair-flash, fair-withdraw, fair-resync, fair-reverse, fair-freeze, fair-thaw, fair-expire, fair-pause, fair-resume, fair-failover, fair-failback, fair-compare, fair-remove, fair-release}
 use Rattle.dr_laws_freezes.proofs.FairTables.{fair-says, fair-defines, fair-links, fair-shows, fair-stops, fair-arms, fair-paths, fair-unpaths, fair-adds, fair-issues, fair-lists}
 use Rattle.dr_model.specs.Runs.{image_told}
 use Rattle.dr_laws_sound.proofs.Listed.{image-lines}
@@ -69,7 +69,7 @@ fair-case w k line _ (Shows v t there) = fair-shows w k line v t there
 fair-case w k line _ (Stops x on) = fair-stops w k line x on
 fair-case w k line _ (Arms writes torn x) = fair-arms w k line writes torn x
 fair-case w k line _ (Starts x off) = fair-start x w k
-fair-case w k line _ (MakesFlash dev v t choices) = fair-flash w k dev v t choices
+fair-case w k line _ (MakesFlash dev v t freeze choices) = fair-flash w k dev v t freeze choices
 fair-case w k line _ (RemovesFlash dev v t) = fair-withdraw w k dev v t
 fair-case w k line _ (ResyncsFlash dev v t sequence) = fair-resync w k dev v t sequence
 fair-case w k line _ (ReversesFlash dev v t) = fair-reverse w k dev v t
@@ -87,6 +87,7 @@ fair-case w k line _ (Drains a most) = fair-drain w k a most
 fair-case w k line _ (Expires x on) = fair-expire w k x on
 fair-case w k line _ (Freezes l m) = fair-freeze w k l m
 fair-case w k line _ (Unfreezes l m) = fair-thaw w k l m
+fair-case w k line _ (Releases l) = fair-release w k l
 fair-case w k line _ (MakesSession l i free) = fair-sessions w k (joined i l) (table_plan (joined i l)).says (case-holds w k.sound line _ (MakesSession l i free))
 fair-case w k line _ (RemovesSession l i x found free) = fair-sessions w k (left i l) (table_plan (left i l)).says (case-holds w k.sound line _ (RemovesSession l i x found free))
 fair-case w k line _ (MakesMirror owner i x found free l owned) = fair-sessions w k (changed i (mirrored_by owner)) (table_plan (changed i (mirrored_by owner))).says (case-holds w k.sound line _ (MakesMirror owner i x found free l owned))

@@ -1,7 +1,7 @@
 -- Steps that only change tables and tell events are fair.
 use Rattle.std.proofs.Common.{ℕ, ◌≡◌, ◌≢◌, ◌<◌, ◌+◌, refl, ap, sym, ◌∙◌, subst, Bool, true, false, cond, ◌&&◌, ◌||◌, nat_eq, List, [], ◌∷◌, ◌++◌, length, None, arith}
 use Rattle.std.proofs.lemmas.List.{append-nil}
-use Rattle.std.proofs.lemmas.Bool.{false≢true, ne_eqb}
+use Rattle.std.proofs.lemmas.Bool.{false≢true, ne_eqb, or_left}
 use Rattle.std.specs.List.{list_any}
 use Rattle.dr_model.specs.declared.event.Event.{Event}
 use Rattle.dr_model.specs.declared.event.Event.TheVariants.{Server as ServerDefined, Volume as VolumeDefined, Issue, Stopped, Shown}
@@ -26,7 +26,7 @@ use Rattle.dr_laws_sound.proofs.Steps.{case-holds}
 use Rattle.dr_laws_freezes.proofs.Fair.{Unacked}
 use Rattle.dr_model.specs.declared.said.Addition.TheVariants.{Alone}
 use Rattle.dr_model.specs.declared.said.Said.TheVariants.{Done}
-use Rattle.dr_laws_freezes.proofs.KeepsWindow.{Silent, AllSilent}
+use Rattle.dr_laws_freezes.proofs.KeepsWindow.{Passing, AllPassing}
 use Rattle.dr_model.specs.Listings.{lists as listing_plan}
 use Rattle.dr_laws_sound.proofs.Listed.{IsLine, AllLines, each-line, all-lines, lines-lists}
 use Rattle.dr_laws_freezes.proofs.KeepsStep.{Unchanged}
@@ -38,6 +38,8 @@ use Rattle.dr_laws_freezes.proofs.FairCases.{rows-between, answers-between, Fair
 use Rattle.dr_laws_sound.proofs.Along as along
 use Rattle.dr_logic.proofs.Truth.{false_true}
 use Rattle.dr_logic.proofs.Tables.{at_other}
+use Rattle.dr_model.specs.Entries.{fields_at}
+use Rattle.std.proofs.lemmas.List.Folds.{list_any-append}
 
 -- a step without entries leaves what it begins with
 pub sound-tables : (w : World) (first : Control → Control) (told : List Event) (a : Said) → StepHolds w (tables_plan first told a) → Sound (begun w (tables_plan first told a))
@@ -61,12 +63,12 @@ not-new (y ∷ ys) x v ne h = by (nat_eq x y) (not-new ys x v ne) h
 
 -- an event that no list hears of
 module _ (w : World) (k : Between w) where
-  fair-told : (first : Control → Control) (told : List Event) (a : Said) → StepHolds w (tables_plan first told a) → AllSilent told → histories (w.events ++ told) ≡ histories w.events → ((n : ℕ) → list_any (is_ack n) told ≡ false) → (first w.control).volume ≡ w.control.volume → (first w.control).volumes ≡ w.control.volumes
+  fair-told : (first : Control → Control) (told : List Event) (a : Said) → StepHolds w (tables_plan first told a) → AllPassing told → histories (w.events ++ told) ≡ histories w.events → ((n : ℕ) → list_any (is_ack n) told ≡ false) → (first w.control).volume ≡ w.control.volume → (first w.control).volumes ≡ w.control.volumes
       → (first w.control).issued ≡ w.control.issued → (first w.control).pending ≡ w.control.pending → ((j : ℕ) → (first w.control).on j ≡ true → w.control.on j ≡ true) → Fair w (tables_plan first told a)
   fair-told first told a holds silent lists acks volume volumes issued pending on =
       let u : World = begun w (tables_plan first told a) in
       fair-tables w first told a holds
-      (told-unchanged w u told refl silent lists volume refl issued (λ v t. ap (λ ps. waiting ps v t) pending))
+      (told-unchanged w u told refl silent lists volume refl issued volumes (λ v t. ap (λ ps. waiting ps v t) pending))
       (tidy-same w u volume volumes on (fresh-told w u told refl issued (subst (AllPending (λ p. Unacked w p.w)) (sym pending) k.tidy.fresh.unacked) acks k.tidy.fresh) k.tidy)
 
   module _ (line : ℕ) where
@@ -86,8 +88,8 @@ module _ (w : World) (k : Between w) where
     pub fair-links : (a b : ℕ) (up : Bool) → Fair w (link_done a b up)
     fair-links a b up = fair-told _ [] _ (holds _ (SetsLink a b up)) tt none-told (λ n. refl) refl refl refl refl (λ j h. h)
 
-    lines-silent : (told : List Event) → AllLines told → AllSilent told
-    lines-silent = all-lines AllSilent tt (λ e es l rest. (each-line Silent (λ line v u state kind k. tt) (λ line s t sequence previous state flags own. tt) (λ line s a b c state. tt) (λ line s server phase n paused. tt) tt (λ v server tracks. tt) (λ v index bytes. tt) tt e l, rest))
+    lines-silent : (told : List Event) → AllLines told → AllPassing told
+    lines-silent = all-lines AllPassing tt (λ e es l rest. (each-line Passing (λ line v u state kind k. tt) (λ line s t sequence previous state flags own. tt) (λ line s a b c state. tt) (λ line s server phase n paused. tt) tt (λ v server tracks. tt) (λ v index bytes. tt) tt e l, rest))
 
     lines-unacked : (n : ℕ) (told : List Event) → AllLines told → list_any (is_ack n) told ≡ false
     lines-unacked n = all-lines (λ es. list_any (is_ack n) es ≡ false) refl (λ e es l rest. ap (λ b. b || list_any (is_ack n) es) (none e l) ∙ rest)
@@ -128,7 +130,9 @@ module _ (w : World) (k : Between w) where
           writes = λ n lt. ap (λ (h : Histories). h.write n) (histories-append w.events (e ∷ []));
           issued = λ n lt. lt;
           waits = λ x t. refl;
+          there = λ x there. list_any-append (nat_eq x) w.control.volumes (v ∷ []) ∙ or_left (list_any (nat_eq x) w.control.volumes) _ there;
           volume = λ x there. at_other w.control.volume v (new_volume s tracks) x (other x there);
+          holds = λ x. at_cases (λ x (y : Volume). y.fields.flash_hold ≡ true → (fields_at w.control x).flash_hold ≡ true) w.control.volume v (new_volume s tracks) (λ h. absurd cc) (λ x ne h. h) x;
           contents = λ x there t. refl;
           lists = λ x there t. ap (λ (h : Histories). h.now x t) (histories-append w.events (e ∷ [])) ∙ ap (λ (f : ℕ → List ℕ). f t) (at_other (lists w.events) v (λ t. []) x (other x there));
           acked = λ n h. ap (λ (h : Histories). h.write n) (histories-append w.events (e ∷ []));
@@ -165,7 +169,9 @@ module _ (w : World) (tidy : Tidy w) (v t offset len : ℕ) (bytes : List ℕ) w
     writes = λ n lt. ap (λ (h : Histories). h.write n) (histories-append w.events (e ∷ [])) ∙ at_other (histories w.events).write (w.control.issued + 1) _ n (λ is. absurd (let h : n ≡ w.control.issued + 1 = is in omega arith));
     issued = λ n lt. omega arith;
     waits = λ x q. waiting-new w.control.pending _ x q refl;
+    there = λ x there. there;
     volume = λ x there. refl;
+    holds = λ x h. h;
     contents = λ x there q. refl;
     lists = λ x there q. ap (λ (h : Histories). h.now x q) (histories-append w.events (e ∷ []));
     acked = λ n h. ap (λ (h : Histories). h.write n) (histories-append w.events (e ∷ [])) ∙ at_other (histories w.events).write (w.control.issued + 1) _ n (λ is. false_true (tidy.fresh.later n (let h : n ≡ w.control.issued + 1 = is in omega arith)) h);

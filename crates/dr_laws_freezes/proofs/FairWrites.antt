@@ -356,9 +356,9 @@ module _ (p : Pending) (Fin : Option ℕ → World → Option Refusal → Type 0
     ways-fair true g c hs gs cs al = fairly-nil Fin None w (good-none w k.sound.rows) (fin w None k)
     ways-fair false true c hs gs cs al =
         let both = and_parts (is_metro f.primary) _ gs in
-        over-by (or_parts f.coordination f.long_busy hs).1 (not-true (is_suspended f.primary_state) (and_parts (not (is_suspended f.primary_state)) _ both.1).0) (is_parted w.control v) al
+        over-by (or_parts f.coordination f.long_busy (or_parts (f.coordination || f.long_busy) f.flash_hold hs).0).1 (not-true (is_suspended f.primary_state) (and_parts (not (is_suspended f.primary_state)) _ both.1).0) (is_parted w.control v) al
     ways-fair false false true hs gs cs al = collided (partner_of w.control v) w.control.volumes w (record { between = k; global = (and_parts (is_kind Global f.primary) _ cs).0 }) al
-    ways-fair false false false hs gs cs al = alone w.control.volumes w (record { between = k; synced = not-synced gs; locked = calm-locked f (or_parts f.coordination f.long_busy hs).1 (not-synced gs) }) al
+    ways-fair false false false hs gs cs al = alone w.control.volumes w (record { between = k; synced = not-synced gs; locked = calm-locked f (or_parts f.coordination f.long_busy (or_parts (f.coordination || f.long_busy) f.flash_hold hs).0).1 (not-synced gs) }) al
 
   pub landing-fair : (w : World) → Between w → One w → Fairly Fin None w (landing w.control n v t)
   landing-fair w k one =
@@ -404,7 +404,7 @@ module _ (w : World) (k : Between w) where
   pub fair-applies : (n : ℕ) (p : Pending) → find (is_write n) w.control.pending ≡ Some p → Fair w (apply_done w.control p)
   fair-applies n p found = record {
     told = [];
-    begins = told-unchanged w (as_begun w) [] refl tt (ap histories (append-nil w.events)) refl refl refl (λ v t. refl);
+    begins = told-unchanged w (as_begun w) [] refl tt (ap histories (append-nil w.events)) refl refl refl refl (λ v t. refl);
     entries = carried-fair (apply_done w.control p) p w.control refl refl (as_begun w) (begun-between w k) (found-alone n p w.control.pending found k.sound.queue.apart);
     last = λ k. (k.sessions, refl);
   }

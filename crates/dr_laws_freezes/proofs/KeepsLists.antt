@@ -12,7 +12,7 @@ use Rattle.dr_model.specs.Layout.{is_part}
 use Rattle.dr_model.specs.Relations.{rest, in_order, is_bare, turned, given_up}
 use Rattle.dr_model.specs.Control.{Volume, World}
 use Rattle.dr_model.specs.Pairs.{is_suspended}
-use Rattle.dr_model.specs.Moves.{Move, Land, Overwrite, Keep, Relate, Withdraw, Fetch, Resync, Reverse, Restore, Release, Store, Suspend, TakeOver, Mirror, LandBoth, Hold, Seal, Leave, Flash, Commit, Revert, told, told_in_stop}
+use Rattle.dr_model.specs.Moves.{Move, Land, Overwrite, Keep, Relate, Withdraw, Fetch, Resync, Reverse, Restore, Release, Store, Suspend, TakeOver, Mirror, LandBoth, Hold, Seal, Leave, Flash, Commit, Revert, told, told_in_stop, FlashHold, FlashFree, Lift}
 use Rattle.dr_model.specs.Entries.{fields_at}
 use Rattle.dr_model.specs.Table.{table}
 use Rattle.dr_model.specs.Laws.{SoundRows, source}
@@ -21,7 +21,7 @@ use Rattle.dr_model.proofs.Images.{histories-append}
 use Rattle.dr_laws_freezes.specs.Windows.{is_ack, acked_in, acked_on}
 use Rattle.dr_facts.specs.Heard.{Unheard, AllUnheard}
 use Rattle.dr_facts.proofs.Tables.{IsOrNot}
-use Rattle.dr_facts.proofs.Heard.{unheard-event, unheard-write, unheard-writes, unheard-append, unheard-blanked, unheard-restored, unheard-suspended, unheard-held}
+use Rattle.dr_facts.proofs.Heard.{unheard-event, unheard-write, unheard-writes, unheard-append, unheard-blanked, unheard-restored, unheard-suspended, unheard-held, unheard-freed}
 use Rattle.dr_laws_freezes.proofs.WindowTracks.{Stays}
 use Rattle.dr_laws_freezes.proofs.KeepsWindow.{first, no_second, no-target, Silent, AllSilent}
 use Rattle.dr_logic.proofs.Choices.{chosen}
@@ -145,6 +145,9 @@ module _ (v q : ℕ) (w : World) (rows : SoundRows (table w)) (st : Stays v q w)
   apart-told (Release x t) a off u = unheard-restored OfAny v x u.fields.source u.tracks (given_up u.fields t).own (is_bare (given_up u.fields t).own) (not-target x a.from a.related)
   apart-told (Store x t y last) a off u = (not-second x (chosen _ _ y a.takes).0, tt)
   apart-told (Suspend x busy) a off u = unheard-suspended OfAny v x (is_suspended u.fields.primary_state)
+  apart-told (FlashHold x) a off u = (tt, tt)
+  apart-told (FlashFree x) a off u = (tt, tt)
+  apart-told (Lift x) a off u = unheard-freed OfAny v x u.fields.flash_hold
   apart-told (Mirror x t y n) a off u = (not-second x (chosen _ _ y a.takes).0, tt)
   apart-told (Land n x t) a off u = (tt, tt)
   apart-told (Overwrite n x t) a off u = (tt, tt)

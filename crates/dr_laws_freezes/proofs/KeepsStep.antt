@@ -1,5 +1,6 @@
 -- A freeze window lasts from each moment of a run to the next.
 use Rattle.std.proofs.Common.{ℕ, ◌≡◌, ◌≢◌, ◌<◌, ◌+◌, ◌⊎◌, inl, inr, refl, ap, sym, ◌∙◌, subst, Bool, true, false, cond, not, ◌||◌, List, [], ◌∷◌, ◌++◌, filter, Option, Some, None}
+use Rattle.std.proofs.Math.Bool.{or-false}
 use Rattle.std.proofs.lemmas.List.{append-nil}
 use Rattle.std.proofs.lemmas.List.Sums.{fold-append}
 use Rattle.std.proofs.lemmas.Bool.{ne_eqb, eq-eqb, eqb-false}
@@ -26,13 +27,14 @@ use Rattle.dr_laws_sound.proofs.Due.{waiting-marked_else, waiting-marked_here}
 use Rattle.dr_facts.proofs.Issued.{told-writes, stop-writes, with-told}
 use Rattle.dr_laws_freezes.proofs.WindowTracks.{unacked, still-waits, Stays, Holds, Window, Quiet, window-quiet, unacked-told}
 use Rattle.dr_laws_freezes.proofs.Fair.{MayCome, Fair, tag_after}
-use Rattle.dr_laws_freezes.proofs.KeepsWindow.{AllSilent, locked, Deaf, deaf-silent, Else, deaf-told, deaf-stop, waits-done, waits-stop, quiet-changed}
+use Rattle.dr_laws_freezes.proofs.KeepsWindow.{AllPassing, passing-silent, locked, Deaf, deaf-silent, Else, deaf-told, deaf-stop, waits-done, waits-stop, quiet-changed}
 use Rattle.dr_laws_freezes.proofs.KeepsLists.{ListGrows, NoRestore, silent-none, grows-apart, apart-told, apart-stop}
 use Rattle.dr_laws_freezes.proofs.KeepsMirror.{off-track, on-track, acked, acked-here, just-acked, still-unacked, window-mirrored, window-landed}
 use Rattle.dr_logic.proofs.Choices.{chosen}
 
 -- a landed write that is acknowledged: no other waits on its track
 pub record Acknowledges (w : World) (n : ℕ) : Type 0 where
+  pub number : n < w.control.issued + 1
   pub volume : ℕ
   pub track : ℕ
   pub on_volume : ((histories w.events).write n).volume ≡ volume
@@ -44,11 +46,13 @@ pub record Acknowledges (w : World) (n : ℕ) : Type 0 where
 -- from w to u no volume changes that is defined, and no write lands; these events are told
 pub record Unchanged (w u : World) (es : List Event) : Type 0 where
   pub events : u.events ≡ w.events ++ es
-  pub silent : AllSilent es
+  pub silent : AllPassing es
   pub writes : (n : ℕ) → n < w.control.issued + 1 → (histories u.events).write n ≡ (histories w.events).write n
   pub issued : (n : ℕ) → n < w.control.issued + 1 → n < u.control.issued + 1
   pub waits : (v t : ℕ) → waiting u.control.pending v t ≡ waiting w.control.pending v t
+  pub there : (v : ℕ) → is_volume w.control v ≡ true → is_volume u.control v ≡ true
   pub volume : (v : ℕ) → is_volume w.control v ≡ true → u.control.volume v ≡ w.control.volume v
+  pub holds : (v : ℕ) → (fields_at u.control v).flash_hold ≡ true → (fields_at w.control v).flash_hold ≡ true
   pub contents : (v : ℕ) → is_volume w.control v ≡ true → (t : ℕ) → u.contents v t ≡ w.contents v t
   pub lists : (v : ℕ) → is_volume w.control v ≡ true → (t : ℕ) → lists u.events v t ≡ lists w.events v t
   pub acked : (n : ℕ) → list_any (is_ack n) w.events ≡ true → (histories u.events).write n ≡ (histories w.events).write n
@@ -85,10 +89,6 @@ module _ (v q : ℕ) where
     abbrev Other : Move → Type 0
     Other m = Else v q w rows st m
 
-    or-left : (b : Bool) → (b || false) ≡ false → b ≡ false
-    or-left true h = absurd cc
-    or-left false h = refl
-
     data Kind : Move → Type 0 where
       Own : (t n : ℕ) → Kind (Mirror q t v n)
       Lands : (t n : ℕ) → Kind (LandBoth n v t)
@@ -112,11 +112,11 @@ module _ (v q : ℕ) where
     Off m = Unit {0}
 
     off-done : (m : Move) (u : Volume) → Backless (told m u) → Off m
-    off-done (Restore x t y) u back = (eqb-false x v (or-left _ back.0), eqb-false x q (or-left _ back.1))
+    off-done (Restore x t y) u back = (eqb-false x v (sym (or-false _) ∙ back.0), eqb-false x q (sym (or-false _) ∙ back.1))
     off-done m u back = tt
 
     off-stop : (m : Move) (u : Volume) (s k : ℕ) → Backless (told_in_stop m u ++ Stopped s k ∷ []) → Off m
-    off-stop (Restore x t y) u s k back = (eqb-false x v (or-left _ back.0), eqb-false x q (or-left _ back.1))
+    off-stop (Restore x t y) u s k back = (eqb-false x v (sym (or-false _) ∙ back.0), eqb-false x q (sym (or-false _) ∙ back.1))
     off-stop m u s k back = tt
 
     kind : (m : Move) → MayCome w m → Off m → Kind m
@@ -246,7 +246,7 @@ module _ (v q : ℕ) where
     unchanged u es x =
         let there_v : is_volume w.control v ≡ true = (rows.parts.primary q v st.takes).defined in
         let there_q : is_volume w.control q ≡ true = (rows.parts.secondary v q st.to).defined in
-        let deaf : Deaf q g es = deaf-silent q g es x.silent in
+        let deaf : Deaf q g es = deaf-silent q g es (passing-silent es x.silent) in
         record {
           events = x.events;
           writes = x.writes;
@@ -267,7 +267,7 @@ module _ (v q : ℕ) where
 
     unchanged-list : (u : World) (es : List Event) → Unchanged w u es → ListGrows v w u es
     unchanged-list u es x = record {
-      list = λ t. x.lists v (rows.parts.primary q v st.takes).defined t ∙ sym (append-nil (lists w.events v t)) ∙ ap (λ ns. lists w.events v t ++ ns) (sym (silent-none (histories u.events).write v t es x.silent));
+      list = λ t. x.lists v (rows.parts.primary q v st.takes).defined t ∙ sym (append-nil (lists w.events v t)) ∙ ap (λ ns. lists w.events v t ++ ns) (sym (silent-none (histories u.events).write v t es (passing-silent es x.silent)));
       writes = x.acked;
     }
 

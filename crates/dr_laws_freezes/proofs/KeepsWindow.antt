@@ -8,13 +8,13 @@ use Rattle.std.specs.List.{list_any, fold}
 use Rattle.std.specs.Cmp.{unsigned_tied, nat_cmp_total}
 use Rattle.std.specs.FinSet.{contains, contains-union, remove, members}
 use Rattle.dr_model.specs.declared.event.Event.{Event}
-use Rattle.dr_model.specs.declared.event.Event.TheVariants.{Ack, Mirrored, Blanked, Restored, Suspended, Stopped, Begin, Cut}
+use Rattle.dr_model.specs.declared.event.Event.TheVariants.{Ack, Mirrored, Blanked, Restored, Suspended, Stopped, Begin, Cut, Set}
 use Rattle.dr_model.specs.Histories.{Write, histories}
 use Rattle.dr_model.specs.Layout.{Tracks, Fields, is_part}
 use Rattle.dr_model.specs.Relations.{rest, in_order, is_bare, turned, given_up}
 use Rattle.dr_model.specs.Control.{Pending, Volume, Fuse, World}
 use Rattle.dr_model.specs.Pairs.{secondary_of, is_metro, is_suspended, is_engaged, voided}
-use Rattle.dr_model.specs.Moves.{Move, Land, Overwrite, Keep, Relate, Withdraw, Fetch, Resync, Reverse, Restore, Release, Store, Strike, Suspend, MakePrimary, DropPrimary, TakeOver, FallBack, Yield, Unsync, Mirror, LandBoth, Lift, Restart, Hold, Seal, Finish, Leave, Flash, Commit, Revert, target, told, told_in_stop, told_blank, settled, settled_in_stop, moved, tracks_after}
+use Rattle.dr_model.specs.Moves.{Move, Land, Overwrite, Keep, Relate, Withdraw, Fetch, Resync, Reverse, Restore, Release, Store, Strike, Suspend, MakePrimary, DropPrimary, TakeOver, FallBack, Yield, Unsync, Mirror, LandBoth, Lift, Restart, Hold, Seal, Finish, Leave, Flash, Commit, Revert, target, told, told_in_stop, told_blank, settled, settled_in_stop, moved, tracks_after, FlashHold, FlashFree, told_freed}
 use Rattle.dr_model.specs.Entries.{fields_at}
 use Rattle.dr_model.specs.Table.{Table, table, waiting}
 use Rattle.dr_model.specs.Rows.{next_bytes}
@@ -48,7 +48,28 @@ abbrev pub AllSilent : List Event → Type 0
 AllSilent [] = Unit {0}
 AllSilent (e ∷ es) = Silent e × AllSilent es
 
-silent-append : (es fs : List Event) → AllSilent es → AllSilent fs → AllSilent (es ++ fs)
+-- nor make a volume the target of another one
+abbrev pub Passing : Event → Type 0
+Passing (Ack n) = ⊥
+Passing (Mirrored n u) = ⊥
+Passing (Set v from) = ⊥
+Passing e = Unit {0}
+
+abbrev pub AllPassing : List Event → Type 0
+AllPassing [] = Unit {0}
+AllPassing (e ∷ es) = Passing e × AllPassing es
+
+passing : (e : Event) → Passing e → Silent e
+passing (Ack n) p = absurd p
+passing (Mirrored n u) p = absurd p
+passing (Set v from) p = absurd p
+passing e p = tt
+
+pub passing-silent : (es : List Event) → AllPassing es → AllSilent es
+passing-silent [] a = tt
+passing-silent (e ∷ es) a = (passing e a.0, passing-silent es a.1)
+
+pub silent-append : (es fs : List Event) → AllSilent es → AllSilent fs → AllSilent (es ++ fs)
 silent-append [] fs a b = b
 silent-append (e ∷ es) fs a b = (a.0, silent-append es fs a.1 b)
 
@@ -95,6 +116,10 @@ silent-suspended : (b : Bool) (v : ℕ) → AllSilent (cond b [] (Suspended v �
 silent-suspended true v = tt
 silent-suspended false v = (tt, tt)
 
+silent-freed : (v : ℕ) (b : Bool) → AllSilent (told_freed v b)
+silent-freed v true = (tt, tt)
+silent-freed v false = tt
+
 silent-held : (b : Bool) (v s n : ℕ) → AllSilent (cond b (Begin s n ∷ Cut s n v ∷ []) (Cut s n v ∷ []))
 silent-held true v s n = (tt, (tt, tt))
 silent-held false v s n = (tt, tt)
@@ -116,6 +141,9 @@ silent-told (Reverse v None) u m = silent-restored (is_bare (turned u.fields).ow
 silent-told (Reverse v (Some p)) u m = (tt, silent-restored (is_bare (turned u.fields).own) v u.fields.source u.tracks (turned u.fields).own)
 silent-told (Release v t) u m = silent-restored (is_bare (given_up u.fields t).own) v u.fields.source u.tracks (given_up u.fields t).own
 silent-told (Suspend v busy) u m = silent-suspended (is_suspended u.fields.primary_state) v
+silent-told (FlashHold v) u m = (tt, tt)
+silent-told (FlashFree v) u m = (tt, tt)
+silent-told (Lift v) u m = silent-freed v u.fields.flash_hold
 silent-told (Keep v t) u m = (tt, tt)
 silent-told (Relate v s c) u m = (tt, tt)
 silent-told (Fetch v t) u m = (tt, tt)

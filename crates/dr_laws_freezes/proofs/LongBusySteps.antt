@@ -22,7 +22,7 @@ use Rattle.dr_model.specs.declared.state.PairState.TheVariants.{Suspended as Sus
 use Rattle.dr_model.specs.declared.step.Devs.{Devs}
 use Rattle.dr_model.specs.declared.step.Name.{Name}
 use Rattle.dr_model.specs.declared.step.Step.{Step}
-use Rattle.dr_model.specs.declared.step.Step.TheVariants.{Server, Volume, Link, Stop, StopAfter, Start, Issue, Write, Apply, Show, MakeFlash, RemoveFlash, ResyncFlash, ReverseFlash, Copy, MakePath, RemovePath, MakePair, RemovePair, PausePair, ResumePair, Failover, Failback, Drain, Expire, Freeze, Unfreeze, MakeSession, RemoveSession, AddMember, RemoveMember, MakeMirror, PauseMirror, ResumeMirror, RemoveMirror, Abort, Exchange, Compare, Recover, CommitFlash, RevertFlash, Image, ListPairs, ListFlashes, ListSession, ShowMirror}
+use Rattle.dr_model.specs.declared.step.Step.TheVariants.{Server, Volume, Link, Stop, StopAfter, Start, Issue, Write, Apply, Show, MakeFlash, RemoveFlash, ResyncFlash, ReverseFlash, Copy, MakePath, RemovePath, MakePair, RemovePair, PausePair, ResumePair, Failover, Failback, Drain, Expire, Freeze, Unfreeze, MakeSession, RemoveSession, AddMember, RemoveMember, MakeMirror, PauseMirror, ResumeMirror, RemoveMirror, Abort, Exchange, Compare, Recover, CommitFlash, RevertFlash, Image, ListPairs, ListFlashes, ListSession, ShowMirror, UnfreezeFlash}
 use Rattle.dr_model.specs.Refusals.{unknown, server_off, duplicate}
 use Rattle.dr_ids.specs.declared.refusal.Kind.TheVariants.{Write as OfWrite}
 use Rattle.dr_model.specs.Control.{Control}
@@ -30,13 +30,13 @@ use Rattle.dr_model.specs.Layout.{is_part, kind_of}
 use Rattle.dr_model.specs.Pairs.{first_state, held}
 use Rattle.dr_model.specs.Entries.{is_at, fields_at, is_running, relation_state, share_server, share_size, is_no_target, is_settled, pair_state, subsystem}
 use Rattle.dr_model.specs.PairEntries.{first_differing, are_linked, reach_refusal, refuse_if, differs_at, two_servers, stands_free, may_follow, make_entries, leads_to, belongs_to, let_go, remove_both, may_pause, tell_paused, may_resume, may_take_over, leads_as, fall_back_on, yield_on, follow_on, resume_on, tracks_to_send, is_copying}
-use Rattle.dr_model.specs.WriteEntries.{is_between, freeze_on, end_freeze, thaw_on, end_thaw, belongs, lift_on}
+use Rattle.dr_model.specs.WriteEntries.{is_between, freeze_on, end_freeze, thaw_on, end_thaw, belongs, lift_on, flash_hold_on, flash_free_on, is_held_in}
 use Rattle.dr_model.specs.Phases as phases
 use Rattle.dr_model.specs.Sessions.{Session, Mirror, session_in, members_in, has_place_of, joined, left, changed, mirrored_by, paused, unmirrored, not_in_session, in_session, busy, leave_refusal, join_refusal, make_refusal, drop_refusal, abort_refusal}
 use Rattle.dr_model.specs.SessionEntries.{first_number, members_on, raise_attempt_on, raise_floor_on}
 use Rattle.dr_model.specs.RecoveryPlans.{decided_in, take_over_on, settle_on, end_recovery, recover_done, recover_plan, secondary_refusal, lets_commit, lets_revert, settle_member, settle_target, settle_plan, settle_refusal, member_of_target, revertible_target}
 use Rattle.dr_model.specs.SessionPlans.{table_plan, name_refusal, off_refusal, on_both, add_plan, add_to, add_target, member_target, expel_plan, expel_done, expel_found, outside_refusal, master_refusal, place_refusal, taken_refusal, copy_refusal, member_with, exchange_refusal, exchange_done, exchange_on, order_of}
-use Rattle.dr_model.specs.Plans.{Plan, plan_of, same, entries_plan, only_says, refuses, unless, on_named, on_owner, on_session, is_defined, is_owner, server_named, name_bytes, counted_refusal, restore_refusal, left_by, member_refusal, found_volumes, found_pair, differ, is_no_source, has_few_targets, is_plain_target, is_recorded_target, is_lone_restore, may_return, may_give_back, may_copy, at_most, left_to_copy, drain_plan, stop_on, stop_done, arm_on, expire_on, link_between, link_done, on_server, owner_of, server_refusal, server_done, volume_refusal, volume_done, issue_refusal, issue_done, show_refusal, show_done, expire_plan, path_refusal, make_path_done, unpath_refusal, remove_path_done, freeze_refusal, freeze_done, thaw_refusal, unfreeze_done}
+use Rattle.dr_model.specs.Plans.{Plan, plan_of, same, entries_plan, only_says, refuses, unless, on_named, on_owner, on_session, is_defined, is_owner, server_named, name_bytes, counted_refusal, restore_refusal, left_by, member_refusal, found_volumes, found_pair, differ, is_no_source, has_few_targets, is_plain_target, is_recorded_target, is_lone_restore, may_return, may_give_back, may_copy, at_most, left_to_copy, drain_plan, stop_on, stop_done, arm_on, expire_on, link_between, link_done, on_server, owner_of, server_refusal, server_done, volume_refusal, volume_done, issue_refusal, issue_done, show_refusal, show_done, expire_plan, path_refusal, make_path_done, unpath_refusal, remove_path_done, freeze_refusal, freeze_done, thaw_refusal, unfreeze_done, hold_first, release_refusal, release_done}
 use Rattle.dr_ids.specs.declared.refusal.Refusal.TheVariants.{JournalFull, Syntax}
 use Rattle.dr_logic.specs.Tables.{at}
 use Rattle.dr_model.specs.declared.event.Event.{Event}
@@ -47,7 +47,7 @@ use Rattle.dr_model.specs.Answers.{answer}
 use Rattle.dr_model.specs.Histories.{Write as HostWrite, Histories, after_event, histories}
 use Rattle.dr_model.specs.Control.{Pending, Volume as VolumeOf, World, new_volume, is_volume}
 use Rattle.dr_model.specs.Groups.{In}
-use Rattle.dr_model.specs.Moves.{Move, Relate, Withdraw, Resync, Reverse, Suspend, MakeSecondary, MakePrimary, DropPrimary, DropSecondary, Follow, TakeOver, Thaw, Lift, RaiseAttempt, RaiseFloor, Leave, is_write}
+use Rattle.dr_model.specs.Moves.{Move, Relate, Withdraw, Resync, Reverse, Suspend, MakeSecondary, MakePrimary, DropPrimary, DropSecondary, Follow, TakeOver, Thaw, Lift, RaiseAttempt, RaiseFloor, Leave, is_write, FlashHold, FlashFree}
 use Rattle.dr_model.specs.Carry.{Make, Next, Pass, Do, Entry, now, check}
 use Rattle.dr_model.specs.Plans.{step_plan, has_room, has_room_for, write_done, apply_done, apply_on, has_landed, acknowledge_if, acknowledge_on, start_plan, start_on, remove_pair_plan, pause_pair_plan, resume_pair_plan, failover_plan, failback_plan, compare_plan, yield_refusal, with_pending}
 use Rattle.dr_model.specs.Forming.{Part as StepPart, after_part, formed, form_said}
@@ -73,6 +73,7 @@ use Rattle.dr_laws_sound.proofs.Parts.{IsTurn, Drained, Asked, Comes, last-plan}
 use Rattle.dr_laws_freezes.specs.Frozen.{lets_go}
 use Rattle.dr_laws_freezes.proofs.LongBusy.{Busy, M, Elsewhere, Rooted, Frozen, frozen-told}
 use Rattle.dr_laws_freezes.proofs.LongBusyEntries.{NextOk, Calm, calm-none, calm-then, calm-append, calm-where, calm-check, calm-refuse, calm-now, calm-one, calm-map, calm-choice, pick, calm-sends, calm-suspends, calm-copied, calm-held, calm-lands, calm-after, calm-starts, calm-order, plan-kept}
+use Rattle.dr_model.specs.Relations.{Choices}
 
 -- no write
 abbrev pub none : ℕ → Type 0
@@ -152,6 +153,10 @@ module _ (v b s : ℕ) (base : List Event) (w : World) (k : Frozen v b s none ba
   -- a plan that is carried out so
   abbrev P : Plan → Type 0
   P p = K (carried_out w p).0
+
+  -- it is held
+  is-held : held (fields_at c v) ≡ true
+  is-held = ap (λ y. ((fields_at c v).coordination || y) || (fields_at c v).flash_hold) k.rooted.busy.busy ∙ ap (λ y. y || (fields_at c v).flash_hold) (or-true (fields_at c v).coordination)
 
   empty : C []
   empty = calm-none v b s none base
@@ -312,6 +317,13 @@ module _ (v b s : ℕ) (base : List Event) (w : World) (k : Frozen v b s none ba
       (checked (is_defined a) _ _ (checked (is_running a) _ _ (checked (is_copying a) (pair_state c a) _ (calm-sends v b s none base c.volumes a (fields_at c a).primary_partner (tracks_to_send most (c.volume a).tracks (fields_at c a).out_of_sync)))))
       (calm-suspends v b s none base a) (λ u j. j)
 
+  -- ---- a new relationship, maybe behind a flash hold
+
+  relate-kept : (freeze : Bool) (x t : ℕ) (choices : Choices) → C (hold_first freeze x ++ now (Relate t x choices) ∷ [])
+  relate-kept true x t choices =
+      calm-then v b s none base (flash_hold_on x) _ (λ u j. chosen u (fields_at u.control x).flash_hold Pass (Do (Make (FlashHold x))) (λ h. tt) tt) (moving (Relate t x choices) [] tt empty)
+  relate-kept false x t choices = moving (Relate t x choices) [] tt empty
+
   -- ---- thaws, and holds that end, of others
 
   thaw-kept : (l m : ℕ) → (nat_eq (subsystem v) l && nat_eq (subsystem (partner_of c v)) m) ≡ false → P (unfreeze_done c l m)
@@ -430,7 +442,7 @@ module _ (v b s : ℕ) (base : List Event) (w : World) (k : Frozen v b s none ba
       by : IsOrNot x v → P p
       by (inl is) =
           plan-kept v b s none base w p (issue-frozen v b s base w x t offset len bytes none none (λ j h. absurd h) k)
-          (calm-held v b s none base c n x t (subst (λ j. held (fields_at c j) ≡ true) (sym is.1) (ap (λ y. (fields_at c v).coordination || y) k.rooted.busy.busy ∙ or-true (fields_at c v).coordination)))
+          (calm-held v b s none base c n x t (subst (λ j. held (fields_at c j) ≡ true) (sym is.1) is-held))
           (calm-after v b s none base c n x t) (λ u j. j)
       by (inr other) =
           with-writes v b s base O none (carried_out w p).0 (λ j h. absurd h)
@@ -450,7 +462,7 @@ module _ (v b s : ℕ) (base : List Event) (w : World) (k : Frozen v b s none ba
       by : IsOrNot p.volume v → P (apply_done c p)
       by (inl same) =
           tells (apply_done c p) k.rooted refl refl (with-told w [] refl) refl
-          (calm-held v b s none base c p.w p.volume p.track (subst (λ j. held (fields_at c j) ≡ true) (sym same.1) (ap (λ y. (fields_at c v).coordination || y) k.rooted.busy.busy ∙ or-true (fields_at c v).coordination)))
+          (calm-held v b s none base c p.w p.volume p.track (subst (λ j. held (fields_at c j) ≡ true) (sym same.1) is-held))
           (calm-after v b s none base c p.w p.volume p.track) (λ u j. j)
       by (inr other) =
           let begun-so : Frozen v b s O base (begun w (apply_done c p)) = with-writes v b s base none O (begun w (apply_done c p))
@@ -494,9 +506,9 @@ module _ (v b s : ℕ) (base : List Event) (w : World) (k : Frozen v b s none ba
     step-kept (StopAfter name writes torn) stay = named (server_named c (name_bytes name)) (arm_on writes torn) (λ q. tells (arm_on writes torn q) (stays _ refl refl) refl refl (with-told w [] refl) refl empty (λ q. empty) (λ u j. j))
     step-kept (Start name) stay = named (server_named c (name_bytes name)) (start_on c) start-kept
     step-kept (Show x t) stay = one (show_refusal c x t) (show_done w.events line x t) (tells (show_done w.events line x t) k.rooted refl refl (with-told w (show_done w.events line x t).told refl) refl empty (λ q. empty) (λ u j. j))
-    step-kept (MakeFlash devs x t nocopy persistent recorded inhibited sequence) stay = entries-kept _ (Done Alone) (relations devs.dev x t _ (checked (is_running x) _ _
+    step-kept (MakeFlash devs x t nocopy persistent recorded inhibited freeze sequence) stay = entries-kept _ (Done Alone) (relations devs.dev x t _ (checked (is_running x) _ _
         (checked (differ x t) _ _ (checked (share_server x t) _ _ (checked (share_size x t) _ _ (checked (is_no_target t) _ _ (checked (is_no_source t) _ _ (checked (is_no_target x) _ _
-        (checked (stands_free t) _ _ (checked (has_few_targets x) _ _ (moving (Relate t x _) [] tt empty)))))))))))
+        (checked (stands_free t) _ _ (checked (has_few_targets x) _ _ (relate-kept freeze x t _)))))))))))
     step-kept (RemoveFlash devs x t sequence) stay = entries-kept _ (Done Alone) (relations devs.dev x t _ (checked (is_running x) _ _ (refusing (counted_refusal t) _ (checked (is_plain_target x t) _ _ (moving (Withdraw t) [] tt empty)))))
     step-kept (ResyncFlash devs x t nocopy persistent recorded inhibited sequence) stay =
         entries-kept _ (Done Alone) (relations devs.dev x t _ (checked (is_running x) _ _ (refusing (counted_refusal t) _ (checked (is_recorded_target x t) _ _ (moving (Resync t sequence) [] tt empty)))))
@@ -527,6 +539,8 @@ module _ (v b s : ℕ) (base : List Event) (w : World) (k : Frozen v b s none ba
         (calm-map v b s none base (freeze_on l m) (λ a u j. chosen u (is_between u.control l m a) _ Pass (λ h. tt) tt) c.volumes) (one-entry (end_freeze l m) (λ u j. tt))))))
     step-kept (Unfreeze devs l m) stay = owned l (λ x. on_owner (owner_of c m) (λ y. unless (thaw_refusal c devs x y) (unfreeze_done c l m)))
         (λ x. owned m (λ y. unless (thaw_refusal c devs x y) (unfreeze_done c l m)) (λ y. one (thaw_refusal c devs x y) (unfreeze_done c l m) (thaw-kept l m stay)))
+    step-kept (UnfreezeFlash devs l) stay = owned l (λ x. unless (release_refusal c devs.dev x) (release_done c l)) (λ x. one (release_refusal c devs.dev x) (release_done c l)
+        (entries-kept _ (Done Alone) (calm-map v b s none base (flash_free_on l) (λ a u j. chosen u (is_held_in u.control l a) (Do (Make (FlashFree a))) Pass (λ h. tt) tt) c.volumes)))
     step-kept (MakeSession devs l i) stay = owned l (λ owner. unless (option_or (name_refusal c devs.dev owner) (option_or (off_refusal c owner) (join_refusal (session_in c.sessions i) l c.sessions))) (table_plan (joined i l)))
         (λ owner. one (option_or (name_refusal c devs.dev owner) (option_or (off_refusal c owner) (join_refusal (session_in c.sessions i) l c.sessions))) (table_plan (joined i l)) (table-kept (joined i l)))
     step-kept (RemoveSession devs l i) stay = owned-by devs.dev l i (left i l) (λ owner x. leave_refusal (Some x) i l)

@@ -44,16 +44,16 @@ pub data Chain : Option ℕ → World → List World → Type 0 where
   Last : (tag : Option ℕ) → (w : World) → Good tag w → Chain tag w []
   Then : (tag next : Option ℕ) → (w u : World) → (us : List World) → Good tag w → Step tag w next u → Chain next u us → Chain tag w (u ∷ us)
 
-good : (tag : Option ℕ) (w : World) (us : List World) → Chain tag w us → Good tag w
+pub good : (tag : Option ℕ) (w : World) (us : List World) → Chain tag w us → Good tag w
 good _ _ _ (Last tag w g) = g
 good _ _ _ (Then tag next w u us g s c) = g
 
 -- those from a later one on
-record From (w : World) (us : List World) : Type 0 where
-  tag : Option ℕ
-  chain : Chain tag w us
+pub record From (w : World) (us : List World) : Type 0 where
+  pub tag : Option ℕ
+  pub chain : Chain tag w us
 
-chain-from : (before : List World) (tag : Option ℕ) (w : World) (us : List World) (first : World) (rest : List World) → Chain tag w us → w ∷ us ≡ before ++ first ∷ rest → From first rest
+pub chain-from : (before : List World) (tag : Option ℕ) (w : World) (us : List World) (first : World) (rest : List World) → Chain tag w us → w ∷ us ≡ before ++ first ∷ rest → From first rest
 chain-from [] tag w us first rest c e =
     let here : w ≡ first = cc in let there : us ≡ rest = cc in
     record { tag = tag; chain = subst (Chain tag first) there (subst (λ w. Chain tag w us) here c) }
@@ -62,24 +62,24 @@ chain-from (b ∷ c ∷ bs) _ _ _ first rest (Last tag w g) e = absurd cc
 chain-from (b ∷ bs) _ _ _ first rest (Then tag next w u us g s c) e = let there : u ∷ us ≡ bs ++ first ∷ rest = cc in chain-from bs next u us first rest c there
 
 -- what was told since another moment
-record Grows (w u : World) : Type 0 where
-  told : List Event
-  events : u.events ≡ w.events ++ told
+pub record Grows (w u : World) : Type 0 where
+  pub told : List Event
+  pub events : u.events ≡ w.events ++ told
 
-step-grows : (tag : Option ℕ) (w : World) (next : Option ℕ) (u : World) → Step tag w next u → Grows w u
+pub step-grows : (tag : Option ℕ) (w : World) (next : Option ℕ) (u : World) → Step tag w next u → Grows w u
 step-grows tag w _ _ (Does m f may fair) = record { told = told m (w.control.volume (target m)); events = refl }
 step-grows tag w _ _ (Stops m f may fair) = record { told = told_in_stop m (w.control.volume (target m)) ++ Stopped (w.control.volume (target m)).server (landed m) ∷ []; events = refl }
 step-grows tag w _ _ (Acks n a) = record { told = Ack n ∷ []; events = refl }
 step-grows tag w _ _ (Others next u ss step) = let g = step-grows tag w next u step in record { told = g.told; events = g.events }
 step-grows tag w _ _ (Passes next u es x less) = record { told = es; events = x.events }
 
-told-on : (w u x : World) (es fs : List Event) → u.events ≡ w.events ++ es → x.events ≡ u.events ++ fs → x.events ≡ w.events ++ (es ++ fs)
+pub told-on : (w u x : World) (es fs : List Event) → u.events ≡ w.events ++ es → x.events ≡ u.events ++ fs → x.events ≡ w.events ++ (es ++ fs)
 told-on w u x es fs is more = more ∙ ap (λ es. es ++ fs) is ∙ append_assoc w.events es fs
 
 grows-on : (w u x : World) (es : List Event) → u.events ≡ w.events ++ es → Grows u x → Grows w x
 grows-on w u x es is g = record { told = es ++ g.told; events = told-on w u x es g.told is g.events }
 
-chain-grows : (later after : List World) (tag : Option ℕ) (w : World) (us : List World) → us ≡ later ++ after → Chain tag w us → Grows w (last_of w later)
+pub chain-grows : (later after : List World) (tag : Option ℕ) (w : World) (us : List World) → us ≡ later ++ after → Chain tag w us → Grows w (last_of w later)
 chain-grows [] after tag w us e c = record { told = []; events = sym (append-nil w.events) }
 chain-grows (x ∷ xs) after _ _ _ e (Last tag w g) = absurd cc
 chain-grows (x ∷ xs) after _ _ _ e (Then tag next w u us g s c) =

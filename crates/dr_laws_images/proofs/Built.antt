@@ -18,7 +18,7 @@ use Rattle.dr_model.specs.declared.state.Part.TheVariants.{Global}
 use Rattle.dr_model.specs.declared.step.Name.{Name}
 use Rattle.dr_model.specs.declared.step.Devs.{Devs}
 use Rattle.dr_model.specs.declared.step.Step.{Step}
-use Rattle.dr_model.specs.declared.step.Step.TheVariants.{Server, Volume, Link, Stop, StopAfter, Start, Issue, Write, Apply, Show, MakeFlash, RemoveFlash, ResyncFlash, ReverseFlash, Copy, MakePath, RemovePath, MakePair, RemovePair, PausePair, ResumePair, Failover, Failback, Drain, Expire, Freeze, Unfreeze, MakeSession, RemoveSession, AddMember, RemoveMember, MakeMirror, PauseMirror, ResumeMirror, RemoveMirror, Abort, Exchange, Recover, CommitFlash, RevertFlash, ListPairs, ListFlashes, ListSession, ShowMirror}
+use Rattle.dr_model.specs.declared.step.Step.TheVariants.{Server, Volume, Link, Stop, StopAfter, Start, Issue, Write, Apply, Show, MakeFlash, RemoveFlash, ResyncFlash, ReverseFlash, Copy, MakePath, RemovePath, MakePair, RemovePair, PausePair, ResumePair, Failover, Failback, Drain, Expire, Freeze, Unfreeze, MakeSession, RemoveSession, AddMember, RemoveMember, MakeMirror, PauseMirror, ResumeMirror, RemoveMirror, Abort, Exchange, Recover, CommitFlash, RevertFlash, ListPairs, ListFlashes, ListSession, ShowMirror, UnfreezeFlash}
 use Rattle.dr_model.specs.Layout.{is_part}
 use Rattle.dr_model.specs.Limits.{most_servers, most_volumes, most_tracks, most_pending}
 use Rattle.dr_model.specs.Refusals.{server_off, unknown}
@@ -35,7 +35,7 @@ use Rattle.dr_model.specs.SessionPlans.{table_plan, on_both, join_plan, leave_pl
 use Rattle.dr_model.specs.RecoveryPlans.{recover_plan, settle_plan, secondary_refusal, untaken_refusal, settle_refusal, lets_commit, lets_revert, settle_member, settle_target, decided_in, group_of, says_group, member_of_target, revertible_target}
 use Rattle.dr_model.specs.WriteEntries.{says_written, waits}
 use Rattle.dr_model.specs.Listings.{listing_refusal}
-use Rattle.dr_model.specs.Plans.{Plan, plan, plan_of, has_room, unless, on_named, on_owner, on_session, server_named, server_refusal, volume_refusal, is_foreign, track_refusal, issue_refusal, show_refusal, apply_on, stop_on, start_on, expire_on, says_acked, landed_on, path_refusal, unpath_refusal, freeze_refusal, thaw_refusal, is_named, is_owner, name_bytes, owner_of}
+use Rattle.dr_model.specs.Plans.{Plan, plan, plan_of, has_room, unless, on_named, on_owner, on_session, server_named, server_refusal, volume_refusal, is_foreign, track_refusal, issue_refusal, show_refusal, apply_on, stop_on, start_on, expire_on, says_acked, landed_on, path_refusal, unpath_refusal, freeze_refusal, thaw_refusal, is_named, is_owner, name_bytes, owner_of, release_refusal, release_done}
 use Rattle.dr_laws_sound.proofs.StopsTold.{is_calm}
 use Rattle.dr_laws_sound.proofs.CalmPlans.{Mild, mild-none, mild-some, mild-choice, mild-or, session-mild, send-mild, secondary-mild, forbidden-mild}
 
@@ -290,6 +290,9 @@ module _ (k : Control) where
   thaw-mild : (devs : Devs) (s u : ℕ) → Mild (thaw_refusal k devs s u)
   thaw-mild devs s u = named-mild devs s u _ (mild-if (not (k.on s)) (server_off s) None refl mild-none)
 
+  release-mild : (dev : Option Name) (s : ℕ) → Mild (release_refusal k dev s)
+  release-mild dev s = mild-if (not (is_named dev s k)) _ _ refl (mild-if (not (k.on s)) (server_off s) None refl mild-none)
+
   freeze-mild : (devs : Devs) (l m s u : ℕ) → Mild (freeze_refusal k devs l m s u)
   freeze-mild devs l m s u = mild-if (not (is_some (path_in k.paths l m))) _ _ refl (thaw-mild devs s u)
 
@@ -318,7 +321,7 @@ module _ (k : Control) where
     of-answers (StopAfter name writes torn) = named-answers (server_named k (name_bytes name)) _ (λ s j. refl)
     of-answers (Start name) = named-answers (server_named k (name_bytes name)) (start_on k) (λ s. if-answers (k.on s) _ _ (λ j. refl) (λ j. acked-calm (landed_on k s)))
     of-answers (Show v t) = unless-answers (show_refusal k v t) _ (show-mild v t) (λ j. refl)
-    of-answers (MakeFlash devs s t nocopy persistent recorded inhibited sequence) = λ j. refl
+    of-answers (MakeFlash devs s t nocopy persistent recorded inhibited freeze sequence) = λ j. refl
     of-answers (RemoveFlash devs s t sequence) = λ j. refl
     of-answers (ResyncFlash devs s t nocopy persistent recorded inhibited sequence) = λ j. refl
     of-answers (ReverseFlash devs s t tgtpprc sequence) = λ j. refl
@@ -335,6 +338,7 @@ module _ (k : Control) where
     of-answers (Expire name) = named-answers (server_named k (name_bytes name)) (expire_on k) (λ s. if-answers (k.on s) _ _ (λ j. refl) (λ j. refl))
     of-answers (Freeze devs l m) = owners-answers l m (freeze_refusal k devs l m) _ (freeze-mild devs l m) (λ j. refl)
     of-answers (Unfreeze devs l m) = owners-answers l m (thaw_refusal k devs) _ (thaw-mild devs) (λ j. refl)
+    of-answers (UnfreezeFlash devs l) = owner-answers (owner_of k l) _ (λ s. unless-answers (release_refusal k devs.dev s) (release_done k l) (release-mild devs.dev s) (λ j. refl))
     of-answers (MakeSession devs l s) = join-answers devs.dev l s
     of-answers (RemoveSession devs l s) = leave-answers devs.dev l s
     of-answers (AddMember devs l a s) = add-answers devs.dev l a s

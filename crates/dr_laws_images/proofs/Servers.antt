@@ -20,7 +20,7 @@ use Rattle.dr_model.specs.Forming.{Part}
 use Rattle.dr_model.specs.Runs.{Task, course, begun, finish, carried_out, after_plan, after_task, after_tasks, run}
 use Rattle.dr_facts.proofs.Lists.{any-some, found, not-found, is-met}
 use Rattle.dr_facts.proofs.Tables.{at_part}
-use Rattle.dr_laws_sound.proofs.Cases.{Case, Says, DefinesServer, DefinesVolume, SetsLink, Issues, Writes, Applies, Lists, Shows, Stops, Arms, Starts, MakesFlash, RemovesFlash, ResyncsFlash, ReversesFlash, Copies, MakesPath, RemovesPath, MakesPair, RemovesPair, PausesPair, ResumesPair, FailsOver, FailsBack, Compares, Drains, Expires, Freezes, Unfreezes, MakesSession, RemovesSession, MakesMirror, PausesMirror, RemovesMirror, Aborts, AddsMember, RemovesMember, Exchanges, Recovers, Settles, one-passed}
+use Rattle.dr_laws_sound.proofs.Cases.{Case, Says, DefinesServer, DefinesVolume, SetsLink, Issues, Writes, Applies, Lists, Shows, Stops, Arms, Starts, MakesFlash, RemovesFlash, ResyncsFlash, ReversesFlash, Copies, MakesPath, RemovesPath, MakesPair, RemovesPair, PausesPair, ResumesPair, FailsOver, FailsBack, Compares, Drains, Expires, Freezes, Unfreezes, MakesSession, RemovesSession, MakesMirror, PausesMirror, RemovesMirror, Aborts, AddsMember, RemovesMember, Exchanges, Recovers, Settles, one-passed, Releases}
 use Rattle.dr_laws_sound.proofs.Parts.{Ending, OnePlan, Imaged, course-case, last-plan}
 use Rattle.dr_laws_sound.proofs.Turns.{act-cases, Counts, after_act}
 use Rattle.dr_laws_images.specs.OneServer.{OneServer}
@@ -151,7 +151,7 @@ module _ (k : Control) (events : List Event) (line : ℕ) where
   case-one _ (Stops s on) = record { first = λ one. one; last = λ j one. one }
   case-one _ (Arms writes torn s) = record { first = λ one. one; last = λ j one. one }
   case-one _ (Starts s off) = record { first = λ one. one; last = λ j one. one }
-  case-one _ (MakesFlash dev s t choices) = record { first = λ one. one; last = λ j one. one }
+  case-one _ (MakesFlash dev s t freeze choices) = record { first = λ one. one; last = λ j one. one }
   case-one _ (RemovesFlash dev s t) = record { first = λ one. one; last = λ j one. one }
   case-one _ (ResyncsFlash dev s t sequence) = record { first = λ one. one; last = λ j one. one }
   case-one _ (ReversesFlash dev s t) = record { first = λ one. one; last = λ j one. one }
@@ -169,6 +169,7 @@ module _ (k : Control) (events : List Event) (line : ℕ) where
   case-one _ (Expires s on) = record { first = λ one. one; last = λ j one. one }
   case-one _ (Freezes l m) = record { first = λ one. one; last = λ j one. one }
   case-one _ (Unfreezes l m) = record { first = λ one. one; last = λ j one. one }
+  case-one _ (Releases l) = record { first = λ one. one; last = λ j one. one }
   case-one _ (MakesSession l s free) = record { first = λ one. one; last = λ j one. one }
   case-one _ (RemovesSession l s x found free) = record { first = λ one. one; last = λ j one. one }
   case-one _ (MakesMirror owner s x found free l owned) = record { first = λ one. one; last = λ j one. one }

@@ -11,7 +11,7 @@ use Rattle.dr_model.specs.Layout.{Tracks}
 use Rattle.dr_model.specs.Relations.{is_bare, in_order, rest, turned, given_up}
 use Rattle.dr_model.specs.Pairs.{is_suspended}
 use Rattle.dr_model.specs.Control.{Fuse, Volume, World, nothing}
-use Rattle.dr_model.specs.Moves.{Move, Land, Overwrite, Withdraw, Reverse, Release, Suspend, LandBoth, Hold, target, told, told_in_stop, told_blank, told_restored, landed}
+use Rattle.dr_model.specs.Moves.{Move, Land, Overwrite, Withdraw, Reverse, Release, Suspend, LandBoth, Hold, target, told, told_in_stop, told_blank, told_restored, landed, Lift, told_freed}
 use Rattle.dr_model.specs.Carry.{Act, Make, OpenAttempt, Redo, Acknowledge, Drop, EndFreeze, EndThaw, EndRecovery}
 use Rattle.dr_model.specs.Groups.{In}
 use Rattle.dr_model.specs.Laws.{Below, Sound}
@@ -120,6 +120,10 @@ suspended-none : (none : Bool) (v : ℕ) → list_any is_issue (cond none [] (Su
 suspended-none true v = refl
 suspended-none false v = refl
 
+freed-none : (v : ℕ) (had : Bool) → list_any is_issue (told_freed v had) ≡ false
+freed-none v true = refl
+freed-none v false = refl
+
 held-none : (first : Bool) (v s n : ℕ) → list_any is_issue (cond first (Begin s n ∷ Cut s n v ∷ []) (Cut s n v ∷ [])) ≡ false
 held-none true v s n = refl
 held-none false v s n = refl
@@ -130,6 +134,7 @@ told-none (Reverse v None) u = restored-none v u.fields.source u.tracks (turned 
 told-none (Reverse v (Some p)) u = restored-none v u.fields.source u.tracks (turned u.fields).own
 told-none (Release v t) u = restored-none v u.fields.source u.tracks (given_up u.fields t).own
 told-none (Suspend v busy) u = suspended-none (is_suspended u.fields.primary_state) v
+told-none (Lift v) u = freed-none v u.fields.flash_hold
 told-none (Hold v s n first) u = held-none first v s n
 told-none m u = refl
 

@@ -9,7 +9,7 @@ use Rattle.dr_model.specs.Control.{Control, Fuse, Volume, World}
 use Rattle.dr_model.specs.Layout.{Tracks}
 use Rattle.dr_model.specs.Relations.{is_bare, in_order, rest, turned, given_up}
 use Rattle.dr_model.specs.Pairs.{is_suspended}
-use Rattle.dr_model.specs.Moves.{Move, Land, Overwrite, Keep, Note, Relate, Withdraw, Fetch, Resync, Reverse, Restore, Release, Store, Strike, Suspend, MakeSecondary, MakePrimary, DropPrimary, DropSecondary, Follow, Resume, TakeOver, FallBack, Yield, Unsync, Mirror, LandBoth, Thaw, Lift, Restart, Hold, Free, Seal, Finish, RaiseAttempt, RaiseFloor, Leave, Flash, Commit, Revert, told_blank, told_restored, told, told_in_stop, landed, target}
+use Rattle.dr_model.specs.Moves.{Move, Land, Overwrite, Keep, Note, Relate, Withdraw, Fetch, Resync, Reverse, Restore, Release, Store, Strike, Suspend, MakeSecondary, MakePrimary, DropPrimary, DropSecondary, Follow, Resume, TakeOver, FallBack, Yield, Unsync, Mirror, LandBoth, Thaw, Lift, Restart, Hold, Free, Seal, Finish, RaiseAttempt, RaiseFloor, Leave, Flash, Commit, Revert, told_blank, told_restored, told, told_in_stop, landed, target, FlashHold, FlashFree, told_freed}
 use Rattle.dr_model.specs.Carry.{Act, Make, OpenAttempt, Redo, Acknowledge, Drop, EndFreeze, EndThaw, EndRecovery, act, Turn, Next, Pass, Do, End, Entry, Outcome, carry, continue, go, check}
 use Rattle.dr_model.specs.Plans.{Plan}
 use Rattle.dr_model.specs.Carried.{finish}
@@ -90,6 +90,10 @@ module _ (Q : ℕ → Type 0) where
   suspended-spared true v = tt
   suspended-spared false v = (tt, tt)
 
+  freed-spared : (v : ℕ) (had : Bool) → AllSpared (told_freed v had)
+  freed-spared v true = (tt, tt)
+  freed-spared v false = tt
+
   held-spared : (first : Bool) (v s n : ℕ) → AllSpared (cond first (Begin s n ∷ Cut s n v ∷ []) (Cut s n v ∷ []))
   held-spared true v s n = (tt, (tt, tt))
   held-spared false v s n = (tt, tt)
@@ -123,7 +127,9 @@ module _ (Q : ℕ → Type 0) where
   told-spared (Mirror v t from n) u q = (q, tt)
   told-spared (LandBoth n v t) u q = (tt, tt)
   told-spared (Thaw v) u q = tt
-  told-spared (Lift v) u q = tt
+  told-spared (FlashHold v) u q = (tt, tt)
+  told-spared (FlashFree v) u q = (tt, tt)
+  told-spared (Lift v) u q = freed-spared v u.fields.flash_hold
   told-spared (Restart v) u q = tt
   told-spared (Hold v s n first) u q = held-spared first v s n
   told-spared (Free v) u q = tt

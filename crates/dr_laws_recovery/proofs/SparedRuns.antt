@@ -16,7 +16,7 @@ use Rattle.dr_model.specs.Groups.{In}
 use Rattle.dr_model.specs.Pairs.{is_primary_of}
 use Rattle.dr_model.specs.Phases as phases
 use Rattle.dr_model.specs.Sessions.{Session, Mirror as SessionMirror, session_in, mirror_in, members_in, changed, begun as attempt_opened, with_mirror, mirror_lost_since, lost_since}
-use Rattle.dr_model.specs.Moves.{Move, Land, Overwrite, Keep, Note, Relate, Withdraw, Fetch, Resync, Reverse, Restore, Release, Store, Strike, Suspend, MakeSecondary, MakePrimary, DropPrimary, DropSecondary, Follow, Resume, TakeOver, FallBack, Yield, Unsync, Mirror, LandBoth, Thaw, Lift, Restart, Hold, Free, Seal, Finish, RaiseAttempt, RaiseFloor, Leave, Flash, Commit, Revert, target, fields_left}
+use Rattle.dr_model.specs.Moves.{Move, Land, Overwrite, Keep, Note, Relate, Withdraw, Fetch, Resync, Reverse, Restore, Release, Store, Strike, Suspend, MakeSecondary, MakePrimary, DropPrimary, DropSecondary, Follow, Resume, TakeOver, FallBack, Yield, Unsync, Mirror, LandBoth, Thaw, Lift, Restart, Hold, Free, Seal, Finish, RaiseAttempt, RaiseFloor, Leave, Flash, Commit, Revert, target, fields_left, FlashHold, FlashFree}
 use Rattle.dr_model.specs.Carry.{Act, Make, OpenAttempt, Redo, Acknowledge, Drop, EndFreeze, EndThaw, EndRecovery, act, carry}
 use Rattle.dr_model.specs.Carried.{begun, carried_out}
 use Rattle.dr_model.specs.Entries.{fields_at, is_running, pair_state}
@@ -78,6 +78,8 @@ steady-left (Unsync v t) u is = refl
 steady-left (Mirror v t from w) u is = refl
 steady-left (LandBoth n v t) u is = refl
 steady-left (Thaw v) u is = refl
+steady-left (FlashHold v) u is = refl
+steady-left (FlashFree v) u is = refl
 steady-left (Lift v) u is = refl
 steady-left (Restart v) u is = refl
 steady-left (Hold v s n first) u is = refl

@@ -20,18 +20,18 @@ use Rattle.dr_model.specs.declared.step.Name.{Name}
 use Rattle.dr_model.specs.declared.step.Devs.{Devs}
 use Rattle.dr_model.specs.declared.step.PairChoices.{PairChoices}
 use Rattle.dr_model.specs.declared.step.Step.{Step}
-use Rattle.dr_model.specs.declared.step.Step.TheVariants.{Server, Volume, Link, Stop, StopAfter, Start, Issue, Write, Apply, Show, MakeFlash, RemoveFlash, ResyncFlash, ReverseFlash, Copy, MakePath, RemovePath, MakePair, RemovePair, PausePair, ResumePair, Failover, Failback, Compare, Drain, Expire, Freeze, Unfreeze, MakeSession, RemoveSession, AddMember, RemoveMember, MakeMirror, PauseMirror, ResumeMirror, RemoveMirror, Abort, Exchange, Recover, CommitFlash, RevertFlash, Image, ListPairs, ListFlashes, ListSession, ShowMirror}
+use Rattle.dr_model.specs.declared.step.Step.TheVariants.{Server, Volume, Link, Stop, StopAfter, Start, Issue, Write, Apply, Show, MakeFlash, RemoveFlash, ResyncFlash, ReverseFlash, Copy, MakePath, RemovePath, MakePair, RemovePair, PausePair, ResumePair, Failover, Failback, Compare, Drain, Expire, Freeze, Unfreeze, MakeSession, RemoveSession, AddMember, RemoveMember, MakeMirror, PauseMirror, ResumeMirror, RemoveMirror, Abort, Exchange, Recover, CommitFlash, RevertFlash, Image, ListPairs, ListFlashes, ListSession, ShowMirror, UnfreezeFlash}
 use Rattle.dr_model.specs.Layout.{Fields, is_part, kind_of}
 use Rattle.dr_model.specs.Control.{Control, Pending, World}
 use Rattle.dr_model.specs.Contents.{image_at}
 use Rattle.dr_model.specs.Groups.{In}
 use Rattle.dr_model.specs.Pairs.{is_primary_of, is_metro, held, goes_over, collides, must_restart, first_state}
-use Rattle.dr_model.specs.Moves.{Move, Relate, Withdraw, Fetch, Resync, Reverse, Restore, Release, Suspend, MakeSecondary, MakePrimary, DropPrimary, DropSecondary, Follow, Unsync, Mirror, LandBoth, Thaw, Lift, Restart, RaiseAttempt, RaiseFloor, Leave, TakeOver, Commit, Revert, Land, Overwrite, is_write}
+use Rattle.dr_model.specs.Moves.{Move, Relate, Withdraw, Fetch, Resync, Reverse, Restore, Release, Suspend, MakeSecondary, MakePrimary, DropPrimary, DropSecondary, Follow, Unsync, Mirror, LandBoth, Thaw, Lift, Restart, RaiseAttempt, RaiseFloor, Leave, TakeOver, Commit, Revert, Land, Overwrite, is_write, FlashHold, FlashFree}
 use Rattle.dr_model.specs.Carry.{Make, Redo, Next, Pass, Do, Entry, carry, now}
 use Rattle.dr_model.specs.Carried.{begun, carried_out}
 use Rattle.dr_model.specs.Entries.{fields_at, is_at, copy_first, is_running, lowest_missing, for_lowest, lowest_held, give_back, fetch_next, keep_on, land_on, land_alone, is_no_secondary, is_open, is_settled, share_server, share_size, is_no_target, relation_state, pair_state}
 use Rattle.dr_model.specs.PairEntries.{reach_refusal, two_servers, stands_free, may_follow, differs_at, first_differing, leads_to, belongs_to, are_linked, let_go, remove_both, may_pause, tell_paused, may_resume, follow_on, resume_on, send_refusal, suspend_where, store_on, strike_on, is_copying, tracks_to_send, suspend_running, suspend_after, may_take_over, leads_as, fall_back_on, yield_on}
-use Rattle.dr_model.specs.WriteEntries.{partner_of, is_grouped, land_mirrored, land_parted, is_parted, land_over, sends_first, where_sent, send_first, land_collided, land_entries, landing, part_running, part_after, after_write, is_between, freeze_on, end_freeze, thaw_on, end_thaw, belongs, lift_on, redo_on, restart_on, start_entries}
+use Rattle.dr_model.specs.WriteEntries.{partner_of, is_grouped, land_mirrored, land_parted, is_parted, land_over, sends_first, where_sent, send_first, land_collided, land_entries, landing, part_running, part_after, after_write, is_between, freeze_on, end_freeze, thaw_on, end_thaw, belongs, lift_on, redo_on, restart_on, start_entries, flash_hold_on, flash_free_on, is_held_in}
 use Rattle.dr_model.specs.Phases as phases
 use Rattle.dr_model.specs.Sessions.{Session, Mirror as SessionMirror, session_in, members_in, has_place_of, in_session, not_in_session, busy, joined, left, changed, mirrored_by, paused, unmirrored, with_master}
 use Rattle.dr_model.specs.SessionEntries.{members_on, is_on, raise_attempt_on, raise_floor_on, is_flashed, first_number}
@@ -41,7 +41,7 @@ use Rattle.dr_ids.specs.declared.refusal.Refusal.TheVariants.{OutOfOrder}
 use Rattle.dr_ids.specs.declared.refusal.PhaseName.TheVariants as phase
 use Rattle.dr_ids.specs.declared.refusal.Kind.TheVariants.{Server as OfServer, Volume as OfVolume, Lss as OfLss, Session as OfSession}
 use Rattle.dr_model.specs.Refusals.{unknown, duplicate, server_off}
-use Rattle.dr_model.specs.Plans.{Plan, same, none_follow, always, entries_plan, only_says, refuses, unless, on_named, on_server, name_bytes, server_named, on_owner, owner_of, on_session, server_refusal, server_done, volume_refusal, volume_done, link_between, link_done, issue_refusal, issue_done, write_done, apply_on, show_refusal, show_done, stop_on, stop_done, arm_on, start_on, start_plan, acknowledge_on, acknowledge_if, landed_on, expire_on, expire_plan, copy_plan, found_pair, found_volumes, is_defined, is_owner, differ, is_no_source, has_few_targets, is_plain_target, is_recorded_target, is_lone_restore, may_return, may_copy, may_give_back, at_most, left_to_copy, counted_refusal, restore_refusal, left_by, path_refusal, make_path_done, unpath_refusal, remove_path_done, freeze_refusal, freeze_done, thaw_refusal, unfreeze_done, make_pair_plan, remove_pair_plan, pause_pair_plan, resume_pair_plan, failover_plan, yield_refusal, failback_plan, member_refusal, drain_plan, plan_of, step_plan, has_room_for, has_room, compare_plan}
+use Rattle.dr_model.specs.Plans.{Plan, same, none_follow, always, entries_plan, only_says, refuses, unless, on_named, on_server, name_bytes, server_named, on_owner, owner_of, on_session, server_refusal, server_done, volume_refusal, volume_done, link_between, link_done, issue_refusal, issue_done, write_done, apply_on, show_refusal, show_done, stop_on, stop_done, arm_on, start_on, start_plan, acknowledge_on, acknowledge_if, landed_on, expire_on, expire_plan, copy_plan, found_pair, found_volumes, is_defined, is_owner, differ, is_no_source, has_few_targets, is_plain_target, is_recorded_target, is_lone_restore, may_return, may_copy, may_give_back, at_most, left_to_copy, counted_refusal, restore_refusal, left_by, path_refusal, make_path_done, unpath_refusal, remove_path_done, freeze_refusal, freeze_done, thaw_refusal, unfreeze_done, make_pair_plan, remove_pair_plan, pause_pair_plan, resume_pair_plan, failover_plan, yield_refusal, failback_plan, member_refusal, drain_plan, plan_of, step_plan, has_room_for, has_room, compare_plan, hold_first, release_refusal, release_done}
 use Rattle.dr_model.specs.TakenWrites.{takes_from, sends_write, sends_pending, is_target_in}
 use Rattle.dr_facts.proofs.Lists.{found, from-filter, any-some}
 use Rattle.dr_facts.proofs.Parts.{global-part, metro-part}
@@ -56,6 +56,7 @@ use Rattle.dr_laws_sound.proofs.Cases.{is-new, added as added_plan, expelled}
 use Rattle.dr_laws_recovery.proofs.Went.{fine-none, fine-then, fine-append, fine-choice}
 use Rattle.dr_laws_recovery.proofs.Spared.{OkBy, Spares, AllSpared, Told, told-more, told-none, Takes, act-told, carry-kept, finish-kept, check-kept}
 use Rattle.dr_laws_recovery.proofs.SparedEntries.{Fair, FairNext, fair-check, fair-refuse, fair-drop, fair-now, fair-one, fair-map, fair-members, fair-choice, fair-times, fair-found, Easy, keep-fair, copy-fair, suspend-fair, sends-fair, order-fair}
+use Rattle.dr_model.specs.Relations.{Choices}
 
 -- ---- entries, by the volumes that their moves take from
 
@@ -85,6 +86,11 @@ module _ (Q : ℕ → Type 0) where
 
   last-move : (m : Move) → M m → Fairly (now m ∷ [])
   last-move m ok = fair-now M m [] ok (fine-none (OkBy M))
+
+  -- a new relationship, maybe behind a flash hold of its source
+  relate-fair : (freeze : Bool) (s t : ℕ) (choices : Choices) → Q t → Fairly (hold_first freeze s ++ now (Relate t s choices) ∷ [])
+  relate-fair true s t choices q = fine-then (OkBy M) (flash_hold_on s) _ (λ k. choice k (fields_at k s).flash_hold Pass (Do (Make (FlashHold s))) tt tt) (last-move (Relate t s choices) q)
+  relate-fair false s t choices q = last-move (Relate t s choices) q
 
   -- what follows a stop
   suspends-fair : (a s : ℕ) → Fairly (suspend_after a s)
@@ -474,11 +480,11 @@ module _ (w : World) (line : ℕ) where
   of-step (Start name) = where-named w _ (server_named j (name_bytes name)) (start_on j) (λ s.
       if w _ (j.on s) (only_says (Done Alone)) (start_plan j s) (λ on. says-told w _ _) (λ off. moves-told w (MayTake j (Start name)) (start_plan j s) (tt, tt) (start-fair _ s j.volumes) (λ q. fine-none _)))
   of-step (Show v t) = where-none w _ (show_refusal j v t) (show_done es line v t) (λ there. tables-told w _ _ _ _ (tt, tt))
-  of-step (MakeFlash devs s t nocopy persistent recorded inhibited sequence) =
-      let Q : ℕ → Type 0 = MayTake j (MakeFlash devs s t nocopy persistent recorded inhibited sequence) in
+  of-step (MakeFlash devs s t nocopy persistent recorded inhibited freeze sequence) =
+      let Q : ℕ → Type 0 = MayTake j (MakeFlash devs s t nocopy persistent recorded inhibited freeze sequence) in
       entries-told w Q _ _ (found-fair Q devs.dev s t _ (fair-check (Takes Q) (is_running s) _ _ (fair-check (Takes Q) (differ s t) _ _ (fair-check (Takes Q) (share_server s t) _ _ (fair-check (Takes Q) (share_size s t) _ _
       (fair-check (Takes Q) (is_no_target t) (relation_state j t) _ (fair-check (Takes Q) (is_no_source t) (relation_state j t) _ (fair-check (Takes Q) (is_no_target s) (relation_state j s) _
-      (fair-check (Takes Q) (stands_free t) (pair_state j t) _ (fair-check (Takes Q) (has_few_targets s) _ _ (last-move Q (Relate t s _) (((eq-eqb t t refl))))))))))))))
+      (fair-check (Takes Q) (stands_free t) (pair_state j t) _ (fair-check (Takes Q) (has_few_targets s) _ _ (relate-fair Q freeze s t _ (eq-eqb t t refl))))))))))))
   of-step (RemoveFlash devs s t sequence) =
       let Q : ℕ → Type 0 = MayTake j (RemoveFlash devs s t sequence) in
       entries-told w Q _ _ (found-fair Q devs.dev s t _ (fair-check (Takes Q) (is_running s) _ _ (fair-refuse (Takes Q) (counted_refusal t) _ (fair-check (Takes Q) (is_plain_target s t) (relation_state j t) _ (last-move Q (Withdraw t) (((eq-eqb t t refl))))))))
@@ -513,6 +519,8 @@ module _ (w : World) (line : ℕ) where
       where-owned w _ (owner_of j l) (λ s. on_owner (owner_of j m) (λ u. unless (thaw_refusal j devs s u) (unfreeze_done j l m)))
       (λ s. where-owned w _ (owner_of j m) (λ u. unless (thaw_refusal j devs s u) (unfreeze_done j l m)) (λ u. where-none w _ (thaw_refusal j devs s u) (unfreeze_done j l m) (λ free.
       entries-told w (MayTake j (Unfreeze devs l m)) _ _ (fine-append _ (map (thaw_on l m) j.volumes) _ (fair-map _ (thaw_on l m) (λ v k. choice _ k (is_between k l m v && (fields_at k v).long_busy) (Do (Make (Thaw v))) Pass tt tt) j.volumes) (fair-one _ (end_thaw l m) (λ k. tt))))))
+  of-step (UnfreezeFlash devs l) = where-owned w _ (owner_of j l) (λ s. unless (release_refusal j devs.dev s) (release_done j l)) (λ s. where-none w _ (release_refusal j devs.dev s) (release_done j l) (λ free.
+      entries-told w (MayTake j (UnfreezeFlash devs l)) _ _ (fair-map _ (flash_free_on l) (λ v k. choice _ k (is_held_in k l v) (Do (Make (FlashFree v))) Pass tt tt) j.volumes)))
   of-step (MakeSession devs l s) = where-owned w _ (owner_of j l) _ (λ owner. where-none w _ _ (table_plan (joined s l)) (λ free. table-told w _ (joined s l)))
   of-step (RemoveSession devs l s) = where-owned w _ (owner_of j l) _ (λ owner. where-session w _ (session_in j.sessions s) _ (λ x is. where-none w _ _ (table_plan (left s l)) (λ free. table-told w _ (left s l))))
   of-step (AddMember devs l a s) = add-fits (AddMember devs l a s) devs.dev l a s

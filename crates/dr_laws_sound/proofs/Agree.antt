@@ -8,7 +8,7 @@ use Rattle.dr_model.specs.Layout.{Blocks, Fields}
 use Rattle.dr_model.specs.Control.{World, Fuse, is_volume}
 use Rattle.dr_model.specs.Views.{view}
 use Rattle.dr_model.specs.Table.{table, due}
-use Rattle.dr_model.specs.Laws.{Sound, PairLaw, Partnered, its_primary, its_secondary}
+use Rattle.dr_model.specs.Laws.{Sound, SoundRows, PairLaw, Partnered, its_primary, its_secondary}
 use Rattle.dr_model.specs.Allowed.{Runs}
 use Rattle.dr_model.specs.Fits.{Fits, SaysVolume, device_of, on_device, on_devices}
 use Rattle.dr_laws_sound.proofs.Views.{shown-due}
@@ -32,17 +32,17 @@ contents-image w s v t lt on plain =
     sym (ap (λ b. cond (b && not (contains (w.control.volume v).fields.own t)) (w.contents (w.control.volume v).fields.source t) (w.contents v t)) plain) ∙ view-image w s v t lt on
 
 -- what is read is the same where the tracks that are read are
-view-same : (w : World) (s : Sound w) (contents : ℕ → ℕ → List ℕ)
+pub view-same : (w : World) (rows : SoundRows (table w)) (contents : ℕ → ℕ → List ℕ)
     → ((v t : ℕ) → is_volume w.control v ≡ true → t < (w.control.volume v).tracks → contents v t ≡ w.contents v t)
     → (v t : ℕ) → is_volume w.control v ≡ true → t < (w.control.volume v).tracks → view (λ u. (w.control.volume u).fields) contents v t ≡ view (λ u. (w.control.volume u).fields) w.contents v t
-view-same w s contents same v t there lt = by f.related refl
+view-same w rows contents same v t there lt = by f.related refl
   where
     f : Fields
     f = (w.control.volume v).fields
 
     from_source : f.related ≡ true → contents f.source t ≡ w.contents f.source t
     from_source is =
-        let flash = s.rows.structure.flash v f.source (choose_some _ _ is) in
+        let flash = rows.structure.flash v f.source (choose_some _ _ is) in
         same f.source t flash.defined (subst (λ n. t < n) flash.same_tracks lt)
 
     by : (r : Bool) → f.related ≡ r → cond (f.related && not (contains f.own t)) (contents f.source t) (contents v t) ≡ cond (f.related && not (contains f.own t)) (w.contents f.source t) (w.contents v t)
@@ -76,6 +76,6 @@ fits-sound w on fuse device s servers fuses volumes tracks = record {
   servers = servers;
   fuses = fuses;
   volumes = volumes;
-  tracks = λ v t there inside. view-same w s (on_device w.control device) tracks v t there inside ∙ view-due w s v t inside;
+  tracks = λ v t there inside. view-same w s.rows (on_device w.control device) tracks v t there inside ∙ view-due w s v t inside;
   pairs = pairs-on w s device tracks;
 }

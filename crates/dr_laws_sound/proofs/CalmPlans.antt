@@ -23,14 +23,14 @@ use Rattle.dr_ids.specs.declared.refusal.Decision.{Decision}
 use Rattle.dr_model.specs.Plans.{counted_refusal, secondary_refusal, leaves_all, forbidden_unless, decided_in, restore_refusal, member_from, restores_refusal, yield_refusal, compare_entries, left_by, member_refusal, Plan, found_volumes, named_pair, is_defined, is_owner, differ, is_no_source, has_few_targets, is_plain_target, is_recorded_target, is_lone_restore, may_return, may_give_back, may_copy, at_most, left_to_copy}
 use Rattle.dr_model.specs.RecoveryPlans.{decided_in, settle_on}
 use Rattle.dr_laws_sound.proofs.Parts.{Ending, OnePlan, Imaged}
-use Rattle.dr_laws_sound.proofs.Cases.{Case, Says, DefinesServer, DefinesVolume, SetsLink, Issues, Writes, Applies, Lists, Shows, Stops, Arms, Starts, MakesFlash, RemovesFlash, ResyncsFlash, ReversesFlash, Copies, MakesPath, RemovesPath, MakesPair, RemovesPair, PausesPair, ResumesPair, FailsOver, FailsBack, Compares, Drains, Expires, Freezes, Unfreezes, MakesSession, RemovesSession, MakesMirror, PausesMirror, RemovesMirror, Aborts, AddsMember, RemovesMember, Exchanges, Recovers, Settles}
+use Rattle.dr_laws_sound.proofs.Cases.{Case, Says, DefinesServer, DefinesVolume, SetsLink, Issues, Writes, Applies, Lists, Shows, Stops, Arms, Starts, MakesFlash, RemovesFlash, ResyncsFlash, ReversesFlash, Copies, MakesPath, RemovesPath, MakesPair, RemovesPair, PausesPair, ResumesPair, FailsOver, FailsBack, Compares, Drains, Expires, Freezes, Unfreezes, MakesSession, RemovesSession, MakesMirror, PausesMirror, RemovesMirror, Aborts, AddsMember, RemovesMember, Exchanges, Recovers, Settles, Releases}
 use Rattle.std.specs.List.{find}
 use Rattle.dr_ids.specs.declared.names.Member.{Member}
 use Rattle.dr_model.specs.Sessions.{Session, session_in, members_in, in_session, is_member}
 use Rattle.dr_model.specs.Phases.{Work, Hold, Release as ReleaseWork, Seal, Flash, Commit, Revert, Finish, Report}
 use Rattle.dr_model.specs.SessionEntries.{may_hold, hold_refusal, stale_refusal, hold_on, void_refusal, free_on, is_drained, seal_refusal, seal_on, is_flashed, may_flash, flash_refusal, flash_on, is_committed, commit_refusal, commit_on, revert_on, is_past, finish_on, member_entries, members_on, order_entries}
 use Rattle.dr_model.specs.SessionPlans.{member_with}
-use Rattle.dr_laws_sound.proofs.Endless.{Goes, Endless, pass-goes, do-goes, choice-goes, keep-goes, settle-goes, map-endless, times-endless, start-endless, freeze-endless, thaw-endless, expire-endless, lands-endless, copy-endless, recover-endless, add-endless}
+use Rattle.dr_laws_sound.proofs.Endless.{Goes, Endless, pass-goes, do-goes, choice-goes, keep-goes, settle-goes, map-endless, times-endless, start-endless, freeze-endless, thaw-endless, expire-endless, lands-endless, copy-endless, recover-endless, add-endless, relate-endless, release-endless}
 use Rattle.dr_laws_sound.proofs.StopsTold.{is_calm, Calm, Unstopped, none-calm, then-calm}
 
 -- the entries of every step are such
@@ -252,10 +252,10 @@ case-calm k events line _ (Lists told ls few) = none-calm
 case-calm k events line _ (Shows v t there) = none-calm
 case-calm k events line _ (Stops s on) = none-calm
 case-calm k events line _ (Arms writes torn s) = none-calm
-case-calm k events line _ (MakesFlash dev s t choices) = named-calm k dev s t _
+case-calm k events line _ (MakesFlash dev s t freeze choices) = named-calm k dev s t _
     (checked-calm (differ s t) _ _ refl (checked-calm (share_server s t) _ _ refl (checked-calm (share_size s t) _ _ refl
     (checked-calm (is_no_target t) (relation_state k t) _ refl (checked-calm (is_no_source t) (relation_state k t) _ refl (checked-calm (is_no_target s) (relation_state k s) _ refl
-    (checked-calm (stands_free t) (pair_state k t) _ refl (checked-calm (has_few_targets s) _ _ refl (now-calm (Relate t s choices))))))))))
+    (checked-calm (stands_free t) (pair_state k t) _ refl (checked-calm (has_few_targets s) _ _ refl (endless-calm _ (relate-endless freeze s (Relate t s choices)))))))))))
 case-calm k events line _ (RemovesFlash dev s t) = named-calm k dev s t _ (refused-calm (counted_refusal t) _ (counted-mild t) (checked-calm (is_plain_target s t) (relation_state k t) _ refl (now-calm (Withdraw t))))
 case-calm k events line _ (ResyncsFlash dev s t sequence) = named-calm k dev s t _ (refused-calm (counted_refusal t) _ (counted-mild t) (checked-calm (is_recorded_target s t) (relation_state k t) _ refl (now-calm (Resync t sequence))))
 case-calm k events line _ (ReversesFlash dev s t) =
@@ -278,6 +278,7 @@ case-calm k events line _ (Drains a most) =
 case-calm k events line _ (Expires s on) = endless-calm _ (expire-endless s k.volumes)
 case-calm k events line _ (Freezes l m) = endless-calm _ (freeze-endless l m k.volumes)
 case-calm k events line _ (Unfreezes l m) = endless-calm _ (thaw-endless l m k.volumes)
+case-calm k events line _ (Releases l) = endless-calm _ (release-endless l k.volumes)
 case-calm k events line _ (MakesSession l s free) = none-calm
 case-calm k events line _ (RemovesSession l s x found free) = none-calm
 case-calm k events line _ (MakesMirror owner s x found free l owned) = none-calm

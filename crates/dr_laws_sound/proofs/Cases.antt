@@ -22,7 +22,7 @@ use Rattle.dr_model.specs.declared.step.Devs.{Devs}
 use Rattle.dr_model.specs.declared.step.PairChoices.{PairChoices}
 use Rattle.dr_model.specs.declared.step.TornWord.{TornWord}
 use Rattle.dr_model.specs.declared.step.Step.{Step}
-use Rattle.dr_model.specs.declared.step.Step.TheVariants.{Server, Volume, Link, Stop, StopAfter, Start, Issue, Write, Apply, Show, MakeFlash, RemoveFlash, ResyncFlash, ReverseFlash, Copy, MakePath, RemovePath, MakePair, RemovePair, PausePair, ResumePair, Failover, Failback, Drain, Expire, Freeze, Unfreeze, MakeSession, RemoveSession, AddMember, RemoveMember, MakeMirror, PauseMirror, ResumeMirror, RemoveMirror, Abort, Exchange, Recover, CommitFlash, RevertFlash, ListPairs, ListFlashes, ListSession, ShowMirror}
+use Rattle.dr_model.specs.declared.step.Step.TheVariants.{Server, Volume, Link, Stop, StopAfter, Start, Issue, Write, Apply, Show, MakeFlash, RemoveFlash, ResyncFlash, ReverseFlash, Copy, MakePath, RemovePath, MakePair, RemovePair, PausePair, ResumePair, Failover, Failback, Drain, Expire, Freeze, Unfreeze, MakeSession, RemoveSession, AddMember, RemoveMember, MakeMirror, PauseMirror, ResumeMirror, RemoveMirror, Abort, Exchange, Recover, CommitFlash, RevertFlash, ListPairs, ListFlashes, ListSession, ShowMirror, UnfreezeFlash}
 use Rattle.dr_model.specs.Layout.{is_part, kind_of}
 use Rattle.dr_model.specs.Limits.{most_servers, most_volumes, most_tracks, most_pending}
 use Rattle.dr_model.specs.Refusals.{server_off, unknown, duplicate, over}
@@ -41,7 +41,7 @@ use Rattle.dr_facts.proofs.Lists.{found}
 use Rattle.dr_model.specs.Groups.{In, Groups}
 use Rattle.dr_model.specs.Listings.{pair_lines, flash_lines, member_lines, mirror_lines, sessions_of, lists, listing_refusal}
 use Rattle.dr_laws_sound.proofs.Listed.{AllLines, pair-lines, flash-lines, session-lines, mirrors-lines, pair-few, flash-few, session-few, mirrors-few}
-use Rattle.dr_model.specs.Plans.{Plan, entries_plan, plan, step_plan, plan_of, has_room, same, none_follow, always, on_session, is_defined, only_says, refuses, unless, on_named, on_server, name_bytes, server_named, server_refusal, server_done, volume_refusal, volume_done, link_between, link_done, track_refusal, issue_refusal, issue_done, write_done, apply_on, apply_done, show_refusal, show_done, is_foreign, stop_on, stop_done, arm_on, start_on, start_plan, make_flash_plan, remove_flash_plan, resync_flash_plan, reverse_flash_plan, copy_plan, on_owner, owner_of, path_refusal, make_path_done, unpath_refusal, remove_path_done, make_pair_plan, remove_pair_plan, pause_pair_plan, resume_pair_plan, failover_plan, failback_plan, compare_plan, drain_plan, expire_on, expire_plan, freeze_refusal, freeze_done, thaw_refusal, unfreeze_done}
+use Rattle.dr_model.specs.Plans.{Plan, entries_plan, plan, step_plan, plan_of, has_room, same, none_follow, always, on_session, is_defined, only_says, refuses, unless, on_named, on_server, name_bytes, server_named, server_refusal, server_done, volume_refusal, volume_done, link_between, link_done, track_refusal, issue_refusal, issue_done, write_done, apply_on, apply_done, show_refusal, show_done, is_foreign, stop_on, stop_done, arm_on, start_on, start_plan, make_flash_plan, remove_flash_plan, resync_flash_plan, reverse_flash_plan, copy_plan, on_owner, owner_of, path_refusal, make_path_done, unpath_refusal, remove_path_done, make_pair_plan, remove_pair_plan, pause_pair_plan, resume_pair_plan, failover_plan, failback_plan, compare_plan, drain_plan, expire_on, expire_plan, freeze_refusal, freeze_done, thaw_refusal, unfreeze_done, release_refusal, release_done}
 use Rattle.dr_facts.proofs.Refusals.{none-both, met}
 
 -- a member is added, and removed; a master is aborted, and an order is carried out
@@ -109,7 +109,7 @@ pub data Case (k : Control) (events : List Event) (line : ℕ) : Plan → Type 0
   Stops : (s : ℕ) → k.on s ≡ true → Case k events line (stop_done s)
   Arms : (writes : ℕ) → (torn : TornWord) → (s : ℕ) → Case k events line (arm_on writes torn s)
   Starts : (s : ℕ) → k.on s ≡ false → Case k events line (start_plan k s)
-  MakesFlash : (dev : Option Name) → (s t : ℕ) → (choices : Choices) → Case k events line (make_flash_plan k dev s t choices)
+  MakesFlash : (dev : Option Name) → (s t : ℕ) → (freeze : Bool) → (choices : Choices) → Case k events line (make_flash_plan k dev s t freeze choices)
   RemovesFlash : (dev : Option Name) → (s t : ℕ) → Case k events line (remove_flash_plan k dev s t)
   ResyncsFlash : (dev : Option Name) → (s t : ℕ) → (sequence : Option ℕ) → Case k events line (resync_flash_plan k dev s t sequence)
   ReversesFlash : (dev : Option Name) → (s t : ℕ) → Case k events line (reverse_flash_plan k dev s t)
@@ -127,6 +127,7 @@ pub data Case (k : Control) (events : List Event) (line : ℕ) : Plan → Type 0
   Expires : (s : ℕ) → k.on s ≡ true → Case k events line (expire_plan k s)
   Freezes : (l m : ℕ) → Case k events line (freeze_done k l m)
   Unfreezes : (l m : ℕ) → Case k events line (unfreeze_done k l m)
+  Releases : (l : ℕ) → Case k events line (release_done k l)
   MakesSession : (l s : ℕ) → join_refusal (session_in k.sessions s) l k.sessions ≡ None → Case k events line (table_plan (joined s l))
   RemovesSession : (l s : ℕ) → (x : Session) → session_in k.sessions s ≡ Some x → leave_refusal (Some x) s l ≡ None → Case k events line (table_plan (left s l))
   MakesMirror : (owner s : ℕ) → (x : Session) → session_in k.sessions s ≡ Some x → make_refusal x.mirror ≡ None → (l : ℕ) → owner_of k l ≡ Some owner → Case k events line (table_plan (changed s (mirrored_by owner)))
@@ -307,7 +308,7 @@ module _ (k : Control) (events : List Event) (line : ℕ) where
   of-case (StopAfter name writes torn) = where-named (server_named k (name_bytes name)) (arm_on writes torn) (Arms writes torn)
   of-case (Start name) = where-named (server_named k (name_bytes name)) (start_on k) start-case
   of-case (Show v t) = where-none (show_refusal k v t) (show_done events line v t) (Shows v t)
-  of-case (MakeFlash devs s t nocopy persistent recorded inhibited sequence) = MakesFlash devs.dev s t _
+  of-case (MakeFlash devs s t nocopy persistent recorded inhibited freeze sequence) = MakesFlash devs.dev s t freeze _
   of-case (RemoveFlash devs s t sequence) = RemovesFlash devs.dev s t
   of-case (ResyncFlash devs s t nocopy persistent recorded inhibited sequence) = ResyncsFlash devs.dev s t sequence
   of-case (ReverseFlash devs s t tgtpprc sequence) = ReversesFlash devs.dev s t
@@ -332,6 +333,8 @@ module _ (k : Control) (events : List Event) (line : ℕ) where
   of-case (Unfreeze devs l m) =
       where-owned (owner_of k l) (λ s. on_owner (owner_of k m) (λ u. unless (thaw_refusal k devs s u) (unfreeze_done k l m)))
       (λ s. where-owned (owner_of k m) (λ u. unless (thaw_refusal k devs s u) (unfreeze_done k l m)) (λ u. where-none (thaw_refusal k devs s u) (unfreeze_done k l m) (λ free. Unfreezes l m)))
+  of-case (UnfreezeFlash devs l) =
+      where-owned (owner_of k l) (λ s. unless (release_refusal k devs.dev s) (release_done k l)) (λ s. where-none (release_refusal k devs.dev s) (release_done k l) (λ free. Releases l))
   of-case (MakeSession devs l s) = join-case devs.dev l s
   of-case (RemoveSession devs l s) = leave-case devs.dev l s
   of-case (AddMember devs l a s) = add-case devs.dev l a s

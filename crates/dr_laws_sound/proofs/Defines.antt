@@ -198,6 +198,7 @@ module _ (w : World) (s : Sound w) (v server tracks : ℕ) (here : server < leng
       let same = ap (λ (h : Histories). h.write p.w) lists in
       record {
         number = waits.number;
+        positive = waits.positive;
         defined = any-more p.volume w.control.volumes ∙ ap (λ b. b || nat_eq p.volume v) waits.defined;
         low = subst (λ n. p.track < n) (sym (same-size p waits)) waits.low;
         volume = ap (λ (x : Write). x.volume) same ∙ waits.volume;

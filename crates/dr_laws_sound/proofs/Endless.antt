@@ -7,13 +7,13 @@ use Rattle.dr_model.specs.Control.{Control}
 use Rattle.dr_model.specs.Layout.{Fields, is_part}
 use Rattle.dr_model.specs.Relations.{rest}
 use Rattle.dr_model.specs.Pairs.{held, goes_over, collides, must_restart}
-use Rattle.dr_model.specs.Moves.{Move, Keep, Note, Fetch, Restore, Release, Suspend, Unsync, Mirror, LandBoth, Thaw, Lift, Restart, RaiseAttempt, RaiseFloor}
+use Rattle.dr_model.specs.Moves.{Move, Keep, Note, Fetch, Restore, Release, Suspend, Unsync, Mirror, LandBoth, Thaw, Lift, Restart, RaiseAttempt, RaiseFloor, FlashHold, FlashFree}
 use Rattle.dr_model.specs.Carry.{Act, Make, Redo, Acknowledge, now, Next, Pass, Do, End, Entry}
 use Rattle.dr_model.specs.Entries.{fields_at, copies_from, land_on, land_alone, keep_on, keep_if, copy_first, times, on_found, lowest_missing, lowest_held, fetch_next, for_lowest, give_back}
 use Rattle.dr_model.specs.PairEntries.{send_refusal, suspend_where, store_on, strike_on}
-use Rattle.dr_model.specs.WriteEntries.{sends_first, where_sent, send_first, land_collided, partner_of, is_grouped, land_mirrored, land_parted, is_parted, land_over, land_entries, is_between, freeze_on, end_freeze, freeze_entries, thaw_on, end_thaw, thaw_entries, belongs, lift_on, redo_on, restart_on, start_entries}
+use Rattle.dr_model.specs.WriteEntries.{sends_first, where_sent, send_first, land_collided, partner_of, is_grouped, land_mirrored, land_parted, is_parted, land_over, land_entries, is_between, freeze_on, end_freeze, freeze_entries, thaw_on, end_thaw, thaw_entries, belongs, lift_on, redo_on, restart_on, start_entries, flash_hold_on, flash_free_on, is_held_in}
 use Rattle.dr_ids.specs.declared.refusal.Decision.{Decision}
-use Rattle.dr_model.specs.Plans.{acknowledge_on, acknowledge_if, landed_on}
+use Rattle.dr_model.specs.Plans.{acknowledge_on, acknowledge_if, landed_on, hold_first}
 use Rattle.dr_model.specs.RecoveryPlans.{take_over_on, settle_on, end_recovery, recover_entries}
 use Rattle.dr_laws_sound.proofs.RecoveryEntries.{settle-cases}
 use Rattle.dr_ids.specs.declared.names.Member.{Member}
@@ -93,6 +93,9 @@ pub thaw-endless : (l m : ℕ) (vs : List ℕ) → Endless (thaw_entries vs l m)
 thaw-endless l m vs =
     append-endless (map (thaw_on l m) vs) _ (map-endless (thaw_on l m) (λ v k. choice-goes (is_between k l m v && (fields_at k v).long_busy) (Do (Make (Thaw v))) Pass (do-goes _) pass-goes) vs) (last-endless (end_thaw l m) (λ k. do-goes _))
 
+pub release-endless : (l : ℕ) (vs : List ℕ) → Endless (map (flash_free_on l) vs)
+release-endless l vs = map-endless (flash_free_on l) (λ v k. choice-goes (is_held_in k l v) (Do (Make (FlashFree v))) Pass (do-goes _) pass-goes) vs
+
 pub expire-endless : (s : ℕ) (vs : List ℕ) → Endless (map (lift_on s) vs)
 expire-endless s vs = map-endless (lift_on s) (λ v k. choice-goes (belongs k s v && held (fields_at k v)) (Do (Make (Lift v))) Pass (do-goes _) pass-goes) vs
 
@@ -139,6 +142,11 @@ module _ (k : Control) (n v t : ℕ) where
 
 pub now-endless : (m : Move) → Endless (now m ∷ [])
 now-endless m = last-endless (now m) (λ k. do-goes (Make m))
+
+-- a move, and a flash hold before it, where one is asked for
+pub relate-endless : (freeze : Bool) (s : ℕ) (m : Move) → Endless (hold_first freeze s ++ now m ∷ [])
+relate-endless true s m = then-endless (flash_hold_on s) _ (λ k. choice-goes (fields_at k s).flash_hold Pass (Do (Make (FlashHold s))) pass-goes (do-goes _)) (now-endless m)
+relate-endless false s m = now-endless m
 
 lowest-goes : (v : ℕ) (d : ℕ → Entry) → ((t : ℕ) (k : Control) → Goes (d t k)) → (k : Control) → Goes (for_lowest v d k)
 lowest-goes v d goes k = found-goes (lowest_held v k) d k (λ t. goes t k)

@@ -4,7 +4,7 @@ use Rattle.std.specs.Prelude.{is_some}
 use Rattle.std.specs.Option.{option_or}
 use Rattle.std.specs.List.{list_any}
 use Rattle.std.specs.FinSet.{contains}
-use Rattle.std.proofs.lemmas.Bool.{and_parts, eq-eqb, not-false, and_right}
+use Rattle.std.proofs.lemmas.Bool.{and_parts, or_parts, eq-eqb, not-false, and_right}
 use Rattle.std.proofs.lemmas.List.{map-append}
 use Rattle.std.proofs.lemmas.Simd.{map-map}
 use Rattle.dr_ids.specs.declared.refusal.Refusal.{Refusal}
@@ -29,7 +29,7 @@ use Rattle.dr_laws_sound.proofs.KeepsParts.{unrelated, unrelated_primary}
 use Rattle.dr_laws_sound.proofs.KeepsSound.{Along, Then, decides}
 use Rattle.dr_laws_sound.proofs.Cases.{one-passed}
 use Rattle.dr_laws_sound.proofs.CopyFirst.{Still, from, copy-first}
-use Rattle.dr_laws_sound.proofs.Lands.{Unrestored, unrestored, Unflashed, unflashed, waits, plain-lands}
+use Rattle.dr_laws_sound.proofs.Lands.{Unrestored, unrestored, Unflashed, unflashed, waits, plain-lands, held_back}
 use Rattle.dr_laws_sound.proofs.FitsPairs.{its-first, row, runs-done, part-same}
 use Rattle.dr_logic.proofs.Choices.{chosen, choose_some}
 use Rattle.dr_facts.proofs.Refusals.{none-both, met}
@@ -135,7 +135,7 @@ module _ (w : World) (s : Sound w) (p : Pending) (one : filter (is_write p.w) w.
     on_v : Runs k v
     second : is_part (fields_at k.control v).secondary ≡ false
     plain : (fields_at k.control v).related ≡ false
-    open_to : (fields_at k.control v).coordination ≡ false
+    open_to : held_back (fields_at k.control v) ≡ false
     still : Unrestored k v
     calm : Unflashed k v
     one_is : filter (is_write n) k.control.pending ≡ p ∷ []
@@ -148,7 +148,7 @@ module _ (w : World) (s : Sound w) (p : Pending) (one : filter (is_write p.w) w.
         on_v = (λ i. st.on i (here i).server) ∙ x.on_v;
         second = ap (λ (y : Volume). is_part y.fields.secondary) here ∙ x.second;
         plain = ap (λ (y : Volume). y.fields.related) here ∙ x.plain;
-        open_to = ap (λ (y : Volume). y.fields.coordination) here ∙ x.open_to;
+        open_to = ap (λ (y : Volume). held_back y.fields) here ∙ x.open_to;
         still = λ y h r. let was = st.turned y v h r in x.still y was.0 was.1;
         calm = λ y h r. let was = st.flashed y v h r in x.calm y was.0 was.1;
         one_is = ap (filter (is_write n)) st.pending ∙ x.one_is;
@@ -156,13 +156,13 @@ module _ (w : World) (s : Sound w) (p : Pending) (one : filter (is_write p.w) w.
       }
 
   lasts-done : (k : World) (m : Move) (h : Option Fuse) → is_part (next_of k m).secondary ≡ is_part (fields_at k.control (target m)).secondary → (next_of k m).related ≡ (fields_at k.control (target m)).related
-      → (next_of k m).coordination ≡ (fields_at k.control (target m)).coordination → source_of (next_of k m) ≡ source_of (fields_at k.control (target m)) → (next_of k m).reversing ≡ (fields_at k.control (target m)).reversing → (next_of k m).revertible ≡ (fields_at k.control (target m)).revertible
+      → held_back (next_of k m) ≡ held_back (fields_at k.control (target m)) → source_of (next_of k m) ≡ source_of (fields_at k.control (target m)) → (next_of k m).reversing ≡ (fields_at k.control (target m)).reversing → (next_of k m).revertible ≡ (fields_at k.control (target m)).revertible
       → (done k m h).control.pending ≡ k.control.pending → Lasts k → Lasts (done k m h)
   lasts-done k m h second related held source reversing revertible pending x = record {
     on_v = runs-done k m h v x.on_v;
     second = part-same k m h (λ (g : Fields). is_part g.secondary) second v ∙ x.second;
     plain = part-same k m h (λ (g : Fields). g.related) related v ∙ x.plain;
-    open_to = part-same k m h (λ (g : Fields). g.coordination) held v ∙ x.open_to;
+    open_to = part-same k m h held_back held v ∙ x.open_to;
     still = unrestored-done v k m h source reversing x.still;
     calm = unflashed-done v k m h source revertible x.calm;
     one_is = ap (filter (is_write n)) pending ∙ x.one_is;
@@ -278,10 +278,10 @@ module _ (w : World) (s : Sound w) (p : Pending) (one : filter (is_write p.w) w.
           let k : World = done w m h in
           let idle_now : (fields_at k.control v).recording ≡ false = ap (λ (z : Volume). z.fields.recording) (at_same w.control.volume v (row w m h)) in
           let misses : collides (fields_at k.control v) t ≡ false = and_right (is_kind Global (fields_at k.control v).primary) _ (ap (λ b. b && contains (fields_at k.control v).out_of_sync t) idle_now) in
-          passes _ k (ap (λ b. b && (not (is_some (send_refusal v u k.control)) && not (is_some (flashed_refusal u k.control)))) misses) _ (lands-then k y (lasts-done w m h refl refl (sym x.open_to) refl refl refl refl x) (λ r. false_true idle_now r)),
+          passes _ k (ap (λ b. b && (not (is_some (send_refusal v u k.control)) && not (is_some (flashed_refusal u k.control)))) misses) _ (lands-then k y (lasts-done w m h refl refl ((or_parts f.coordination f.flash_hold x.open_to).1 ∙ sym x.open_to) refl refl refl refl x) (λ r. false_true idle_now r)),
     )
 
-  pub collided : is_part f.secondary ≡ false → is_settled v w.control ≡ true → f.coordination ≡ false → collides f t ≡ true → Along w (land_collided w.control n v t)
+  pub collided : is_part f.secondary ≡ false → is_settled v w.control ≡ true → held_back f ≡ false → collides f t ≡ true → Along w (land_collided w.control n v t)
   collided second settled open_to hits =
       let u : ℕ = partner_of w.control v in
       let first : is_part f.primary ≡ true = kind_part Global f.primary (and_parts (is_kind Global f.primary) _ hits).0 in

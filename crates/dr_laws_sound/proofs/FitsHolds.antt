@@ -1,14 +1,14 @@
--- The plans of a freeze, a thaw and an expiry are allowed along.
+-- The plans of a freeze, a thaw and an expiry are allowed along, and of the end of flash holds.
 use Rattle.std.proofs.Common.{ℕ, ◌≡◌, refl, ap, ◌∙◌, Bool, true, false, cond, ◌&&◌, nat_eq, List, [], ◌∷◌, ◌++◌, map}
 use Rattle.std.proofs.lemmas.Bool.{and_parts, eqb-true}
 use Rattle.dr_model.specs.Layout.{is_part}
 use Rattle.dr_model.specs.Pairs.{held}
 use Rattle.dr_model.specs.Control.{World, is_volume}
-use Rattle.dr_model.specs.Moves.{Suspend, Thaw, Lift}
+use Rattle.dr_model.specs.Moves.{Suspend, Thaw, Lift, FlashFree}
 use Rattle.dr_model.specs.Carry.{Make, EndFreeze, EndThaw, Pass, Do}
 use Rattle.dr_model.specs.Entries.{fields_at, is_running, subsystem}
-use Rattle.dr_model.specs.WriteEntries.{is_between, freeze_on, end_freeze, thaw_on, end_thaw, belongs, lift_on}
-use Rattle.dr_model.specs.Plans.{freeze_done, unfreeze_done, expire_plan}
+use Rattle.dr_model.specs.WriteEntries.{is_between, freeze_on, end_freeze, thaw_on, end_thaw, belongs, lift_on, flash_free_on, is_held_in}
+use Rattle.dr_model.specs.Plans.{freeze_done, unfreeze_done, expire_plan, release_done}
 use Rattle.dr_model.specs.Laws.{Sound}
 use Rattle.dr_model.specs.Allowed.{Runs}
 use Rattle.dr_laws_sound.proofs.RowsAfter.{idle}
@@ -47,6 +47,20 @@ module _ (l m : ℕ) where
 
   pub holds-thaw : (w : World) → Sound w → StepHolds w (unfreeze_done w.control l m)
   holds-thaw w s = holds-entries w _ _ s (thaws w.control.volumes (as_begun w) (sound-begun w s))
+
+-- the volumes of a logical subsystem lose their flash holds
+module _ (l : ℕ) where
+  releases-by : (w : World) (v : ℕ) (more : World → Type 0) → Sound w → ((k : World) → Sound k → more k) → (b : Bool) → is_held_in w.control l v ≡ b → Then w (cond b (Do (Make (FlashFree v))) Pass) more
+  releases-by w v more s go false is = go w s
+  releases-by w v more s go true is =
+      let runs : Runs w v = (and_parts (is_running v w.control) _ (and_parts (nat_eq (subsystem v) l) _ is).1).0 in (record { runs = runs; allowed = tt; fits = tt; group = tt; ready = idle w v s.queue runs }, λ f y. go _ y)
+
+  pub releases : (vs : List ℕ) (w : World) → Sound w → Along w (map (flash_free_on l) vs)
+  releases [] w s = over w s
+  releases (v ∷ vs) w s = decides w (flash_free_on l v) _ _ refl (releases-by w v _ s (λ k y. releases vs k y) _ refl)
+
+  pub holds-release : (w : World) → Sound w → StepHolds w (release_done w.control l)
+  holds-release w s = holds-entries w _ _ s (releases w.control.volumes (as_begun w) (sound-begun w s))
 
 -- no write on a volume of server x waits any more
 module _ (x : ℕ) where

@@ -17,25 +17,24 @@ use Rattle.dr_model.specs.Contents.{image_at}
 use Rattle.dr_model.specs.Layout.{Fields, is_part}
 use Rattle.dr_model.specs.Pairs.{is_kind, is_suspended, secondary_of, primary_of, is_primary_of, is_secondary_of, first_state, next_state}
 use Rattle.dr_model.specs.Control.{Control, Fuse, Volume, World, is_volume}
-use Rattle.dr_model.specs.Moves.{Move, Suspend, MakeSecondary, MakePrimary, DropPrimary, DropSecondary, Follow, Resume, target, moved}
+use Rattle.dr_model.specs.Moves.{Suspend, MakeSecondary, MakePrimary, DropPrimary, DropSecondary, Follow, Resume}
 use Rattle.dr_model.specs.Carry.{Make, Pass, Do, Entry, now}
 use Rattle.dr_model.specs.Entries.{fields_at, is_running, share_size, is_no_target, is_settled}
 use Rattle.dr_model.specs.PairEntries.{has_path, reach_refusal, first_differing, differs_at, two_servers, stands_free, may_follow, leads_to, belongs_to, are_linked, let_go, remove_both, may_pause, tell_paused, may_resume, follow_on, resume_on}
 use Rattle.dr_model.specs.Plans.{is_defined, is_owner, found_volumes, make_pair_plan, remove_pair_plan, pause_pair_plan, resume_pair_plan, member_refusal}
 use Rattle.dr_model.specs.Laws.{Sound}
 use Rattle.dr_model.specs.Allowed.{Runs}
-use Rattle.dr_laws_sound.proofs.Turns.{done, next_of, carried_in}
+use Rattle.dr_laws_sound.proofs.Turns.{done}
 use Rattle.dr_laws_sound.proofs.RowsAfter.{idle}
 use Rattle.dr_laws_sound.proofs.KeepsSound.{Along, Then, StepHolds, over, decides, moves, checked}
 use Rattle.dr_laws_sound.proofs.Cases.{one-passed}
-pub use Rattle.dr_laws_sound.proofs.FitsFlash.{refused}
+pub use Rattle.dr_laws_sound.proofs.FitsFlash.{refused, row, runs-done, part-same, part-done}
 use Rattle.dr_laws_sound.proofs.FitsFlash.{as_begun, sound-begun, holds-entries, both-not}
 use Rattle.dr_laws_sound.proofs.Lands.{unrestored, unflashed}
 use Rattle.dr_laws_sound.proofs.CopyFirst.{unturned}
 use Rattle.dr_laws_sound.proofs.Counting.{may-follow}
 use Rattle.dr_laws_sound.proofs.Agree.{contents-image}
 use Rattle.dr_logic.proofs.Choices.{choose_some}
-use Rattle.dr_facts.proofs.Tables.{at_part}
 use Rattle.dr_logic.proofs.Truth.{false_true}
 use Rattle.dr_logic.proofs.Tables.{at_same, at_other}
 
@@ -54,20 +53,6 @@ its-second b f h = let both = and_parts (is_part f.primary) _ h in choose_some (
 
 pub its-first : (a : ℕ) (f : Fields) → is_secondary_of a f ≡ true → primary_of f ≡ Some a
 its-first a f h = let both = and_parts (is_part f.secondary) _ h in choose_some (is_part f.secondary) f.secondary_partner both.0 ∙ ap (λ j. Some j) (eqb-true f.secondary_partner a both.1)
-
--- a move leaves each volume its server, and what it doesn't change
-module _ (w : World) (m : Move) (f : Option Fuse) where
-  abbrev pub row : Volume
-  row = moved (w.control.volume (target m)) (next_of w m) (carried_in w m)
-
-  pub runs-done : (v : ℕ) → Runs w v → Runs (done w m f) v
-  runs-done v on = ap w.control.on (at_part (λ (x : Volume). x.server) w.control.volume (target m) row refl v) ∙ on
-
-  pub part-same : {X : Type 0} (part : Fields → X) → part (next_of w m) ≡ part (fields_at w.control (target m)) → (v : ℕ) → part (fields_at (done w m f).control v) ≡ part (fields_at w.control v)
-  part-same part same v = at_part (λ (x : Volume). part x.fields) w.control.volume (target m) row same v
-
-  pub part-done : (part : Fields → Bool) → part (next_of w m) ≡ part (fields_at w.control (target m)) → (v : ℕ) → part (fields_at w.control v) ≡ true → part (fields_at (done w m f).control v) ≡ true
-  part-done part same v is = part-same part same v ∙ is
 
 -- no track differs
 none-found : (f : ℕ → Bool) (n b q : ℕ) → find f (range_with_len b n) ≡ None → b < q + 1 → q < b + n → f q ≡ false

@@ -24,7 +24,7 @@ use Rattle.dr_laws_sound.proofs.RowsAfter.{idle}
 use Rattle.dr_laws_sound.proofs.KeepsParts.{unrelated, unrelated_primary}
 use Rattle.dr_laws_sound.proofs.KeepsSound.{Along, Then, over, decides, moves, checked}
 use Rattle.dr_laws_sound.proofs.CopyFirst.{Still, from, copy-first}
-use Rattle.dr_laws_sound.proofs.Lands.{Unrestored, unrestored, Unflashed, unflashed, waits, unlanded, may-ack, dropped-checked, plain-lands, lands-alone}
+use Rattle.dr_laws_sound.proofs.Lands.{Unrestored, unrestored, Unflashed, unflashed, waits, unlanded, may-ack, dropped-checked, plain-lands, lands-alone, held_back, not-back}
 use Rattle.dr_laws_sound.proofs.FitsPairs.{reached, its-first, row, runs-done, part-same}
 use Rattle.dr_laws_sound.proofs.FitsDrain.{suspends-after}
 use Rattle.dr_laws_sound.proofs.FitsCollide.{unrestored-done, unflashed-done, plain-primary, collided}
@@ -54,15 +54,15 @@ module _ (w : World) (s : Sound w) (p : Pending) (one : filter (is_write p.w) w.
   busy = is_grouped w.control v (partner_of w.control v)
 
   -- the volume is suspended, since it can't send; then the write waits, or lands alone
-  parted : is_part f.primary ≡ true → is_part f.secondary ≡ false → f.related ≡ false → Unrestored w v → Unflashed w v → Along w (land_parted w.control n v t)
-  parted first free plain still calm = moves w (Suspend v busy) _ (record { runs = on; allowed = first; fits = tt; group = tt; ready = idle w v s.queue on }) (λ h y. by h y busy)
+  parted : is_part f.primary ≡ true → is_part f.secondary ≡ false → f.related ≡ false → held_back f ≡ false → Unrestored w v → Unflashed w v → Along w (land_parted w.control n v t)
+  parted first free plain open_to still calm = moves w (Suspend v busy) _ (record { runs = on; allowed = first; fits = tt; group = tt; ready = idle w v s.queue on }) (λ h y. by h y busy)
     where
       by : (h : Option Fuse) → Sound (done w (Suspend v busy) h) → (b : Bool) → Along (done w (Suspend v busy) h) (cond b [] (land_alone w.control.volumes n v t))
       by h y true = over _ y
       by h y false =
           let m : Move = Suspend v busy in
           plain-lands (done w m h) y p one (runs-done w m h v on) (part-same w m h (λ (g : Fields). is_part g.secondary) refl v ∙ free) (part-same w m h (λ (g : Fields). g.related) refl v ∙ plain)
-          (ap (λ (x : Volume). x.fields.coordination) (at_same w.control.volume v (row w m h))) (λ r. false_true (ap (λ (x : Volume). x.fields.recording) (at_same w.control.volume v (row w m h))) r) (unrestored-done v w m h refl refl still) (unflashed-done v w m h refl refl calm)
+          (ap (λ (x : Volume). held_back x.fields) (at_same w.control.volume v (row w m h)) ∙ (or_parts f.coordination f.flash_hold open_to).1) (λ r. false_true (ap (λ (x : Volume). x.fields.recording) (at_same w.control.volume v (row w m h))) r) (unrestored-done v w m h refl refl still) (unflashed-done v w m h refl refl calm)
 
   -- it sends to u
   module _ (u : ℕ) where
@@ -71,7 +71,7 @@ module _ (w : World) (s : Sound w) (p : Pending) (one : filter (is_write p.w) w.
       on_v : Runs k v
       on_u : Runs k u
       metro : is_metro (fields_at k.control v).primary ≡ true
-      open_to : (fields_at k.control v).coordination ≡ false
+      open_to : held_back (fields_at k.control v) ≡ false
       to : secondary_of (fields_at k.control v) ≡ Some u
       takes : primary_of (fields_at k.control u) ≡ Some v
       out : contains (fields_at k.control v).out_of_sync t ≡ true
@@ -100,7 +100,7 @@ module _ (w : World) (s : Sound w) (p : Pending) (one : filter (is_write p.w) w.
           on_v = (λ i. st.on i (here_v i).server) ∙ b.on_v;
           on_u = (λ i. st.on i (here_u i).server) ∙ b.on_u;
           metro = ap (λ (x : Volume). is_metro x.fields.primary) here_v ∙ b.metro;
-          open_to = ap (λ (x : Volume). x.fields.coordination) here_v ∙ b.open_to;
+          open_to = ap (λ (x : Volume). held_back x.fields) here_v ∙ b.open_to;
           to = ap (λ (x : Volume). secondary_of x.fields) here_v ∙ b.to;
           takes = ap (λ (x : Volume). primary_of x.fields) here_u ∙ b.takes;
           out = ap (λ (x : Volume). contains x.fields.out_of_sync t) here_v ∙ b.out;
@@ -124,10 +124,11 @@ module _ (w : World) (s : Sound w) (p : Pending) (one : filter (is_write p.w) w.
     lands-both : (k : World) → Sound k → Both k → Stored k → Kept (table k) v t → Along k (now (LandBoth n v t) ∷ [])
     lands-both k y b is kept =
         let held = waits k y p b.one_is in
+        let back = or_parts (fields_at k.control v).coordination (fields_at k.control v).flash_hold b.open_to in
         moves k (LandBoth n v t) [] (record {
           runs = b.on_v;
           allowed = record {
-            land = record { low = held.low; defined = held.defined; plain = plain_v k y b; first = (y.rows.parts.one v).one (chosen (is_part (fields_at k.control v).primary) _ u b.to).0; kept = kept; free = b.open_to; sent = λ r. false_true (metro-idle (table k v) (y.rows.recorders v) b.metro) r };
+            land = record { low = held.low; defined = held.defined; plain = plain_v k y b; first = (y.rows.parts.one v).one (chosen (is_part (fields_at k.control v).primary) _ u b.to).0; kept = kept; free = back.0; let_go = back.1; sent = λ r. false_true (metro-idle (table k v) (y.rows.recorders v) b.metro) r };
             metro = b.metro;
             to = u;
             sends = b.to;
@@ -165,7 +166,7 @@ module _ (w : World) (s : Sound w) (p : Pending) (one : filter (is_write p.w) w.
           on_v = runs-done k m h v b.on_v;
           on_u = runs-done k m h u b.on_u;
           metro = part-same k m h (λ (g : Fields). is_metro g.primary) refl v ∙ b.metro;
-          open_to = part-same k m h (λ (g : Fields). g.coordination) refl v ∙ b.open_to;
+          open_to = part-same k m h held_back refl v ∙ b.open_to;
           to = part-same k m h secondary_of refl v ∙ b.to;
           takes = part-same k m h primary_of refl u ∙ b.takes;
           out = part-same k m h (λ (g : Fields). contains g.out_of_sync t) refl v ∙ b.out;
@@ -185,14 +186,14 @@ module _ (w : World) (s : Sound w) (p : Pending) (one : filter (is_write p.w) w.
         (λ x h r. false_true (y.rows.seals.no_metro x u h r) (ap is_metro (y.rows.seals.kinds u v b.takes b.to) ∙ b.metro)) y))
 
     -- the track is out of sync until it has changed on both sides
-    goes-both : is_metro f.primary ≡ true → f.coordination ≡ false → secondary_of f ≡ Some u → primary_of (fields_at w.control u) ≡ Some v → Runs w u → Unrestored w v → Unflashed w v → Along w (land_mirrored w.control.volumes n v t u)
+    goes-both : is_metro f.primary ≡ true → held_back f ≡ false → secondary_of f ≡ Some u → primary_of (fields_at w.control u) ≡ Some v → Runs w u → Unrestored w v → Unflashed w v → Along w (land_mirrored w.control.volumes n v t u)
     goes-both metro open_to to takes on_u still calm =
         let m : Move = Unsync v t in
         moves w m _ (record { runs = on; allowed = record { low = (waits w s p one).low; metro = metro }; fits = tt; group = tt; ready = idle w v s.queue on }) (λ h y. stores (done w m h) y (record {
           on_v = runs-done w m h v on;
           on_u = runs-done w m h u on_u;
           metro = part-same w m h (λ (g : Fields). is_metro g.primary) refl v ∙ metro;
-          open_to = part-same w m h (λ (g : Fields). g.coordination) refl v ∙ open_to;
+          open_to = part-same w m h held_back refl v ∙ open_to;
           to = part-same w m h secondary_of refl v ∙ to;
           takes = part-same w m h primary_of refl u ∙ takes;
           out = ap (λ (x : Volume). contains x.fields.out_of_sync t) (at_same w.control.volume v _) ∙ in_insert f.out_of_sync t;
@@ -207,8 +208,8 @@ module _ (w : World) (s : Sound w) (p : Pending) (one : filter (is_write p.w) w.
     abbrev there : ℕ
     there = partner_of w.control v
 
-    goes-over : is_metro f.primary ≡ true → f.coordination ≡ false → (b : Bool) → is_parted w.control v ≡ b → Along w (cond b (land_parted w.control n v t) (land_mirrored w.control.volumes n v t there))
-    goes-over metro open_to true is = parted (metro-part f.primary metro) free (plain-primary w s v (metro-part f.primary metro)) (λ x h r. unrestored w s v settled x h r) (unflashed w s v settled)
+    goes-over : is_metro f.primary ≡ true → held_back f ≡ false → (b : Bool) → is_parted w.control v ≡ b → Along w (cond b (land_parted w.control n v t) (land_mirrored w.control.volumes n v t there))
+    goes-over metro open_to true is = parted (metro-part f.primary metro) free (plain-primary w s v (metro-part f.primary metro)) open_to (λ x h r. unrestored w s v settled x h r) (unflashed w s v settled)
     goes-over metro open_to false is =
         let first : is_part f.primary ≡ true = metro-part f.primary metro in
         let none = none-both (reach_refusal v there w.control) _ (none_there (send_refusal v there w.control) is) in
@@ -222,9 +223,9 @@ module _ (w : World) (s : Sound w) (p : Pending) (one : filter (is_write p.w) w.
     lands-by : (h g c : Bool) → held f ≡ h → goes_over f t ≡ g → collides f t ≡ c
         → Along w (cond h [] (cond g (cond (is_parted w.control v) (land_parted w.control n v t) (land_mirrored w.control.volumes n v t there)) (cond c (land_collided w.control n v t) (land_alone w.control.volumes n v t))))
     lands-by true g c on_hold is not = over w s
-    lands-by false true c on_hold is not = goes-over (and_parts (is_metro f.primary) _ is).0 (or_parts f.coordination f.long_busy on_hold).0 (is_parted w.control v) refl
-    lands-by false false true on_hold is hits = collided w s p one on free settled (or_parts f.coordination f.long_busy on_hold).0 hits
-    lands-by false false false on_hold is not = lands-alone w s p one on free writable settled (or_parts f.coordination f.long_busy on_hold).0 (was-sent not) f.related refl
+    lands-by false true c on_hold is not = goes-over (and_parts (is_metro f.primary) _ is).0 (not-back f on_hold) (is_parted w.control v) refl
+    lands-by false false true on_hold is hits = collided w s p one on free settled (not-back f on_hold) hits
+    lands-by false false false on_hold is not = lands-alone w s p one on free writable settled (not-back f on_hold) (was-sent not) f.related refl
 
 -- a pending write is carried out
 pub lands : (w : World) (s : Sound w) (p : Pending) → filter (is_write p.w) w.control.pending ≡ p ∷ [] → Along w (landing w.control p.w p.volume p.track)

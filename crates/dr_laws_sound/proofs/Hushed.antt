@@ -12,7 +12,7 @@ use Rattle.dr_model.specs.Control.{Control, Fuse, Pending, Volume, World}
 use Rattle.dr_model.specs.Layout.{Tracks}
 use Rattle.dr_model.specs.Relations.{is_bare, in_order, rest, turned, given_up}
 use Rattle.dr_model.specs.Pairs.{is_suspended}
-use Rattle.dr_model.specs.Moves.{Move, Land, Overwrite, Withdraw, Reverse, Release, Suspend, LandBoth, Mirror, Hold, told_blank, told_restored, told, told_in_stop, landed, settled, settled_in_stop, target}
+use Rattle.dr_model.specs.Moves.{Move, Land, Overwrite, Withdraw, Reverse, Release, Suspend, LandBoth, Mirror, Hold, told_blank, told_restored, told, told_in_stop, landed, settled, settled_in_stop, target, Lift, told_freed}
 use Rattle.dr_model.specs.Carry.{Act, Make, OpenAttempt, Redo, Acknowledge, Drop, EndFreeze, EndThaw, EndRecovery, act, Turn, Next, Pass, Do, End, Entry, Outcome, carry, continue, go}
 use Rattle.dr_logic.proofs.Truth.{false_true}
 use Rattle.dr_model.specs.Groups.{In}
@@ -109,6 +109,10 @@ module _ (still : Bool) where
   suspended-none true v = unheard-none still
   suspended-none false v = record { none = refl; plain = refl; uncut = λ h. refl }
 
+  freed-none : (v : ℕ) (had : Bool) → Unheard still (told_freed v had)
+  freed-none v true = record { none = refl; plain = refl; uncut = λ h. refl }
+  freed-none v false = unheard-none still
+
   held-none : (first : Bool) (v s n : ℕ) → still ≡ false → Unheard still (cond first (Begin s n ∷ Cut s n v ∷ []) (Cut s n v ∷ []))
   held-none true v s n loud = record { none = refl; plain = refl; uncut = λ h. false_true loud h }
   held-none false v s n loud = record { none = refl; plain = refl; uncut = λ h. false_true loud h }
@@ -123,6 +127,7 @@ module _ (still : Bool) where
   told-none (Reverse v (Some p)) u mute = left-none v u.fields.source u.tracks p u.fields.session (turned u.fields).own
   told-none (Release v t) u mute = restored-none v u.fields.source u.tracks (given_up u.fields t).own
   told-none (Suspend v busy) u mute = suspended-none (is_suspended u.fields.primary_state) v
+  told-none (Lift v) u mute = freed-none v u.fields.flash_hold
   told-none (Hold v s n first) u mute = held-none first v s n mute
   told-none m u mute = record { none = refl; plain = refl; uncut = λ h. refl }
 

@@ -20,28 +20,29 @@ use Rattle.dr_model.specs.declared.state.PairState.TheVariants.{Suspended as Sus
 use Rattle.dr_model.specs.declared.step.Devs.{Devs}
 use Rattle.dr_model.specs.declared.step.Name.{Name}
 use Rattle.dr_model.specs.declared.step.Step.{Step}
-use Rattle.dr_model.specs.declared.step.Step.TheVariants.{Server, Volume, Link, Stop, StopAfter, Start, Issue, Write, Apply, Show, MakeFlash, RemoveFlash, ResyncFlash, ReverseFlash, Copy, MakePath, RemovePath, MakePair, RemovePair, PausePair, ResumePair, Failover, Failback, Drain, Expire, Freeze, Unfreeze, MakeSession, RemoveSession, AddMember, RemoveMember, MakeMirror, PauseMirror, ResumeMirror, RemoveMirror, Abort, Exchange, Recover, CommitFlash, RevertFlash, ListPairs, ListFlashes, ListSession, ShowMirror}
+use Rattle.dr_model.specs.declared.step.Step.TheVariants.{Server, Volume, Link, Stop, StopAfter, Start, Issue, Write, Apply, Show, MakeFlash, RemoveFlash, ResyncFlash, ReverseFlash, Copy, MakePath, RemovePath, MakePair, RemovePair, PausePair, ResumePair, Failover, Failback, Drain, Expire, Freeze, Unfreeze, MakeSession, RemoveSession, AddMember, RemoveMember, MakeMirror, PauseMirror, ResumeMirror, RemoveMirror, Abort, Exchange, Recover, CommitFlash, RevertFlash, ListPairs, ListFlashes, ListSession, ShowMirror, UnfreezeFlash}
 use Rattle.dr_model.specs.Refusals.{unknown, server_off, duplicate}
 use Rattle.dr_model.specs.Control.{Control}
 use Rattle.dr_model.specs.Layout.{Fields, is_part, kind_of}
 use Rattle.dr_model.specs.Pairs.{first_state, held, records}
-use Rattle.dr_model.specs.Moves.{Move, Keep, Note, Withdraw, Fetch, Resync, Reverse, Restore, Release, Suspend, MakeSecondary, MakePrimary, DropPrimary, DropSecondary, Follow, TakeOver, Thaw, Lift, Free, Seal as SealMove, RaiseAttempt, RaiseFloor, Leave, Flash as FlashMove, Commit as CommitMove, Revert as RevertMove, Finish as FinishMove, Hold as HoldMove}
+use Rattle.dr_model.specs.Moves.{Move, Keep, Note, Withdraw, Fetch, Resync, Reverse, Restore, Release, Suspend, MakeSecondary, MakePrimary, DropPrimary, DropSecondary, Follow, TakeOver, Thaw, Lift, Free, Seal as SealMove, RaiseAttempt, RaiseFloor, Leave, Flash as FlashMove, Commit as CommitMove, Revert as RevertMove, Finish as FinishMove, Hold as HoldMove, FlashHold, FlashFree, Relate}
 use Rattle.dr_model.specs.Carry.{Make, OpenAttempt, check, now, Next, Pass, Do, End, Entry}
 use Rattle.dr_model.specs.Entries.{fields_at, copies_from, is_running, relation_state, keep_on, keep_if, copy_first, times, on_found, lowest_missing, lowest_held, fetch_next, for_lowest, give_back, share_server, share_size, is_no_target, is_settled}
 use Rattle.dr_model.specs.PairEntries.{are_linked, reach_refusal, end_if, refuse_if, differs_at, two_servers, stands_free, may_follow, make_entries, leads_to, belongs_to, let_go, remove_both, remove_entries, may_pause, tell_paused, pause_entries, may_resume, follow_on, resume_on, resume_entries, may_take_over, failover_entries, leads_as, fall_back_on, yield_on, failback_entries, send_refusal, suspend_where, flashed_refusal, store_on, strike_on, send_entries, sends, tracks_to_send, suspend_after, suspend_running, is_copying, first_differing}
-use Rattle.dr_model.specs.WriteEntries.{is_between, freeze_on, end_freeze, freeze_entries, thaw_on, end_thaw, thaw_entries, belongs, lift_on}
+use Rattle.dr_model.specs.WriteEntries.{is_between, freeze_on, end_freeze, freeze_entries, thaw_on, end_thaw, thaw_entries, belongs, lift_on, flash_hold_on, flash_free_on, is_held_in}
 use Rattle.dr_model.specs.Phases as phases
 use Rattle.dr_model.specs.Sessions.{Session, Mirror, session_in, members_in, has_place_of, joined, left, changed, mirrored_by, paused, unmirrored, not_in_session, in_session, busy, leave_refusal, join_refusal, make_refusal, drop_refusal, abort_refusal}
 use Rattle.dr_model.specs.SessionEntries.{first_number, last_of, hold_refusal, stale_refusal, hold_on, void_refusal, free_on, is_drained, seal_refusal, seal_on, is_flashed, flash_refusal, flash_on, is_committed, commit_refusal, commit_on, revert_on, is_past, finish_on, member_entries, members_on, order_entries, raise_attempt_on, raise_floor_on, add_entries}
 use Rattle.dr_model.specs.RecoveryPlans.{decided_in, take_over_on, settle_on, end_recovery, recover_entries, recover_done, recover_plan, group_of, says_group, secondary_refusal, lets_commit, lets_revert, settle_member, settle_target, settle_plan, settle_refusal, member_of_target, revertible_target}
 use Rattle.dr_model.specs.SessionPlans.{table_plan, mirror_phase, session_phase, says_phase, name_refusal, off_refusal, on_volume, on_both, add_plan, add_to, add_target, member_target, expel_plan, expel_done, expel_found, outside_refusal, master_refusal, place_refusal, taken_refusal, copy_refusal, member_with, exchange_refusal, exchange_done, exchange_on, order_of}
-use Rattle.dr_model.specs.Plans.{Plan, plan_of, same, none_follow, always, tables_plan, entries_plan, only_says, refuses, unless, on_named, on_owner, on_session, is_defined, is_owner, server_named, name_bytes, counted_refusal, restore_refusal, yield_refusal, left_by, member_refusal, found_volumes, found_pair, differ, is_no_source, has_few_targets, is_plain_target, is_recorded_target, is_lone_restore, may_return, may_give_back, may_copy, at_most, left_to_copy, drain_plan, stop_on, stop_done, arm_on, expire_on, link_between, link_done, on_server, owner_of, server_refusal, server_done, volume_refusal, volume_done, issue_refusal, issue_done, show_refusal, show_done, expire_plan, path_refusal, make_path_done, unpath_refusal, remove_path_done, freeze_refusal, freeze_done, thaw_refusal, unfreeze_done, compare_plan}
+use Rattle.dr_model.specs.Plans.{Plan, plan_of, same, none_follow, always, tables_plan, entries_plan, only_says, refuses, unless, on_named, on_owner, on_session, is_defined, is_owner, server_named, name_bytes, counted_refusal, restore_refusal, yield_refusal, left_by, member_refusal, found_volumes, found_pair, differ, is_no_source, has_few_targets, is_plain_target, is_recorded_target, is_lone_restore, may_return, may_give_back, may_copy, at_most, left_to_copy, drain_plan, stop_on, stop_done, arm_on, expire_on, link_between, link_done, on_server, owner_of, server_refusal, server_done, volume_refusal, volume_done, issue_refusal, issue_done, show_refusal, show_done, expire_plan, path_refusal, make_path_done, unpath_refusal, remove_path_done, freeze_refusal, freeze_done, thaw_refusal, unfreeze_done, compare_plan, hold_first, release_refusal, release_done}
 use Rattle.dr_laws_sound.specs.Acknowledged.{acknowledgements}
 use Rattle.dr_laws_sound.proofs.RecoveryEntries.{settle-cases}
 use Rattle.dr_model.specs.Listings.{pair_lines, flash_lines, member_lines, mirror_lines, sessions_of, lists, listing_refusal}
 use Rattle.dr_laws_sound.proofs.Listed.{AllLines, Plain, lines-plain, pair-lines, flash-lines, session-lines, mirrors-lines}
 use Rattle.dr_laws_sound.proofs.Cases.{added, expelled, aborted}
 use Rattle.dr_laws_sound.proofs.Hushed.{mirrors, Unheard, unheard-none, MuteMove, Mute, MuteNext, Hush, AllHush, none-hush, then-hush, append-hush}
+use Rattle.dr_model.specs.Relations.{Choices}
 
 -- ---- entries
 
@@ -104,6 +105,9 @@ thaw-hush : (l m : ℕ) (vs : List ℕ) → AllHush false (thaw_entries vs l m)
 thaw-hush l m vs =
     append-hush (map (thaw_on l m) vs) _ (map-hush (thaw_on l m) (λ v k. choice-hush false (is_between k l m v && (fields_at k v).long_busy) (Do (Make (Thaw v))) Pass tt tt) vs) (last-hush (end_thaw l m) (λ k. tt))
 
+release-hush : (l : ℕ) (vs : List ℕ) → AllHush false (map (flash_free_on l) vs)
+release-hush l vs = map-hush (flash_free_on l) (λ v k. choice-hush false (is_held_in k l v) (Do (Make (FlashFree v))) Pass tt tt) vs
+
 lift-hush : (s v : ℕ) → Hush false (lift_on s v)
 lift-hush s v k = choice-hush false (belongs k s v && held (fields_at k v)) (Do (Make (Lift v))) Pass tt tt
 
@@ -116,6 +120,10 @@ copy-hush k t true =
     append-hush (map (λ u. for_lowest t (λ q. keep_on s q u)) k.volumes) _ (map-hush _ (λ u. lowest-hush t (λ q. keep_on s q u) (λ q. keep-hush false s q u)) k.volumes)
     (then-hush _ _ (lowest-hush t (λ q. now (Restore s q t)) (λ q k. tt)) (last-hush (for_lowest t (λ q. now (Release t q))) (lowest-hush t (λ q. now (Release t q)) (λ q k. tt))))
 copy-hush k t false = last-hush (fetch_next t) (λ j. found-hush (lowest_missing t j) (λ q. now (Fetch t q)) j (λ q. tt))
+
+relate-hush : (freeze : Bool) (s t : ℕ) (choices : Choices) → AllHush false (hold_first freeze s ++ now (Relate t s choices) ∷ [])
+relate-hush true s t choices = then-hush (flash_hold_on s) _ (λ k. choice-hush false (fields_at k s).flash_hold Pass (Do (Make (FlashHold s))) tt tt) (now-hush (Relate t s choices) tt)
+relate-hush false s t choices = now-hush (Relate t s choices) tt
 
 named-hush : (dev : Option Name) (s t : ℕ) (ds : List Entry) → AllHush false ds → AllHush false (found_pair dev s t ++ ds)
 named-hush dev s t ds rest = checked-hush (is_defined s) _ _ (checked-hush (is_defined t) _ _ (checked-hush (is_owner dev s) _ _ rest))
@@ -384,9 +392,9 @@ module _ (k : Control) (events : List Event) (line : ℕ) where
   step-hush (Stop name) other = named (server_named k (name_bytes name)) (stop_on k) stops
   step-hush (StopAfter name writes torn) other = named (server_named k (name_bytes name)) (arm_on writes torn) (λ s. tables _ _ Alone refl refl)
   step-hush (Show v t) other = one (show_refusal k v t) (show_done events line v t) (tables _ _ _ refl refl)
-  step-hush (MakeFlash devs s t nocopy persistent recorded inhibited sequence) other = entries-hush _ _ (named-hush devs.dev s t _ (checked-hush (is_running s) _ _
+  step-hush (MakeFlash devs s t nocopy persistent recorded inhibited freeze sequence) other = entries-hush _ _ (named-hush devs.dev s t _ (checked-hush (is_running s) _ _
       (checked-hush (differ s t) _ _ (checked-hush (share_server s t) _ _ (checked-hush (share_size s t) _ _ (checked-hush (is_no_target t) _ _ (checked-hush (is_no_source t) _ _ (checked-hush (is_no_target s) _ _
-      (checked-hush (stands_free t) _ _ (checked-hush (has_few_targets s) _ _ (now-hush _ tt)))))))))))
+      (checked-hush (stands_free t) _ _ (checked-hush (has_few_targets s) _ _ (relate-hush freeze s t _)))))))))))
   step-hush (RemoveFlash devs s t sequence) other = entries-hush _ _ (named-hush devs.dev s t _ (checked-hush (is_running s) _ _ (refused-hush (counted_refusal t) _ (checked-hush (is_plain_target s t) _ _ (now-hush (Withdraw t) tt)))))
   step-hush (ResyncFlash devs s t nocopy persistent recorded inhibited sequence) other =
       entries-hush _ _ (named-hush devs.dev s t _ (checked-hush (is_running s) _ _ (refused-hush (counted_refusal t) _ (checked-hush (is_recorded_target s t) _ _ (now-hush (Resync t sequence) tt)))))
@@ -410,6 +418,8 @@ module _ (k : Control) (events : List Event) (line : ℕ) where
       (λ s. owned m (λ u. unless (freeze_refusal k devs l m s u) (freeze_done k l m)) (λ u. one (freeze_refusal k devs l m s u) (freeze_done k l m) (entries-hush (freeze_entries k.volumes l m) Alone (freeze-hush l m k.volumes))))
   step-hush (Unfreeze devs l m) other = owned l (λ s. on_owner (owner_of k m) (λ u. unless (thaw_refusal k devs s u) (unfreeze_done k l m)))
       (λ s. owned m (λ u. unless (thaw_refusal k devs s u) (unfreeze_done k l m)) (λ u. one (thaw_refusal k devs s u) (unfreeze_done k l m) (entries-hush (thaw_entries k.volumes l m) Alone (thaw-hush l m k.volumes))))
+  step-hush (UnfreezeFlash devs l) other = owned l (λ s. unless (release_refusal k devs.dev s) (release_done k l))
+      (λ s. one (release_refusal k devs.dev s) (release_done k l) (entries-hush (map (flash_free_on l) k.volumes) Alone (release-hush l k.volumes)))
   step-hush (MakeSession devs l s) other = owned l (λ owner. unless (option_or (name_refusal k devs.dev owner) (option_or (off_refusal k owner) (join_refusal (session_in k.sessions s) l k.sessions))) (table_plan (joined s l)))
       (λ owner. one (option_or (name_refusal k devs.dev owner) (option_or (off_refusal k owner) (join_refusal (session_in k.sessions s) l k.sessions))) (table_plan (joined s l)) (table-hush (joined s l)))
   step-hush (RemoveSession devs l s) other = owned-by devs.dev l s (left s l) (λ owner x. leave_refusal (Some x) s l)

@@ -72,6 +72,7 @@ module _ (w : World) (s : Sound w) (v t offset len : ℕ) (bytes : List ℕ) (de
       let same : (histories issued.events).write p.w ≡ h.write p.w = ap (λ (h : Histories). h.write p.w) issued-lists ∙ at_other h.write n written p.w (λ e. let lt = waits.number in absurd (omega arith)) in
       record {
         number = let lt = waits.number in omega arith;
+        positive = waits.positive;
         defined = waits.defined;
         low = waits.low;
         volume = ap (λ (x : Write). x.volume) same ∙ waits.volume;
@@ -83,6 +84,7 @@ module _ (w : World) (s : Sound w) (v t offset len : ℕ) (bytes : List ℕ) (de
   each-new [] all = (
     record {
       number = omega arith;
+      positive = omega arith;
       defined = defined;
       low = low;
       volume = ap (λ (x : Write). x.volume) issued-write;

@@ -19,7 +19,7 @@ use Rattle.dr_model.specs.Control.{Control, Fuse, Pending, Volume, World, new_vo
 use Rattle.dr_model.specs.Layout.{Tracks}
 use Rattle.dr_model.specs.Relations.{rest, in_order, is_bare, turned, given_up}
 use Rattle.dr_model.specs.Pairs.{is_suspended}
-use Rattle.dr_model.specs.Moves.{Move, Land, Overwrite, Keep, Note, Relate, Withdraw, Fetch, Resync, Reverse, Restore, Release, Store, Strike, Suspend, MakeSecondary, MakePrimary, DropPrimary, DropSecondary, Follow, Resume, TakeOver, FallBack, Yield, Unsync, Mirror, LandBoth, Thaw, Lift, Restart, Hold, Free, Seal, Finish, RaiseAttempt, RaiseFloor, Leave, Flash, Commit, Revert, told_blank, told_restored, told, told_in_stop, landed, target, settled, settled_in_stop, is_other, marked}
+use Rattle.dr_model.specs.Moves.{Move, Land, Overwrite, Keep, Note, Relate, Withdraw, Fetch, Resync, Reverse, Restore, Release, Store, Strike, Suspend, MakeSecondary, MakePrimary, DropPrimary, DropSecondary, Follow, Resume, TakeOver, FallBack, Yield, Unsync, Mirror, LandBoth, Thaw, Lift, Restart, Hold, Free, Seal, Finish, RaiseAttempt, RaiseFloor, Leave, Flash, Commit, Revert, told_blank, told_restored, told, told_in_stop, landed, target, settled, settled_in_stop, is_other, marked, FlashHold, FlashFree, told_freed}
 use Rattle.dr_model.specs.Carry.{Act, Make, OpenAttempt, Redo, Acknowledge, Drop, EndFreeze, EndThaw, EndRecovery, act, Next, Pass, Do, End, Entry, Outcome, carry, continue, go, follow}
 use Rattle.dr_model.specs.Plans.{Plan, entries_plan, name_bytes, same, always, none_follow, server_done, volume_done, link_done, with_pending, issue_done, show_done, stop_done, arm_on, starting, start_plan, make_path_done, remove_path_done}
 use Rattle.dr_model.specs.Forming.{Part, after_part}
@@ -32,7 +32,7 @@ use Rattle.dr_model.specs.SessionPlans.{with_sessions, table_plan, says_phase, a
 use Rattle.dr_laws_sound.specs.Limits.{IsWithin}
 use Rattle.dr_facts.proofs.Sessions.{length-changed, changed-twice, length-left, joined-few}
 use Rattle.dr_model.specs.RecoveryPlans.{decided_in, recover_done}
-use Rattle.dr_laws_sound.proofs.Cases.{Case, Says, DefinesServer, DefinesVolume, SetsLink, Issues, Writes, Applies, Lists, Shows, Stops, Arms, Starts, MakesFlash, RemovesFlash, ResyncsFlash, ReversesFlash, Copies, MakesPath, RemovesPath, MakesPair, RemovesPair, PausesPair, ResumesPair, FailsOver, FailsBack, Compares, Drains, Expires, Freezes, Unfreezes, MakesSession, RemovesSession, MakesMirror, PausesMirror, RemovesMirror, Aborts, AddsMember, RemovesMember, Exchanges, Recovers, Settles, aborted, servers-left, is-new, may-issue}
+use Rattle.dr_laws_sound.proofs.Cases.{Case, Says, DefinesServer, DefinesVolume, SetsLink, Issues, Writes, Applies, Lists, Shows, Stops, Arms, Starts, MakesFlash, RemovesFlash, ResyncsFlash, ReversesFlash, Copies, MakesPath, RemovesPath, MakesPair, RemovesPair, PausesPair, ResumesPair, FailsOver, FailsBack, Compares, Drains, Expires, Freezes, Unfreezes, MakesSession, RemovesSession, MakesMirror, PausesMirror, RemovesMirror, Aborts, AddsMember, RemovesMember, Exchanges, Recovers, Settles, aborted, servers-left, is-new, may-issue, Releases}
 use Rattle.dr_laws_sound.proofs.Listed.{lines-plain, image-lines}
 use Rattle.dr_laws_sound.proofs.Parts.{Comes, Ending, OnePlan, Imaged, course-case, last-plan}
 use Rattle.dr_facts.proofs.Tables.{at_cases, at_part}
@@ -123,6 +123,10 @@ suspended-silent : (none : Bool) (v : ℕ) → Silent (cond none [] (Suspended v
 suspended-silent true v = refl
 suspended-silent false v = refl
 
+freed-silent : (v : ℕ) (had : Bool) → Silent (told_freed v had)
+freed-silent v true = refl
+freed-silent v false = refl
+
 held-silent : (first : Bool) (v s n : ℕ) → Silent (cond first (Begin s n ∷ Cut s n v ∷ []) (Cut s n v ∷ []))
 held-silent true v s n = refl
 held-silent false v s n = refl
@@ -156,7 +160,9 @@ tells-silent (Unsync v t) u = refl
 tells-silent (Mirror v t from n) u = refl
 tells-silent (LandBoth n v t) u = refl
 tells-silent (Thaw v) u = refl
-tells-silent (Lift v) u = refl
+tells-silent (FlashHold v) u = refl
+tells-silent (FlashFree v) u = refl
+tells-silent (Lift v) u = freed-silent v u.fields.flash_hold
 tells-silent (Restart v) u = refl
 tells-silent (Hold v s n first) u = held-silent first v s n
 tells-silent (Free v) u = refl
@@ -343,7 +349,7 @@ module _ (k : Control) where
   case-modest events line _ (Stops s on) = quiet (stop_done s).first (Stopped s 0 ∷ []) [] (always (Done Alone)) refl unmoved refl
   case-modest events line _ (Arms writes torn s) = quiet (arm_on writes torn s).first [] [] (always (Done Alone)) refl unmoved refl
   case-modest events line _ (Starts s off) = quiet (starting s) (Started s ∷ []) (start_plan k s).entries (start_plan k s).says refl unmoved refl
-  case-modest events line _ (MakesFlash dev s t choices) = entries-modest _ _
+  case-modest events line _ (MakesFlash dev s t freeze choices) = entries-modest _ _
   case-modest events line _ (RemovesFlash dev s t) = entries-modest _ _
   case-modest events line _ (ResyncsFlash dev s t sequence) = entries-modest _ _
   case-modest events line _ (ReversesFlash dev s t) = entries-modest _ _
@@ -361,6 +367,7 @@ module _ (k : Control) where
   case-modest events line _ (Expires s on) = entries-modest _ _
   case-modest events line _ (Freezes l m) = entries-modest _ _
   case-modest events line _ (Unfreezes l m) = entries-modest _ _
+  case-modest events line _ (Releases l) = entries-modest _ _
   case-modest events line _ (MakesSession l s free) = modest (table_plan (joined s l)).first [] [] (always (Done Alone)) (omega arith)
       (λ h. record { servers = h.servers; volumes = h.volumes; pending = h.pending; tracks = h.tracks; sessions = joined-few k.sessions s l h.sessions free }) refl
   case-modest events line _ (RemovesSession l s x found free) = quiet (table_plan (left s l)).first [] [] (always (Done Alone)) refl (retabled (left s l) (length-left k.sessions s l)) refl

@@ -10,7 +10,7 @@ use Rattle.dr_model.specs.Layout.{Tracks}
 use Rattle.dr_model.specs.Relations.{is_bare}
 use Rattle.dr_model.specs.Control.{Control, Pending, Fuse, Volume, World, is_volume}
 use Rattle.dr_model.specs.Pairs.{is_suspended}
-use Rattle.dr_model.specs.Moves.{Move, Land, Overwrite, Relate, Withdraw, Resync, Reverse, Restore, Release, Keep, Note, Fetch, Store, Strike, Suspend, MakeSecondary, MakePrimary, DropPrimary, DropSecondary, Follow, Resume, TakeOver, FallBack, Yield, Unsync, Mirror, LandBoth, Thaw, Lift, Restart, Hold, Free, Seal, Finish, RaiseAttempt, RaiseFloor, Leave, Flash, Commit, Revert, told_blank, told_restored, target, told, told_in_stop, settled, settled_in_stop, is_write, is_other, marked, landed}
+use Rattle.dr_model.specs.Moves.{Move, Land, Overwrite, Relate, Withdraw, Resync, Reverse, Restore, Release, Keep, Note, Fetch, Store, Strike, Suspend, MakeSecondary, MakePrimary, DropPrimary, DropSecondary, Follow, Resume, TakeOver, FallBack, Yield, Unsync, Mirror, LandBoth, Thaw, Lift, Restart, Hold, Free, Seal, Finish, RaiseAttempt, RaiseFloor, Leave, Flash, Commit, Revert, told_blank, told_restored, target, told, told_in_stop, settled, settled_in_stop, is_write, is_other, marked, landed, FlashHold, FlashFree, told_freed}
 use Rattle.dr_model.specs.Laws.{Lone, Together, servers, sizes, Below, Numbered, Queue, Waits, AllPending, Apart}
 use Rattle.dr_model.specs.Entries.{is_at}
 use Rattle.dr_model.specs.Allowed.{Coming, Ready}
@@ -151,6 +151,7 @@ module _ (starts : Option ℕ) (w : World) (old : Queue starts w) where
       → (p : Pending) → Waits starts w.control (histories w.events).write p → Waits starts k write p
   waits-on k write issued volumes same server size off p waits = record {
     number = subst (λ i. p.w < i + 1) (sym issued) waits.number;
+    positive = waits.positive;
     defined = subst (λ vs. is_volume (record w.control { volumes = vs }) p.volume ≡ true) (sym volumes) waits.defined;
     low = subst (λ n. p.track < n) (sym (size p.volume)) waits.low;
     volume = ap (λ write. (write p.w).volume) same ∙ waits.volume;
@@ -186,7 +187,7 @@ module _ (starts : Option ℕ) (w : World) (old : Queue starts w) where
         → (AllPending (Coming v t) (filter (is_write m) ps) → AllPending (Waits starts k write) (marked m ps))
         → AllPending (Waits starts k write) (mark b p ∷ marked m ps)
     mark-waits p true ps coming waits more = let x = on p waits in
-        (record { number = x.number; defined = x.defined; low = x.low; volume = x.volume; track = x.track; calm = λ l f. ap (λ j. k.on (servers k j)) coming.0.volume ∙ off }, more coming.1)
+        (record { number = x.number; positive = x.positive; defined = x.defined; low = x.low; volume = x.volume; track = x.track; calm = λ l f. ap (λ j. k.on (servers k j)) coming.0.volume ∙ off }, more coming.1)
     mark-waits p false ps coming waits more = (on p waits, more coming)
 
     marks-wait : (ps : List Pending) → AllPending (Coming v t) (filter (is_write m) ps) → AllPending (Waits starts w.control (histories w.events).write) ps → AllPending (Waits starts k write) (marked m ps)
@@ -241,7 +242,13 @@ module _ (starts : Option ℕ) (w : World) (old : Queue starts w) where
   told-quiet (Mirror v t u k) ready = (ready.number, tt)
   told-quiet (LandBoth k v t) ready = (ready.number, tt)
   told-quiet (Thaw v) ready = tt
-  told-quiet (Lift v) ready = tt
+  told-quiet (FlashHold v) ready = (tt, tt)
+  told-quiet (FlashFree v) ready = (tt, tt)
+  told-quiet (Lift v) ready = by (w.control.volume v).fields.flash_hold
+    where
+      by : (b : Bool) → AllQuiet n (told_freed v b)
+      by true = (tt, tt)
+      by false = tt
   told-quiet (Restart v) ready = tt
   told-quiet (Hold v s i first) ready = by first
     where

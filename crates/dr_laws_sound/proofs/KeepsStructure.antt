@@ -8,14 +8,14 @@ use Rattle.dr_model.specs.Pairs.{is_kind}
 use Rattle.dr_model.specs.Layout.{Tracks, Fields, is_part}
 use Rattle.dr_model.specs.Histories.{Write}
 use Rattle.dr_model.specs.Relations.{rest, is_bare, is_whole, turned, given_up}
-use Rattle.dr_model.specs.Moves.{Move, Land, Overwrite, Keep, Note, Relate, Withdraw, Fetch, Resync, Reverse, Restore, Release, Store, Strike, Suspend, MakeSecondary, MakePrimary, DropPrimary, DropSecondary, Follow, Resume, TakeOver, FallBack, Yield, Unsync, Mirror, LandBoth, Thaw, Lift, Restart, Hold, Free, Seal, Finish, RaiseAttempt, RaiseFloor, Leave, Flash, Commit, Revert, moved, target, next_fields}
+use Rattle.dr_model.specs.Moves.{Move, Land, Overwrite, Keep, Note, Relate, Withdraw, Fetch, Resync, Reverse, Restore, Release, Store, Strike, Suspend, MakeSecondary, MakePrimary, DropPrimary, DropSecondary, Follow, Resume, TakeOver, FallBack, Yield, Unsync, Mirror, LandBoth, Thaw, Lift, Restart, Hold, Free, Seal, Finish, RaiseAttempt, RaiseFloor, Leave, Flash, Commit, Revert, moved, target, next_fields, FlashHold, FlashFree}
 use Rattle.dr_model.specs.Table.{Row, Table}
 use Rattle.dr_model.specs.Rows.{after, next_row, next_bytes, next_due, next_aside, volumes_of, carried_on}
 use Rattle.dr_model.specs.Laws.{Structure, Lawful, RowSets, RowFlags, RowDefined, SetsFit, FlagsFit, Flashed, OneRestore, RowReverts, source, fields}
 use Rattle.dr_model.specs.Allowed.{Allowed}
 use Rattle.dr_model.specs.Lawful.{IsLawful}
 use Rattle.dr_facts.proofs.Tables.{at_cases, each-at, linked-at}
-use Rattle.dr_facts.proofs.Lawful.{lawful-altered, lawful-written, lawful-held, lawful-freed, lawful-sealed, lawful-past_attempt, lawful-attempt, lawful-floor, lawful-no_member, lawful-received, lawful-struck, lawful-suspended, lawful-resumed, lawful-followed, lawful-made_secondary, lawful-made_primary, lawful-no_primary, lawful-no_secondary, lawful-taken_over, lawful-unsynced, lawful-mirrored, lawful-synced, lawful-thawed, lawful-lifted, lawful-restarted, lawful-fallen_back, lawful-yielded, lawful-taken, low-noted, lawful-noted, lawful-made, lawful-withdrawn, lawful-resynced, lawful-turned, lawful-given_up, lawful-flashed, lawful-committed, lawful-reverted}
+use Rattle.dr_facts.proofs.Lawful.{lawful-altered, lawful-written, lawful-held, lawful-freed, lawful-sealed, lawful-past_attempt, lawful-attempt, lawful-floor, lawful-no_member, lawful-received, lawful-struck, lawful-suspended, lawful-resumed, lawful-followed, lawful-made_secondary, lawful-made_primary, lawful-no_primary, lawful-no_secondary, lawful-taken_over, lawful-unsynced, lawful-mirrored, lawful-synced, lawful-thawed, lawful-lifted, lawful-restarted, lawful-fallen_back, lawful-yielded, lawful-taken, low-noted, lawful-noted, lawful-made, lawful-withdrawn, lawful-resynced, lawful-turned, lawful-given_up, lawful-flashed, lawful-committed, lawful-reverted, lawful-flash_held, lawful-flash_freed}
 use Rattle.dr_facts.proofs.Sets.{In, in_cond, in_none, in_more, not_turned, still_related, from_union, to-difference, not_removed}
 use Rattle.dr_model.proofs.LawfulLemmas.{removed}
 use Rattle.dr_logic.proofs.Choices.{chosen}
@@ -172,6 +172,7 @@ module _ (write : ℕ → Write) (T : Table) (old : Structure T) where
           secondary_partner = g.secondary_partner;
           seal = g.seal;
           floor = g.floor;
+          flash_hold = g.flash_hold;
           blank = g.blank;
         }) (carried_on write m T);
         bytes = next_bytes write m T;
@@ -211,6 +212,8 @@ module _ (write : ℕ → Write) (T : Table) (old : Structure T) where
   kept-structure (Mirror v t u w) a = paired (Mirror v t u w) (lawful-mirrored _ _ (old.lawful v) t) (λ q h. removed (fields T v).blank t q h)
   kept-structure (LandBoth w v t) a = paired (LandBoth w v t) (lawful-synced _ _ (old.lawful v) t (chosen _ _ a.to a.sends).0) (λ q h. removed (fields T v).blank t q h)
   kept-structure (Thaw v) a = paired (Thaw v) (lawful-thawed _ _ (old.lawful v)) (λ q h. h)
+  kept-structure (FlashHold v) a = paired (FlashHold v) (lawful-flash_held _ _ (old.lawful v)) (λ q h. h)
+  kept-structure (FlashFree v) a = paired (FlashFree v) (lawful-flash_freed _ _ (old.lawful v)) (λ q h. h)
   kept-structure (Lift v) a = paired (Lift v) (lawful-lifted _ _ (old.lawful v)) (λ q h. h)
   kept-structure (Restart v) a = paired (Restart v) (lawful-restarted _ _ (old.lawful v)) (λ q h. h)
   kept-structure (Hold v s n first) a = paired (Hold v s n first) (lawful-held _ _ (old.lawful v) n (kind_part Global (fields T v).primary a.global)) (λ q h. h)

@@ -1,5 +1,5 @@
 -- A pending write comes to land: where its volume's server is on and the volume is a place for it, it may.
-use Rattle.std.proofs.Common.{ℕ, ◌≡◌, refl, ap, sym, ◌∙◌, subst, Bool, true, false, cond, ◌&&◌, List, [], ◌∷◌, ◌++◌, map, filter, Some, None}
+use Rattle.std.proofs.Common.{ℕ, ◌≡◌, refl, ap, sym, ◌∙◌, subst, Bool, true, false, cond, ◌&&◌, ◌||◌, List, [], ◌∷◌, ◌++◌, map, filter, Some, None}
 use Rattle.std.proofs.lemmas.Bool.{false_from_ne_true, eqb-true, ne_eqb, not-true, or_parts}
 use Rattle.std.specs.List.{find}
 use Rattle.std.specs.FinSet.{contains}
@@ -22,6 +22,7 @@ use Rattle.dr_logic.proofs.Choices.{chosen, choose_some, choose_none}
 use Rattle.dr_logic.proofs.Truth.{and-second-false, false_true}
 use Rattle.dr_facts.proofs.Relations.{from-copies}
 use Rattle.dr_logic.proofs.Options.{none_some}
+use Rattle.dr_model.specs.Pairs.{held}
 
 -- a pending write that was found by its number is the only one with it
 none-of : (n : ℕ) (ps : List Pending) → AllPending (λ q. q.w ≡ n → ⊥) ps → filter (is_write n) ps ≡ []
@@ -67,6 +68,7 @@ module _ (w : World) (s : Sound w) (p : Pending) (one : filter (is_write p.w) w.
   pub may-ack : Runs w p.volume → MayAck w p.w p.volume p.track
   may-ack on = record {
     number = waits.number;
+    positive = waits.positive;
     volume = waits.volume;
     track = waits.track;
     coming = subst (AllPending (Coming p.volume p.track)) (sym one) (record { volume = refl; track = refl; landed = not_landed on }, tt);
@@ -82,6 +84,16 @@ dropped-checked w n ok r ds s unlanded same go = decides w (drop_unless n ok) (c
     by : (b : Bool) → ok w.control ≡ b → Then w (cond b Pass (Do (Drop n))) (λ v. Along v (check ok r ∷ ds))
     by true is = checked w ok r ds s go
     by false is = (unlanded, λ f k. checked (dropped w n) ok r ds k (λ passed. false_true is (sym same ∙ passed)))
+
+-- coordination or a flash hold holds its host writes back; a volume that isn't held at all isn't held back
+abbrev pub held_back : Fields → Bool
+held_back f = f.coordination || f.flash_hold
+
+pub not-back : (f : Fields) → held f ≡ false → held_back f ≡ false
+not-back f none =
+    let parts = or_parts (f.coordination || f.long_busy) f.flash_hold none in
+    let first = or_parts f.coordination f.long_busy parts.0 in
+    λ i. first.0 i || parts.1 i
 
 -- nothing is restored onto a volume
 abbrev pub Unrestored : World → ℕ → Type 0
@@ -115,7 +127,7 @@ module _ (w : World) (s : Sound w) (p : Pending) (one : filter (is_write p.w) w.
   f = fields_at w.control v
 
   -- on a volume that is no target, onto which nothing is restored, and whose targets keep the track first
-  pub plain-lands : Runs w v → is_part f.secondary ≡ false → f.related ≡ false → f.coordination ≡ false → (f.recording ≡ true → contains f.out_of_sync p.track ≡ false) → Unrestored w v → Unflashed w v → Along w (land_alone w.control.volumes p.w v p.track)
+  pub plain-lands : Runs w v → is_part f.secondary ≡ false → f.related ≡ false → held_back f ≡ false → (f.recording ≡ true → contains f.out_of_sync p.track ≡ false) → Unrestored w v → Unflashed w v → Along w (land_alone w.control.volumes p.w v p.track)
   plain-lands on free is open_to sent still settled =
       let plain : from w v ≡ None = choose_none f.related f.source is in
       copy-first v p.track w plain (waits w s p one).low on (keep_on v p.track) (λ w x y st. refl) _
@@ -125,25 +137,26 @@ module _ (w : World) (s : Sound w) (p : Pending) (one : filter (is_write p.w) w.
       let on_k : Runs k v = (λ i. st.on i (here i).server) ∙ on in
       let waits_k = waits k sk p one_k in
       let is_k : (fields_at k.control v).related ≡ false = ap (λ (x : Volume). x.fields.related) here ∙ is in
+      let back = or_parts (fields_at k.control v).coordination (fields_at k.control v).flash_hold (ap (λ (x : Volume). held_back x.fields) here ∙ open_to) in
       decides k (land_on p.w v p.track) [] (Do (Make (Land p.w v p.track))) (ap (λ b. Do (Make (cond b (Overwrite p.w v p.track) (Land p.w v p.track)))) is_k) (
-        record { runs = on_k; allowed = record { low = waits_k.low; defined = waits_k.defined; plain = choose_none _ _ is_k; first = ap (λ (x : Volume). is_part x.fields.secondary) here ∙ free; kept = kept; free = ap (λ (x : Volume). x.fields.coordination) here ∙ open_to; sent = λ r. ap (λ (x : Volume). contains x.fields.out_of_sync p.track) here ∙ sent (ap (λ (x : Volume). x.fields.recording) (sym here) ∙ r) }; fits = tt; group = tt; ready = may-ack k sk p one_k on_k },
+        record { runs = on_k; allowed = record { low = waits_k.low; defined = waits_k.defined; plain = choose_none _ _ is_k; first = ap (λ (x : Volume). is_part x.fields.secondary) here ∙ free; kept = kept; free = back.0; let_go = back.1; sent = λ r. ap (λ (x : Volume). contains x.fields.out_of_sync p.track) here ∙ sent (ap (λ (x : Volume). x.fields.recording) (sym here) ∙ r) }; fits = tt; group = tt; ready = may-ack k sk p one_k on_k },
         λ f j. over _ j,
       ))
       (λ u h r. absurd (still u h r)) settled s
 
   -- on a target, which isn't restored, and on which the host may write: so it doesn't count in a session
-  target-lands : Runs w v → f.related ≡ true → f.reversing ≡ false → f.revertible ≡ false → f.inhibited ≡ false → Along w (land_alone w.control.volumes p.w v p.track)
-  target-lands on is forward settled writable =
+  target-lands : Runs w v → f.related ≡ true → f.reversing ≡ false → f.revertible ≡ false → f.inhibited ≡ false → held_back f ≡ false → Along w (land_alone w.control.volumes p.w v p.track)
+  target-lands on is forward settled writable open_to =
       let related : from w v ≡ Some f.source = choose_some f.related f.source is in
       copy-none w v p.track _ (λ u h. none_some (s.rows.structure.flash u v h).plain related)
       (decides w (land_on p.w v p.track) [] (Do (Make (Overwrite p.w v p.track))) (ap (λ b. Do (Make (cond b (Overwrite p.w v p.track) (Land p.w v p.track)))) is) (
-        record { runs = on; allowed = record { low = (waits w s p one).low; from = f.source; related = related; forward = forward; settled = settled }; fits = tt; group = ((s.rows.structure.flags v).persists, uncounted-by w.control s.attempts v (λ t. false_true writable t.inhibits)); ready = may-ack w s p one on },
+        record { runs = on; allowed = record { low = (waits w s p one).low; from = f.source; related = related; forward = forward; settled = settled; let_go = (or_parts f.coordination f.flash_hold open_to).1 }; fits = tt; group = ((s.rows.structure.flags v).persists, uncounted-by w.control s.attempts v (λ t. false_true writable t.inhibits)); ready = may-ack w s p one on },
         λ f j. over _ j,
       )) w.control.volumes
 
   -- on either: a volume that is settled isn't restored, nor is another onto it
-  pub lands-alone : Runs w v → is_part f.secondary ≡ false → is_open v w.control ≡ true → is_settled v w.control ≡ true → f.coordination ≡ false → (f.recording ≡ true → contains f.out_of_sync p.track ≡ false) → (b : Bool) → f.related ≡ b → Along w (land_alone w.control.volumes p.w v p.track)
+  pub lands-alone : Runs w v → is_part f.secondary ≡ false → is_open v w.control ≡ true → is_settled v w.control ≡ true → held_back f ≡ false → (f.recording ≡ true → contains f.out_of_sync p.track ≡ false) → (b : Bool) → f.related ≡ b → Along w (land_alone w.control.volumes p.w v p.track)
   lands-alone on free writable settled open_to sent true is = target-lands on is (and-second-false f.related f.reversing (or_parts (f.related && f.reversing) _ (both-not (stands_in is_revertible w.control v) (stands_in is_reversing w.control v) settled).1).0 is)
       (and-second-false f.related f.revertible (or_parts (f.related && f.revertible) _ (both-not (stands_in is_revertible w.control v) (stands_in is_reversing w.control v) settled).0).0 is)
-      (and-second-false f.related f.inhibited (not-true (f.related && f.inhibited) writable) is)
+      (and-second-false f.related f.inhibited (not-true (f.related && f.inhibited) writable) is) open_to
   lands-alone on free writable settled open_to sent false is = plain-lands on free is open_to sent (λ u h r. unrestored w s v settled u h r) (unflashed w s v settled)

@@ -22,13 +22,13 @@ use Rattle.dr_model.specs.Carry.{Make, Pass, Do, Entry, Outcome, carry, now}
 use Rattle.dr_model.specs.Entries.{fields_at, is_running, relation_state, pair_state, share_server, share_size, is_no_target, is_settled}
 use Rattle.dr_model.specs.PairEntries.{are_linked, reach_refusal, differs_at, two_servers, stands_free, may_follow, leads_to, belongs_to, let_go, remove_both, may_pause, tell_paused, may_resume, follow_on, resume_on, may_take_over, leads_as, fall_back_on, yield_on, first_differing}
 use Rattle.dr_model.specs.PlanParts.{Plan, only_says, tables_plan, entries_plan, unless, on_named, on_owner, on_session}
-use Rattle.dr_model.specs.Plans.{counted_refusal, restore_refusal, left_by, member_refusal, found_volumes, found_pair, named_pair, flash_entries, withdraw_entries, make_flash_plan, remove_flash_plan, resync_flash_plan, reverse_flash_plan, copy_plan, copy_one, make_pair_plan, remove_pair_plan, pause_pair_plan, resume_pair_plan, yield_refusal, failover_plan, failback_plan, compare_plan, is_defined, is_owner, differ, is_no_source, has_few_targets, is_plain_target, is_recorded_target, is_lone_restore, may_return, may_give_back, may_copy, at_most, left_to_copy}
+use Rattle.dr_model.specs.Plans.{counted_refusal, restore_refusal, left_by, member_refusal, found_volumes, found_pair, named_pair, establish_entries, withdraw_entries, make_flash_plan, remove_flash_plan, resync_flash_plan, reverse_flash_plan, copy_plan, copy_one, make_pair_plan, remove_pair_plan, pause_pair_plan, resume_pair_plan, yield_refusal, failover_plan, failback_plan, compare_plan, is_defined, is_owner, differ, is_no_source, has_few_targets, is_plain_target, is_recorded_target, is_lone_restore, may_return, may_give_back, may_copy, at_most, left_to_copy}
 use Rattle.dr_model.specs.SessionPlans.{mirror_phase, session_phase}
 use Rattle.dr_model.specs.Carried.{begun, finish, carried_out, answered}
 use Rattle.dr_model.specs.Forming.{refusal_said, part_refusal}
 use Rattle.dr_model.proofs.CarryLemmas.{carry-none}
 use Rattle.dr_laws_sound.specs.Stops.{refused_stop}
-use Rattle.dr_laws_sound.proofs.Endless.{do-goes, pass-goes, choice-goes, then-endless, last-endless, now-endless, times-endless, copy-endless, none-endless}
+use Rattle.dr_laws_sound.proofs.Endless.{do-goes, pass-goes, choice-goes, then-endless, last-endless, now-endless, times-endless, copy-endless, none-endless, relate-endless}
 use Rattle.dr_laws_sound.proofs.ChecksFirst.{ChecksFirst, first-done, first-check, first-refuse, first-leads, follow-stays}
 
 -- a plan is refused with r, which is no stop
@@ -120,11 +120,11 @@ first-named k dev s t ds rest = first-check (is_defined s) _ _ (first-check (is_
 first-found : (devs : Devs) (a b : ℕ) (ds : List Entry) → ChecksFirst ds → ChecksFirst (found_volumes devs a b ++ ds)
 first-found devs a b ds rest = first-check (is_defined a) _ _ (first-check (is_defined b) _ _ (first-check (is_owner devs.dev a) _ _ (first-check (is_owner devs.remotedev b) _ _ rest)))
 
-pub still-flash : (k : Control) (dev : Option Name) (s t : ℕ) (choices : Choices) → Still (make_flash_plan k dev s t choices)
-still-flash k dev s t choices = still-entries (found_pair dev s t ++ flash_entries k s t choices) _ (first-named k dev s t _
+pub still-flash : (k : Control) (dev : Option Name) (s t : ℕ) (freeze : Bool) (choices : Choices) → Still (make_flash_plan k dev s t freeze choices)
+still-flash k dev s t freeze choices = still-entries (found_pair dev s t ++ establish_entries k s t freeze choices) _ (first-named k dev s t _
     (first-check (differ s t) _ _ (first-check (share_server s t) _ _ (first-check (share_size s t) _ _
     (first-check (is_no_target t) (relation_state k t) _ (first-check (is_no_source t) (relation_state k t) _ (first-check (is_no_target s) (relation_state k s) _
-    (first-check (stands_free t) (pair_state k t) _ (first-check (has_few_targets s) _ _ (first-done _ (now-endless (Relate t s choices))))))))))))
+    (first-check (stands_free t) (pair_state k t) _ (first-check (has_few_targets s) _ _ (first-done _ (relate-endless freeze s (Relate t s choices))))))))))))
 
 pub still-withdraw : (k : Control) (dev : Option Name) (s t : ℕ) → Still (remove_flash_plan k dev s t)
 still-withdraw k dev s t = still-entries (found_pair dev s t ++ withdraw_entries k s t) _

@@ -12,7 +12,7 @@ use Rattle.dr_model.specs.declared.said.Said.TheVariants.{Refused}
 use Rattle.dr_model.specs.declared.said.Addition.TheVariants.{Alone}
 use Rattle.dr_model.specs.declared.step.Name.{Name}
 use Rattle.dr_model.specs.declared.step.Step.{Step}
-use Rattle.dr_model.specs.declared.step.Step.TheVariants.{Server, Volume, Link, Stop, StopAfter, Start, Issue, Write, Apply, Show, MakeFlash, RemoveFlash, ResyncFlash, ReverseFlash, Copy, MakePath, RemovePath, MakePair, RemovePair, PausePair, ResumePair, Failover, Failback, Drain, Expire, Freeze, Unfreeze, MakeSession, RemoveSession, AddMember, RemoveMember, MakeMirror, PauseMirror, ResumeMirror, RemoveMirror, Abort, Exchange, Recover, CommitFlash, RevertFlash, Run, ListPairs, ListFlashes, ListSession, ShowMirror}
+use Rattle.dr_model.specs.declared.step.Step.TheVariants.{Server, Volume, Link, Stop, StopAfter, Start, Issue, Write, Apply, Show, MakeFlash, RemoveFlash, ResyncFlash, ReverseFlash, Copy, MakePath, RemovePath, MakePair, RemovePair, PausePair, ResumePair, Failover, Failback, Drain, Expire, Freeze, Unfreeze, MakeSession, RemoveSession, AddMember, RemoveMember, MakeMirror, PauseMirror, ResumeMirror, RemoveMirror, Abort, Exchange, Recover, CommitFlash, RevertFlash, Run, ListPairs, ListFlashes, ListSession, ShowMirror, UnfreezeFlash}
 use Rattle.dr_model.specs.Layout.{kind_of}
 use Rattle.dr_model.specs.Listings.{listing_refusal}
 use Rattle.dr_model.specs.Control.{Control, World}
@@ -23,13 +23,13 @@ use Rattle.dr_model.specs.SessionEntries.{first_number}
 use Rattle.dr_model.specs.PlanParts.{Plan, refuses, unless, on_session, on_owner, owner_of, server_named, name_bytes, is_defined}
 use Rattle.dr_model.specs.SessionPlans.{table_plan, name_refusal, off_refusal, outside_refusal, master_refusal, place_refusal, taken_refusal, copy_refusal, member_target, member_with, add_target, expel_found, abort_plan, add_plan, expel_plan}
 use Rattle.dr_model.specs.RecoveryPlans.{decided_in, lets_commit, lets_revert, settle_on, member_of_target, revertible_target, settle_refusal, settle_member, settle_target, settle_plan}
-use Rattle.dr_model.specs.Plans.{plan_of, step_plan, has_room, server_refusal, volume_refusal, issue_refusal, show_refusal, start_plan, landed_on, says_acked, path_refusal, unpath_refusal, freeze_refusal, thaw_refusal}
+use Rattle.dr_model.specs.Plans.{plan_of, step_plan, has_room, server_refusal, volume_refusal, issue_refusal, show_refusal, start_plan, landed_on, says_acked, path_refusal, unpath_refusal, freeze_refusal, thaw_refusal, release_refusal}
 use Rattle.dr_model.specs.Carried.{carried_out, answered, said, masters_lost, after_plan}
 use Rattle.dr_model.specs.Forming.{refusal_said, part_refusal}
 use Rattle.dr_model.specs.Runs.{own_course}
 use Rattle.dr_facts.proofs.Sessions.{lost-none}
 use Rattle.dr_laws_sound.specs.RefusedSteps.{is_by_volume, is_off, with_issued, Leaves}
-use Rattle.dr_laws_sound.proofs.Endless.{last-endless, settle-goes, start-endless, freeze-endless, thaw-endless, expire-endless, now-endless, add-endless}
+use Rattle.dr_laws_sound.proofs.Endless.{last-endless, settle-goes, start-endless, freeze-endless, thaw-endless, expire-endless, now-endless, add-endless, release-endless}
 use Rattle.dr_laws_sound.proofs.ChecksFirst.{first-done, never-leads, on-stays}
 use Rattle.dr_laws_sound.proofs.RefusedPlans.{Refuses, Still, entries-refuse, still-plan, same-begun, still-entries, still-says, still-tables, never-refused, still-choice, still-unless, still-named, still-owner, still-session, phase-accepts, still-flash, still-withdraw, still-resync, still-reverse, still-copy, still-pair, still-remove, still-pause, still-resume, still-failover, still-failback}
 use Rattle.dr_laws_sound.proofs.RefusedWrites.{says-left, write-left, applied-left, drain-left, exchange-left, recover-left}
@@ -100,7 +100,7 @@ plan-left w line (Stop name) one = still-named (server_named w.control (name_byt
 plan-left w line (StopAfter name writes torn) one = still-named (server_named w.control (name_bytes name)) _ (λ s. still-tables _ _ _) w
 plan-left w line (Start name) one = still-named (server_named w.control (name_bytes name)) _ (λ s. still-choice (w.control.on s) _ _ (still-says _) (start-still w.control s)) w
 plan-left w line (Show v t) one = still-unless (show_refusal w.control v t) _ (still-tables _ _ _) w
-plan-left w line (MakeFlash devs s t nocopy persistent recorded inhibited sequence) one = still-flash w.control devs.dev s t _ w
+plan-left w line (MakeFlash devs s t nocopy persistent recorded inhibited freeze sequence) one = still-flash w.control devs.dev s t freeze _ w
 plan-left w line (RemoveFlash devs s t sequence) one = still-withdraw w.control devs.dev s t w
 plan-left w line (ResyncFlash devs s t nocopy persistent recorded inhibited sequence) one = still-resync w.control devs.dev s t sequence w
 plan-left w line (ReverseFlash devs s t tgtpprc sequence) one = still-reverse w.control devs.dev s t w
@@ -115,6 +115,7 @@ plan-left w line (Failover devs b a kind) one = still-failover b a w.control dev
 plan-left w line (Failback devs x y kind) one = still-failback x y w.control devs (kind_of kind) w
 plan-left w line (Drain a most) one = drain-left w a most
 plan-left w line (Expire name) one = still-named (server_named w.control (name_bytes name)) _ (λ s. still-choice (w.control.on s) _ _ (still-entries _ _ (first-done _ (expire-endless s w.control.volumes))) (still-says _)) w
+plan-left w line (UnfreezeFlash devs l) one = still-owner (owner_of w.control l) _ (λ s. still-unless (release_refusal w.control devs.dev s) _ (still-entries _ _ (first-done _ (release-endless l w.control.volumes)))) w
 plan-left w line (Freeze devs l m) one = still-owner (owner_of w.control l) _ (λ s. still-owner (owner_of w.control m) _ (λ u. still-unless (freeze_refusal w.control devs l m s u) _ (still-entries _ _ (first-done _ (freeze-endless l m w.control.volumes))))) w
 plan-left w line (Unfreeze devs l m) one = still-owner (owner_of w.control l) _ (λ s. still-owner (owner_of w.control m) _ (λ u. still-unless (thaw_refusal w.control devs s u) _ (still-entries _ _ (first-done _ (thaw-endless l m w.control.volumes))))) w
 plan-left w line (MakeSession devs l s) one = still-owner (owner_of w.control l) _ (λ owner. still-unless (option_or (name_refusal w.control devs.dev owner) (option_or (off_refusal w.control owner) (join_refusal (session_in w.control.sessions s) l w.control.sessions))) _ (still-tables _ _ _)) w

@@ -38,7 +38,7 @@ use Rattle.dr_laws_closed.proofs.Regroups.{regroups-same, regroups-joined, regro
 use Rattle.dr_model.specs.Listings.{lists}
 use Rattle.dr_laws_sound.specs.Calm.{Carries, ComesTo}
 use Rattle.dr_laws_sound.proofs.Listed.{AllLines, Plain, lines-plain, lines-lists, image-lines}
-use Rattle.dr_laws_sound.proofs.Cases.{Case, Says, DefinesServer, DefinesVolume, SetsLink, Issues, Writes, Applies, Lists, Shows, Stops, Arms, Starts, MakesFlash, RemovesFlash, ResyncsFlash, ReversesFlash, Copies, MakesPath, RemovesPath, MakesPair, RemovesPair, PausesPair, ResumesPair, FailsOver, FailsBack, Compares, Drains, Expires, Freezes, Unfreezes, MakesSession, RemovesSession, MakesMirror, PausesMirror, RemovesMirror, Aborts, AddsMember, RemovesMember, Exchanges, Recovers, Settles, added, expelled, ordered, is-new, may-issue}
+use Rattle.dr_laws_sound.proofs.Cases.{Case, Says, DefinesServer, DefinesVolume, SetsLink, Issues, Writes, Applies, Lists, Shows, Stops, Arms, Starts, MakesFlash, RemovesFlash, ResyncsFlash, ReversesFlash, Copies, MakesPath, RemovesPath, MakesPair, RemovesPair, PausesPair, ResumesPair, FailsOver, FailsBack, Compares, Drains, Expires, Freezes, Unfreezes, MakesSession, RemovesSession, MakesMirror, PausesMirror, RemovesMirror, Aborts, AddsMember, RemovesMember, Exchanges, Recovers, Settles, added, expelled, ordered, is-new, may-issue, Releases}
 use Rattle.dr_laws_sound.proofs.KeepsSound.{Along, StepHolds, RowsAt, MayDo, keeps-sound, sound-gone, over}
 use Rattle.dr_laws_sound.proofs.Along as along
 use Rattle.dr_laws_sound.proofs.FitsFlash.{as_begun, sound-begun, along-flash, along-withdraw, along-resync, along-reverse}
@@ -47,7 +47,7 @@ use Rattle.dr_laws_sound.proofs.FitsPairs.{along-pair, along-remove, along-pause
 use Rattle.dr_laws_sound.proofs.FitsFailover.{along-failover, along-failback, along-compare}
 use Rattle.dr_laws_sound.proofs.FitsDrain.{along-drain, suspends-after}
 use Rattle.dr_laws_sound.proofs.FitsWrites.{lands, writes-after}
-use Rattle.dr_laws_sound.proofs.FitsHolds.{freezes, thaws, lifts}
+use Rattle.dr_laws_sound.proofs.FitsHolds.{freezes, thaws, lifts, releases}
 use Rattle.dr_laws_sound.proofs.FitsSessions.{Orders, sound-sessions, sound-lost}
 use Rattle.dr_laws_sound.proofs.FitsMembers.{orders-added, orders-expelled}
 use Rattle.dr_laws_sound.proofs.FitsOrders.{orders-ordered}
@@ -241,7 +241,7 @@ module _ (K : World → Type 0) (rider : Rider K) where
               record { rows = here.0.0.sound.rows; allowed = start-allowed x _ _ v m here.1; law = here.0.1 };
           gone = λ armed u r e. inr (λ q. refl);
         }
-    case-rides _ (MakesFlash dev v t choices) = entries _ _ (along-flash w s dev v t choices)
+    case-rides _ (MakesFlash dev v t freeze choices) = entries _ _ (along-flash w s dev v t freeze choices)
     case-rides _ (RemovesFlash dev v t) = entries _ _ (along-withdraw w s dev v t)
     case-rides _ (ResyncsFlash dev v t sequence) = entries _ _ (along-resync w s dev v t sequence)
     case-rides _ (ReversesFlash dev v t) = entries _ _ (along-reverse w s dev v t)
@@ -260,6 +260,7 @@ module _ (K : World → Type 0) (rider : Rider K) where
     case-rides _ (Expires x on) = entries _ _ (lifts x w.control.volumes (as_begun w) (sound-begun w s) on)
     case-rides _ (Freezes l m) = entries _ _ (freezes l m w.control.volumes (as_begun w) (sound-begun w s))
     case-rides _ (Unfreezes l m) = entries _ _ (thaws l m w.control.volumes (as_begun w) (sound-begun w s))
+    case-rides _ (Releases l) = entries _ _ (releases l w.control.volumes (as_begun w) (sound-begun w s))
     case-rides _ (MakesSession l i free) = sessions (joined i l) _ (groups-joined w.control i l s.groups) (with-joined w.control s.groups s.attempts i l) (regroups-joined w.control.sessions s.groups.once i l)
     case-rides _ (RemovesSession l i x found free) = sessions (left i l) _ (groups-left w.control i l x s.groups found free) (with-left w.control s.groups s.attempts i l x found free) (regroups-left w.control.sessions s.groups.once i l)
     case-rides _ (MakesMirror owner i x found free l owned) =

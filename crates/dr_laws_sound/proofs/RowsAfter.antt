@@ -16,7 +16,7 @@ use Rattle.dr_model.specs.Control.{Control, Pending, Volume, Fuse, World, is_vol
 use Rattle.dr_model.specs.Layout.{Tracks}
 use Rattle.dr_model.specs.Relations.{rest, is_bare, turned, given_up}
 use Rattle.dr_model.specs.Pairs.{is_suspended}
-use Rattle.dr_model.specs.Moves.{Move, Land, Overwrite, Keep, Relate, Withdraw, Fetch, Resync, Reverse, Restore, Release, Store, Suspend, Mirror, LandBoth, Hold, Flash, Commit, Revert, target, told, told_in_stop, landed, settled, settled_in_stop, moved, tracks_after}
+use Rattle.dr_model.specs.Moves.{Move, Land, Overwrite, Keep, Relate, Withdraw, Fetch, Resync, Reverse, Restore, Release, Store, Suspend, Mirror, LandBoth, Hold, Flash, Commit, Revert, target, told, told_in_stop, landed, settled, settled_in_stop, moved, tracks_after, Lift, told_freed}
 use Rattle.dr_model.specs.Table.{table, waiting, due, due_by, aside, aside_by}
 use Rattle.dr_model.specs.Rows.{emptied, next_row, next_due, next_aside, next_bytes, after}
 use Rattle.dr_model.specs.Laws.{servers, Structure, Blank, Queue, Waits, AllPending}
@@ -166,6 +166,11 @@ module _ (w : World) where
     each-due (Mirror v t u n) a ready = due-mirrored h ps n v t u ready.volume ready.track (calm w v ready.idle) (calm w u ready.from_idle)
     each-due (LandBoth n v t) a ready = due-acked h ps n v t ready.volume ready.track (calm w v ready.idle) ready.coming
     each-due (Suspend v busy) a ready = due-told h ps v (Suspended v) (λ h. refl) (is_suspended (w.control.volume v).fields.primary_state)
+    each-due (Lift v) a ready = by (w.control.volume v).fields.flash_hold
+      where
+        by : (b : Bool) → (u q : ℕ) → due_by (fold after_event h (told_freed v b)) ps u q ≡ at (due w) v (due w v) u q
+        by true u q = due-same h ps v u q
+        by false u q = due-same h ps v u q
     each-due (Hold v s n first) a ready = by first
       where
         by : (b : Bool) → (u q : ℕ) → due_by (fold after_event h (cond b (Begin s n ∷ Cut s n v ∷ []) (Cut s n v ∷ []))) ps u q ≡ at (due w) v (due w v) u q
@@ -185,6 +190,11 @@ module _ (w : World) where
     each-aside (Suspend v busy) ready = by (is_suspended (w.control.volume v).fields.primary_state)
       where
         by : (b : Bool) → (u q : ℕ) → aside_by (fold after_event h (cond b [] (Suspended v ∷ []))) u q ≡ at (aside w) v (aside w v) u q
+        by true u q = aside-same h v u q
+        by false u q = aside-same h v u q
+    each-aside (Lift v) ready = by (w.control.volume v).fields.flash_hold
+      where
+        by : (b : Bool) → (u q : ℕ) → aside_by (fold after_event h (told_freed v b)) u q ≡ at (aside w) v (aside w v) u q
         by true u q = aside-same h v u q
         by false u q = aside-same h v u q
     each-aside (Hold v s n first) ready = by first

@@ -14,7 +14,7 @@ use Rattle.dr_model.specs.Layout.{Tracks, Fields}
 use Rattle.dr_model.specs.Relations.{rest, turned}
 use Rattle.dr_model.specs.Limits.{step_events, most_volumes, most_tracks}
 use Rattle.dr_model.specs.Control.{Control, World}
-use Rattle.dr_model.specs.Moves.{Relate, Withdraw, Fetch, Resync, Reverse, Leave, told_left}
+use Rattle.dr_model.specs.Moves.{Withdraw, Fetch, Resync, Reverse, Leave, told_left}
 use Rattle.dr_model.specs.Carry.{Make, Entry, Outcome, carry, follow, now}
 use Rattle.dr_model.specs.Entries.{fields_at, is_running, times, on_found, lowest_missing, fetch_next, give_back, share_server, share_size, is_no_target}
 use Rattle.dr_model.specs.PairEntries.{tracks_to_send, is_copying, stands_free}
@@ -23,7 +23,7 @@ use Rattle.dr_model.specs.Forming.{after_part}
 use Rattle.dr_model.specs.Runs.{begun, finish, after_plan}
 use Rattle.dr_model.specs.Laws.{Sound}
 use Rattle.dr_laws_sound.specs.Limits.{IsWithin}
-use Rattle.dr_laws_sound.proofs.Cases.{Case, Says, DefinesServer, DefinesVolume, SetsLink, Issues, Writes, Applies, Lists, Shows, Stops, Arms, Starts, MakesFlash, RemovesFlash, ResyncsFlash, ReversesFlash, Copies, MakesPath, RemovesPath, MakesPair, RemovesPair, PausesPair, ResumesPair, FailsOver, FailsBack, Compares, Drains, Expires, Freezes, Unfreezes, MakesSession, RemovesSession, MakesMirror, PausesMirror, RemovesMirror, Aborts, AddsMember, RemovesMember, Exchanges, Recovers, Settles}
+use Rattle.dr_laws_sound.proofs.Cases.{Case, Says, DefinesServer, DefinesVolume, SetsLink, Issues, Writes, Applies, Lists, Shows, Stops, Arms, Starts, MakesFlash, RemovesFlash, ResyncsFlash, ReversesFlash, Copies, MakesPath, RemovesPath, MakesPair, RemovesPair, PausesPair, ResumesPair, FailsOver, FailsBack, Compares, Drains, Expires, Freezes, Unfreezes, MakesSession, RemovesSession, MakesMirror, PausesMirror, RemovesMirror, Aborts, AddsMember, RemovesMember, Exchanges, Recovers, Settles, Releases}
 use Rattle.dr_facts.proofs.Sets.{not_removed, rest_low}
 use Rattle.dr_laws_sound.proofs.Costs.{Costs, costs-nil, costs-check, costs-last, carry-adds, Small, Light, AllLight, light-none, light-then, light-costs, small-pass, small-do}
 use Rattle.dr_laws_sound.proofs.CopyCosts.{rounds}
@@ -32,7 +32,7 @@ use Rattle.dr_model.specs.SessionPlans.{member_with}
 use Rattle.dr_laws_sessions.proofs.Members.{members-few}
 use Rattle.dr_laws_sound.proofs.SessionCosts.{add-costs, order-costs, light-settle, recover-costs}
 use Rattle.dr_model.specs.RecoveryPlans.{decided_in, settle_on}
-use Rattle.dr_laws_sound.proofs.WriteCosts.{brief-costs, brief-landing, after_write-few, brief-freeze, brief-thaw, brief-expire, brief-start}
+use Rattle.dr_laws_sound.proofs.WriteCosts.{brief-costs, brief-landing, after_write-few, brief-freeze, brief-thaw, brief-expire, brief-start, brief-release, brief-relate}
 use Rattle.dr_model.proofs.LawfulLemmas.{removed}
 use Rattle.dr_facts.proofs.Tracks.{empty_has}
 use Rattle.dr_facts.proofs.Costs.{blanks-few, restored-few}
@@ -179,9 +179,9 @@ module _ (w : World) (x : Sound w) (h : IsWithin w.control) where
   case-spends line _ (Stops s on) = tables-spends _ _ _ (omega arith)
   case-spends line _ (Arms writes torn s) = tables-spends _ _ _ (omega arith)
   case-spends line _ (Starts s off) = record { spends = 129; costs = brief-costs 129 _ (brief-start most_volumes w.control.volumes h.volumes s) _; after = 0; follows = none-adds; few = omega arith }
-  case-spends line _ (MakesFlash dev s t choices) = entries-spends _ _ 1
-      (named-costs 1 _ w.control dev s t _ (costs-check 1 _ (differ s t) _ _ (costs-check 1 _ (share_server s t) _ _ (costs-check 1 _ (share_size s t) _ _ (costs-check 1 _ (is_no_target t) _ _
-      (costs-check 1 _ (is_no_source t) _ _ (costs-check 1 _ (is_no_target s) _ _ (costs-check 1 _ (stands_free t) _ _ (costs-check 1 _ (has_few_targets s) _ _ (costs-last 1 _ (Relate t s choices) (omega arith))))))))))) (omega arith)
+  case-spends line _ (MakesFlash dev s t freeze choices) = entries-spends _ _ 2
+      (named-costs 2 _ w.control dev s t _ (costs-check 2 _ (differ s t) _ _ (costs-check 2 _ (share_server s t) _ _ (costs-check 2 _ (share_size s t) _ _ (costs-check 2 _ (is_no_target t) _ _
+      (costs-check 2 _ (is_no_source t) _ _ (costs-check 2 _ (is_no_target s) _ _ (costs-check 2 _ (stands_free t) _ _ (costs-check 2 _ (has_few_targets s) _ _ (brief-costs 2 _ (brief-relate freeze s t choices) _)))))))))) (omega arith)
   case-spends line _ (RemovesFlash dev s t) =
       let u = w.control.volume t in
       let small : u.tracks ≤ most_tracks = h.tracks t in
@@ -221,6 +221,7 @@ module _ (w : World) (x : Sound w) (h : IsWithin w.control) where
       }
   case-spends line _ (Expires s on) = entries-spends _ _ 64 (brief-costs 64 _ (brief-expire most_volumes w.control.volumes h.volumes s) _) (omega arith)
   case-spends line _ (Freezes l m) = entries-spends _ _ 65 (brief-costs 65 _ (brief-freeze most_volumes w.control.volumes h.volumes l m) _) (omega arith)
+  case-spends line _ (Releases l) = entries-spends _ _ 64 (brief-costs 64 _ (brief-release most_volumes w.control.volumes h.volumes l) _) (omega arith)
   case-spends line _ (Unfreezes l m) = entries-spends _ _ 65 (brief-costs 65 _ (brief-thaw most_volumes w.control.volumes h.volumes l m) _) (omega arith)
   case-spends line _ (MakesSession l s free) = tables-spends _ _ _ (omega arith)
   case-spends line _ (RemovesSession l s y found free) = tables-spends _ _ _ (omega arith)

@@ -173,6 +173,7 @@ module _ (s : ℕ) where
   waits-free : (k : Control) (write : ℕ → Write) (p : Pending) → Waits (Some s) k write p → (k.on s ≡ false) ⊎ Free (servers k) s p → Waits None k write p
   waits-free k write p waits free = record {
     number = waits.number;
+    positive = waits.positive;
     defined = waits.defined;
     low = waits.low;
     volume = waits.volume;
@@ -325,6 +326,7 @@ module _ (s : ℕ) where
   starts-waits : (w : World) → Sound w → (p : Pending) → Waits None w.control (histories w.events).write p → Waits (Some s) (starting s w.control) (histories w.events).write p
   starts-waits w x p waits = record {
     number = waits.number;
+    positive = waits.positive;
     defined = waits.defined;
     low = waits.low;
     volume = waits.volume;

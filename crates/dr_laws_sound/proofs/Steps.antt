@@ -28,7 +28,7 @@ use Rattle.dr_laws_sessions.proofs.Housed.{housed-none, housed-server}
 use Rattle.dr_laws_attempts.proofs.Volumes.{attempts-none}
 use Rattle.dr_model.specs.Listings.{lists}
 use Rattle.dr_laws_sound.proofs.Listed.{AllLines, lines-plain, lines-lists, image-lines}
-use Rattle.dr_laws_sound.proofs.Cases.{Case, Says, DefinesServer, DefinesVolume, SetsLink, Issues, Writes, Applies, Lists, Shows, Stops, Arms, Starts, MakesFlash, RemovesFlash, ResyncsFlash, ReversesFlash, Copies, MakesPath, RemovesPath, MakesPair, RemovesPair, PausesPair, ResumesPair, FailsOver, FailsBack, Compares, Drains, Expires, Freezes, Unfreezes, MakesSession, RemovesSession, MakesMirror, PausesMirror, RemovesMirror, Aborts, AddsMember, RemovesMember, Exchanges, Recovers, Settles, IsTrack, servers-left, is-new, may-issue}
+use Rattle.dr_laws_sound.proofs.Cases.{Case, Says, DefinesServer, DefinesVolume, SetsLink, Issues, Writes, Applies, Lists, Shows, Stops, Arms, Starts, MakesFlash, RemovesFlash, ResyncsFlash, ReversesFlash, Copies, MakesPath, RemovesPath, MakesPair, RemovesPair, PausesPair, ResumesPair, FailsOver, FailsBack, Compares, Drains, Expires, Freezes, Unfreezes, MakesSession, RemovesSession, MakesMirror, PausesMirror, RemovesMirror, Aborts, AddsMember, RemovesMember, Exchanges, Recovers, Settles, IsTrack, servers-left, is-new, may-issue, Releases}
 use Rattle.dr_laws_sound.proofs.Parts.{Comes, Ending, OnePlan, Imaged, course-case, each-plan, last-plan}
 use Rattle.dr_laws_sound.proofs.KeepsQueue.{Quiet, AllQuiet, goes-off}
 use Rattle.dr_laws_sound.proofs.KeepsSound.{StepHolds, RowsAt, MayDo, holds-moves, keeps-sound, sound-told, over}
@@ -44,7 +44,7 @@ use Rattle.dr_laws_sound.proofs.FitsSessions.{sound-lost, holds-joined, holds-le
 use Rattle.dr_laws_sound.proofs.FitsMembers.{orders-added, orders-expelled}
 use Rattle.dr_laws_sound.proofs.FitsOrders.{orders-ordered}
 use Rattle.dr_laws_sound.proofs.FitsRecovery.{along-recover, along-settle}
-use Rattle.dr_laws_sound.proofs.FitsHolds.{holds-freeze, holds-thaw, holds-expire}
+use Rattle.dr_laws_sound.proofs.FitsHolds.{holds-freeze, holds-thaw, holds-expire, holds-release}
 use Rattle.dr_facts.proofs.Sets.{in_none}
 use Rattle.dr_laws_sound.proofs.Defines.{sound-defined}
 use Rattle.dr_laws_sound.proofs.Starts.{holds-start}
@@ -132,7 +132,7 @@ module _ (w : World) (s : Sound w) (line : ℕ) where
       let f : Fuse = record { after = writes; torn = torn_bytes torn } in
       holds-quiet w (at w.control.fuse x (Some f)) w.control.link w.control.paths _ s (λ k. record k { fuse = at k.fuse x (Some f) }) refl
   case-holds _ (Starts x off) = holds-start x w s
-  case-holds _ (MakesFlash dev v t choices) = holds-flash w s dev v t choices
+  case-holds _ (MakesFlash dev v t freeze choices) = holds-flash w s dev v t freeze choices
   case-holds _ (RemovesFlash dev v t) = holds-withdraw w s dev v t
   case-holds _ (ResyncsFlash dev v t sequence) = holds-resync w s dev v t sequence
   case-holds _ (ReversesFlash dev v t) = holds-reverse w s dev v t
@@ -150,6 +150,7 @@ module _ (w : World) (s : Sound w) (line : ℕ) where
   case-holds _ (Expires x on) = holds-expire x w s on
   case-holds _ (Freezes l m) = holds-freeze l m w s
   case-holds _ (Unfreezes l m) = holds-thaw l m w s
+  case-holds _ (Releases l) = holds-release l w s
   case-holds _ (MakesSession l i free) = holds-joined w s l i free
   case-holds _ (RemovesSession l i x found free) = holds-left w s l i x found free
   case-holds _ (MakesMirror owner i x found free l owned) = holds-mirrored w s owner i x found free l owned

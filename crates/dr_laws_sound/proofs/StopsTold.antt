@@ -11,7 +11,7 @@ use Rattle.dr_model.specs.Control.{Control, Fuse, Volume as VolumeRow, World}
 use Rattle.dr_model.specs.Layout.{Tracks}
 use Rattle.dr_model.specs.Relations.{is_bare, in_order, rest}
 use Rattle.dr_model.specs.Pairs.{is_suspended}
-use Rattle.dr_model.specs.Moves.{Move, Land, Overwrite, Keep, Note, Relate, Withdraw, Fetch, Resync, Reverse, Restore, Release, Store, Strike, Suspend, MakeSecondary, MakePrimary, DropPrimary, DropSecondary, Follow, Resume, TakeOver, FallBack, Yield, Unsync, Mirror, LandBoth, Thaw, Lift, Restart, Hold, Free, Seal, Finish, RaiseAttempt, RaiseFloor, Leave, Flash, Commit, Revert, told_blank, told_restored, told, told_in_stop, landed, target}
+use Rattle.dr_model.specs.Moves.{Move, Land, Overwrite, Keep, Note, Relate, Withdraw, Fetch, Resync, Reverse, Restore, Release, Store, Strike, Suspend, MakeSecondary, MakePrimary, DropPrimary, DropSecondary, Follow, Resume, TakeOver, FallBack, Yield, Unsync, Mirror, LandBoth, Thaw, Lift, Restart, Hold, Free, Seal, Finish, RaiseAttempt, RaiseFloor, Leave, Flash, Commit, Revert, told_blank, told_restored, told, told_in_stop, landed, target, FlashHold, FlashFree, told_freed}
 use Rattle.dr_model.specs.Carry.{Act, Make, OpenAttempt, Redo, Acknowledge, Drop, EndFreeze, EndThaw, EndRecovery, act, Turn, Next, Pass, Do, End, Entry, Outcome, carry, continue, go}
 use Rattle.dr_laws_sound.specs.Stops.{first_stop, stop_in, refused_stop, StopsTold}
 use Rattle.dr_laws_sound.proofs.Turns.{act-cases, Counts, after_act, server_of}
@@ -39,6 +39,10 @@ restored-calm v s n own = by (is_bare own)
 suspended-calm : (none : Bool) (v : ℕ) → first_stop (cond none [] (Suspended v ∷ [])) ≡ None
 suspended-calm true v = refl
 suspended-calm false v = refl
+
+freed-calm : (v : ℕ) (had : Bool) → first_stop (told_freed v had) ≡ None
+freed-calm v true = refl
+freed-calm v false = refl
 
 held-calm : (first : Bool) (v s n : ℕ) → first_stop (cond first (Begin s n ∷ Cut s n v ∷ []) (Cut s n v ∷ [])) ≡ None
 held-calm true v s n = refl
@@ -76,7 +80,9 @@ told-calm (Unsync v t) u = refl
 told-calm (Mirror v t from n) u = refl
 told-calm (LandBoth n v t) u = refl
 told-calm (Thaw v) u = refl
-told-calm (Lift v) u = refl
+told-calm (FlashHold v) u = refl
+told-calm (FlashFree v) u = refl
+told-calm (Lift v) u = freed-calm v u.fields.flash_hold
 told-calm (Restart v) u = refl
 told-calm (Hold v s n first) u = held-calm first v s n
 told-calm (Free v) u = refl

@@ -8,10 +8,10 @@ use Rattle.dr_model.specs.declared.event.Event.TheVariants.{Begin, Cut, Committe
 use Rattle.dr_model.specs.Relations.{rest, in_order, is_bare, turned, given_up}
 use Rattle.dr_model.specs.Control.{Volume}
 use Rattle.dr_model.specs.Pairs.{is_suspended}
-use Rattle.dr_model.specs.Moves.{Move, Land, Overwrite, Withdraw, Reverse, Release, Suspend, LandBoth, Hold, told, told_in_stop}
+use Rattle.dr_model.specs.Moves.{Move, Land, Overwrite, Withdraw, Reverse, Release, Suspend, LandBoth, Hold, told, told_in_stop, Lift}
 use Rattle.dr_laws_closed.specs.Moments.{Standing, none_stands}
 use Rattle.dr_laws_closed.specs.Silent.{Still, AllStill, Silent}
-use Rattle.dr_laws_closed.proofs.Told.{still-blanked, still-restored, still-suspended}
+use Rattle.dr_laws_closed.proofs.Told.{still-blanked, still-restored, still-suspended, still-freed}
 use Rattle.dr_laws_targets.specs.Committeds.{committeds, committed_event, next_committed}
 
 pub committeds-append : (events more : List Event) → committeds (events ++ more) ≡ fold committed_event (committeds events) more
@@ -43,6 +43,7 @@ module _ (events : List Event) where
       ∙ fold-still (committed_event (committeds events) (Left u.fields.session a)) _ (still-restored v u.fields.source u.tracks (turned u.fields).own (is_bare (turned u.fields).own))
   committeds-told (Release v t) u = committeds-still events _ (still-restored v u.fields.source u.tracks (given_up u.fields t).own (is_bare (given_up u.fields t).own))
   committeds-told (Suspend v busy) u = committeds-still events _ (still-suspended v (is_suspended u.fields.primary_state))
+  committeds-told (Lift v) u = committeds-still events _ (still-freed v u.fields.flash_hold)
   committeds-told (Hold v s n true) u = committeds-append events (Begin s n ∷ Cut s n v ∷ [])
   committeds-told (Hold v s n false) u = committeds-append events (Cut s n v ∷ [])
   committeds-told m u = committeds-append events (told m u)

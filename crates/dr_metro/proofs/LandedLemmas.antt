@@ -30,20 +30,21 @@ use Rattle.dr_volume.specs.Update.{IsMoved}
 use Rattle.dr_volume.specs.View.{world, volume_seen, track_seen}
 use Rattle.dr_flash.specs.Views.{view_seen}
 use Rattle.dr_moves.specs.Checks.{is_stop}
+use Rattle.dr_moves.specs.Heard.{refused_by}
 use Rattle.dr_moves.specs.Here.{world_seen, armed_in, refusal_of}
 use Rattle.dr_moves.specs.Made.{May, room_for, after_done, after_stop, Turned, Came, counts_as, stopped_at, Made, Kept}
 use Rattle.dr_moves.specs.declared.acts.Stop.{Stop}
 use Rattle.dr_moves.proofs.TurnLemmas.{ok-along}
 use Rattle.dr_facts.proofs.Ends.{ends-goes, ends-stops, ends-none, ends-off}
 use Rattle.dr_metro.specs.Here.{here, rest_of, IsTold}
-use Rattle.dr_metro.specs.Landing.{landing_move, landed_on, writes_after, landed_by}
+use Rattle.dr_metro.specs.Landing.{landing_move, landed_on, writes_after}
 use Rattle.dr_metro.specs.Writing.{Wrote}
 use Rattle.dr_metro.proofs.ToldLemmas.{IsWrite, told-marked, told-through}
 
 module _ (s u : PlantState) (c : ConfigTable) (h : Writes) (before after : List Event) (n : ℕ) (m : Move) (d : Entry)
     (settles : (ps : List control.Pending) → settled m ps ≡ filter (is_other n) ps) (settles_in_stop : (ps : List control.Pending) → settled_in_stop m ps ≡ marked n ps)
     (comes : (xs : List Session) → d (here s c xs h before).control ≡ Do (Make m)) where
-  pub landing-ends : (res : Result (Unit {0}) Stop) → Turned s u c before after m res → (xs : List Session) → Ends (armed_in s) (here u c xs (writes_after h n res) after) (refusal_of (landed_by res)) (here s c xs h before) (d ∷ [])
+  pub landing-ends : (res : Result (Unit {0}) Stop) → Turned s u c before after m res → (xs : List Session) → Ends (armed_in s) (here u c xs (writes_after h n res) after) (refusal_of (refused_by res)) (here s c xs h before) (d ∷ [])
   landing-ends (Ok x) turned xs =
       let w = here s c xs h before in
       let left = settles (map pending_seen h.pending) ∙ sym (seen-without n h.pending) in
@@ -62,25 +63,25 @@ module _ (s u : PlantState) (c : ConfigTable) (h : Writes) (before after : List 
       left false = refl
 
   pub landing-told : (res : Result (Unit {0}) Stop) → Turned s u c before after m res → IsTold h before → IsTold (writes_after h n res) after
-  landing-told res turned told = by res (told-through (armed_in s) h (here s c [] h before) (here u c [] (writes_after h n res) after) (d ∷ []) (refusal_of (landed_by res)) (landing-ends res turned []) told)
+  landing-told res turned told = by res (told-through (armed_in s) h (here s c [] h before) (here u c [] (writes_after h n res) after) (d ∷ []) (refusal_of (refused_by res)) (landing-ends res turned []) told)
     where
       by : (res : Result (Unit {0}) Stop) → IsTold h after → IsTold (writes_after h n res) after
       by (Ok x) told = each-without (IsWrite (histories after).write) n h.pending told
       by (Err stop) told = told-marked h _ after n stop.counts refl told
 
 -- what the host and the call come to
-module _ (res : Result (Unit {0}) Stop) (r : Result (Unit {0}) Refusal) (says : r ≡ landed_by res) where
+module _ (res : Result (Unit {0}) Stop) (r : Result (Unit {0}) Refusal) (says : r ≡ refused_by res) where
   pub landing-refused : (server : ℕ) → stopped_at server res → OnErr r (refusal_of r ≡ Some (stopped server))
   landing-refused server at = subst (λ (x : Result (Unit {0}) Refusal). OnErr x (refusal_of x ≡ Some (stopped server))) (sym says) (by res at)
     where
-      by : (res : Result (Unit {0}) Stop) → stopped_at server res → OnErr (landed_by res) (refusal_of (landed_by res) ≡ Some (stopped server))
+      by : (res : Result (Unit {0}) Stop) → stopped_at server res → OnErr (refused_by res) (refusal_of (refused_by res) ≡ Some (stopped server))
       by (Ok x) at = tt
       by (Err stop) at = ap (λ n. Some (stopped n)) at
 
   pub landing-moved : (s u : PlantState) (c : ConfigTable) (v : ℕ) (f : Fields) (t : Carried) → Came (counts_as res) s u c v f t → OnOk r (IsMoved s u c v f t)
   landing-moved s u c v f t came = subst (λ (x : Result (Unit {0}) Refusal). OnOk x (IsMoved s u c v f t)) (sym says) (by res came)
     where
-      by : (res : Result (Unit {0}) Stop) → Came (counts_as res) s u c v f t → OnOk (landed_by res) (IsMoved s u c v f t)
+      by : (res : Result (Unit {0}) Stop) → Came (counts_as res) s u c v f t → OnOk (refused_by res) (IsMoved s u c v f t)
       by (Ok x) came = came
       by (Err stop) came = tt
 
@@ -88,7 +89,7 @@ module _ (res : Result (Unit {0}) Stop) (r : Result (Unit {0}) Refusal) (says : 
 module _ (s u : PlantState) (c : ConfigTable) (h g : Writes) (old new : Log) (n v : ℕ) (m : Move) (d : Entry) (t : Carried)
     (settles : (ps : List control.Pending) → settled m ps ≡ filter (is_other n) ps) (settles_in_stop : (ps : List control.Pending) → settled_in_stop m ps ≡ marked n ps)
     (comes : (xs : List Session) → d (here s c xs h old.events).control ≡ Do (Make m)) (told : IsTold h old.events) (res : Result (Unit {0}) Stop) (writes : g ≡ writes_after h n res) where
-  pub landing-wrote : (r : Result (Unit {0}) Refusal) → r ≡ landed_by res → Made s u c old new m v t res → Kept s u c old new 1 (is_err res) res → Wrote s u c h g old new (λ k. d ∷ []) 1 r
+  pub landing-wrote : (r : Result (Unit {0}) Refusal) → r ≡ refused_by res → Made s u c old new m v t res → Kept s u c old new 1 (is_err res) res → Wrote s u c h g old new (λ k. d ∷ []) 1 r
   landing-wrote r says made kept =
       subst (λ (z : Writes). Wrote s u c h z old new (λ k. d ∷ []) 1 r) (sym writes) (subst (λ (x : Result (Unit {0}) Refusal). Wrote s u c h (writes_after h n res) old new (λ k. d ∷ []) 1 x) (sym says) (record {
         carried = landing-ends s u c h old.events new.events n m d settles settles_in_stop comes res made.turned;
@@ -101,7 +102,7 @@ module _ (s u : PlantState) (c : ConfigTable) (h g : Writes) (old new : Log) (n 
         spare = kept.spare;
       }))
     where
-      counted : (res : Result (Unit {0}) Stop) → Counted (is_err res) s.faults u.faults → Counted (is_stop (refusal_of (landed_by res))) s.faults u.faults
+      counted : (res : Result (Unit {0}) Stop) → Counted (is_err res) s.faults u.faults → Counted (is_stop (refusal_of (refused_by res))) s.faults u.faults
       counted (Ok x) is = is
       counted (Err stop) is = is
 
@@ -160,7 +161,7 @@ module _ (s : PlantState) (c : ConfigTable) (n v t : ℕ) where
 
 -- by the move that the call made
 module _ (s u : PlantState) (c : ConfigTable) (n v t : ℕ) (old new : Log) (made_by : Move) (is : made_by ≡ landing_move (volume_seen s c v).fields.related n v t) (track : Carried) (res : Result (Unit {0}) Stop)
-    (r : Result (Unit {0}) Refusal) (says : r ≡ landed_by res) (given : Made s u c old new made_by (target made_by) track res) where
+    (r : Result (Unit {0}) Refusal) (says : r ≡ refused_by res) (given : Made s u c old new made_by (target made_by) track res) where
   abbrev landing : Move
   landing = landing_move (volume_seen s c v).fields.related n v t
 

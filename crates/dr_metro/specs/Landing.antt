@@ -1,7 +1,5 @@
 -- How a host write lands on its volume alone.
 use Rattle.std.specs.Prelude.{◌≡◌, ℕ, ◌<◌, ◌≤◌, ◌+◌, Bool, true, List, length, is_some, Result, Ok, Err, if◌then◌else◌}
-use Rattle.dr_ids.specs.declared.refusal.Refusal.{Refusal}
-use Rattle.dr_ids.specs.declared.refusal.Refusal.TheVariants.{Stopped}
 use Rattle.dr_plant.specs.State.{PlantState}
 use Rattle.dr_config.specs.Table.{ConfigTable, place_of}
 use Rattle.dr_host.specs.Writes.{Writes, without, with_marked}
@@ -34,11 +32,6 @@ landed_on u t = landed u.tracks u.fields t
 abbrev pub writes_after : Writes → ℕ → Result (Unit {0}) Stop → Writes
 writes_after h n (Ok x) = without h n
 writes_after h n (Err stop) = if stop.counts then with_marked h n else h
-
--- and what that move comes to
-abbrev pub landed_by : Result (Unit {0}) Stop → Result (Unit {0}) Refusal
-landed_by (Ok x) = Ok tt
-landed_by (Err stop) = Err (Stopped stop.server)
 
 -- Pending write n can land on its volume alone, whose server is on, with these bytes at that place.
 pub record CanLandAlone (s : PlantState) (c : ConfigTable) (h : Writes) (events : List Event) (n : ℕ) (target : Target) (bytes : List ℕ) : Type 0 where

@@ -10,9 +10,10 @@ ghost use Rattle.dr_plant.specs.State.{can_read};
 ghost use Rattle.dr_volume.specs.Opened.{IsOpened};
 ghost use Rattle.dr_volume.specs.View.{volume_seen, device_of};
 ghost use Rattle.dr_volume.specs.Volume.{Shows};
+ghost use Rattle.dr_moves.specs.Heard.{refused_by};
 ghost use Rattle.dr_moves.specs.Here.{refusal_of};
 ghost use Rattle.dr_moves.specs.Moves.{move_of};
-ghost use Rattle.dr_metro.specs.Landing.{landing_move, landed_on, writes_after, landed_by, CanLandAlone};
+ghost use Rattle.dr_metro.specs.Landing.{landing_move, landed_on, writes_after, CanLandAlone};
 ghost use Rattle.dr_metro.specs.Writing.{Wrote};
 
 use crate::machine::Target;
@@ -21,7 +22,7 @@ use dr_flash::view_of;
 use dr_host::Host;
 use dr_ids::{Refusal, WriteId};
 use dr_model::{Event, Journal};
-use dr_moves::{Beside, Move, News, Stop, make_opened};
+use dr_moves::{Beside, Move, News, Stop, make_opened, refused};
 use dr_plant::{Block, Plant};
 use dr_volume::{Fields, Opened, open_by};
 
@@ -54,22 +55,17 @@ fn landing_of(w: WriteId, target: Target, related: bool) -> Move
 pub(crate) fn settle_write(h: &mut Host, w: WriteId, done: Result<(), Stop>) -> Result<(), Refusal>
     requires { IsSome (find (has_number w.0) h.old.pending) }
     ensures writes { h.new ≡ writes_after h.old w.0 done }
-    ensures says { result ≡ landed_by done }
+    ensures says { result ≡ refused_by done }
 {
-    match done {
-        Ok(()) => {
-            h.hear(&News::Settled(w));
-            Ok(())
-        }
+    match &done {
+        Ok(()) => h.hear(&News::Settled(w)),
         Err(stop) => {
             if stop.counts {
                 h.hear(&News::Landed(w));
             }
-            Err(Refusal::Stopped {
-                server: stop.server,
-            })
         }
     }
+    refused(done)
 }
 
 /// Lands a pending write on its track of a volume that was opened and whose device can still be read.

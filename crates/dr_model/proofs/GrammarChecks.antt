@@ -138,3 +138,31 @@ left_session = refl
 path : line_of (codes "mkpprcpath -remotewwnn 5005 -srclss 10 -tgtlss 20 I0010:I0140") ≡ Ok (MakePath no_devs 16 32 false ∷ [])
 unfolding no_devs line_of words_from words_behind command_named commands command_word read_words read_on setting_named settings setting_word operands needed operand_value operand_items own_steps all_digits no_options no_operands spelled_bytes has flagged valued setting_items may_end may_end_with steps_of step_of paired ranges_items form
 path = refl
+
+freeze_set : outcome (line_of (codes "mkflash -nocp -freeze 1000-1003:2000-2003")) ≡ 4
+unfolding outcome line_of words_from words_behind command_named commands command_word read_words read_on setting_named settings setting_word operands needed operand_value operand_items own_steps all_digits no_options no_operands spelled_bytes has flagged valued setting_items may_end may_end_with steps_of step_of paired ranges_items form
+freeze_set = refl
+
+freeze_twice : outcome (line_of (codes "mkflash -freeze -freeze 1000:2000")) ≡ 17000
+unfolding outcome line_of words_from words_behind command_named commands command_word read_words read_on setting_named settings setting_word operands needed operand_value operand_items own_steps all_digits no_options no_operands spelled_bytes has flagged valued setting_items may_end may_end_with steps_of step_of paired ranges_items form
+freeze_twice = refl
+
+freeze_renewed : outcome (line_of (codes "resyncflash -freeze 1000:2000")) ≡ 13000
+unfolding outcome line_of words_from words_behind command_named commands command_word read_words read_on setting_named settings setting_word operands needed operand_value operand_items own_steps all_digits no_options no_operands spelled_bytes has flagged valued setting_items may_end may_end_with steps_of step_of paired ranges_items form
+freeze_renewed = refl
+
+lss_each : outcome (line_of (codes "unfreezeflash -quiet 10 1F")) ≡ 2
+unfolding outcome line_of words_from words_behind command_named commands command_word read_words read_on setting_named settings setting_word operands needed operand_value operand_items own_steps all_digits no_options no_operands spelled_bytes has flagged valued setting_items may_end may_end_with steps_of step_of paired ranges_items form
+lss_each = refl
+
+lss_missing : outcome (line_of (codes "unfreezeflash")) ≡ 14000
+unfolding outcome line_of words_from words_behind command_named commands command_word read_words read_on setting_named settings setting_word operands needed operand_value operand_items own_steps all_digits no_options no_operands spelled_bytes has flagged valued setting_items may_end may_end_with steps_of step_of paired ranges_items form
+lss_missing = refl
+
+lss_remote : outcome (line_of (codes "unfreezeflash -remotedev B 10")) ≡ 15000
+unfolding outcome line_of words_from words_behind command_named commands command_word read_words read_on setting_named settings setting_word operands needed operand_value operand_items own_steps all_digits no_options no_operands spelled_bytes has flagged valued setting_items may_end may_end_with steps_of step_of paired ranges_items form
+lss_remote = refl
+
+lss_wide : outcome (line_of (codes "unfreezeflash 10 1000")) ≡ 18000
+unfolding outcome line_of words_from words_behind command_named commands command_word read_words read_on setting_named settings setting_word operands needed operand_value operand_items own_steps all_digits no_options no_operands spelled_bytes has flagged valued setting_items may_end may_end_with steps_of step_of paired ranges_items form
+lss_wide = refl

@@ -8,7 +8,7 @@ use Rattle.dr_model.specs.Control.{Pending, Control, World}
 use Rattle.dr_model.specs.declared.state.Part.{Part}
 use Rattle.dr_model.specs.declared.state.Part.TheVariants.{Global}
 use Rattle.dr_model.specs.Layout.{Tracks, is_part}
-use Rattle.dr_model.specs.Moves.{Move, Land, Overwrite, Keep, Note, Relate, Withdraw, Fetch, Resync, Reverse, Restore, Release, Store, Strike, Suspend, MakeSecondary, MakePrimary, DropPrimary, DropSecondary, Follow, Resume, TakeOver, FallBack, Yield, Unsync, Mirror, LandBoth, Thaw, Lift, Restart, Hold, Free, Seal, Finish, RaiseAttempt, RaiseFloor, Leave, Flash, Commit, Revert, target, is_write}
+use Rattle.dr_model.specs.Moves.{Move, Land, Overwrite, Keep, Note, Relate, Withdraw, Fetch, Resync, Reverse, Restore, Release, Store, Strike, Suspend, MakeSecondary, MakePrimary, DropPrimary, DropSecondary, Follow, Resume, TakeOver, FallBack, Yield, Unsync, Mirror, LandBoth, Thaw, FlashHold, FlashFree, Lift, Restart, Hold, Free, Seal, Finish, RaiseAttempt, RaiseFloor, Leave, Flash, Commit, Revert, target, is_write}
 use Rattle.dr_model.specs.Pairs.{is_metro, is_kind, is_pending, is_suspended, records}
 use Rattle.dr_model.specs.Entries.{targets_of}
 use Rattle.dr_model.specs.Table.{Table, table}
@@ -23,8 +23,8 @@ pub record Kept (T : Table) (v t : ℕ) : Type 0 where
   pub noted : (u : ℕ) → source (T u) ≡ Some v → (fields T u).recorded ≡ true → (fields T u).reversing ≡ false → contains (fields T u).source_changes t ≡ true
   pub settled : (u : ℕ) → source (T u) ≡ Some v → (fields T u).revertible ≡ false
 
--- a host write lands on a track of a volume that is no target and no secondary, and that coordination doesn't hold; where it
--- records, the track has been sent
+-- a host write lands on a track of a volume that is no target and no secondary, and that neither coordination nor a flash hold
+-- holds; where it records, the track has been sent
 pub record MayLand (T : Table) (v t : ℕ) : Type 0 where
   pub low : t < (T v).volume.tracks
   pub defined : (T v).defined ≡ true
@@ -32,15 +32,17 @@ pub record MayLand (T : Table) (v t : ℕ) : Type 0 where
   pub first : is_part (fields T v).secondary ≡ false
   pub kept : Kept T v t
   pub free : (fields T v).coordination ≡ false
+  pub let_go : (fields T v).flash_hold ≡ false
   pub sent : (fields T v).recording ≡ true → contains (fields T v).out_of_sync t ≡ false
 
--- or of a target that is neither revertible nor restored onto its source
+-- or of a target that is neither revertible nor restored onto its source, and has no flash hold
 pub record MayOverwrite (T : Table) (v t : ℕ) : Type 0 where
   pub low : t < (T v).volume.tracks
   pub from : ℕ
   pub related : source (T v) ≡ Some from
   pub forward : (fields T v).reversing ≡ false
   pub settled : (fields T v).revertible ≡ false
+  pub let_go : (fields T v).flash_hold ≡ false
 
 -- such a target takes a track that it doesn't hold
 pub record MayKeep (T : Table) (v t : ℕ) : Type 0 where
@@ -277,6 +279,8 @@ Allowed write T (Unsync v t) = MayUnsync T v t
 Allowed write T (Mirror v t u n) = MayMirror T v t u
 Allowed write T (LandBoth n v t) = MayLandBoth write T n v t
 Allowed write T (Thaw v) = Unit {0}
+Allowed write T (FlashHold v) = Unit {0}
+Allowed write T (FlashFree v) = Unit {0}
 Allowed write T (Lift v) = Unit {0}
 Allowed write T (Restart v) = Unit {0}
 Allowed write T (Hold v s n first) = MayHold T v n
@@ -303,6 +307,7 @@ pub record Coming (v t : ℕ) (p : Pending) : Type 0 where
 -- pending write n is one for track t of volume v that hasn't landed
 pub record MayAck (w : World) (n v t : ℕ) : Type 0 where
   pub number : n < w.control.issued + 1
+  pub positive : 0 < n
   pub volume : ((histories w.events).write n).volume ≡ v
   pub track : ((histories w.events).write n).track ≡ t
   pub coming : AllPending (Coming v t) (filter (is_write n) w.control.pending)

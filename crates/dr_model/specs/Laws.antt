@@ -284,10 +284,11 @@ abbrev pub Below : ℕ → List ℕ → Type 0
 Below n [] = Unit {0}
 Below n (w ∷ ws) = (w < n) × Below n ws
 
--- A pending write is that of its issue, on a track of a volume that is defined, whose server is off where it has landed.
+-- A pending write is that of its issue, numbered from 1, on a track of a volume that is defined, whose server is off where it has landed.
 -- While a server starts, it alone may be on before its landed write is acknowledged.
 pub record WaitsFor (starts : Option ℕ) (issued : ℕ) (is_defined on : ℕ → Bool) (server tracks : ℕ → ℕ) (write : ℕ → Write) (p : Pending) : Type 0 where
   pub number : p.w < issued + 1
+  pub positive : 0 < p.w
   pub defined : is_defined p.volume ≡ true
   pub low : p.track < tracks p.volume
   pub volume : (write p.w).volume ≡ p.volume

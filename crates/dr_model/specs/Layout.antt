@@ -16,7 +16,7 @@ abbrev pub Tracks : Type 0
 Tracks = FinSet nat_cmp
 
 -- the fields of a volume's control record, as sets and numbers: its part as a primary, its part as a secondary, its FlashCopy
--- relationship as a target, and the tracks that are blank
+-- relationship as a target, whether a flash hold lets its host writes wait, which stands in no part, and the tracks that are blank
 pub record Fields : Type 0 where
   pub primary : Part
   pub primary_state : PairState
@@ -48,6 +48,7 @@ pub record Fields : Type 0 where
   pub member : Bool
   pub session : ℕ
   pub floor : ℕ
+  pub flash_hold : Bool
   pub blank : Tracks
 
 -- a device's blocks by number
@@ -138,6 +139,7 @@ fields_of tracks slot =
       member = source && bit (byte head 5) 7;
       session = only_if source (byte head 6) 0;
       floor = be32_at head 32;
+      flash_hold = bit (byte head 2) 3;
       blank = first_set tracks (slot 4);
     }
 
@@ -210,5 +212,6 @@ no_fields = record {
   member = false;
   session = 0;
   floor = 0;
+  flash_hold = false;
   blank = empty;
 }

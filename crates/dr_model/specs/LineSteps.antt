@@ -7,17 +7,17 @@ use Rattle.dr_ids.specs.Spelling.{volume_word, lss_word, session_word, number_wo
 use Rattle.dr_model.specs.declared.step.Name.{Name}
 use Rattle.dr_model.specs.declared.step.TornWord.TheVariants.{Same}
 use Rattle.dr_model.specs.declared.step.Step.{Step}
-use Rattle.dr_model.specs.declared.step.Step.TheVariants.{Server, Volume, Link, Stop, StopAfter, Start, Expire, Issue, Write, Apply, Drain, Copy, Exchange, Run, Abort, Recover, Show, Compare, Image, MakePath, RemovePath, MakePair, RemovePair, PausePair, ResumePair, Failover, Failback, Freeze, Unfreeze, ListPairs, ListFlashes, MakeFlash, RemoveFlash, ResyncFlash, ReverseFlash, CommitFlash, RevertFlash, MakeSession, AddMember, RemoveMember, RemoveSession, ListSession, ShowMirror, MakeMirror, ResumeMirror, PauseMirror, RemoveMirror}
+use Rattle.dr_model.specs.declared.step.Step.TheVariants.{Server, Volume, Link, Stop, StopAfter, Start, Expire, Issue, Write, Apply, Drain, Copy, Exchange, Run, Abort, Recover, Show, Compare, Image, MakePath, RemovePath, MakePair, RemovePair, PausePair, ResumePair, Failover, Failback, Freeze, Unfreeze, ListPairs, ListFlashes, MakeFlash, RemoveFlash, ResyncFlash, ReverseFlash, CommitFlash, RevertFlash, UnfreezeFlash, MakeSession, AddMember, RemoveMember, RemoveSession, ListSession, ShowMirror, MakeMirror, ResumeMirror, PauseMirror, RemoveMirror}
 use Rattle.dr_model.specs.declared.grammar.Command.{Command}
-use Rattle.dr_model.specs.declared.grammar.Command.TheVariants.{AtServer, AtVolume, AtLink, AtStop, AtStart, AtExpire, AtIssue, AtWrite, AtApply, AtDrain, AtCopy, AtExchange, AtRun, AtAbort, AtRecover, AtShow, AtCompare, AtImage, Mkpprcpath, Rmpprcpath, Mkpprc, Rmpprc, Pausepprc, Resumepprc, Failoverpprc, Failbackpprc, Freezepprc, Unfreezepprc, Lspprc, Lsflash, Mkflash, Rmflash, Resyncflash, Reverseflash, Commitflash, Revertflash, Mksession, Chsession, Rmsession, Lssession, Showgmir, Mkgmir, Resumegmir, Pausegmir, Rmgmir}
+use Rattle.dr_model.specs.declared.grammar.Command.TheVariants.{AtServer, AtVolume, AtLink, AtStop, AtStart, AtExpire, AtIssue, AtWrite, AtApply, AtDrain, AtCopy, AtExchange, AtRun, AtAbort, AtRecover, AtShow, AtCompare, AtImage, Mkpprcpath, Rmpprcpath, Mkpprc, Rmpprc, Pausepprc, Resumepprc, Failoverpprc, Failbackpprc, Freezepprc, Unfreezepprc, Lspprc, Lsflash, Mkflash, Rmflash, Resyncflash, Reverseflash, Commitflash, Revertflash, Unfreezeflash, Mksession, Chsession, Rmsession, Lssession, Showgmir, Mkgmir, Resumegmir, Pausegmir, Rmgmir}
 use Rattle.dr_model.specs.declared.grammar.Setting.{Setting}
-use Rattle.dr_model.specs.declared.grammar.Setting.TheVariants.{Quiet, Dev, RemoteDev, RemotePort, SourceLss, TargetLss, ConsistencyGroup, Force, PairType, Mode, Unconditional, AtSource, NoCopy, Persist, Recording, Inhibit, Sequence, Fast, TargetPprc, OfLss, Members, Action, OfSession, Interval, Coordination, DrainTime}
+use Rattle.dr_model.specs.declared.grammar.Setting.TheVariants.{Quiet, Dev, RemoteDev, RemotePort, SourceLss, TargetLss, ConsistencyGroup, Force, PairType, Mode, Unconditional, AtSource, NoCopy, Persist, Recording, Inhibit, FreezeSource, Sequence, Fast, TargetPprc, OfLss, Members, Action, OfSession, Interval, Coordination, DrainTime}
 use Rattle.dr_model.specs.declared.grammar.Operand.{Operand}
-use Rattle.dr_model.specs.declared.grammar.Operand.TheVariants.{ServerName, OtherName, UpOrDown, AfterWord, TornMark, TornBytes, OneVolume, OtherVolume, Count, TrackNumber, Offset, WriteBytes, CountOrAll, SessionNumber, NoReply, LssNumber, VolumeRange, VolumeList, VolumePair, LssPair, Ports, ControlPath}
+use Rattle.dr_model.specs.declared.grammar.Operand.TheVariants.{ServerName, OtherName, UpOrDown, AfterWord, TornMark, TornBytes, OneVolume, OtherVolume, Count, TrackNumber, Offset, WriteBytes, CountOrAll, SessionNumber, NoReply, LssNumber, VolumeRange, VolumeList, VolumePair, LssPair, EachLss, Ports, ControlPath}
 use Rattle.dr_model.specs.declared.grammar.Options.{Options}
 use Rattle.dr_model.specs.declared.grammar.Operands.{Operands}
 use Rattle.dr_model.specs.declared.grammar.Item.{Item}
-use Rattle.dr_model.specs.LineWords.{name_word, decimal_word, most_word, sequence_word, is_hex, spelled_bytes, torn_word, range_items, list_items, pair_items, lss_pair_items, are_ports, is_control_path, either_word, kind_word}
+use Rattle.dr_model.specs.LineWords.{name_word, decimal_word, most_word, sequence_word, is_hex, spelled_bytes, torn_word, range_items, list_items, pair_items, lss_pair_items, lss_items, are_ports, is_control_path, either_word, kind_word}
 
 -- an option that is a flag has no value
 abbrev pub is_flag : Setting → Bool
@@ -29,6 +29,7 @@ is_flag NoCopy = true
 is_flag Persist = true
 is_flag Recording = true
 is_flag Inhibit = true
+is_flag FreezeSource = true
 is_flag Fast = true
 is_flag TargetPprc = true
 is_flag _ = false
@@ -51,6 +52,7 @@ has NoCopy o = o.nocopy
 has Persist o = o.persistent
 has Recording o = o.recorded
 has Inhibit o = o.inhibited
+has FreezeSource o = o.freeze
 has Sequence o = is_some o.sequence
 has Fast o = o.fast
 has TargetPprc o = o.tgtpprc
@@ -72,6 +74,7 @@ flagged NoCopy o = record o { nocopy = true }
 flagged Persist o = record o { persistent = true }
 flagged Recording o = record o { recorded = true }
 flagged Inhibit o = record o { inhibited = true }
+flagged FreezeSource o = record o { freeze = true }
 flagged Fast o = record o { fast = true }
 flagged TargetPprc o = record o { tgtpprc = true }
 flagged _ o = o
@@ -123,6 +126,7 @@ no_options = record {
   persistent = false;
   recorded = false;
   inhibited = false;
+  freeze = false;
   sequence = None;
   fast = false;
   tgtpprc = false;
@@ -193,6 +197,7 @@ operand_items VolumeRange word = range_items word
 operand_items VolumeList word = list_items word
 operand_items VolumePair word = pair_items word
 operand_items LssPair word = lss_pair_items word
+operand_items EachLss word = lss_items word
 operand_items _ word = Some []
 
 -- a number that was given, else 0
@@ -235,12 +240,13 @@ step_of Freezepprc o p i = Freeze o.devs (lss_in i.first) (lss_in i.second)
 step_of Unfreezepprc o p i = Unfreeze o.devs (lss_in i.first) (lss_in i.second)
 step_of Lspprc o p i = ListPairs o.devs i.first
 step_of Lsflash o p i = ListFlashes o.devs i.first
-step_of Mkflash o p i = MakeFlash o.devs i.first i.second o.nocopy o.persistent o.recorded o.inhibited o.sequence
+step_of Mkflash o p i = MakeFlash o.devs i.first i.second o.nocopy o.persistent o.recorded o.inhibited o.freeze o.sequence
 step_of Rmflash o p i = RemoveFlash o.devs i.first i.second o.sequence
 step_of Resyncflash o p i = ResyncFlash o.devs i.first i.second o.nocopy o.persistent o.recorded o.inhibited o.sequence
 step_of Reverseflash o p i = ReverseFlash o.devs i.first i.second o.tgtpprc o.sequence
 step_of Commitflash o p i = CommitFlash o.devs i.first o.sequence
 step_of Revertflash o p i = RevertFlash o.devs i.first o.sequence
+step_of Unfreezeflash o p i = UnfreezeFlash o.devs (lss_in i.first)
 step_of Mksession o p i = MakeSession o.devs (or_zero o.lss) p.session
 step_of Chsession o p i = if unwrap_or o.adds true then AddMember o.devs (or_zero o.lss) i.first p.session else RemoveMember o.devs (or_zero o.lss) i.first p.session
 step_of Rmsession o p i = RemoveSession o.devs (or_zero o.lss) p.session

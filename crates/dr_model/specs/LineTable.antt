@@ -1,17 +1,17 @@
 -- The table of commands: the word of each, its options, its operands and how many steps it makes.
 use Rattle.std.specs.Prelude.{ℕ, Bool, true, false, List, [], ◌∷◌, length, codes}
 use Rattle.dr_model.specs.declared.grammar.Command.{Command}
-use Rattle.dr_model.specs.declared.grammar.Command.TheVariants.{AtServer, AtVolume, AtLink, AtStop, AtStart, AtExpire, AtIssue, AtWrite, AtApply, AtDrain, AtCopy, AtExchange, AtRun, AtAbort, AtRecover, AtShow, AtCompare, AtImage, Mkpprcpath, Rmpprcpath, Mkpprc, Rmpprc, Pausepprc, Resumepprc, Failoverpprc, Failbackpprc, Freezepprc, Unfreezepprc, Lspprc, Lsflash, Mkflash, Rmflash, Resyncflash, Reverseflash, Commitflash, Revertflash, Mksession, Chsession, Rmsession, Lssession, Showgmir, Mkgmir, Resumegmir, Pausegmir, Rmgmir}
+use Rattle.dr_model.specs.declared.grammar.Command.TheVariants.{AtServer, AtVolume, AtLink, AtStop, AtStart, AtExpire, AtIssue, AtWrite, AtApply, AtDrain, AtCopy, AtExchange, AtRun, AtAbort, AtRecover, AtShow, AtCompare, AtImage, Mkpprcpath, Rmpprcpath, Mkpprc, Rmpprc, Pausepprc, Resumepprc, Failoverpprc, Failbackpprc, Freezepprc, Unfreezepprc, Lspprc, Lsflash, Mkflash, Rmflash, Resyncflash, Reverseflash, Commitflash, Revertflash, Unfreezeflash, Mksession, Chsession, Rmsession, Lssession, Showgmir, Mkgmir, Resumegmir, Pausegmir, Rmgmir}
 use Rattle.dr_model.specs.declared.grammar.Setting.{Setting}
-use Rattle.dr_model.specs.declared.grammar.Setting.TheVariants.{Quiet, Dev, RemoteDev, RemotePort, SourceLss, TargetLss, ConsistencyGroup, Force, PairType, Mode, Unconditional, AtSource, NoCopy, Persist, Recording, Inhibit, Sequence, Fast, TargetPprc, OfLss, Members, Action, OfSession, Interval, Coordination, DrainTime}
+use Rattle.dr_model.specs.declared.grammar.Setting.TheVariants.{Quiet, Dev, RemoteDev, RemotePort, SourceLss, TargetLss, ConsistencyGroup, Force, PairType, Mode, Unconditional, AtSource, NoCopy, Persist, Recording, Inhibit, FreezeSource, Sequence, Fast, TargetPprc, OfLss, Members, Action, OfSession, Interval, Coordination, DrainTime}
 use Rattle.dr_model.specs.declared.grammar.Operand.{Operand}
-use Rattle.dr_model.specs.declared.grammar.Operand.TheVariants.{ServerName, OtherName, UpOrDown, AfterWord, TornMark, TornBytes, OneVolume, OtherVolume, Count, TrackNumber, Offset, WriteBytes, CountOrAll, SessionNumber, NoReply, LssNumber, VolumeRange, VolumeList, VolumePair, LssPair, Ports, ControlPath}
+use Rattle.dr_model.specs.declared.grammar.Operand.TheVariants.{ServerName, OtherName, UpOrDown, AfterWord, TornMark, TornBytes, OneVolume, OtherVolume, Count, TrackNumber, Offset, WriteBytes, CountOrAll, SessionNumber, NoReply, LssNumber, VolumeRange, VolumeList, VolumePair, LssPair, EachLss, Ports, ControlPath}
 
 -- all commands
 unfoldable pub commands : List Command
 commands = AtServer ∷ AtVolume ∷ AtLink ∷ AtStop ∷ AtStart ∷ AtExpire ∷ AtIssue ∷ AtWrite ∷ AtApply ∷ AtDrain ∷ AtCopy ∷ AtExchange ∷ AtRun ∷ AtAbort ∷ AtRecover ∷ AtShow ∷ AtCompare ∷ AtImage
     ∷ Mkpprcpath ∷ Rmpprcpath ∷ Mkpprc ∷ Rmpprc ∷ Pausepprc ∷ Resumepprc ∷ Failoverpprc ∷ Failbackpprc ∷ Freezepprc ∷ Unfreezepprc ∷ Lspprc
-    ∷ Lsflash ∷ Mkflash ∷ Rmflash ∷ Resyncflash ∷ Reverseflash ∷ Commitflash ∷ Revertflash
+    ∷ Lsflash ∷ Mkflash ∷ Rmflash ∷ Resyncflash ∷ Reverseflash ∷ Commitflash ∷ Revertflash ∷ Unfreezeflash
     ∷ Mksession ∷ Chsession ∷ Rmsession ∷ Lssession ∷ Showgmir ∷ Mkgmir ∷ Resumegmir ∷ Pausegmir ∷ Rmgmir ∷ []
 
 -- the word of an option
@@ -32,6 +32,7 @@ setting_word NoCopy = codes "-nocp"
 setting_word Persist = codes "-persist"
 setting_word Recording = codes "-record"
 setting_word Inhibit = codes "-tgtinhibit"
+setting_word FreezeSource = codes "-freeze"
 setting_word Sequence = codes "-seqnum"
 setting_word Fast = codes "-fast"
 setting_word TargetPprc = codes "-tgtpprc"
@@ -108,12 +109,13 @@ form Freezepprc = step_each (codes "freezepprc") (with_remote []) [] (LssPair �
 form Unfreezepprc = step_each (codes "unfreezepprc") (with_remote []) [] (LssPair ∷ [])
 form Lspprc = step_each (codes "lspprc") (with_remote []) [] (VolumeList ∷ [])
 form Lsflash = step_each (codes "lsflash") (with_common []) [] (VolumeList ∷ [])
-form Mkflash = step_each (codes "mkflash") (with_common (NoCopy ∷ Persist ∷ Recording ∷ Inhibit ∷ Sequence ∷ [])) [] (VolumePair ∷ [])
+form Mkflash = step_each (codes "mkflash") (with_common (NoCopy ∷ Persist ∷ Recording ∷ Inhibit ∷ FreezeSource ∷ Sequence ∷ [])) [] (VolumePair ∷ [])
 form Rmflash = step_each (codes "rmflash") (with_common (Sequence ∷ [])) [] (VolumePair ∷ [])
 form Resyncflash = step_each (codes "resyncflash") (with_common (NoCopy ∷ Persist ∷ Recording ∷ Inhibit ∷ Sequence ∷ [])) [] (VolumePair ∷ [])
 form Reverseflash = step_each (codes "reverseflash") (with_common (Fast ∷ TargetPprc ∷ Sequence ∷ [])) (Fast ∷ []) (VolumePair ∷ [])
 form Commitflash = step_each (codes "commitflash") (with_common (Sequence ∷ [])) [] (VolumeList ∷ [])
 form Revertflash = step_each (codes "revertflash") (with_common (Sequence ∷ [])) [] (VolumeList ∷ [])
+form Unfreezeflash = step_each (codes "unfreezeflash") (with_common []) [] (EachLss ∷ [])
 form Mksession = one_step (codes "mksession") (with_common (OfLss ∷ Members ∷ [])) (OfLss ∷ []) (SessionNumber ∷ [])
 form Chsession = step_each (codes "chsession") (with_common (OfLss ∷ Action ∷ Members ∷ [])) (OfLss ∷ Action ∷ Members ∷ []) (SessionNumber ∷ [])
 form Rmsession = one_step (codes "rmsession") (with_common (OfLss ∷ [])) (OfLss ∷ []) (SessionNumber ∷ [])
@@ -151,6 +153,7 @@ abbrev pub repeats : Operand → Bool
 repeats VolumeList = true
 repeats VolumePair = true
 repeats LssPair = true
+repeats EachLss = true
 repeats Ports = true
 repeats ControlPath = true
 repeats _ = false

@@ -10,13 +10,13 @@ use Rattle.dr_model.specs.declared.step.Devs.{Devs}
 use Rattle.dr_model.specs.declared.step.TornWord.{TornWord}
 use Rattle.dr_model.specs.declared.step.TornWord.TheVariants.{Same, Fill, Bytes}
 use Rattle.dr_model.specs.declared.step.Step.{Step}
-use Rattle.dr_model.specs.declared.step.Step.TheVariants.{Server, Volume, Link, Stop, StopAfter, Start, Expire, Issue, Write, Apply, Drain, Copy, Exchange, Run, Abort, Recover, Show, Compare, Image, MakePath, RemovePath, MakePair, RemovePair, PausePair, ResumePair, Failover, Failback, Freeze, Unfreeze, ListPairs, ListFlashes, MakeFlash, RemoveFlash, ResyncFlash, ReverseFlash, CommitFlash, RevertFlash, MakeSession, AddMember, RemoveMember, RemoveSession, ListSession, ShowMirror, MakeMirror, ResumeMirror, PauseMirror, RemoveMirror}
+use Rattle.dr_model.specs.declared.step.Step.TheVariants.{Server, Volume, Link, Stop, StopAfter, Start, Expire, Issue, Write, Apply, Drain, Copy, Exchange, Run, Abort, Recover, Show, Compare, Image, MakePath, RemovePath, MakePair, RemovePair, PausePair, ResumePair, Failover, Failback, Freeze, Unfreeze, ListPairs, ListFlashes, MakeFlash, RemoveFlash, ResyncFlash, ReverseFlash, CommitFlash, RevertFlash, UnfreezeFlash, MakeSession, AddMember, RemoveMember, RemoveSession, ListSession, ShowMirror, MakeMirror, ResumeMirror, PauseMirror, RemoveMirror}
 use Rattle.dr_model.specs.declared.grammar.Command.{Command}
-use Rattle.dr_model.specs.declared.grammar.Command.TheVariants.{AtServer, AtVolume, AtLink, AtStop, AtStart, AtExpire, AtIssue, AtWrite, AtApply, AtDrain, AtCopy, AtExchange, AtRun, AtAbort, AtRecover, AtShow, AtCompare, AtImage, Mkpprcpath, Rmpprcpath, Mkpprc, Rmpprc, Pausepprc, Resumepprc, Failoverpprc, Failbackpprc, Freezepprc, Unfreezepprc, Lspprc, Lsflash, Mkflash, Rmflash, Resyncflash, Reverseflash, Commitflash, Revertflash, Mksession, Chsession, Rmsession, Lssession, Showgmir, Mkgmir, Resumegmir, Pausegmir, Rmgmir}
+use Rattle.dr_model.specs.declared.grammar.Command.TheVariants.{AtServer, AtVolume, AtLink, AtStop, AtStart, AtExpire, AtIssue, AtWrite, AtApply, AtDrain, AtCopy, AtExchange, AtRun, AtAbort, AtRecover, AtShow, AtCompare, AtImage, Mkpprcpath, Rmpprcpath, Mkpprc, Rmpprc, Pausepprc, Resumepprc, Failoverpprc, Failbackpprc, Freezepprc, Unfreezepprc, Lspprc, Lsflash, Mkflash, Rmflash, Resyncflash, Reverseflash, Commitflash, Revertflash, Unfreezeflash, Mksession, Chsession, Rmsession, Lssession, Showgmir, Mkgmir, Resumegmir, Pausegmir, Rmgmir}
 use Rattle.dr_model.specs.declared.grammar.Setting.{Setting}
 use Rattle.dr_model.specs.declared.grammar.Setting.TheVariants.{Quiet, Dev, RemoteDev, RemotePort, SourceLss, TargetLss, PairType, Mode, AtSource, Sequence, OfLss, Members, Action, OfSession, Interval, Coordination, DrainTime}
 use Rattle.dr_model.specs.declared.grammar.Operand.{Operand}
-use Rattle.dr_model.specs.declared.grammar.Operand.TheVariants.{ServerName, OtherName, UpOrDown, AfterWord, TornMark, TornBytes, OneVolume, OtherVolume, Count, TrackNumber, Offset, WriteBytes, CountOrAll, SessionNumber, NoReply, LssNumber, VolumeRange, VolumeList, VolumePair, LssPair, Ports, ControlPath}
+use Rattle.dr_model.specs.declared.grammar.Operand.TheVariants.{ServerName, OtherName, UpOrDown, AfterWord, TornMark, TornBytes, OneVolume, OtherVolume, Count, TrackNumber, Offset, WriteBytes, CountOrAll, SessionNumber, NoReply, LssNumber, VolumeRange, VolumeList, VolumePair, LssPair, EachLss, Ports, ControlPath}
 use Rattle.dr_model.specs.declared.grammar.Options.{Options}
 use Rattle.dr_model.specs.declared.grammar.Operands.{Operands}
 use Rattle.dr_model.specs.declared.grammar.Item.{Item}
@@ -112,6 +112,7 @@ operand_text VolumeRange p i = hex4 i.first
 operand_text VolumeList p i = hex4 i.first
 operand_text VolumePair p i = hex4 i.first ++ 58 ∷ hex4 i.second
 operand_text LssPair p i = hex2 (lss_in i.first) ++ 58 ∷ hex2 (lss_in i.second)
+operand_text EachLss p i = hex2 (lss_in i.first)
 operand_text Ports p i = codes "I0000:I0000"
 operand_text ControlPath p i = []
 
@@ -204,12 +205,13 @@ pair_saying _ = None
 -- what a line says of a step of FlashCopy
 unfoldable pub flash_saying : Step → Option Saying
 flash_saying (ListFlashes devs volume) = Some (for_item Lsflash (given devs) volume volume)
-flash_saying (MakeFlash devs s t nocopy persistent recorded inhibited sequence) = Some (for_item Mkflash (record no_options { devs = devs; nocopy = nocopy; persistent = persistent; recorded = recorded; inhibited = inhibited; sequence = sequence }) s t)
+flash_saying (MakeFlash devs s t nocopy persistent recorded inhibited freeze sequence) = Some (for_item Mkflash (record no_options { devs = devs; nocopy = nocopy; persistent = persistent; recorded = recorded; inhibited = inhibited; freeze = freeze; sequence = sequence }) s t)
 flash_saying (RemoveFlash devs s t sequence) = Some (for_item Rmflash (record no_options { devs = devs; sequence = sequence }) s t)
 flash_saying (ResyncFlash devs s t nocopy persistent recorded inhibited sequence) = Some (for_item Resyncflash (record no_options { devs = devs; nocopy = nocopy; persistent = persistent; recorded = recorded; inhibited = inhibited; sequence = sequence }) s t)
 flash_saying (ReverseFlash devs s t tgtpprc sequence) = Some (for_item Reverseflash (record no_options { devs = devs; sequence = sequence; fast = true; tgtpprc = tgtpprc }) s t)
 flash_saying (CommitFlash devs source sequence) = Some (for_item Commitflash (record no_options { devs = devs; sequence = sequence }) source source)
 flash_saying (RevertFlash devs source sequence) = Some (for_item Revertflash (record no_options { devs = devs; sequence = sequence }) source source)
+flash_saying (UnfreezeFlash devs lss) = Some (for_item Unfreezeflash (given devs) lss lss)
 flash_saying _ = None
 
 -- what a line says of a step of sessions
@@ -289,6 +291,7 @@ operand_fits VolumeRange p i = nat_lt i.first 65536 && nat_eq i.second i.first
 operand_fits VolumeList p i = nat_lt i.first 65536 && nat_eq i.second i.first
 operand_fits VolumePair p i = nat_lt i.first 65536 && nat_lt i.second 65536
 operand_fits LssPair p i = nat_lt i.first 256 && nat_lt i.second 256
+operand_fits EachLss p i = nat_lt i.first 256 && nat_eq i.second i.first
 operand_fits ControlPath p i = false
 operand_fits _ p i = true
 

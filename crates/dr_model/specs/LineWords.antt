@@ -187,6 +187,10 @@ lss_pair_cut word (Some colon) = lss_word (before colon word) >>= λ l. lss_word
 abbrev pub lss_pair_items : List ℕ → Option (List Item)
 lss_pair_items word = lss_pair_cut word (mark_at 58 word)
 
+-- one logical subsystem, which stands twice in its item
+abbrev pub lss_items : List ℕ → Option (List Item)
+lss_items word = lss_word word >>= λ l. Some (record { first = l.0; second = l.0 } ∷ [])
+
 -- a port: `I` and four hexadecimal digits
 abbrev pub is_port : List ℕ → Bool
 is_port [] = false

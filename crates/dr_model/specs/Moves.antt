@@ -9,12 +9,12 @@ use Rattle.dr_model.specs.Contents.{with_write}
 use Rattle.dr_model.specs.Layout.{Tracks, Fields}
 use Rattle.dr_model.specs.declared.state.Part.{Part}
 use Rattle.dr_model.specs.declared.state.PairState.{PairState}
-use Rattle.dr_model.specs.Pairs.{altered, written, held_for, freed, sealed, past_attempt, with_attempt, with_floor, no_member, is_suspended, suspended, made_secondary, made_primary, no_primary, no_secondary, received, struck, resumed, taken_over, unsynced, mirrored, synced, thawed, lifted, restarted, fallen_back, yielded}
+use Rattle.dr_model.specs.Pairs.{altered, written, held_for, freed, sealed, past_attempt, with_attempt, with_floor, no_member, is_suspended, suspended, made_secondary, made_primary, no_primary, no_secondary, received, struck, resumed, taken_over, unsynced, mirrored, synced, thawed, flash_held, flash_freed, lifted, restarted, fallen_back, yielded}
 use Rattle.dr_model.specs.Views.{view}
 use Rattle.dr_model.specs.Control.{Pending, Volume, World}
 use Rattle.dr_model.specs.Relations.{Choices, rest, in_order, is_bare, closed, fetched, noted, rewritten, made, withdrawn_if, resynced, turned, given_up, restored, flashed, committed, reverted}
 use Rattle.dr_model.specs.declared.event.Event.{Event}
-use Rattle.dr_model.specs.declared.event.Event.TheVariants.{Ack, Set, Copied, Back, Blanked, Restored, Sent, Mirrored, Suspended, TakenOver, Begin, Cut, Sealed, Left, Flashed, Committed, Reverted}
+use Rattle.dr_model.specs.declared.event.Event.TheVariants.{Ack, Set, Copied, Back, Blanked, Restored, Sent, Mirrored, Suspended, TakenOver, Begin, Cut, Sealed, Left, Flashed, Committed, Reverted, FlashHeld, FlashFreed}
 
 -- the kinds of moves, each with the volumes, tracks, writes and numbers that it is about
 pub data Move : Type 0 where
@@ -70,7 +70,10 @@ pub data Move : Type 0 where
   LandBoth : (w v t : ℕ) → Move
   -- primary v is long busy no more
   Thaw : (v : ℕ) → Move
-  -- host writes on v wait no more
+  -- v gets a flash hold: host writes on it wait until it ends; and it ends
+  FlashHold : (v : ℕ) → Move
+  FlashFree : (v : ℕ) → Move
+  -- host writes on v wait no more, whatever held them back
   Lift : (v : ℕ) → Move
   -- v goes on after a stop
   Restart : (v : ℕ) → Move
@@ -121,6 +124,8 @@ target (Unsync v t) = v
 target (Mirror v t u w) = v
 target (LandBoth w v t) = v
 target (Thaw v) = v
+target (FlashHold v) = v
+target (FlashFree v) = v
 target (Lift v) = v
 target (Restart v) = v
 target (Hold v s n first) = v
@@ -163,6 +168,8 @@ fields_left (Unsync v t) u = unsynced u.fields t
 fields_left (Mirror v t from w) u = mirrored u.fields t
 fields_left (LandBoth w v t) u = synced u.fields t
 fields_left (Thaw v) u = thawed u.fields
+fields_left (FlashHold v) u = flash_held u.fields
+fields_left (FlashFree v) u = flash_freed u.fields
 fields_left (Lift v) u = lifted u.fields
 fields_left (Restart v) u = restarted u.fields
 fields_left (Hold v s n first) u = held_for n u.fields
@@ -209,6 +216,10 @@ abbrev pub told_left : Option ℕ → ℕ → List Event
 told_left None s = []
 told_left (Some u) s = Left s u ∷ []
 
+-- the end of the holds of a volume, told where it had a flash hold
+abbrev pub told_freed : ℕ → Bool → List Event
+told_freed v held = if held then FlashFreed v ∷ [] else []
+
 -- what the journal is told when the move is done, by the volume as it was
 abbrev pub told : Move → Volume → List Event
 told (Land n v t) u = Ack n ∷ []
@@ -226,6 +237,9 @@ told (Suspend v busy) u = if is_suspended u.fields.primary_state then [] else Su
 told (TakeOver v) u = TakenOver v ∷ []
 told (Mirror v t from n) u = Mirrored n v ∷ []
 told (LandBoth n v t) u = Ack n ∷ []
+told (FlashHold v) u = FlashHeld v ∷ []
+told (FlashFree v) u = FlashFreed v ∷ []
+told (Lift v) u = told_freed v u.fields.flash_hold
 told (Hold v s n first) u = if first then Begin s n ∷ Cut s n v ∷ [] else Cut s n v ∷ []
 told (Seal v a s n) u = Sealed s n a ∷ []
 told (Leave v a s) u = Left s a ∷ []

@@ -56,9 +56,10 @@ abbrev pub is_full_duplex : PairState → Bool
 is_full_duplex FullDuplex = true
 is_full_duplex _ = false
 
--- host writes on a volume wait: coordination holds it, or it is long busy
+-- host writes on a volume wait: coordination holds it, or it is long busy, or it has a flash hold; of these three a volume that is no
+-- primary may have the last alone
 abbrev pub held : Fields → Bool
-held f = f.coordination || f.long_busy
+held f = f.coordination || f.long_busy || f.flash_hold
 
 -- a volume that is no primary, or a Suspended one
 abbrev pub is_quiet : Fields → Bool
@@ -195,11 +196,19 @@ goes_over f t = is_metro f.primary && (not (is_suspended f.primary_state) && not
 abbrev pub thawed : Fields → Fields
 thawed f = record f { long_busy = false }
 
--- no host write waits any more: a coordination hold ends with a void
+-- a volume gets a flash hold, which no void and no part of a pair takes off; and it has none any more
+abbrev pub flash_held : Fields → Fields
+flash_held f = record f { flash_hold = true }
+
+abbrev pub flash_freed : Fields → Fields
+flash_freed f = record f { flash_hold = false }
+
+-- no host write waits any more: the holds of all three kinds end, that of coordination with a void
 abbrev pub lifted : Fields → Fields
 lifted f = record f {
   coordination = false;
   long_busy = false;
+  flash_hold = false;
   recording = if f.coordination then false else f.recording;
   out_of_sync = if f.coordination then union f.out_of_sync f.change_recording else f.out_of_sync;
   change_recording = if f.coordination then empty else f.change_recording;

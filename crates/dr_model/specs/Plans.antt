@@ -21,7 +21,7 @@ use Rattle.dr_model.specs.Carry.{Entry, Next, Pass, Do, Acknowledge, now, check}
 use Rattle.dr_model.specs.Entries.{fields_at, is_running, running_check, subsystem, first_of, share_server, share_size, is_no_target, copies_from, targets_of, stands_in, is_any, relation_state, pair_state, is_no_secondary, takes_back, times, fetch_next, give_back}
 use Rattle.dr_model.specs.Sessions.{session_in, members_in, is_member, in_session}
 use Rattle.dr_model.specs.PairEntries.{refuse_if, make_entries, remove_entries, pause_entries, resume_entries, failover_entries, failback_entries, is_copying, tracks_to_send, sends, suspend_after, link_down, first_active, first_differing, differs_at, stands_free}
-use Rattle.dr_model.specs.WriteEntries.{landing, says_written, after_write, belongs, start_entries, lift_on, freeze_entries, thaw_entries}
+use Rattle.dr_model.specs.WriteEntries.{landing, says_written, after_write, belongs, start_entries, lift_on, freeze_entries, thaw_entries, flash_hold_on, flash_free_on}
 pub use Rattle.dr_model.specs.PlanParts.{Plan, same, none_follow, always, tables_plan, only_says, refuses, name_bytes, server_named, on_named, on_server, unless, entries_plan, is_owner, is_defined, is_named, owner_of, on_owner, on_session}
 pub use Rattle.dr_model.specs.RecoveryPlans.{decided_in, secondary_refusal, leaves_all, forbidden_unless}
 use Rattle.dr_model.specs.RecoveryPlans.{member_of_target, lets_commit, lets_revert, recover_plan, settle_plan}
@@ -40,7 +40,7 @@ use Rattle.dr_model.specs.declared.step.PairChoices.{PairChoices}
 use Rattle.dr_model.specs.declared.step.TornWord.{TornWord}
 use Rattle.dr_model.specs.declared.step.TornWord.TheVariants.{Same, Fill, Bytes}
 use Rattle.dr_model.specs.declared.step.Step.{Step}
-use Rattle.dr_model.specs.declared.step.Step.TheVariants.{Server, Volume, Link, Stop, StopAfter, Start, Issue as IssueWrite, Write, Apply, Show, MakeFlash, RemoveFlash, ResyncFlash, ReverseFlash, Copy, MakePath, RemovePath, MakePair, RemovePair, PausePair, ResumePair, Failover, Failback, Drain, Expire, Freeze, Unfreeze, MakeSession, RemoveSession, AddMember, RemoveMember, MakeMirror, PauseMirror, ResumeMirror, RemoveMirror, Abort, Exchange, Recover, CommitFlash, RevertFlash, ListPairs, ListFlashes, ListSession, ShowMirror}
+use Rattle.dr_model.specs.declared.step.Step.TheVariants.{Server, Volume, Link, Stop, StopAfter, Start, Issue as IssueWrite, Write, Apply, Show, MakeFlash, RemoveFlash, ResyncFlash, ReverseFlash, Copy, MakePath, RemovePath, MakePair, RemovePair, PausePair, ResumePair, Failover, Failback, Drain, Expire, Freeze, Unfreeze, MakeSession, RemoveSession, AddMember, RemoveMember, MakeMirror, PauseMirror, ResumeMirror, RemoveMirror, Abort, Exchange, Recover, CommitFlash, RevertFlash, UnfreezeFlash, ListPairs, ListFlashes, ListSession, ShowMirror}
 
 -- a server is defined; it is on
 abbrev pub server_done : Control → Name → Plan
@@ -274,13 +274,41 @@ free_checks k s t =
     ∷ check (stands_free t) (pair_state k t)
     ∷ check (has_few_targets s) (over Targets) ∷ []
 
--- a relationship between two volumes that are there is made
+-- the source of a new relationship gets a flash hold first, where the line asks for that
+abbrev pub hold_first : Bool → ℕ → List Entry
+hold_first freeze s = if freeze then flash_hold_on s ∷ [] else []
+
+-- A relationship between two volumes that are there is made. With a flash hold of its source, host writes on that wait from before its tracks
+-- are taken on. What refuses the relationship comes before both moves.
+abbrev pub establish_entries : Control → ℕ → ℕ → Bool → Choices → List Entry
+establish_entries k s t freeze choices = running_check k s ∷ alike_checks s t ++ free_checks k s t ++ hold_first freeze s ++ now (Relate t s choices) ∷ []
+
+-- without a flash hold
 abbrev pub flash_entries : Control → ℕ → ℕ → Choices → List Entry
-flash_entries k s t choices = running_check k s ∷ alike_checks s t ++ free_checks k s t ++ now (Relate t s choices) ∷ []
+flash_entries k s t choices = establish_entries k s t false choices
+
+-- and with one
+abbrev pub freeze_flash_entries : Control → ℕ → ℕ → Choices → List Entry
+freeze_flash_entries k s t choices = establish_entries k s t true choices
 
 -- `mkflash`
-abbrev pub make_flash_plan : Control → Option Name → ℕ → ℕ → Choices → Plan
-make_flash_plan k dev s t choices = entries_plan (found_pair dev s t ++ flash_entries k s t choices) (Done Alone)
+abbrev pub make_flash_plan : Control → Option Name → ℕ → ℕ → Bool → Choices → Plan
+make_flash_plan k dev s t freeze choices = entries_plan (found_pair dev s t ++ establish_entries k s t freeze choices) (Done Alone)
+
+-- the server isn't the one that is named, or is off
+abbrev pub release_refusal : Control → Option Name → ℕ → Option Refusal
+release_refusal k dev s =
+    if not (is_named dev s k) then Some (unknown OfServer)
+    else if not (k.on s) then Some (server_off s)
+    else None
+
+-- each volume of a logical subsystem that has a flash hold loses it, in order of definition
+abbrev pub release_done : Control → ℕ → Plan
+release_done k l = entries_plan (map (flash_free_on l) k.volumes) (Done Alone)
+
+-- `unfreezeflash`
+abbrev pub release_plan : Control → Option Name → ℕ → Plan
+release_plan k dev l = on_owner (owner_of k l) (λ s. unless (release_refusal k dev s) (release_done k l))
 
 -- t is a target of s, and neither revertible nor reversing
 abbrev pub is_plain_target : ℕ → ℕ → Control → Bool
@@ -531,8 +559,8 @@ plan_of k events line (Stop name) = on_server k name (stop_on k)
 plan_of k events line (StopAfter name writes torn) = on_server k name (arm_on writes torn)
 plan_of k events line (Start name) = on_server k name (start_on k)
 plan_of k events line (Show v t) = show_plan k events line v t
-plan_of k events line (MakeFlash devs s t nocopy persistent recorded inhibited sequence) =
-    make_flash_plan k devs.dev s t (record { nocopy = nocopy; persistent = persistent; recorded = recorded; inhibited = inhibited; sequence = unwrap_or sequence 0 })
+plan_of k events line (MakeFlash devs s t nocopy persistent recorded inhibited freeze sequence) =
+    make_flash_plan k devs.dev s t freeze (record { nocopy = nocopy; persistent = persistent; recorded = recorded; inhibited = inhibited; sequence = unwrap_or sequence 0 })
 plan_of k events line (RemoveFlash devs s t sequence) = remove_flash_plan k devs.dev s t
 plan_of k events line (ResyncFlash devs s t nocopy persistent recorded inhibited sequence) = resync_flash_plan k devs.dev s t sequence
 plan_of k events line (ReverseFlash devs s t tgtpprc sequence) = reverse_flash_plan k devs.dev s t
@@ -562,6 +590,7 @@ plan_of k events line (Exchange s name reply) = exchange_plan k s name reply
 plan_of k events line (Recover s) = recover_plan k s
 plan_of k events line (CommitFlash devs source sequence) = settle_plan k devs.dev lets_commit source
 plan_of k events line (RevertFlash devs source sequence) = settle_plan k devs.dev lets_revert source
+plan_of k events line (UnfreezeFlash devs l) = release_plan k devs.dev l
 plan_of k events line (ListPairs devs v) = list_pairs_plan k line devs.dev v
 plan_of k events line (ListFlashes devs v) = list_flashes_plan k line devs.dev v
 plan_of k events line (ListSession devs l) = list_session_plan k line devs.dev l

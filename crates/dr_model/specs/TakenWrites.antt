@@ -44,7 +44,7 @@ is_restored k t v = (fields_at k t).reversing && (nat_eq (fields_at k t).source 
 -- as its secondary. No other step does.
 abbrev pub takes_from : Control → Result Step ℕ → ℕ → Bool
 takes_from k (Ok (Volume x server tracks)) v = nat_eq x v && not (is_volume k v)
-takes_from k (Ok (MakeFlash devs s t nocopy persistent recorded inhibited sequence)) v = nat_eq t v
+takes_from k (Ok (MakeFlash devs s t nocopy persistent recorded inhibited freeze sequence)) v = nat_eq t v
 takes_from k (Ok (RemoveFlash devs s t sequence)) v = nat_eq t v
 takes_from k (Ok (ResyncFlash devs s t nocopy persistent recorded inhibited sequence)) v = nat_eq t v
 takes_from k (Ok (ReverseFlash devs s t tgtpprc sequence)) v = nat_eq t v

@@ -5,7 +5,7 @@ use Rattle.dr_ids.specs.Paths.{path_in}
 use Rattle.dr_model.specs.Layout.{is_part}
 use Rattle.dr_model.specs.Control.{Control, is_volume}
 use Rattle.dr_model.specs.Pairs.{held, goes_over, collides, must_restart}
-use Rattle.dr_model.specs.Moves.{Suspend, Unsync, Mirror, LandBoth, Thaw, Lift, Restart}
+use Rattle.dr_model.specs.Moves.{Suspend, Unsync, Mirror, LandBoth, Thaw, FlashHold, FlashFree, Lift, Restart}
 use Rattle.dr_model.specs.Carry.{Make, Redo, EndFreeze, EndThaw, Pass, Do, Entry, now}
 use Rattle.dr_model.specs.Entries.{fields_at, is_running, subsystem, copy_first, write_checks, land_alone}
 use Rattle.dr_model.specs.PairEntries.{send_refusal, suspend_where, flashed_refusal, store_on, strike_on, suspend_after}
@@ -124,11 +124,23 @@ end_thaw l m k = Do (EndThaw l m)
 abbrev pub thaw_entries : List ℕ → ℕ → ℕ → List Entry
 thaw_entries volumes l m = map (thaw_on l m) volumes ++ end_thaw l m ∷ []
 
+-- host writes on volume s wait from now on, where they don't do so by a flash hold already
+abbrev pub flash_hold_on : ℕ → Entry
+flash_hold_on s k = if (fields_at k s).flash_hold then Pass else Do (Make (FlashHold s))
+
+-- a volume of logical subsystem l, whose server runs, has a flash hold
+abbrev pub is_held_in : Control → ℕ → ℕ → Bool
+is_held_in k l v = nat_eq (subsystem v) l && (is_running v k && (fields_at k v).flash_hold)
+
+-- it has none any more
+abbrev pub flash_free_on : ℕ → ℕ → Entry
+flash_free_on l v k = if is_held_in k l v then Do (Make (FlashFree v)) else Pass
+
 -- a volume that is defined, and the server's
 abbrev pub belongs : Control → ℕ → ℕ → Bool
 belongs k s v = is_volume k v && nat_eq (k.volume v).server s
 
--- where a volume of the server is held, its writes wait no more
+-- where a volume of the server is held, by whichever of the three holds, its writes wait no more
 abbrev pub lift_on : ℕ → ℕ → Entry
 lift_on s v k = if belongs k s v && held (fields_at k v) then Do (Make (Lift v)) else Pass
 

@@ -124,6 +124,14 @@ pub enum Event {
         volume: u16,
         from: u16,
     },
+    /// A volume got a flash hold: host writes on it wait.
+    FlashHeld {
+        volume: u16,
+    },
+    /// A volume lost its flash hold.
+    FlashFreed {
+        volume: u16,
+    },
     /// A secondary was made a suspended primary.
     TakenOver {
         volume: u16,

@@ -39,6 +39,7 @@ pub enum Command {
     Reverseflash,
     Commitflash,
     Revertflash,
+    Unfreezeflash,
     Mksession,
     Chsession,
     Rmsession,
@@ -69,6 +70,7 @@ pub enum Setting {
     Persist,
     Recording,
     Inhibit,
+    FreezeSource,
     Sequence,
     Fast,
     TargetPprc,
@@ -104,6 +106,7 @@ pub enum Operand {
     VolumeList,
     VolumePair,
     LssPair,
+    EachLss,
     Ports,
     ControlPath,
 }
@@ -129,6 +132,7 @@ pub struct Options {
     pub persistent: bool,
     pub recorded: bool,
     pub inhibited: bool,
+    pub freeze: bool,
     pub sequence: Option<u32>,
     pub fast: bool,
     pub tgtpprc: bool,
@@ -166,7 +170,7 @@ pub struct Operands {
 }
 
 /// One of the operands that are a step each: the two volumes of a pair, the two logical subsystems of
-/// a path, or one volume twice.
+/// a path, or one volume or one logical subsystem twice.
 #[derive(Clone, Copy)]
 pub struct Item {
     pub first: u16,

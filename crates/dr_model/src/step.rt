@@ -29,7 +29,8 @@ pub struct PairChoices {
 /// One step of a script: a line's command with one operand.
 ///
 /// A `kind` is 1 for Metro Mirror and 2 for Global Copy; `most` is `None` for all; `reply` is false for
-/// `noreply`; `source_only` is true for `-unconditional -at src`.
+/// `noreply`; `source_only` is true for `-unconditional -at src`; `freeze` is true where the source is
+/// to get a flash hold first.
 #[derive(Clone, Copy)]
 pub enum Step {
     Server {
@@ -182,6 +183,7 @@ pub enum Step {
         persistent: bool,
         recorded: bool,
         inhibited: bool,
+        freeze: bool,
         sequence: Option<u32>,
     },
     RemoveFlash {
@@ -216,6 +218,10 @@ pub enum Step {
         devs: Devs,
         source: u16,
         sequence: Option<u32>,
+    },
+    UnfreezeFlash {
+        devs: Devs,
+        lss: u8,
     },
     MakeSession {
         devs: Devs,

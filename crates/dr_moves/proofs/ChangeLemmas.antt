@@ -23,10 +23,8 @@ use Rattle.dr_moves.specs.Here.{world_seen, armed_in}
 use Rattle.dr_moves.specs.Made.{IsAt, May, room_for, after_stop, Made, Kept}
 use Rattle.dr_moves.specs.Moves.{volume_with}
 use Rattle.dr_moves.specs.Ready.{StandsReady, Ready, Stayed}
-use Rattle.dr_moves.specs.Told.{events_of}
 use Rattle.dr_moves.specs.Turns.{told_in_stop as told_stopped}
 use Rattle.dr_moves.specs.declared.acts.Stop.{Stop}
-use Rattle.dr_moves.specs.declared.told.Telling.{Telling}
 use Rattle.dr_moves.proofs.AsideLemmas.{aside-kept, aside-after}
 use Rattle.dr_moves.proofs.KeptLemmas.{at-after, max-left, max-right, room-left, room-right}
 use Rattle.dr_moves.proofs.MoveFits.{MoveFits, fits-by}
@@ -65,37 +63,35 @@ module _ (s : PlantState) (c : ConfigTable) (m : Move) (v : ℕ) (t : Carried) (
     spare = stayed.spare;
   }
 
--- the fields that a move leaves of a volume, and what it tells
-pub record Rows (m : Move) (x : Volume) (f : Fields) (telling : Telling) : Type 0 where
+-- the fields that a move leaves of a volume, and what it tells, by what was seen of it
+pub record Rows (m : Move) (x : Volume) (f : Fields) (y : Volume) : Type 0 where
   pub next : f ≡ fields_left m x
-  pub done : events_of telling.done ≡ told m x
-  pub in_stop : events_of telling.in_stop ≡ told_in_stop m x
-  pub landed : telling.landed ≡ landed m
+  pub done : told m y ≡ told m x
+  pub in_stop : told_in_stop m y ≡ told_in_stop m x
 
 -- by what was read of it
-pub rows-by : (m : Move) (x : Volume) (n : ℕ) (read f : Fields) (telling : Telling) → x.tracks ≡ n → read ≡ x.fields → f ≡ fields_left m (volume_with n read)
-    → events_of telling.done ≡ told m (volume_with n read) → events_of telling.in_stop ≡ told_in_stop m (volume_with n read) → telling.landed ≡ landed m → Rows m x f telling
-rows-by m x n read f telling size shows next done in_stop lands = record {
+pub rows-by : (m : Move) (x : Volume) (n : ℕ) (read f g : Fields) → x.tracks ≡ n → read ≡ x.fields → f ≡ fields_left m (volume_with n read)
+    → told m (volume_with n g) ≡ told m (volume_with n read) → told_in_stop m (volume_with n g) ≡ told_in_stop m (volume_with n read) → Rows m x f (volume_with n g)
+rows-by m x n read f g size shows next done in_stop = record {
   next = next ∙ next-row m x n read size shows;
   done = done ∙ told-row m x n read size shows;
   in_stop = in_stop ∙ stop-row m x n read size shows;
-  landed = lands;
 }
 
 -- there is room for it
-module _ (m : Move) (x : Volume) (f : Fields) (telling : Telling) (old new : Log) (rows : Rows m x f telling) where
-  pub done-room : room_for m x ≤ old.spare → length (events_of telling.done) ≤ old.spare
+module _ (m : Move) (x : Volume) (f : Fields) (y : Volume) (old new : Log) (rows : Rows m x f y) where
+  pub done-room : room_for m x ≤ old.spare → length (told m y) ≤ old.spare
   done-room room = subst (λ es. length es ≤ old.spare) (sym rows.done) (max-left (length (told m x)) (length (told_in_stop m x) + 1) old.spare room)
 
-  pub stop-room : room_for m x ≤ old.spare → length (events_of telling.in_stop) + 1 ≤ old.spare
+  pub stop-room : room_for m x ≤ old.spare → length (told_in_stop m y) + 1 ≤ old.spare
   stop-room room = subst (λ es. length es + 1 ≤ old.spare) (sym rows.in_stop) (max-right (length (told m x)) (length (told_in_stop m x) + 1) old.spare room)
 
-  pub done-left : old.spare ≡ new.spare + length (events_of telling.done) → old.spare ≡ new.spare + length (told m x)
+  pub done-left : old.spare ≡ new.spare + length (told m y) → old.spare ≡ new.spare + length (told m x)
   done-left is = subst (λ es. old.spare ≡ new.spare + length es) rows.done is
 
   -- what stays where it was done, and where its server stopped in it
   pub stayed-done : (s u : PlantState) (c : ConfigTable) (server : ℕ) → StandsFor c u → ((q : ℕ) → IsSettled s c q → IsSettled u c q) → ((q : ℕ) → s.read_fuse q ≡ None → u.read_fuse q ≡ None) → u.faults ≡ s.faults → u.on ≡ s.on
-      → new.events ≡ old.events ++ events_of telling.done → old.spare ≡ new.spare + length (events_of telling.done) → Stayed s u c old new server (room_for m x) {E = Stop} (Ok tt)
+      → new.events ≡ old.events ++ told m y → old.spare ≡ new.spare + length (told m y) → Stayed s u c old new server (room_for m x) {E = Stop} (Ok tt)
   stayed-done s u c server stands settled unarmed faults on tells left = record {
     stands = stands;
     settled = settled;
@@ -105,12 +101,12 @@ module _ (m : Move) (x : Volume) (f : Fields) (telling : Telling) (old new : Log
     off = tt;
     room = room-left (length (told m x)) (length (told_in_stop m x) + 1) old.spare new.spare (done-left left);
     spare =
-        let e : length new.events ≡ length old.events + length (events_of telling.done) = ap length tells ∙ length-append old.events (events_of telling.done) in
+        let e : length new.events ≡ length old.events + length (told m y) = ap length tells ∙ length-append old.events (told m y) in
         omega (arith, e, left);
   }
 
   pub stayed-stopped : (s u : PlantState) (c : ConfigTable) (server : ℕ) (stop : Stop) → StandsFor c u → ((q : ℕ) → IsSettled s c q → IsSettled u c q) → ((q : ℕ) → s.read_fuse q ≡ None → u.read_fuse q ≡ None) → u.faults ≡ risen s.faults → u.on server ≡ false
-      → old.spare ≤ new.spare + (length (events_of telling.in_stop) + 1) → length new.events + new.spare ≡ length old.events + old.spare → Stayed s u c old new server (room_for m x) {E = Stop} (Err stop)
+      → old.spare ≤ new.spare + (length (told_in_stop m y) + 1) → length new.events + new.spare ≡ length old.events + old.spare → Stayed s u c old new server (room_for m x) {E = Stop} (Err stop)
   stayed-stopped s u c server stop stands settled unarmed faults off most sum = record {
     stands = stands;
     settled = settled;
@@ -123,9 +119,9 @@ module _ (m : Move) (x : Volume) (f : Fields) (telling : Telling) (old new : Log
   }
 
 -- what was made of it
-module _ (s u : PlantState) (c : ConfigTable) (old new : Log) (m : Move) (v : ℕ) (f : Fields) (t : Carried) (telling : Telling) (is_target : target m ≡ v) (ready : Ready s c v m t)
-    (carries : carried m (volume_seen s c) (track_seen s c) (histories old.events).write ≡ t) (rows : Rows m (volume_seen s c v) f telling) where
-  pub made-done : ((r : Rest) → EndsAs (world_seen u c r old.events) false (update (world_seen s c r old.events) v f t)) → IsMoved s u c v f t → OthersStay s u c v → new.events ≡ old.events ++ events_of telling.done → Made s u c old new m v t (Ok tt)
+module _ (s u : PlantState) (c : ConfigTable) (old new : Log) (m : Move) (v : ℕ) (f : Fields) (t : Carried) (y : Volume) (is_target : target m ≡ v) (ready : Ready s c v m t)
+    (carries : carried m (volume_seen s c) (track_seen s c) (histories old.events).write ≡ t) (rows : Rows m (volume_seen s c v) f y) where
+  pub made-done : ((r : Rest) → EndsAs (world_seen u c r old.events) false (update (world_seen s c r old.events) v f t)) → IsMoved s u c v f t → OthersStay s u c v → new.events ≡ old.events ++ told m y → Made s u c old new m v t (Ok tt)
   made-done ends is others tells = record {
     turned = λ r. turn-done s u c m v f t old.events new.events is_target ready.ready.running rows.next carries r (ends r) (tells ∙ ap (λ es. old.events ++ es) rows.done);
     came = subst (λ g. IsMoved s u c v g t) rows.next is;
@@ -139,14 +135,14 @@ module _ (s u : PlantState) (c : ConfigTable) (old new : Log) (m : Move) (v : �
   -- the server stopped in it, or at a read before it
   pub made-stopped : (server : ServerId) (was now : Bool) → (volume_seen s c v).server ≡ server.0 → was ≡ (volume_seen s c v).slot → now ≡ (volume_seen u c v).slot
       → ((r : Rest) → ((not (beq now was) ≡ false) × GoesOff (armed_in s) (world_seen u c r new.events) (Some (stopped (volume_seen s c v).server)) (world_seen s c r old.events)) ⊎ EndsAs (world_seen u c r old.events) true (update (world_seen s c r old.events) v f t))
-      → IsAsBefore s u c v ⊎ IsMoved s u c v f t → OthersStay s u c v → new.events ≡ old.events ++ told_stopped (not (beq now was)) telling server.0
+      → IsAsBefore s u c v ⊎ IsMoved s u c v f t → OthersStay s u c v → new.events ≡ old.events ++ told_stopped (not (beq now was)) m y server.0
       → Made s u c old new m v t (Err (record { server = server; counts = not (beq now was) }))
   made-stopped server was now at is_was is_now ends either others tells = record {
     turned = λ r. elim (ends r) [
       | inl off ↦ inl (off.0, subst (λ n. GoesOff (armed_in s) (world_seen u c r new.events) (Some (stopped n)) (world_seen s c r old.events)) at off.1)
       | inr stops ↦ inr
           (turn-stopped s u c m v f t old.events new.events is_target ready.ready.running rows.next carries r was now stops is_was is_now
-          (tells ∙ (λ i. old.events ++ (if not (beq now was) then rows.in_stop i ++ Stopped (sym at i) (rows.landed i) ∷ [] else Stopped (sym at i) 0 ∷ [])))
+          (tells ∙ (λ i. old.events ++ (if not (beq now was) then rows.in_stop i ++ Stopped (sym at i) (landed m) ∷ [] else Stopped (sym at i) 0 ∷ [])))
           ∙ ap (λ n. (world_seen u c (after_stop m (not (beq now was)) r) new.events, Some n)) at)
     ];
     came = came-by s u c v (fields_left m (volume_seen s c v)) t was now is_was is_now (either-left either);

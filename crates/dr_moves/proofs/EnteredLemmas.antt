@@ -1,16 +1,16 @@
 -- A move as an entry, from the machine's turn of it.
-use Rattle.std.proofs.Common.{ℕ, ◌≡◌, ◌⊎◌, inl, inr, Bool, true, false, List, [], refl, sym, ap, ◌∙◌, None, Some}
+use Rattle.std.proofs.Common.{ℕ, ◌≡◌, ◌⊎◌, inl, inr, Bool, true, false, List, [], refl, ap, ◌∙◌, None, Some}
 use Rattle.std.specs.Prelude.{Result, Ok, Err, OnOk, OnErr}
 use Rattle.dr_ids.specs.declared.refusal.Refusal.{Refusal}
 use Rattle.dr_plant.specs.State.{PlantState}
 use Rattle.dr_config.specs.Table.{ConfigTable}
 use Rattle.dr_model.specs.declared.event.Event.{Event}
 use Rattle.dr_model.specs.Log.{Log}
-use Rattle.dr_model.specs.Moves.{Move, Land, Overwrite, LandBoth, Carried, target, fields_left, carried, told, told_in_stop, landed}
-use Rattle.dr_model.specs.Carry.{turn, update, now}
+use Rattle.dr_model.specs.Moves.{Move, Land, Overwrite, LandBoth, Carried}
+use Rattle.dr_model.specs.Carry.{turn, now}
 use Rattle.dr_model.specs.ReadStops.{GoesOff}
 use Rattle.dr_model.specs.Refusals.{stopped}
-use Rattle.dr_volume.specs.View.{Rest, volume_seen, track_seen}
+use Rattle.dr_volume.specs.View.{Rest, volume_seen}
 use Rattle.dr_moves.specs.Entered.{is_calm, Entered}
 use Rattle.dr_moves.specs.Here.{world_seen, armed_in, refusal_of}
 use Rattle.dr_moves.specs.Made.{after_done, after_stop, Made}

@@ -1,6 +1,6 @@
 -- Read first: `MoveRows.antt`, `MoveFits.antt`, `MoveTracks.antt`, `AsideLemmas.antt`, `StopRows.antt`, `EnteredLemmas.antt`: what
--- holds of each kind of move, one clause a kind, or one for all that are alike; `TurnMade.antt`: the machine's turn, from what was made of the volume; `GateLemmas.antt`: of one that begins with the
--- read of the gate;
+-- holds of each kind of move, one clause a kind, or one for all that are alike; `TurnMade.antt`: the machine's turn, from what was made of the volume; `GateLemmas.antt`: what it
+-- leaves is at rest;
 -- `ChangeLemmas.antt`: what a move asks of its volume, and the facts of `Made` and of what stays, from what the device writes left;
 -- `KeptLemmas.antt`: what stays, also along two calls in a row; `EntryLemmas.antt`, and `Ends.antt` of `dr_facts`: entry by entry;
 -- `HeardLemmas.antt`: what lies beside shows, behind news; `ActedLemmas.antt`: what an entry came to was done;

@@ -1,10 +1,10 @@
 -- Whether a stopped update counts as done, by the slots before it and behind.
-use Rattle.std.proofs.Common.{ℕ, ◌≡◌, List, ◌++◌, refl, ap, ◌∙◌, sym, Bool, true, false, not, cond, Some, None}
+use Rattle.std.proofs.Common.{ℕ, ◌≡◌, refl, ap, ◌∙◌, sym, Bool, true, false, not, cond}
 use mathlib.Core.Bool.{beq}
 use Rattle.dr_model.specs.Layout.{Fields}
 use Rattle.dr_model.specs.Control.{World}
 use Rattle.dr_model.specs.Moves.{Carried, moved, updated}
-use Rattle.dr_model.specs.Carry.{update, ended, Ended, pass, writes, counts_by, spent, off}
+use Rattle.dr_model.specs.Carry.{update, ended, pass, writes, counts_by, spent, off}
 use Rattle.dr_volume.specs.Update.{EndsAs}
 use Rattle.dr_logic.proofs.Tables.{at_same}
 

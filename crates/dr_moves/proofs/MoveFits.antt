@@ -12,9 +12,9 @@ use Rattle.dr_model.specs.Histories.{Write}
 use Rattle.dr_model.specs.Contents.{with_write}
 use Rattle.dr_model.specs.Layout.{Tracks, Fields}
 use Rattle.dr_model.specs.Lawful.{Low, NoRelation, IsLawful}
-use Rattle.dr_model.specs.Moves.{Move, Land, Overwrite, Keep, Note, Relate, Withdraw, Fetch, Resync, Reverse, Restore, Release, Store, Strike, Suspend, MakeSecondary, MakePrimary, DropPrimary, DropSecondary, Follow, Resume, TakeOver, FallBack, Yield, Unsync, Mirror, LandBoth, Thaw, Lift, Restart, Hold, Free, Seal, Finish, RaiseAttempt, RaiseFloor, Leave, Flash, Commit, Revert, Carried, is_carried, target, fields_left, carried}
+use Rattle.dr_model.specs.Moves.{Move, Land, Overwrite, Keep, Note, Relate, Withdraw, Fetch, Resync, Reverse, Restore, Release, Store, Strike, Suspend, MakeSecondary, MakePrimary, DropPrimary, DropSecondary, Follow, Resume, TakeOver, FallBack, Yield, Unsync, Mirror, LandBoth, Thaw, FlashHold, FlashFree, Lift, Restart, Hold, Free, Seal, Finish, RaiseAttempt, RaiseFloor, Leave, Flash, Commit, Revert, Carried, is_carried, target, fields_left, carried}
 use Rattle.dr_model.specs.Relations.{rest, is_whole, is_bare, parted_if, closed, fetched, noted, rewritten, withdrawn_if, resynced, turned, given_up, restored, flashed, committed, reverted}
-use Rattle.dr_model.specs.Pairs.{altered, written, held_for, freed, sealed, past_attempt, with_attempt, with_floor, no_member, suspended, made_secondary, made_primary, no_primary, no_secondary, received, struck, resumed, taken_over, fallen_back, yielded, unsynced, mirrored, synced, thawed, lifted, restarted}
+use Rattle.dr_model.specs.Pairs.{altered, written, held_for, freed, sealed, past_attempt, with_attempt, with_floor, no_member, suspended, made_secondary, made_primary, no_primary, no_secondary, received, struck, resumed, taken_over, fallen_back, yielded, unsynced, mirrored, synced, thawed, flash_held, flash_freed, lifted, restarted}
 use Rattle.dr_volume.specs.Update.{Covers}
 use Rattle.dr_volume.specs.View.{volume_seen, track_seen}
 use Rattle.dr_moves.specs.Fit.{RelationsFit, LeavesFit}
@@ -23,7 +23,7 @@ use Rattle.dr_facts.proofs.Tracks.{from_difference, not_removed_from}
 use Rattle.dr_model.proofs.LawfulLemmas.{removed}
 use Rattle.dr_moves.proofs.SetLaws.{contains-rest}
 use Rattle.dr_moves.proofs.FitLemmas.{fit-kept}
-use Rattle.dr_facts.proofs.Lawful.{lawful-taken, low-noted, lawful-noted, lawful-made, lawful-withdrawn, lawful-resynced, lawful-turned, lawful-given_up, lawful-altered, lawful-written, lawful-received, lawful-struck, lawful-suspended, lawful-resumed, lawful-followed, lawful-made_secondary, lawful-made_primary, lawful-no_primary, lawful-no_secondary, lawful-taken_over, lawful-fallen_back, lawful-yielded, lawful-unsynced, lawful-mirrored, lawful-synced, lawful-thawed, lawful-lifted, lawful-restarted, lawful-held, lawful-freed, lawful-past_attempt, lawful-sealed, lawful-attempt, lawful-floor, lawful-no_member, lawful-flashed, lawful-committed, lawful-reverted}
+use Rattle.dr_facts.proofs.Lawful.{lawful-taken, low-noted, lawful-noted, lawful-made, lawful-withdrawn, lawful-resynced, lawful-turned, lawful-given_up, lawful-altered, lawful-written, lawful-received, lawful-struck, lawful-suspended, lawful-resumed, lawful-followed, lawful-made_secondary, lawful-made_primary, lawful-no_primary, lawful-no_secondary, lawful-taken_over, lawful-fallen_back, lawful-yielded, lawful-unsynced, lawful-mirrored, lawful-synced, lawful-thawed, lawful-flash_held, lawful-flash_freed, lawful-lifted, lawful-restarted, lawful-held, lawful-freed, lawful-past_attempt, lawful-sealed, lawful-attempt, lawful-floor, lawful-no_member, lawful-flashed, lawful-committed, lawful-reverted}
 
 -- what is revertible is a target
 is-target : {n : ℕ} (f : Fields) → f.revertible ≡ true → IsLawful n f → f.related ≡ true
@@ -148,6 +148,8 @@ module _ (s : PlantState) (c : ConfigTable) (fit : RelationsFit s c) where
   fits (Mirror v t u w) write lawful asks = kept-fits v (mirrored (volume_seen s c v).fields t) (Some (t, with_write write (track_seen s c u t) w)) (lawful-mirrored (volume_seen s c v).tracks (volume_seen s c v).fields lawful t) (covers-carried (volume_seen s c v).fields.blank t (with_write write (track_seen s c u t) w)) refl refl (apart-less (volume_seen s c v).fields.own (volume_seen s c v).fields.blank t (fit.apart v))
   fits (LandBoth w v t) write lawful asks = kept-fits v (synced (volume_seen s c v).fields t) (Some (t, with_write write (track_seen s c v t) w)) (lawful-synced (volume_seen s c v).tracks (volume_seen s c v).fields lawful t asks.1) (covers-carried (volume_seen s c v).fields.blank t (with_write write (track_seen s c v t) w)) refl refl (apart-less (volume_seen s c v).fields.own (volume_seen s c v).fields.blank t (fit.apart v))
   fits (Thaw v) write lawful asks = kept-fits v (thawed (volume_seen s c v).fields) None (lawful-thawed (volume_seen s c v).tracks (volume_seen s c v).fields lawful) (covers-all (volume_seen s c v).fields.blank None) refl refl (fit.apart v)
+  fits (FlashHold v) write lawful asks = kept-fits v (flash_held (volume_seen s c v).fields) None (lawful-flash_held (volume_seen s c v).tracks (volume_seen s c v).fields lawful) (covers-all (volume_seen s c v).fields.blank None) refl refl (fit.apart v)
+  fits (FlashFree v) write lawful asks = kept-fits v (flash_freed (volume_seen s c v).fields) None (lawful-flash_freed (volume_seen s c v).tracks (volume_seen s c v).fields lawful) (covers-all (volume_seen s c v).fields.blank None) refl refl (fit.apart v)
   fits (Lift v) write lawful asks = kept-fits v (lifted (volume_seen s c v).fields) None (lawful-lifted (volume_seen s c v).tracks (volume_seen s c v).fields lawful) (covers-all (volume_seen s c v).fields.blank None) refl refl (fit.apart v)
   fits (Restart v) write lawful asks = kept-fits v (restarted (volume_seen s c v).fields) None (lawful-restarted (volume_seen s c v).tracks (volume_seen s c v).fields lawful) (covers-all (volume_seen s c v).fields.blank None) refl refl (fit.apart v)
   fits (Hold v from n first) write lawful asks = kept-fits v (held_for n (volume_seen s c v).fields) None (lawful-held (volume_seen s c v).tracks (volume_seen s c v).fields lawful n asks) (covers-all (volume_seen s c v).fields.blank None) refl refl (fit.apart v)

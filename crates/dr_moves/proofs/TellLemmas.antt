@@ -3,7 +3,7 @@ use Rattle.std.proofs.Common.{ℕ, zero, suc, ◌≡◌, ◌<◌, ◌≤◌, ◌
 use Rattle.std.specs.Prelude.{filter, max}
 use Rattle.std.specs.List.{range_with_len}
 use Rattle.std.specs.FinSet.{contains}
-use Rattle.std.proofs.lemmas.List.{append_assoc, append-nil}
+use Rattle.std.proofs.lemmas.List.{append_assoc}
 use Rattle.dr_bits.specs.Membership.{lt_true}
 use Rattle.dr_bits.specs.Tracks.{Tracks}
 use Rattle.dr_model.specs.Relations.{rest, in_order}
@@ -36,16 +36,10 @@ blanked-goes v n t own low new =
     ∙ ap (λ b. map (Blanked v) (cond b (t ∷ filter (contains (rest n own)) (range_with_len (t + 1) (n - (t + 1)))) (filter (contains (rest n own)) (range_with_len (t + 1) (n - (t + 1))))))
     (contains-rest n own t ∙ (λ i. lt_true t n low i && not (new i)))
 
-pub blanked-none : (v n t : ℕ) (own : Tracks) → n ≤ t → blanked_from v n own t ≡ []
-blanked-none v n t own past = ap (λ m. map (Blanked v) (filter (contains (rest n own)) (range_with_len t m))) (let e : n - t ≡ 0 = omega arith in e)
-
 -- a track's event was told
 pub told-more : (xs ys all : List Event) (e : Event) (left more : List Event) → left ≡ e ∷ more → ys ≡ xs ++ e ∷ [] → xs ++ left ≡ all → ys ++ more ≡ all
 told-more xs ys all e left more is told h =
     ap (λ zs. zs ++ more) told ∙ append_assoc xs (e ∷ []) more ∙ ap (λ zs. xs ++ zs) (sym is) ∙ h
-
-pub told-all : (xs all left : List Event) → left ≡ [] → xs ++ left ≡ all → xs ≡ all
-told-all xs all left none h = sym (append-nil xs) ∙ ap (λ zs. xs ++ zs) (sym none) ∙ h
 
 -- at most an event for each track
 few-blanked : (f : ℕ → Bool) (v a n : ℕ) → length (map (Blanked v) (filter f (range_with_len a n))) ≤ n

@@ -1,5 +1,5 @@
 -- What stays where what an entry came to was done: servers are on as before, and what is set aside fits.
-use Rattle.std.proofs.Common.{ℕ, ◌≡◌, true, inr, ap, subst, sym, None, Some}
+use Rattle.std.proofs.Common.{◌≡◌, true, inr, ap, subst, sym, None, Some}
 use Rattle.dr_plant.specs.State.{PlantState}
 use Rattle.dr_config.specs.Table.{ConfigTable}
 use Rattle.dr_model.specs.Moves.{Move, Hold, Carried, target, fields_left}

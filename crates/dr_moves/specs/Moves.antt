@@ -4,7 +4,7 @@ use Rattle.dr_ids.specs.declared.names.VolumeId.{VolumeId}
 use Rattle.dr_model.specs.Layout.{Fields}
 use Rattle.dr_model.specs.Control.{Volume}
 use Rattle.dr_model.specs.Moves as machine
-use Rattle.dr_model.specs.Moves.{Land, Overwrite, Keep, Note, Relate, Withdraw, Fetch, Resync, Reverse, Restore, Release, Store, Strike, Suspend, MakeSecondary, MakePrimary, DropPrimary, DropSecondary, Follow, Resume, TakeOver, FallBack, Yield, Unsync, Mirror, LandBoth, Thaw, Lift, Restart, Hold, Free, Seal, Finish, RaiseAttempt, RaiseFloor, Leave, Flash, Commit, Revert}
+use Rattle.dr_model.specs.Moves.{Land, Overwrite, Keep, Note, Relate, Withdraw, Fetch, Resync, Reverse, Restore, Release, Store, Strike, Suspend, MakeSecondary, MakePrimary, DropPrimary, DropSecondary, Follow, Resume, TakeOver, FallBack, Yield, Unsync, Mirror, LandBoth, Thaw, FlashHold, FlashFree, Lift, Restart, Hold, Free, Seal, Finish, RaiseAttempt, RaiseFloor, Leave, Flash, Commit, Revert}
 use Rattle.dr_moves.specs.Options.{choices}
 use Rattle.dr_moves.specs.declared.moves.Move.{Move}
 use Rattle.dr_moves.specs.declared.moves.Move.TheVariants as move
@@ -42,6 +42,8 @@ move_of (move.Unsync v t) = Unsync v.0 t
 move_of (move.Mirror v t u w) = Mirror v.0 t u.0 w.0
 move_of (move.LandBoth w v t) = LandBoth w.0 v.0 t
 move_of (move.Thaw v) = Thaw v.0
+move_of (move.FlashHold v) = FlashHold v.0
+move_of (move.FlashFree v) = FlashFree v.0
 move_of (move.Lift v) = Lift v.0
 move_of (move.Restart v) = Restart v.0
 move_of (move.Hold v s n first) = Hold v.0 s.0 n first

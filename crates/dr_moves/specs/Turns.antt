@@ -1,17 +1,16 @@
 -- What is told in a stop, and how an entry of a plan leads on.
-use Rattle.std.specs.Prelude.{ℕ, Bool, List, [], ◌∷◌, ◌++◌, ◌+◌, length, max, Option, Some, None, if◌then◌else◌}
+use Rattle.std.specs.Prelude.{ℕ, Bool, List, [], ◌∷◌, ◌++◌, Option, if◌then◌else◌}
 use Rattle.dr_ids.specs.declared.refusal.Refusal.{Refusal}
 use Rattle.dr_model.specs.declared.event.Event.{Event}
 use Rattle.dr_model.specs.declared.event.Event.TheVariants.{Stopped}
-use Rattle.dr_model.specs.Control.{World}
-use Rattle.dr_model.specs.Carry.{Ended, Turn, Entry}
+use Rattle.dr_model.specs.Control.{Volume, World}
+use Rattle.dr_model.specs.Carry.{Entry}
 use Rattle.dr_model.specs.ReadStops.{Ends}
-use Rattle.dr_moves.specs.declared.told.Telling.{Telling}
-use Rattle.dr_moves.specs.Told.{events_of}
+use Rattle.dr_model.specs.Moves as machine
 
 -- what the journal is told where the server stopped in a move that counts as done or doesn't
-abbrev pub told_in_stop : Bool → Telling → ℕ → List Event
-told_in_stop done told s = if done then events_of told.in_stop ++ Stopped s told.landed ∷ [] else Stopped s 0 ∷ []
+abbrev pub told_in_stop : Bool → machine.Move → Volume → ℕ → List Event
+told_in_stop done m u s = if done then machine.told_in_stop m u ++ Stopped s (machine.landed m) ∷ [] else Stopped s 0 ∷ []
 
 -- from w the entry leads to v: what ends the entries that follow ends all
 abbrev pub Advances : World → Entry → World → Type 0

@@ -3,23 +3,24 @@
 ghost use Rattle.std.specs.Prelude.{◌≡◌, ◌≤◌, ◌+◌, ◌⊎◌, true, length, OnOk, is_err};
 ghost use Rattle.dr_model.specs.Histories.{histories};
 ghost use Rattle.dr_model.specs.Moves as machine;
-ghost use Rattle.dr_volume.specs.Opened.{IsOpened, OthersOpened};
+ghost use Rattle.dr_volume.specs.Opened.{IsGate, IsOpened, OthersOpened};
 ghost use Rattle.dr_volume.specs.Update.{IsAsBefore, IsMoved, OthersStay};
 ghost use Rattle.dr_volume.specs.View.{volume_seen, track_seen};
+ghost use Rattle.dr_volume.specs.Volume.{Says};
 ghost use Rattle.dr_moves.specs.Entered.{is_calm, Entered};
 ghost use Rattle.dr_moves.specs.Made.{IsAt, May, room_for, Made, Kept};
 ghost use Rattle.dr_moves.specs.Moves.{move_of};
 ghost use Rattle.dr_moves.specs.Ready.{Ready, Stayed};
 
-use crate::moves::{Move, next_fields, target_of, telling};
+use crate::moves::{Move, next_fields, target_of, tell_done, tell_stop};
 use crate::place::{server_of, tracks_of};
 use crate::reads::open_told;
-use crate::told::{tell, tell_stop};
+use crate::told::sight_of;
 use dr_config::Config;
 use dr_ids::{Refusal, ServerId, VolumeId};
 use dr_model::Journal;
 use dr_plant::{Block, Plant};
-use dr_volume::{Opened, slot};
+use dr_volume::{Fields, Gate, peek_fields, slot};
 
 /// A move that wasn't done: its server stopped in it, or went off at a read before it.
 #[derive(Clone, Copy)]
@@ -29,44 +30,76 @@ pub struct Stop {
     pub counts: bool,
 }
 
-/// Makes a move of a volume that was opened: its next fields are those of the move, by what was opened, and what was opened becomes
-/// what the move leaves.
+/// Makes a move of a volume whose gate was read, by its fields: they become what the move leaves, and so does the gate.
 pub(crate) fn change<P: Plant>(
     plant: &mut P,
     config: &Config,
     journal: &mut Journal,
     v: VolumeId,
     m: &Move,
-    opened: &mut Opened,
+    gate: &mut Gate,
+    fields: &mut Fields,
     track: Option<(u16, Block)>,
 ) -> Result<(), Stop>
     requires ready { Ready (P.state plant.old) config.now v.0 (move_of m.now) track }
     requires target { machine.target (move_of m.now) ≡ v.0 }
-    requires opened { IsOpened (P.state plant.old) config.now v.0 opened.old }
+    requires gate { IsGate (P.state plant.old) config.now v.0 gate.old }
+    requires says { Says (P.state plant.old) config.now v.0 fields.old }
     requires carries { machine.carried (move_of m.now) (volume_seen (P.state plant.old) config.now) (track_seen (P.state plant.old) config.now) (histories journal.old.events).write ≡ track }
     requires room { room_for (move_of m.now) (volume_seen (P.state plant.old) config.now v.0) ≤ journal.old.spare }
     ensures made { Made (P.state plant.old) (P.state plant.new) config.now journal.old journal.new (move_of m.now) v.0 track result }
     ensures either { IsAsBefore (P.state plant.old) (P.state plant.new) config.now v.0 ⊎ IsMoved (P.state plant.old) (P.state plant.new) config.now v.0 (machine.fields_left (move_of m.now) (volume_seen (P.state plant.old) config.now v.0)) track }
     ensures stayed { Stayed (P.state plant.old) (P.state plant.new) config.now journal.old journal.new (volume_seen (P.state plant.old) config.now v.0).server (room_for (move_of m.now) (volume_seen (P.state plant.old) config.now v.0)) result }
     ensures room_left { OnOk result (journal.old.spare ≡ journal.new.spare + length (machine.told (move_of m.now) (volume_seen (P.state plant.old) config.now v.0))) }
-    ensures opened { OnOk result (IsOpened (P.state plant.new) config.now v.0 opened.new) }
+    ensures opened { OnOk result (IsOpened (P.state plant.new) config.now v.0 (record { gate = gate.new; fields = fields.new })) }
     ensures others_opened { OthersOpened (P.state plant.old) (P.state plant.new) config.now v.0 }
 {
     let size = tracks_of(config, v);
-    let fields = opened.fields();
-    let next = next_fields(m, size, fields);
-    let told = telling(m, size, fields);
-    let before = opened.slot();
-    match opened.change(plant, config, v, &next, track) {
+    let sight = sight_of(fields);
+    next_fields(m, size, fields);
+    let before = gate.slot();
+    match gate.change(plant, config, v, fields, track) {
         Ok(()) => {
-            tell(journal, &told.done);
+            tell_done(journal, m, size, &sight);
             Ok(())
         }
         Err(_) => {
             let server = server_of(config, v);
             let counts = slot(plant, config, v) != before;
-            tell_stop(journal, &told, server, counts);
+            tell_stop(journal, m, size, &sight, server, counts);
             Err(Stop { server, counts })
+        }
+    }
+}
+
+/// Makes a move of a volume by its fields, which are at hand and become what the move leaves: of the record the gate alone is read.
+pub(crate) fn change_by<P: Plant>(
+    plant: &mut P,
+    config: &Config,
+    journal: &mut Journal,
+    v: VolumeId,
+    m: &Move,
+    fields: &mut Fields,
+    track: Option<(u16, Block)>,
+) -> Result<(), Stop>
+    requires ready { Ready (P.state plant.old) config.now v.0 (move_of m.now) track }
+    requires target { machine.target (move_of m.now) ≡ v.0 }
+    requires says { Says (P.state plant.old) config.now v.0 fields.old }
+    requires carries { machine.carried (move_of m.now) (volume_seen (P.state plant.old) config.now) (track_seen (P.state plant.old) config.now) (histories journal.old.events).write ≡ track }
+    requires room { room_for (move_of m.now) (volume_seen (P.state plant.old) config.now v.0) ≤ journal.old.spare }
+    ensures made { Made (P.state plant.old) (P.state plant.new) config.now journal.old journal.new (move_of m.now) v.0 track result }
+    ensures either { IsAsBefore (P.state plant.old) (P.state plant.new) config.now v.0 ⊎ IsMoved (P.state plant.old) (P.state plant.new) config.now v.0 (machine.fields_left (move_of m.now) (volume_seen (P.state plant.old) config.now v.0)) track }
+    ensures stayed { Stayed (P.state plant.old) (P.state plant.new) config.now journal.old journal.new (volume_seen (P.state plant.old) config.now v.0).server (room_for (move_of m.now) (volume_seen (P.state plant.old) config.now v.0)) result }
+    ensures room_left { OnOk result (journal.old.spare ≡ journal.new.spare + length (machine.told (move_of m.now) (volume_seen (P.state plant.old) config.now v.0))) }
+{
+    match open_told(plant, config, journal, v) {
+        Ok(mut gate) => change(plant, config, journal, v, m, &mut gate, fields, track),
+        Err(_) => {
+            let server = server_of(config, v);
+            Err(Stop {
+                server,
+                counts: false,
+            })
         }
     }
 }
@@ -90,16 +123,8 @@ pub fn make_ready<P: Plant>(
     ensures room_left { OnOk result (journal.old.spare ≡ journal.new.spare + length (machine.told (move_of m.now) (volume_seen (P.state plant.old) config.now (machine.target (move_of m.now))))) }
 {
     let v = target_of(m);
-    match open_told(plant, config, journal, v) {
-        Ok(mut opened) => change(plant, config, journal, v, m, &mut opened, track),
-        Err(_) => {
-            let server = server_of(config, v);
-            Err(Stop {
-                server,
-                counts: false,
-            })
-        }
-    }
+    let mut fields = peek_fields(plant, config, v);
+    change_by(plant, config, journal, v, m, &mut fields, track)
 }
 
 /// Makes a move of a volume whose server is on, between two commands, as `make_ready` does.

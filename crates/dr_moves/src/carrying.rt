@@ -90,8 +90,8 @@ pub trait Entries<P: Plant, B: Beside> {
     ghost none_left: { (x : Self) (s : PlantState) (y : B) (c : ConfigTable) → left x c ≡ [] → makes x true s y s y c };
 }
 
-/// A move that wasn't done refuses what follows it.
-fn refused(done: Result<(), Stop>) -> Result<(), Refusal>
+/// A move that wasn't done refuses what follows it, with the stop of its server.
+pub fn refused(done: Result<(), Stop>) -> Result<(), Refusal>
     ensures { result ≡ refused_by done }
 {
     match done {

@@ -1,7 +1,7 @@
 //! What the fields of a volume become as relationships are made, kept and ended.
 
-ghost use Rattle.std.specs.Prelude.{◌≡◌, ◌≤◌, ◌<◌, true};
-ghost use Rattle.std.specs.FinSet.{difference};
+ghost use Rattle.std.specs.Prelude.{◌≡◌, ◌≤◌, ◌<◌, true, if◌then◌else◌};
+ghost use Rattle.std.specs.FinSet.{difference, insert};
 ghost use Rattle.dr_model.specs.Pairs as pairs;
 ghost use Rattle.dr_model.specs.Relations as relations;
 ghost use Rattle.dr_volume.specs.Plain.{plain};
@@ -14,179 +14,126 @@ use dr_ids::VolumeId;
 use dr_volume::Fields;
 
 /// The fields of a volume that is a target no more.
-fn parted(f: &Fields) -> Fields
-    ensures { plain result ≡ relations.parted_if true (plain f.now) }
+fn parted(f: &mut Fields)
+    ensures { plain f.new ≡ relations.parted_if true (plain f.old) }
 {
-    Fields {
-        related: false,
-        source: VolumeId(0),
-        nocopy: false,
-        persistent: false,
-        recorded: false,
-        inhibited: false,
-        own: TrackSet::empty(),
-        previous_own: TrackSet::empty(),
-        source_changes: TrackSet::empty(),
-        target_changes: TrackSet::empty(),
-        sequence: 0,
-        previous_sequence: 0,
-        revertible: false,
-        reversing: false,
-        member: false,
-        session: 0,
-        ..*f
-    }
+    f.related = false;
+    f.source = VolumeId(0);
+    f.nocopy = false;
+    f.persistent = false;
+    f.recorded = false;
+    f.inhibited = false;
+    f.own = TrackSet::empty();
+    f.previous_own = TrackSet::empty();
+    f.source_changes = TrackSet::empty();
+    f.target_changes = TrackSet::empty();
+    f.sequence = 0;
+    f.previous_sequence = 0;
+    f.revertible = false;
+    f.reversing = false;
+    f.member = false;
+    f.session = 0;
 }
 
 /// A relationship that isn't persistent ends where the target holds all tracks.
-pub fn closed(n: u16, f: &Fields) -> Fields
+fn closed(n: u16, f: &mut Fields)
     requires { n ≤ 256 }
-    ensures { plain result ≡ relations.closed n (plain f.now) }
+    ensures { plain f.new ≡ relations.closed n (plain f.old) }
 {
     if is_whole(n, &f.own) && !f.persistent {
-        parted(f)
-    } else {
-        *f
+        parted(f);
     }
 }
 
-/// Of a primary, the tracks that are out of sync once track t changes without its secondary.
-fn unsent_with(f: &Fields, t: u16) -> TrackSet
+/// Track t is one of a set, where it is to be.
+fn insert_if(there: bool, set: &mut TrackSet, t: u16)
     requires { t < 256 }
-    ensures { result ≡ (pairs.parted_track (plain f.now) t).out_of_sync }
+    ensures { set.new ≡ (if there then insert set.old t else set.old) }
 {
-    let mut unsent = f.out_of_sync;
-    if f.primary.is_part() {
-        unsent.insert(t);
+    if there {
+        set.insert(t);
     }
-    unsent
 }
 
 /// A volume whose track t has new bytes.
-pub fn altered(f: &Fields, t: u16) -> Fields
+pub fn altered(f: &mut Fields, t: u16)
     requires { t < 256 }
-    ensures { plain result ≡ pairs.altered (plain f.now) t }
+    ensures { plain f.new ≡ pairs.altered (plain f.old) t }
 {
-    let mut blank = f.blank;
-    blank.remove(t);
-    Fields {
-        out_of_sync: unsent_with(f, t),
-        blank,
-        ..*f
-    }
-}
-
-/// Of a primary that doesn't record, the tracks that are out of sync once a host write landed on track t.
-fn unsent_after(f: &Fields, t: u16) -> TrackSet
-    requires { t < 256 }
-    ensures { result ≡ (pairs.written (plain f.now) t).out_of_sync }
-{
-    let mut unsent = f.out_of_sync;
-    if f.primary.is_part() && !f.recording {
-        unsent.insert(t);
-    }
-    unsent
-}
-
-/// Of a primary that records, the tracks that have changed since it began to, once a host write landed on track t.
-fn changed_after(f: &Fields, t: u16) -> TrackSet
-    requires { t < 256 }
-    ensures { result ≡ (pairs.written (plain f.now) t).change_recording }
-{
-    let mut changed = f.change_recording;
-    if f.primary.is_part() && f.recording {
-        changed.insert(t);
-    }
-    changed
+    let first = f.primary.is_part();
+    insert_if(first, &mut f.out_of_sync, t);
+    f.blank.remove(t);
 }
 
 /// A volume on whose track t a host write landed: of a primary that records the track has changed since it began to, of
 /// any other primary it is out of sync.
-pub fn written(f: &Fields, t: u16) -> Fields
+pub fn written(f: &mut Fields, t: u16)
     requires { t < 256 }
-    ensures { plain result ≡ pairs.written (plain f.now) t }
+    ensures { plain f.new ≡ pairs.written (plain f.old) t }
 {
-    let mut blank = f.blank;
-    blank.remove(t);
-    Fields {
-        out_of_sync: unsent_after(f, t),
-        change_recording: changed_after(f, t),
-        blank,
-        ..*f
-    }
+    let first = f.primary.is_part();
+    let recording = f.recording;
+    insert_if(first && !recording, &mut f.out_of_sync, t);
+    insert_if(first && recording, &mut f.change_recording, t);
+    f.blank.remove(t);
 }
 
 /// The target holds track t.
-pub fn fetched(f: &Fields, t: u16) -> Fields
+fn fetched(f: &mut Fields, t: u16)
     requires { t < 256 }
-    ensures { plain result ≡ relations.fetched (plain f.now) t }
+    ensures { plain f.new ≡ relations.fetched (plain f.old) t }
 {
-    let mut next = *f;
-    next.own.insert(t);
-    next.blank.remove(t);
-    next
+    f.own.insert(t);
+    f.blank.remove(t);
 }
 
 /// Track t of the source changes, which is noted where changes are recorded.
-pub fn noted(f: &Fields, t: u16) -> Fields
+pub fn noted(f: &mut Fields, t: u16)
     requires { t < 256 }
-    ensures { plain result ≡ relations.noted (plain f.now) t }
+    ensures { plain f.new ≡ relations.noted (plain f.old) t }
 {
-    if !f.recorded {
-        return *f;
-    }
-    let mut next = *f;
-    next.source_changes.insert(t);
-    next
+    let recorded = f.recorded;
+    insert_if(recorded, &mut f.source_changes, t);
 }
 
 /// Track t of the target changes, which is noted where changes are recorded.
-pub fn rewritten(f: &Fields, t: u16) -> Fields
+fn rewritten(f: &mut Fields, t: u16)
     requires { t < 256 }
-    ensures { plain result ≡ relations.rewritten (plain f.now) t }
+    ensures { plain f.new ≡ relations.rewritten (plain f.old) t }
 {
-    if !f.recorded {
-        return *f;
-    }
-    let mut next = *f;
-    next.target_changes.insert(t);
-    next
+    let recorded = f.recorded;
+    insert_if(recorded, &mut f.target_changes, t);
 }
 
 /// A target of `s`, as its relationship is made.
-pub fn made(s: VolumeId, o: &FlashOptions, f: &Fields) -> Fields
-    ensures { plain result ≡ relations.made s.0 (choices o.now) (plain f.now) }
+pub fn made(s: VolumeId, o: &FlashOptions, f: &mut Fields)
+    ensures { plain f.new ≡ relations.made s.0 (choices o.now) (plain f.old) }
 {
-    Fields {
-        related: true,
-        source: s,
-        nocopy: o.nocopy,
-        persistent: o.persistent || o.recorded,
-        recorded: o.recorded,
-        inhibited: o.inhibited,
-        own: TrackSet::empty(),
-        previous_own: TrackSet::empty(),
-        source_changes: TrackSet::empty(),
-        target_changes: TrackSet::empty(),
-        sequence: o.sequence,
-        previous_sequence: 0,
-        revertible: false,
-        reversing: false,
-        member: false,
-        session: 0,
-        ..*f
-    }
+    f.related = true;
+    f.source = s;
+    f.nocopy = o.nocopy;
+    f.persistent = o.persistent || o.recorded;
+    f.recorded = o.recorded;
+    f.inhibited = o.inhibited;
+    f.own = TrackSet::empty();
+    f.previous_own = TrackSet::empty();
+    f.source_changes = TrackSet::empty();
+    f.target_changes = TrackSet::empty();
+    f.sequence = o.sequence;
+    f.previous_sequence = 0;
+    f.revertible = false;
+    f.reversing = false;
+    f.member = false;
+    f.session = 0;
 }
 
 /// A target of n tracks whose relationship ends: the tracks that it doesn't hold read zeros.
-pub fn withdrawn(n: u16, f: &Fields) -> Fields
+pub fn withdrawn(n: u16, f: &mut Fields)
     requires { n ≤ 256 }
-    ensures { plain result ≡ relations.withdrawn_if true n (plain f.now) }
+    ensures { plain f.new ≡ relations.withdrawn_if true n (plain f.old) }
 {
-    Fields {
-        blank: rest(n, &f.own),
-        ..parted(f)
-    }
+    f.blank = rest(n, &f.own);
+    parted(f);
 }
 
 /// The tracks that a target holds and that changed on neither side.
@@ -200,52 +147,91 @@ pub(crate) fn unchanged(f: &Fields) -> TrackSet
 }
 
 /// A target that shares its changed tracks with its source again; where a sequence is given, it has that one.
-pub fn resynced(sequence: Option<u32>, f: &Fields) -> Fields
-    ensures { plain result ≡ relations.resynced sequence (plain f.now) }
+pub fn resynced(sequence: Option<u32>, f: &mut Fields)
+    ensures { plain f.new ≡ relations.resynced sequence (plain f.old) }
 {
-    Fields {
-        own: unchanged(f),
-        source_changes: TrackSet::empty(),
-        target_changes: TrackSet::empty(),
-        sequence: sequence.unwrap_or(f.sequence),
-        ..*f
-    }
+    f.own = unchanged(f);
+    f.source_changes = TrackSet::empty();
+    f.target_changes = TrackSet::empty();
+    f.sequence = sequence.unwrap_or(f.sequence);
 }
 
 /// A target that is to be restored onto its source: what it holds from then on is what comes back.
-pub fn turned(f: &Fields) -> Fields
-    ensures { plain result ≡ relations.turned (plain f.now) }
+fn turned(f: &mut Fields)
+    ensures { plain f.new ≡ relations.turned (plain f.old) }
 {
-    let mut own = f.source_changes;
-    own.union(&f.target_changes);
-    Fields {
-        own,
-        source_changes: TrackSet::empty(),
-        target_changes: TrackSet::empty(),
-        reversing: true,
-        member: false,
-        session: 0,
-        ..*f
-    }
+    f.source_changes.union(&f.target_changes);
+    f.own = f.source_changes;
+    f.source_changes = TrackSet::empty();
+    f.target_changes = TrackSet::empty();
+    f.reversing = true;
+    f.member = false;
+    f.session = 0;
 }
 
 /// A target that has given track t back.
-pub fn given_up(f: &Fields, t: u16) -> Fields
-    ensures { plain result ≡ relations.given_up (plain f.now) t }
+fn given_up(f: &mut Fields, t: u16)
+    ensures { plain f.new ≡ relations.given_up (plain f.old) t }
 {
-    let mut next = *f;
-    next.own.remove(t);
-    next
+    f.own.remove(t);
 }
 
 /// A restore onto a source of n tracks that has no track left to give back ends.
-pub fn restored(n: u16, f: &Fields) -> Fields
+fn restored(n: u16, f: &mut Fields)
     requires { n ≤ 256 }
-    ensures { plain result ≡ relations.restored n (plain f.now) }
+    ensures { plain f.new ≡ relations.restored n (plain f.old) }
 {
     if f.own.len() == 0 {
-        withdrawn(n, f)
-    } else {
-        *f
+        withdrawn(n, f);
     }
+}
+
+/// A target of n tracks that takes track t of its source, which ends a relationship that isn't persistent where it was the last.
+pub(crate) fn taken(n: u16, f: &mut Fields, t: u16)
+    requires size { n ≤ 256 }
+    requires below { t < 256 }
+    ensures { plain f.new ≡ relations.closed n (relations.fetched (plain f.old) t) }
+{
+    fetched(f, t);
+    closed(n, f);
+}
+
+/// A target that keeps its source's track t, which is about to change.
+pub(crate) fn kept(n: u16, f: &mut Fields, t: u16)
+    requires size { n ≤ 256 }
+    requires below { t < 256 }
+    ensures { plain f.new ≡ relations.closed n (relations.noted (relations.fetched (plain f.old) t) t) }
+{
+    fetched(f, t);
+    noted(f, t);
+    closed(n, f);
+}
+
+/// A target on whose track t a host write landed.
+pub(crate) fn overwritten(n: u16, f: &mut Fields, t: u16)
+    requires size { n ≤ 256 }
+    requires below { t < 256 }
+    ensures { plain f.new ≡ relations.closed n (relations.rewritten (relations.fetched (plain f.old) t) t) }
+{
+    fetched(f, t);
+    rewritten(f, t);
+    closed(n, f);
+}
+
+/// A target of n tracks that is to be restored onto its source, which ends where there is nothing to give back.
+pub(crate) fn reversed(n: u16, f: &mut Fields)
+    requires { n ≤ 256 }
+    ensures { plain f.new ≡ relations.restored n (relations.turned (plain f.old)) }
+{
+    turned(f);
+    restored(n, f);
+}
+
+/// A target of n tracks that has given track t back, which ends the restore where it was the last.
+pub(crate) fn released(n: u16, f: &mut Fields, t: u16)
+    requires { n ≤ 256 }
+    ensures { plain f.new ≡ relations.restored n (relations.given_up (plain f.old) t) }
+{
+    given_up(f, t);
+    restored(n, f);
 }

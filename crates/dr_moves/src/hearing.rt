@@ -97,7 +97,7 @@ fn make_heard<P: Plant, B: Beside>(
 
 /// Makes a move that may land a host write, as `make` does: what lies beside hears that the write is pending no more, or where the
 /// move counts as done in a stop, that it has landed. The journal needs the same room.
-pub fn make_beside<P: Plant, B: Beside>(
+pub(crate) fn make_beside<P: Plant, B: Beside>(
     plant: &mut P,
     config: &Config,
     journal: &mut Journal,

@@ -1,7 +1,7 @@
 //! Moves as values, and plans that are carried out.
 //!
 //! `Move` has every kind of move; its rows of the machine's catalogue say its target, the next fields, and what it tells. `make`
-//! makes any of them: it opens the volume's record once, takes the next fields from what was opened, changes the record with
+//! makes any of them: it reads the volume's gate and decodes its record once, changes the fields where they stand, writes the record with
 //! the track that the move carries, and tells the journal. Where the server stops, `Stop` says whether the move counts as
 //! done. `make_opened` is the same for a caller who has opened the volume, and `make_by` for one who has its fields.
 //! `make_move` is `make` as an entry of a plan, and `make_move_by` is `make_by` as one. `Asks` (specs) is what a kind of move
@@ -9,8 +9,8 @@
 //! server starts.
 //!
 //! What a run knows besides devices and journal, the host's pending writes, the sessions and the paths, is `Beside`: it hears
-//! `News`, and what it shows changes as the machine's does. `make_beside` is `make` of a move that may land a host write,
-//! `open_attempt` the first hold of an attempt, and `perform` does an act that takes no device write (`Act`).
+//! `News`, and what it shows changes as the machine's does. `open_attempt` is the first hold of an attempt, and `perform` does an act
+//! that takes no device write (`Act`).
 //!
 //! `act_beside` does whatever an entry comes to (`Next`), and `carry_beside` does so with the entries of a plan that are left
 //! (`Entries`), in order, until one ends it or a server stops; `act` and `carry` where `Nothing` lies beside. `follow` carries
@@ -39,9 +39,9 @@ mod told;
 pub use acts::{Stop, make, make_move, make_ready};
 pub use at_hand::{make_by, make_move_by, make_opened};
 pub use beside::{Beside, News, Nothing};
-pub use carrying::{Entries, Next, act, act_beside, carry, carry_beside};
+pub use carrying::{Entries, Next, act, act_beside, carry, carry_beside, refused};
 pub use following::{Behind, follow};
-pub use hearing::{make_beside, open_attempt};
+pub use hearing::open_attempt;
 pub use moves::Move;
 pub use options::FlashOptions;
 pub use pair_fields::{is_engaged, is_torn, unsynced, with_more};

@@ -1,31 +1,33 @@
 //! The catalogue of moves: a move is a value, with its row in each of the machine's tables.
 
-ghost use Rattle.std.specs.Prelude.{◌≡◌, ◌≤◌, ◌<◌, [], ◌∷◌, Some, if◌then◌else◌};
+ghost use Rattle.std.specs.Prelude.{◌≡◌, ◌≤◌, ◌<◌, ◌+◌, [], ◌∷◌, ◌++◌, length, Some, if◌then◌else◌};
 ghost use Rattle.dr_ids.specs.declared.names.VolumeId.{VolumeId};
-ghost use Rattle.dr_model.specs.declared.event.Event.TheVariants.{Suspended, Begin, Cut};
+ghost use Rattle.dr_model.specs.declared.event.Event.TheVariants.{Suspended, Begin, Cut, FlashFreed};
 ghost use Rattle.dr_model.specs.Moves as machine;
 ghost use Rattle.dr_model.specs.Pairs as pairs;
 ghost use Rattle.dr_volume.specs.Plain.{plain};
 ghost use Rattle.dr_moves.specs.Moves.{move_of, volume_with, IsBelow, number_of};
-ghost use Rattle.dr_moves.specs.Told.{event_of, events_of};
+ghost use Rattle.dr_moves.specs.Entered.{is_calm};
+ghost use Rattle.dr_moves.specs.Told.{seen};
+ghost use Rattle.dr_moves.specs.Turns.{told_in_stop};
 
 use crate::attempt_fields::{
-    committed, flashed, freed, held_for, lifted, no_member, past_attempt, reverted, sealed,
-    with_attempt, with_floor,
+    committed, flash_freed, flash_held, flashed, freed, held_for, lifted, no_member, past_attempt,
+    reverted, sealed, with_attempt, with_floor,
 };
 use crate::flash_fields::{
-    altered, closed, fetched, given_up, made, noted, restored, resynced, rewritten, turned,
-    withdrawn, written,
+    altered, kept, made, noted, overwritten, released, resynced, reversed, taken, withdrawn,
+    written,
 };
 use crate::options::FlashOptions;
 use crate::pair_fields::{
     fallen_back, followed, made_primary, made_secondary, mirrored, no_primary, no_secondary,
-    received, restarted, resumed, struck, suspended, synced, taken_over, thawed, unsynced, yielded,
+    received, restarted, resumed, struck, suspended, synced, taken_over, thawed, yielded,
 };
-use crate::told::{Telling, Told};
+use crate::told::{Sight, tell_blank, tell_returned};
 use dr_bits::TrackSet;
-use dr_ids::{SessionId, VolumeId, WriteId};
-use dr_model::{Event, PairState, Part};
+use dr_ids::{ServerId, SessionId, VolumeId, WriteId};
+use dr_model::{Event, Journal, PairState, Part};
 use dr_volume::Fields;
 
 /// One move: the control record of one volume is changed, done or not done as a whole, and maybe one track with it.
@@ -179,7 +181,15 @@ pub enum Move {
     Thaw {
         v: VolumeId,
     },
-    /// Host writes on `v` wait no more.
+    /// `v` gets a flash hold: host writes on it wait.
+    FlashHold {
+        v: VolumeId,
+    },
+    /// `v` has no flash hold any more.
+    FlashFree {
+        v: VolumeId,
+    },
+    /// Host writes on `v` wait no more, whatever held them back.
     Lift {
         v: VolumeId,
     },
@@ -281,6 +291,8 @@ pub fn target_of(m: &Move) -> VolumeId
         Move::Mirror { v, .. } => *v,
         Move::LandBoth { v, .. } => *v,
         Move::Thaw { v } => *v,
+        Move::FlashHold { v } => *v,
+        Move::FlashFree { v } => *v,
         Move::Lift { v } => *v,
         Move::Restart { v } => *v,
         Move::Hold { v, .. } => *v,
@@ -296,24 +308,24 @@ pub fn target_of(m: &Move) -> VolumeId
     }
 }
 
-/// The fields that a move leaves of a volume with so many tracks and these fields.
-pub fn next_fields(m: &Move, size: u16, f: &Fields) -> Fields
+/// The fields of a volume with so many tracks become those that a move leaves.
+pub fn next_fields(m: &Move, size: u16, f: &mut Fields)
     requires size { size ≤ 256 }
     requires below { IsBelow 256 (move_of m.now) }
-    ensures { plain result ≡ machine.fields_left (move_of m.now) (volume_with size (plain f.now)) }
+    ensures { plain f.new ≡ machine.fields_left (move_of m.now) (volume_with size (plain f.old)) }
 {
     match m {
         Move::Land { t, .. } => written(f, *t),
-        Move::Overwrite { t, .. } => closed(size, &rewritten(&fetched(f, *t), *t)),
-        Move::Keep { t, .. } => closed(size, &noted(&fetched(f, *t), *t)),
+        Move::Overwrite { t, .. } => overwritten(size, f, *t),
+        Move::Keep { t, .. } => kept(size, f, *t),
         Move::Note { t, .. } => noted(f, *t),
         Move::Relate { s, options, .. } => made(*s, options, f),
         Move::Withdraw { .. } => withdrawn(size, f),
-        Move::Fetch { t, .. } => closed(size, &fetched(f, *t)),
+        Move::Fetch { t, .. } => taken(size, f, *t),
         Move::Resync { sequence, .. } => resynced(*sequence, f),
-        Move::Reverse { .. } => restored(size, &turned(f)),
+        Move::Reverse { .. } => reversed(size, f),
         Move::Restore { t, .. } => altered(f, *t),
-        Move::Release { t, .. } => restored(size, &given_up(f, *t)),
+        Move::Release { t, .. } => released(size, f, *t),
         Move::Store { t, last, .. } => received(*last, f, *t),
         Move::Strike { t, last, .. } => struck(*last, f, *t),
         Move::Suspend { busy, .. } => suspended(*busy, f),
@@ -332,10 +344,12 @@ pub fn next_fields(m: &Move, size: u16, f: &Fields) -> Fields
         Move::TakeOver { .. } => taken_over(f),
         Move::FallBack { more, state, .. } => fallen_back(more, *state, f),
         Move::Yield { u, kind, state, .. } => yielded(*u, *kind, *state, f),
-        Move::Unsync { t, .. } => unsynced(f, *t),
+        Move::Unsync { t, .. } => f.out_of_sync.insert(*t),
         Move::Mirror { t, .. } => mirrored(f, *t),
         Move::LandBoth { t, .. } => synced(f, *t),
         Move::Thaw { .. } => thawed(f),
+        Move::FlashHold { .. } => flash_held(f),
+        Move::FlashFree { .. } => flash_freed(f),
         Move::Lift { .. } => lifted(f),
         Move::Restart { .. } => restarted(f),
         Move::Hold { n, .. } => held_for(*n, f),
@@ -351,148 +365,165 @@ pub fn next_fields(m: &Move, size: u16, f: &Fields) -> Fields
     }
 }
 
-/// What is told where a primary in this state is suspended: nothing where it was Suspended.
-fn told_suspended(v: VolumeId, state: PairState) -> Told
-    ensures { events_of result ≡ (if pairs.is_suspended state then [] else Suspended v.0 ∷ []) }
+/// Tells that a primary in this state is suspended: nothing where it was Suspended.
+fn tell_suspended(journal: &mut Journal, v: VolumeId, state: PairState)
+    requires { length (if pairs.is_suspended state then [] else Suspended v.0 ∷ []) ≤ journal.old.spare }
+    ensures events { journal.new.events ≡ journal.old.events ++ (if pairs.is_suspended state then [] else Suspended v.0 ∷ []) }
+    ensures spare { journal.old.spare ≡ journal.new.spare + length (if pairs.is_suspended state then [] else Suspended v.0 ∷ []) }
 {
     if state.is_suspended() {
-        Told::Nothing
-    } else {
-        Told::One(Event::Suspended { volume: v.0 })
+        return;
+    }
+    journal.push(Event::Suspended { volume: v.0 });
+}
+
+/// Tells of the end of the holds of a volume: that of its flash hold, where it had one.
+fn tell_lifted(journal: &mut Journal, v: VolumeId, held: bool)
+    requires { length (if held then FlashFreed v.0 ∷ [] else []) ≤ journal.old.spare }
+    ensures events { journal.new.events ≡ journal.old.events ++ (if held then FlashFreed v.0 ∷ [] else []) }
+    ensures spare { journal.old.spare ≡ journal.new.spare + length (if held then FlashFreed v.0 ∷ [] else []) }
+{
+    if held {
+        journal.push(Event::FlashFreed { volume: v.0 });
     }
 }
 
-/// What a hold tells: the first one that its attempt begins, and each that the volume is cut.
-fn told_held(v: VolumeId, s: SessionId, n: u32, first: bool) -> Told
-    ensures { events_of result ≡ (if first then Begin s.0 n ∷ Cut s.0 n v.0 ∷ [] else Cut s.0 n v.0 ∷ []) }
+/// Tells of a hold: the first one that its attempt begins, and each that the volume is cut.
+fn tell_held(journal: &mut Journal, v: VolumeId, s: SessionId, n: u32, first: bool)
+    requires { length (if first then Begin s.0 n ∷ Cut s.0 n v.0 ∷ [] else Cut s.0 n v.0 ∷ []) ≤ journal.old.spare }
+    ensures events { journal.new.events ≡ journal.old.events ++ (if first then Begin s.0 n ∷ Cut s.0 n v.0 ∷ [] else Cut s.0 n v.0 ∷ []) }
+    ensures spare { journal.old.spare ≡ journal.new.spare + length (if first then Begin s.0 n ∷ Cut s.0 n v.0 ∷ [] else Cut s.0 n v.0 ∷ []) }
 {
-    let cut = Event::Cut {
+    if first {
+        journal.push(Event::Begin { session: s.0, n });
+    }
+    journal.push(Event::Cut {
         session: s.0,
         n,
         volume: v.0,
-    };
-    if first {
-        Told::Two(Event::Begin { session: s.0, n }, cut)
-    } else {
-        Told::One(cut)
-    }
+    });
 }
 
-/// What is told of a target that leaves this session as that of the member with primary `left`.
-fn left_event(left: Option<VolumeId>, session: u8) -> Option<Event>
-    ensures { event_of result ≡ machine.told_left (number_of left) session }
+/// Tells that a target leaves this session as that of the member with primary `left`, where it is one.
+fn tell_left(journal: &mut Journal, left: Option<VolumeId>, session: u8)
+    requires { length (machine.told_left (number_of left) session) ≤ journal.old.spare }
+    ensures events { journal.new.events ≡ journal.old.events ++ machine.told_left (number_of left) session }
+    ensures spare { journal.old.spare ≡ journal.new.spare + length (machine.told_left (number_of left) session) }
 {
-    match left {
-        Some(primary) => Some(Event::Left {
+    if let Some(primary) = left {
+        journal.push(Event::Left {
             session,
             volume: primary.0,
-        }),
-        None => None,
+        });
     }
 }
 
-/// What a move of a volume with so many tracks and these fields tells, done or stopped, and the write that has landed then.
-pub fn telling(m: &Move, size: u16, f: &Fields) -> Telling
-    ensures done { events_of result.done ≡ machine.told (move_of m.now) (volume_with size (plain f.now)) }
-    ensures in_stop { events_of result.in_stop ≡ machine.told_in_stop (move_of m.now) (volume_with size (plain f.now)) }
-    ensures landed { result.landed ≡ machine.landed (move_of m.now) }
+/// Tells of a target that is to be restored onto its source.
+fn tell_reversed(
+    journal: &mut Journal,
+    v: VolumeId,
+    left: Option<VolumeId>,
+    size: u16,
+    sight: &Sight,
+)
+    requires { length (machine.told (machine.Reverse v.0 (number_of left)) (volume_with size (seen sight.now))) ≤ journal.old.spare }
+    ensures events { journal.new.events ≡ journal.old.events ++ machine.told (machine.Reverse v.0 (number_of left)) (volume_with size (seen sight.now)) }
+    ensures spare { journal.old.spare ≡ journal.new.spare + length (machine.told (machine.Reverse v.0 (number_of left)) (volume_with size (seen sight.now))) }
+{
+    let mut own = sight.source_changes;
+    own.union(&sight.target_changes);
+    tell_left(journal, left, sight.session);
+    tell_returned(journal, v.0, sight.source.0, size, &own);
+}
+
+/// Tells of a target that has given track t back.
+fn tell_released(journal: &mut Journal, v: VolumeId, t: u16, size: u16, sight: &Sight)
+    requires { length (machine.told (machine.Release v.0 t) (volume_with size (seen sight.now))) ≤ journal.old.spare }
+    ensures events { journal.new.events ≡ journal.old.events ++ machine.told (machine.Release v.0 t) (volume_with size (seen sight.now)) }
+    ensures spare { journal.old.spare ≡ journal.new.spare + length (machine.told (machine.Release v.0 t) (volume_with size (seen sight.now))) }
+{
+    let mut own = sight.own;
+    own.remove(t);
+    tell_returned(journal, v.0, sight.source.0, size, &own);
+}
+
+/// Tells the journal of a move that is done, of a volume with so many tracks of which this was seen before it.
+pub(crate) fn tell_done(journal: &mut Journal, m: &Move, size: u16, sight: &Sight)
+    requires { length (machine.told (move_of m.now) (volume_with size (seen sight.now))) ≤ journal.old.spare }
+    ensures events { journal.new.events ≡ journal.old.events ++ machine.told (move_of m.now) (volume_with size (seen sight.now)) }
+    ensures spare { journal.old.spare ≡ journal.new.spare + length (machine.told (move_of m.now) (volume_with size (seen sight.now))) }
 {
     match m {
-        Move::Land { w, .. } => Telling {
-            done: Told::One(Event::Ack { w: w.0 }),
-            in_stop: Told::Nothing,
-            landed: w.0,
-        },
-        Move::Overwrite { w, .. } => Telling {
-            done: Told::One(Event::Ack { w: w.0 }),
-            in_stop: Told::Nothing,
-            landed: w.0,
-        },
-        Move::Keep { v, t } => Telling::of(Told::One(Event::Copied {
+        Move::Land { w, .. } => journal.push(Event::Ack { w: w.0 }),
+        Move::Overwrite { w, .. } => journal.push(Event::Ack { w: w.0 }),
+        Move::Keep { v, t } => journal.push(Event::Copied {
             volume: v.0,
             track: *t,
-        })),
-        Move::Relate { v, s, .. } => Telling::of(Told::One(Event::Set {
+        }),
+        Move::Relate { v, s, .. } => journal.push(Event::Set {
             volume: v.0,
             from: s.0,
-        })),
-        Move::Withdraw { v } => Telling::of(Told::Blanked {
-            volume: v.0,
-            tracks: size,
-            own: f.own,
         }),
-        Move::Fetch { v, t } => Telling::of(Told::One(Event::Copied {
+        Move::Withdraw { v } => tell_blank(journal, v.0, size, &sight.own),
+        Move::Fetch { v, t } => journal.push(Event::Copied {
             volume: v.0,
             track: *t,
-        })),
-        Move::Resync { v, .. } => Telling::of(Told::One(Event::Set {
-            volume: v.0,
-            from: f.source.0,
-        })),
-        Move::Reverse { v, left } => Telling::of(Told::Returned {
-            left: left_event(*left, f.session),
-            volume: v.0,
-            source: f.source.0,
-            tracks: size,
-            own: turned(f).own,
         }),
-        Move::Restore { v, t, u } => Telling::of(Told::One(Event::Back {
+        Move::Resync { v, .. } => journal.push(Event::Set {
+            volume: v.0,
+            from: sight.source.0,
+        }),
+        Move::Reverse { v, left } => tell_reversed(journal, *v, *left, size, sight),
+        Move::Restore { v, t, u } => journal.push(Event::Back {
             volume: v.0,
             track: *t,
             from: u.0,
-        })),
-        Move::Release { v, t } => Telling::of(Told::Returned {
-            left: None,
-            volume: v.0,
-            source: f.source.0,
-            tracks: size,
-            own: given_up(f, *t).own,
         }),
-        Move::Store { v, t, u, .. } => Telling::of(Told::One(Event::Sent {
+        Move::Release { v, t } => tell_released(journal, *v, *t, size, sight),
+        Move::Store { v, t, u, .. } => journal.push(Event::Sent {
             volume: u.0,
             track: *t,
             to: v.0,
-        })),
-        Move::Suspend { v, .. } => Telling::of(told_suspended(*v, f.primary_state)),
-        Move::TakeOver { v } => Telling::of(Told::One(Event::TakenOver { volume: v.0 })),
-        Move::Mirror { v, w, .. } => Telling::of(Told::One(Event::Mirrored {
+        }),
+        Move::Suspend { v, .. } => tell_suspended(journal, *v, sight.state),
+        Move::TakeOver { v } => journal.push(Event::TakenOver { volume: v.0 }),
+        Move::Mirror { v, w, .. } => journal.push(Event::Mirrored {
             w: w.0,
             volume: v.0,
-        })),
-        Move::LandBoth { w, .. } => Telling {
-            done: Told::One(Event::Ack { w: w.0 }),
-            in_stop: Told::Nothing,
-            landed: w.0,
-        },
-        Move::Hold { v, s, n, first } => Telling::of(told_held(*v, *s, *n, *first)),
-        Move::Seal { u, s, n, .. } => Telling::of(Told::One(Event::Sealed {
+        }),
+        Move::LandBoth { w, .. } => journal.push(Event::Ack { w: w.0 }),
+        Move::FlashHold { v } => journal.push(Event::FlashHeld { volume: v.0 }),
+        Move::FlashFree { v } => journal.push(Event::FlashFreed { volume: v.0 }),
+        Move::Lift { v } => tell_lifted(journal, *v, sight.flash_hold),
+        Move::Hold { v, s, n, first } => tell_held(journal, *v, *s, *n, *first),
+        Move::Seal { u, s, n, .. } => journal.push(Event::Sealed {
             session: s.0,
             n: *n,
             volume: u.0,
-        })),
-        Move::Leave { u, s, .. } => Telling::of(Told::One(Event::Left {
+        }),
+        Move::Leave { u, s, .. } => journal.push(Event::Left {
             session: s.0,
             volume: u.0,
-        })),
-        Move::Flash { v, u, a, s, n } => Telling::of(Told::One(Event::Flashed {
+        }),
+        Move::Flash { v, u, a, s, n } => journal.push(Event::Flashed {
             session: s.0,
             n: *n,
             volume: a.0,
             source: u.0,
             target: v.0,
-        })),
-        Move::Commit { v, a, s, n } => Telling::of(Told::One(Event::Committed {
+        }),
+        Move::Commit { v, a, s, n } => journal.push(Event::Committed {
             session: s.0,
             n: *n,
             volume: a.0,
             target: v.0,
-        })),
-        Move::Revert { v, a, s, n } => Telling::of(Told::One(Event::Reverted {
+        }),
+        Move::Revert { v, a, s, n } => journal.push(Event::Reverted {
             session: s.0,
             n: *n,
             volume: a.0,
             target: v.0,
-        })),
+        }),
         Move::Note { .. }
         | Move::Strike { .. }
         | Move::MakeSecondary { .. }
@@ -505,11 +536,73 @@ pub fn telling(m: &Move, size: u16, f: &Fields) -> Telling
         | Move::Yield { .. }
         | Move::Unsync { .. }
         | Move::Thaw { .. }
-        | Move::Lift { .. }
         | Move::Restart { .. }
         | Move::Free { .. }
         | Move::Finish { .. }
         | Move::RaiseAttempt { .. }
-        | Move::RaiseFloor { .. } => Telling::of(Told::Nothing),
+        | Move::RaiseFloor { .. } => {}
+    }
+}
+
+/// The number of the host write that a move lands, 0 where it lands none.
+fn landed(m: &Move) -> u32
+    ensures { result ≡ machine.landed (move_of m.now) }
+{
+    match m {
+        Move::Land { w, .. } => w.0,
+        Move::Overwrite { w, .. } => w.0,
+        Move::LandBoth { w, .. } => w.0,
+        _ => 0,
+    }
+}
+
+/// Whether a move lands no host write.
+fn is_calm(m: &Move) -> bool
+    ensures { result ≡ is_calm (move_of m.now) }
+{
+    match m {
+        Move::Land { .. } => false,
+        Move::Overwrite { .. } => false,
+        Move::LandBoth { .. } => false,
+        _ => true,
+    }
+}
+
+/// Tells that a server stopped within a move that counts as done or doesn't: what a write lands is told by the stop itself.
+pub(crate) fn tell_stop(
+    journal: &mut Journal,
+    m: &Move,
+    size: u16,
+    sight: &Sight,
+    server: ServerId,
+    done: bool,
+)
+    requires { length (machine.told_in_stop (move_of m.now) (volume_with size (seen sight.now))) + 1 ≤ journal.old.spare }
+    ensures events { journal.new.events ≡ journal.old.events ++ told_in_stop done (move_of m.now) (volume_with size (seen sight.now)) server.0 }
+    ensures spare { journal.old.spare ≤ journal.new.spare + (length (machine.told_in_stop (move_of m.now) (volume_with size (seen sight.now))) + 1) }
+    ensures sum { length journal.new.events + journal.new.spare ≡ length journal.old.events + journal.old.spare }
+{
+    if !done {
+        journal.push(Event::Stopped {
+            server: server.0,
+            write: 0,
+        });
+        return;
+    }
+    tell_counted(journal, m, size, sight);
+    journal.push(Event::Stopped {
+        server: server.0,
+        write: landed(m),
+    });
+}
+
+/// Tells the journal of a move that counts as done in a stop, but for the stop.
+fn tell_counted(journal: &mut Journal, m: &Move, size: u16, sight: &Sight)
+    requires { length (machine.told_in_stop (move_of m.now) (volume_with size (seen sight.now))) ≤ journal.old.spare }
+    ensures events { journal.new.events ≡ journal.old.events ++ machine.told_in_stop (move_of m.now) (volume_with size (seen sight.now)) }
+    ensures spare { journal.old.spare ≡ journal.new.spare + length (machine.told_in_stop (move_of m.now) (volume_with size (seen sight.now))) }
+{
+    if is_calm(m) {
+        tell_done(journal, m, size, sight);
     }
 }

@@ -13,16 +13,13 @@ use dr_model::{PairState, Part};
 use dr_volume::Fields;
 
 /// A volume that becomes the secondary of `a`.
-pub fn made_secondary(a: VolumeId, kind: Part, state: PairState, f: &Fields) -> Fields
-    ensures { plain result ≡ pairs.made_secondary a.0 kind state (plain f.now) }
+pub fn made_secondary(a: VolumeId, kind: Part, state: PairState, f: &mut Fields)
+    ensures { plain f.new ≡ pairs.made_secondary a.0 kind state (plain f.old) }
 {
-    Fields {
-        secondary: kind,
-        secondary_state: state,
-        secondary_partner: a,
-        seal: 0,
-        ..*f
-    }
+    f.secondary = kind;
+    f.secondary_state = state;
+    f.secondary_partner = a;
+    f.seal = 0;
 }
 
 /// The tracks that are out of sync as a pair of volumes with n tracks is made: all, or none.
@@ -38,96 +35,72 @@ fn first_tracks(n: u16, full: bool) -> TrackSet
 }
 
 /// A volume of n tracks that becomes the primary of `b`: all its tracks are out of sync, or none is.
-pub fn made_primary(
-    n: u16,
-    b: VolumeId,
-    kind: Part,
-    state: PairState,
-    full: bool,
-    f: &Fields,
-) -> Fields
+pub fn made_primary(n: u16, b: VolumeId, kind: Part, state: PairState, full: bool, f: &mut Fields)
     requires { n ≤ 256 }
-    ensures { plain result ≡ pairs.made_primary n b.0 kind state full (plain f.now) }
+    ensures { plain f.new ≡ pairs.made_primary n b.0 kind state full (plain f.old) }
 {
-    Fields {
-        primary: kind,
-        primary_state: state,
-        primary_partner: b,
-        coordination: false,
-        long_busy: false,
-        recording: false,
-        out_of_sync: first_tracks(n, full),
-        change_recording: TrackSet::empty(),
-        ..*f
-    }
+    f.primary = kind;
+    f.primary_state = state;
+    f.primary_partner = b;
+    f.coordination = false;
+    f.long_busy = false;
+    f.recording = false;
+    f.out_of_sync = first_tracks(n, full);
+    f.change_recording = TrackSet::empty();
 }
 
 /// A volume that is a primary no more. Its attempt stays.
-pub fn no_primary(f: &Fields) -> Fields
-    ensures { plain result ≡ pairs.no_primary (plain f.now) }
+pub fn no_primary(f: &mut Fields)
+    ensures { plain f.new ≡ pairs.no_primary (plain f.old) }
 {
-    Fields {
-        primary: Part::Absent,
-        primary_state: PairState::CopyPending,
-        primary_partner: VolumeId(0),
-        coordination: false,
-        long_busy: false,
-        recording: false,
-        out_of_sync: TrackSet::empty(),
-        change_recording: TrackSet::empty(),
-        ..*f
-    }
+    f.primary = Part::Absent;
+    f.primary_state = PairState::CopyPending;
+    f.primary_partner = VolumeId(0);
+    f.coordination = false;
+    f.long_busy = false;
+    f.recording = false;
+    f.out_of_sync = TrackSet::empty();
+    f.change_recording = TrackSet::empty();
 }
 
 /// A volume that is a secondary no more.
-pub fn no_secondary(f: &Fields) -> Fields
-    ensures { plain result ≡ pairs.no_secondary (plain f.now) }
+pub fn no_secondary(f: &mut Fields)
+    ensures { plain f.new ≡ pairs.no_secondary (plain f.old) }
 {
-    Fields {
-        secondary: Part::Absent,
-        secondary_state: PairState::CopyPending,
-        secondary_partner: VolumeId(0),
-        seal: 0,
-        ..*f
-    }
+    f.secondary = Part::Absent;
+    f.secondary_state = PairState::CopyPending;
+    f.secondary_partner = VolumeId(0);
+    f.seal = 0;
 }
 
 /// A secondary in another state.
-pub fn followed(state: PairState, f: &Fields) -> Fields
-    ensures { plain result ≡ record (plain f.now) { secondary_state = state } }
+pub fn followed(state: PairState, f: &mut Fields)
+    ensures { plain f.new ≡ record (plain f.old) { secondary_state = state } }
 {
-    Fields {
-        secondary_state: state,
-        ..*f
-    }
+    f.secondary_state = state;
 }
 
 /// A primary that goes on.
-pub fn resumed(state: PairState, f: &Fields) -> Fields
-    ensures { plain result ≡ pairs.resumed state (plain f.now) }
+pub fn resumed(state: PairState, f: &mut Fields)
+    ensures { plain f.new ≡ pairs.resumed state (plain f.old) }
 {
-    Fields {
-        primary_state: state,
-        long_busy: false,
-        ..*f
-    }
+    f.primary_state = state;
+    f.long_busy = false;
 }
 
 /// A secondary that becomes a Suspended primary of its primary, with no track out of sync.
-pub fn taken_over(f: &Fields) -> Fields
-    ensures { plain result ≡ pairs.taken_over (plain f.now) }
+pub fn taken_over(f: &mut Fields)
+    ensures { plain f.new ≡ pairs.taken_over (plain f.old) }
 {
-    Fields {
-        primary: f.secondary,
-        primary_state: PairState::Suspended,
-        primary_partner: f.secondary_partner,
-        coordination: false,
-        long_busy: false,
-        recording: false,
-        out_of_sync: TrackSet::empty(),
-        change_recording: TrackSet::empty(),
-        ..no_secondary(f)
-    }
+    f.primary = f.secondary;
+    f.primary_state = PairState::Suspended;
+    f.primary_partner = f.secondary_partner;
+    f.coordination = false;
+    f.long_busy = false;
+    f.recording = false;
+    f.out_of_sync = TrackSet::empty();
+    f.change_recording = TrackSet::empty();
+    no_secondary(f);
 }
 
 /// Whether a primary records changes, or is held by coordination.
@@ -137,77 +110,67 @@ pub fn is_engaged(f: &Fields) -> bool
     f.recording || f.coordination
 }
 
-/// The tracks that are out of sync after a void.
-fn all_changed(f: &Fields) -> TrackSet
-    ensures { result ≡ (if pairs.is_engaged (plain f.now) then union f.now.out_of_sync f.now.change_recording else f.now.out_of_sync) }
+/// Where what was recorded counts, it is out of sync too, and nothing is recorded.
+pub(crate) fn count_recorded(counts: bool, f: &mut Fields)
+    ensures { f.new ≡ record f.old { out_of_sync = if counts then union f.old.out_of_sync f.old.change_recording else f.old.out_of_sync; change_recording = if counts then empty else f.old.change_recording } }
 {
-    let mut all = f.out_of_sync;
-    if is_engaged(f) {
-        all.union(&f.change_recording);
-    }
-    all
-}
-
-/// What a void leaves recorded.
-fn still_recorded(f: &Fields) -> TrackSet
-    ensures { result ≡ (if pairs.is_engaged (plain f.now) then empty else f.now.change_recording) }
-{
-    if is_engaged(f) {
-        TrackSet::empty()
-    } else {
-        f.change_recording
+    if counts {
+        f.out_of_sync.union(&f.change_recording);
+        f.change_recording = TrackSet::empty();
     }
 }
 
 /// A primary after a void: what changed while it recorded is out of sync too, and it neither records nor is held by
 /// coordination.
-pub(crate) fn voided(f: &Fields) -> Fields
-    ensures { plain result ≡ pairs.voided (plain f.now) }
+pub(crate) fn voided(f: &mut Fields)
+    ensures { plain f.new ≡ pairs.voided (plain f.old) }
 {
-    Fields {
-        coordination: false,
-        recording: false,
-        out_of_sync: all_changed(f),
-        change_recording: still_recorded(f),
-        ..*f
-    }
+    let engaged = is_engaged(f);
+    count_recorded(engaged, f);
+    f.coordination = false;
+    f.recording = false;
 }
 
 /// A primary that is Suspended, after a void; it is long busy where it is to be, or was.
-pub fn suspended(busy: bool, f: &Fields) -> Fields
-    ensures { plain result ≡ pairs.suspended busy (plain f.now) }
+pub fn suspended(busy: bool, f: &mut Fields)
+    ensures { plain f.new ≡ pairs.suspended busy (plain f.old) }
 {
-    Fields {
-        primary_state: PairState::Suspended,
-        long_busy: f.long_busy || busy,
-        ..voided(f)
-    }
+    f.primary_state = PairState::Suspended;
+    f.long_busy = f.long_busy || busy;
+    voided(f);
 }
 
 /// A primary that is voided, with these tracks out of sync too.
+fn widened(more: &TrackSet, f: &mut Fields)
+    ensures { plain f.new ≡ pairs.with_more more.now (plain f.old) }
+{
+    voided(f);
+    f.out_of_sync.union(more);
+}
+
+/// The fields of a primary that is voided, with these tracks out of sync too.
 pub fn with_more(more: &TrackSet, f: &Fields) -> Fields
     ensures { plain result ≡ pairs.with_more more.now (plain f.now) }
 {
-    let mut next = voided(f);
-    next.out_of_sync.union(more);
+    let mut next = *f;
+    widened(more, &mut next);
     next
 }
 
 /// The primary of a pair that goes the other way round from now on.
-pub fn fallen_back(more: &TrackSet, state: PairState, f: &Fields) -> Fields
-    ensures { plain result ≡ pairs.fallen_back more.now state (plain f.now) }
+pub fn fallen_back(more: &TrackSet, state: PairState, f: &mut Fields)
+    ensures { plain f.new ≡ pairs.fallen_back more.now state (plain f.old) }
 {
-    Fields {
-        primary_state: state,
-        ..with_more(more, f)
-    }
+    f.primary_state = state;
+    widened(more, f);
 }
 
 /// And its secondary, which was a primary: its attempt stays.
-pub fn yielded(a: VolumeId, kind: Part, state: PairState, f: &Fields) -> Fields
-    ensures { plain result ≡ pairs.yielded a.0 kind state (plain f.now) }
+pub fn yielded(a: VolumeId, kind: Part, state: PairState, f: &mut Fields)
+    ensures { plain f.new ≡ pairs.yielded a.0 kind state (plain f.old) }
 {
-    made_secondary(a, kind, state, &no_primary(f))
+    no_primary(f);
+    made_secondary(a, kind, state, f);
 }
 
 /// The state that a part gets with the last track, or has.
@@ -218,27 +181,23 @@ fn state_after(last: bool, state: PairState) -> PairState
 }
 
 /// A secondary that has stored track t, maybe the last one.
-pub fn received(last: bool, f: &Fields, t: u16) -> Fields
-    ensures { plain result ≡ pairs.received last (plain f.now) t }
+pub fn received(last: bool, f: &mut Fields, t: u16)
+    ensures { plain f.new ≡ pairs.received last (plain f.old) t }
 {
-    let mut next = *f;
-    next.blank.remove(t);
-    next.seal = 0;
-    next.secondary_state = state_after(last, f.secondary_state);
-    next
+    f.blank.remove(t);
+    f.seal = 0;
+    f.secondary_state = state_after(last, f.secondary_state);
 }
 
 /// A primary whose track t is out of sync no more, maybe the last one.
-pub fn struck(last: bool, f: &Fields, t: u16) -> Fields
-    ensures { plain result ≡ pairs.struck last (plain f.now) t }
+pub fn struck(last: bool, f: &mut Fields, t: u16)
+    ensures { plain f.new ≡ pairs.struck last (plain f.old) t }
 {
-    let mut next = *f;
-    next.out_of_sync.remove(t);
-    next.primary_state = state_after(last, f.primary_state);
-    next
+    f.out_of_sync.remove(t);
+    f.primary_state = state_after(last, f.primary_state);
 }
 
-/// A primary of which track t is about to change on both sides.
+/// The fields of a primary of which track t is about to change on both sides.
 pub fn unsynced(f: &Fields, t: u16) -> Fields
     requires { t < 256 }
     ensures { plain result ≡ pairs.unsynced (plain f.now) t }
@@ -249,32 +208,25 @@ pub fn unsynced(f: &Fields, t: u16) -> Fields
 }
 
 /// A secondary that has stored new bytes of track t.
-pub fn mirrored(f: &Fields, t: u16) -> Fields
-    ensures { plain result ≡ pairs.mirrored (plain f.now) t }
+pub fn mirrored(f: &mut Fields, t: u16)
+    ensures { plain f.new ≡ pairs.mirrored (plain f.old) t }
 {
-    let mut next = *f;
-    next.blank.remove(t);
-    next
+    f.blank.remove(t);
 }
 
 /// A primary whose track t has new bytes, which its secondary has too.
-pub fn synced(f: &Fields, t: u16) -> Fields
-    ensures { plain result ≡ pairs.synced (plain f.now) t }
+pub fn synced(f: &mut Fields, t: u16)
+    ensures { plain f.new ≡ pairs.synced (plain f.old) t }
 {
-    let mut next = *f;
-    next.blank.remove(t);
-    next.out_of_sync.remove(t);
-    next
+    f.blank.remove(t);
+    f.out_of_sync.remove(t);
 }
 
 /// A volume that is long busy no more.
-pub fn thawed(f: &Fields) -> Fields
-    ensures { plain result ≡ pairs.thawed (plain f.now) }
+pub fn thawed(f: &mut Fields)
+    ensures { plain f.new ≡ pairs.thawed (plain f.old) }
 {
-    Fields {
-        long_busy: false,
-        ..*f
-    }
+    f.long_busy = false;
 }
 
 /// Whether a stop within a host write left a Metro Mirror pair Full Duplex with a track out of sync.
@@ -296,11 +248,9 @@ fn state_at_start(f: &Fields) -> PairState
 }
 
 /// A volume that goes on as its server starts.
-pub fn restarted(f: &Fields) -> Fields
-    ensures { plain result ≡ pairs.restarted (plain f.now) }
+pub fn restarted(f: &mut Fields)
+    ensures { plain f.new ≡ pairs.restarted (plain f.old) }
 {
-    Fields {
-        primary_state: state_at_start(f),
-        ..voided(f)
-    }
+    f.primary_state = state_at_start(f);
+    voided(f);
 }

@@ -7,7 +7,7 @@ ghost use Rattle.dr_config.specs.Table.{StandsFor, place_of};
 ghost use Rattle.dr_model.specs.declared.event.Event.{Event};
 ghost use Rattle.dr_model.specs.ReadStops.{GoesOff};
 ghost use Rattle.dr_model.specs.Refusals.{stopped};
-ghost use Rattle.dr_volume.specs.Opened.{IsOpened};
+ghost use Rattle.dr_volume.specs.Opened.{IsGate};
 ghost use Rattle.dr_volume.specs.Update.{IsAsBefore};
 ghost use Rattle.dr_volume.specs.View.{Rest, volume_seen, track_seen, IsSettled};
 ghost use Rattle.dr_moves.specs.Here.{world_seen, refusal_of, armed_in, IsAtRest};
@@ -18,7 +18,7 @@ use dr_config::Config;
 use dr_ids::{Refusal, VolumeId};
 use dr_model::{Event, Journal};
 use dr_plant::{Block, Plant};
-use dr_volume::{Opened, open, read_track};
+use dr_volume::{Gate, open_gate, read_track};
 
 /// Tells that the server of a volume went off by itself.
 pub(crate) fn gone_off(config: &Config, journal: &mut Journal, v: VolumeId) -> Refusal
@@ -38,16 +38,16 @@ pub(crate) fn gone_off(config: &Config, journal: &mut Journal, v: VolumeId) -> R
     Refusal::Stopped { server }
 }
 
-/// Opens a volume that stands ready. Fails where the server goes off at the read.
+/// Reads the gate of a volume that stands ready. Fails where the server goes off at the read.
 pub(crate) fn open_told<P: Plant>(
     plant: &mut P,
     config: &Config,
     journal: &mut Journal,
     v: VolumeId,
-) -> Result<Opened, Refusal>
+) -> Result<Gate, Refusal>
     requires ready { StandsReady (P.state plant.old) config.now v.0 }
     requires room { 1 ≤ journal.old.spare }
-    ensures opened { IfOk result (λ o. IsOpened (P.state plant.old) config.now v.0 o) }
+    ensures gate { IfOk result (λ g. IsGate (P.state plant.old) config.now v.0 g) }
     ensures passed { OnOk result (P.state plant.new ≡ P.state plant.old) }
     ensures silent { OnOk result (journal.new ≡ journal.old) }
     ensures gone { OnErr result ((r : Rest) → GoesOff (armed_in (P.state plant.old)) (world_seen (P.state plant.new) config.now r journal.new.events) (refusal_of result) (world_seen (P.state plant.old) config.now r journal.old.events)) }
@@ -61,8 +61,8 @@ pub(crate) fn open_told<P: Plant>(
     ensures room { journal.old.spare ≤ journal.new.spare + 1 }
     ensures spare { length journal.new.events + journal.new.spare ≡ length journal.old.events + journal.old.spare }
 {
-    match open(plant, config, v) {
-        Ok(opened) => Ok(opened),
+    match open_gate(plant, config, v) {
+        Ok(gate) => Ok(gate),
         Err(_) => Err(gone_off(config, journal, v)),
     }
 }

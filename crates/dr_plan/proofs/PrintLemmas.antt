@@ -18,11 +18,11 @@ use Rattle.dr_model.specs.declared.step.Step.{Step}
 use Rattle.dr_model.specs.declared.step.TornWord.{TornWord}
 use Rattle.dr_model.specs.declared.step.TornWord.TheVariants.{Same, Fill, Bytes}
 use Rattle.dr_model.specs.declared.grammar.Command.{Command}
-use Rattle.dr_model.specs.declared.grammar.Command.TheVariants.{AtServer, AtVolume, AtLink, AtStop, AtStart, AtExpire, AtIssue, AtWrite, AtApply, AtDrain, AtCopy, AtExchange, AtRun, AtAbort, AtRecover, AtShow, AtCompare, AtImage, Mkpprcpath, Rmpprcpath, Mkpprc, Rmpprc, Pausepprc, Resumepprc, Failoverpprc, Failbackpprc, Freezepprc, Unfreezepprc, Lspprc, Lsflash, Mkflash, Rmflash, Resyncflash, Reverseflash, Commitflash, Revertflash, Mksession, Chsession, Rmsession, Lssession, Showgmir, Mkgmir, Resumegmir, Pausegmir, Rmgmir}
+use Rattle.dr_model.specs.declared.grammar.Command.TheVariants.{AtServer, AtVolume, AtLink, AtStop, AtStart, AtExpire, AtIssue, AtWrite, AtApply, AtDrain, AtCopy, AtExchange, AtRun, AtAbort, AtRecover, AtShow, AtCompare, AtImage, Mkpprcpath, Rmpprcpath, Mkpprc, Rmpprc, Pausepprc, Resumepprc, Failoverpprc, Failbackpprc, Freezepprc, Unfreezepprc, Lspprc, Lsflash, Mkflash, Rmflash, Resyncflash, Reverseflash, Commitflash, Revertflash, Unfreezeflash, Mksession, Chsession, Rmsession, Lssession, Showgmir, Mkgmir, Resumegmir, Pausegmir, Rmgmir}
 use Rattle.dr_model.specs.declared.grammar.Setting.{Setting}
-use Rattle.dr_model.specs.declared.grammar.Setting.TheVariants.{Quiet, Dev, RemoteDev, RemotePort, SourceLss, TargetLss, ConsistencyGroup, Force, PairType, Mode, Unconditional, AtSource, NoCopy, Persist, Recording, Inhibit, Sequence, Fast, TargetPprc, OfLss, Members, Action, OfSession, Interval, Coordination, DrainTime}
+use Rattle.dr_model.specs.declared.grammar.Setting.TheVariants.{Quiet, Dev, RemoteDev, RemotePort, SourceLss, TargetLss, ConsistencyGroup, Force, PairType, Mode, Unconditional, AtSource, NoCopy, Persist, Recording, Inhibit, FreezeSource, Sequence, Fast, TargetPprc, OfLss, Members, Action, OfSession, Interval, Coordination, DrainTime}
 use Rattle.dr_model.specs.declared.grammar.Operand.{Operand}
-use Rattle.dr_model.specs.declared.grammar.Operand.TheVariants.{ServerName, OtherName, UpOrDown, AfterWord, TornMark, TornBytes, OneVolume, OtherVolume, Count, TrackNumber, Offset, WriteBytes, CountOrAll, SessionNumber, NoReply, LssNumber, VolumeRange, VolumeList, VolumePair, LssPair, Ports, ControlPath}
+use Rattle.dr_model.specs.declared.grammar.Operand.TheVariants.{ServerName, OtherName, UpOrDown, AfterWord, TornMark, TornBytes, OneVolume, OtherVolume, Count, TrackNumber, Offset, WriteBytes, CountOrAll, SessionNumber, NoReply, LssNumber, VolumeRange, VolumeList, VolumePair, LssPair, EachLss, Ports, ControlPath}
 use Rattle.dr_model.specs.declared.grammar.Options.{Options}
 use Rattle.dr_model.specs.declared.grammar.Operands.{Operands}
 use Rattle.dr_model.specs.declared.grammar.Item.{Item}
@@ -145,6 +145,7 @@ command_unbroken Resyncflash = refl
 command_unbroken Reverseflash = refl
 command_unbroken Commitflash = refl
 command_unbroken Revertflash = refl
+command_unbroken Unfreezeflash = refl
 command_unbroken Mksession = refl
 command_unbroken Chsession = refl
 command_unbroken Rmsession = refl
@@ -173,6 +174,7 @@ option_unbroken NoCopy = refl
 option_unbroken Persist = refl
 option_unbroken Recording = refl
 option_unbroken Inhibit = refl
+option_unbroken FreezeSource = refl
 option_unbroken Sequence = refl
 option_unbroken Fast = refl
 option_unbroken TargetPprc = refl
@@ -210,6 +212,7 @@ value_unbroken NoCopy o i e = refl
 value_unbroken Persist o i e = refl
 value_unbroken Recording o i e = refl
 value_unbroken Inhibit o i e = refl
+value_unbroken FreezeSource o i e = refl
 value_unbroken Fast o i e = refl
 value_unbroken TargetPprc o i e = refl
 
@@ -235,6 +238,7 @@ word_unbroken VolumeRange p i e = hex4_unbroken i.first
 word_unbroken VolumeList p i e = hex4_unbroken i.first
 word_unbroken VolumePair p i e = unbroken-append (hex4 i.first) (58 ∷ hex4 i.second) (hex4_unbroken i.first) (hex4_unbroken i.second)
 word_unbroken LssPair p i e = unbroken-append (hex2 (lss_in i.first)) (58 ∷ hex2 (lss_in i.second)) (hex2_unbroken (lss_in i.first)) (hex2_unbroken (lss_in i.second))
+word_unbroken EachLss p i e = hex2_unbroken (lss_in i.first)
 word_unbroken Ports p i e = refl
 word_unbroken ControlPath p i e = refl
 

@@ -6,7 +6,7 @@ use Rattle.dr_ids.specs.Spelling.{lss_word, hex2, hex4}
 use Rattle.dr_ids.specs.declared.names.Lss.{Lss}
 use Rattle.dr_model.specs.declared.grammar.Item.{Item}
 use Rattle.dr_model.specs.declared.grammar.Span.{Span}
-use Rattle.dr_model.specs.LineWords.{◌>>=◌, span_word, span_cut, one_volume, span_len, spans_paired, paired, items_from, range_items, list_items, pair_items, pair_cut, lss_pair_items, lss_pair_cut}
+use Rattle.dr_model.specs.LineWords.{◌>>=◌, span_word, span_cut, one_volume, span_len, spans_paired, paired, items_from, range_items, list_items, pair_items, pair_cut, lss_pair_items, lss_pair_cut, lss_items}
 use Rattle.dr_script.proofs.ItemLemmas.{list_uncut}
 use Rattle.dr_script.proofs.TextLemmas.{lss_reads, volume_reads, mark_found, mark_missing, hex2_colon, hex4_free, hex4_colon}
 
@@ -43,3 +43,6 @@ lss_pair_reads l m ll lm =
     ap (lss_pair_cut (hex2 l ++ 58 ∷ hex2 m)) (mark_found 58 (hex2 l) (hex2 m) (hex2_colon l ll))
     ∙ ap (λ (o : Option Lss). o >>= λ x. lss_word (hex2 m) >>= λ y. Some (record { first = x.0; second = y.0 } ∷ [])) (lss_reads l ll)
     ∙ ap (λ (o : Option Lss). o >>= λ y. Some (record { first = l; second = y.0 } ∷ [])) (lss_reads m lm)
+
+pub lss_each_reads : (l : ℕ) → l < 256 → lss_items (hex2 l) ≡ Some (record { first = l; second = l } ∷ [])
+lss_each_reads l ll = ap (λ (o : Option Lss). o >>= λ x. Some (record { first = x.0; second = x.0 } ∷ [])) (lss_reads l ll)

@@ -19,7 +19,7 @@ use Rattle.dr_ids.specs.declared.names.VolumeId.{VolumeId}
 use Rattle.dr_model.specs.declared.step.TornWord.{TornWord}
 use Rattle.dr_model.specs.declared.step.TornWord.TheVariants.{Same, Fill, Bytes}
 use Rattle.dr_model.specs.declared.grammar.Operand.{Operand}
-use Rattle.dr_model.specs.declared.grammar.Operand.TheVariants.{ServerName, OtherName, UpOrDown, AfterWord, TornMark, TornBytes, OneVolume, OtherVolume, Count, TrackNumber, Offset, WriteBytes, CountOrAll, SessionNumber, NoReply, LssNumber, VolumeRange, VolumeList, VolumePair, LssPair, Ports, ControlPath}
+use Rattle.dr_model.specs.declared.grammar.Operand.TheVariants.{ServerName, OtherName, UpOrDown, AfterWord, TornMark, TornBytes, OneVolume, OtherVolume, Count, TrackNumber, Offset, WriteBytes, CountOrAll, SessionNumber, NoReply, LssNumber, VolumeRange, VolumeList, VolumePair, LssPair, EachLss, Ports, ControlPath}
 use Rattle.dr_model.specs.declared.grammar.Operands.{Operands}
 use Rattle.dr_model.specs.declared.grammar.Item.{Item}
 use Rattle.dr_model.specs.LineWords.{spelled_bytes, is_hex, torn_word, torn_bytes_word, most_word, decimal_word, either_word}
@@ -27,7 +27,7 @@ use Rattle.dr_model.specs.LineSteps.{operand_value, operand_items, lss_in}
 use Rattle.dr_model.specs.LineText.{torn_text, most_text, bytes_text, operand_text, operand_fits, torn_fits, most_fits, bytes_fit}
 use Rattle.dr_script.proofs.CutLemmas.{is_inked}
 use Rattle.dr_script.proofs.TextLemmas.{lss_reads, byte_reads, session_reads, volume_reads, decimal_reads, name_reads, decimal_inked, hex2_inked, hex4_inked, bytes_read}
-use Rattle.dr_script.proofs.ItemTextLemmas.{range_reads, list_reads, pair_reads, lss_pair_reads}
+use Rattle.dr_script.proofs.ItemTextLemmas.{range_reads, list_reads, pair_reads, lss_pair_reads, lss_each_reads}
 use Rattle.dr_script.proofs.OptionLemmas.{either_text, item_is}
 use Rattle.dr_logic.proofs.Lists.{same_bytes}
 
@@ -56,6 +56,7 @@ added_by VolumeRange i = i ∷ []
 added_by VolumeList i = i ∷ []
 added_by VolumePair i = i ∷ []
 added_by LssPair i = i ∷ []
+added_by EachLss i = i ∷ []
 added_by _ i = []
 
 -- an operand that is written
@@ -244,6 +245,11 @@ operand_reads LssPair p cur i e s =
     let a : i.first < 256 = grind (arith, nat_tests, q.0) in
     let b : i.second < 256 = grind (arith, nat_tests, q.1) in
     record { reads = refl; items = lss_pair_reads (lss_in i.first) (lss_in i.second) (omega arith) (omega arith) ∙ lss_is i a b; inked = hex2_pair_inked (lss_in i.first) (lss_in i.second); few = omega arith }
+operand_reads EachLss p cur i e s =
+    let q = and_parts (nat_lt i.first 256) _ e in
+    let a : i.first < 256 = grind (arith, nat_tests, q.0) in
+    let same : lss_in i.first ≡ i.first = omega arith in
+    record { reads = refl; items = lss_each_reads (lss_in i.first) (omega arith) ∙ (λ j. Some (record { first = same j; second = same j } ∷ [])) ∙ item_is i q.1; inked = hex2_inked (lss_in i.first); few = omega arith }
 operand_reads Ports p cur i e s =
     record { reads = refl; items = refl; inked = refl; few = omega arith }
 operand_reads ControlPath p cur i e s =

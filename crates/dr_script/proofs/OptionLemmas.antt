@@ -8,7 +8,7 @@ use Rattle.std.proofs.lemmas.Bool.{and_parts}
 use Rattle.dr_ids.specs.declared.names.Lss.{Lss}
 use Rattle.dr_ids.specs.declared.names.SessionId.{SessionId}
 use Rattle.dr_model.specs.declared.grammar.Setting.{Setting}
-use Rattle.dr_model.specs.declared.grammar.Setting.TheVariants.{Quiet, Dev, RemoteDev, RemotePort, SourceLss, TargetLss, ConsistencyGroup, Force, PairType, Mode, Unconditional, AtSource, NoCopy, Persist, Recording, Inhibit, Sequence, Fast, TargetPprc, OfLss, Members, Action, OfSession, Interval, Coordination, DrainTime}
+use Rattle.dr_model.specs.declared.grammar.Setting.TheVariants.{Quiet, Dev, RemoteDev, RemotePort, SourceLss, TargetLss, ConsistencyGroup, Force, PairType, Mode, Unconditional, AtSource, NoCopy, Persist, Recording, Inhibit, FreezeSource, Sequence, Fast, TargetPprc, OfLss, Members, Action, OfSession, Interval, Coordination, DrainTime}
 use Rattle.dr_model.specs.declared.grammar.Options.{Options}
 use Rattle.dr_model.specs.declared.grammar.Item.{Item}
 use Rattle.dr_model.specs.LineWords.{name_word, kind_word, sequence_word}
@@ -37,6 +37,7 @@ absorb NoCopy o cur = record cur { nocopy = o.nocopy }
 absorb Persist o cur = record cur { persistent = o.persistent }
 absorb Recording o cur = record cur { recorded = o.recorded }
 absorb Inhibit o cur = record cur { inhibited = o.inhibited }
+absorb FreezeSource o cur = record cur { freeze = o.freeze }
 absorb Sequence o cur = record cur { sequence = o.sequence }
 absorb Fast o cur = record cur { fast = o.fast }
 absorb TargetPprc o cur = record cur { tgtpprc = o.tgtpprc }
@@ -80,6 +81,7 @@ absent NoCopy o cur e f = ap (λ x. record cur { nocopy = x }) (e ∙ sym f)
 absent Persist o cur e f = ap (λ x. record cur { persistent = x }) (e ∙ sym f)
 absent Recording o cur e f = ap (λ x. record cur { recorded = x }) (e ∙ sym f)
 absent Inhibit o cur e f = ap (λ x. record cur { inhibited = x }) (e ∙ sym f)
+absent FreezeSource o cur e f = ap (λ x. record cur { freeze = x }) (e ∙ sym f)
 absent Sequence o cur e f = ap (λ x. record cur { sequence = x }) (none_there o.sequence e ∙ sym (none_there cur.sequence f))
 absent Fast o cur e f = ap (λ x. record cur { fast = x }) (e ∙ sym f)
 absent TargetPprc o cur e f = ap (λ x. record cur { tgtpprc = x }) (e ∙ sym f)
@@ -110,6 +112,7 @@ flag_reads NoCopy o cur e f = ap (λ x. record cur { nocopy = x }) (sym f)
 flag_reads Persist o cur e f = ap (λ x. record cur { persistent = x }) (sym f)
 flag_reads Recording o cur e f = ap (λ x. record cur { recorded = x }) (sym f)
 flag_reads Inhibit o cur e f = ap (λ x. record cur { inhibited = x }) (sym f)
+flag_reads FreezeSource o cur e f = ap (λ x. record cur { freeze = x }) (sym f)
 flag_reads Sequence o cur e f = absurd (cc)
 flag_reads Fast o cur e f = ap (λ x. record cur { fast = x }) (sym f)
 flag_reads TargetPprc o cur e f = ap (λ x. record cur { tgtpprc = x }) (sym f)
@@ -210,6 +213,7 @@ value_reads NoCopy o cur i e f g = absurd (cc)
 value_reads Persist o cur i e f g = absurd (cc)
 value_reads Recording o cur i e f g = absurd (cc)
 value_reads Inhibit o cur i e f g = absurd (cc)
+value_reads FreezeSource o cur i e f g = absurd (cc)
 value_reads Sequence o cur i e f g =
     let lt : or_zero o.sequence < 2 ^ 32 = grind (arith, nat_tests, g) in
     let t = sequence_inked (or_zero o.sequence) lt in

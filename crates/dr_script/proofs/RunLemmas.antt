@@ -5,9 +5,9 @@ use Rattle.std.proofs.lemmas.Grind.{common_steps}
 use Rattle.std.proofs.lemmas.Bool.{and_parts, and_from}
 use Rattle.dr_model.specs.declared.grammar.Command.{Command}
 use Rattle.dr_model.specs.declared.grammar.Setting.{Setting}
-use Rattle.dr_model.specs.declared.grammar.Setting.TheVariants.{Quiet, Dev, RemoteDev, RemotePort, SourceLss, TargetLss, ConsistencyGroup, Force, PairType, Mode, Unconditional, AtSource, NoCopy, Persist, Recording, Inhibit, Sequence, Fast, TargetPprc, OfLss, Members, Action, OfSession, Interval, Coordination, DrainTime}
+use Rattle.dr_model.specs.declared.grammar.Setting.TheVariants.{Quiet, Dev, RemoteDev, RemotePort, SourceLss, TargetLss, ConsistencyGroup, Force, PairType, Mode, Unconditional, AtSource, NoCopy, Persist, Recording, Inhibit, FreezeSource, Sequence, Fast, TargetPprc, OfLss, Members, Action, OfSession, Interval, Coordination, DrainTime}
 use Rattle.dr_model.specs.declared.grammar.Operand.{Operand}
-use Rattle.dr_model.specs.declared.grammar.Operand.TheVariants.{ServerName, OtherName, UpOrDown, AfterWord, TornMark, TornBytes, OneVolume, OtherVolume, Count, TrackNumber, Offset, WriteBytes, CountOrAll, SessionNumber, NoReply, LssNumber, VolumeRange, VolumeList, VolumePair, LssPair, Ports, ControlPath}
+use Rattle.dr_model.specs.declared.grammar.Operand.TheVariants.{ServerName, OtherName, UpOrDown, AfterWord, TornMark, TornBytes, OneVolume, OtherVolume, Count, TrackNumber, Offset, WriteBytes, CountOrAll, SessionNumber, NoReply, LssNumber, VolumeRange, VolumeList, VolumePair, LssPair, EachLss, Ports, ControlPath}
 use Rattle.dr_model.specs.declared.grammar.Options.{Options}
 use Rattle.dr_model.specs.declared.grammar.Operands.{Operands}
 use Rattle.dr_model.specs.declared.grammar.Item.{Item}
@@ -76,6 +76,7 @@ none_absent NoCopy o i e = refl
 none_absent Persist o i e = refl
 none_absent Recording o i e = refl
 none_absent Inhibit o i e = refl
+none_absent FreezeSource o i e = refl
 none_absent Sequence o i e = refl
 none_absent Fast o i e = refl
 none_absent TargetPprc o i e = refl
@@ -104,6 +105,7 @@ none_flagged NoCopy o i e = refl
 none_flagged Persist o i e = refl
 none_flagged Recording o i e = refl
 none_flagged Inhibit o i e = refl
+none_flagged FreezeSource o i e = refl
 none_flagged Sequence o i e = refl
 none_flagged Fast o i e = refl
 none_flagged TargetPprc o i e = refl
@@ -133,6 +135,7 @@ some_given NoCopy o i e = refl
 some_given Persist o i e = refl
 some_given Recording o i e = refl
 some_given Inhibit o i e = refl
+some_given FreezeSource o i e = refl
 some_given Sequence o i e = refl
 some_given Fast o i e = refl
 some_given TargetPprc o i e = refl
@@ -179,6 +182,7 @@ option_inked NoCopy = (refl, omega arith)
 option_inked Persist = (refl, omega arith)
 option_inked Recording = (refl, omega arith)
 option_inked Inhibit = (refl, omega arith)
+option_inked FreezeSource = (refl, omega arith)
 option_inked Sequence = (refl, omega arith)
 option_inked Fast = (refl, omega arith)
 option_inked TargetPprc = (refl, omega arith)
@@ -210,6 +214,7 @@ added_few NoCopy i = omega arith
 added_few Persist i = omega arith
 added_few Recording i = omega arith
 added_few Inhibit i = omega arith
+added_few FreezeSource i = omega arith
 added_few Sequence i = omega arith
 added_few Fast i = omega arith
 added_few TargetPprc i = omega arith
@@ -362,6 +367,7 @@ added_by_few VolumeRange i = omega arith
 added_by_few VolumeList i = omega arith
 added_by_few VolumePair i = omega arith
 added_by_few LssPair i = omega arith
+added_by_few EachLss i = omega arith
 added_by_few Ports i = omega arith
 added_by_few ControlPath i = omega arith
 

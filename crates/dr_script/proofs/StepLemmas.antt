@@ -1,7 +1,7 @@
 -- The line that says a step reads as that step.
 use Rattle.std.proofs.Common.{ℕ, ◌≡◌, ◌<◌, ◌≤◌, ◌+◌, ◌/◌, ◌%◌, List, [], ◌∷◌, ◌++◌, length, take, refl, ap, ◌∙◌, sym, arith, Bool, true, false, ◌&&◌, ◌||◌, cond, Option, Some, None, nat_eq, nat_lt}
 use Rattle.std.proofs.lemmas.Bool.Decides.{nat_tests}
-use Rattle.dr_model.specs.declared.grammar.Operand.TheVariants.{LssPair}
+use Rattle.dr_model.specs.declared.grammar.Operand.TheVariants.{LssPair, EachLss}
 use Rattle.std.specs.Prelude.{Ok}
 use Rattle.std.specs.Str.{bytes_eq}
 use Rattle.std.proofs.lemmas.Grind.{common_steps}
@@ -11,11 +11,11 @@ use Rattle.std.proofs.lemmas.Bool.{and_parts}
 use Rattle.dr_model.specs.declared.step.Name.{Name}
 use Rattle.dr_model.specs.declared.step.Devs.{Devs}
 use Rattle.dr_model.specs.declared.step.Step.{Step}
-use Rattle.dr_model.specs.declared.step.Step.TheVariants.{Server, Volume, Link, Stop, StopAfter, Start, Expire, Issue, Write, Apply, Drain, Copy, Exchange, Run, Abort, Recover, Show, Compare, Image, MakePath, RemovePath, MakePair, RemovePair, PausePair, ResumePair, Failover, Failback, Freeze, Unfreeze, ListPairs, ListFlashes, MakeFlash, RemoveFlash, ResyncFlash, ReverseFlash, CommitFlash, RevertFlash, MakeSession, AddMember, RemoveMember, RemoveSession, ListSession, ShowMirror, MakeMirror, ResumeMirror, PauseMirror, RemoveMirror}
+use Rattle.dr_model.specs.declared.step.Step.TheVariants.{Server, Volume, Link, Stop, StopAfter, Start, Expire, Issue, Write, Apply, Drain, Copy, Exchange, Run, Abort, Recover, Show, Compare, Image, MakePath, RemovePath, MakePair, RemovePair, PausePair, ResumePair, Failover, Failback, Freeze, Unfreeze, ListPairs, ListFlashes, MakeFlash, RemoveFlash, ResyncFlash, ReverseFlash, CommitFlash, RevertFlash, UnfreezeFlash, MakeSession, AddMember, RemoveMember, RemoveSession, ListSession, ShowMirror, MakeMirror, ResumeMirror, PauseMirror, RemoveMirror}
 use Rattle.dr_model.specs.declared.grammar.Command.{Command}
-use Rattle.dr_model.specs.declared.grammar.Command.TheVariants.{AtServer, AtVolume, AtLink, AtStop, AtStart, AtExpire, AtIssue, AtWrite, AtApply, AtDrain, AtCopy, AtExchange, AtRun, AtAbort, AtRecover, AtShow, AtCompare, AtImage, Mkpprcpath, Rmpprcpath, Mkpprc, Rmpprc, Pausepprc, Resumepprc, Failoverpprc, Failbackpprc, Freezepprc, Unfreezepprc, Lspprc, Lsflash, Mkflash, Rmflash, Resyncflash, Reverseflash, Commitflash, Revertflash, Mksession, Chsession, Rmsession, Lssession, Showgmir, Mkgmir, Resumegmir, Pausegmir, Rmgmir}
+use Rattle.dr_model.specs.declared.grammar.Command.TheVariants.{AtServer, AtVolume, AtLink, AtStop, AtStart, AtExpire, AtIssue, AtWrite, AtApply, AtDrain, AtCopy, AtExchange, AtRun, AtAbort, AtRecover, AtShow, AtCompare, AtImage, Mkpprcpath, Rmpprcpath, Mkpprc, Rmpprc, Pausepprc, Resumepprc, Failoverpprc, Failbackpprc, Freezepprc, Unfreezepprc, Lspprc, Lsflash, Mkflash, Rmflash, Resyncflash, Reverseflash, Commitflash, Revertflash, Unfreezeflash, Mksession, Chsession, Rmsession, Lssession, Showgmir, Mkgmir, Resumegmir, Pausegmir, Rmgmir}
 use Rattle.dr_model.specs.declared.grammar.Setting.{Setting}
-use Rattle.dr_model.specs.declared.grammar.Setting.TheVariants.{Quiet, Dev, RemoteDev, RemotePort, SourceLss, TargetLss, ConsistencyGroup, Force, PairType, Mode, Unconditional, AtSource, NoCopy, Persist, Recording, Inhibit, Sequence, Fast, TargetPprc, OfLss, Members, Action, OfSession, Interval, Coordination, DrainTime}
+use Rattle.dr_model.specs.declared.grammar.Setting.TheVariants.{Quiet, Dev, RemoteDev, RemotePort, SourceLss, TargetLss, ConsistencyGroup, Force, PairType, Mode, Unconditional, AtSource, NoCopy, Persist, Recording, Inhibit, FreezeSource, Sequence, Fast, TargetPprc, OfLss, Members, Action, OfSession, Interval, Coordination, DrainTime}
 use Rattle.dr_model.specs.declared.grammar.Options.{Options}
 use Rattle.dr_model.specs.declared.grammar.Saying.{Saying}
 use Rattle.dr_model.specs.LineTable.{form, command_word, commands, setting_word, settings, needed, operands, may_end_with, own_steps}
@@ -34,7 +34,7 @@ record CommandFacts (c : Command) : Type 0 where
   named : command_named commands (command_word c) ≡ Some c
   plain : (rest : List ℕ) → begins_comment (command_word c ++ rest) ≡ false
   short : length (command_word c) ≤ 13
-  options : length (settings c) ≤ 7
+  options : length (settings c) ≤ 8
   operands : length (operands c) ≤ 5
   own : own_steps c ≤ 1
 
@@ -70,6 +70,7 @@ command_facts Freezepprc = record { inked = refl; named = refl; plain = λ rest.
 command_facts Unfreezepprc = record { inked = refl; named = refl; plain = λ rest. refl; short = omega arith; options = omega arith; operands = omega arith; own = omega arith }
 command_facts Lspprc = record { inked = refl; named = refl; plain = λ rest. refl; short = omega arith; options = omega arith; operands = omega arith; own = omega arith }
 command_facts Lsflash = record { inked = refl; named = refl; plain = λ rest. refl; short = omega arith; options = omega arith; operands = omega arith; own = omega arith }
+command_facts Unfreezeflash = record { inked = refl; named = refl; plain = λ rest. refl; short = omega arith; options = omega arith; operands = omega arith; own = omega arith }
 command_facts Mkflash = record { inked = refl; named = refl; plain = λ rest. refl; short = omega arith; options = omega arith; operands = omega arith; own = omega arith }
 command_facts Rmflash = record { inked = refl; named = refl; plain = λ rest. refl; short = omega arith; options = omega arith; operands = omega arith; own = omega arith }
 command_facts Resyncflash = record { inked = refl; named = refl; plain = λ rest. refl; short = omega arith; options = omega arith; operands = omega arith; own = omega arith }
@@ -119,7 +120,8 @@ ready Freezepprc o = (refl, (refl, (refl, (refl, (refl, (refl, tt))))))
 ready Unfreezepprc o = (refl, (refl, (refl, (refl, (refl, (refl, tt))))))
 ready Lspprc o = (refl, (refl, (refl, (refl, (refl, (refl, tt))))))
 ready Lsflash o = (refl, (refl, (refl, (refl, tt))))
-ready Mkflash o = (refl, (refl, (refl, (refl, (refl, (refl, (refl, (refl, (refl, (refl, (refl, (refl, (refl, (refl, tt))))))))))))))
+ready Unfreezeflash o = (refl, (refl, (refl, (refl, tt))))
+ready Mkflash o = (refl, (refl, (refl, (refl, (refl, (refl, (refl, (refl, (refl, (refl, (refl, (refl, (refl, (refl, (refl, (refl, tt))))))))))))))))
 ready Rmflash o = (refl, (refl, (refl, (refl, (refl, (refl, tt))))))
 ready Resyncflash o = (refl, (refl, (refl, (refl, (refl, (refl, (refl, (refl, (refl, (refl, (refl, (refl, (refl, (refl, tt))))))))))))))
 ready Reverseflash o = (refl, (refl, (refl, (refl, (refl, (refl, (refl, (refl, (refl, (refl, tt))))))))))
@@ -185,6 +187,7 @@ dash NoCopy = (_, refl)
 dash Persist = (_, refl)
 dash Recording = (_, refl)
 dash Inhibit = (_, refl)
+dash FreezeSource = (_, refl)
 dash Sequence = (_, refl)
 dash Fast = (_, refl)
 dash TargetPprc = (_, refl)
@@ -226,6 +229,16 @@ below first second b t e =
     let x : first < 256 = grind (arith, nat_tests, s.0) in
     let y : second < 256 = grind (arith, nat_tests, s.1) in
     ((omega arith), (omega arith))
+
+below-each : (lss : ℕ) (b t : Bool) → ((b && (operand_fits EachLss no_operands (record { first = lss; second = lss }) && true)) && t) ≡ true → lss_in lss ≡ lss
+unfolding operand_fits
+below-each lss b t e =
+    let p = and_parts (b && (operand_fits EachLss no_operands (record { first = lss; second = lss }) && true)) t e in
+    let q = and_parts b _ p.0 in
+    let r = and_parts (operand_fits EachLss no_operands (record { first = lss; second = lss })) true q.1 in
+    let s = and_parts (nat_lt lss 256) _ r.0 in
+    let x : lss < 256 = grind (arith, nat_tests, s.0) in
+    omega arith
 
 absent_name : (x : Option Name) → is_none x ≡ true → x ≡ None
 absent_name None e = refl
@@ -286,9 +299,9 @@ reads (ListPairs devs volume) h = told (for_item Lspprc (given devs) volume volu
 reads (ListFlashes devs volume) h =
     let none = no_remote devs _ h in
     told (for_item Lsflash (given devs) volume volume) (ListFlashes devs volume) (λ j. record no_options { devs = record { dev = devs.dev; remotedev = none j } }) refl (refl, (hex4_no (settings Lsflash) volume [], (tt, tt))) h refl refl
-reads (MakeFlash devs s t nocopy persistent recorded inhibited sequence) h =
+reads (MakeFlash devs s t nocopy persistent recorded inhibited freeze sequence) h =
     let none = no_remote devs _ h in
-    told (for_item Mkflash (record no_options { devs = devs; nocopy = nocopy; persistent = persistent; recorded = recorded; inhibited = inhibited; sequence = sequence }) s t) (MakeFlash devs s t nocopy persistent recorded inhibited sequence) (λ j. record no_options { devs = record { dev = devs.dev; remotedev = none j }; nocopy = nocopy; persistent = persistent; recorded = recorded; inhibited = inhibited; sequence = sequence }) refl (refl, (hex4_no (settings Mkflash) s (58 ∷ hex4 t), (tt, tt))) h refl refl
+    told (for_item Mkflash (record no_options { devs = devs; nocopy = nocopy; persistent = persistent; recorded = recorded; inhibited = inhibited; freeze = freeze; sequence = sequence }) s t) (MakeFlash devs s t nocopy persistent recorded inhibited freeze sequence) (λ j. record no_options { devs = record { dev = devs.dev; remotedev = none j }; nocopy = nocopy; persistent = persistent; recorded = recorded; inhibited = inhibited; freeze = freeze; sequence = sequence }) refl (refl, (hex4_no (settings Mkflash) s (58 ∷ hex4 t), (tt, tt))) h refl refl
 reads (RemoveFlash devs s t sequence) h =
     let none = no_remote devs _ h in
     told (for_item Rmflash (record no_options { devs = devs; sequence = sequence }) s t) (RemoveFlash devs s t sequence) (λ j. record no_options { devs = record { dev = devs.dev; remotedev = none j }; sequence = sequence }) refl (refl, (hex4_no (settings Rmflash) s (58 ∷ hex4 t), (tt, tt))) h refl refl
@@ -304,6 +317,10 @@ reads (CommitFlash devs source sequence) h =
 reads (RevertFlash devs source sequence) h =
     let none = no_remote devs _ h in
     told (for_item Revertflash (record no_options { devs = devs; sequence = sequence }) source source) (RevertFlash devs source sequence) (λ j. record no_options { devs = record { dev = devs.dev; remotedev = none j }; sequence = sequence }) refl (refl, (hex4_no (settings Revertflash) source [], (tt, tt))) h refl refl
+reads (UnfreezeFlash devs lss) h =
+    let none = no_remote devs _ h in
+    let n = below-each lss _ _ h in
+    told (for_item Unfreezeflash (given devs) lss lss) (UnfreezeFlash devs lss) (λ j. record no_options { devs = record { dev = devs.dev; remotedev = none j } }) refl (refl, (hex2_no (settings Unfreezeflash) (lss_in lss) [], (tt, tt))) h refl (λ j. UnfreezeFlash devs (n j) ∷ [])
 reads (MakeSession devs lss session) h =
     let none = no_remote devs _ h in
     told (for_session Mksession (record no_options { devs = devs; lss = Some lss }) session 0) (MakeSession devs lss session) (λ j. record no_options { devs = record { dev = devs.dev; remotedev = none j }; lss = Some lss }) refl (refl, (hex2_no (settings Mksession) session [], (tt, tt))) h refl refl

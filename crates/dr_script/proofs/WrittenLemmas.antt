@@ -12,9 +12,9 @@ use Rattle.dr_model.specs.declared.step.TornWord.{TornWord}
 use Rattle.dr_model.specs.declared.step.Step.{Step}
 use Rattle.dr_model.specs.declared.step.Step.TheVariants.{Stop, StopAfter, Exchange, AddMember, RemoveMember}
 use Rattle.dr_model.specs.declared.grammar.Command.{Command}
-use Rattle.dr_model.specs.declared.grammar.Command.TheVariants.{AtServer, AtVolume, AtLink, AtStop, AtStart, AtExpire, AtIssue, AtWrite, AtApply, AtDrain, AtCopy, AtExchange, AtRun, AtAbort, AtRecover, AtShow, AtCompare, AtImage, Mkpprcpath, Rmpprcpath, Mkpprc, Rmpprc, Pausepprc, Resumepprc, Failoverpprc, Failbackpprc, Freezepprc, Unfreezepprc, Lspprc, Lsflash, Mkflash, Rmflash, Resyncflash, Reverseflash, Commitflash, Revertflash, Mksession, Chsession, Rmsession, Lssession, Showgmir, Mkgmir, Resumegmir, Pausegmir, Rmgmir}
+use Rattle.dr_model.specs.declared.grammar.Command.TheVariants.{AtServer, AtVolume, AtLink, AtStop, AtStart, AtExpire, AtIssue, AtWrite, AtApply, AtDrain, AtCopy, AtExchange, AtRun, AtAbort, AtRecover, AtShow, AtCompare, AtImage, Mkpprcpath, Rmpprcpath, Mkpprc, Rmpprc, Pausepprc, Resumepprc, Failoverpprc, Failbackpprc, Freezepprc, Unfreezepprc, Lspprc, Lsflash, Mkflash, Rmflash, Resyncflash, Reverseflash, Commitflash, Revertflash, Unfreezeflash, Mksession, Chsession, Rmsession, Lssession, Showgmir, Mkgmir, Resumegmir, Pausegmir, Rmgmir}
 use Rattle.dr_model.specs.declared.grammar.Setting.{Setting}
-use Rattle.dr_model.specs.declared.grammar.Setting.TheVariants.{Quiet, Dev, RemoteDev, RemotePort, SourceLss, TargetLss, ConsistencyGroup, Force, PairType, Mode, Unconditional, AtSource, NoCopy, Persist, Recording, Inhibit, Sequence, Fast, TargetPprc, OfLss, Members, Action, OfSession, Interval, Coordination, DrainTime}
+use Rattle.dr_model.specs.declared.grammar.Setting.TheVariants.{Quiet, Dev, RemoteDev, RemotePort, SourceLss, TargetLss, ConsistencyGroup, Force, PairType, Mode, Unconditional, AtSource, NoCopy, Persist, Recording, Inhibit, FreezeSource, Sequence, Fast, TargetPprc, OfLss, Members, Action, OfSession, Interval, Coordination, DrainTime}
 use Rattle.dr_model.specs.declared.grammar.Options.{Options}
 use Rattle.dr_model.specs.declared.grammar.Operands.{Operands}
 use Rattle.dr_model.specs.declared.grammar.Item.{Item}
@@ -79,6 +79,7 @@ enough_all Freezepprc = tt
 enough_all Unfreezepprc = tt
 enough_all Lspprc = tt
 enough_all Lsflash = tt
+enough_all Unfreezeflash = tt
 enough_all Mkflash = tt
 enough_all Rmflash = tt
 enough_all Resyncflash = tt
@@ -127,6 +128,7 @@ enough_end Freezepprc = tt
 enough_end Unfreezepprc = tt
 enough_end Lspprc = tt
 enough_end Lsflash = tt
+enough_end Unfreezeflash = tt
 enough_end Mkflash = tt
 enough_end Rmflash = tt
 enough_end Resyncflash = tt
@@ -194,6 +196,7 @@ all_given Freezepprc o e = tt
 all_given Unfreezepprc o e = tt
 all_given Lspprc o e = tt
 all_given Lsflash o e = tt
+all_given Unfreezeflash o e = tt
 all_given Mkflash o e = tt
 all_given Rmflash o e = tt
 all_given Resyncflash o e = tt
@@ -249,6 +252,7 @@ item_sound Freezepprc o p h = h
 item_sound Unfreezepprc o p h = h
 item_sound Lspprc o p h = h
 item_sound Lsflash o p h = h
+item_sound Unfreezeflash o p h = h
 item_sound Mkflash o p h = h
 item_sound Rmflash o p h = h
 item_sound Resyncflash o p h = h
@@ -290,6 +294,7 @@ setting_sound NoCopy o i h = or_right _ true refl
 setting_sound Persist o i h = or_right _ true refl
 setting_sound Recording o i h = or_right _ true refl
 setting_sound Inhibit o i h = or_right _ true refl
+setting_sound FreezeSource o i h = or_right _ true refl
 setting_sound Sequence o i h = or_right _ _ h.sound.sequence
 setting_sound Fast o i h = or_right _ true refl
 setting_sound TargetPprc o i h = or_right _ true refl
@@ -372,12 +377,13 @@ step_written Freezepprc o p i h s = said_sound (for_item Freezepprc (given o.dev
 step_written Unfreezepprc o p i h s = said_sound (for_item Unfreezepprc (given o.devs) (lss_in i.first) (lss_in i.second)) (record { quiet = refl; port = refl; members = refl; sound = record { remote_ok = refl; dev = h.options.dev; remote = h.options.remote; src = refl; tgt = refl; kind = refl; sequence = refl; lss = refl; session = refl; cginterval = refl; coordinate = refl; drain = refl } }) (one _ (and_from _ _ (lss_low i.first) (lss_low i.second))) (refl)
 step_written Lspprc o p i h s = said_sound (for_item Lspprc (given o.devs) i.first i.first) (record { quiet = refl; port = refl; members = refl; sound = record { remote_ok = refl; dev = h.options.dev; remote = h.options.remote; src = refl; tgt = refl; kind = refl; sequence = refl; lss = refl; session = refl; cginterval = refl; coordinate = refl; drain = refl } }) (one _ (and_from _ _ (lt-ltb _ 65536 s.0) ((eq-eqb i.first i.first refl)))) (refl)
 step_written Lsflash o p i h s = said_sound (for_item Lsflash (given o.devs) i.first i.first) (record { quiet = refl; port = refl; members = refl; sound = record { remote_ok = refl; dev = h.options.dev; remote = h.options.remote; src = refl; tgt = refl; kind = refl; sequence = refl; lss = refl; session = refl; cginterval = refl; coordinate = refl; drain = refl } }) (one _ (and_from _ _ (lt-ltb _ 65536 s.0) ((eq-eqb i.first i.first refl)))) (h.options.remote_ok)
-step_written Mkflash o p i h s = said_sound (for_item Mkflash (record no_options { devs = o.devs; nocopy = o.nocopy; persistent = o.persistent; recorded = o.recorded; inhibited = o.inhibited; sequence = o.sequence }) i.first i.second) (record { quiet = refl; port = refl; members = refl; sound = record { remote_ok = refl; dev = h.options.dev; remote = h.options.remote; src = refl; tgt = refl; kind = refl; sequence = h.options.sequence; lss = refl; session = refl; cginterval = refl; coordinate = refl; drain = refl } }) (one _ (and_from _ _ (lt-ltb _ 65536 s.0) (lt-ltb _ 65536 s.1))) (h.options.remote_ok)
+step_written Mkflash o p i h s = said_sound (for_item Mkflash (record no_options { devs = o.devs; nocopy = o.nocopy; persistent = o.persistent; recorded = o.recorded; inhibited = o.inhibited; freeze = o.freeze; sequence = o.sequence }) i.first i.second) (record { quiet = refl; port = refl; members = refl; sound = record { remote_ok = refl; dev = h.options.dev; remote = h.options.remote; src = refl; tgt = refl; kind = refl; sequence = h.options.sequence; lss = refl; session = refl; cginterval = refl; coordinate = refl; drain = refl } }) (one _ (and_from _ _ (lt-ltb _ 65536 s.0) (lt-ltb _ 65536 s.1))) (h.options.remote_ok)
 step_written Resyncflash o p i h s = said_sound (for_item Resyncflash (record no_options { devs = o.devs; nocopy = o.nocopy; persistent = o.persistent; recorded = o.recorded; inhibited = o.inhibited; sequence = o.sequence }) i.first i.second) (record { quiet = refl; port = refl; members = refl; sound = record { remote_ok = refl; dev = h.options.dev; remote = h.options.remote; src = refl; tgt = refl; kind = refl; sequence = h.options.sequence; lss = refl; session = refl; cginterval = refl; coordinate = refl; drain = refl } }) (one _ (and_from _ _ (lt-ltb _ 65536 s.0) (lt-ltb _ 65536 s.1))) (h.options.remote_ok)
 step_written Rmflash o p i h s = said_sound (for_item Rmflash (record no_options { devs = o.devs; sequence = o.sequence }) i.first i.second) (record { quiet = refl; port = refl; members = refl; sound = record { remote_ok = refl; dev = h.options.dev; remote = h.options.remote; src = refl; tgt = refl; kind = refl; sequence = h.options.sequence; lss = refl; session = refl; cginterval = refl; coordinate = refl; drain = refl } }) (one _ (and_from _ _ (lt-ltb _ 65536 s.0) (lt-ltb _ 65536 s.1))) (h.options.remote_ok)
 step_written Reverseflash o p i h s = said_sound (for_item Reverseflash (record no_options { devs = o.devs; sequence = o.sequence; fast = true; tgtpprc = o.tgtpprc }) i.first i.second) (record { quiet = refl; port = refl; members = refl; sound = record { remote_ok = refl; dev = h.options.dev; remote = h.options.remote; src = refl; tgt = refl; kind = refl; sequence = h.options.sequence; lss = refl; session = refl; cginterval = refl; coordinate = refl; drain = refl } }) (one _ (and_from _ _ (lt-ltb _ 65536 s.0) (lt-ltb _ 65536 s.1))) (h.options.remote_ok)
 step_written Commitflash o p i h s = said_sound (for_item Commitflash (record no_options { devs = o.devs; sequence = o.sequence }) i.first i.first) (record { quiet = refl; port = refl; members = refl; sound = record { remote_ok = refl; dev = h.options.dev; remote = h.options.remote; src = refl; tgt = refl; kind = refl; sequence = h.options.sequence; lss = refl; session = refl; cginterval = refl; coordinate = refl; drain = refl } }) (one _ (and_from _ _ (lt-ltb _ 65536 s.0) ((eq-eqb i.first i.first refl)))) (h.options.remote_ok)
 step_written Revertflash o p i h s = said_sound (for_item Revertflash (record no_options { devs = o.devs; sequence = o.sequence }) i.first i.first) (record { quiet = refl; port = refl; members = refl; sound = record { remote_ok = refl; dev = h.options.dev; remote = h.options.remote; src = refl; tgt = refl; kind = refl; sequence = h.options.sequence; lss = refl; session = refl; cginterval = refl; coordinate = refl; drain = refl } }) (one _ (and_from _ _ (lt-ltb _ 65536 s.0) ((eq-eqb i.first i.first refl)))) (h.options.remote_ok)
+step_written Unfreezeflash o p i h s = said_sound (for_item Unfreezeflash (given o.devs) (lss_in i.first) (lss_in i.first)) (record { quiet = refl; port = refl; members = refl; sound = record { remote_ok = refl; dev = h.options.dev; remote = h.options.remote; src = refl; tgt = refl; kind = refl; sequence = refl; lss = refl; session = refl; cginterval = refl; coordinate = refl; drain = refl } }) (one _ (and_from _ _ (lss_low i.first) (eq-eqb (lss_in i.first) (lss_in i.first) refl))) (h.options.remote_ok)
 step_written Mksession o p i h s = said_sound (for_session Mksession (record no_options { devs = o.devs; lss = Some (or_zero o.lss) }) p.session 0) (record { quiet = refl; port = refl; members = refl; sound = record { remote_ok = refl; dev = h.options.dev; remote = h.options.remote; src = refl; tgt = refl; kind = refl; sequence = refl; lss = h.options.lss; session = refl; cginterval = refl; coordinate = refl; drain = refl } }) (one _ (h.operands.session h.enough)) (h.options.remote_ok)
 step_written Rmsession o p i h s = said_sound (for_session Rmsession (record no_options { devs = o.devs; lss = Some (or_zero o.lss) }) p.session 0) (record { quiet = refl; port = refl; members = refl; sound = record { remote_ok = refl; dev = h.options.dev; remote = h.options.remote; src = refl; tgt = refl; kind = refl; sequence = refl; lss = h.options.lss; session = refl; cginterval = refl; coordinate = refl; drain = refl } }) (one _ (h.operands.session h.enough)) (h.options.remote_ok)
 step_written Chsession o p i h s = member_written (unwrap_or o.adds true) o p.session i.first h.options (h.operands.session h.enough) s.0

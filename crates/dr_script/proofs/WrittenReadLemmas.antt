@@ -12,9 +12,9 @@ use Rattle.dr_ids.specs.declared.names.SessionId.{SessionId}
 use Rattle.dr_ids.specs.declared.names.VolumeId.{VolumeId}
 use Rattle.dr_model.specs.declared.grammar.Command.{Command}
 use Rattle.dr_model.specs.declared.grammar.Setting.{Setting}
-use Rattle.dr_model.specs.declared.grammar.Setting.TheVariants.{Quiet, Dev, RemoteDev, RemotePort, SourceLss, TargetLss, ConsistencyGroup, Force, PairType, Mode, Unconditional, AtSource, NoCopy, Persist, Recording, Inhibit, Sequence, Fast, TargetPprc, OfLss, Members, Action, OfSession, Interval, Coordination, DrainTime}
+use Rattle.dr_model.specs.declared.grammar.Setting.TheVariants.{Quiet, Dev, RemoteDev, RemotePort, SourceLss, TargetLss, ConsistencyGroup, Force, PairType, Mode, Unconditional, AtSource, NoCopy, Persist, Recording, Inhibit, FreezeSource, Sequence, Fast, TargetPprc, OfLss, Members, Action, OfSession, Interval, Coordination, DrainTime}
 use Rattle.dr_model.specs.declared.grammar.Operand.{Operand}
-use Rattle.dr_model.specs.declared.grammar.Operand.TheVariants.{ServerName, OtherName, UpOrDown, AfterWord, TornMark, TornBytes, OneVolume, OtherVolume, Count, TrackNumber, Offset, WriteBytes, CountOrAll, SessionNumber, NoReply, LssNumber, VolumeRange, VolumeList, VolumePair, LssPair, Ports, ControlPath}
+use Rattle.dr_model.specs.declared.grammar.Operand.TheVariants.{ServerName, OtherName, UpOrDown, AfterWord, TornMark, TornBytes, OneVolume, OtherVolume, Count, TrackNumber, Offset, WriteBytes, CountOrAll, SessionNumber, NoReply, LssNumber, VolumeRange, VolumeList, VolumePair, LssPair, EachLss, Ports, ControlPath}
 use Rattle.dr_model.specs.declared.grammar.Options.{Options}
 use Rattle.dr_model.specs.declared.grammar.Operands.{Operands}
 use Rattle.dr_model.specs.declared.grammar.Item.{Item}
@@ -24,7 +24,7 @@ use Rattle.dr_model.specs.LineTable.{setting_word, settings, operands, repeats}
 use Rattle.dr_model.specs.LineSteps.{is_flag, has, flagged, valued, setting_items, setting_number, operand_value, operand_items, no_options, no_operands, no_name, or_zero}
 use Rattle.dr_model.specs.LineText.{name_fits, torn_fits, most_fits, bytes_fit, takes_remote}
 use Rattle.dr_model.specs.Grammar.{Reading, setting_named, setting_at, is_ready, again, or_again, next_operand, filled_after, is_within, grown, value_read, setting_read, with_items, operand_read, next_read, named_read, awaited_read, read_on, start_of}
-use Rattle.dr_script.proofs.WrittenWordLemmas.{passed, mapped, carry, volume_below, lss_below, session_within, decimal_below, sequence_below, most_said, kind_said, name_said, torn_said, write_said, Smalls, smalls-append, range_small, list_small, pair_small, lss_pair_small}
+use Rattle.dr_script.proofs.WrittenWordLemmas.{passed, mapped, carry, volume_below, lss_below, session_within, decimal_below, sequence_below, most_said, kind_said, name_said, torn_said, write_said, Smalls, smalls-append, range_small, list_small, pair_small, lss_pair_small, lss_small}
 use Rattle.dr_ids.proofs.Digits.{number_word_at_most}
 use Rattle.dr_facts.proofs.Options.{bound}
 
@@ -72,6 +72,7 @@ flagged_sound NoCopy t o h = record { remote_ok = h.remote_ok; dev = h.dev; remo
 flagged_sound Persist t o h = record { remote_ok = h.remote_ok; dev = h.dev; remote = h.remote; src = h.src; tgt = h.tgt; kind = h.kind; sequence = h.sequence; lss = h.lss; session = h.session; cginterval = h.cginterval; coordinate = h.coordinate; drain = h.drain }
 flagged_sound Recording t o h = record { remote_ok = h.remote_ok; dev = h.dev; remote = h.remote; src = h.src; tgt = h.tgt; kind = h.kind; sequence = h.sequence; lss = h.lss; session = h.session; cginterval = h.cginterval; coordinate = h.coordinate; drain = h.drain }
 flagged_sound Inhibit t o h = record { remote_ok = h.remote_ok; dev = h.dev; remote = h.remote; src = h.src; tgt = h.tgt; kind = h.kind; sequence = h.sequence; lss = h.lss; session = h.session; cginterval = h.cginterval; coordinate = h.coordinate; drain = h.drain }
+flagged_sound FreezeSource t o h = record { remote_ok = h.remote_ok; dev = h.dev; remote = h.remote; src = h.src; tgt = h.tgt; kind = h.kind; sequence = h.sequence; lss = h.lss; session = h.session; cginterval = h.cginterval; coordinate = h.coordinate; drain = h.drain }
 flagged_sound Sequence t o h = h
 flagged_sound Fast t o h = record { remote_ok = h.remote_ok; dev = h.dev; remote = h.remote; src = h.src; tgt = h.tgt; kind = h.kind; sequence = h.sequence; lss = h.lss; session = h.session; cginterval = h.cginterval; coordinate = h.coordinate; drain = h.drain }
 flagged_sound TargetPprc t o h = record { remote_ok = h.remote_ok; dev = h.dev; remote = h.remote; src = h.src; tgt = h.tgt; kind = h.kind; sequence = h.sequence; lss = h.lss; session = h.session; cginterval = h.cginterval; coordinate = h.coordinate; drain = h.drain }
@@ -141,6 +142,7 @@ valued_sound NoCopy word t o new allowed e h = cc
 valued_sound Persist word t o new allowed e h = cc
 valued_sound Recording word t o new allowed e h = cc
 valued_sound Inhibit word t o new allowed e h = cc
+valued_sound FreezeSource word t o new allowed e h = cc
 valued_sound Fast word t o new allowed e h = cc
 valued_sound TargetPprc word t o new allowed e h = cc
 
@@ -162,6 +164,7 @@ setting_items_small NoCopy word items e = carry Smalls [] items (same_Some _ _ e
 setting_items_small Persist word items e = carry Smalls [] items (same_Some _ _ e) tt
 setting_items_small Recording word items e = carry Smalls [] items (same_Some _ _ e) tt
 setting_items_small Inhibit word items e = carry Smalls [] items (same_Some _ _ e) tt
+setting_items_small FreezeSource word items e = carry Smalls [] items (same_Some _ _ e) tt
 setting_items_small Sequence word items e = carry Smalls [] items (same_Some _ _ e) tt
 setting_items_small Fast word items e = carry Smalls [] items (same_Some _ _ e) tt
 setting_items_small TargetPprc word items e = carry Smalls [] items (same_Some _ _ e) tt
@@ -273,6 +276,8 @@ operand_sound VolumePair word k p new e h =
     carry (OperandsSound (learn VolumePair k)) _ new (same_Some _ _ e) (h)
 operand_sound LssPair word k p new e h =
     carry (OperandsSound (learn LssPair k)) _ new (same_Some _ _ e) (h)
+operand_sound EachLss word k p new e h =
+    carry (OperandsSound (learn EachLss k)) _ new (same_Some _ _ e) (h)
 operand_sound Ports word k p new e h =
     let q = passed (are_ports word) (Some p) new e in
     carry (OperandsSound (learn Ports k)) _ new (same_Some _ _ q.1) (h)
@@ -302,6 +307,7 @@ operand_items_small VolumeRange word items e = range_small word items e
 operand_items_small VolumeList word items e = list_small word items e
 operand_items_small VolumePair word items e = pair_small word items e
 operand_items_small LssPair word items e = lss_pair_small word items e
+operand_items_small EachLss word items e = lss_small word items e
 operand_items_small Ports word items e = carry Smalls [] items (same_Some _ _ e) tt
 operand_items_small ControlPath word items e = carry Smalls [] items (same_Some _ _ e) tt
 
@@ -326,6 +332,7 @@ repeat_learns VolumeRange k e = cc
 repeat_learns VolumeList k e = refl
 repeat_learns VolumePair k e = refl
 repeat_learns LssPair k e = refl
+repeat_learns EachLss k e = refl
 repeat_learns Ports k e = refl
 repeat_learns ControlPath k e = refl
 
@@ -371,6 +378,7 @@ takes_more NoCopy ss e = e
 takes_more Persist ss e = e
 takes_more Recording ss e = e
 takes_more Inhibit ss e = e
+takes_more FreezeSource ss e = e
 takes_more Sequence ss e = e
 takes_more Fast ss e = e
 takes_more TargetPprc ss e = e

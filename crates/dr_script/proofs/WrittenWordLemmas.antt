@@ -13,17 +13,17 @@ use Rattle.std.proofs.lemmas.Int.Digits.{digits_value-lt}
 use Rattle.std.proofs.lemmas.List.FromFn.{get_or-map-range_with_len, length-map-range_with_len, take-map-range_with_len}
 use Rattle.std.proofs.lemmas.Bool.{and_parts, and_from}
 use Rattle.std.proofs.lemmas.Option.{same_Some}
-use Rattle.dr_ids.specs.Spelling.{upper_digit, hex_word, spelled, all_digits, but_zero, up_to, lss_word, volume_word, session_word, number_word}
+use Rattle.dr_ids.specs.Spelling.{upper_digit, hex_word, spelled, all_digits, but_zero, lss_word, volume_word, session_word}
 use Rattle.dr_ids.specs.declared.names.Lss.{Lss}
 use Rattle.dr_ids.specs.declared.names.SessionId.{SessionId}
 use Rattle.dr_ids.specs.declared.names.VolumeId.{VolumeId}
-use Rattle.dr_ids.proofs.Digits.{digits_each, hex_word_below, at_most_up_to, number_word_at_most}
+use Rattle.dr_ids.proofs.Digits.{digits_each, hex_word_below, number_word_at_most}
 use Rattle.dr_model.specs.declared.step.Name.{Name}
 use Rattle.dr_model.specs.declared.step.TornWord.{TornWord}
 use Rattle.dr_model.specs.declared.step.TornWord.TheVariants.{Same, Fill, Bytes}
 use Rattle.dr_model.specs.declared.grammar.Item.{Item}
 use Rattle.dr_model.specs.declared.grammar.Span.{Span}
-use Rattle.dr_model.specs.LineWords.{◌>>=◌, name_word, name_of, is_name, sequence_word, decimal_word, most_word, is_hex, digit_or_zero, byte_at, spelled_bytes, torn_word, torn_bytes_word, one_volume, span_between, span_cut, span_word, span_len, before, behind, items_from, paired, range_items, ranges_items, list_items, is_comma, spans_paired, pair_cut, pair_items, lss_pair_cut, lss_pair_items, mark_at, either_word, kind_word}
+use Rattle.dr_model.specs.LineWords.{◌>>=◌, name_word, name_of, is_name, sequence_word, decimal_word, most_word, is_hex, digit_or_zero, byte_at, spelled_bytes, torn_word, torn_bytes_word, one_volume, span_between, span_cut, span_word, span_len, before, behind, items_from, paired, range_items, ranges_items, list_items, is_comma, spans_paired, pair_cut, pair_items, lss_pair_cut, lss_pair_items, mark_at, either_word, kind_word, lss_items}
 use Rattle.dr_model.specs.LineText.{bytes_text, name_fits, bytes_fit, torn_fits, most_fits}
 use Rattle.dr_script.proofs.ValueLemmas.{byte_past}
 use Rattle.dr_script.proofs.TextLemmas.{upper_is}
@@ -305,6 +305,12 @@ lss_cut_small word (Some colon) items e =
     let x = lss_below (before colon word) a.0 a.1 in
     let y = lss_below (behind colon word) b.0 b.1 in
     carry Smalls _ items (same_Some _ _ b.2) (((omega (arith, x)), (omega (arith, y))), tt)
+
+pub lss_small : (word : List ℕ) (items : List Item) → lss_items word ≡ Some items → Smalls items
+lss_small word items e =
+    let a = bound (lss_word word) (λ l. Some (record { first = l.0; second = l.0 } ∷ [])) items e in
+    let x = lss_below word a.0 a.1 in
+    carry Smalls _ items (same_Some _ _ a.2) (((omega (arith, x)), (omega (arith, x))), tt)
 
 pub lss_pair_small : (word : List ℕ) (items : List Item) → lss_pair_items word ≡ Some items → Smalls items
 lss_pair_small word items e = lss_cut_small word (mark_at 58 word) items e

@@ -2,7 +2,7 @@
 
 ghost use Rattle.std.specs.Prelude.{◌≡◌, ◌++◌, Some, IfOk, OnOk};
 ghost use Rattle.std.specs.List.{slice_split};
-ghost use Rattle.dr_model.specs.LineWords.{span_between, span_word, span_len, paired, range_items, list_items, pair_items, lss_pair_items};
+ghost use Rattle.dr_model.specs.LineWords.{span_between, span_word, span_len, paired, range_items, list_items, pair_items, lss_pair_items, lss_items};
 ghost use Rattle.dr_model.specs.LineWords.{onto};
 ghost use Rattle.dr_script.specs.Pieces.{kept};
 
@@ -127,6 +127,20 @@ pub(crate) fn push_lss_pair(items: &mut Vec<Item>, word: &[u8]) -> Result<bool, 
     items.push(Item {
         first: u16::from(l.0),
         second: u16::from(m.0),
+    })?;
+    Ok(true)
+}
+
+/// Adds a logical subsystem; false where the word is none.
+pub(crate) fn push_each_lss(items: &mut Vec<Item>, word: &[u8]) -> Result<bool, AllocError>
+    ensures { IfOk result (λ stands. onto items.old.items (lss_items word.now) ≡ kept stands items.new.items) }
+{
+    let Some(l) = read_lss(word) else {
+        return Ok(false);
+    };
+    items.push(Item {
+        first: u16::from(l.0),
+        second: u16::from(l.0),
     })?;
     Ok(true)
 }

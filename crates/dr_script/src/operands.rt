@@ -6,7 +6,7 @@ ghost use Rattle.dr_model.specs.LineSteps.{no_name, no_operands, operand_value, 
 ghost use Rattle.dr_model.specs.LineWords.{onto};
 ghost use Rattle.dr_script.specs.Pieces.{kept};
 
-use crate::items::{push_list, push_lss_pair, push_pair, push_range};
+use crate::items::{push_each_lss, push_list, push_lss_pair, push_pair, push_range};
 use crate::values::{
     are_ports, either, empty_name, is_control_path, is_hex, is_word, read_decimal, read_most,
     read_name, read_torn, spelled_bytes, zero_block,
@@ -169,6 +169,7 @@ pub(crate) fn push_operand_items(
         Operand::VolumeList => push_list(items, word),
         Operand::VolumePair => push_pair(items, word),
         Operand::LssPair => push_lss_pair(items, word),
+        Operand::EachLss => push_each_lss(items, word),
         _ => Ok(true),
     }
 }

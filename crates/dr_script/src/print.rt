@@ -258,6 +258,7 @@ fn push_operand_text(
         Operand::VolumeRange | Operand::VolumeList => push_hex4(text, item.first),
         Operand::VolumePair => push_volume_pair(text, item),
         Operand::LssPair => push_lss_pair(text, item),
+        Operand::EachLss => push_lss(text, item.first),
         Operand::Ports => text.append(b"I0000:I0000"),
         Operand::ControlPath => Ok(()),
     }

@@ -407,6 +407,7 @@ fn flash_saying(step: &Step) -> Option<Saying>
             persistent,
             recorded,
             inhibited,
+            freeze,
             sequence,
         } => for_item(
             Command::Mkflash,
@@ -416,6 +417,7 @@ fn flash_saying(step: &Step) -> Option<Saying>
                 persistent,
                 recorded,
                 inhibited,
+                freeze,
                 sequence,
                 ..no_options()
             },
@@ -505,6 +507,12 @@ fn flash_saying(step: &Step) -> Option<Saying>
             },
             source,
             source,
+        ),
+        Step::UnfreezeFlash { devs, lss } => for_item(
+            Command::Unfreezeflash,
+            given(devs),
+            u16::from(lss),
+            u16::from(lss),
         ),
         _ => return None,
     };

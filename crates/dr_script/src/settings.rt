@@ -36,6 +36,7 @@ pub(crate) fn no_options() -> Options
         persistent: false,
         recorded: false,
         inhibited: false,
+        freeze: false,
         sequence: None,
         fast: false,
         tgtpprc: false,
@@ -71,6 +72,7 @@ pub(crate) fn has(setting: Setting, options: &Options) -> bool
         Setting::Persist => options.persistent,
         Setting::Recording => options.recorded,
         Setting::Inhibit => options.inhibited,
+        Setting::FreezeSource => options.freeze,
         Setting::Sequence => options.sequence.is_some(),
         Setting::Fast => options.fast,
         Setting::TargetPprc => options.tgtpprc,
@@ -98,6 +100,7 @@ pub(crate) fn flag(setting: Setting, options: &mut Options)
         Setting::Persist => options.persistent = true,
         Setting::Recording => options.recorded = true,
         Setting::Inhibit => options.inhibited = true,
+        Setting::FreezeSource => options.freeze = true,
         Setting::Fast => options.fast = true,
         Setting::TargetPprc => options.tgtpprc = true,
         _ => {}

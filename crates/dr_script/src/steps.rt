@@ -182,6 +182,7 @@ pub(crate) fn step_of(command: Command, options: &Options, operands: &Operands, 
             persistent: options.persistent,
             recorded: options.recorded,
             inhibited: options.inhibited,
+            freeze: options.freeze,
             sequence: options.sequence,
         },
         Command::Rmflash => Step::RemoveFlash {
@@ -216,6 +217,10 @@ pub(crate) fn step_of(command: Command, options: &Options, operands: &Operands, 
             devs: options.devs,
             source: item.first,
             sequence: options.sequence,
+        },
+        Command::Unfreezeflash => Step::UnfreezeFlash {
+            devs: options.devs,
+            lss: lss_in(item.first),
         },
         Command::Mksession => Step::MakeSession {
             devs: options.devs,

@@ -48,6 +48,7 @@ pub(crate) fn commands() -> &'static [Command]
         Command::Reverseflash,
         Command::Commitflash,
         Command::Revertflash,
+        Command::Unfreezeflash,
         Command::Mksession,
         Command::Chsession,
         Command::Rmsession,
@@ -102,6 +103,7 @@ pub(crate) fn command_word(command: Command) -> &'static [u8]
         Command::Reverseflash => b"reverseflash",
         Command::Commitflash => b"commitflash",
         Command::Revertflash => b"revertflash",
+        Command::Unfreezeflash => b"unfreezeflash",
         Command::Mksession => b"mksession",
         Command::Chsession => b"chsession",
         Command::Rmsession => b"rmsession",
@@ -136,6 +138,7 @@ pub(crate) fn setting_word(setting: Setting) -> &'static [u8]
         Setting::Persist => b"-persist",
         Setting::Recording => b"-record",
         Setting::Inhibit => b"-tgtinhibit",
+        Setting::FreezeSource => b"-freeze",
         Setting::Sequence => b"-seqnum",
         Setting::Fast => b"-fast",
         Setting::TargetPprc => b"-tgtpprc",
@@ -196,11 +199,21 @@ pub(crate) fn settings(command: Command) -> &'static [Setting]
             Setting::RemoteDev,
             Setting::PairType,
         ],
-        Command::Lsflash | Command::Lssession | Command::Showgmir => &[
+        Command::Lsflash | Command::Unfreezeflash | Command::Lssession | Command::Showgmir => &[
             Setting::Quiet,
             Setting::Dev,
         ],
-        Command::Mkflash | Command::Resyncflash => &[
+        Command::Mkflash => &[
+            Setting::Quiet,
+            Setting::Dev,
+            Setting::NoCopy,
+            Setting::Persist,
+            Setting::Recording,
+            Setting::Inhibit,
+            Setting::FreezeSource,
+            Setting::Sequence,
+        ],
+        Command::Resyncflash => &[
             Setting::Quiet,
             Setting::Dev,
             Setting::NoCopy,
@@ -318,6 +331,7 @@ pub(crate) fn needed(command: Command) -> &'static [Setting]
         | Command::Resyncflash
         | Command::Commitflash
         | Command::Revertflash
+        | Command::Unfreezeflash
         | Command::Lssession
         | Command::Showgmir => &[],
     }
@@ -366,6 +380,7 @@ pub(crate) fn operands(command: Command) -> &'static [Operand]
         Command::Lspprc | Command::Lsflash | Command::Commitflash | Command::Revertflash => &[
             Operand::VolumeList,
         ],
+        Command::Unfreezeflash => &[Operand::EachLss],
         Command::Lssession | Command::Showgmir => &[Operand::LssNumber],
         Command::Mkgmir | Command::Resumegmir | Command::Pausegmir | Command::Rmgmir => &[
             Operand::ControlPath,
@@ -397,6 +412,7 @@ pub(crate) fn is_flag(setting: Setting) -> bool
             | Setting::Persist
             | Setting::Recording
             | Setting::Inhibit
+            | Setting::FreezeSource
             | Setting::Fast
             | Setting::TargetPprc
     )
@@ -411,6 +427,7 @@ pub(crate) fn repeats(operand: Operand) -> bool
         Operand::VolumeList
             | Operand::VolumePair
             | Operand::LssPair
+            | Operand::EachLss
             | Operand::Ports
             | Operand::ControlPath
     )
@@ -454,6 +471,7 @@ pub(crate) fn own_steps(command: Command) -> usize
         | Command::Reverseflash
         | Command::Commitflash
         | Command::Revertflash
+        | Command::Unfreezeflash
         | Command::Chsession => 0,
         _ => 1,
     }

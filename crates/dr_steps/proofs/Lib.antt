@@ -61,6 +61,7 @@ pub mod PathLemmas
 pub mod CarriesLemmas
 pub mod DrainLemmas
 pub mod FreezeLemmas
+pub mod ReleaseLemmas
 pub mod SessionLemmas
 pub mod MemberLemmas
 pub mod ExchangeLemmas

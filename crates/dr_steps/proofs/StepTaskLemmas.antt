@@ -18,7 +18,7 @@ use Rattle.dr_model.specs.declared.said.Said.{Said}
 use Rattle.dr_model.specs.declared.said.Said.TheVariants.{Done, Held, Refused}
 use Rattle.dr_model.specs.declared.step.Name.{Name}
 use Rattle.dr_model.specs.declared.step.Step.{Step}
-use Rattle.dr_model.specs.declared.step.Step.TheVariants.{Server, Volume, Link, Stop, StopAfter, Start, Issue, Write, Apply, Show, MakeFlash, RemoveFlash, ResyncFlash, ReverseFlash, Copy, MakePath, RemovePath, MakePair, RemovePair, PausePair, ResumePair, Failover, Failback, Drain, Expire, Freeze, Unfreeze, MakeSession, RemoveSession, AddMember, RemoveMember, MakeMirror, PauseMirror, ResumeMirror, RemoveMirror, Abort, Exchange, Run, Compare, Image, Recover, CommitFlash, RevertFlash, ListPairs, ListFlashes, ListSession, ShowMirror}
+use Rattle.dr_model.specs.declared.step.Step.TheVariants.{Server, Volume, Link, Stop, StopAfter, Start, Issue, Write, Apply, Show, MakeFlash, RemoveFlash, ResyncFlash, ReverseFlash, UnfreezeFlash, Copy, MakePath, RemovePath, MakePair, RemovePair, PausePair, ResumePair, Failover, Failback, Drain, Expire, Freeze, Unfreeze, MakeSession, RemoveSession, AddMember, RemoveMember, MakeMirror, PauseMirror, ResumeMirror, RemoveMirror, Abort, Exchange, Run, Compare, Image, Recover, CommitFlash, RevertFlash, ListPairs, ListFlashes, ListSession, ShowMirror}
 use Rattle.dr_model.specs.declared.step.TornWord.{TornWord}
 use Rattle.dr_model.specs.declared.step.Devs.{Devs}
 use Rattle.dr_model.specs.declared.step.PairChoices.{PairChoices}
@@ -125,18 +125,20 @@ none-recovery _ recover commit revert = refl
 
 -- or none of those on relationships
 pub none-relation : (step : Step)
-    → ((d : Devs) (s t : ℕ) (a b c e : Bool) (n : Option ℕ) → step ≡ MakeFlash d s t a b c e n → ⊥)
+    → ((d : Devs) (s t : ℕ) (a b c e f : Bool) (n : Option ℕ) → step ≡ MakeFlash d s t a b c e f n → ⊥)
     → ((d : Devs) (s t : ℕ) (n : Option ℕ) → step ≡ RemoveFlash d s t n → ⊥)
     → ((d : Devs) (s t : ℕ) (a b c e : Bool) (n : Option ℕ) → step ≡ ResyncFlash d s t a b c e n → ⊥)
     → ((d : Devs) (s t : ℕ) (p : Bool) (n : Option ℕ) → step ≡ ReverseFlash d s t p n → ⊥)
+    → ((d : Devs) (l : ℕ) → step ≡ UnfreezeFlash d l → ⊥)
     → ((t : ℕ) (most : Option ℕ) → step ≡ Copy t most → ⊥)
     → is_relation step ≡ false
-none-relation (MakeFlash d s t a b c e n) make remove resync reverse copy = absurd (make d s t a b c e n refl)
-none-relation (RemoveFlash d s t n) make remove resync reverse copy = absurd (remove d s t n refl)
-none-relation (ResyncFlash d s t a b c e n) make remove resync reverse copy = absurd (resync d s t a b c e n refl)
-none-relation (ReverseFlash d s t p n) make remove resync reverse copy = absurd (reverse d s t p n refl)
-none-relation (Copy t most) make remove resync reverse copy = absurd (copy t most refl)
-none-relation _ make remove resync reverse copy = refl
+none-relation (MakeFlash d s t a b c e f n) make remove resync reverse release copy = absurd (make d s t a b c e f n refl)
+none-relation (RemoveFlash d s t n) make remove resync reverse release copy = absurd (remove d s t n refl)
+none-relation (ResyncFlash d s t a b c e n) make remove resync reverse release copy = absurd (resync d s t a b c e n refl)
+none-relation (ReverseFlash d s t p n) make remove resync reverse release copy = absurd (reverse d s t p n refl)
+none-relation (UnfreezeFlash d l) make remove resync reverse release copy = absurd (release d l refl)
+none-relation (Copy t most) make remove resync reverse release copy = absurd (copy t most refl)
+none-relation _ make remove resync reverse release copy = refl
 
 -- or none of those on a pair that stays as it lies
 pub none-pair : (step : Step)

@@ -8,13 +8,13 @@ use Rattle.std.proofs.lemmas.Bool.Decides.{nat_tests}
 use Rattle.dr_model.specs.declared.step.Name.{Name}
 use Rattle.dr_model.specs.declared.step.Devs.{Devs}
 use Rattle.dr_model.specs.declared.step.Step.{Step}
-use Rattle.dr_model.specs.declared.step.Step.TheVariants.{Server, Volume, Link, Stop, StopAfter, Start, Issue, Write, MakeFlash, RemoveFlash, ResyncFlash, ReverseFlash, MakePath, RemovePath, MakePair, RemovePair, PausePair, ResumePair, Failover, Failback, Expire, Freeze, Unfreeze, MakeSession, RemoveSession, AddMember, RemoveMember, MakeMirror, PauseMirror, ResumeMirror, RemoveMirror, Exchange, CommitFlash, RevertFlash, ListPairs, ListFlashes, ListSession, ShowMirror}
+use Rattle.dr_model.specs.declared.step.Step.TheVariants.{Server, Volume, Link, Stop, StopAfter, Start, Issue, Write, MakeFlash, RemoveFlash, ResyncFlash, ReverseFlash, UnfreezeFlash, MakePath, RemovePath, MakePair, RemovePair, PausePair, ResumePair, Failover, Failback, Expire, Freeze, Unfreeze, MakeSession, RemoveSession, AddMember, RemoveMember, MakeMirror, PauseMirror, ResumeMirror, RemoveMirror, Exchange, CommitFlash, RevertFlash, ListPairs, ListFlashes, ListSession, ShowMirror}
 use Rattle.dr_model.specs.LineTable as table
 use Rattle.dr_model.specs.LineText as line
 use Rattle.dr_model.specs.LineText.{at_sign, for_item, for_lss, for_session, said_fits, said_operands, settings_fit, operands_fit, remote_fits, IsWritten, name_fits, name_text, bytes_fit}
 use Rattle.dr_model.specs.LineSteps.{has, no_options, no_operands, no_name}
 use Rattle.dr_model.specs.declared.grammar.Saying.{Saying}
-use Rattle.dr_model.specs.declared.grammar.Command.TheVariants.{AtServer, AtVolume, AtLink, AtStop, AtStart, AtExpire, AtIssue, AtWrite, Mkflash, Rmflash, Resyncflash, Reverseflash, Mkpprcpath, Rmpprcpath, Mkpprc, Rmpprc, Pausepprc, Resumepprc, Failoverpprc, Failbackpprc, Freezepprc, Unfreezepprc, AtExchange, Mksession, Rmsession, Chsession, Mkgmir, Resumegmir, Pausegmir, Rmgmir, Commitflash, Revertflash, Lspprc, Lsflash, Lssession, Showgmir}
+use Rattle.dr_model.specs.declared.grammar.Command.TheVariants.{AtServer, AtVolume, AtLink, AtStop, AtStart, AtExpire, AtIssue, AtWrite, Mkflash, Rmflash, Resyncflash, Reverseflash, Unfreezeflash, Mkpprcpath, Rmpprcpath, Mkpprc, Rmpprc, Pausepprc, Resumepprc, Failoverpprc, Failbackpprc, Freezepprc, Unfreezepprc, AtExchange, Mksession, Rmsession, Chsession, Mkgmir, Resumegmir, Pausegmir, Rmgmir, Commitflash, Revertflash, Lspprc, Lsflash, Lssession, Showgmir}
 use Rattle.dr_model.specs.LineWords.{is_name, is_name_byte, begins_with_letter}
 use Rattle.dr_steps.specs.WellFormed.{FitsName, FitsOwner, FitsDevs, IsWellFormed}
 
@@ -90,13 +90,14 @@ written-fits (Start name) h = one-name name true (operands-fit (at_sign AtStart 
 written-fits (Expire name) h = one-name name true (operands-fit (at_sign AtExpire (record no_operands { server = name })) h)
 written-fits (Issue v t offset len bytes) h = write-operands v t offset len bytes (operands-fit (at_sign AtIssue (record no_operands { volume = v; track = t; offset = offset; len = len; bytes = bytes })) h)
 written-fits (Write v t offset len bytes) h = write-operands v t offset len bytes (operands-fit (at_sign AtWrite (record no_operands { volume = v; track = t; offset = offset; len = len; bytes = bytes })) h)
-written-fits (MakeFlash devs s t nocopy persistent recorded inhibited sequence) h =
-    owner-fits devs.dev _ (settings-fit (for_item Mkflash (record no_options { devs = devs; nocopy = nocopy; persistent = persistent; recorded = recorded; inhibited = inhibited; sequence = sequence }) s t) h)
+written-fits (MakeFlash devs s t nocopy persistent recorded inhibited freeze sequence) h =
+    owner-fits devs.dev _ (settings-fit (for_item Mkflash (record no_options { devs = devs; nocopy = nocopy; persistent = persistent; recorded = recorded; inhibited = inhibited; freeze = freeze; sequence = sequence }) s t) h)
 written-fits (RemoveFlash devs s t sequence) h = owner-fits devs.dev _ (settings-fit (for_item Rmflash (record no_options { devs = devs; sequence = sequence }) s t) h)
 written-fits (ResyncFlash devs s t nocopy persistent recorded inhibited sequence) h =
     owner-fits devs.dev _ (settings-fit (for_item Resyncflash (record no_options { devs = devs; nocopy = nocopy; persistent = persistent; recorded = recorded; inhibited = inhibited; sequence = sequence }) s t) h)
 written-fits (ReverseFlash devs s t tgtpprc sequence) h =
     owner-fits devs.dev _ (settings-fit (for_item Reverseflash (record no_options { devs = devs; sequence = sequence; fast = true; tgtpprc = tgtpprc }) s t) h)
+written-fits (UnfreezeFlash devs l) h = owner-fits devs.dev _ (settings-fit (for_item Unfreezeflash (record no_options { devs = devs }) l l) h)
 written-fits (CommitFlash devs source sequence) h = owner-fits devs.dev _ (settings-fit (for_item Commitflash (record no_options { devs = devs; sequence = sequence }) source source) h)
 written-fits (RevertFlash devs source sequence) h = owner-fits devs.dev _ (settings-fit (for_item Revertflash (record no_options { devs = devs; sequence = sequence }) source source) h)
 written-fits (MakePath devs src tgt group) h = devs-fit devs _ (settings-fit (for_item Mkpprcpath (record no_options { devs = devs; src = Some src; tgt = Some tgt; group = group }) 0 0) h)

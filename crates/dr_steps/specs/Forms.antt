@@ -1,7 +1,7 @@
 -- Forms of steps.
 use Rattle.std.specs.Prelude.{Bool, true, false}
 use Rattle.dr_model.specs.declared.step.Step.{Step}
-use Rattle.dr_model.specs.declared.step.Step.TheVariants.{Server, Volume, Link, Stop, StopAfter, Start, Issue, Write, Apply, Show, MakePath, RemovePath, Expire, Freeze, Unfreeze, MakeFlash, RemoveFlash, ResyncFlash, ReverseFlash, Copy, MakePair, RemovePair, PausePair, ResumePair, Drain, MakeSession, RemoveSession, AddMember, RemoveMember, MakeMirror, PauseMirror, ResumeMirror, RemoveMirror, Abort, Exchange, Recover, CommitFlash, RevertFlash, ListPairs, ListFlashes, ListSession, ShowMirror}
+use Rattle.dr_model.specs.declared.step.Step.TheVariants.{Server, Volume, Link, Stop, StopAfter, Start, Issue, Write, Apply, Show, MakePath, RemovePath, Expire, Freeze, Unfreeze, MakeFlash, RemoveFlash, ResyncFlash, ReverseFlash, UnfreezeFlash, Copy, MakePair, RemovePair, PausePair, ResumePair, Drain, MakeSession, RemoveSession, AddMember, RemoveMember, MakeMirror, PauseMirror, ResumeMirror, RemoveMirror, Abort, Exchange, Recover, CommitFlash, RevertFlash, ListPairs, ListFlashes, ListSession, ShowMirror}
 
 -- those on servers, volumes, paths and host writes, freezes and thaws, and listings
 abbrev pub is_plain : Step → Bool
@@ -26,12 +26,13 @@ is_plain (ListSession devs l) = true
 is_plain (ShowMirror devs l) = true
 is_plain _ = false
 
--- those on FlashCopy relationships
+-- those on FlashCopy relationships and flash holds
 abbrev pub is_relation : Step → Bool
-is_relation (MakeFlash devs s t nocopy persistent recorded inhibited sequence) = true
+is_relation (MakeFlash devs s t nocopy persistent recorded inhibited freeze sequence) = true
 is_relation (RemoveFlash devs s t sequence) = true
 is_relation (ResyncFlash devs s t nocopy persistent recorded inhibited sequence) = true
 is_relation (ReverseFlash devs s t tgtpprc sequence) = true
+is_relation (UnfreezeFlash devs l) = true
 is_relation (Copy t most) = true
 is_relation _ = false
 

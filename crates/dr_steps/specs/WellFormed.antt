@@ -3,7 +3,7 @@ use Rattle.std.specs.Prelude.{◌+◌, ◌≤◌, Option, Some, None}
 use Rattle.dr_model.specs.declared.step.Name.{Name}
 use Rattle.dr_model.specs.declared.step.Devs.{Devs}
 use Rattle.dr_model.specs.declared.step.Step.{Step}
-use Rattle.dr_model.specs.declared.step.Step.TheVariants.{Server, Volume, Link, Stop, StopAfter, Start, Issue, Write, MakeFlash, RemoveFlash, ResyncFlash, ReverseFlash, MakePath, RemovePath, MakePair, RemovePair, PausePair, ResumePair, Failover, Failback, Expire, Freeze, Unfreeze, MakeSession, RemoveSession, AddMember, RemoveMember, MakeMirror, PauseMirror, ResumeMirror, RemoveMirror, Exchange, CommitFlash, RevertFlash, ListPairs, ListFlashes, ListSession, ShowMirror}
+use Rattle.dr_model.specs.declared.step.Step.TheVariants.{Server, Volume, Link, Stop, StopAfter, Start, Issue, Write, MakeFlash, RemoveFlash, ResyncFlash, ReverseFlash, UnfreezeFlash, MakePath, RemovePath, MakePair, RemovePair, PausePair, ResumePair, Failover, Failback, Expire, Freeze, Unfreeze, MakeSession, RemoveSession, AddMember, RemoveMember, MakeMirror, PauseMirror, ResumeMirror, RemoveMirror, Exchange, CommitFlash, RevertFlash, ListPairs, ListFlashes, ListSession, ShowMirror}
 
 -- a name has 1 to 24 bytes
 abbrev pub FitsName : Name → Type 0
@@ -29,10 +29,11 @@ IsWellFormed (Start name) = FitsName name
 IsWellFormed (Expire name) = FitsName name
 IsWellFormed (Issue v t offset len bytes) = (1 ≤ len) × (offset + len ≤ 64)
 IsWellFormed (Write v t offset len bytes) = (1 ≤ len) × (offset + len ≤ 64)
-IsWellFormed (MakeFlash devs s t nocopy persistent recorded inhibited sequence) = FitsOwner devs.dev
+IsWellFormed (MakeFlash devs s t nocopy persistent recorded inhibited freeze sequence) = FitsOwner devs.dev
 IsWellFormed (RemoveFlash devs s t sequence) = FitsOwner devs.dev
 IsWellFormed (ResyncFlash devs s t nocopy persistent recorded inhibited sequence) = FitsOwner devs.dev
 IsWellFormed (ReverseFlash devs s t tgtpprc sequence) = FitsOwner devs.dev
+IsWellFormed (UnfreezeFlash devs l) = FitsOwner devs.dev
 IsWellFormed (MakePath devs src tgt group) = FitsDevs devs
 IsWellFormed (RemovePath devs src tgt force) = FitsDevs devs
 IsWellFormed (Freeze devs l m) = FitsDevs devs

@@ -1,4 +1,4 @@
-//! Answers of lines, and the room that the journal has for them.
+//! Answers of lines, those that calls of several kinds come to, and the room that the journal has for them.
 
 ghost use Rattle.std.specs.Prelude.{◌≡◌, ◌+◌, ◌<◌, ◌≤◌, ◌++◌, [], ◌∷◌, length, false, IsOk, OnOk, OnErr};
 ghost use Rattle.dr_ids.specs.declared.refusal.Refusal.{Refusal};
@@ -7,9 +7,10 @@ ghost use Rattle.dr_model.specs.Limits.{most_events, image_events};
 ghost use Rattle.dr_model.specs.Log.{memory_for};
 ghost use Rattle.dr_model.specs.Plans.{has_room, has_room_for};
 ghost use Rattle.dr_model.specs.declared.said.Said.TheVariants.{Refused};
+ghost use Rattle.dr_steps.specs.Here.{widened, refused, answer_widened, all_done};
 
-use dr_ids::{MOST_EVENTS, Refusal};
-use dr_model::{Journal, Said};
+use dr_ids::{Fault, MOST_EVENTS, Refusal};
+use dr_model::{Addition, Journal, Said};
 use std::alloc::AllocError;
 
 /// The room that a step needs in the journal before it begins.
@@ -63,4 +64,44 @@ pub fn refuse_syntax(journal: &mut Journal, number: u32, column: u16) -> Result<
         → memory_for (length journal.old.events + journal.old.spare) < memory_for (length journal.old.events + 1)) }
 {
     refuse(journal, number, Refusal::Syntax { column })
+}
+
+/// A call that wants no memory, among those that may.
+pub fn widened(carried: Result<Addition, Refusal>) -> Result<Said, Fault>
+    ensures { result ≡ widened carried }
+{
+    match carried {
+        Ok(added) => Ok(Said::Done(added)),
+        Err(refusal) => Err(Fault::Refused(refusal)),
+    }
+}
+
+/// The same of a call among those that may want memory.
+pub fn refused(carried: Result<Addition, Refusal>) -> Result<Addition, Fault>
+    ensures { result ≡ refused carried }
+{
+    match carried {
+        Ok(added) => Ok(added),
+        Err(refusal) => Err(Fault::Refused(refusal)),
+    }
+}
+
+/// The same of a call that may be answered in other ways than done.
+pub fn answer_widened(carried: Result<Said, Refusal>) -> Result<Said, Fault>
+    ensures { result ≡ answer_widened carried }
+{
+    match carried {
+        Ok(answer) => Ok(answer),
+        Err(refusal) => Err(Fault::Refused(refusal)),
+    }
+}
+
+/// A call that is done where it isn't refused, among those that may be answered in other ways.
+pub fn all_done(carried: Result<Addition, Fault>) -> Result<Said, Fault>
+    ensures { result ≡ all_done carried }
+{
+    match carried {
+        Ok(added) => Ok(Said::Done(added)),
+        Err(fault) => Err(fault),
+    }
 }

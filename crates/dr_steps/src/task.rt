@@ -14,17 +14,19 @@ ghost use Rattle.dr_model.specs.declared.said.Said.TheVariants.{Refused};
 ghost use Rattle.dr_model.specs.declared.step.Step.{Step};
 ghost use Rattle.dr_steps.specs.Faults.{CountsStop, told_stop};
 ghost use Rattle.dr_steps.specs.Forms.{is_plain, is_relation, is_session, is_recovery};
-ghost use Rattle.dr_steps.specs.Here.{here, said_of, widened, refused, answer_widened, all_done, OnAnswer, OnSaid, OnNoMemory, StepLeads, IsReady};
+ghost use Rattle.dr_steps.specs.Here.{here, said_of, OnAnswer, OnSaid, OnNoMemory, StepLeads, IsReady};
 ghost use Rattle.dr_steps.specs.Wants.{WantsRow, WantsMemory};
 ghost use Rattle.dr_steps.specs.WellFormed.{IsWellFormed};
 
-use crate::answers::{STEP_EVENTS, has_room, refuse, say};
+use crate::answers::{
+    STEP_EVENTS, all_done, answer_widened, has_room, refuse, refused, say, widened,
+};
 use crate::background::copy;
 use crate::comparing::carry_compare;
 use crate::define::{define_server, define_volume, set_link};
 use crate::exchanges::exchange;
 use crate::expiry::expire;
-use crate::flash::{make_flash, remove_flash, resync_flash, reverse_flash};
+use crate::flash::{make_flash, remove_flash, resync_flash, reverse_flash, unfreeze_flash};
 use crate::forming::carry_run;
 use crate::freezing::{freeze, unfreeze};
 use crate::imaging::carry_image;
@@ -48,47 +50,7 @@ use dr_moves::FlashOptions;
 use dr_plant::Plant;
 use std::alloc::AllocError;
 
-/// A call that wants no memory, among those that may.
-fn widened(carried: Result<Addition, Refusal>) -> Result<Said, Fault>
-    ensures { result ≡ widened carried }
-{
-    match carried {
-        Ok(added) => Ok(Said::Done(added)),
-        Err(refusal) => Err(Fault::Refused(refusal)),
-    }
-}
-
-/// The same of a call among those that may want memory.
-fn refused(carried: Result<Addition, Refusal>) -> Result<Addition, Fault>
-    ensures { result ≡ refused carried }
-{
-    match carried {
-        Ok(added) => Ok(added),
-        Err(refusal) => Err(Fault::Refused(refusal)),
-    }
-}
-
-/// The same of a call that may be answered in other ways than done.
-fn answer_widened(carried: Result<Said, Refusal>) -> Result<Said, Fault>
-    ensures { result ≡ answer_widened carried }
-{
-    match carried {
-        Ok(answer) => Ok(answer),
-        Err(refusal) => Err(Fault::Refused(refusal)),
-    }
-}
-
-/// A call that is done where it isn't refused, among those that may be answered in other ways.
-fn all_done(carried: Result<Addition, Fault>) -> Result<Said, Fault>
-    ensures { result ≡ all_done carried }
-{
-    match carried {
-        Ok(added) => Ok(Said::Done(added)),
-        Err(fault) => Err(fault),
-    }
-}
-
-/// Carries out a step on a FlashCopy relationship.
+/// Carries out a step on a FlashCopy relationship, or the end of flash holds.
 fn carry_relation<P: Plant>(
     plant: &mut P,
     config: &Config,
@@ -119,6 +81,7 @@ fn carry_relation<P: Plant>(
             persistent,
             recorded,
             inhibited,
+            freeze,
             sequence,
         } => {
             let options = FlashOptions {
@@ -136,6 +99,7 @@ fn carry_relation<P: Plant>(
                 &devs.dev,
                 VolumeId(s),
                 VolumeId(t),
+                freeze,
                 &options,
             )
         }
@@ -178,6 +142,9 @@ fn carry_relation<P: Plant>(
                 VolumeId(s),
                 VolumeId(t),
             )
+        }
+        Step::UnfreezeFlash { devs, lss } => {
+            unfreeze_flash(plant, config, tables, journal, &devs.dev, Lss(lss))
         }
         Step::Copy { volume, most } => {
             copy(plant, config, tables, journal, VolumeId(volume), most)

@@ -30,6 +30,8 @@ use Rattle.dr_laws_freezes.proofs.FairSteps.{cut-run}
 use Rattle.dr_laws_freezes.proofs.Betweens.{in-sync-run}
 use Rattle.dr_laws_freezes.proofs.FreezesHold.{freezes-hold}
 use Rattle.dr_laws_freezes.proofs.EndsInCut.{ends-in-cut}
+use Rattle.dr_laws_flashes.specs.Windows.{EndsInFlashCut}
+use Rattle.dr_laws_flashes.proofs.EndsInCut.{ends-in-flash-cut}
 use Rattle.dr_laws_recovery.specs.Recovered.{HoldsTracks}
 use Rattle.dr_laws_recovery.specs.Stored.{StoredAtCuts}
 use Rattle.dr_laws_recovery.proofs.Stored.{stored-run}
@@ -120,11 +122,18 @@ module _ (s : PlantState) (t : ConfigTable) (h : Tables) (ev : List Event) (soun
       ∙ ap (λ (x : Volume). physical x.tracks (s.block l.0) k) seen
       ∙ sym (track-placed s t v l.0 k l.1 l.2 l.3 ∙ ap (λ b. cond b (physical l.1.tracks (s.block l.0) k) zeros) (let e : nat_lt k l.1.tracks ≡ true = grind (arith, nat_tests, low) in e))
 
+  -- the same of each run that leads here
+  led-here : (tasks : List Task) → run tasks ≡ here s t h ev → (v k : ℕ) → is_volume (run tasks).control v ≡ true → k < ((run tasks).control.volume v).tracks → on_device (run tasks).control s.block v k ≡ (run tasks).contents v k
+  led-here tasks leads =
+      subst (λ (w : World). (v k : ℕ) → is_volume w.control v ≡ true → k < (w.control.volume v).tracks → on_device w.control s.block v k ≡ w.contents v k) (sym leads) tracks-here
+
   -- where a freeze window ends here, the devices contain the cut
   pub frozen-here : (tasks : List Task) → run tasks ≡ here s t h ev → EndsInCut tasks s.block
-  frozen-here tasks leads =
-      ends-in-cut tasks s.block (cut-run tasks)
-      (subst (λ (w : World). (v k : ℕ) → is_volume w.control v ≡ true → k < (w.control.volume v).tracks → on_device w.control s.block v k ≡ w.contents v k) (sym leads) tracks-here)
+  frozen-here tasks leads = ends-in-cut tasks s.block (cut-run tasks) (led-here tasks leads)
+
+  -- where a flash window does, the targets show theirs
+  pub flash-here : (tasks : List Task) → run tasks ≡ here s t h ev → EndsInFlashCut tasks s.block
+  flash-here tasks leads = ends-in-flash-cut tasks s.block (led-here tasks leads)
 
   pub fits-here : Sound (here s t h ev) → Fits (here s t h ev) s.on (λ server. fuse_seen (s.write_fuse server)) s.block
   fits-here is = fits-sound (here s t h ev) s.on (λ server. fuse_seen (s.write_fuse server)) s.block is
@@ -176,6 +185,7 @@ stands-here s0 s t h ev sound ready room stops steps leads lists images =
       fits = fits;
       holds = holds;
       frozen = frozen-here s t h ev sound;
+      flash_cut = flash-here s t h ev sound;
       seals = seals-on steps w s.on fuse s.block leads fits;
       closed = λ i n. subst (λ (x : World). ClosedCuts x.events i n) leads (closed-run steps i n);
       held = λ tasks goes i n. holds-run tasks w goes i n;

@@ -17,6 +17,7 @@ use Rattle.dr_laws_sound.specs.Showing.{ShowsDevices}
 use Rattle.dr_laws_freezes.specs.Windows.{EndsInCut}
 use Rattle.dr_laws_freezes.specs.Frozen.{FreezesHold}
 use Rattle.dr_laws_freezes.specs.InSync.{DuplexInSync}
+use Rattle.dr_laws_flashes.specs.Windows.{EndsInFlashCut}
 use Rattle.dr_laws_recovery.specs.Seals.{SealsOn}
 use Rattle.dr_laws_recovery.specs.Decided.{DecidesOn}
 use Rattle.dr_laws_recovery.specs.Headline.{Headline}
@@ -40,15 +41,15 @@ pub record HasDevices (w : World) (s : PlantState) : Type 0 where
 -- text reads as this image, and recovery makes of it what it would make in that world; and where the last step is an image, it listed the
 -- devices as they are, and gives back of each session what they do. The plant fits the world: each track of each volume contains on its
 -- device what it contains in that world, and reads as the host writes say. Where a sound freeze window ends with it, the devices of the
--- secondaries contain the cut; each secondary that is sealed contains its own; the cuts of the group of each attempt are closed, and hold
--- all that they should; and by what the devices say alone, it is possible to decide over each session. And the headline: of each session
--- that is defined, the devices give back one cut of the host's acknowledged writes, that of its newest group. Of the steps it says which may
--- take a write away, that what is acknowledged is what was answered, that what is formed is what recovery finds, that after a freeze no
--- write lands until a step lets it, that a Full Duplex primary is in sync where its server runs, and that a refused step changes nothing
--- but what is named. What the last step showed is on the devices, and a write that a secondary stored was acknowledged, or a server
--- stopped. Where a pair is in place by the records on both devices, these contain the same on each track that isn't recorded; what a
--- comparison answered as the last step is what the devices contain; and where a failback and a drain behind it were answered ok, the pair is
--- turned round, and both devices contain what the host writes make.
+-- secondaries contain the cut, and where a sound flash window does, the targets show theirs; each secondary that is sealed contains its
+-- own; the cuts of the group of each attempt are closed, and hold all that they should; and by what the devices say alone, it is possible
+-- to decide over each session. And the headline: of each session that is defined, the devices give back one cut of the host's acknowledged
+-- writes, that of its newest group. Of the steps it says which may take a write away, that what is acknowledged is what was answered, that
+-- what is formed is what recovery finds, that after a freeze no write lands until a step lets it, that a Full Duplex primary is in sync
+-- where its server runs, and that a refused step changes nothing but what is named. What the last step showed is on the devices, and a
+-- write that a secondary stored was acknowledged, or a server stopped. Where a pair is in place by the records on both devices, these
+-- contain the same on each track that isn't recorded; what a comparison answered as the last step is what the devices contain; and where a
+-- failback and a drain behind it were answered ok, the pair is turned round, and both devices contain what the host writes make.
 pub record Stands (steps : List Task) (world : World) (events : List Event) (s s' : PlantState) : Type 0 where
   pub leads : run steps ≡ world
   pub lists : ListsAlong nothing steps
@@ -61,6 +62,7 @@ pub record Stands (steps : List Task) (world : World) (events : List Event) (s s
   pub fits : Fits world s'.on (λ server. fuse_seen (s'.write_fuse server)) s'.block
   pub holds : HoldsTracks world s'.block
   pub frozen : (tasks : List Task) → run tasks ≡ world → EndsInCut tasks s'.block
+  pub flash_cut : (tasks : List Task) → run tasks ≡ world → EndsInFlashCut tasks s'.block
   pub seals : SealsOn world s'.block
   pub closed : (s n : ℕ) → ClosedCuts events s n
   pub held : (tasks : List Task) → run tasks ≡ world → (s n : ℕ) → HoldsAll tasks events s n

@@ -11,12 +11,13 @@ use Rattle.dr_model.specs.Lawful.{IsLawful}
 use Rattle.dr_model.specs.Control.{Volume}
 use Rattle.dr_model.specs.Moves.{Carried, carried_bytes, staged_track}
 use Rattle.dr_volume.specs.declared.fields.Fields.{Fields}
+use Rattle.dr_volume.specs.declared.opened.Gate.{Gate}
 use Rattle.dr_volume.specs.declared.opened.Opened.{Opened}
 use Rattle.dr_volume.specs.Plain.{plain}
 use Rattle.dr_volume.specs.View.{device_of, volume_seen}
 use Rattle.dr_volume.specs.Volume.{Shows}
 use Rattle.dr_volume.specs.Update.{staging, IsAsBefore, IsMoved, OthersStay}
-use Rattle.dr_volume.specs.Opened.{IsOpened, OthersOpened}
+use Rattle.dr_volume.specs.Opened.{IsGate, IsOpened, OthersOpened}
 use Rattle.dr_volume.proofs.VolumeLaws.{placed, volume-placed, device-placed, chosen_slot}
 use Rattle.dr_volume.proofs.ReadingLaws.{ReadsNext, bytes-next, plain-staging, staged-staging, bytes-staging}
 use Rattle.dr_volume.proofs.SeenLaws.{Lies, seen, apart_devices}
@@ -27,8 +28,8 @@ only_some : (m : Carried) → carried_bytes m ≡ only_if (is_some (staged_track
 only_some None = refl
 only_some (Some t) = refl
 
-pub opened-next : (c : ConfigTable) (s t : PlantState) (v d : ℕ) (e : VolumeEntry) (f : Fields) (m : Carried) (o x : Opened) → Task c s v d e f m → Run s t d f m false → IsOpened s c v o → x.device.0 ≡ o.device.0 → x.slot ≡ not o.slot → x.fields ≡ staging m f → IsOpened t c v x
-opened-next c s t v d e f m o x k run opened device turned fields =
+pub opened-next : (c : ConfigTable) (s t : PlantState) (v d : ℕ) (e : VolumeEntry) (f : Fields) (m : Carried) (o g : Gate) (x : Fields) → Task c s v d e f m → Run s t d f m false → IsGate s c v o → g.device.0 ≡ o.device.0 → g.slot ≡ not o.slot → x ≡ staging m f → IsOpened t c v (record { gate = g; fields = x })
+opened-next c s t v d e f m o g x k run opened device turned fields =
     let next : ReadsNext (s.block d) (t.block d) f m = (outcome c s t v d e f m false k run).done refl in
     let moved : IsMoved s t c v (plain f) m = update-done c s t v d e f m k run in
     let at : device_of c v ≡ d = device-placed c v d k.lies.place in
@@ -47,16 +48,14 @@ opened-next c s t v d e f m o x k run opened device turned fields =
           (subst (λ g. IsLawful e.tracks g) (sym (plain-staging m f)) k.lawful));
     } in
     record {
-      device = device ∙ opened.device;
-      slot = ap (λ q. slot_of t q) at ∙ slot ∙ sym turned;
-      shows = subst (λ g. Shows t c v g) (sym fields) shows;
+      gate = record { device = device ∙ opened.device; slot = ap (λ q. slot_of t q) at ∙ slot ∙ sym turned };
+      shows = subst (λ y. Shows t c v y) (sym fields) shows;
     }
 
 -- where a volume's device and what is seen of it are as before, so is what was opened
 opened-along : (c : ConfigTable) (s t : PlantState) (u : ℕ) (o : Opened) → t.block (device_of c u) ≡ s.block (device_of c u) → IsAsBefore s t c u → IsOpened s c u o → IsOpened t c u o
 opened-along c s t u o same before h = record {
-  device = h.device;
-  slot = ap (λ (b : ℕ → List ℕ). choice (b 0)) same ∙ h.slot;
+  gate = record { device = h.gate.device; slot = ap (λ (b : ℕ → List ℕ). choice (b 0)) same ∙ h.gate.slot };
   shows = record {
     fields = h.shows.fields ∙ sym (ap (λ (w : Volume). w.fields) before.volume);
     staged = h.shows.staged ∙ sym (ap (λ (w : Volume). w.staged) before.volume);
@@ -75,7 +74,7 @@ others-opened c s t v d e lies apart others u o ne defined h =
     (others u ne) h
 
 -- the slot that was read is the volume's
-pub slot-opened : (s : PlantState) (t : ConfigTable) (v : ℕ) (o : Opened) → is_some (place_of t v) ≡ true → IsOpened s t v o → o.slot ≡ (volume_seen s t v).slot
-slot-opened s t v o defined opened =
+pub slot-opened : (s : PlantState) (t : ConfigTable) (v : ℕ) (g : Gate) → is_some (place_of t v) ≡ true → IsGate s t v g → g.slot ≡ (volume_seen s t v).slot
+slot-opened s t v g defined gate =
     let at = placed t v defined in
-    sym opened.slot ∙ ap (slot_of s) (device-placed t v at.0 at.2) ∙ chosen_slot s at.0 ∙ sym (ap (λ (w : Volume). w.slot) (volume-placed s t v at.0 at.1 at.2 at.3))
+    sym gate.slot ∙ ap (slot_of s) (device-placed t v at.0 at.2) ∙ chosen_slot s at.0 ∙ sym (ap (λ (w : Volume). w.slot) (volume-placed s t v at.0 at.1 at.2 at.3))

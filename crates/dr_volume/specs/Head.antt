@@ -31,6 +31,7 @@ head_of f = record {
   member = f.member;
   session = f.session;
   floor = f.floor;
+  flash_hold = f.flash_hold;
 }
 
 -- what a first block says: these fields, of whatever size the volume is and whatever the other blocks say

@@ -6,15 +6,19 @@ use Rattle.dr_record.specs.Slots.{slot_of}
 use Rattle.dr_config.specs.Table.{ConfigTable, place_of}
 use Rattle.dr_model.specs.Layout.{is_staged}
 use Rattle.dr_model.specs.Control.{Volume}
+use Rattle.dr_volume.specs.declared.opened.Gate.{Gate}
 use Rattle.dr_volume.specs.declared.opened.Opened.{Opened}
 use Rattle.dr_volume.specs.View.{device_of}
 use Rattle.dr_volume.specs.Volume.{Shows}
 
--- What was read of the volume v is what the plant has: its device, the slot that this chooses, and the fields that it
--- gives.
+-- The gate that was read of the volume v is what the plant has: its device, and the slot that this chooses.
+pub record IsGate (s : PlantState) (t : ConfigTable) (v : ℕ) (g : Gate) : Type 0 where
+  pub device : g.device.0 ≡ device_of t v
+  pub slot : slot_of s (device_of t v) ≡ g.slot
+
+-- What was read of the volume v is what the plant has: its gate, and the fields that its device gives.
 pub record IsOpened (s : PlantState) (t : ConfigTable) (v : ℕ) (o : Opened) : Type 0 where
-  pub device : o.device.0 ≡ device_of t v
-  pub slot : slot_of s (device_of t v) ≡ o.slot
+  pub gate : IsGate s t v o.gate
   pub shows : Shows s t v o.fields
 
 -- From s to t, what was read of any volume but v is still what the plant has.

@@ -41,6 +41,7 @@ plain f = record {
   member = f.member;
   session = f.session;
   floor = f.floor;
+  flash_hold = f.flash_hold;
   blank = f.blank;
 }
 

@@ -56,7 +56,7 @@ second_back s t in_t = ap (λ bytes. of_bytes bytes) (drop_at (bytes_of s) (byte
 pub raw_of-record_block : (f : Fields) → IsWhole f → raw_of (record_block f) ≡ f
 unfolding head_of with_head no_record
 raw_of-record_block f whole =
-    let first : List Bool = f.coordination ∷ f.long_busy ∷ f.recording ∷ [] in
+    let first : List Bool = f.coordination ∷ f.long_busy ∷ f.recording ∷ f.flash_hold ∷ [] in
     let relation : List Bool = f.related ∷ f.nocopy ∷ f.persistent ∷ f.recorded ∷ f.inhibited ∷ f.revertible ∷ f.reversing ∷ f.member ∷ [] in
     λ i. record f {
       primary = part_back f.primary i;
@@ -88,6 +88,7 @@ raw_of-record_block f whole =
       reversing = flag_back relation 6 (omega arith) i;
       member = flag_back relation 7 (omega arith) i;
       floor = back32 f.floor i;
+      flash_hold = flag_back first 3 (omega arith) i;
       blank = first_back f.blank empty whole.blank i;
       staged = staged_back f.staged i;
     }

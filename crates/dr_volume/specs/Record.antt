@@ -14,7 +14,7 @@ use Rattle.dr_volume.specs.Codes.{code_of_part, code_of_state, two_bytes, four_b
 -- the first eight bytes: the parts and their states, the flags, the session, and whether a track is staged
 abbrev pub codes_of : Fields → List ℕ
 codes_of f =
-    code_of_part f.primary ∷ code_of_state f.primary_state ∷ flags_byte (f.coordination ∷ f.long_busy ∷ f.recording ∷ [])
+    code_of_part f.primary ∷ code_of_state f.primary_state ∷ flags_byte (f.coordination ∷ f.long_busy ∷ f.recording ∷ f.flash_hold ∷ [])
     ∷ code_of_part f.secondary ∷ code_of_state f.secondary_state
     ∷ flags_byte (f.related ∷ f.nocopy ∷ f.persistent ∷ f.recorded ∷ f.inhibited ∷ f.revertible ∷ f.reversing ∷ f.member ∷ [])
     ∷ f.session ∷ cond (is_some f.staged) 1 0 ∷ []
@@ -68,6 +68,7 @@ with_head f head = record f {
   member = bit (byte head 5) 7;
   session = byte head 6;
   floor = be32_at head 32;
+  flash_hold = bit (byte head 2) 3;
   staged = staged_in head;
 }
 
@@ -114,6 +115,7 @@ no_record = record {
   member = false;
   session = 0;
   floor = 0;
+  flash_hold = false;
   blank = empty;
   staged = None;
   staged_bytes = zeros;

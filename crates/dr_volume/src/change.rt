@@ -10,13 +10,12 @@ ghost use Rattle.dr_volume.specs.View.{Rest, world, volume_seen, device_of, IsSe
 ghost use Rattle.dr_volume.specs.Update.{staging, track_with, track_writes, update_writes, read_and_write, staged_seen, Covers, IsAsBefore, IsMoved, OthersStay, EndsAs, after_reading, ServerStays};
 
 use crate::fields::Fields;
-use crate::opened::{rewrite, with_staged, write_track};
-use crate::place::{device_of, find};
+use crate::opened::{open_gate, write_track};
+use crate::place::{find, tell_sound};
 use crate::volume::load;
 use dr_config::Config;
 use dr_ids::VolumeId;
 use dr_plant::{Block, Plant, Stopped};
-use dr_record::read_choice;
 
 /// Gives a volume other fields and, where one is given, a track with its bytes: one move, done or
 /// not done as a whole. What the next fields say of a staged track is not looked at. The gate alone is
@@ -50,9 +49,10 @@ pub fn update<P: Plant>(
     ensures fault { OnErr result ((P.state plant.new).faults ≡ risen (P.state plant.old).faults) }
     ensures no_fault { OnOk result ((P.state plant.new).faults ≡ (P.state plant.old).faults) }
 {
-    let device = device_of(config, v);
-    let slot = read_choice(plant, device)?;
-    rewrite(plant, device, slot, &with_staged(next, staged), staged)
+    tell_sound(config);
+    let mut gate = open_gate(plant, config, v)?;
+    let mut fields = *next;
+    gate.change(plant, config, v, &mut fields, staged)
 }
 
 /// Writes a volume's staged track, where one is staged, to its own place, so that the next move may
@@ -75,7 +75,7 @@ pub fn redo<P: Plant>(plant: &mut P, config: &Config, v: VolumeId) -> Result<(),
 {
     let device = find(config, v).device;
     let fields = load(plant, config, v)?;
-    write_track(plant, device, staged_track(&fields))
+    write_track(plant, device, &staged_track(&fields))
 }
 
 fn staged_track(fields: &Fields) -> Option<(u16, Block)>

@@ -79,6 +79,7 @@ pub(crate) fn fields_in(tracks: u16, slot: &[Block]) -> Fields
         member: head.member,
         session: head.session,
         floor: head.floor,
+        flash_hold: head.flash_hold,
         blank: first_if(true, &slot[4], &kept),
         staged,
         staged_bytes: only_if(staged.is_some(), slot[5], zero_block()),

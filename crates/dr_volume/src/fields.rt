@@ -10,7 +10,7 @@ use dr_model::{PairState, Part};
 use dr_plant::Block;
 
 /// What a volume's control record says: its part in a pair as a primary and as a secondary, its
-/// FlashCopy relationship as a target, and the track that the last update staged.
+/// FlashCopy relationship as a target, its flash hold, and the track that the last update staged.
 #[derive(Clone, Copy)]
 pub struct Fields {
     /// The volume's part as a primary; where it is absent, so are the fields up to
@@ -50,6 +50,8 @@ pub struct Fields {
     pub session: u8,
     /// Attempts up to this number are no longer recovered.
     pub floor: u32,
+    /// Whether host writes wait until the hold of a flash set ends; it belongs to no part.
+    pub flash_hold: bool,
     /// The tracks that read as zeros.
     pub blank: TrackSet,
     /// The track whose bytes stand in the record and not in its own place.
@@ -58,9 +60,10 @@ pub struct Fields {
     pub staged_bytes: Block,
 }
 
-/// Whether host writes on the volume wait: coordination holds it, or it is long busy.
+/// Whether host writes on the volume wait: coordination holds it, it is long busy, or it has a flash
+/// hold.
 pub fn is_held(f: &Fields) -> bool
     ensures { result ≡ held (plain f.now) }
 {
-    f.coordination || f.long_busy
+    f.coordination || f.long_busy || f.flash_hold
 }

@@ -68,6 +68,7 @@ impl Form for Fields {
             member: false,
             session: 0,
             floor: 0,
+            flash_hold: false,
             blank: TrackSet::empty(),
             staged: None,
             staged_bytes: zero_block(),
@@ -127,7 +128,7 @@ fn codes(f: &Fields) -> [u8; 8]
                 f.coordination,
                 f.long_busy,
                 f.recording,
-                false,
+                f.flash_hold,
                 false,
                 false,
                 false,
@@ -202,6 +203,7 @@ fn with_head(f: &Fields, head: &Block) -> Fields
         member: bit(head[5], 7),
         session: head[6],
         floor: be32(head, 32),
+        flash_hold: bit(head[2], 3),
         staged: staged_in(head),
         ..*f
     }

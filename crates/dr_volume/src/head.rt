@@ -46,6 +46,7 @@ pub struct Head {
     pub member: bool,
     pub session: u8,
     pub floor: u32,
+    pub flash_hold: bool,
 }
 
 /// What a head says of its volume as a FlashCopy target: where it is none, zero and false.
@@ -114,6 +115,7 @@ pub fn head_by(f: &Fields) -> Head
         member: f.member,
         session: f.session,
         floor: f.floor,
+        flash_hold: f.flash_hold,
     }
 }
 
@@ -191,5 +193,6 @@ pub(crate) fn head_in(block: &Block) -> Head
         member: flag_if(related, block[5], 7),
         session: only_if(related, block[6], 0),
         floor: be32(block, 32),
+        flash_hold: bit(block[2], 3),
     }
 }

@@ -5,7 +5,7 @@
 //! server's read fuse takes the read before it. So it is done wholly or not at all (`done`, `old_or_new`), and touches
 //! no other volume (`others`) and no other server (`servers`). `open` reads a volume for the moves that follow
 //! (`opened`), and `change` is the move on what was read, its device writes alone (`written`, `exact`); what it leaves
-//! is open for the next (`opened`, `others_opened`); `open_by` reads the gate alone, where the fields are at hand. `redo`
+//! is open for the next (`opened`, `others_opened`); `open_by` and `open_gate` read the gate alone, where the fields are at hand. `redo`
 //! writes a staged track to its own place (`written`, `exact`) and changes nothing that is read (`same`). `load`,
 //! `peek_fields` and `from_blocks` give the fields of the layout (`shows`, `fields`), and they are lawful (`lawful`);
 //! `peek_head` and `peek_head_at` give their head, which is all but the sets of tracks, and `peek_relation_at` what the head
@@ -29,5 +29,5 @@ pub use change::{redo, update};
 pub use dr_model::{PairState, Part};
 pub use fields::{Fields, is_held};
 pub use head::{Head, Relation, head_by, peek_head, peek_head_at, peek_relation_at};
-pub use opened::{Opened, open, open_by};
+pub use opened::{Gate, Opened, open, open_by, open_gate};
 pub use volume::{load, peek_fields, read_track, slot};

@@ -14,7 +14,7 @@ ghost use Rattle.dr_volume.specs.Plain.{plain};
 ghost use Rattle.dr_volume.specs.View.{Rest, world, volume_seen, track_seen, device_of, IsSettled};
 ghost use Rattle.dr_volume.specs.Volume.{LiesOn, Shows};
 ghost use Rattle.dr_volume.specs.Update.{staging, track_writes, update_writes, Covers, IsAsBefore, IsMoved, OthersStay, EndsAs, ServerStays};
-ghost use Rattle.dr_volume.specs.Opened.{IsOpened, OthersOpened, in_own_block};
+ghost use Rattle.dr_volume.specs.Opened.{IsGate, IsOpened, OthersOpened, in_own_block};
 
 use crate::codes::zero_block;
 use crate::decode::fields_on;
@@ -25,12 +25,32 @@ use dr_ids::VolumeId;
 use dr_plant::{Block, DeviceId, Plant, Stopped};
 use dr_record::{put, read_choice};
 
-/// A volume as it was read for a move: its device, the slot that it chooses, and its fields.
-#[derive(Drop)]
-pub struct Opened {
+/// The gate of a volume as it was read for a move: the volume's device, and the slot that it chooses.
+#[derive(Clone, Copy)]
+pub struct Gate {
     device: DeviceId,
     slot: bool,
-    fields: Fields,
+}
+
+/// A volume as it was read for a move: its gate, and its fields.
+#[derive(Drop)]
+pub struct Opened {
+    pub gate: Gate,
+    pub fields: Fields,
+}
+
+/// Reads the gate of a volume, for a move that follows by its fields. Fails where the plant can't read its device.
+pub fn open_gate<P: Plant>(plant: &mut P, config: &Config, v: VolumeId) -> Result<Gate, Stopped>
+    requires defined { IsSome (place_of config.now v.0) }
+    requires stands { StandsFor config.now (P.state plant.old) }
+    ensures state { P.state plant.new ≡ after_read (P.state plant.old) (device_of config.now v.0) }
+    ensures done { is_ok result ≡ can_read (P.state plant.old) (device_of config.now v.0) }
+    ensures same { OnOk result (P.state plant.new ≡ P.state plant.old) }
+    ensures gate { IfOk result (λ g. IsGate (P.state plant.old) config.now v.0 g) }
+{
+    let device = device_of(config, v);
+    let slot = read_choice(plant, device)?;
+    Ok(Gate { device, slot })
 }
 
 /// Reads the record of a volume, for a move that follows: its gate by a read, and the rest by looks. Fails where the
@@ -47,11 +67,11 @@ pub fn open<P: Plant>(plant: &mut P, config: &Config, v: VolumeId) -> Result<Ope
     let place = find(config, v);
     let slot = read_choice(plant, place.device)?;
     let fields = fields_on(plant, place);
-    Ok(Opened {
+    let gate = Gate {
         device: place.device,
         slot,
-        fields,
-    })
+    };
+    Ok(Opened { gate, fields })
 }
 
 /// The same where the volume's fields are at hand: its gate is read, and nothing else is looked at.
@@ -69,14 +89,9 @@ pub fn open_by<P: Plant>(
     ensures same { OnOk result (P.state plant.new ≡ P.state plant.old) }
     ensures opened { IfOk result (λ o. IsOpened (P.state plant.old) config.now v.0 o) }
 {
-    let device = device_of(config, v);
-    let slot = read_choice(plant, device)?;
+    let gate = open_gate(plant, config, v)?;
     let fields = *f;
-    Ok(Opened {
-        device,
-        slot,
-        fields,
-    })
+    Ok(Opened { gate, fields })
 }
 
 impl Opened {
@@ -85,13 +100,6 @@ impl Opened {
         ensures { result.now ≡ self.now.fields }
     {
         &self.fields
-    }
-
-    /// The slot that the device chooses: slot 1 where it is true.
-    pub fn slot(&self) -> bool
-        ensures { result ≡ self.now.slot }
-    {
-        self.slot
     }
 
     /// Reads a track: the bytes that are staged for it, zeros where it is blank, or else what stands
@@ -123,34 +131,43 @@ impl Opened {
             *into = zero_block();
             return Ok(());
         }
-        plant.read(self.device, FIRST_TRACK + t, into)
+        plant.read(self.gate.device, FIRST_TRACK + t, into)
+    }
+}
+
+impl Gate {
+    /// The slot that the device chooses: slot 1 where it is true.
+    pub fn slot(&self) -> bool
+        ensures { result ≡ self.now.slot }
+    {
+        self.slot
     }
 
     /// Gives the volume other fields and, where one is given, a track with its bytes: the move of
-    /// `update`, which reads nothing. What was opened becomes what the move leaves, so that another
-    /// may follow, and so may the moves of other volumes that were opened before. Fails where the volume's server is off or stops within the move; then the volume
-    /// is to be opened again.
+    /// `update`, which reads nothing. Gate and fields become what the move leaves, so that another
+    /// may follow, and so may the moves of other volumes that were opened before. Fails where the volume's
+    /// server is off or stops within the move; then the volume is to be opened again.
     pub fn change<P: Plant>(
         &mut self,
         plant: &mut P,
         config: &Config,
         v: VolumeId,
-        next: &Fields,
+        next: &mut Fields,
         staged: Option<(u16, Block)>,
     ) -> Result<(), Stopped>
         requires defined { IsSome (place_of config.now v.0) }
         requires stands { StandsFor config.now (P.state plant.old) }
-        requires opened { IsOpened (P.state plant.old) config.now v.0 self.old }
-        requires lawful { IsLawful (volume_seen (P.state plant.old) config.now v.0).tracks (plain next.now) }
+        requires gate { IsGate (P.state plant.old) config.now v.0 self.old }
+        requires lawful { IsLawful (volume_seen (P.state plant.old) config.now v.0).tracks (plain next.old) }
         requires within { IfSome staged (λ t. t.0 < (volume_seen (P.state plant.old) config.now v.0).tracks) }
         requires settled { IsSettled (P.state plant.old) config.now v.0 }
-        requires covers { Covers (volume_seen (P.state plant.old) config.now v.0).fields.blank next.now.blank staged }
-        ensures written { after_writes (P.state plant.old) (device_of config.now v.0) (update_writes (not (volume_seen (P.state plant.old) config.now v.0).slot) (staging staged next.now) staged) ≡ (P.state plant.new, is_err result) }
-        ensures exact { (r : Rest) → EndsAs (world (P.state plant.new) config.now r) (is_err result) (machine.update (world (P.state plant.old) config.now r) v.0 (plain next.now) staged) }
-        ensures opened { OnOk result (IsOpened (P.state plant.new) config.now v.0 self.new) }
+        requires covers { Covers (volume_seen (P.state plant.old) config.now v.0).fields.blank next.old.blank staged }
+        ensures written { after_writes (P.state plant.old) (device_of config.now v.0) (update_writes (not (volume_seen (P.state plant.old) config.now v.0).slot) (staging staged next.old) staged) ≡ (P.state plant.new, is_err result) }
+        ensures exact { (r : Rest) → EndsAs (world (P.state plant.new) config.now r) (is_err result) (machine.update (world (P.state plant.old) config.now r) v.0 (plain next.old) staged) }
+        ensures opened { OnOk result (IsOpened (P.state plant.new) config.now v.0 (record { gate = self.new; fields = next.new })) }
         ensures others_opened { OthersOpened (P.state plant.old) (P.state plant.new) config.now v.0 }
-        ensures done { OnOk result (IsMoved (P.state plant.old) (P.state plant.new) config.now v.0 (plain next.now) staged) }
-        ensures old_or_new { IsAsBefore (P.state plant.old) (P.state plant.new) config.now v.0 ⊎ IsMoved (P.state plant.old) (P.state plant.new) config.now v.0 (plain next.now) staged }
+        ensures done { OnOk result (IsMoved (P.state plant.old) (P.state plant.new) config.now v.0 (plain next.old) staged) }
+        ensures old_or_new { IsAsBefore (P.state plant.old) (P.state plant.new) config.now v.0 ⊎ IsMoved (P.state plant.old) (P.state plant.new) config.now v.0 (plain next.old) staged }
         ensures others { OthersStay (P.state plant.old) (P.state plant.new) config.now v.0 }
         ensures stands { StandsFor config.now (P.state plant.new) }
         ensures unarmed { (q : ℕ) → (P.state plant.old).read_fuse q ≡ None → (P.state plant.new).read_fuse q ≡ None }
@@ -163,9 +180,9 @@ impl Opened {
     {
         tell_sound(config);
         let slot = self.slot;
-        stage(&mut self.fields, next, &staged);
+        stage(next, &staged);
         self.slot = !slot;
-        rewrite(plant, self.device, slot, &self.fields, staged)
+        rewrite(plant, self.device, slot, next, &staged)
     }
 }
 
@@ -178,11 +195,10 @@ pub(crate) fn is_staged(staged: Option<u16>, t: u16) -> bool
     }
 }
 
-// Fields become the next ones, with the carried track staged, where they stand.
-fn stage(fields: &mut Fields, next: &Fields, carried: &Option<(u16, Block)>)
-    ensures { fields.new ≡ staging carried.now next.now }
+// Fields stage the carried track in place of what they staged.
+fn stage(fields: &mut Fields, carried: &Option<(u16, Block)>)
+    ensures { fields.new ≡ staging carried.now fields.old }
 {
-    *fields = *next;
     match carried {
         Some(track) => {
             fields.staged = Some(track.0);
@@ -195,39 +211,18 @@ fn stage(fields: &mut Fields, next: &Fields, carried: &Option<(u16, Block)>)
     }
 }
 
-// The fields with the carried track staged in place of what they stage.
-pub(crate) fn with_staged(next: &Fields, carried: Option<(u16, Block)>) -> Fields
-    ensures { result ≡ staging carried next.now }
-{
-    match &carried {
-        Some(track) => {
-            let staged_bytes = track.1;
-            Fields {
-                staged: Some(track.0),
-                staged_bytes,
-                ..*next
-            }
-        }
-        None => Fields {
-            staged: None,
-            staged_bytes: zero_block(),
-            ..*next
-        },
-    }
-}
-
 // Writes the next fields to the slot that isn't `slot`, which the device chooses, then the gate, then the track.
-pub(crate) fn rewrite<P: Plant>(
+fn rewrite<P: Plant>(
     plant: &mut P,
     device: DeviceId,
     slot: bool,
     next: &Fields,
-    carried: Option<(u16, Block)>,
+    carried: &Option<(u16, Block)>,
 ) -> Result<(), Stopped>
     requires device { IsDevice (P.state plant.old) device.0 13 }
     requires chosen { slot_of (P.state plant.old) device.0 ≡ slot }
-    requires track { IfSome carried (λ t. (t.0 < 256) × (13 + t.0 < (P.state plant.old).size device.0)) }
-    ensures { after_writes (P.state plant.old) device.0 (update_writes (not (slot_of (P.state plant.old) device.0)) next.now carried) ≡ (P.state plant.new, is_err result) }
+    requires track { IfSome carried.now (λ t. (t.0 < 256) × (13 + t.0 < (P.state plant.old).size device.0)) }
+    ensures { after_writes (P.state plant.old) device.0 (update_writes (not (slot_of (P.state plant.old) device.0)) next.now carried.now) ≡ (P.state plant.new, is_err result) }
 {
     put(plant, device, slot, next)?;
     write_track(plant, device, carried)
@@ -237,13 +232,13 @@ pub(crate) fn rewrite<P: Plant>(
 pub(crate) fn write_track<P: Plant>(
     plant: &mut P,
     device: DeviceId,
-    carried: Option<(u16, Block)>,
+    carried: &Option<(u16, Block)>,
 ) -> Result<(), Stopped>
     requires device { device.0 < (P.state plant.old).count }
-    requires track { IfSome carried (λ t. (t.0 < 256) × (13 + t.0 < (P.state plant.old).size device.0)) }
-    ensures { after_writes (P.state plant.old) device.0 (track_writes carried) ≡ (P.state plant.new, is_err result) }
+    requires track { IfSome carried.now (λ t. (t.0 < 256) × (13 + t.0 < (P.state plant.old).size device.0)) }
+    ensures { after_writes (P.state plant.old) device.0 (track_writes carried.now) ≡ (P.state plant.new, is_err result) }
 {
-    match &carried {
+    match carried {
         Some(track) => plant.write(device, FIRST_TRACK + track.0, &track.1),
         None => Ok(()),
     }

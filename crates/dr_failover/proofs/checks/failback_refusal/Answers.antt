@@ -3,7 +3,7 @@ use Rattle.dr_model.specs.Entries.{running_check}
 use Rattle.dr_model.specs.PairEntries.{refuse_if, reach_refusal}
 use Rattle.dr_moves.specs.Here.{world_seen}
 use Rattle.dr_moves.proofs.EntryLemmas.{ends-clear, ends-why}
-use Rattle.dr_gcopy.proofs.PairChecks.{then-checked}
+use Rattle.dr_flash.proofs.CheckLemmas.{then-checked}
 use Rattle.dr_failover.specs.Steps.{lead_checks, settled_checks}
 use Rattle.dr_failover.proofs.checks.failback_refusal.Goals as goal
 

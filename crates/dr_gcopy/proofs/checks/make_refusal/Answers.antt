@@ -3,7 +3,8 @@ use Rattle.dr_model.specs.Entries.{running_check}
 use Rattle.dr_model.specs.PairEntries.{refuse_if, reach_refusal}
 use Rattle.dr_moves.specs.Here.{world_seen}
 use Rattle.dr_gcopy.specs.Steps.{unlike_checks, free_checks, flash_checks}
-use Rattle.dr_gcopy.proofs.PairChecks.{then-checked, on-none, servers-apart}
+use Rattle.dr_flash.proofs.CheckLemmas.{then-checked}
+use Rattle.dr_gcopy.proofs.PairChecks.{on-none, servers-apart}
 use Rattle.dr_gcopy.proofs.checks.make_refusal.Goals as goal
 use Rattle.dr_moves.proofs.EntryLemmas.{ends-clear, ends-why}
 

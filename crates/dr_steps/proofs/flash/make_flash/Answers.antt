@@ -1,7 +1,7 @@
 use Rattle.std.proofs.Common.{Some, None}
 use Rattle.dr_model.specs.declared.said.Said.TheVariants.{Done}
 use Rattle.dr_model.specs.declared.said.Addition.TheVariants.{Alone}
-use Rattle.dr_model.specs.Plans.{found_pair, flash_entries}
+use Rattle.dr_model.specs.Plans.{found_pair, establish_entries}
 use Rattle.dr_moves.specs.Options.{choices}
 use Rattle.dr_steps.specs.Here.{here, rest_of}
 use Rattle.dr_steps.proofs.RelationLemmas.{relations-fit}
@@ -11,31 +11,31 @@ use Rattle.dr_steps.proofs.flash.make_flash.Goals as goal
 pub returns-in-Some-clause-step : goal.returns-in-Some-clause-step
 returns-in-Some-clause-step g c =
     let s = g.P.Plant.state c.args.plant.now in let t = c.args.config.now in let h = c.args.tables.now in let ev = c.args.journal.now.events in
-    step-nowhere t s s h ev ev (found_pair c.args.dev.now c.args.s.0 c.args.t.0) (flash_entries (here s t h ev).control c.args.s.0 c.args.t.0 (choices c.args.options.now)) (Done Alone) c.requires.ready.reads c.in-Some.why (c.in-Some.ensures.checked s h ev)
+    step-nowhere t s s h ev ev (found_pair c.args.dev.now c.args.s.0 c.args.t.0) (establish_entries (here s t h ev).control c.args.s.0 c.args.t.0 c.args.freeze (choices c.args.options.now)) (Done Alone) c.requires.ready.reads c.in-Some.why (c.in-Some.ensures.checked s h ev)
 
-pub establish-requires-clause-fit : goal.establish-requires-clause-fit
-establish-requires-clause-fit g c = relations-fit (g.P.Plant.state c.args.plant.now) c.args.config.now c.args.tables.now c.args.journal.now.events c.requires.sound
+pub establish_as-requires-clause-fit : goal.establish_as-requires-clause-fit
+establish_as-requires-clause-fit g c = relations-fit (g.P.Plant.state c.args.plant.now) c.args.config.now c.args.tables.now c.args.journal.now.events c.requires.sound
 
 pub returns-in-Ok-clause-step : goal.returns-in-Ok-clause-step
 returns-in-Ok-clause-step g c =
     let s = g.P.Plant.state c.args.plant.now in let t = c.args.config.now in let h = c.args.tables.now in let ev = c.args.journal.now.events in
-    step-done t s (g.P.Plant.state c.establish.new.plant) h ev c.establish.new.journal.events (found_pair c.args.dev.now c.args.s.0 c.args.t.0) (flash_entries (here s t h ev).control c.args.s.0 c.args.t.0 (choices c.args.options.now)) (Done Alone) c.requires.ready.reads
+    step-done t s (g.P.Plant.state c.establish_as.new.plant) h ev c.establish_as.new.journal.events (found_pair c.args.dev.now c.args.s.0 c.args.t.0) (establish_entries (here s t h ev).control c.args.s.0 c.args.t.0 c.args.freeze (choices c.args.options.now)) (Done Alone) c.requires.ready.reads
     (c.in_default.ensures.checked s h ev) (c.in-Ok.ensures.carried (rest_of h ev))
 
 pub returns-in-Ok-clause-ready : goal.returns-in-Ok-clause-ready
 returns-in-Ok-clause-ready g c =
     let s = g.P.Plant.state c.args.plant.now in let t = c.args.config.now in let h = c.args.tables.now in let ev = c.args.journal.now.events in
-    step-ready t s (g.P.Plant.state c.establish.new.plant) h ev c.establish.new.journal.events (found_pair c.args.dev.now c.args.s.0 c.args.t.0) (flash_entries (here s t h ev).control c.args.s.0 c.args.t.0 (choices c.args.options.now)) (Done Alone) c.requires.ready.reads
+    step-ready t s (g.P.Plant.state c.establish_as.new.plant) h ev c.establish_as.new.journal.events (found_pair c.args.dev.now c.args.s.0 c.args.t.0) (establish_entries (here s t h ev).control c.args.s.0 c.args.t.0 c.args.freeze (choices c.args.options.now)) (Done Alone) c.requires.ready.reads
     None (c.in_default.ensures.checked s h ev) (c.in-Ok.ensures.carried (rest_of h ev)) c.in-Ok.ensures.rest c.in-Ok.ensures.unarmed c.requires.ready.told
 
 pub returns-in-Err-clause-step : goal.returns-in-Err-clause-step
 returns-in-Err-clause-step g c =
     let s = g.P.Plant.state c.args.plant.now in let t = c.args.config.now in let h = c.args.tables.now in let ev = c.args.journal.now.events in
-    step-refused t s (g.P.Plant.state c.establish.new.plant) h ev c.establish.new.journal.events (found_pair c.args.dev.now c.args.s.0 c.args.t.0) (flash_entries (here s t h ev).control c.args.s.0 c.args.t.0 (choices c.args.options.now)) (Done Alone) c.requires.ready.reads
+    step-refused t s (g.P.Plant.state c.establish_as.new.plant) h ev c.establish_as.new.journal.events (found_pair c.args.dev.now c.args.s.0 c.args.t.0) (establish_entries (here s t h ev).control c.args.s.0 c.args.t.0 c.args.freeze (choices c.args.options.now)) (Done Alone) c.requires.ready.reads
     c.in-Err.refusal (c.in_default.ensures.checked s h ev) (c.in-Err.ensures.carried (rest_of h ev))
 
 pub returns-in-Err-clause-ready : goal.returns-in-Err-clause-ready
 returns-in-Err-clause-ready g c =
     let s = g.P.Plant.state c.args.plant.now in let t = c.args.config.now in let h = c.args.tables.now in let ev = c.args.journal.now.events in
-    step-ready t s (g.P.Plant.state c.establish.new.plant) h ev c.establish.new.journal.events (found_pair c.args.dev.now c.args.s.0 c.args.t.0) (flash_entries (here s t h ev).control c.args.s.0 c.args.t.0 (choices c.args.options.now)) (Done Alone) c.requires.ready.reads
+    step-ready t s (g.P.Plant.state c.establish_as.new.plant) h ev c.establish_as.new.journal.events (found_pair c.args.dev.now c.args.s.0 c.args.t.0) (establish_entries (here s t h ev).control c.args.s.0 c.args.t.0 c.args.freeze (choices c.args.options.now)) (Done Alone) c.requires.ready.reads
     (Some c.in-Err.refusal) (c.in_default.ensures.checked s h ev) (c.in-Err.ensures.carried (rest_of h ev)) c.in-Err.ensures.rest c.in-Err.ensures.unarmed c.requires.ready.told

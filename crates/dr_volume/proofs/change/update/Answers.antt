@@ -1,13 +1,18 @@
-use Rattle.std.proofs.Common.{◌≡◌, ◌<◌, ◌+◌, arith, ap, sym, subst, ◌∙◌, not, cond, inl, refl, true, false, rules}
+use Rattle.std.proofs.Common.{◌≡◌, ◌<◌, ap, sym, subst, ◌∙◌, not, cond, inl, refl, true, false, rules}
 use Rattle.std.specs.Prelude.{is_err, IfSome}
 use Rattle.dr_logic.specs.Counts.{risen}
 use Rattle.dr_plant.specs.State.{PlantState, after_read, can_read}
 use Rattle.dr_plant.proofs.StateLemmas.{block-after_read}
 use Rattle.dr_record.specs.Slots.{slot_of}
-use Rattle.dr_record.specs.Writes.{IsDevice, after_writes}
-use Rattle.dr_volume.specs.View.{volume_seen, device_of}
-use Rattle.dr_volume.specs.Update.{IsAsBefore, staging, update_writes}
-use Rattle.dr_volume.proofs.VolumeLaws.{device-placed, lies-opened, lies-sound, device-lies, room-lies}
+use Rattle.dr_record.specs.Writes.{after_writes}
+use Rattle.dr_config.specs.Table.{StandsFor}
+use Rattle.dr_model.specs.Lawful.{IsLawful}
+use Rattle.dr_volume.specs.Opened.{IsGate}
+use Rattle.dr_volume.specs.Plain.{plain}
+use Rattle.dr_volume.specs.View.{volume_seen, device_of, IsSettled}
+use Rattle.dr_volume.specs.Update.{IsAsBefore, Covers, staging, update_writes}
+use Rattle.dr_volume.proofs.OpenedLaws.{slot-opened}
+use Rattle.dr_volume.proofs.VolumeLaws.{lies-opened}
 use Rattle.dr_volume.proofs.RanLaws.{ran, ran-stands, read-goes, read-stops, on_ok, on_err}
 use Rattle.dr_volume.proofs.SeenLaws.{lies-of, others-stay}
 use Rattle.dr_volume.proofs.SettledLaws.{settled-along}
@@ -15,18 +20,17 @@ use Rattle.dr_volume.proofs.UpdateLaws.{Run, Changed, task, changed, read-first,
 use Rattle.dr_volume.proofs.change.update.Goals as goal
 
 -- the volume could not be read
-pub returns-in_err-slot : goal.returns-in_err-slot
-returns-in_err-slot g c =
+pub returns-in_err-gate : goal.returns-in_err-gate
+returns-in_err-gate g c =
     let s = g.P.Plant.state c.args.plant.now in
-    let t = g.P.Plant.state c.read_choice.new.plant in
+    let t = g.P.Plant.state c.open_gate.new.plant in
     let table = c.args.config.now in
     let v = c.args.v.0 in
     let d = device_of table v in
-    let at : d ≡ c.device_of-device.result.0 = device-placed table v _ c.device_of-device.ensures.place in
-    let lies = lies-opened table v d c.device_of-device.ensures.sound c.requires.defined refl in
+    let lies = lies-opened table v d c.tell_sound.ensures c.requires.defined refl in
     let x = lies-of table s v d lies.0 lies.1 c.requires.stands in
-    let stuck : can_read s d ≡ false = ap (can_read s) at ∙ sym c.in_err-slot.ensures.done in
-    let is : t ≡ after_read s d = c.in_err-slot.ensures.state ∙ ap (after_read s) (sym at) in
+    let stuck : can_read s d ≡ false = sym c.in_err-gate.ensures.done in
+    let is : t ≡ after_read s d = c.in_err-gate.ensures.state in
     let failed = c.from_residual.ensures.0 in
     let ws = update_writes (not (volume_seen s table v).slot) (staging c.args.staged c.args.next.now) c.args.staged in
     let r = ran s t d ws true (read-stops s d ws stuck ∙ (λ i. (sym is i, true))) in
@@ -48,55 +52,52 @@ returns-in_err-slot g c =
       no_fault = search rules;
     }
 
-pub read_choice-requires : goal.read_choice-requires
-read_choice-requires g c =
-    let lies = lies-sound c.args.config.now c.args.v.0 _ c.device_of-device.ensures.sound c.device_of-device.ensures.place in
-    let device = device-lies (g.P.Plant.state c.args.plant.now) c.args.config.now c.args.v.0 _ lies.0 lies.1 c.requires.stands in
-    let blocks = device.blocks in
-    record { device = device.device; block = omega arith }
-
-pub rewrite-requires : goal.rewrite-requires
-rewrite-requires g c =
-    let s = g.P.Plant.state c.args.plant.now in
-    let same = sym c.in_ok-slot.ensures.same in
-    let lies = lies-sound c.args.config.now c.args.v.0 _ c.device_of-device.ensures.sound c.device_of-device.ensures.place in
-    let d = c.device_of-device.result.0 in
+pub change-requires : goal.change-requires
+change-requires g c =
+    let table = c.args.config.now in
+    let v = c.args.v.0 in
+    let same = sym c.in_ok-gate.ensures.same in
     record {
-      device = subst (λ (u : PlantState). IsDevice u d 13) same (device-lies s c.args.config.now c.args.v.0 d lies.0 lies.1 c.requires.stands);
-      chosen = ap (λ (u : PlantState). slot_of u d) c.in_ok-slot.ensures.same ∙ sym c.in_ok-slot.ensures.slot;
-      track = subst (λ (u : PlantState). IfSome c.args.staged (λ t. (t.0 < 256) × (13 + t.0 < u.size d))) same (room-lies s c.args.config.now c.args.v.0 d lies.0 c.args.staged lies.1 c.requires.stands c.requires.within);
+      defined = c.requires.defined;
+      stands = subst (StandsFor table) same c.requires.stands;
+      gate = subst (λ y. IsGate y table v c.in_ok-gate.gate) same c.in_ok-gate.ensures.gate;
+      lawful = subst (λ (y : PlantState). IsLawful (volume_seen y table v).tracks (plain c.args.next.now)) same c.requires.lawful;
+      within = subst (λ (y : PlantState). IfSome c.args.staged (λ t. t.0 < (volume_seen y table v).tracks)) same c.requires.within;
+      settled = subst (λ y. IsSettled y table v) same c.requires.settled;
+      covers = subst (λ (y : PlantState). Covers (volume_seen y table v).fields.blank c.args.next.now.blank c.args.staged) same c.requires.covers;
     }
 
 pub returns : goal.returns
 returns g c =
     let s = g.P.Plant.state c.args.plant.now in
-    let t = g.P.Plant.state c.rewrite.new.plant in
+    let t = g.P.Plant.state c.change.new.plant in
     let table = c.args.config.now in
     let v = c.args.v.0 in
     let d = device_of table v in
     let f = c.args.next.now in
     let m = c.args.staged in
-    let b = is_err c.rewrite.result in
-    let at : d ≡ c.device_of-device.result.0 = device-placed table v _ c.device_of-device.ensures.place in
-    let lies = lies-opened table v d c.device_of-device.ensures.sound c.requires.defined refl in
+    let b = is_err c.change.result in
+    let gate = c.in_ok-gate.ensures.gate in
+    let slot : slot_of s d ≡ (volume_seen s table v).slot = gate.slot ∙ slot-opened s table v c.in_ok-gate.gate c.requires.defined gate in
+    let lies = lies-opened table v d c.tell_sound.ensures c.requires.defined refl in
     let k = task table s v d lies.0 f m lies.1 c.requires.stands c.requires.lawful c.requires.within c.requires.covers c.requires.settled in
     let run : Run s t d f m b =
-    (λ i. after_writes (sym c.in_ok-slot.ensures.same i) (at i) (update_writes (not (slot_of (sym c.in_ok-slot.ensures.same i) (at i))) (sym c.with_staged.ensures i) m))
-    ∙ c.rewrite.ensures in
+    ap (λ x. after_writes s d (update_writes (not x) (staging m f) m)) slot
+    ∙ subst (λ (y : PlantState). after_writes y d (update_writes (not (volume_seen y table v).slot) (staging m f) m) ≡ (t, b)) c.in_ok-gate.ensures.same c.change.ensures.written in
     let all : Changed table s t v f m b = changed table s t v d k.0 f m b c.requires.stands k.1 run in
-    let can : can_read s d ≡ true = ap (can_read s) at ∙ sym c.in_ok-slot.ensures.done in
+    let can : can_read s d ≡ true = sym c.in_ok-gate.ensures.done in
     record {
       written = read-goes s d _ can ∙ all.written;
       exact = λ rest. read-first table s t v d k.0 _ b rest _ k.1.lies all.others (λ stuck. absurd (let never : true ≡ false = sym can ∙ stuck in cc)) (λ pass. all.exact rest) refl;
-      done = on_ok c.rewrite.result all.done;
+      done = on_ok c.change.result all.done;
       old_or_new = all.old_or_new;
       others = all.others;
       stands = all.stands;
       unarmed = all.unarmed;
       settled = all.settled;
       servers = all.servers;
-      on = on_ok c.rewrite.result all.on;
-      off = on_err c.rewrite.result all.off;
-      fault = on_err c.rewrite.result (λ stopped. all.faults ∙ ap (λ x. cond x (risen s.faults) s.faults) stopped);
-      no_fault = on_ok c.rewrite.result (λ ok. all.faults ∙ ap (λ x. cond x (risen s.faults) s.faults) ok);
+      on = on_ok c.change.result all.on;
+      off = on_err c.change.result all.off;
+      fault = on_err c.change.result (λ stopped. all.faults ∙ ap (λ x. cond x (risen s.faults) s.faults) stopped);
+      no_fault = on_ok c.change.result (λ ok. all.faults ∙ ap (λ x. cond x (risen s.faults) s.faults) ok);
     }

@@ -13,8 +13,7 @@ returns-clause-opened g c =
     let d = c.find-place.result.device.0 in
     let at = device-placed c.args.config.now c.args.v.0 d c.find-place.ensures.place in
     record {
-      device = sym at;
-      slot = ap (slot_of s) at ∙ sym c.in_ok-slot.ensures.slot;
+      gate = record { device = sym at; slot = ap (slot_of s) at ∙ sym c.in_ok-slot.ensures.slot };
       shows = shows-normal s c.args.config.now c.args.v.0 d _ _ c.find-place.ensures
           (c.fields_on-fields.ensures ∙ ap (λ (t : PlantState). normal c.find-place.result.tracks (raw_of (chosen (t.block d)))) c.in_ok-slot.ensures.same);
     }

@@ -11,7 +11,7 @@ returns-in_err-put g c =
     let s = g.P.Plant.state c.args.plant.now in
     let d = c.args.device.0 in
     let f = c.args.next.now in
-    append-stops s _ d (record_writes 6 (not (slot_of s d)) (record_block f)) (track_writes c.args.carried)
+    append-stops s _ d (record_writes 6 (not (slot_of s d)) (record_block f)) (track_writes c.args.carried.now)
     (ap (λ slot. after_writes s d (record_writes 6 (not slot) (record_block f))) c.requires.chosen ∙ c.in_err-put.ensures.writes)
     ∙ err_pair _ _ _ c.from_residual.ensures.0 refl
 
@@ -20,6 +20,6 @@ returns g c =
     let s = g.P.Plant.state c.args.plant.now in
     let d = c.args.device.0 in
     let f = c.args.next.now in
-    append-goes s _ d (record_writes 6 (not (slot_of s d)) (record_block f)) (track_writes c.args.carried)
+    append-goes s _ d (record_writes 6 (not (slot_of s d)) (record_block f)) (track_writes c.args.carried.now)
     (ap (λ slot. after_writes s d (record_writes 6 (not slot) (record_block f))) c.requires.chosen ∙ c.in_ok-put.ensures.writes)
     ∙ c.write_track.ensures

@@ -1,4 +1,4 @@
-use Rattle.std.proofs.Common.{ℕ, ◌≡◌, ◌<◌, ◌+◌, min, ◌∷◌, get_or, length, arith, ap, sym, subst, ◌∙◌, Option, Some, option_map}
+use Rattle.std.proofs.Common.{ℕ, ◌≡◌, ◌<◌, ◌≤◌, ◌+◌, min, ◌∷◌, get_or, length, arith, ap, sym, subst, ◌∙◌, Option, Some, option_map}
 use Rattle.std.specs.Prelude.{IfSome, is_some}
 use Rattle.dr_ids.specs.declared.names.VolumeId.{VolumeId}
 use Rattle.dr_ids.specs.declared.refusal.Refusal.{Refusal}
@@ -12,7 +12,7 @@ use Rattle.dr_moves.proofs.ActedLemmas.{most-few}
 use Rattle.dr_moves.proofs.WentLemmas.{went-on}
 use Rattle.dr_flash.proofs.CopyLemmas.{volume-there}
 use Rattle.dr_admin.specs.Starting.{lift_from}
-use Rattle.dr_admin.proofs.LiftLemmas.{lift-first, lift-count, lift-comes, lift-may, lift-refused, lift-silent}
+use Rattle.dr_admin.proofs.LiftLemmas.{lift-first, lift-count, lift-comes, lift-may, lift-refused, lift-few}
 use Rattle.dr_admin.proofs.lifting.HoldsEntriesNothing.next.Goals as goal
 
 there : (t : ConfigTable) (server place : ℕ) → 0 < length (lift_from t server place) → place < length t.volumes
@@ -70,24 +70,21 @@ returns-clause-refused g c =
 
 pub returns-clause-room : goal.returns-clause-room
 returns-clause-room g c =
+    let x = c.args.self.now in
     let s = g.P.Plant.state c.args.plant.now in
     let t = c.args.config.now in
-    let defined = ap is_some (subst (λ o. IfSome o (λ v. place_of t v.0 ≡ Some c.args.self.now.place)) c.unwrap-v.ensures c.volume_at.ensures.place) in
-    let silent : cost_of c.lift_next.result s t ≡ 0 = subst (λ (n : Next). cost_of n s t ≡ 0) (sym c.lift_next.ensures) (lift-silent s t c.unwrap-v.result c.args.self.now.s.0 defined c.requires.stands) in
-    omega (arith, silent)
+    let first = ap length (lift-first t c.unwrap-v.result.0 x.s.0 x.place (sym (ap (option_map (λ (v : VolumeId). v.0)) c.unwrap-v.ensures) ∙ c.volume_at.ensures.value)) in
+    let few = lift-few s t c.unwrap-v.result x.s.0 c.lift_next.result c.lift_next.ensures in
+    subst (λ n. cost_of c.lift_next.result s t + length (lift_from t x.s.0 n) ≤ length (lift_from t x.s.0 x.place)) (sym (behind x.place (length t.volumes) c.volumes.result c.min-self.result c.volumes.ensures.count (there t x.s.0 x.place c.requires.some) c.min-self.ensures)) (omega (arith, first, few))
 
 pub returns-clause-most : goal.returns-clause-most
-returns-clause-most g c =
-    let s = g.P.Plant.state c.args.plant.now in
-    let t = c.args.config.now in
-    let defined = ap is_some (subst (λ o. IfSome o (λ v. place_of t v.0 ≡ Some c.args.self.now.place)) c.unwrap-v.ensures c.volume_at.ensures.place) in
-    let silent : cost_of c.lift_next.result s t ≡ 0 = subst (λ (n : Next). cost_of n s t ≡ 0) (sym c.lift_next.ensures) (lift-silent s t c.unwrap-v.result c.args.self.now.s.0 defined c.requires.stands) in
-    omega (arith, silent)
+returns-clause-most g c = let fewer = returns-clause-room g c in omega (arith, fewer)
 
 pub returns-clause-stop : goal.returns-clause-stop
 returns-clause-stop g c =
+    let x = c.args.self.now in
     let s = g.P.Plant.state c.args.plant.now in
     let t = c.args.config.now in
-    let defined = ap is_some (subst (λ o. IfSome o (λ v. place_of t v.0 ≡ Some c.args.self.now.place)) c.unwrap-v.ensures c.volume_at.ensures.place) in
-    let silent : cost_of c.lift_next.result s t ≡ 0 = subst (λ (n : Next). cost_of n s t ≡ 0) (sym c.lift_next.ensures) (lift-silent s t c.unwrap-v.result c.args.self.now.s.0 defined c.requires.stands) in
-    most-few c.lift_next.result s t 1 (omega (arith, silent))
+    let few = lift-few s t c.unwrap-v.result x.s.0 c.lift_next.result c.lift_next.ensures in
+    let some = c.requires.some in
+    most-few c.lift_next.result s t (length (lift_from t x.s.0 x.place) + 1) (omega (arith, few, some))

@@ -21,14 +21,14 @@ overflow_add-t g c =
     omega arith
 
 pub read-requires : goal.read-requires
-read-requires g c = own-block (g.P.Plant.state c.args.plant.now) c.args.config.now c.args.v.0 c.args.self.now.device.0 c.args.t c.requires.defined c.requires.stands c.requires.opened.device c.requires.within
+read-requires g c = own-block (g.P.Plant.state c.args.plant.now) c.args.config.now c.args.v.0 c.args.self.now.gate.device.0 c.args.t c.requires.defined c.requires.stands c.requires.opened.gate.device c.requires.within
 
 pub returns-clause-bytes : goal.returns-clause-bytes
 returns-clause-bytes g c =
     let s = g.P.Plant.state c.args.plant.now in
     let at = placed c.args.config.now c.args.v.0 c.requires.defined in
-    let own : s.block c.args.self.now.device.0 (13 + c.args.t) ≡ track_seen s c.args.config.now c.args.v.0 c.args.t =
-    ap (λ d. s.block d (13 + c.args.t)) (c.requires.opened.device ∙ device-placed c.args.config.now c.args.v.0 at.0 at.2)
+    let own : s.block c.args.self.now.gate.device.0 (13 + c.args.t) ≡ track_seen s c.args.config.now c.args.v.0 c.args.t =
+    ap (λ d. s.block d (13 + c.args.t)) (c.requires.opened.gate.device ∙ device-placed c.args.config.now c.args.v.0 at.0 at.2)
     ∙ track-not_staged s c.args.config.now c.args.v.0 at.0 c.args.t at.1 c.args.self.now.fields false at.2 at.3 c.requires.within c.requires.opened.shows
     (sym c.is_staged.ensures ∙ c.if-is_staged.false)
     (sym c.contains.ensures.found ∙ c.if-contains.false) in

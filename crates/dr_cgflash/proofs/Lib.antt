@@ -1,0 +1,4 @@
+pub mod StepLemmas
+pub mod PassLemmas
+pub mod EndLemmas
+pub mod HoldLemmas
