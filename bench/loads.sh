@@ -77,10 +77,6 @@ load() { # NUMBER LINES
 
 lines_of=(99900 99900 99900 1500 99900 99900 19500 97500 40000)
 
-instructions_of() { # PROGRAM
-    valgrind --tool=callgrind --callgrind-out-file="$scratch/profile" "$1" run < "$scratch/script" 2>&1 > "$scratch/answers" | sed -n 's/.*Collected : //p'
-}
-
 compare() { # OLD NEW
     local at
     for at in 0 1 2 3 4 5 6 7 8; do

@@ -17,7 +17,7 @@ use Rattle.dr_model.specs.Refusals.{server_off, stopped}
 use Rattle.dr_model.specs.Control.{World}
 use Rattle.dr_model.specs.Layout.{Fields}
 use Rattle.dr_model.specs.Carry.{Do, Pass, Make}
-use Rattle.dr_model.specs.Moves.{Lift, told_freed}
+use Rattle.dr_model.specs.Moves.{Lift}
 use Rattle.dr_model.specs.Pairs.{held}
 use Rattle.dr_model.specs.ReadStops.{Ends}
 use Rattle.dr_model.specs.Plans.{Plan, expire_plan, expire_on, refuses}
@@ -30,6 +30,7 @@ use Rattle.dr_moves.specs.declared.carrying.Next.{Next}
 use Rattle.dr_moves.specs.declared.carrying.Next.TheVariants as next
 use Rattle.dr_moves.specs.declared.moves.Move.TheVariants as move
 use Rattle.dr_flash.proofs.CopyLemmas.{ids-next}
+use Rattle.dr_facts.proofs.Costs.{freed-few}
 use Rattle.dr_facts.proofs.Ends.{ends-none}
 use Rattle.dr_admin.specs.Answering.{Comes, lift_answer}
 use Rattle.dr_admin.specs.Starting.{lift_from, lifted_by}
@@ -55,15 +56,11 @@ lift-comes s t r ev v server = ap (λ b. if b && held f then Do (Make (Lift v.0)
     when false = refl
 
 -- at most the end of a flash hold is told
-few-freed : (v : ℕ) (had : Bool) → length (told_freed v had) ≤ 1
-few-freed v true = omega arith
-few-freed v false = omega arith
-
 pub lift-few : (s : PlantState) (t : ConfigTable) (v : VolumeId) (server : ℕ) (n : Next) → n ≡ lifted_by v (has_owner t v.0 server) (volume_seen s t v.0).fields → cost_of n s t ≤ 1
 lift-few s t v server n is = subst (λ n. cost_of n s t ≤ 1) (sym is) (by (has_owner t v.0 server && held (volume_seen s t v.0).fields))
   where
     by : (b : Bool) → cost_of (if b then next.Do (move.Lift v) else next.Pass) s t ≤ 1
-    by true = few-freed v.0 (volume_seen s t v.0).fields.flash_hold
+    by true = freed-few v.0 (volume_seen s t v.0).fields.flash_hold
     by false = omega arith
 
 -- a move that may come, of a volume of the server

@@ -1,12 +1,12 @@
 -- Whose a volume is, for the configuration and for the machine.
-use Rattle.std.proofs.Common.{ℕ, ◌≡◌, ◌≢◌, inl, inr, List, ap, ◌∙◌, sym, Bool, true, false, ◌&&◌, nat_eq, Some, None}
+use Rattle.std.proofs.Common.{ℕ, ◌≡◌, inl, inr, List, ap, ◌∙◌, sym, Bool, true, false, ◌&&◌, nat_eq, Some, None}
 use Rattle.std.specs.Prelude.{is_some}
 use Rattle.std.specs.Option.{option_map_or}
 use Rattle.std.proofs.lemmas.Bool.Decides.{Decides-eqb}
 use Rattle.dr_plant.specs.State.{PlantState}
-use Rattle.dr_config.specs.Table.{ConfigTable, place_of, entry_of}
+use Rattle.dr_config.specs.Table.{ConfigTable, entry_of}
 use Rattle.dr_config.specs.declared.entries.VolumeEntry.{VolumeEntry}
-use Rattle.dr_config.proofs.Lookups.{entry-at-place, place-of-entry, either}
+use Rattle.dr_config.proofs.Lookups.{place-of-entry, either}
 use Rattle.dr_host.specs.Writes.{has_owner}
 use Rattle.dr_model.specs.declared.event.Event.{Event}
 use Rattle.dr_model.specs.WriteEntries.{belongs}
@@ -39,9 +39,3 @@ own-server s t v server h =
       | inl found ↦ server-of s t v found.0 found.1 ∙ (Decides-eqb found.0.server server).0 (sym (owner-of t v server found.0 found.1) ∙ h)
       | inr none ↦ let e : false ≡ true = sym (owner-none t v server none) ∙ h in absurd cc
     ]
-
-pub other-server : (s : PlantState) (t : ConfigTable) (v server d : ℕ) → place_of t v ≡ Some d → has_owner t v server ≡ false → (volume_seen s t v).server ≢ server
-other-server s t v server d at h own =
-    let found = entry-at-place t v d at in
-    let e : nat_eq found.0.server server ≡ true = (Decides-eqb found.0.server server).1 (sym (server-of s t v found.0 found.2) ∙ own) in
-    let f : true ≡ false = sym e ∙ sym (owner-of t v server found.0 found.2) ∙ h in absurd cc

@@ -1,7 +1,7 @@
 -- What starting a server comes to: its volumes write their staged tracks to their places and go on, and a write is
 -- acknowledged.
-use Rattle.std.proofs.Common.{ℕ, ◌≡◌, ◌≢◌, ◌<◌, ◌≤◌, ◌+◌, ◌⊎◌, inl, inr, List, [], ◌∷◌, ◌++◌, length, slice_get, refl, ap, ◌∙◌, sym, subst, arith, Bool, true, false, ◌&&◌, cond, nat_eq, Option, Some, None, unwrap_or}
-use Rattle.std.specs.Prelude.{is_some, option_map, Result, Ok, Err, IfOk, OnErr, if◌then◌else◌}
+use Rattle.std.proofs.Common.{ℕ, ◌≡◌, ◌≢◌, ◌<◌, ◌≤◌, ◌+◌, inl, inr, List, [], ◌∷◌, ◌++◌, length, slice_get, refl, ap, ◌∙◌, sym, subst, arith, Bool, true, false, ◌&&◌, cond, nat_eq, Option, Some, None}
+use Rattle.std.specs.Prelude.{option_map, Result, Ok, Err, IfOk, OnErr, if◌then◌else◌}
 use Rattle.std.proofs.lemmas.Bool.Decides.{eqb_tells}
 use Rattle.std.proofs.lemmas.List.{drop_all, append-nil, append_assoc}
 use Rattle.dr_logic.specs.Tables.{at}
@@ -9,9 +9,8 @@ use Rattle.dr_ids.specs.declared.names.WriteId.{WriteId}
 use Rattle.dr_ids.specs.declared.refusal.Refusal.{Refusal}
 use Rattle.dr_plant.specs.State.{PlantState, started, started_read, started_write}
 use Rattle.dr_plant.specs.declared.plant.WriteFuse.{WriteFuse}
-use Rattle.dr_config.specs.Table.{ConfigTable, StandsFor, place_of}
+use Rattle.dr_config.specs.Table.{ConfigTable, StandsFor}
 use Rattle.dr_config.specs.declared.entries.VolumeEntry.{VolumeEntry}
-use Rattle.dr_config.proofs.Lists.{position-within}
 use Rattle.dr_host.specs.Writes as writes
 use Rattle.dr_host.specs.Writes.{Writes, has_owner, without}
 use Rattle.dr_host.proofs.Seen.{seen-landed}
@@ -27,21 +26,19 @@ use Rattle.dr_model.specs.Entries.{fields_at}
 use Rattle.dr_model.specs.Moves.{Restart}
 use Rattle.dr_model.specs.Pairs.{must_restart}
 use Rattle.dr_model.specs.WriteEntries.{redo_on, restart_on, start_entries}
-use Rattle.dr_volume.specs.View.{Rest, volume_seen, volume_at, ids_of, fuses_seen, fuse_seen, IsSettled, TracksSettled}
-use Rattle.dr_volume.specs.Update.{IsAsBefore}
+use Rattle.dr_volume.specs.View.{Rest, ids_of, fuses_seen, fuse_seen}
 use Rattle.dr_volume.proofs.WorldLaws.{on-at, on-seen, fuses-at, fuse-seen}
 use Rattle.dr_moves.specs.Here.{world_seen, armed_in, IsAtRest}
 use Rattle.dr_moves.specs.Turns.{Advances, Halts}
 use Rattle.dr_flash.proofs.CopyLemmas.{ids-next}
 use Rattle.dr_moves.proofs.KeptLemmas.{wider-armed}
 use Rattle.dr_facts.proofs.Ends.{ends-none, ends-skips, ends-wider}
-use Rattle.dr_moves.specs.Ready.{StandsReady, Stayed}
+use Rattle.dr_moves.specs.Ready.{Stayed}
 use Rattle.dr_model.specs.Log.{Log}
 use Rattle.dr_logic.specs.Counts.{Counted}
 use Rattle.dr_admin.specs.Answering.{Comes, write_number}
-use Rattle.dr_admin.specs.Starting.{hosted, IsLater, IsStarting, start_from, start_events, acks, without_acked}
-use Rattle.dr_admin.proofs.OwnerLemmas.{belongs-seen, own-server, other-server}
-use Rattle.dr_config.proofs.Lookups.{either}
+use Rattle.dr_admin.specs.Starting.{hosted, start_from, start_events, acks, without_acked}
+use Rattle.dr_admin.proofs.OwnerLemmas.{belongs-seen}
 use Rattle.dr_logic.proofs.Tables.{at_same, at_other}
 
 -- what a volume writes to its place
@@ -91,108 +88,37 @@ module _ (t : ConfigTable) (v server place : ℕ) (at : Some v ≡ option_map (�
 pub started-all : (t : ConfigTable) (server place : ℕ) → length t.volumes ≤ place → start_from t server place ≡ []
 started-all t server place all = ap (λ es. start_entries server (ids_of es)) (drop_all place t.volumes all)
 
--- ---- what is settled on the way
+-- ---- what stays on the way
 
-settled-alike : (s : PlantState) (t : ConfigTable) (u v : ℕ) → place_of t u ≡ place_of t v → IsSettled s t v → IsSettled s t u
-settled-alike s t u v same h =
-    subst (λ o. s.on (volume_at s t o).server ≡ true → TracksSettled (s.block (unwrap_or o 0)) (volume_at s t o).staged) (sym same) h
-
-later-still : (s s' : PlantState) (t : ConfigTable) (server n u : ℕ) → (volume_seen s' t u).server ≡ (volume_seen s t u).server → IsLater s t server n u → IsLater s' t server n u
-later-still s s' t server n u same l = record { own = same ∙ l.own; at = l.at; stands = l.stands; later = l.later }
-
-module _ (s : PlantState) (t : ConfigTable) (v server place : ℕ) (starting : IsStarting s t server place) (at : place_of t v ≡ Some place) where
-  further : (u : ℕ) → (place_of t u ≡ place_of t v → IsLater s t server (place + 1) u) → IsLater s t server place u → IsLater s t server (place + 1) u
-  further u here l =
-      elim (eqb_tells l.at place) [
-        | inl p ↦ here (l.stands ∙ ap (λ n. Some n) p.1 ∙ sym at)
-        | inr p ↦ let ne = p.1 in let le = l.later in record { own = l.own; at = l.at; stands = l.stands; later = omega arith }
-      ]
-
-  pub starting-skip : has_owner t v server ≡ false → IsStarting s t server (place + 1)
-  starting-skip other = record {
-    stands = starting.stands;
-    on = starting.on;
-    settled = λ u. elim (starting.settled u) [
-      | inl done ↦ inl done
-      | inr l ↦ inr (further u (λ same. absurd (other-server s t v server place at other (ap (λ o. (volume_at s t o).server) (sym same) ∙ l.own))) l)
-    ];
-    sizes = starting.sizes;
-  }
-
-  -- where the volume's track stands at its place now
-  module _ (s' : PlantState) (same : (u : ℕ) → IsAsBefore s s' t u) (stands : StandsFor t s') (kept : (u : ℕ) → IsSettled s t u → IsSettled s' t u) where
-    still-later : (u n : ℕ) → IsLater s t server n u → IsLater s' t server n u
-    still-later u n l = later-still s s' t server n u (ap (λ x. x.server) (same u).volume) l
-
-    settled-next : (u : ℕ) → IsSettled s' t v → IsSettled s t u ⊎ IsLater s t server place u → IsSettled s' t u ⊎ IsLater s' t server (place + 1) u
-    settled-next u done (inl h) = inl (kept u h)
-    settled-next u done (inr l) =
-        elim (eqb_tells l.at place) [
-          | inl p ↦ inl (settled-alike s' t u v (l.stands ∙ ap (λ n. Some n) p.1 ∙ sym at) done)
-          | inr p ↦ let ne = p.1 in let le = l.later in inr (still-later u (place + 1) (record { own = l.own; at = l.at; stands = l.stands; later = omega arith }))
-        ]
-
-    pub starting-goes : s'.on ≡ s.on → IsSettled s' t v → IsStarting s' t server (place + 1)
-    starting-goes on done = record {
-      stands = stands;
-      on = ap (λ f. f server) on ∙ starting.on;
-      settled = λ u. settled-next u done (starting.settled u);
-      sizes = λ u. subst (λ x. x ≤ 256) (sym (ap (λ x. x.tracks) (same u).volume)) (starting.sizes u);
-    }
-
--- where no volume changed its server or its size, each is settled that was
-module _ (s s' : PlantState) (t : ConfigTable) (server place : ℕ) (starting : IsStarting s t server place) (servers : (u : ℕ) → (volume_seen s' t u).server ≡ (volume_seen s t u).server) (tracks : (u : ℕ) → (volume_seen s' t u).tracks ≡ (volume_seen s t u).tracks)
-    (stands : StandsFor t s') (kept : (u : ℕ) → IsSettled s t u → IsSettled s' t u) where
-  sizes-still : (u : ℕ) → (volume_seen s' t u).tracks ≤ 256
-  sizes-still u = subst (λ x. x ≤ 256) (sym (tracks u)) (starting.sizes u)
-
-  settled-still : (u : ℕ) → IsSettled s t u ⊎ IsLater s t server place u → IsSettled s' t u ⊎ IsLater s' t server place u
-  settled-still u (inl h) = inl (kept u h)
-  settled-still u (inr l) = inr (later-still s s' t server place u (servers u) l)
-
-  pub starting-still : s'.on ≡ s.on → IsStarting s' t server place
-  starting-still on = record {
-    stands = stands;
-    on = ap (λ f. f server) on ∙ starting.on;
-    settled = λ u. settled-still u (starting.settled u);
-    sizes = sizes-still;
-  }
-
-  settled-off : (u : ℕ) → s'.on server ≡ false → IsSettled s t u ⊎ IsLater s t server place u → IsSettled s' t u
-  settled-off u off (inl h) = kept u h
-  settled-off u off (inr l) = λ on. let e : true ≡ false = sym on ∙ ap s'.on (servers u ∙ l.own) ∙ off in absurd cc
-
-  pub rest-stopped : s'.on server ≡ false → IsAtRest s' t
-  rest-stopped off = record { stands = stands; settled = λ u. settled-off u off (starting.settled u); sizes = sizes-still }
+-- in more room
+roomy : (mid old new few most : ℕ) → few ≤ most → mid ≡ old → mid ≤ new + few → old ≤ new + most
+roomy mid old new few most le same h = omega (arith, le, same, h)
 
 -- what stays along two calls in a row, where the first told nothing
-pub stayed-then : (s m u : PlantState) (t : ConfigTable) (old mid new : Log) (server : ℕ) (res : Result (Unit {0}) Refusal) → mid ≡ old → Stayed s m t old mid server 1 {E = Refusal} (Ok tt) → Stayed m u t mid new server 1 res → Stayed s u t old new server 1 res
-stayed-then s m u t old mid new server (Ok x) silent first second = record {
+pub stayed-then : (s m u : PlantState) (t : ConfigTable) (old mid new : Log) (server a few most : ℕ) (res : Result (Unit {0}) Refusal) → few ≤ most → mid ≡ old → Stayed s m t old mid server a {E = Refusal} (Ok tt) → Stayed m u t mid new server few res → Stayed s u t old new server most res
+stayed-then s m u t old mid new server a few most (Ok x) le silent first second = record {
   stands = second.stands;
-  settled = λ q is. second.settled q (first.settled q is);
   unarmed = λ q none. second.unarmed q (first.unarmed q none);
   faults = second.faults ∙ first.faults;
   on = second.on ∙ first.on;
   off = tt;
-  room = subst (λ (j : Log). j.spare ≤ new.spare + 1) silent second.room;
+  room = roomy mid.spare old.spare new.spare few most le (ap (λ (j : Log). j.spare) silent) second.room;
   spare = second.spare ∙ first.spare;
 }
-stayed-then s m u t old mid new server (Err e) silent first second = record {
+stayed-then s m u t old mid new server a few most (Err e) le silent first second = record {
   stands = second.stands;
-  settled = λ q is. second.settled q (first.settled q is);
   unarmed = λ q none. second.unarmed q (first.unarmed q none);
   faults = let same : m.faults ≡ s.faults = first.faults in subst (λ n. Counted true n u.faults) same second.faults;
   on = tt;
   off = second.off;
-  room = subst (λ (j : Log). j.spare ≤ new.spare + 1) silent second.room;
+  room = roomy mid.spare old.spare new.spare few most le (ap (λ (j : Log). j.spare) silent) second.room;
   spare = second.spare ∙ first.spare;
 }
 
 -- where nothing was done
-pub stayed-same : (s : PlantState) (t : ConfigTable) (j : Log) (server : ℕ) → StandsFor t s → Stayed s s t j j server 1 {E = Refusal} (Ok tt)
-stayed-same s t j server stands = record {
+pub stayed-same : (s : PlantState) (t : ConfigTable) (j : Log) (server most : ℕ) → StandsFor t s → Stayed s s t j j server most {E = Refusal} (Ok tt)
+stayed-same s t j server most stands = record {
   stands = stands;
-  settled = λ q is. is;
   unarmed = λ q none. none;
   faults = refl;
   on = refl;
@@ -205,50 +131,12 @@ stayed-same s t j server stands = record {
 pub of-each : (P : ℕ → Type 0) (v : ℕ) → P v → ((u : ℕ) → u ≢ v → P u) → (u : ℕ) → P u
 of-each P v here there u = elim (eqb_tells u v) [ inl p ↦ subst P (sym p.1) here | inr p ↦ there u p.1 ]
 
--- a volume of the server stands ready to go on, once its track stands at its place
-pub ready-volume : (s : PlantState) (t : ConfigTable) (v server place at : ℕ) → IsStarting s t server place → IsSettled s t v → place_of t v ≡ Some at → has_owner t v server ≡ true → StandsReady s t v
-ready-volume s t v server place at starting settled is owned = record {
-  stands = starting.stands;
-  defined = ap is_some is;
-  running = ap s.on (own-server s t v server owned) ∙ starting.on;
-  settled = settled;
-  size = starting.sizes v;
-}
-
-pub rest-started : (s : PlantState) (t : ConfigTable) (server place : ℕ) → IsStarting s t server place → length t.volumes ≤ place → IsAtRest s t
-rest-started s t server place starting all = record {
-  stands = starting.stands;
-  settled = λ u. elim (starting.settled u) [
-    | inl h ↦ h
-    | inr l ↦ let within = position-within (λ (e : VolumeEntry). nat_eq e.id u) t.volumes l.at l.stands in let le = l.later in absurd (omega (arith, within, le, all))
-  ];
-  sizes = starting.sizes;
-}
-
 -- ---- a server is turned on
 
--- its own volumes aren't settled yet
-started-other : (s : PlantState) (server q : ℕ) → q ≢ server → (started s server).on q ≡ true → s.on q ≡ true
+-- all is at rest then, as before
+pub rest-started : (s u : PlantState) (t : ConfigTable) (server : ℕ) → u ≡ started s server → IsAtRest s t → IsAtRest u t
 unfolding started
-started-other s server q ne on = sym (at_other s.on server true q ne) ∙ on
-
-undefined-settled : (s : PlantState) (t : ConfigTable) (v : ℕ) → place_of t v ≡ None → IsSettled s t v
-undefined-settled s t v none = subst (λ o. s.on (volume_at s t o).server ≡ true → TracksSettled (s.block (unwrap_or o 0)) (volume_at s t o).staged) (sym none) (λ on. tt)
-
-pub starting-first : (s : PlantState) (t : ConfigTable) (server : ℕ) → IsAtRest s t → IsStarting (started s server) t server 0
-unfolding started
-starting-first s t server ready = record {
-  stands = record { count = ready.stands.count; device = ready.stands.device };
-  on = at_same s.on server true;
-  settled = λ v. elim (either (place_of t v)) [
-    | inr none ↦ inl (undefined-settled (started s server) t v none)
-    | inl found ↦ elim (eqb_tells (volume_seen s t v).server server) [
-      | inl p ↦ inr (record { own = p.1; at = found.0; stands = found.1; later = omega arith })
-      | inr p ↦ inl (λ on. ready.settled v (started-other s server (volume_seen s t v).server p.1 on))
-    ]
-  ];
-  sizes = ready.sizes;
-}
+rest-started s u t server is rest = subst (λ (x : PlantState). IsAtRest x t) (sym is) (record { stands = record { count = rest.stands.count; device = rest.stands.device }; sizes = rest.sizes })
 
 -- it arms no read fuse
 pub started-unarmed : (s u : PlantState) (server q : ℕ) → u ≡ started s server → s.read_fuse q ≡ None → u.read_fuse q ≡ None

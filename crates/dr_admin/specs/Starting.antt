@@ -1,9 +1,9 @@
 -- A server that starts, while its volumes write their staged tracks to their places and go on, and one whose volumes' holds
 -- end, in order of definition; and the host's pending writes among what a state shows.
-use Rattle.std.specs.Prelude.{◌≡◌, ℕ, ◌≤◌, ◌⊎◌, Bool, ◌&&◌, true, false, List, [], ◌∷◌, map, drop, Option, Some, None, if◌then◌else◌}
+use Rattle.std.specs.Prelude.{ℕ, Bool, ◌&&◌, true, false, List, [], ◌∷◌, map, drop, Option, Some, None, if◌then◌else◌}
 use Rattle.dr_ids.specs.declared.names.VolumeId.{VolumeId}
 use Rattle.dr_plant.specs.State.{PlantState}
-use Rattle.dr_config.specs.Table.{ConfigTable, StandsFor, place_of}
+use Rattle.dr_config.specs.Table.{ConfigTable}
 use Rattle.dr_host.specs.Hearing.{with_writes}
 use Rattle.dr_host.specs.Writes.{Writes, landed_on, without}
 use Rattle.dr_model.specs.Carry.{Entry}
@@ -13,7 +13,7 @@ use Rattle.dr_model.specs.Pairs.{held}
 use Rattle.dr_model.specs.WriteEntries.{start_entries, lift_on}
 use Rattle.dr_model.specs.declared.event.Event.{Event}
 use Rattle.dr_model.specs.declared.event.Event.TheVariants.{Started, Ack}
-use Rattle.dr_volume.specs.View.{Rest, volume_seen, ids_of, IsSettled}
+use Rattle.dr_volume.specs.View.{Rest, ids_of}
 use Rattle.dr_moves.specs.Here.{world_seen}
 use Rattle.dr_moves.specs.declared.carrying.Next.{Next}
 use Rattle.dr_moves.specs.declared.carrying.Next.TheVariants as next
@@ -34,20 +34,6 @@ lift_from t server place = map (lift_on server) (ids_of (drop place t.volumes))
 -- what becomes of the holds of a volume with these fields, which is the server's or isn't
 abbrev pub lifted_by : VolumeId → Bool → Fields → Next
 lifted_by v b f = if b && held f then next.Do (move.Lift v) else next.Pass
-
--- a volume of the server that stands at that place or behind it
-pub record IsLater (s : PlantState) (t : ConfigTable) (server place v : ℕ) : Type 0 where
-  pub own : (volume_seen s t v).server ≡ server
-  pub at : ℕ
-  pub stands : place_of t v ≡ Some at
-  pub later : place ≤ at
-
--- The server is on, and all is ready but its volumes from a place on, whose staged tracks aren't at their places yet.
-pub record IsStarting (s : PlantState) (t : ConfigTable) (server place : ℕ) : Type 0 where
-  pub stands : StandsFor t s
-  pub on : s.on server ≡ true
-  pub settled : (v : ℕ) → IsSettled s t v ⊎ IsLater s t server place v
-  pub sizes : (v : ℕ) → (volume_seen s t v).tracks ≤ 256
 
 -- The write that a start of the server acknowledges: none where it is on, else the first that landed on a volume of it in a
 -- stop, if there is one.

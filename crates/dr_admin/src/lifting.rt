@@ -58,9 +58,9 @@ impl<P: Plant> Entries<P, Nothing> for Holds {
 
     ghost refuses = { λ x c r. r ≡ Some (stopped x.s.0) };
 
-    ghost room = { λ x c. length (lift_from c x.s.0 x.place) };
+    ghost room = { λ x c. length (lift_from c x.s.0 x.place) + length (lift_from c x.s.0 x.place) };
 
-    ghost most = { λ x c. length (lift_from c x.s.0 x.place) + 1 };
+    ghost most = { λ x c. length (lift_from c x.s.0 x.place) + length (lift_from c x.s.0 x.place) + 1 };
 
     fn count(&self, config: &Config) -> usize {
         config.volumes().saturating_sub(self.place)
@@ -76,7 +76,7 @@ impl<P: Plant> Entries<P, Nothing> for Holds {
 }
 
 /// Ends the holds of the volumes of a server that is on, in order of definition, until the server stops. The journal needs room
-/// for an event for each volume and one more.
+/// for two events for each volume and one more.
 fn lift_all<P: Plant>(
     plant: &mut P,
     config: &Config,
@@ -85,11 +85,11 @@ fn lift_all<P: Plant>(
 ) -> Result<(), Refusal>
     requires at { IsAt (P.state plant.old) config.now }
     requires on { (P.state plant.old).on s.0 ≡ true }
-    requires room { length config.now.volumes + 1 ≤ journal.old.spare }
+    requires room { length config.now.volumes + length config.now.volumes + 1 ≤ journal.old.spare }
     ensures carried { (r : Rest) → Ends (armed_in (P.state plant.old)) (world_seen (P.state plant.new) config.now r journal.new.events) (refusal_of result) (world_seen (P.state plant.old) config.now r journal.old.events) (lift_from config.now s.0 0) }
     ensures stopped { OnErr result (refusal_of result ≡ Some (stopped s.0)) }
-    ensures kept { Kept (P.state plant.old) (P.state plant.new) config.now journal.old journal.new (length config.now.volumes + 1) (is_stop (refusal_of result)) result }
-    ensures room_left { OnOk result (journal.old.spare ≤ journal.new.spare + length config.now.volumes) }
+    ensures kept { Kept (P.state plant.old) (P.state plant.new) config.now journal.old journal.new (length config.now.volumes + length config.now.volumes + 1) (is_stop (refusal_of result)) result }
+    ensures room_left { OnOk result (journal.old.spare ≤ journal.new.spare + (length config.now.volumes + length config.now.volumes)) }
 {
     let mut holds = Holds { s, place: 0 };
     carry(plant, config, journal, &mut holds)
@@ -98,8 +98,8 @@ fn lift_all<P: Plant>(
 /// Ends all holds of the server's volumes, in order of definition: none is long busy or has a flash hold any more, and a
 /// coordination hold ends with a void, so that what changed while its volume recorded is out of sync. Refused where the server
 /// is off; then nothing has changed. Fails too where the server stops in a move or goes off at a read; what was done by then
-/// stays. Nothing is told but the end of each flash hold, and a stop. The journal needs room for an event for each volume and
-/// one more.
+/// stays. Nothing is told but the end of each flash hold, and a stop. The journal needs room for two events for each volume
+/// and one more.
 pub fn lift<P: Plant>(
     plant: &mut P,
     config: &Config,
@@ -109,7 +109,7 @@ pub fn lift<P: Plant>(
     requires rest { IsAtRest (P.state plant.old) config.now }
     requires fit { RelationsFit (P.state plant.old) config.now }
     requires known { s.0 < 8 }
-    requires room { length config.now.volumes + 1 ≤ journal.old.spare }
+    requires room { length config.now.volumes + length config.now.volumes + 1 ≤ journal.old.spare }
     ensures plan { (r : Rest) → Comes (armed_in (P.state plant.old)) (world_seen (P.state plant.old) config.now r journal.old.events) (expire_on (world_seen (P.state plant.old) config.now r journal.old.events).control s.0)
         (world_seen (P.state plant.new) config.now r journal.new.events) (lift_answer result) }
     ensures refused { (P.state plant.old).on s.0 ≡ false → refusal_of result ≡ Some (server_off s.0) }
@@ -120,8 +120,8 @@ pub fn lift<P: Plant>(
     ensures unarmed { (q : ℕ) → (P.state plant.old).read_fuse q ≡ None → (P.state plant.new).read_fuse q ≡ None }
     ensures faults { Counted (is_stop (refusal_of result)) (P.state plant.old).faults (P.state plant.new).faults }
     ensures on { OnOk result ((P.state plant.new).on ≡ (P.state plant.old).on) }
-    ensures room { journal.old.spare ≤ journal.new.spare + (length config.now.volumes + 1) }
-    ensures room_left { OnOk result (journal.old.spare ≤ journal.new.spare + length config.now.volumes) }
+    ensures room { journal.old.spare ≤ journal.new.spare + (length config.now.volumes + length config.now.volumes + 1) }
+    ensures room_left { OnOk result (journal.old.spare ≤ journal.new.spare + (length config.now.volumes + length config.now.volumes)) }
     ensures spare { length journal.new.events + journal.new.spare ≡ length journal.old.events + journal.old.spare }
 {
     if !plant.is_on(s.0) {

@@ -1,6 +1,6 @@
 //! A server starts.
 
-ghost use Rattle.std.specs.Prelude.{◌≡◌, ℕ, ◌+◌, ◌<◌, ◌≤◌, Bool, true, false, [], ◌∷◌, ◌++◌, length, List, Option, Some, None, Ok, IfOk, OnOk, OnErr, is_err};
+ghost use Rattle.std.specs.Prelude.{◌≡◌, ℕ, ◌+◌, ◌<◌, ◌≤◌, Bool, true, false, [], ◌∷◌, ◌++◌, length, List, Option, Some, None, IsSome, Ok, IfOk, OnOk, OnErr, is_err};
 ghost use Rattle.dr_logic.specs.Counts.{Counted};
 ghost use Rattle.dr_logic.specs.Tables.{at};
 ghost use Rattle.dr_ids.specs.declared.refusal.Refusal.{Refusal};
@@ -13,12 +13,12 @@ ghost use Rattle.dr_model.specs.Plans.{start_on, acknowledge_on};
 ghost use Rattle.dr_model.specs.ReadStops.{Ends};
 ghost use Rattle.dr_model.specs.Refusals.{stopped};
 ghost use Rattle.dr_model.specs.WriteEntries.{redo_on, restart_on};
-ghost use Rattle.dr_volume.specs.View.{Rest, IsSettled};
+ghost use Rattle.dr_volume.specs.View.{Rest};
 ghost use Rattle.dr_moves.specs.Here.{world_seen, refusal_of, armed_in, IsAtRest};
 ghost use Rattle.dr_moves.specs.Ready.{Stayed};
 ghost use Rattle.dr_moves.specs.Turns.{Advances, Halts, Leads, Fails};
 ghost use Rattle.dr_admin.specs.Answering.{Comes, write_number, start_answer};
-ghost use Rattle.dr_admin.specs.Starting.{hosted, IsStarting, start_from, acked_at, without_acked, acks, start_events};
+ghost use Rattle.dr_admin.specs.Starting.{hosted, start_from, acked_at, without_acked, acks, start_events};
 
 use crate::owners::belongs;
 use dr_config::Config;
@@ -46,51 +46,47 @@ fn acknowledge(config: &Config, journal: &mut Journal, h: &mut Host, s: ServerId
     Some(w)
 }
 
-/// Writes the staged track of the server's volume at a place to its own place.
+/// Writes the staged track of the server's volume to its own place.
 fn redo_own<P: Plant>(
     plant: &mut P,
     config: &Config,
     journal: &mut Journal,
     s: ServerId,
     v: VolumeId,
-    place: usize,
 ) -> Result<(), Refusal>
-    requires starting { IsStarting (P.state plant.old) config.now s.0 place }
-    requires at { place_of config.now v.0 ≡ Some place }
+    requires rest { IsAtRest (P.state plant.old) config.now }
+    requires on { (P.state plant.old).on s.0 ≡ true }
+    requires defined { IsSome (place_of config.now v.0) }
     requires owned { has_owner config.now v.0 s.0 ≡ true }
     requires room { 1 ≤ journal.old.spare }
     ensures advances { OnOk result ((r : Rest) → Advances (world_seen (P.state plant.old) config.now r journal.old.events) (redo_on s.0 v.0) (world_seen (P.state plant.new) config.now r journal.new.events)) }
     ensures halts { OnErr result ((r : Rest) → Halts (armed_in (P.state plant.old)) (world_seen (P.state plant.old) config.now r journal.old.events) (redo_on s.0 v.0) (world_seen (P.state plant.new) config.now r journal.new.events) (refusal_of result)) }
     ensures stopped { OnErr result (refusal_of result ≡ Some (stopped s.0)) }
-    ensures starting { OnOk result (IsStarting (P.state plant.new) config.now s.0 (place + 1)) }
-    ensures settled { OnOk result (IsSettled (P.state plant.new) config.now v.0) }
-    ensures rest { OnErr result (IsAtRest (P.state plant.new) config.now) }
+    ensures rest { IsAtRest (P.state plant.new) config.now }
     ensures stayed { Stayed (P.state plant.old) (P.state plant.new) config.now journal.old journal.new s.0 1 result }
     ensures told { OnOk result (journal.new ≡ journal.old) }
 {
     place_staged(plant, config, journal, v)
 }
 
-/// Lets the server's volume before a place go on, whose staged track stands at its place.
+/// Lets the server's volume go on.
 fn restart_own<P: Plant>(
     plant: &mut P,
     config: &Config,
     journal: &mut Journal,
     s: ServerId,
     v: VolumeId,
-    place: usize,
 ) -> Result<(), Refusal>
-    requires starting { IsStarting (P.state plant.old) config.now s.0 (place + 1) }
-    requires settled { IsSettled (P.state plant.old) config.now v.0 }
-    requires at { place_of config.now v.0 ≡ Some place }
+    requires rest { IsAtRest (P.state plant.old) config.now }
+    requires on { (P.state plant.old).on s.0 ≡ true }
+    requires defined { IsSome (place_of config.now v.0) }
     requires owned { has_owner config.now v.0 s.0 ≡ true }
-    requires room { 1 ≤ journal.old.spare }
+    requires room { 3 ≤ journal.old.spare }
     ensures advances { OnOk result ((r : Rest) → Advances (world_seen (P.state plant.old) config.now r journal.old.events) (restart_on s.0 v.0) (world_seen (P.state plant.new) config.now r journal.new.events)) }
     ensures halts { OnErr result ((r : Rest) → Halts (armed_in (P.state plant.old)) (world_seen (P.state plant.old) config.now r journal.old.events) (restart_on s.0 v.0) (world_seen (P.state plant.new) config.now r journal.new.events) (refusal_of result)) }
     ensures stopped { OnErr result (refusal_of result ≡ Some (stopped s.0)) }
-    ensures starting { OnOk result (IsStarting (P.state plant.new) config.now s.0 (place + 1)) }
-    ensures rest { OnErr result (IsAtRest (P.state plant.new) config.now) }
-    ensures stayed { Stayed (P.state plant.old) (P.state plant.new) config.now journal.old journal.new s.0 1 result }
+    ensures rest { IsAtRest (P.state plant.new) config.now }
+    ensures stayed { Stayed (P.state plant.old) (P.state plant.new) config.now journal.old journal.new s.0 3 result }
     ensures told { OnOk result (journal.new ≡ journal.old) }
 {
     restart(plant, config, journal, v)
@@ -104,43 +100,44 @@ fn go_on_at<P: Plant>(
     s: ServerId,
     place: usize,
 ) -> Result<(), Refusal>
-    requires starting { IsStarting (P.state plant.old) config.now s.0 place }
+    requires rest { IsAtRest (P.state plant.old) config.now }
+    requires on { (P.state plant.old).on s.0 ≡ true }
     requires within { place < length config.now.volumes }
-    requires room { 1 ≤ journal.old.spare }
+    requires room { 3 ≤ journal.old.spare }
     ensures goes { OnOk result ((r : Rest) (armed : ℕ → Bool) (u : World) (q : Option Refusal) (ds : List Entry) → Ends armed u q (world_seen (P.state plant.new) config.now r journal.new.events) (start_from config.now s.0 (place + 1) ++ ds)
         → Ends armed u q (world_seen (P.state plant.old) config.now r journal.old.events) (start_from config.now s.0 place ++ ds)) }
     ensures fails { OnErr result ((r : Rest) → Fails (armed_in (P.state plant.old)) (world_seen (P.state plant.old) config.now r journal.old.events) (start_from config.now s.0 place) (world_seen (P.state plant.new) config.now r journal.new.events) (refusal_of result)) }
     ensures stopped { OnErr result (refusal_of result ≡ Some (stopped s.0)) }
-    ensures starting { OnOk result (IsStarting (P.state plant.new) config.now s.0 (place + 1)) }
-    ensures rest { OnErr result (IsAtRest (P.state plant.new) config.now) }
-    ensures stayed { Stayed (P.state plant.old) (P.state plant.new) config.now journal.old journal.new s.0 1 result }
+    ensures rest { IsAtRest (P.state plant.new) config.now }
+    ensures stayed { Stayed (P.state plant.old) (P.state plant.new) config.now journal.old journal.new s.0 3 result }
     ensures told { OnOk result (journal.new ≡ journal.old) }
 {
     let v = config.volume_at(place).unwrap();
     if !belongs(config, v, s) {
         return Ok(());
     }
-    match redo_own(plant, config, journal, s, v, place) {
-        Ok(()) => restart_own(plant, config, journal, s, v, place),
+    match redo_own(plant, config, journal, s, v) {
+        Ok(()) => restart_own(plant, config, journal, s, v),
         Err(why) => Err(why),
     }
 }
 
 /// Lets a server's volumes write their staged tracks to their places and go on, volume by volume, in order of definition,
-/// until the server stops.
+/// until the server stops. The journal needs room for two events for each volume and one more.
 fn go_on_all<P: Plant>(
     plant: &mut P,
     config: &Config,
     journal: &mut Journal,
     s: ServerId,
 ) -> Result<(), Refusal>
-    requires starting { IsStarting (P.state plant.old) config.now s.0 0 }
-    requires room { 1 ≤ journal.old.spare }
+    requires rest { IsAtRest (P.state plant.old) config.now }
+    requires on { (P.state plant.old).on s.0 ≡ true }
+    requires room { length config.now.volumes + length config.now.volumes + 1 ≤ journal.old.spare }
     ensures leads { OnOk result ((r : Rest) → Leads (world_seen (P.state plant.old) config.now r journal.old.events) (start_from config.now s.0 0) (world_seen (P.state plant.new) config.now r journal.new.events)) }
     ensures fails { OnErr result ((r : Rest) → Fails (armed_in (P.state plant.old)) (world_seen (P.state plant.old) config.now r journal.old.events) (start_from config.now s.0 0) (world_seen (P.state plant.new) config.now r journal.new.events) (refusal_of result)) }
     ensures stopped { OnErr result (refusal_of result ≡ Some (stopped s.0)) }
     ensures rest { IsAtRest (P.state plant.new) config.now }
-    ensures stayed { Stayed (P.state plant.old) (P.state plant.new) config.now journal.old journal.new s.0 1 result }
+    ensures stayed { Stayed (P.state plant.old) (P.state plant.new) config.now journal.old journal.new s.0 (length config.now.volumes + length config.now.volumes + 1) result }
     ensures told { OnOk result (journal.new ≡ journal.old) }
 {
     for place in 0..config.volumes() {
@@ -160,7 +157,7 @@ fn turn_on<P: Plant>(
     requires rest { IsAtRest (P.state plant.old) config.now }
     requires known { s.0 < 8 }
     requires off { (P.state plant.old).on s.0 ≡ false }
-    requires room { 2 ≤ journal.old.spare }
+    requires room { length config.now.volumes + length config.now.volumes + 2 ≤ journal.old.spare }
     ensures plan { (r : Rest) → Comes (armed_in (P.state plant.old)) (hosted (P.state plant.old) config.now r h.old journal.old.events) (start_on (hosted (P.state plant.old) config.now r h.old journal.old.events).control s.0)
         (hosted (P.state plant.new) config.now r h.new journal.new.events) (start_answer result) }
     ensures stopped { OnErr result (refusal_of result ≡ Some (stopped s.0)) }
@@ -173,7 +170,7 @@ fn turn_on<P: Plant>(
     ensures faults { Counted (is_err result) (P.state plant.old).faults (P.state plant.new).faults }
     ensures on { OnOk result ((P.state plant.new).on ≡ at (P.state plant.old).on s.0 true) }
     ensures off { OnErr result ((P.state plant.new).on s.0 ≡ false) }
-    ensures room { journal.old.spare ≤ journal.new.spare + 2 }
+    ensures room { journal.old.spare ≤ journal.new.spare + (length config.now.volumes + length config.now.volumes + 2) }
     ensures room_left { IfOk result (λ a. journal.old.spare ≡ journal.new.spare + length (start_events false s.0 (write_number a))) }
     ensures spare { length journal.new.events + journal.new.spare ≡ length journal.old.events + journal.old.spare }
 {
@@ -191,7 +188,8 @@ fn turn_on<P: Plant>(
 /// stop is acknowledged, so that it is pending no more, and its number is given back; none where none had landed. Where the
 /// server is on, nothing happens, and no number is given. The journal is told of the start and of the acknowledgement. Fails
 /// where the server stops in a write or goes off at a read; then what was done stays, no write is acknowledged, and the host's
-/// writes are as they were. Its fuses that stand at 0 are taken away first. The journal needs room for two events.
+/// writes are as they were. Its fuses that stand at 0 are taken away first. The journal needs room for two events for each
+/// volume and two more.
 pub fn start<P: Plant>(
     plant: &mut P,
     config: &Config,
@@ -201,7 +199,7 @@ pub fn start<P: Plant>(
 ) -> Result<Option<WriteId>, Refusal>
     requires rest { IsAtRest (P.state plant.old) config.now }
     requires known { s.0 < 8 }
-    requires room { 2 ≤ journal.old.spare }
+    requires room { length config.now.volumes + length config.now.volumes + 2 ≤ journal.old.spare }
     ensures plan { (r : Rest) → Comes (armed_in (P.state plant.old)) (hosted (P.state plant.old) config.now r h.old journal.old.events) (start_on (hosted (P.state plant.old) config.now r h.old journal.old.events).control s.0)
         (hosted (P.state plant.new) config.now r h.new journal.new.events) (start_answer result) }
     ensures stopped { OnErr result (refusal_of result ≡ Some (stopped s.0)) }
@@ -216,7 +214,7 @@ pub fn start<P: Plant>(
     ensures on { OnOk result ((P.state plant.old).on s.0 ≡ false → (P.state plant.new).on ≡ at (P.state plant.old).on s.0 true) }
     ensures off { OnErr result ((P.state plant.new).on s.0 ≡ false) }
     ensures issued { h.new.issued ≡ h.old.issued }
-    ensures room { journal.old.spare ≤ journal.new.spare + 2 }
+    ensures room { journal.old.spare ≤ journal.new.spare + (length config.now.volumes + length config.now.volumes + 2) }
     ensures room_left { IfOk result (λ a. journal.old.spare ≡ journal.new.spare + length (start_events ((P.state plant.old).on s.0) s.0 (write_number a))) }
     ensures spare { length journal.new.events + journal.new.spare ≡ length journal.old.events + journal.old.spare }
 {

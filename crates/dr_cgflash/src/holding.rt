@@ -88,8 +88,6 @@ pub fn freeze_flash<P: Plant>(
     if let Some(why) = establish_refusal(plant, config, s, t) {
         return Err(why);
     }
-    match hold(plant, config, journal, s) {
-        Ok(()) => make_target(plant, config, journal, s, t, o),
-        Err(why) => Err(why),
-    }
+    hold(plant, config, journal, s)?;
+    make_target(plant, config, journal, s, t, o)
 }

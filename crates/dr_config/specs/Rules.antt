@@ -2,6 +2,7 @@
 -- table is with one more, or with the link set.
 use Rattle.std.specs.Prelude.{ℕ, Bool, false, not, ◌==◌, ◌||◌, nat_le, nat_lt, List, [], ◌∷◌, ◌++◌, length, Option, Some, None, is_some, Result, Ok, Err, if◌then◌else◌}
 use Rattle.std.specs.Option.{unwrap_or}
+use Rattle.dr_ids.specs.Sizes.{most_tracks}
 use Rattle.dr_ids.specs.Paths.{path_in, with_path, without_path}
 use Rattle.dr_ids.specs.declared.refusal.Refusal.{Refusal}
 use Rattle.dr_ids.specs.declared.refusal.Refusal.TheVariants.{Unknown, Duplicate, Limit, ServerOff, LinkDown}
@@ -34,7 +35,7 @@ abbrev pub volume_refusal : ConfigTable → ℕ → ℕ → ℕ → Option Refus
 volume_refusal t v server tracks =
     if is_some (place_of t v) then Some (Duplicate kind.Volume)
     else if is_foreign (lss_owner t (lss_of v)) server then Some (Duplicate kind.Lss)
-    else if tracks == 0 || nat_lt 256 tracks then Some (Limit limit.Tracks)
+    else if tracks == 0 || nat_lt most_tracks tracks then Some (Limit limit.Tracks)
     else if nat_le 64 (length t.volumes) then Some (Limit limit.Volumes)
     else None
 

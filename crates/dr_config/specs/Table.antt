@@ -2,6 +2,7 @@
 use Rattle.std.specs.Prelude.{◌≡◌, ℕ, ◌+◌, ◌/◌, ◌<◌, ◌≤◌, ◌==◌, Bool, true, not, List, length, slice_get, Option, Some, option_map}
 use Rattle.std.specs.List.{position, find}
 use Rattle.std.specs.Str.{bytes_eq}
+use Rattle.dr_ids.specs.Sizes.{blocks_of, most_tracks}
 use Rattle.dr_ids.specs.Paths.{Path}
 use Rattle.dr_plant.specs.State.{PlantState}
 use Rattle.dr_config.specs.declared.entries.VolumeEntry.{VolumeEntry}
@@ -58,7 +59,7 @@ pub record IsServer (t : ConfigTable) (k : ℕ) (n : List ℕ) : Type 0 where
 pub record IsVolume (t : ConfigTable) (d : ℕ) (e : VolumeEntry) : Type 0 where
   pub server : e.server < length t.names
   pub some : 1 ≤ e.tracks
-  pub most : e.tracks ≤ 256
+  pub most : e.tracks ≤ most_tracks
   pub own : place_of t e.id ≡ Some d
   pub lss : lss_owner t (lss_of e.id) ≡ Some e.server
 
@@ -80,4 +81,4 @@ pub record HasServer (t : ConfigTable) (s : ℕ) : Type 0 where
 -- Each volume has its device: owned by its server, with 13 blocks and one more for each track.
 pub record StandsFor (t : ConfigTable) (s : PlantState) : Type 0 where
   pub count : s.count ≡ length t.volumes
-  pub device : (d : ℕ) (e : VolumeEntry) → slice_get t.volumes d ≡ Some e → (s.owner d ≡ e.server) × (s.size d ≡ 13 + e.tracks) × (e.server < 8)
+  pub device : (d : ℕ) (e : VolumeEntry) → slice_get t.volumes d ≡ Some e → (s.owner d ≡ e.server) × (s.size d ≡ blocks_of e.tracks) × (e.server < 8)

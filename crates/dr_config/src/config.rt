@@ -1,6 +1,7 @@
 ghost use Rattle.std.specs.Prelude.{◌≡◌, ◌≢◌, ℕ, ◌<◌, ◌≤◌, ◌+◌, [], true, length, slice_get, Some, Err, IsSome, OnOk, OnErr, IfOk, IfSome, is_some, option_map, if◌then◌else◌};
 ghost use Rattle.std.specs.Option.{unwrap_or};
 ghost use Rattle.std.specs.Result.{result_err};
+ghost use Rattle.dr_ids.specs.Sizes.{blocks_of, most_tracks};
 ghost use Rattle.dr_ids.specs.Links.{joins};
 ghost use Rattle.dr_ids.specs.Paths.{path_in};
 ghost use Rattle.dr_ids.specs.declared.refusal.Fault.TheVariants as fault;
@@ -101,7 +102,7 @@ impl Config {
         ensures refused { refusal_of result ≡ volume_refusal self.old id.0 server.0 tracks }
         ensures number { IfOk result (λ d. d.0 ≡ length self.old.volumes) }
         ensures added { OnOk result (self.new ≡ with_volume self.old id.0 server.0 tracks) }
-        ensures device { OnOk result (P.state plant.new ≡ with_device (P.state plant.old) server.0 (13 + tracks)) }
+        ensures device { OnOk result (P.state plant.new ≡ with_device (P.state plant.old) server.0 (blocks_of tracks)) }
         ensures same { OnErr result (self.new ≡ self.old) }
         ensures same_plant { OnErr result (P.state plant.new ≡ P.state plant.old) }
         ensures stands { StandsFor self.new (P.state plant.new) }
@@ -354,7 +355,7 @@ impl Config {
     pub fn tracks_of(&self, v: VolumeId) -> Option<u16>
         ensures value { result ≡ option_map (λ e. e.tracks) (entry_of self.now v.0) }
         ensures some { IfSome result (λ n. 1 ≤ n) }
-        ensures most { IfSome result (λ n. n ≤ 256) }
+        ensures most { IfSome result (λ n. n ≤ most_tracks) }
     {
         let entry = entry_of_volume(&self.volumes, v.0)?;
         Some(entry.tracks)

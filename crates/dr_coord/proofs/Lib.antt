@@ -4,8 +4,8 @@
 -- - **An entry with a test before its move** (`restart_on`): the test is a function of its own with the definition as its
 --   clause; where it fails the entry is passed (`restart-skips`), where it holds the entry is `now` of the move
 --   (`restart-comes`), and `ends-alike` of `dr_facts` carries the move's own clauses over.
--- - **A move while other volumes aren't settled yet** (a start) is `make_ready`, which asks of its own volume alone (`Ready` of
---   `dr_moves`); `entered-by` makes it the entry.
+-- - **A move as a server starts** is `make_ready`, which asks of its own volume alone (`Ready` of `dr_moves`); `entered-by` makes it
+--   the entry.
 pub mod HoldLemmas
 pub mod ActLemmas
 pub mod RaiseLemmas

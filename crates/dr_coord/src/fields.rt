@@ -17,6 +17,13 @@ pub(crate) fn must_restart(f: &Fields) -> bool
     f.recording || f.coordination || is_torn(f)
 }
 
+/// Whether a volume with this head records, or is held by coordination.
+pub(crate) fn is_engaged(f: &Head) -> bool
+    ensures { result ≡ (f.now.recording || f.now.coordination) }
+{
+    f.recording || f.coordination
+}
+
 /// Whether a volume with this head is a Global Copy primary of `b` in Copy Pending.
 pub(crate) fn may_hold(f: &Head, b: VolumeId) -> bool
     ensures { result ≡ ((is_part f.now.primary && nat_eq f.now.primary_partner.0 b.0) && (pairs.is_kind Global f.now.primary && pairs.is_pending f.now.primary_state)) }

@@ -8,7 +8,7 @@ ghost use Rattle.dr_model.specs.Moves.{Restart};
 ghost use Rattle.dr_model.specs.Refusals.{stopped};
 ghost use Rattle.dr_model.specs.WriteEntries.{restart_on};
 ghost use Rattle.dr_volume.specs.Update.{OthersStay};
-ghost use Rattle.dr_volume.specs.View.{Rest, volume_seen, IsSettled};
+ghost use Rattle.dr_volume.specs.View.{Rest, volume_seen};
 ghost use Rattle.dr_moves.specs.Here.{world_seen, refusal_of, armed_in};
 ghost use Rattle.dr_moves.specs.Turns.{Advances, Halts};
 ghost use Rattle.dr_moves.specs.Ready.{StandsReady};
@@ -29,7 +29,7 @@ fn go_on<P: Plant>(
     v: VolumeId,
 ) -> Result<(), Refusal>
     requires ready { StandsReady (P.state plant.old) config.now v.0 }
-    requires room { 1 ≤ journal.old.spare }
+    requires room { 3 ≤ journal.old.spare }
     ensures advances { OnOk result ((r : Rest) → Advances (world_seen (P.state plant.old) config.now r journal.old.events) (now (Restart v.0)) (world_seen (P.state plant.new) config.now r journal.new.events)) }
     ensures halts { OnErr result ((r : Rest) → Halts (armed_in (P.state plant.old)) (world_seen (P.state plant.old) config.now r journal.old.events) (now (Restart v.0)) (world_seen (P.state plant.new) config.now r journal.new.events) (refusal_of result)) }
     ensures refused { OnErr result (refusal_of result ≡ Some (stopped (volume_seen (P.state plant.old) config.now v.0).server)) }
@@ -37,12 +37,11 @@ fn go_on<P: Plant>(
     ensures size { (volume_seen (P.state plant.new) config.now v.0).tracks ≡ (volume_seen (P.state plant.old) config.now v.0).tracks }
     ensures others { OthersStay (P.state plant.old) (P.state plant.new) config.now v.0 }
     ensures stands { StandsFor config.now (P.state plant.new) }
-    ensures settled { (u : ℕ) → IsSettled (P.state plant.old) config.now u → IsSettled (P.state plant.new) config.now u }
     ensures unarmed { (q : ℕ) → (P.state plant.old).read_fuse q ≡ None → (P.state plant.new).read_fuse q ≡ None }
     ensures faults { Counted (is_err result) (P.state plant.old).faults (P.state plant.new).faults }
     ensures on { OnOk result ((P.state plant.new).on ≡ (P.state plant.old).on) }
     ensures off { OnErr result ((P.state plant.new).on (volume_seen (P.state plant.old) config.now v.0).server ≡ false) }
-    ensures room { journal.old.spare ≤ journal.new.spare + 1 }
+    ensures room { journal.old.spare ≤ journal.new.spare + 3 }
     ensures told { OnOk result (journal.new ≡ journal.old) }
     ensures spare { length journal.new.events + journal.new.spare ≡ length journal.old.events + journal.old.spare }
 {
@@ -55,9 +54,8 @@ fn go_on<P: Plant>(
 }
 
 /// Lets a volume go on whose server starts, where it has to: one that records or is held by coordination is voided, and a
-/// Metro Mirror pair that a stop left Full Duplex with a track out of sync is in Copy Pending. Its staged track stands at
-/// its place. Nothing is told. Fails where the server stops in the move or goes off at a read. The journal needs room for
-/// an event.
+/// Metro Mirror pair that a stop left Full Duplex with a track out of sync is in Copy Pending. Nothing is told. Fails where
+/// the server stops in the move or goes off at a read. The journal needs room for three events.
 pub fn restart<P: Plant>(
     plant: &mut P,
     config: &Config,
@@ -65,7 +63,7 @@ pub fn restart<P: Plant>(
     v: VolumeId,
 ) -> Result<(), Refusal>
     requires ready { StandsReady (P.state plant.old) config.now v.0 }
-    requires room { 1 ≤ journal.old.spare }
+    requires room { 3 ≤ journal.old.spare }
     ensures advances { OnOk result ((r : Rest) → Advances (world_seen (P.state plant.old) config.now r journal.old.events) (restart_on (volume_seen (P.state plant.old) config.now v.0).server v.0) (world_seen (P.state plant.new) config.now r journal.new.events)) }
     ensures halts { OnErr result ((r : Rest) → Halts (armed_in (P.state plant.old)) (world_seen (P.state plant.old) config.now r journal.old.events) (restart_on (volume_seen (P.state plant.old) config.now v.0).server v.0) (world_seen (P.state plant.new) config.now r journal.new.events) (refusal_of result)) }
     ensures refused { OnErr result (refusal_of result ≡ Some (stopped (volume_seen (P.state plant.old) config.now v.0).server)) }
@@ -73,12 +71,11 @@ pub fn restart<P: Plant>(
     ensures size { (volume_seen (P.state plant.new) config.now v.0).tracks ≡ (volume_seen (P.state plant.old) config.now v.0).tracks }
     ensures others { OthersStay (P.state plant.old) (P.state plant.new) config.now v.0 }
     ensures stands { StandsFor config.now (P.state plant.new) }
-    ensures settled { (u : ℕ) → IsSettled (P.state plant.old) config.now u → IsSettled (P.state plant.new) config.now u }
     ensures unarmed { (q : ℕ) → (P.state plant.old).read_fuse q ≡ None → (P.state plant.new).read_fuse q ≡ None }
     ensures faults { Counted (is_err result) (P.state plant.old).faults (P.state plant.new).faults }
     ensures on { OnOk result ((P.state plant.new).on ≡ (P.state plant.old).on) }
     ensures off { OnErr result ((P.state plant.new).on (volume_seen (P.state plant.old) config.now v.0).server ≡ false) }
-    ensures room { journal.old.spare ≤ journal.new.spare + 1 }
+    ensures room { journal.old.spare ≤ journal.new.spare + 3 }
     ensures told { OnOk result (journal.new ≡ journal.old) }
     ensures spare { length journal.new.events + journal.new.spare ≡ length journal.old.events + journal.old.spare }
 {

@@ -1,4 +1,4 @@
--- How many events the end of a relationship or of a restore tells.
+-- How many events the end of a relationship, of a restore or of a hold tells.
 use Rattle.std.proofs.Common.{ℕ, ◌≡◌, ◌≤◌, length, arith, filter, ◌+◌, ◌++◌, [], ◌∷◌, Bool, true, false, cond}
 use Rattle.std.proofs.lemmas.List.{length-map, length-append}
 use Rattle.std.proofs.lemmas.List.FromFn.{length-range_with_len}
@@ -7,7 +7,7 @@ use Rattle.std.specs.FinSet.{contains}
 use Rattle.dr_model.specs.declared.event.Event.TheVariants.{Blanked, Restored}
 use Rattle.dr_model.specs.Layout.{Tracks}
 use Rattle.dr_model.specs.Relations.{rest, in_order, is_bare}
-use Rattle.dr_model.specs.Moves.{told_blank, told_restored}
+use Rattle.dr_model.specs.Moves.{told_blank, told_restored, told_freed}
 use Rattle.dr_logic.proofs.Lists.{filter-shorter}
 
 pub in_order-short : (n : ℕ) (s : Tracks) → length (in_order n s) ≤ n
@@ -30,3 +30,8 @@ restored-by false v s n own = omega arith
 
 pub restored-few : (v s n : ℕ) (own : Tracks) → length (told_restored v s n own) ≤ n + 1
 restored-few v s n own = restored-by (is_bare own) v s n own
+
+-- the end of a volume's holds tells one event at most
+pub freed-few : (v : ℕ) (had : Bool) → length (told_freed v had) ≤ 1
+freed-few v true = omega arith
+freed-few v false = omega arith

@@ -10,9 +10,10 @@ use Rattle.dr_model.specs.Relations.{rest, in_order, is_bare, turned, given_up}
 use Rattle.dr_model.specs.Histories.{Histories, histories, after_event}
 use Rattle.dr_model.specs.Control.{Volume, World}
 use Rattle.dr_model.specs.Pairs.{is_suspended}
-use Rattle.dr_model.specs.Moves.{Move, Carried, Land, Overwrite, LandBoth, Withdraw, Reverse, Release, Suspend, Lift, Hold, target, next_fields, carried, told, told_in_stop, told_blank, told_freed, landed, updated}
-use Rattle.dr_model.specs.Carry.{Act, Make, OpenAttempt, Redo, Acknowledge, Drop, EndFreeze, EndThaw, EndRecovery, Next, Pass, Do, End, Entry, Turn, Ended, ended, update, spent, off, pass, writes, counts_by, turn, finished, cut_short, redo, redo_writes, act, equal, attempt_begun}
+use Rattle.dr_model.specs.Moves.{Move, Carried, Land, Overwrite, LandBoth, Withdraw, Reverse, Release, Suspend, Lift, Hold, target, next_fields, carried, told, told_in_stop, told_blank, told_freed, landed, keeps_staged}
+use Rattle.dr_model.specs.Carry.{Act, Make, OpenAttempt, Redo, Acknowledge, Drop, EndFreeze, EndThaw, EndRecovery, Next, Pass, Do, End, Entry, Turn, Ended, ended, update_keeping, spent, off, pass, turn, finished, cut_short, redo, redo_writes, act, equal, attempt_begun}
 use Rattle.dr_model.specs.ReadStops.{GoesOff, IsEnd, EndsTurn, EndsNext, Ends}
+use Rattle.dr_model.proofs.CarryLemmas.{update-cases}
 use Rattle.dr_model.proofs.Images.{histories-append}
 
 abbrev pub after : Histories → List Event → Histories
@@ -61,22 +62,9 @@ Alike v w = (histories v.events).write ≡ (histories w.events).write
 pub with-told : (w : World) (es : List Event) → (after (histories w.events) es).write ≡ (histories w.events).write → (histories (w.events ++ es)).write ≡ (histories w.events).write
 with-told w es same = ap (λ (x : Histories). x.write) (histories-append w.events es) ∙ same
 
--- an update by its three tests
-abbrev pub updated_by : World → ℕ → Fields → Carried → Bool → Bool → Bool → Ended
-updated_by w v f c on passes counts =
-    let s : ℕ = (w.control.volume v).server in
-    cond (not on) (ended w true false) (cond passes (ended (spent (updated w v f c) s (writes c)) false true) (cond counts (ended (off (updated w v f c) s) true true) (ended (off w s) true false)))
-
 -- an update tells nothing
-pub update-events : (w : World) (v : ℕ) (f : Fields) (c : Carried) → (update w v f c).world.events ≡ w.events
-unfolding update
-update-events w v f c = by (w.control.on (w.control.volume v).server) (pass (w.control.fuse (w.control.volume v).server) (writes c)) (counts_by (w.control.fuse (w.control.volume v).server) (not (w.control.volume v).slot))
-  where
-    by : (on passes counts : Bool) → (updated_by w v f c on passes counts).world.events ≡ w.events
-    by false passes counts = refl
-    by true true counts = refl
-    by true false true = refl
-    by true false false = refl
+pub update-events : (keeps : Bool) (w : World) (v : ℕ) (f : Fields) (c : Carried) → (update_keeping keeps w v f c).world.events ≡ w.events
+update-events keeps w v f c = update-cases keeps w v f c (λ e. e.world.events ≡ w.events) (λ down. refl) (λ on n. refl) (λ on armed. refl) (λ on armed. refl)
 
 cut-writes : (w x : World) (m : Move) (u : Volume) → x.events ≡ w.events → (done : Bool) → Alike (cut_short x m u done) w
 cut-writes w x m u same true =
@@ -96,7 +84,8 @@ turn-writes w m =
     let u : Volume = w.control.volume (target m) in
     let f : Fields = next_fields m w.control.volume in
     let c : Carried = carried m w.control.volume w.contents (histories w.events).write in
-    turn_by-writes w (update w (target m) f c).world m u (update-events w (target m) f c) (w.control.on u.server) (update w (target m) f c).stopped (update w (target m) f c).done
+    let e : Ended = update_keeping (keeps_staged m) w (target m) f c in
+    turn_by-writes w e.world m u (update-events (keeps_staged m) w (target m) f c) (w.control.on u.server) e.stopped e.done
 
 redo_by-writes : (w : World) (v : ℕ) (on passes : Bool)
     → let s : ℕ = (w.control.volume v).server in

@@ -8,26 +8,26 @@ ghost use Rattle.dr_model.specs.Entries.{running_check};
 ghost use Rattle.dr_model.specs.Carry.{check};
 ghost use Rattle.dr_model.specs.PairEntries as pair_entries;
 ghost use Rattle.dr_model.specs.Pairs as pairs;
-ghost use Rattle.dr_volume.specs.Plain.{plain};
 ghost use Rattle.dr_volume.specs.View.{Rest, volume_seen};
 ghost use Rattle.dr_moves.specs.Checks.{Checked, OnNone, is_stop};
 ghost use Rattle.dr_moves.specs.Here.{world_seen, IsAtRest};
+ghost use Rattle.dr_gcopy.specs.Heads.{primary_by, secondary_by};
 ghost use Rattle.dr_failover.specs.Steps.{failover_checks, lead_checks, settled_checks, failback_checks};
 
 use dr_config::Config;
 use dr_flash::{is_settled, relation_state};
-use dr_gcopy::{is_primary_of, is_secondary_of, reach_refusal, running_refusal};
+use dr_gcopy::{is_primary_by, is_secondary_by, reach_refusal, running_refusal};
 use dr_ids::{Refusal, VolumeId};
 use dr_model::Part;
 use dr_moves::pair_state;
 use dr_plant::Plant;
-use dr_volume::{Fields, peek_fields};
+use dr_volume::{Head, peek_head};
 
-/// Whether a volume with these fields is a secondary of `a`, of that kind.
-fn may_take_over(f: &Fields, a: VolumeId, kind: Part) -> bool
-    ensures { result ≡ (pairs.is_secondary_of a.0 (plain f.now) && pairs.is_kind kind f.now.secondary) }
+/// Whether a volume with this head is a secondary of `a`, of that kind.
+fn may_take_over(h: &Head, a: VolumeId, kind: Part) -> bool
+    ensures { result ≡ (secondary_by a.0 h.now && pairs.is_kind kind h.now.secondary) }
 {
-    is_secondary_of(f, a) && f.secondary.is_kind(kind)
+    is_secondary_by(h, a) && h.secondary.is_kind(kind)
 }
 
 /// Why secondary b of a, of that kind, isn't taken over: its server is off, or it is no such secondary.
@@ -48,17 +48,17 @@ pub(crate) fn failover_refusal<P: Plant>(
     if let Some(why) = running_refusal(plant, config, b) {
         return Some(why);
     }
-    if !may_take_over(&peek_fields(plant, config, b), a, kind) {
+    if !may_take_over(&peek_head(plant, config, b), a, kind) {
         return Some(pair_state(plant, config, b));
     }
     None
 }
 
-/// Whether a volume with these fields is a primary of `y`, of that kind.
-fn leads_as(f: &Fields, y: VolumeId, kind: Part) -> bool
-    ensures { result ≡ (pairs.is_primary_of y.0 (plain f.now) && pairs.is_kind kind f.now.primary) }
+/// Whether a volume with this head is a primary of `y`, of that kind.
+fn leads_as(h: &Head, y: VolumeId, kind: Part) -> bool
+    ensures { result ≡ (primary_by y.0 h.now && pairs.is_kind kind h.now.primary) }
 {
-    is_primary_of(f, y) && f.primary.is_kind(kind)
+    is_primary_by(h, y) && h.primary.is_kind(kind)
 }
 
 /// Why x and y aren't primaries of each other, x of that kind.
@@ -77,10 +77,10 @@ fn lead_refusal<P: Plant>(
     ensures led { OnNone result (pairs.is_primary_of x.0 (volume_seen (P.state plant.now) config.now y.0).fields ≡ true) }
     ensures calm { is_stop result ≡ false }
 {
-    if !leads_as(&peek_fields(plant, config, x), y, kind) {
+    if !leads_as(&peek_head(plant, config, x), y, kind) {
         return Some(pair_state(plant, config, x));
     }
-    if !is_primary_of(&peek_fields(plant, config, y), x) {
+    if !is_primary_by(&peek_head(plant, config, y), x) {
         return Some(pair_state(plant, config, y));
     }
     None

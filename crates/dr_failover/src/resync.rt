@@ -10,7 +10,6 @@ ghost use Rattle.dr_model.specs.PairEntries.{suspend_after};
 ghost use Rattle.dr_model.specs.Pairs as pairs;
 ghost use Rattle.dr_model.specs.Refusals.{server_off};
 ghost use Rattle.dr_model.specs.Relations.{lowest};
-ghost use Rattle.dr_volume.specs.Plain.{plain};
 ghost use Rattle.dr_volume.specs.Update.{IsAsBefore};
 ghost use Rattle.dr_volume.specs.View.{Rest, volume_seen};
 ghost use Rattle.dr_moves.specs.Checks.{OnNone, is_stop};
@@ -26,13 +25,13 @@ use dr_ids::{Refusal, VolumeId};
 use dr_model::Journal;
 use dr_moves::{lowest, pair_state, tracks_of};
 use dr_plant::Plant;
-use dr_volume::{Fields, peek_fields};
+use dr_volume::{Head, peek_fields, peek_head};
 
-/// Whether a volume with these fields is a primary in Copy Pending.
-fn is_copying(f: &Fields) -> bool
-    ensures { result ≡ (layout.is_part f.now.primary && pairs.is_pending f.now.primary_state) }
+/// Whether a volume with this head is a primary in Copy Pending.
+fn is_copying(h: &Head) -> bool
+    ensures { result ≡ (layout.is_part h.now.primary && pairs.is_pending h.now.primary_state) }
 {
-    f.primary.is_part() && f.primary_state.is_pending()
+    h.primary.is_part() && h.primary_state.is_pending()
 }
 
 /// Why x sends nothing: its server is off, or it is no primary in Copy Pending.
@@ -47,7 +46,7 @@ fn copying_refusal<P: Plant>(plant: &P, config: &Config, x: VolumeId) -> Option<
     if let Some(why) = running_refusal(plant, config, x) {
         return Some(why);
     }
-    if !is_copying(&peek_fields(plant, config, x)) {
+    if !is_copying(&peek_head(plant, config, x)) {
         return Some(pair_state(plant, config, x));
     }
     None
@@ -57,7 +56,7 @@ fn copying_refusal<P: Plant>(plant: &P, config: &Config, x: VolumeId) -> Option<
 /// Full Duplex. Refused, in this order, where the server of x
 /// is off, or x is no primary in Copy Pending, and then as the send of a track is. Fails too where a server stops in a move
 /// or goes off at a read; what was done by then stays, and x is suspended where its own server still runs. The journal needs room
-/// for an event for each volume and four more.
+/// for an event for each volume and six more.
 pub fn resync_step<P: Plant>(
     plant: &mut P,
     config: &Config,
@@ -68,7 +67,7 @@ pub fn resync_step<P: Plant>(
     requires fit { RelationsFit (P.state plant.old) config.now }
     requires defined { IsSome (place_of config.now x.0) }
     requires partner { HasPartner (P.state plant.old) config.now x.0 }
-    requires room { length config.now.volumes + 4 ≤ journal.old.spare }
+    requires room { length config.now.volumes + 6 ≤ journal.old.spare }
     ensures carried { (r : Rest) → EndsFollowed (armed_in (P.state plant.old)) (world_seen (P.state plant.old) config.now r journal.old.events)
         (resync_entries (world_seen (P.state plant.old) config.now r journal.old.events).control x.0) (suspend_after x.0) (world_seen (P.state plant.new) config.now r journal.new.events) (refusal_of result) }
     ensures more { IfOk result (λ more. more ≡ is_some (lowest (volume_seen (P.state plant.old) config.now x.0).tracks (volume_seen (P.state plant.old) config.now x.0).fields.out_of_sync)) }
@@ -83,7 +82,7 @@ pub fn resync_step<P: Plant>(
     ensures faults { Counted (is_stop (refusal_of result)) (P.state plant.old).faults (P.state plant.new).faults }
     ensures others { (q : ℕ) → q ≢ x.0 → q ≢ (volume_seen (P.state plant.old) config.now x.0).fields.primary_partner → copies_from (volume_seen (P.state plant.old) config.now x.0).fields.primary_partner (volume_seen (P.state plant.old) config.now q).fields ≡ false → IsAsBefore (P.state plant.old) (P.state plant.new) config.now q }
     ensures on { OnOk result ((P.state plant.new).on ≡ (P.state plant.old).on) }
-    ensures room { journal.old.spare ≤ journal.new.spare + (length config.now.volumes + 4) }
+    ensures room { journal.old.spare ≤ journal.new.spare + (length config.now.volumes + 6) }
     ensures spare { length journal.new.events + journal.new.spare ≡ length journal.old.events + journal.old.spare }
 {
     if let Some(why) = copying_refusal(plant, config, x) {

@@ -34,6 +34,6 @@ relation_of f all =
     else if nat_lt 0 all.count then Source
     else Unrelated
 
--- why a target with these fields can't be withdrawn or made a copy anew, if it can't: it is a member's
-abbrev pub counted_by : Fields → Option Refusal
+-- why a target with this head can't be withdrawn or made a copy anew, if it can't: it is a member's
+abbrev pub counted_by : Head → Option Refusal
 counted_by f = if f.member then Some (InSession (record { 0 = f.session })) else None

@@ -1,9 +1,10 @@
 //! The background copy, and what a target shows.
 
-ghost use Rattle.std.specs.Prelude.{◌≡◌, ℕ, ◌<◌, ◌≤◌, ◌+◌, Bool, true, false, None, Some, IsSome, IfSome, IfOk, OnOk, OnErr, is_ok, is_err, is_some, if◌then◌else◌, [], ◌∷◌, length};
+ghost use Rattle.std.specs.Prelude.{◌≡◌, ℕ, ◌<◌, ◌≤◌, ◌+◌, true, false, None, Some, IsSome, IfSome, IfOk, OnOk, OnErr, is_ok, is_err, is_some, [], ◌∷◌, length};
 ghost use Rattle.std.specs.FinSet.{contains};
 ghost use Rattle.dr_logic.specs.Counts.{Counted};
 ghost use Rattle.dr_plant.specs.State.{after_read, can_read};
+ghost use Rattle.dr_ids.specs.Sizes.{most_tracks};
 ghost use Rattle.dr_config.specs.Table.{StandsFor, place_of};
 ghost use Rattle.dr_model.specs.Carry.{now};
 ghost use Rattle.dr_model.specs.Entries.{fetch_next, lowest_missing};
@@ -15,19 +16,19 @@ ghost use Rattle.dr_model.specs.Views.{view, shows_source};
 ghost use Rattle.dr_volume.specs.Plain.{plain};
 ghost use Rattle.dr_volume.specs.Update.{OthersStay};
 ghost use Rattle.dr_volume.specs.View.{Rest, volume_seen, track_seen, device_of};
-ghost use Rattle.dr_volume.specs.Volume.{Shows};
 ghost use Rattle.dr_moves.specs.Fit.{RelationsFit};
 ghost use Rattle.dr_moves.specs.Here.{world_seen, refusal_of, armed_in, IsAtRest};
 ghost use Rattle.dr_moves.specs.Turns.{Advances, Halts};
 ghost use Rattle.dr_flash.specs.Views.{AllShow};
 
 use crate::taking::take;
+use dr_bits::TrackSet;
 use dr_config::Config;
 use dr_ids::{Refusal, VolumeId};
 use dr_model::Journal;
 use dr_moves::{Move, lowest, rest, tracks_of};
 use dr_plant::{Block, Plant, Stopped};
-use dr_volume::{Fields, open, peek_fields, read_track};
+use dr_volume::{Fields, open, peek_fields, peek_head, read_track};
 
 /// Whether a volume with these fields shows its source's track t.
 fn is_shown_by_source(f: &Fields, t: u16) -> bool
@@ -62,19 +63,14 @@ pub fn read_target<P: Plant>(
     opened.read_track(plant, config, v, t, into)
 }
 
-/// The lowest track that a target of n tracks doesn't hold; none where the volume is no target.
-fn next_missing(n: u16, f: &Fields) -> Option<u16>
-    requires { n ≤ 256 }
-    ensures track { result ≡ (if f.now.related then relations.lowest n (relations.rest n f.now.own) else None) }
-    ensures related { IfSome result (λ t. f.now.related ≡ true) }
+/// The lowest track of n that a target which holds `own` doesn't hold.
+fn next_missing(n: u16, own: &TrackSet) -> Option<u16>
+    requires { n ≤ most_tracks }
+    ensures track { result ≡ relations.lowest n (relations.rest n own.now) }
     ensures within { IfSome result (λ t. t < n) }
-    ensures missing { IfSome result (λ t. contains f.now.own t ≡ false) }
+    ensures missing { IfSome result (λ t. contains own.now t ≡ false) }
 {
-    if f.related {
-        lowest(n, &rest(n, &f.own))
-    } else {
-        None
-    }
+    lowest(n, &rest(n, own))
 }
 
 /// Copies one track of a volume whose server is on: the lowest that it doesn't hold yet, where it is a target. Says whether
@@ -106,9 +102,12 @@ pub fn copy_step<P: Plant>(
     ensures room_left { OnOk result (journal.old.spare ≤ journal.new.spare + 1) }
     ensures spare { length journal.new.events + journal.new.spare ≡ length journal.old.events + journal.old.spare }
 {
+    if !peek_head(plant, config, v).related {
+        return Ok(false);
+    }
     let fields = peek_fields(plant, config, v);
     let tracks = tracks_of(config, v);
-    let Some(t) = next_missing(tracks, &fields) else {
+    let Some(t) = next_missing(tracks, &fields.own) else {
         return Ok(false);
     };
     let m = Move::Fetch { v, t };

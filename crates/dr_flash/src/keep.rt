@@ -1,6 +1,6 @@
 //! What a target keeps before a track of its source changes.
 
-ghost use Rattle.std.specs.Prelude.{◌≡◌, ℕ, ◌<◌, ◌≤◌, ◌+◌, Bool, true, false, not, ◌&&◌, length, None, Some, IsSome, OnOk, OnErr, is_err};
+ghost use Rattle.std.specs.Prelude.{◌≡◌, ℕ, ◌<◌, ◌≤◌, ◌+◌, true, false, not, ◌&&◌, length, None, Some, IsSome, OnOk, OnErr, is_err};
 ghost use Rattle.std.specs.FinSet.{contains};
 ghost use Rattle.dr_logic.specs.Counts.{Counted};
 ghost use Rattle.dr_config.specs.Table.{place_of};
@@ -44,7 +44,15 @@ fn note<P: Plant>(
     ensures unseen { Unseen (P.state plant.old) (P.state plant.new) config.now journal.old journal.new (now (Note u.0 t)) u.0 (volume_seen (P.state plant.old) config.now u.0).server result }
     ensures held { OnOk result (contains (volume_seen (P.state plant.new) config.now u.0).fields.own t ≡ contains (volume_seen (P.state plant.old) config.now u.0).fields.own t) }
 {
-    make_move_by(plant, config, journal, &Move::Note { v: u, t }, f, None)
+    let mut next = *f;
+    make_move_by(
+        plant,
+        config,
+        journal,
+        &Move::Note { v: u, t },
+        &mut next,
+        None,
+    )
 }
 
 /// Whether a volume of which this is said is a target of v that isn't restored onto it.

@@ -1,6 +1,6 @@
 //! Making a relationship.
 
-ghost use Rattle.std.specs.Prelude.{◌≡◌, ◌≢◌, ℕ, ◌<◌, ◌≤◌, ◌+◌, List, [], ◌∷◌, true, false, None, Some, IsSome, OnOk, OnErr, is_err, is_some, length};
+ghost use Rattle.std.specs.Prelude.{◌≡◌, ◌≢◌, ℕ, ◌<◌, ◌≤◌, ◌+◌, List, [], ◌∷◌, true, false, None, Some, IsSome, OnOk, OnErr, length};
 ghost use Rattle.dr_logic.specs.Counts.{Counted};
 ghost use Rattle.dr_plant.specs.State.{PlantState};
 ghost use Rattle.dr_config.specs.Table.{StandsFor, place_of};
@@ -13,11 +13,10 @@ ghost use Rattle.dr_model.specs.Refusals.{stopped};
 ghost use Rattle.dr_volume.specs.Update.{OthersStay};
 ghost use Rattle.dr_volume.specs.View.{Rest, volume_seen};
 ghost use Rattle.dr_moves.specs.Checks.{Checked, OnNone, is_stop};
-ghost use Rattle.dr_moves.specs.Fit.{SourceFits, RelationsFit};
+ghost use Rattle.dr_moves.specs.Fit.{RelationsFit};
 ghost use Rattle.dr_moves.specs.Here.{world_seen, refusal_of, armed_in, IsAtRest};
 ghost use Rattle.dr_moves.specs.Made.{MayRelate};
 ghost use Rattle.dr_moves.specs.Options.{choices};
-ghost use Rattle.dr_moves.specs.Turns.{Advances, Halts};
 ghost use Rattle.dr_flash.specs.Making.{establish_checks};
 ghost use Rattle.dr_flash.specs.Views.{view_seen, OthersShow};
 
@@ -27,7 +26,7 @@ use dr_ids::{Kind, Refusal, VolumeId, Which};
 use dr_model::Journal;
 use dr_moves::{FlashOptions, Move, is_unpaired, make_move, pair_state, server_of, tracks_of};
 use dr_plant::Plant;
-use dr_volume::peek_fields;
+use dr_volume::peek_head;
 
 /// How many targets a source has at most.
 const MOST_TARGETS: usize = 12;
@@ -67,16 +66,17 @@ fn free_refusal<P: Plant>(plant: &P, config: &Config, s: VolumeId, t: VolumeId) 
     ensures lone { OnNone result ((u : ℕ) → (volume_seen (P.state plant.now) config.now u).fields.related ≡ true → (volume_seen (P.state plant.now) config.now u).fields.source ≢ t.0) }
     ensures plain { OnNone result ((volume_seen (P.state plant.now) config.now s.0).fields.related ≡ false) }
 {
-    if peek_fields(plant, config, t).related {
+    let target = peek_head(plant, config, t);
+    if target.related {
         return Some(relation_state(plant, config, t));
     }
     if look_at_targets(plant, config, t).count > 0 {
         return Some(relation_state(plant, config, t));
     }
-    if peek_fields(plant, config, s).related {
+    if peek_head(plant, config, s).related {
         return Some(relation_state(plant, config, s));
     }
-    if !is_unpaired(&peek_fields(plant, config, t)) {
+    if !is_unpaired(&target) {
         return Some(pair_state(plant, config, t));
     }
     if look_at_targets(plant, config, s).count >= MOST_TARGETS {

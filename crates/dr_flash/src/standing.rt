@@ -1,12 +1,11 @@
 //! In which relationships a volume stands.
 
-ghost use Rattle.std.specs.Prelude.{◌≡◌, ℕ, ◌+◌, ◌<◌, ◌≤◌, Bool, not, ◌&&◌, ◌||◌, false, Some, List, length, IsSome, IfOk, if◌then◌else◌};
+ghost use Rattle.std.specs.Prelude.{◌≡◌, ◌+◌, ◌<◌, not, ◌&&◌, ◌||◌, false, Some, List, length, IsSome, IfOk, if◌then◌else◌};
 ghost use Rattle.dr_config.specs.Table.{StandsFor, place_of};
 ghost use Rattle.dr_model.specs.Entries as entries;
 ghost use Rattle.dr_model.specs.Entries.{is_revertible, is_reversing};
 ghost use Rattle.dr_model.specs.declared.event.Event.{Event};
 ghost use Rattle.dr_volume.specs.Head.{head_of};
-ghost use Rattle.dr_volume.specs.Plain.{plain};
 ghost use Rattle.dr_volume.specs.View.{Rest, volume_seen};
 ghost use Rattle.dr_moves.specs.Checks.{is_stop};
 ghost use Rattle.dr_flash.specs.Heads.{copies_by};
@@ -17,7 +16,7 @@ ghost use Rattle.dr_flash.specs.HostWrites.{write_refusal};
 use dr_config::Config;
 use dr_ids::{Refusal, RelSeen, SessionId, VolumeId};
 use dr_plant::Plant;
-use dr_volume::{Fields, Head, Relation, peek_head, peek_relation_at};
+use dr_volume::{Head, Relation, peek_head, peek_relation_at};
 
 /// The targets of a volume: how many there are, and whether one of them is revertible or reversing.
 #[derive(Clone, Copy)]
@@ -130,9 +129,9 @@ fn is_settled_by(f: &Head, all: Targets) -> bool
         && !((f.related && f.reversing) || all.reversing)
 }
 
-/// Why a target can't be withdrawn or made a copy anew, however it is related: it is a member's, whose session is named.
-pub fn counted_refusal(f: &Fields) -> Option<Refusal>
-    ensures refusal { result ≡ counted_by (plain f.now) }
+/// Why a target with this head can't be withdrawn or made a copy anew, however it is related: it is a member's, whose session is named.
+pub fn counted_refusal(f: &Head) -> Option<Refusal>
+    ensures refusal { result ≡ counted_by f.now }
     ensures calm { is_stop result ≡ false }
 {
     if f.member {

@@ -1,6 +1,6 @@
 //! A target takes a track of its source.
 
-ghost use Rattle.std.specs.Prelude.{◌≡◌, ℕ, ◌≤◌, false, OnOk};
+ghost use Rattle.std.specs.Prelude.{◌≡◌, ◌≤◌, false, OnOk};
 ghost use Rattle.std.specs.FinSet.{contains};
 ghost use Rattle.dr_model.specs.Carry.{now};
 ghost use Rattle.dr_volume.specs.View.{volume_seen, track_seen};
@@ -39,7 +39,8 @@ fn store<P: Plant>(
     ensures held { OnOk result (HoldsTrack (P.state plant.new) config.now t u.0) }
 {
     let track = *bytes;
-    make_move_by(plant, config, journal, m, f, Some((t, track)))
+    let mut next = *f;
+    make_move_by(plant, config, journal, m, &mut next, Some((t, track)))
 }
 
 /// Target u, whose fields are at hand, takes track t of its source, which it doesn't hold, by such a move. Fails where the server

@@ -54,7 +54,7 @@ no-path (p ∷ ps) l m =
 -- the table without the path
 module _ (s : PlantState) (t n : ConfigTable) (l m : ℕ) (new : n ≡ without_path_between t l m) where
   pub rest-without : IsAtRest s t → IsAtRest s n
-  rest-without rest = subst (λ x. IsAtRest s x) (sym new) (record { stands = stands-without_path_between t l m s rest.stands; settled = rest.settled; sizes = rest.sizes })
+  rest-without rest = subst (λ x. IsAtRest s x) (sym new) (record { stands = stands-without_path_between t l m s rest.stands; sizes = rest.sizes })
 
   pub fit-without : RelationsFit s t → RelationsFit s n
   fit-without fit = subst (λ x. RelationsFit s x) (sym new) (record { source = fit.source; apart = fit.apart })

@@ -17,7 +17,7 @@ use Rattle.dr_freeze.specs.Between.{between}
 use Rattle.dr_freeze.specs.Changes.{changed_by, IsStep}
 use Rattle.dr_freeze.proofs.BetweenLemmas.{running-between, primary-between, freeze-by, thaw-by, still-moved, still-same, frozen-fields}
 
-few-told : (b : Bool) (v : ℕ) → length (if b then [] else Suspended v ∷ []) ≤ 1
+few-told : (b : Bool) (v : ℕ) → length (if b then [] else Suspended v ∷ []) ≤ 2
 few-told true v = omega arith
 few-told false v = omega arith
 

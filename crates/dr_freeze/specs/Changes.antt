@@ -53,11 +53,11 @@ abbrev pub AllThawed : PlantState → PlantState → ConfigTable → ℕ → ℕ
 AllThawed s u t l m = AllChanged Thaw s t u t l m
 
 -- What becomes of v is what the entry on it comes to: one move of it at most, by which a primary between both is changed, and all stay
--- between both that were so.
+-- between both that were so. It may tell two events.
 pub record IsStep (s : PlantState) (c : ConfigTable) (x : Change) (l m v : ℕ) (next : Next) : Type 0 where
   pub comes : (r : Rest) (events : List Event) → change_on x l m v (world_seen s c r events).control ≡ next_of next
   pub may : MayCome s c next
-  pub few : cost_of next s c ≤ 1
+  pub few : cost_of next s c ≤ 2
   pub goes_on : GoesOn next
   pub alone : (q : ℕ) → q ≢ v → NotTarget next q
   pub changed : (u : PlantState) → Went s u c next → between s c l m v ≡ true → IsChanged x (volume_seen u c v).fields

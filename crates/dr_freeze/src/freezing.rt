@@ -47,7 +47,7 @@ fn end_thaw(journal: &mut Journal, l: Lss, m: Lss)
 /// Freezes the pairs from logical subsystem l, which has a volume, to m: each primary in l with its secondary in m is
 /// suspended and long busy, in order of definition, and then the path from l to m is removed. Refused where no path goes from
 /// l to m, or else where the server of l is off; then nothing has changed. Fails too where a server stops in a move or goes
-/// off at a read; what was done by then stays, and so does the path. The journal needs room for an event for each volume and
+/// off at a read; what was done by then stays, and so does the path. The journal needs room for two events for each volume and
 /// two more.
 pub fn freeze<P: Plant>(
     plant: &mut P,
@@ -59,7 +59,7 @@ pub fn freeze<P: Plant>(
     requires rest { IsAtRest (P.state plant.old) config.old }
     requires fit { RelationsFit (P.state plant.old) config.old }
     requires owned { IsSome (lss_owner config.old l.0) }
-    requires room { length config.old.volumes + 2 ≤ journal.old.spare }
+    requires room { length config.old.volumes + length config.old.volumes + 2 ≤ journal.old.spare }
     ensures carried { (r : Rest) → Ends (armed_in (P.state plant.old)) (world_seen (P.state plant.new) config.new r journal.new.events) (refusal_of result) (world_seen (P.state plant.old) config.old r journal.old.events) (freeze_checks (owner_in config.old l.0) l.0 m.0 ++ freeze_entries (ids_of config.old.volumes) l.0 m.0) }
     ensures unchanged { is_stop (refusal_of result) ≡ false → OnErr result ((P.state plant.new ≡ P.state plant.old) × (journal.new ≡ journal.old)) }
     ensures rest { IsAtRest (P.state plant.new) config.new }
@@ -69,7 +69,7 @@ pub fn freeze<P: Plant>(
     ensures frozen { OnOk result (AllFrozen (P.state plant.old) config.old (P.state plant.new) config.new l.0 m.0) }
     ensures removed { OnOk result (config.new ≡ without_path_between config.old l.0 m.0) }
     ensures same { OnErr result (config.new ≡ config.old) }
-    ensures room { journal.old.spare ≤ journal.new.spare + (length config.old.volumes + 1) }
+    ensures room { journal.old.spare ≤ journal.new.spare + (length config.old.volumes + length config.old.volumes + 1) }
     ensures spare { length journal.new.events + journal.new.spare ≡ length journal.old.events + journal.old.spare }
 {
     if let Some(why) = freeze_refusal(plant, config, l, m) {
@@ -86,8 +86,8 @@ pub fn freeze<P: Plant>(
 
 /// Thaws the pairs from logical subsystem l, which has a volume, to m: each primary in l with its secondary in m that is long
 /// busy is so no more, in order of definition. Refused where the server of l is off; then nothing has changed. Fails too where
-/// a server stops in a move or goes off at a read; what was done by then stays. The journal needs room for an event for each
-/// volume and two more.
+/// a server stops in a move or goes off at a read; what was done by then stays. The journal needs room for two events for
+/// each volume and two more.
 pub fn thaw<P: Plant>(
     plant: &mut P,
     config: &Config,
@@ -98,7 +98,7 @@ pub fn thaw<P: Plant>(
     requires rest { IsAtRest (P.state plant.old) config.now }
     requires fit { RelationsFit (P.state plant.old) config.now }
     requires owned { IsSome (lss_owner config.now l.0) }
-    requires room { length config.now.volumes + 2 ≤ journal.old.spare }
+    requires room { length config.now.volumes + length config.now.volumes + 2 ≤ journal.old.spare }
     ensures carried { (r : Rest) → Ends (armed_in (P.state plant.old)) (world_seen (P.state plant.new) config.now r journal.new.events) (refusal_of result) (world_seen (P.state plant.old) config.now r journal.old.events) (thaw_checks (owner_in config.now l.0) ++ thaw_entries (ids_of config.now.volumes) l.0 m.0) }
     ensures unchanged { is_stop (refusal_of result) ≡ false → OnErr result ((P.state plant.new ≡ P.state plant.old) × (journal.new ≡ journal.old)) }
     ensures rest { IsAtRest (P.state plant.new) config.now }
@@ -106,7 +106,7 @@ pub fn thaw<P: Plant>(
     ensures unarmed { (q : ℕ) → (P.state plant.old).read_fuse q ≡ None → (P.state plant.new).read_fuse q ≡ None }
     ensures faults { Counted (is_stop (refusal_of result)) (P.state plant.old).faults (P.state plant.new).faults }
     ensures thawed { OnOk result (AllThawed (P.state plant.old) (P.state plant.new) config.now l.0 m.0) }
-    ensures room { journal.old.spare ≤ journal.new.spare + (length config.now.volumes + 1) }
+    ensures room { journal.old.spare ≤ journal.new.spare + (length config.now.volumes + length config.now.volumes + 1) }
     ensures spare { length journal.new.events + journal.new.spare ≡ length journal.old.events + journal.old.spare }
 {
     if let Some(why) = thaw_refusal(plant, config, l) {

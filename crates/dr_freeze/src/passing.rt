@@ -38,9 +38,9 @@ impl<P: Plant> Entries<P, Nothing> for Changes {
 
     ghost refuses = { λ e c r. is_stop r ≡ true };
 
-    ghost room = { λ e c. length (changes_from c e.x e.l.0 e.m.0 e.place) };
+    ghost room = { λ e c. length (changes_from c e.x e.l.0 e.m.0 e.place) + length (changes_from c e.x e.l.0 e.m.0 e.place) };
 
-    ghost most = { λ e c. length (changes_from c e.x e.l.0 e.m.0 e.place) + 1 };
+    ghost most = { λ e c. length (changes_from c e.x e.l.0 e.m.0 e.place) + length (changes_from c e.x e.l.0 e.m.0 e.place) + 1 };
 
     fn count(&self, config: &Config) -> usize {
         config.volumes().saturating_sub(self.place)
@@ -56,7 +56,7 @@ impl<P: Plant> Entries<P, Nothing> for Changes {
 }
 
 /// Each primary between the two logical subsystems is frozen, or thawed. Fails where a server stops in a move or goes off at
-/// a read; what was done by then stays. The journal needs room for an event for each volume and one more.
+/// a read; what was done by then stays. The journal needs room for two events for each volume and one more.
 pub(crate) fn change_all<P: Plant>(
     plant: &mut P,
     config: &Config,
@@ -66,13 +66,13 @@ pub(crate) fn change_all<P: Plant>(
     m: Lss,
 ) -> Result<(), Refusal>
     requires at { IsAt (P.state plant.old) config.now }
-    requires room { length config.now.volumes + 1 ≤ journal.old.spare }
+    requires room { length config.now.volumes + length config.now.volumes + 1 ≤ journal.old.spare }
     ensures leads { OnOk result ((r : Rest) → Leads (world_seen (P.state plant.old) config.now r journal.old.events) (map (change_on x l.0 m.0) (ids_of config.now.volumes)) (world_seen (P.state plant.new) config.now r journal.new.events)) }
     ensures fails { OnErr result ((r : Rest) → Fails (armed_in (P.state plant.old)) (world_seen (P.state plant.old) config.now r journal.old.events) (map (change_on x l.0 m.0) (ids_of config.now.volumes)) (world_seen (P.state plant.new) config.now r journal.new.events) (refusal_of result)) }
     ensures stops { OnErr result (is_stop (refusal_of result) ≡ true) }
     ensures changed { OnOk result ((v : ℕ) → between (P.state plant.old) config.now l.0 m.0 v ≡ true → IsChanged x (volume_seen (P.state plant.new) config.now v).fields) }
-    ensures kept { Kept (P.state plant.old) (P.state plant.new) config.now journal.old journal.new (length config.now.volumes + 1) (is_stop (refusal_of result)) result }
-    ensures room_left { OnOk result (journal.old.spare ≤ journal.new.spare + length config.now.volumes) }
+    ensures kept { Kept (P.state plant.old) (P.state plant.new) config.now journal.old journal.new (length config.now.volumes + length config.now.volumes + 1) (is_stop (refusal_of result)) result }
+    ensures room_left { OnOk result (journal.old.spare ≤ journal.new.spare + (length config.now.volumes + length config.now.volumes)) }
 {
     let mut changes = Changes { x, l, m, place: 0 };
     carry(plant, config, journal, &mut changes)

@@ -114,7 +114,7 @@ can-still s u c a b t f bytes last on from to can = record {
   two_servers = λ e. can.two_servers (sym (ap (λ (x : Volume). x.server) from.volume) ∙ e ∙ ap (λ (x : Volume). x.server) to.volume);
   within = subst (λ (x : Volume). t < x.tracks) (sym from.volume) can.within;
   size = ap (λ (x : Volume). x.tracks) to.volume ∙ can.size ∙ sym (ap (λ (x : Volume). x.tracks) from.volume);
-  says = says-along s u c a f from.volume can.says;
+  says = says-along s u c a f from can.says;
   bytes = can.bytes ∙ ap (λ (z : ℕ → List ℕ). z t) (sym from.tracks);
   last = can.last ∙ sym (ap (λ (x : Volume). is_last x.fields t) from.volume);
 }

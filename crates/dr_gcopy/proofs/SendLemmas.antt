@@ -1,6 +1,6 @@
 -- Entries of a send, one behind the other.
-use Rattle.std.proofs.Common.{ℕ, ◌≡◌, ◌≢◌, ◌<◌, Bool, true, false, not, ◌&&◌, cond, nat_eq, inl, inr, refl, ap, ◌∙◌, List, [], ◌∷◌, ◌++◌, sym, Option, None, Some, slice_get}
-use Rattle.std.specs.Prelude.{Result, Ok, Err, OnOk, OnErr, is_some, if◌then◌else◌}
+use Rattle.std.proofs.Common.{ℕ, ◌≡◌, ◌≢◌, ◌<◌, Bool, true, false, not, ◌&&◌, cond, nat_eq, inl, inr, refl, ap, ◌∙◌, List, sym, Option, None, Some, slice_get}
+use Rattle.std.specs.Prelude.{is_some, if◌then◌else◌}
 use Rattle.std.specs.Option.{option_or}
 use Rattle.std.proofs.lemmas.Bool.Decides.{eqb_tells}
 use Rattle.std.proofs.lemmas.Bool.{and_right}
@@ -10,29 +10,20 @@ use Rattle.dr_config.specs.Table.{ConfigTable, place_of}
 use Rattle.dr_config.specs.declared.entries.VolumeEntry.{VolumeEntry}
 use Rattle.dr_model.specs.Control.{Control, World, Volume}
 use Rattle.dr_ids.specs.Paths.{Path, path_in}
-use Rattle.dr_ids.specs.declared.refusal.Refusal.TheVariants.{PairState, Stopped}
+use Rattle.dr_ids.specs.declared.refusal.Refusal.TheVariants.{PairState}
 use Rattle.dr_ids.specs.declared.refusal.Kind.TheVariants.{Path as OfPath}
 use Rattle.dr_model.specs.Refusals.{server_off, unknown}
-use Rattle.dr_model.specs.Carry.{Entry, Pass, Do, Make, check, now}
+use Rattle.dr_model.specs.Carry.{Pass, Do, Make, check, now}
 use Rattle.dr_model.specs.Layout.{is_part}
 use Rattle.dr_model.specs.Moves.{Suspend}
 use Rattle.dr_model.specs.Pairs.{is_secondary_of, pair_seen}
-use Rattle.dr_model.specs.ReadStops.{Ends}
 use Rattle.dr_model.specs.Entries.{copies_from, fields_at, is_running, subsystem}
 use Rattle.dr_model.specs.PairEntries.{end_if, refuse_if, link_down, has_path, are_linked, reach_refusal, send_refusal, suspend_where, suspend_running}
-use Rattle.dr_volume.specs.View.{Rest, volume_seen, volume_at, volume_on, on_seen}
+use Rattle.dr_volume.specs.View.{volume_seen, volume_at, volume_on, on_seen}
 use Rattle.dr_moves.specs.Fit.{RelationsFit}
-use Rattle.dr_moves.specs.Here.{refusal_of}
-use Rattle.dr_moves.specs.Turns.{Advances, Halts, Leads, Fails}
-use Rattle.dr_moves.proofs.EntryLemmas.{led, failed}
-use Rattle.dr_facts.proofs.Ends.{ends-none, ends-skips, ends-refused, ends-alike, ends-wider}
+use Rattle.dr_moves.specs.Turns.{Advances, Halts}
+use Rattle.dr_facts.proofs.Ends.{ends-skips, ends-refused, ends-alike}
 use Rattle.dr_volume.proofs.WorldLaws.{on-seen}
-
--- the entries end as those that led on or failed say
-pub ends-by : {T : Type 0} (res : Result T Refusal) (armed : ℕ → Bool) (w u : Rest → World) (es : List Entry)
-    → OnOk res ((r : Rest) → Leads (w r) es (u r)) → OnErr res ((r : Rest) → Fails armed (w r) es (u r) (refusal_of res)) → (r : Rest) → Ends armed (u r) (refusal_of res) (w r) es
-ends-by (Ok x) armed w u es leads fails r = led armed (w r) (u r) es (leads r)
-ends-by (Err e) armed w u es leads fails r = failed armed (w r) (u r) (Some e) es (fails r)
 
 -- where there is no refusal, the plan goes on; where there is one, it ends
 pub refuse-passes : (w : World) (why : Control → Option Refusal) → why w.control ≡ None → Advances w (refuse_if why) w

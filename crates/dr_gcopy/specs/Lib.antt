@@ -1,4 +1,5 @@
 pub mod Kinds
+pub mod Heads
 pub mod Steps
 pub mod Differences
 pub mod Sending

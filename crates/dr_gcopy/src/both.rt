@@ -16,14 +16,14 @@ ghost use Rattle.dr_gcopy.specs.Both.{first_of, second_of, entry_of, left_of, ro
 ghost use Rattle.dr_gcopy.specs.Steps.{BothAlone};
 ghost use Rattle.dr_gcopy.specs.declared.both.Stage.TheVariants as TheStage;
 
-use crate::parts::{is_secondary_of, next_state};
+use crate::parts::{is_secondary_by, next_state};
 use crate::reach::reach_refusal;
 use dr_config::Config;
 use dr_ids::{Refusal, VolumeId};
 use dr_model::{Journal, PairState, Part};
 use dr_moves::{Entries, Move, Next, Nothing, carry};
 use dr_plant::Plant;
-use dr_volume::peek_fields;
+use dr_volume::{peek_fields, peek_head};
 
 /// A command on a pair of a and b.
 #[derive(Clone, Copy)]
@@ -96,7 +96,7 @@ fn let_go_next<P: Plant>(plant: &P, config: &Config, a: VolumeId, b: VolumeId) -
     ensures goes_on { GoesOn result }
     ensures apart { (q : ℕ) → q ≢ b.0 → NotTarget result q }
 {
-    if !is_secondary_of(&peek_fields(plant, config, b), a) {
+    if !is_secondary_by(&peek_head(plant, config, b), a) {
         return Next::Pass;
     }
     Next::Do(Move::DropSecondary { v: b })
@@ -117,7 +117,7 @@ fn tell_next<P: Plant>(plant: &P, config: &Config, a: VolumeId, b: VolumeId) -> 
     if let Some(_) = reach_refusal(plant, config, a, b) {
         return Next::Pass;
     }
-    if !is_secondary_of(&peek_fields(plant, config, b), a) {
+    if !is_secondary_by(&peek_head(plant, config, b), a) {
         return Next::Pass;
     }
     Next::Do(Move::Follow {

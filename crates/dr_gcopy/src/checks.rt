@@ -14,7 +14,7 @@ ghost use Rattle.dr_moves.specs.Checks.{Checked, OnNone, is_stop};
 ghost use Rattle.dr_moves.specs.Here.{world_seen, IsAtRest};
 ghost use Rattle.dr_gcopy.specs.Steps.{unlike_checks, free_checks, flash_checks, make_checks, remove_checks, contact_checks, pause_checks, resume_checks};
 
-use crate::parts::{is_primary_of, is_secondary_of, may_follow, may_pause, may_resume};
+use crate::parts::{is_primary_by, is_secondary_by, may_follow, may_pause, may_resume};
 use crate::reach::reach_refusal;
 use dr_config::Config;
 use dr_flash::{is_settled, relation_state};
@@ -22,7 +22,7 @@ use dr_ids::{Refusal, VolumeId, Which};
 use dr_model::Part;
 use dr_moves::{is_unpaired, pair_state, server_of, tracks_of};
 use dr_plant::Plant;
-use dr_volume::peek_fields;
+use dr_volume::peek_head;
 
 /// Why nothing can be done on a volume now: its server is off.
 pub fn running_refusal<P: Plant>(plant: &P, config: &Config, v: VolumeId) -> Option<Refusal>
@@ -68,10 +68,10 @@ fn free_refusal<P: Plant>(plant: &P, config: &Config, a: VolumeId, b: VolumeId) 
     ensures checked { (r : Rest) (events : List Event) → Checked (world_seen (P.state plant.now) config.now r events) (free_checks (world_seen (P.state plant.now) config.now r events).control a.0 b.0) result }
     ensures calm { is_stop result ≡ false }
 {
-    if !is_unpaired(&peek_fields(plant, config, a)) {
+    if !is_unpaired(&peek_head(plant, config, a)) {
         return Some(pair_state(plant, config, a));
     }
-    if !may_follow(&peek_fields(plant, config, b), a) {
+    if !may_follow(&peek_head(plant, config, b), a) {
         return Some(pair_state(plant, config, b));
     }
     None
@@ -86,10 +86,10 @@ fn flash_refusal<P: Plant>(plant: &P, config: &Config, a: VolumeId, b: VolumeId)
     ensures checked { (r : Rest) (events : List Event) → Checked (world_seen (P.state plant.now) config.now r events) (flash_checks (world_seen (P.state plant.now) config.now r events).control a.0 b.0) result }
     ensures calm { is_stop result ≡ false }
 {
-    if peek_fields(plant, config, a).related {
+    if peek_head(plant, config, a).related {
         return Some(relation_state(plant, config, a));
     }
-    if peek_fields(plant, config, b).related {
+    if peek_head(plant, config, b).related {
         return Some(relation_state(plant, config, b));
     }
     if !is_settled(plant, config, b) {
@@ -146,7 +146,7 @@ pub(crate) fn remove_refusal<P: Plant>(
     if let Some(why) = running_refusal(plant, config, a) {
         return Some(why);
     }
-    if !is_primary_of(&peek_fields(plant, config, a), b) {
+    if !is_primary_by(&peek_head(plant, config, a), b) {
         return Some(pair_state(plant, config, a));
     }
     None
@@ -194,7 +194,7 @@ pub(crate) fn pause_refusal<P: Plant>(
     if let Some(why) = running_refusal(plant, config, a) {
         return Some(why);
     }
-    if !may_pause(&peek_fields(plant, config, a), b) {
+    if !may_pause(&peek_head(plant, config, a), b) {
         return Some(pair_state(plant, config, a));
     }
     None
@@ -219,7 +219,7 @@ fn suspended_refusal<P: Plant>(
     if let Some(why) = running_refusal(plant, config, a) {
         return Some(why);
     }
-    if !may_resume(&peek_fields(plant, config, a), b, kind) {
+    if !may_resume(&peek_head(plant, config, a), b, kind) {
         return Some(pair_state(plant, config, a));
     }
     None
@@ -250,7 +250,7 @@ pub(crate) fn resume_refusal<P: Plant>(
     if let Some(why) = reach_refusal(plant, config, a, b) {
         return Some(why);
     }
-    if !is_secondary_of(&peek_fields(plant, config, b), a) {
+    if !is_secondary_by(&peek_head(plant, config, b), a) {
         return Some(pair_state(plant, config, b));
     }
     None

@@ -54,7 +54,7 @@ fn drain_to<P: Plant>(
     requires two_servers { (volume_seen (P.state plant.old) config.now a.0).server ≢ (volume_seen (P.state plant.old) config.now b.0).server }
     requires size { (volume_seen (P.state plant.old) config.now b.0).tracks ≡ (volume_seen (P.state plant.old) config.now a.0).tracks }
     requires tracks { (volume_seen (P.state plant.old) config.now a.0).tracks ≡ n }
-    requires room { (k : ℕ) (r : Rest) (u : World) → Leads (world_seen (P.state plant.old) config.now r journal.old.events) (sends (ids_of config.now.volumes) a.0 b.0 (take k (in_order n out_of_sync.now))) u → length u.events + (length config.now.volumes + 5) ≤ length journal.old.events + journal.old.spare }
+    requires room { (k : ℕ) (r : Rest) (u : World) → Leads (world_seen (P.state plant.old) config.now r journal.old.events) (sends (ids_of config.now.volumes) a.0 b.0 (take k (in_order n out_of_sync.now))) u → length u.events + (length config.now.volumes + 7) ≤ length journal.old.events + journal.old.spare }
     ensures leads { OnOk result ((r : Rest) → Leads (world_seen (P.state plant.old) config.now r journal.old.events) (sends (ids_of config.now.volumes) a.0 b.0 (tracks_to_send most n out_of_sync.now)) (world_seen (P.state plant.new) config.now r journal.new.events)) }
     ensures fails { OnErr result ((r : Rest) → FailsFollowed (armed_in (P.state plant.old)) (world_seen (P.state plant.old) config.now r journal.old.events) (sends (ids_of config.now.volumes) a.0 b.0 (tracks_to_send most n out_of_sync.now)) (suspend_after a.0) (world_seen (P.state plant.new) config.now r journal.new.events) (refusal_of result)) }
     ensures count { IfOk result (λ sent. sent ≡ length (tracks_to_send most n out_of_sync.now)) }
@@ -84,7 +84,7 @@ fn drain_to<P: Plant>(
 /// the same size, the lowest first, and at most so many, where a number is given. Says how many were sent. What was out
 /// of sync at the call is sent, whatever changes in between. It ends where one send is refused or fails, as `send_track`
 /// does; what was sent by then stays. Whatever the sends of any number of tracks tell, the journal needs room for them,
-/// for an event for each volume, and five more.
+/// for an event for each volume, and seven more.
 pub fn drain<P: Plant>(
     plant: &mut P,
     config: &Config,
@@ -100,7 +100,7 @@ pub fn drain<P: Plant>(
     requires primary { is_part (volume_seen (P.state plant.old) config.now a.0).fields.primary ≡ true }
     requires two_servers { (volume_seen (P.state plant.old) config.now a.0).server ≢ (volume_seen (P.state plant.old) config.now (volume_seen (P.state plant.old) config.now a.0).fields.primary_partner).server }
     requires size { (volume_seen (P.state plant.old) config.now (volume_seen (P.state plant.old) config.now a.0).fields.primary_partner).tracks ≡ (volume_seen (P.state plant.old) config.now a.0).tracks }
-    requires room { (k : ℕ) (r : Rest) (u : World) → Leads (world_seen (P.state plant.old) config.now r journal.old.events) (sends (ids_of config.now.volumes) a.0 (volume_seen (P.state plant.old) config.now a.0).fields.primary_partner (take k (in_order (volume_seen (P.state plant.old) config.now a.0).tracks (volume_seen (P.state plant.old) config.now a.0).fields.out_of_sync))) u → length u.events + (length config.now.volumes + 5) ≤ length journal.old.events + journal.old.spare }
+    requires room { (k : ℕ) (r : Rest) (u : World) → Leads (world_seen (P.state plant.old) config.now r journal.old.events) (sends (ids_of config.now.volumes) a.0 (volume_seen (P.state plant.old) config.now a.0).fields.primary_partner (take k (in_order (volume_seen (P.state plant.old) config.now a.0).tracks (volume_seen (P.state plant.old) config.now a.0).fields.out_of_sync))) u → length u.events + (length config.now.volumes + 7) ≤ length journal.old.events + journal.old.spare }
     ensures carried { (r : Rest) → EndsFollowed (armed_in (P.state plant.old)) (world_seen (P.state plant.old) config.now r journal.old.events) (sends (ids_of config.now.volumes) a.0 (volume_seen (P.state plant.old) config.now a.0).fields.primary_partner (tracks_to_send most (volume_seen (P.state plant.old) config.now a.0).tracks (volume_seen (P.state plant.old) config.now a.0).fields.out_of_sync)) (suspend_after a.0) (world_seen (P.state plant.new) config.now r journal.new.events) (refusal_of result) }
     ensures leads { OnOk result ((r : Rest) → Leads (world_seen (P.state plant.old) config.now r journal.old.events) (sends (ids_of config.now.volumes) a.0 (volume_seen (P.state plant.old) config.now a.0).fields.primary_partner (tracks_to_send most (volume_seen (P.state plant.old) config.now a.0).tracks (volume_seen (P.state plant.old) config.now a.0).fields.out_of_sync)) (world_seen (P.state plant.new) config.now r journal.new.events)) }
     ensures fails { OnErr result ((r : Rest) → FailsFollowed (armed_in (P.state plant.old)) (world_seen (P.state plant.old) config.now r journal.old.events) (sends (ids_of config.now.volumes) a.0 (volume_seen (P.state plant.old) config.now a.0).fields.primary_partner (tracks_to_send most (volume_seen (P.state plant.old) config.now a.0).tracks (volume_seen (P.state plant.old) config.now a.0).fields.out_of_sync)) (suspend_after a.0) (world_seen (P.state plant.new) config.now r journal.new.events) (refusal_of result)) }

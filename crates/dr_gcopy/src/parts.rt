@@ -1,13 +1,13 @@
-//! What the fields of a volume say of a pair.
+//! What the fields of a volume, or its head alone, say of a pair.
 
-ghost use Rattle.std.specs.Prelude.{◌≡◌, ◌&&◌, ◌||◌, not, nat_eq};
-ghost use Rattle.dr_model.specs.Layout as layout;
+ghost use Rattle.std.specs.Prelude.{◌≡◌};
 ghost use Rattle.dr_model.specs.Pairs as pairs;
 ghost use Rattle.dr_volume.specs.Plain.{plain};
+ghost use Rattle.dr_gcopy.specs.Heads.{primary_by, secondary_by, free_for, active_by, paused_by};
 
 use dr_ids::VolumeId;
 use dr_model::{PairState, Part};
-use dr_volume::Fields;
+use dr_volume::{Fields, Head};
 
 /// The state of a pair as it is made.
 pub(crate) fn first_state(kind: Part, full: bool) -> PairState
@@ -31,13 +31,6 @@ pub fn next_state(f: &Fields) -> PairState
     }
 }
 
-/// Whether a volume with these fields is a primary of `b`.
-pub fn is_primary_of(f: &Fields, b: VolumeId) -> bool
-    ensures { result ≡ pairs.is_primary_of b.0 (plain f.now) }
-{
-    f.primary.is_part() && f.primary_partner.0 == b.0
-}
-
 /// Whether a volume with these fields is the secondary of `a`.
 pub fn is_secondary_of(f: &Fields, a: VolumeId) -> bool
     ensures { result ≡ pairs.is_secondary_of a.0 (plain f.now) }
@@ -45,25 +38,39 @@ pub fn is_secondary_of(f: &Fields, a: VolumeId) -> bool
     f.secondary.is_part() && f.secondary_partner.0 == a.0
 }
 
-/// Whether a volume with these fields may become the secondary of `a`: it is no primary, and the secondary of no other.
-pub(crate) fn may_follow(f: &Fields, a: VolumeId) -> bool
-    ensures { result ≡ (not (layout.is_part f.now.primary) && (not (layout.is_part f.now.secondary) || nat_eq f.now.secondary_partner.0 a.0)) }
+/// Whether a volume with this head is a primary of `b`.
+pub fn is_primary_by(h: &Head, b: VolumeId) -> bool
+    ensures { result ≡ primary_by b.0 h.now }
 {
-    !f.primary.is_part() && (!f.secondary.is_part() || f.secondary_partner.0 == a.0)
+    h.primary.is_part() && h.primary_partner.0 == b.0
 }
 
-/// Whether a volume with these fields is a primary of `b` that isn't Suspended.
-pub(crate) fn may_pause(f: &Fields, b: VolumeId) -> bool
-    ensures { result ≡ (pairs.is_primary_of b.0 (plain f.now) && not (pairs.is_suspended f.now.primary_state)) }
+/// Whether a volume with this head is the secondary of `a`.
+pub fn is_secondary_by(h: &Head, a: VolumeId) -> bool
+    ensures { result ≡ secondary_by a.0 h.now }
 {
-    is_primary_of(f, b) && !f.primary_state.is_suspended()
+    h.secondary.is_part() && h.secondary_partner.0 == a.0
 }
 
-/// Whether a volume with these fields is a Suspended primary of `b`, of that kind.
-pub(crate) fn may_resume(f: &Fields, b: VolumeId, kind: Part) -> bool
-    ensures { result ≡ (pairs.is_primary_of b.0 (plain f.now) && (pairs.is_kind kind f.now.primary && pairs.is_suspended f.now.primary_state)) }
+/// Whether a volume with this head may become the secondary of `a`: it is no primary, and the secondary of no other.
+pub(crate) fn may_follow(h: &Head, a: VolumeId) -> bool
+    ensures { result ≡ free_for a.0 h.now }
 {
-    is_primary_of(f, b) && (f.primary.is_kind(kind) && f.primary_state.is_suspended())
+    !h.primary.is_part() && (!h.secondary.is_part() || h.secondary_partner.0 == a.0)
+}
+
+/// Whether a volume with this head is a primary of `b` that isn't Suspended.
+pub(crate) fn may_pause(h: &Head, b: VolumeId) -> bool
+    ensures { result ≡ active_by b.0 h.now }
+{
+    is_primary_by(h, b) && !h.primary_state.is_suspended()
+}
+
+/// Whether a volume with this head is a Suspended primary of `b`, of that kind.
+pub(crate) fn may_resume(h: &Head, b: VolumeId, kind: Part) -> bool
+    ensures { result ≡ paused_by b.0 kind h.now }
+{
+    is_primary_by(h, b) && (h.primary.is_kind(kind) && h.primary_state.is_suspended())
 }
 
 /// Whether t is the last track of a Metro Mirror pair that is out of sync.

@@ -52,7 +52,8 @@ fn strike_by<P: Plant>(
     ensures moved { OnOk result (IsMoved (P.state plant.old) (P.state plant.new) config.now a.0 (pairs.struck last (volume_seen (P.state plant.old) config.now a.0).fields t) None) }
 {
     let strike = Move::Strike { v: a, t, last };
-    make_move_by(plant, config, journal, &strike, fields, None)
+    let mut next = *fields;
+    make_move_by(plant, config, journal, &strike, &mut next, None)
 }
 
 /// Secondary b stores these bytes of track t of its primary a, which then strikes the track off.

@@ -1,6 +1,6 @@
 //! A secondary takes a track of its primary.
 
-ghost use Rattle.std.specs.Prelude.{◌≡◌, ◌≢◌, ℕ, ◌<◌, ◌≤◌, ◌+◌, Bool, true, false, ◌&&◌, nat_eq, List, [], ◌∷◌, ◌++◌, length, None, Some, IsSome, OnOk, OnErr, is_err};
+ghost use Rattle.std.specs.Prelude.{◌≡◌, ◌≢◌, ℕ, ◌<◌, ◌≤◌, ◌+◌, true, false, List, [], ◌∷◌, ◌++◌, length, None, Some, IsSome, OnOk, OnErr, is_err};
 ghost use Rattle.dr_logic.specs.Counts.{Counted};
 ghost use Rattle.dr_config.specs.Table.{StandsFor, place_of};
 ghost use Rattle.dr_model.specs.declared.event.Event.{Event};
@@ -19,6 +19,7 @@ ghost use Rattle.dr_moves.specs.Here.{world_seen, refusal_of, armed_in, IsAtRest
 ghost use Rattle.dr_moves.specs.Turns.{Leads, Fails};
 ghost use Rattle.dr_gcopy.specs.Sending.{stranger_refusal, receive_entries};
 
+use crate::parts::is_secondary_by;
 use crate::storing::store;
 use dr_config::Config;
 use dr_flash::{copy_first, is_revertible, relation_state};
@@ -26,14 +27,7 @@ use dr_ids::{Refusal, VolumeId};
 use dr_model::Journal;
 use dr_moves::pair_state;
 use dr_plant::{Block, Plant};
-use dr_volume::{Head, peek_head};
-
-/// Whether a volume with this head is the secondary of a.
-fn is_secondary(f: &Head, a: VolumeId) -> bool
-    ensures { result ≡ (layout.is_part f.now.secondary && nat_eq f.now.secondary_partner.0 a.0) }
-{
-    f.secondary.is_part() && f.secondary_partner.0 == a.0
-}
+use dr_volume::peek_head;
 
 /// The refusal where b isn't the secondary of a.
 pub(crate) fn stranger_refusal<P: Plant>(
@@ -48,7 +42,7 @@ pub(crate) fn stranger_refusal<P: Plant>(
     ensures calm { is_stop result ≡ false }
     ensures secondary { OnNone result (layout.is_part (volume_seen (P.state plant.now) config.now b.0).fields.secondary ≡ true) }
 {
-    if is_secondary(&peek_head(plant, config, b), a) {
+    if is_secondary_by(&peek_head(plant, config, b), a) {
         return None;
     }
     Some(pair_state(plant, config, b))

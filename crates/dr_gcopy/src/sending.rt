@@ -27,7 +27,7 @@ use dr_config::Config;
 use dr_ids::{Refusal, VolumeId};
 use dr_model::Journal;
 use dr_plant::Plant;
-use dr_volume::peek_fields;
+use dr_volume::peek_head;
 
 /// Why primary a can't send to b, if it can't: b can't be reached, or isn't the secondary of a.
 pub fn send_refusal<P: Plant>(
@@ -67,14 +67,14 @@ fn refuse<P: Plant>(
     requires apart { a.0 ≢ b.0 }
     requires why { (r : Rest) (events : List Event) → Some why ≡ pair_entries.send_refusal a.0 b.0 (world_seen (P.state plant.old) config.now r events).control }
     requires calm { is_stop (Some why) ≡ false }
-    requires room { 2 ≤ journal.old.spare }
+    requires room { 3 ≤ journal.old.spare }
     ensures fails { (r : Rest) → Fails (armed_in (P.state plant.old)) (world_seen (P.state plant.old) config.now r journal.old.events) (refuse_entries a.0 b.0) (world_seen (P.state plant.new) config.now r journal.new.events) (Some result) }
     ensures rest { IsAtRest (P.state plant.new) config.now }
     ensures fit { RelationsFit (P.state plant.new) config.now }
     ensures unarmed { (q : ℕ) → (P.state plant.old).read_fuse q ≡ None → (P.state plant.new).read_fuse q ≡ None }
     ensures faults { Counted (is_stop (Some result)) (P.state plant.old).faults (P.state plant.new).faults }
     ensures others { OthersStay (P.state plant.old) (P.state plant.new) config.now a.0 }
-    ensures room { journal.old.spare ≤ journal.new.spare + 2 }
+    ensures room { journal.old.spare ≤ journal.new.spare + 3 }
     ensures spare { length journal.new.events + journal.new.spare ≡ length journal.old.events + journal.old.spare }
 {
     match suspend(plant, config, journal, a, false) {
@@ -101,7 +101,7 @@ fn send_on<P: Plant>(
     requires two_servers { (volume_seen (P.state plant.old) config.now a.0).server ≢ (volume_seen (P.state plant.old) config.now b.0).server }
     requires within { t < (volume_seen (P.state plant.old) config.now a.0).tracks }
     requires size { (volume_seen (P.state plant.old) config.now b.0).tracks ≡ (volume_seen (P.state plant.old) config.now a.0).tracks }
-    requires room { length config.now.volumes + 2 ≤ journal.old.spare }
+    requires room { length config.now.volumes + 3 ≤ journal.old.spare }
     ensures leads { OnOk result ((r : Rest) → Leads (world_seen (P.state plant.old) config.now r journal.old.events) (send_entries (ids_of config.now.volumes) a.0 b.0 t) (world_seen (P.state plant.new) config.now r journal.new.events)) }
     ensures fails { OnErr result ((r : Rest) → Fails (armed_in (P.state plant.old)) (world_seen (P.state plant.old) config.now r journal.old.events) (send_entries (ids_of config.now.volumes) a.0 b.0 t) (world_seen (P.state plant.new) config.now r journal.new.events) (refusal_of result)) }
     ensures struck { OnOk result ((volume_seen (P.state plant.new) config.now a.0).fields ≡ pairs.struck (pairs.is_last (volume_seen (P.state plant.old) config.now a.0).fields t) (volume_seen (P.state plant.old) config.now a.0).fields t) }
@@ -112,7 +112,7 @@ fn send_on<P: Plant>(
     ensures faults { Counted (is_stop (refusal_of result)) (P.state plant.old).faults (P.state plant.new).faults }
     ensures others { (q : ℕ) → q ≢ a.0 → q ≢ b.0 → copies_from b.0 (volume_seen (P.state plant.old) config.now q).fields ≡ false → IsAsBefore (P.state plant.old) (P.state plant.new) config.now q }
     ensures on { OnOk result ((P.state plant.new).on ≡ (P.state plant.old).on) }
-    ensures room { journal.old.spare ≤ journal.new.spare + (length config.now.volumes + 2) }
+    ensures room { journal.old.spare ≤ journal.new.spare + (length config.now.volumes + 3) }
     ensures room_left { OnOk result (journal.old.spare ≤ journal.new.spare + (length config.now.volumes + 1)) }
     ensures spare { length journal.new.events + journal.new.spare ≡ length journal.old.events + journal.old.spare }
 {
@@ -143,7 +143,7 @@ pub(crate) fn send_to<P: Plant>(
     requires two_servers { (volume_seen (P.state plant.old) config.now a.0).server ≢ (volume_seen (P.state plant.old) config.now b.0).server }
     requires within { t < (volume_seen (P.state plant.old) config.now a.0).tracks }
     requires size { (volume_seen (P.state plant.old) config.now b.0).tracks ≡ (volume_seen (P.state plant.old) config.now a.0).tracks }
-    requires room { length config.now.volumes + 4 ≤ journal.old.spare }
+    requires room { length config.now.volumes + 6 ≤ journal.old.spare }
     ensures leads { OnOk result ((r : Rest) → Leads (world_seen (P.state plant.old) config.now r journal.old.events) (send_entries (ids_of config.now.volumes) a.0 b.0 t) (world_seen (P.state plant.new) config.now r journal.new.events)) }
     ensures fails { OnErr result ((r : Rest) → FailsFollowed (armed_in (P.state plant.old)) (world_seen (P.state plant.old) config.now r journal.old.events) (send_entries (ids_of config.now.volumes) a.0 b.0 t) (suspend_after a.0) (world_seen (P.state plant.new) config.now r journal.new.events) (refusal_of result)) }
     ensures struck { OnOk result ((volume_seen (P.state plant.new) config.now a.0).fields ≡ pairs.struck (pairs.is_last (volume_seen (P.state plant.old) config.now a.0).fields t) (volume_seen (P.state plant.old) config.now a.0).fields t) }
@@ -154,7 +154,7 @@ pub(crate) fn send_to<P: Plant>(
     ensures faults { Counted (is_stop (refusal_of result)) (P.state plant.old).faults (P.state plant.new).faults }
     ensures others { (q : ℕ) → q ≢ a.0 → q ≢ b.0 → copies_from b.0 (volume_seen (P.state plant.old) config.now q).fields ≡ false → IsAsBefore (P.state plant.old) (P.state plant.new) config.now q }
     ensures on { OnOk result ((P.state plant.new).on ≡ (P.state plant.old).on) }
-    ensures room { journal.old.spare ≤ journal.new.spare + (length config.now.volumes + 4) }
+    ensures room { journal.old.spare ≤ journal.new.spare + (length config.now.volumes + 6) }
     ensures room_left { OnOk result (journal.old.spare ≤ journal.new.spare + (length config.now.volumes + 1)) }
     ensures spare { length journal.new.events + journal.new.spare ≡ length journal.old.events + journal.old.spare }
 {
@@ -174,7 +174,7 @@ pub(crate) fn send_to<P: Plant>(
 /// relationship. Else the track is read, the targets of b keep theirs, b stores it, and a strikes it off; with the last
 /// track of a Metro Mirror pair both are Full Duplex. Fails where a server stops in a move or goes off at a read; what
 /// was done by then stays, and a is suspended where its own server still runs. The first stop is the one that is given.
-/// The journal needs room for an event for each volume and four more.
+/// The journal needs room for an event for each volume and six more.
 pub fn send_track<P: Plant>(
     plant: &mut P,
     config: &Config,
@@ -191,7 +191,7 @@ pub fn send_track<P: Plant>(
     requires two_servers { (volume_seen (P.state plant.old) config.now a.0).server ≢ (volume_seen (P.state plant.old) config.now (volume_seen (P.state plant.old) config.now a.0).fields.primary_partner).server }
     requires within { t < (volume_seen (P.state plant.old) config.now a.0).tracks }
     requires size { (volume_seen (P.state plant.old) config.now (volume_seen (P.state plant.old) config.now a.0).fields.primary_partner).tracks ≡ (volume_seen (P.state plant.old) config.now a.0).tracks }
-    requires room { length config.now.volumes + 4 ≤ journal.old.spare }
+    requires room { length config.now.volumes + 6 ≤ journal.old.spare }
     ensures carried { (r : Rest) → EndsFollowed (armed_in (P.state plant.old)) (world_seen (P.state plant.old) config.now r journal.old.events) (send_entries (ids_of config.now.volumes) a.0 (volume_seen (P.state plant.old) config.now a.0).fields.primary_partner t) (suspend_after a.0) (world_seen (P.state plant.new) config.now r journal.new.events) (refusal_of result) }
     ensures leads { OnOk result ((r : Rest) → Leads (world_seen (P.state plant.old) config.now r journal.old.events) (send_entries (ids_of config.now.volumes) a.0 (volume_seen (P.state plant.old) config.now a.0).fields.primary_partner t) (world_seen (P.state plant.new) config.now r journal.new.events)) }
     ensures fails { OnErr result ((r : Rest) → FailsFollowed (armed_in (P.state plant.old)) (world_seen (P.state plant.old) config.now r journal.old.events) (send_entries (ids_of config.now.volumes) a.0 (volume_seen (P.state plant.old) config.now a.0).fields.primary_partner t) (suspend_after a.0) (world_seen (P.state plant.new) config.now r journal.new.events) (refusal_of result)) }
@@ -203,10 +203,10 @@ pub fn send_track<P: Plant>(
     ensures faults { Counted (is_stop (refusal_of result)) (P.state plant.old).faults (P.state plant.new).faults }
     ensures others { (q : ℕ) → q ≢ a.0 → q ≢ (volume_seen (P.state plant.old) config.now a.0).fields.primary_partner → copies_from (volume_seen (P.state plant.old) config.now a.0).fields.primary_partner (volume_seen (P.state plant.old) config.now q).fields ≡ false → IsAsBefore (P.state plant.old) (P.state plant.new) config.now q }
     ensures on { OnOk result ((P.state plant.new).on ≡ (P.state plant.old).on) }
-    ensures room { journal.old.spare ≤ journal.new.spare + (length config.now.volumes + 4) }
+    ensures room { journal.old.spare ≤ journal.new.spare + (length config.now.volumes + 6) }
     ensures room_left { OnOk result (journal.old.spare ≤ journal.new.spare + (length config.now.volumes + 1)) }
     ensures spare { length journal.new.events + journal.new.spare ≡ length journal.old.events + journal.old.spare }
 {
-    let b = peek_fields(plant, config, a).primary_partner;
+    let b = peek_head(plant, config, a).primary_partner;
     send_to(plant, config, journal, a, b, t)
 }

@@ -59,14 +59,21 @@ pub fn store<P: Plant>(
     ensures spare { length journal.new.events + journal.new.spare ≡ length journal.old.events + journal.old.spare }
 {
     let track = *bytes;
-    let fields = peek_fields(plant, config, b);
+    let mut fields = peek_fields(plant, config, b);
     let store = Move::Store {
         v: b,
         t,
         u: a,
         last,
     };
-    make_move_by(plant, config, journal, &store, &fields, Some((t, track)))
+    make_move_by(
+        plant,
+        config,
+        journal,
+        &store,
+        &mut fields,
+        Some((t, track)),
+    )
 }
 
 /// Primary a, whose server is on, strikes off track t, which its secondary has stored. With the last track of a Metro

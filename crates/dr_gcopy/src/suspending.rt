@@ -23,7 +23,7 @@ use dr_plant::Plant;
 
 /// Suspends a primary whose server is on: what changed while it recorded is out of sync too, it neither records nor is
 /// held by coordination any more, and it is long busy where it is to be, or was. The journal is told where it wasn't
-/// Suspended. Fails where the server stops in the move or goes off at a read. The journal needs room for two events.
+/// Suspended. Fails where the server stops in the move or goes off at a read. The journal needs room for three events.
 pub fn suspend<P: Plant>(
     plant: &mut P,
     config: &Config,
@@ -36,7 +36,7 @@ pub fn suspend<P: Plant>(
     requires defined { IsSome (place_of config.now a.0) }
     requires running { (P.state plant.old).on (volume_seen (P.state plant.old) config.now a.0).server ≡ true }
     requires primary { is_part (volume_seen (P.state plant.old) config.now a.0).fields.primary ≡ true }
-    requires room { 2 ≤ journal.old.spare }
+    requires room { 3 ≤ journal.old.spare }
     ensures carried { (r : Rest) → Ends (armed_in (P.state plant.old)) (world_seen (P.state plant.new) config.now r journal.new.events) (refusal_of result) (world_seen (P.state plant.old) config.now r journal.old.events) (now (Suspend a.0 busy) ∷ []) }
     ensures advances { OnOk result ((r : Rest) → Advances (world_seen (P.state plant.old) config.now r journal.old.events) (now (Suspend a.0 busy)) (world_seen (P.state plant.new) config.now r journal.new.events)) }
     ensures halts { OnErr result ((r : Rest) → Halts (armed_in (P.state plant.old)) (world_seen (P.state plant.old) config.now r journal.old.events) (now (Suspend a.0 busy)) (world_seen (P.state plant.new) config.now r journal.new.events) (refusal_of result)) }
@@ -48,8 +48,8 @@ pub fn suspend<P: Plant>(
     ensures moved { OnOk result (IsMoved (P.state plant.old) (P.state plant.new) config.now a.0 (pairs.suspended busy (volume_seen (P.state plant.old) config.now a.0).fields) None) }
     ensures others { OthersStay (P.state plant.old) (P.state plant.new) config.now a.0 }
     ensures on { OnOk result ((P.state plant.new).on ≡ (P.state plant.old).on) }
-    ensures room { journal.old.spare ≤ journal.new.spare + 2 }
-    ensures room_left { OnOk result (journal.old.spare ≤ journal.new.spare + 1) }
+    ensures room { journal.old.spare ≤ journal.new.spare + 3 }
+    ensures room_left { OnOk result (journal.old.spare ≤ journal.new.spare + 2) }
     ensures spare { length journal.new.events + journal.new.spare ≡ length journal.old.events + journal.old.spare }
 {
     make_move(plant, config, journal, &Move::Suspend { v: a, busy }, None)

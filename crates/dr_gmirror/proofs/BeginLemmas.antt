@@ -78,7 +78,7 @@ begin-none b is = ap {B = ℕ} (λ (c : Bool). if c then 1 else 0) is
 begin-one : (b : Bool) → b ≡ true → ◌≡◌ {A = ℕ} (if b then 1 else 0) 1
 begin-one b is = ap {B = ℕ} (λ (c : Bool). if c then 1 else 0) is
 
-pub left-begun : (a e : ℕ) (b : Bool) (ss : List Session) (s n : ℕ) → MayBegin ss s n → (b ≡ true → nat_lt (last_in ss s) n ≡ true) → a ≤ e + (if b then 2 else 1) → a + to_begin (begun_in b ss s) s n ≤ e + (1 + to_begin ss s n)
+pub left-begun : (a e : ℕ) (b : Bool) (ss : List Session) (s n : ℕ) → MayBegin ss s n → (b ≡ true → nat_lt (last_in ss s) n ≡ true) → a ≤ e + (if b then 2 else 1) → a + to_begin (begun_in b ss s) s n ≤ e + (1 + 1 + to_begin ss s n)
 left-begun a e true ss s n may low h =
     let none : to_begin (changed s begun ss) s n ≡ 0 = begin-none _ (none-begins ss s n may (low refl)) in
     let one : to_begin ss s n ≡ 1 = begin-one _ (low refl) in
@@ -133,8 +133,8 @@ module _ (s u : PlantState) (t : ConfigTable) (old new : Log) (before after : Li
     sync = ok-along res left (λ h is. absurd (let no : true ≡ false = sym is in cc));
     may = subst (λ z. MayBegin z k n) (sym sessions) (may-begun did before k n may low);
     members = ap (λ z. members_in (session_in z k)) sessions ∙ members-begun did before k;
-    kept = kept-more s u t old new (if first then 3 else 2) (1 + (to_begin before k n + 1)) (done_of res) (let is = room-first before k n first is_first in omega (arith, is)) kept;
-    left = ok-along res left (λ h. subst (λ z. old.spare + to_begin z k n ≤ new.spare + (1 + to_begin before k n)) (sym sessions) (left-begun old.spare new.spare did before k n may low h));
+    kept = kept-more s u t old new (if first then 3 else 2) (1 + 1 + (to_begin before k n + 1)) (done_of res) (let is = room-first before k n first is_first in omega (arith, is)) kept;
+    left = ok-along res left (λ h. subst (λ z. old.spare + to_begin z k n ≤ new.spare + (1 + 1 + to_begin before k n)) (sym sessions) (left-begun old.spare new.spare did before k n may low h));
   }
 
   pub held-ordered : (res : Result (Unit {0}) Refusal) → OnOk res ((r : Rest) → nat_lt (last_of (was r).control k) n ≡ first → Leads (was r) es (now r))

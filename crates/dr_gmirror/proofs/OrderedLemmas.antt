@@ -49,7 +49,7 @@ ordered-none s c old ss work k n at may = record {
   sync = λ is q. refl;
   may = may;
   members = refl;
-  kept = nothing-kept s c old (Ok tt) at refl (0 + (to_begin ss k n + 1)) refl;
+  kept = nothing-kept s c old (Ok tt) at refl (0 + 0 + (to_begin ss k n + 1)) refl;
   left = omega arith;
 }
 
@@ -64,35 +64,35 @@ module _ (s u : PlantState) (c : ConfigTable) (old new : Log) (ss : List Session
   abbrev es : List Entry
   es = order_entries work k n (m ∷ [])
 
-  pub ordered-by : (res : Result Bool Refusal) → OnOk res ((r : Rest) → Leads (world_seen s c r old.events) es (world_seen u c r new.events)) → OnErr res ((r : Rest) → Fails (armed_in s) (world_seen s c r old.events) es (world_seen u c r new.events) (refusal_of res))
-      → IfOk res (λ waits. waits ≡ waits_in work (sync_seen u c) (m ∷ [])) → OnOk res (is_seal work ≡ true → (q : ℕ) → sync_seen u c q ≡ sync_seen s c q) → Kept s u c old new 2 (is_stop (refusal_of res)) (done_of res)
-      → OnOk res (old.spare ≤ new.spare + 1) → Ordered s u c old new ss ss work k n (m ∷ []) res
-  ordered-by res leads fails waits sync kept left = record {
+  pub ordered-by : (few some : ℕ) (res : Result Bool Refusal) → few ≤ 3 → some ≤ 2 → OnOk res ((r : Rest) → Leads (world_seen s c r old.events) es (world_seen u c r new.events)) → OnErr res ((r : Rest) → Fails (armed_in s) (world_seen s c r old.events) es (world_seen u c r new.events) (refusal_of res))
+      → IfOk res (λ waits. waits ≡ waits_in work (sync_seen u c) (m ∷ [])) → OnOk res (is_seal work ≡ true → (q : ℕ) → sync_seen u c q ≡ sync_seen s c q) → Kept s u c old new few (is_stop (refusal_of res)) (done_of res)
+      → OnOk res (old.spare ≤ new.spare + some) → Ordered s u c old new ss ss work k n (m ∷ []) res
+  ordered-by few some res three two leads fails waits sync kept left = record {
     leads = ok-along res leads (λ l r. l (with_sessions ss r));
     fails = err-along res fails fails (λ f _ r. f (with_sessions ss r));
     waits = waits;
     sync = sync;
     may = may;
     members = refl;
-    kept = kept-more s u c old new 2 (1 + (to_begin ss k n + 1)) (done_of res) (omega arith) kept;
-    left = ok-along res left (λ h. omega (arith, h));
+    kept = kept-more s u c old new few (1 + 1 + (to_begin ss k n + 1)) (done_of res) (omega (arith, three)) kept;
+    left = ok-along res left (λ h. omega (arith, h, two));
   }
 
   -- one that has to wait for nothing
-  pub ordered-apart : (actual : Work) (res : Result (Unit {0}) Refusal) (r : Result Bool Refusal) → actual ≡ work → r ≡ at_once res → is_seal work ≡ false
+  pub ordered-apart : (few some : ℕ) (actual : Work) (res : Result (Unit {0}) Refusal) (r : Result Bool Refusal) → few ≤ 3 → some ≤ 2 → actual ≡ work → r ≡ at_once res → is_seal work ≡ false
       → OnOk res ((r : Rest) → Leads (world_seen s c r old.events) es (world_seen u c r new.events)) → OnErr res ((r : Rest) → Fails (armed_in s) (world_seen s c r old.events) es (world_seen u c r new.events) (refusal_of res))
-      → Kept s u c old new 2 (is_stop (refusal_of res)) res → OnOk res (old.spare ≤ new.spare + 1) → Ordered s u c old new ss ss actual k n (m ∷ []) r
-  ordered-apart actual (Ok x) r is says free leads fails kept left =
+      → Kept s u c old new few (is_stop (refusal_of res)) res → OnOk res (old.spare ≤ new.spare + some) → Ordered s u c old new ss ss actual k n (m ∷ []) r
+  ordered-apart few some actual (Ok x) r three two is says free leads fails kept left =
       ordered-as s u c old new ss ss work actual k n (m ∷ []) (Ok false) r is says
-      (ordered-by (Ok false) leads tt (sym (ap (λ b. b && (must_wait (sync_seen u c) m || false)) free)) (λ is. absurd (let no : true ≡ false = sym is ∙ free in cc)) kept left)
-  ordered-apart actual (Err e) r is says free leads fails kept left = ordered-as s u c old new ss ss work actual k n (m ∷ []) (Err e) r is says (ordered-by (Err e) tt fails tt tt kept tt)
+      (ordered-by few some (Ok false) three two leads tt (sym (ap (λ b. b && (must_wait (sync_seen u c) m || false)) free)) (λ is. absurd (let no : true ≡ false = sym is ∙ free in cc)) kept left)
+  ordered-apart few some actual (Err e) r three two is says free leads fails kept left = ordered-as s u c old new ss ss work actual k n (m ∷ []) (Err e) r is says (ordered-by few some (Err e) three two tt fails tt tt kept tt)
 
 -- and on those behind them
 module _ (s m u : PlantState) (c : ConfigTable) (old mid new : Log) (before amid after : List Session) (work : Work) (k n : ℕ) (xs ys : List Member) (a : Bool) (first : Ordered s m c old mid before amid work k n xs (Ok a)) where
   entries-then : order_entries work k n (xs ++ ys) ≡ order_entries work k n xs ++ order_entries work k n ys
   entries-then = flat_map-append (member_entries work k n) xs ys
 
-  room-then : (b : ℕ) → mid.spare ≤ new.spare + (length ys + (to_begin amid k n + b)) → old.spare ≤ new.spare + (length (xs ++ ys) + (to_begin before k n + b))
+  room-then : (b : ℕ) → mid.spare ≤ new.spare + (length ys + length ys + (to_begin amid k n + b)) → old.spare ≤ new.spare + (length (xs ++ ys) + length (xs ++ ys) + (to_begin before k n + b))
   room-then b h = let left = first.left in let l = length-append xs ys in omega (arith, left, h, l)
 
   pub ordered-then : (b : Bool) → Ordered m u c mid new amid after work k n ys (Ok b) → Ordered s u c old new before after work k n (xs ++ ys) (Ok (a || b))

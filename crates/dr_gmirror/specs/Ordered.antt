@@ -27,7 +27,7 @@ at_once (Err e) = Err e
 
 -- From s to u the order was carried out on these members of session k, or an entry of it ended all, and the sessions came to be so.
 -- The answer says whether a seal has to wait. What a primary has to send stays where the order is a seal. The order may go on, on
--- the same members, and the journal was told of each member, of the begin of the attempt, and of a stop.
+-- the same members, and the journal had room for two events of each member, the begin of the attempt, and a stop.
 pub record Ordered (s u : PlantState) (c : ConfigTable) (old new : Log) (before after : List Session) (work : Work) (k n : ℕ) (ms : List Member) (result : Result Bool Refusal) : Type 0 where
   pub leads : OnOk result ((r : Rest) → Leads (world_seen s c (with_sessions before r) old.events) (order_entries work k n ms) (world_seen u c (with_sessions after r) new.events))
   pub fails : OnErr result ((r : Rest) → Fails (armed_in s) (world_seen s c (with_sessions before r) old.events) (order_entries work k n ms) (world_seen u c (with_sessions after r) new.events) (refusal_of result))
@@ -35,5 +35,5 @@ pub record Ordered (s u : PlantState) (c : ConfigTable) (old new : Log) (before 
   pub sync : OnOk result (is_seal work ≡ true → (q : ℕ) → sync_seen u c q ≡ sync_seen s c q)
   pub may : MayOrder work after k n
   pub members : members_in (session_in after k) ≡ members_in (session_in before k)
-  pub kept : Kept s u c old new (length ms + (to_begin before k n + 1)) (is_stop (refusal_of result)) (done_of result)
-  pub left : OnOk result (old.spare + to_begin after k n ≤ new.spare + (length ms + to_begin before k n))
+  pub kept : Kept s u c old new (length ms + length ms + (to_begin before k n + 1)) (is_stop (refusal_of result)) (done_of result)
+  pub left : OnOk result (old.spare + to_begin after k n ≤ new.spare + (length ms + length ms + to_begin before k n))

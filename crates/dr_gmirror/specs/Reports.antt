@@ -1,7 +1,17 @@
 -- What a server reports of its members.
-use Rattle.std.specs.Prelude.{◌≡◌, ℕ, ◌≤◌, ◌<◌, ◌+◌, false, Some, length, slice_get}
+use Rattle.std.specs.Prelude.{◌≡◌, ℕ, ◌≤◌, ◌<◌, ◌+◌, Bool, ◌&&◌, ◌||◌, false, Some, length, slice_get, nat_eq}
 use Rattle.dr_master.specs.Seen.{shown_in}
 use Rattle.dr_master.specs.declared.reports.Report.{Report}
+use Rattle.dr_model.specs.Decisions.{Shown}
+use Rattle.dr_volume.specs.declared.head.Head.{Head}
+
+-- a target with this head counts in session s: it is a member's there, or revertible
+abbrev pub counts_by : ℕ → Head → Bool
+counts_by s h = nat_eq h.session s && (h.member || h.revertible)
+
+-- what it shows
+abbrev pub shown_by : Head → Shown
+shown_by h = record { sequence = h.sequence; revertible = h.revertible }
 
 -- The places of a report behind those that it counts are zero and not set.
 pub record IsTrimmed (r : Report) : Type 0 where

@@ -154,11 +154,11 @@ fn exchange_order<P: Plant>(
     requires low { server.0 < 8 }
     requires few { length (model.members_in (model.session_in ss.old.sessions s.0)) ≤ 64 }
     requires may { (r : Rest) × MayExchange (world_seen (P.state plant.old) config.now (with_sessions ss.old.sessions r) journal.old.events) s.0 server.0 (master.order_of order) }
-    requires room { length (model.members_in (model.session_in ss.old.sessions s.0)) + 2 ≤ journal.old.spare }
+    requires room { length (model.members_in (model.session_in ss.old.sessions s.0)) + length (model.members_in (model.session_in ss.old.sessions s.0)) + 2 ≤ journal.old.spare }
     ensures carried { (r : Rest) → PlanEnds (armed_in (P.state plant.old)) (world_seen (P.state plant.old) config.now (with_sessions ss.old.sessions r) journal.old.events)
         (plans.exchange_done s.0 server.0 reply (members_on server.0 (model.members_in (model.session_in ss.old.sessions s.0))) (Some (master.order_of order)))
         (world_seen (P.state plant.new) config.now (with_sessions ss.new.sessions r) journal.new.events) (exchange_answer result s.0 (world_seen (P.state plant.new) config.now (with_sessions ss.new.sessions r) journal.new.events).control) }
-    ensures kept { Kept (P.state plant.old) (P.state plant.new) config.now journal.old journal.new (length (model.members_in (model.session_in ss.old.sessions s.0)) + 2) (is_stop (refusal_of result)) result }
+    ensures kept { Kept (P.state plant.old) (P.state plant.new) config.now journal.old journal.new (length (model.members_in (model.session_in ss.old.sessions s.0)) + length (model.members_in (model.session_in ss.old.sessions s.0)) + 2) (is_stop (refusal_of result)) result }
 {
     match carry_out(plant, config, journal, ss, s, server, order) {
         Ok(y) => {
@@ -177,7 +177,7 @@ fn exchange_order<P: Plant>(
 /// Fails too where a member refuses, or where a server stops in a move or goes off at a read; what was done by then stays, and
 /// the master learns of nothing. A lost master to which all have reported goes on by what they show. In a sound world the target
 /// of a member whose secondary isn't its primary's, as after a takeover, stays as it is. The journal needs room
-/// for an event for each of the session's members, which are at most 64, and two more.
+/// for two events for each of the session's members, which are at most 64, and two more.
 pub fn exchange<P: Plant>(
     plant: &mut P,
     config: &Config,
@@ -198,7 +198,7 @@ pub fn exchange<P: Plant>(
     requires may { (r : Rest) × ((o : phases.Order)
         → refusal_in (world_seen (P.state plant.old) config.now (with_sessions ss.old.sessions r) journal.old.events).control (model.mirror_in (model.session_in ss.old.sessions s.0)) server.0 (model.members_in (model.session_in ss.old.sessions s.0)) ≡ None
         → order_in (model.mirror_in (model.session_in ss.old.sessions s.0)) server.0 ≡ Some o → MayExchange (world_seen (P.state plant.old) config.now (with_sessions ss.old.sessions r) journal.old.events) s.0 server.0 o) }
-    requires room { length (model.members_in (model.session_in ss.old.sessions s.0)) + 2 ≤ journal.old.spare }
+    requires room { length (model.members_in (model.session_in ss.old.sessions s.0)) + length (model.members_in (model.session_in ss.old.sessions s.0)) + 2 ≤ journal.old.spare }
     ensures carried { (r : Rest) → PlanEnds (armed_in (P.state plant.old)) (world_seen (P.state plant.old) config.now (with_sessions ss.old.sessions r) journal.old.events)
         (plans.exchange_on (world_seen (P.state plant.old) config.now (with_sessions ss.old.sessions r) journal.old.events).control s.0 (model.mirror_in (model.session_in ss.old.sessions s.0)) server.0 reply (model.members_in (model.session_in ss.old.sessions s.0)))
         (world_seen (P.state plant.new) config.now (with_sessions ss.new.sessions r) journal.new.events) (exchange_answer result s.0 (world_seen (P.state plant.new) config.now (with_sessions ss.new.sessions r) journal.new.events).control) }
@@ -213,7 +213,7 @@ pub fn exchange<P: Plant>(
     ensures unarmed { (q : ℕ) → (P.state plant.old).read_fuse q ≡ None → (P.state plant.new).read_fuse q ≡ None }
     ensures faults { Counted (is_stop (refusal_of result)) (P.state plant.old).faults (P.state plant.new).faults }
     ensures on { OnOk result ((P.state plant.new).on ≡ (P.state plant.old).on) }
-    ensures room { journal.old.spare ≤ journal.new.spare + (length (model.members_in (model.session_in ss.old.sessions s.0)) + 2) }
+    ensures room { journal.old.spare ≤ journal.new.spare + (length (model.members_in (model.session_in ss.old.sessions s.0)) + length (model.members_in (model.session_in ss.old.sessions s.0)) + 2) }
     ensures spare { length journal.new.events + journal.new.spare ≡ length journal.old.events + journal.old.spare }
 {
     let Some(x) = Look::at(ss, s, server) else {

@@ -58,7 +58,7 @@ fn order_each<P: Plant>(
     requires members { AreReady (P.state plant.old) config.now (model.members_in (model.session_in ss.old.sessions s.0)) }
     requires running { (P.state plant.old).on server.0 ≡ true }
     requires begins { MayOrder (work_of order.kind) ss.old.sessions s.0 order.n }
-    requires room { length (model.members_in (model.session_in ss.old.sessions s.0)) + 2 ≤ journal.old.spare }
+    requires room { length (model.members_in (model.session_in ss.old.sessions s.0)) + length (model.members_in (model.session_in ss.old.sessions s.0)) + 2 ≤ journal.old.spare }
     ensures { Ordered (P.state plant.old) (P.state plant.new) config.now journal.old journal.new ss.old.sessions ss.new.sessions (work_of order.kind) s.0 order.n (members_on server.0 (model.members_in (model.session_in ss.old.sessions s.0))) result }
 {
     let mut waits = false;
@@ -76,7 +76,7 @@ fn order_each<P: Plant>(
 /// report with what its members show; a seal has to wait where a member's primary has tracks left to send; else all is done.
 /// The first hold of an attempt begins it for the session, also where the server stops in that hold and it counts as done.
 /// Fails where a member refuses, or where a server stops in a move or goes off at a read; what was done by then stays. The
-/// journal needs room for an event for each of the session's members and two more; a report speaks of at most 64 members.
+/// journal needs room for two events for each of the session's members and two more; a report speaks of at most 64 members.
 pub fn carry_out<P: Plant>(
     plant: &mut P,
     config: &Config,
@@ -93,7 +93,7 @@ pub fn carry_out<P: Plant>(
     requires running { (P.state plant.old).on server.0 ≡ true }
     requires begins { MayOrder (work_of order.kind) ss.old.sessions s.0 order.n }
     requires few { is_report (work_of order.kind) ≡ true → length (model.members_in (model.session_in ss.old.sessions s.0)) ≤ 64 }
-    requires room { length (model.members_in (model.session_in ss.old.sessions s.0)) + 2 ≤ journal.old.spare }
+    requires room { length (model.members_in (model.session_in ss.old.sessions s.0)) + length (model.members_in (model.session_in ss.old.sessions s.0)) + 2 ≤ journal.old.spare }
     ensures carried { (r : Rest) → Ends (armed_in (P.state plant.old)) (world_seen (P.state plant.new) config.now (with_sessions ss.new.sessions r) journal.new.events) (refusal_of result) (world_seen (P.state plant.old) config.now (with_sessions ss.old.sessions r) journal.old.events)
         (order_entries (work_of order.kind) s.0 order.n (members_on server.0 (model.members_in (model.session_in ss.old.sessions s.0)))) }
     ensures leads { OnOk result ((r : Rest) → Leads (world_seen (P.state plant.old) config.now (with_sessions ss.old.sessions r) journal.old.events) (order_entries (work_of order.kind) s.0 order.n (members_on server.0 (model.members_in (model.session_in ss.old.sessions s.0))))
@@ -109,7 +109,7 @@ pub fn carry_out<P: Plant>(
     ensures unarmed { (q : ℕ) → (P.state plant.old).read_fuse q ≡ None → (P.state plant.new).read_fuse q ≡ None }
     ensures faults { Counted (is_stop (refusal_of result)) (P.state plant.old).faults (P.state plant.new).faults }
     ensures on { OnOk result ((P.state plant.new).on ≡ (P.state plant.old).on) }
-    ensures room { journal.old.spare ≤ journal.new.spare + (length (model.members_in (model.session_in ss.old.sessions s.0)) + 2) }
+    ensures room { journal.old.spare ≤ journal.new.spare + (length (model.members_in (model.session_in ss.old.sessions s.0)) + length (model.members_in (model.session_in ss.old.sessions s.0)) + 2) }
     ensures spare { length journal.new.events + journal.new.spare ≡ length journal.old.events + journal.old.spare }
 {
     if is_report(order.kind) {

@@ -22,7 +22,7 @@ use dr_master::Report;
 use dr_moves::server_of;
 use dr_plant::Plant;
 use dr_session::Sessions;
-use dr_volume::peek_fields;
+use dr_volume::peek_head;
 
 /// What the targets of all members of a session show that count in it, in order, looked at whether or not their servers are on.
 fn report_all<P: Plant>(plant: &P, config: &Config, ss: &Sessions, s: SessionId) -> Report
@@ -35,7 +35,7 @@ fn report_all<P: Plant>(plant: &P, config: &Config, ss: &Sessions, s: SessionId)
     let mut report = no_report();
     for at in 0..ss.member_count(s) {
         let m = ss.member_at(s, at).unwrap();
-        note_if(&mut report, s, &peek_fields(plant, config, m.c));
+        note_if(&mut report, s, &peek_head(plant, config, m.c));
     }
     report
 }
@@ -99,11 +99,11 @@ pub fn restore_refusal<P: Plant>(
     ensures refusal { (r : Rest) (events : List Event) → plans.restore_refusal t.0 (world_seen (P.state plant.now) config.now (with_sessions ss.now.sessions r) events).control ≡ result }
     ensures calm { is_stop result ≡ false }
 {
-    let fields = peek_fields(plant, config, t);
-    if !fields.member {
+    let head = peek_head(plant, config, t);
+    if !head.member {
         return None;
     }
-    let s = SessionId(fields.session);
+    let s = SessionId(head.session);
     if let Some(why) = secondary_refusal(plant, config, ss, s) {
         return Some(why);
     }
@@ -129,10 +129,10 @@ pub fn leaving<P: Plant>(plant: &P, config: &Config, ss: &Sessions, t: VolumeId)
     requires defined { IsSome (place_of config.now t.0) }
     ensures { (r : Rest) (events : List Event) → plans.left_by (world_seen (P.state plant.now) config.now (with_sessions ss.now.sessions r) events).control t.0 ≡ volume_number result }
 {
-    let fields = peek_fields(plant, config, t);
-    if !fields.member {
+    let head = peek_head(plant, config, t);
+    if !head.member {
         return None;
     }
-    let m = member_with(ss, SessionId(fields.session), t)?;
+    let m = member_with(ss, SessionId(head.session), t)?;
     Some(m.a)
 }

@@ -6,15 +6,14 @@ ghost use Rattle.dr_master.specs.Seen.{shown_in};
 ghost use Rattle.dr_model.specs.declared.event.Event.{Event};
 ghost use Rattle.dr_model.specs.Phases as phases;
 ghost use Rattle.dr_model.specs.ReadStops.{Ends};
-ghost use Rattle.dr_model.specs.SessionEntries.{counts_in, shown_of, shown_by_members, order_entries, members_on, report_entries};
+ghost use Rattle.dr_model.specs.SessionEntries.{shown_by_members, order_entries, members_on, report_entries};
 ghost use Rattle.dr_model.specs.Sessions as model;
-ghost use Rattle.dr_volume.specs.Plain.{plain};
 ghost use Rattle.dr_volume.specs.View.{Rest};
 ghost use Rattle.dr_moves.specs.Checks.{is_stop};
 ghost use Rattle.dr_moves.specs.Here.{world_seen, refusal_of, armed_in};
 ghost use Rattle.dr_moves.specs.Turns.{Leads, Fails};
 ghost use Rattle.dr_gmirror.specs.Orders.{IsMemberReady, AreReady};
-ghost use Rattle.dr_gmirror.specs.Reports.{IsTrimmed, Grown};
+ghost use Rattle.dr_gmirror.specs.Reports.{counts_by, shown_by, IsTrimmed, Grown};
 
 use dr_config::Config;
 use dr_gcopy::reach_refusal;
@@ -22,7 +21,7 @@ use dr_ids::{Member, Refusal, ServerId, SessionId};
 use dr_master::{MOST_REPORTED, Report};
 use dr_plant::Plant;
 use dr_session::Sessions;
-use dr_volume::{Fields, peek_fields};
+use dr_volume::{Head, peek_head};
 
 /// A report of no member.
 pub(crate) fn no_report() -> Report
@@ -50,17 +49,17 @@ fn note(report: &mut Report, sequence: u32, revertible: bool)
     report.count += 1;
 }
 
-/// Whether a target with these fields counts in the session: it is a member's there, or revertible.
-fn counts_in(s: SessionId, f: &Fields) -> bool
-    ensures { result ≡ counts_in s.0 (plain f.now) }
+/// Whether a target with this head counts in the session: it is a member's there, or revertible.
+fn counts_in(s: SessionId, f: &Head) -> bool
+    ensures { result ≡ counts_by s.0 f.now }
 {
     f.session == s.0 && (f.member || f.revertible)
 }
 
 /// A report that speaks of this target, where it counts.
-pub(crate) fn note_if(report: &mut Report, s: SessionId, f: &Fields)
+pub(crate) fn note_if(report: &mut Report, s: SessionId, f: &Head)
     requires { report.old.count < 64 }
-    ensures shown { shown_in report.new ≡ shown_in report.old ++ (if counts_in s.0 (plain f.now) then shown_of (plain f.now) ∷ [] else []) }
+    ensures shown { shown_in report.new ≡ shown_in report.old ++ (if counts_by s.0 f.now then shown_by f.now ∷ [] else []) }
     ensures grown { Grown report.old report.new }
 {
     if counts_in(s, f) {
@@ -88,7 +87,7 @@ fn settle_member<P: Plant>(
     if let Some(why) = reach_refusal(plant, config, m.a, m.b) {
         return Err(why);
     }
-    note_if(report, s, &peek_fields(plant, config, m.c));
+    note_if(report, s, &peek_head(plant, config, m.c));
     Ok(())
 }
 

@@ -47,7 +47,7 @@ fn order_member<P: Plant>(
     requires ready { IsMemberReady (P.state plant.old) config.now m.now }
     requires running { (P.state plant.old).on m.now.server.0 ≡ true }
     requires begins { MayOrder (work_of kind) ss.old.sessions s.0 n }
-    requires room { to_begin ss.old.sessions s.0 n + 2 ≤ journal.old.spare }
+    requires room { to_begin ss.old.sessions s.0 n + 3 ≤ journal.old.spare }
     ensures { Ordered (P.state plant.old) (P.state plant.new) config.now journal.old journal.new ss.old.sessions ss.new.sessions (work_of kind) s.0 n (m.now ∷ []) result }
 {
     match kind {
@@ -85,7 +85,7 @@ pub(crate) fn order_on<P: Plant>(
     requires ready { IsMemberReady (P.state plant.old) config.now m.now }
     requires running { (P.state plant.old).on server.0 ≡ true }
     requires begins { MayOrder (work_of kind) ss.old.sessions s.0 n }
-    requires room { to_begin ss.old.sessions s.0 n + 2 ≤ journal.old.spare }
+    requires room { to_begin ss.old.sessions s.0 n + 3 ≤ journal.old.spare }
     ensures { Ordered (P.state plant.old) (P.state plant.new) config.now journal.old journal.new ss.old.sessions ss.new.sessions (work_of kind) s.0 n (members_on server.0 (m.now ∷ [])) result }
 {
     if m.server.0 != server.0 {

@@ -2,3 +2,4 @@ pub mod BigEndian
 pub mod Spelling
 pub mod Links
 pub mod Paths
+pub mod Sizes

@@ -1,4 +1,5 @@
-ghost use Rattle.std.specs.Prelude.{◌≡◌, ◌+◌, ◌≤◌};
+ghost use Rattle.std.specs.Prelude.{◌≡◌, ◌≤◌};
+ghost use Rattle.dr_ids.specs.Sizes as volume;
 
 /// The most servers that a configuration has.
 pub const MOST_SERVERS: usize = 8;
@@ -18,7 +19,7 @@ pub const MOST_EVENTS: usize = 1_000_000;
 /// How many blocks hold a volume of so many tracks, its control record included.
 pub fn blocks_of(tracks: u16) -> u16
     requires { tracks ≤ MAX_TRACKS }
-    ensures { result ≡ 13 + tracks }
+    ensures { result ≡ volume.blocks_of tracks }
 {
     13 + tracks
 }

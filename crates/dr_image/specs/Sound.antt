@@ -1,5 +1,6 @@
 -- What is true of each image.
 use Rattle.std.specs.Prelude.{◌<◌, ◌≤◌, List, All, AllPairs}
+use Rattle.dr_ids.specs.Sizes.{most_tracks}
 use Rattle.dr_model.specs.PlantImage.{Volume, IsKept}
 
 -- a volume's numbers fit their bytes, and its blocks stand in order, none of them all zero
@@ -17,4 +18,4 @@ IsSoundImage vs = All IsSoundVolume vs
 -- the volumes of an image that is read: none has more than 256 tracks
 pub record IsRead (vs : List Volume) : Type 0 where
   pub sound : IsSoundImage vs
-  pub tracks : All (λ v. v.tracks ≤ 256) vs
+  pub tracks : All (λ v. v.tracks ≤ most_tracks) vs

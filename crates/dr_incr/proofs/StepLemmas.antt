@@ -37,13 +37,7 @@ pub stop-refused : (r : Result (Unit {0}) Refusal) (n m : ℕ) → OnErr r (refu
 stop-refused (Ok x) n m refused same stop = absurd cc
 stop-refused (Err e) n m refused same stop = refused ∙ ap (λ z. Some (stopped z)) same
 
--- the entries end as those that led on or failed say
-pub ends-by : {T : Type 0} (res : Result T Refusal) (armed : ℕ → Bool) (w u : Rest → World) (es : Rest → List Entry)
-    → OnOk res ((r : Rest) → Leads (w r) (es r) (u r)) → OnErr res ((r : Rest) → Fails armed (w r) (es r) (u r) (refusal_of res)) → (r : Rest) → Ends armed (u r) (refusal_of res) (w r) (es r)
-ends-by (Ok x) armed w u es leads fails r = led armed (w r) (u r) (es r) (leads r)
-ends-by (Err e) armed w u es leads fails r = failed armed (w r) (u r) (Some e) (es r) (fails r)
-
--- the same of each rest of which this holds
+-- the entries end as those that led on or failed say, of each rest of which this holds
 pub ends-if : {T : Type 0} (res : Result T Refusal) (armed : ℕ → Bool) (A : Rest → Type 0) (w u : Rest → World) (es : Rest → List Entry)
     → OnOk res ((r : Rest) → A r → Leads (w r) (es r) (u r)) → OnErr res ((r : Rest) → A r → Fails armed (w r) (es r) (u r) (refusal_of res)) → (r : Rest) → A r → Ends armed (u r) (refusal_of res) (w r) (es r)
 ends-if (Ok x) armed A w u es leads fails r a = led armed (w r) (u r) (es r) (leads r a)

@@ -9,7 +9,6 @@ ghost use Rattle.dr_model.specs.declared.event.Event.{Event};
 ghost use Rattle.dr_model.specs.Entries.{copies_from};
 ghost use Rattle.dr_model.specs.Layout.{is_part};
 ghost use Rattle.dr_model.specs.Pairs as pairs;
-ghost use Rattle.dr_volume.specs.Plain.{plain};
 ghost use Rattle.dr_volume.specs.View.{Rest, volume_seen};
 ghost use Rattle.dr_moves.specs.Checks.{Checked, OnNone, is_stop};
 ghost use Rattle.dr_flash.specs.Heads.{targets_by};
@@ -22,7 +21,7 @@ use dr_flash::relation_state;
 use dr_ids::{Refusal, VolumeId};
 use dr_moves::{is_quiet, pair_state, server_of};
 use dr_plant::Plant;
-use dr_volume::{Fields, Head, peek_fields, peek_head, peek_head_at};
+use dr_volume::{Head, peek_head, peek_head_at};
 
 /// Whether a volume with this head is a target of s whose changes are recorded, and neither revertible nor restored.
 fn is_recorded_target(f: &Head, s: VolumeId) -> bool
@@ -86,9 +85,9 @@ fn has_other_restore<P: Plant>(plant: &P, config: &Config, s: VolumeId, t: Volum
     false
 }
 
-/// Whether a volume with these fields may take tracks back: it is no secondary, and no primary but a Suspended one.
-fn may_return(f: &Fields) -> bool
-    ensures { result ≡ (not (is_part f.now.secondary) && pairs.is_quiet (plain f.now)) }
+/// Whether a volume with this head may take tracks back: it is no secondary, and no primary but a Suspended one.
+fn may_return(f: &Head) -> bool
+    ensures { result ≡ (not (is_part f.now.secondary) && (not (is_part f.now.primary) || pairs.is_suspended f.now.primary_state)) }
 {
     !f.secondary.is_part() && is_quiet(f)
 }
@@ -109,7 +108,7 @@ pub(crate) fn lone_refusal<P: Plant>(
     if has_other_restore(plant, config, s, t) {
         return Some(relation_state(plant, config, s));
     }
-    if !may_return(&peek_fields(plant, config, s)) {
+    if !may_return(&peek_head(plant, config, s)) {
         return Some(pair_state(plant, config, s));
     }
     None

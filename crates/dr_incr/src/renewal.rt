@@ -23,7 +23,7 @@ use dr_ids::{Refusal, VolumeId};
 use dr_model::Journal;
 use dr_moves::{Move, make_move};
 use dr_plant::Plant;
-use dr_volume::peek_fields;
+use dr_volume::peek_head;
 
 /// Makes target t a copy of its source s anew: t shares the tracks that changed on either side with s again, and gets the
 /// sequence number where one is given; then each track of t reads as that of s, where what t held unchanged was the same.
@@ -60,7 +60,7 @@ pub fn resync<P: Plant>(
     ensures room_left { OnOk result (journal.old.spare ≤ journal.new.spare + 1) }
     ensures spare { length journal.new.events + journal.new.spare ≡ length journal.old.events + journal.old.spare }
 {
-    let first = counted_refusal(&peek_fields(plant, config, t));
+    let first = counted_refusal(&peek_head(plant, config, t));
     if let Some(why) = target_refusal(plant, config, s, t, first) {
         return Err(why);
     }

@@ -192,7 +192,7 @@ aborts = refl
 
 module _ (k : Control) (b : Both k) where
   moves : (m : Move) → InAttempt k m → Suits k m → Both (move m k)
-  moves m a s = record { groups = groups-move k (move m k) m None refl (record { volumes = refl; volume = refl }) s b.groups; attempts = attempts-move k (move m k) m None refl (record { volumes = refl; volume = refl }) a b.groups b.attempts }
+  moves m a s = record { groups = groups-move k (move m k) m None refl (record { volumes = refl; keeps = true; volume = refl }) s b.groups; attempts = attempts-move k (move m k) m None refl (record { volumes = refl; keeps = true; volume = refl }) a b.groups b.attempts }
 
   answers : (server : ℕ) (x : Session) → session_in k.sessions 7 ≡ Some x → ServerDone k x server → ((r : Mirror) → x.mirror ≡ Some r → r.master.phase ≡ phase.Finishing → ServerSilent k x server) → Both (reply server k)
   answers server x found done silent = record { groups = groups-taken k 7 server phases.Done x b.groups found silent (λ r has. tt); attempts = with-done k b.groups b.attempts 7 server x found done }
@@ -205,8 +205,8 @@ opened = told begun (move (Hold 1 7 1 true) start)
 
 opened-both : Both opened
 opened-both = record {
-  groups = moved-opened start (move (Hold 1 7 1 true) start) 1 (held_for 1 (fields_at start 1)) None refl (record { volumes = refl; volume = refl }) 7 1 refl refl opens start-groups;
-  attempts = attempts-opened start (move (Hold 1 7 1 true) start) 1 7 1 None refl (record { volumes = refl; volume = refl }) opens start-groups start-attempts;
+  groups = moved-opened start (move (Hold 1 7 1 true) start) 1 (held_for 1 (fields_at start 1)) None refl (record { volumes = refl; keeps = true; volume = refl }) 7 1 refl refl opens start-groups;
+  attempts = attempts-opened start (move (Hold 1 7 1 true) start) 1 7 1 None refl (record { volumes = refl; keeps = true; volume = refl }) opens start-groups start-attempts;
 }
 
 holds : HoldsMember opened 4 7 1

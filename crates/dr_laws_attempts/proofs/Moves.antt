@@ -11,7 +11,7 @@ use Rattle.dr_model.specs.Control.{Control, Volume}
 use Rattle.dr_model.specs.Views.{source_of}
 use Rattle.dr_model.specs.Relations.{is_whole, is_bare, parted_if, turned, given_up, fetched, noted, rewritten}
 use Rattle.dr_model.specs.Pairs.{primary_of, is_secondary_of}
-use Rattle.dr_model.specs.Moves.{Move, Overwrite, Keep, Relate, Withdraw, Fetch, Resync, Reverse, Release, Store, MakeSecondary, Yield, DropSecondary, TakeOver, Hold, Seal, Finish, RaiseAttempt, RaiseFloor, Leave, Flash, Commit, Revert, Carried, moved, target, next_fields}
+use Rattle.dr_model.specs.Moves.{Move, Overwrite, Keep, Relate, Withdraw, Fetch, Resync, Reverse, Release, Store, MakeSecondary, Yield, DropSecondary, TakeOver, Hold, Seal, Finish, RaiseAttempt, RaiseFloor, Leave, Flash, Commit, Revert, Carried, moved_keeping, target, next_fields}
 use Rattle.dr_model.specs.Entries.{fields_at, is_at, copies_from}
 use Rattle.dr_model.specs.SessionEntries.{may_flash}
 use Rattle.dr_model.specs.Sessions.{Session}
@@ -38,7 +38,7 @@ at_map g f k x q = by (nat_eq q k)
     by false = refl
 
 pub roles-moved : (k j : Control) (v : ℕ) (f : Fields) (c : Carried) → Moves k j v f c → roles j ≡ at (roles k) v (role_of f)
-roles-moved k j v f c moves = fun_ext (λ u. ap (λ (w : ℕ → Volume). role_of (w u).fields) moves.volume ∙ at_map (λ (y : Volume). role_of y.fields) k.volume v (moved (k.volume v) f c) u)
+roles-moved k j v f c moves = fun_ext (λ u. ap (λ (w : ℕ → Volume). role_of (w u).fields) moves.volume ∙ at_map (λ (y : Volume). role_of y.fields) k.volume v (moved_keeping moves.keeps (k.volume v) f c) u)
 
 pub attempts-moved : (k j : Control) (v : ℕ) (f : Fields) (c : Carried) → j.sessions ≡ k.sessions → Moves k j v f c → AttemptsIn k.sessions (at (roles k) v (role_of f)) → Attempts j
 attempts-moved k j v f c same moves law = subst (λ T. AttemptsIn j.sessions T) (sym (roles-moved k j v f c moves)) (subst (λ ss. AttemptsIn ss (at (roles k) v (role_of f))) (sym same) law)

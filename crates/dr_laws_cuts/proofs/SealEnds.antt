@@ -15,7 +15,7 @@ use Rattle.dr_model.specs.Control.{Control, Volume, World}
 use Rattle.dr_model.specs.Pairs.{primary_of, records, sealed}
 use Rattle.dr_model.specs.Relations.{is_bare}
 use Rattle.dr_model.specs.Moves.{Move, Seal, moved, tracks_after, updated}
-use Rattle.dr_model.specs.Carry.{Make, Turn, Ended, Entry, Pass, Do, act, turn, update, ended, spent, off, pass, counts_by, finished, cut_short}
+use Rattle.dr_model.specs.Carry.{Make, Turn, Entry, Pass, Do, turn, spent, off, finished, cut_short}
 use Rattle.dr_model.specs.Entries.{fields_at, is_running, pair_state}
 use Rattle.dr_model.specs.PairEntries.{has_path, reach_refusal, belongs_to, send_refusal, refuse_if, end_if}
 use Rattle.dr_model.specs.SessionEntries.{is_drained, void_refusal, seal_refusal, seal_on, seal_entries}
@@ -23,7 +23,7 @@ use Rattle.dr_model.specs.ReadStops.{GoesOff, IsEnd, EndsTurn, EndsNext, Ends, g
 use Rattle.dr_model.specs.Table.{table}
 use Rattle.dr_model.specs.Laws.{fields}
 use Rattle.dr_model.specs.Cuts.{SealsHold}
-use Rattle.dr_model.proofs.CarryLemmas.{act-move}
+use Rattle.dr_model.proofs.CarryLemmas.{act-move, turn-ends}
 use Rattle.dr_model.proofs.Images.{histories-append}
 use Rattle.dr_laws_cuts.specs.Once.{NoCuts}
 use Rattle.dr_laws_cuts.specs.Sent.{SendsTo, CutsHold, SealedFor}
@@ -31,6 +31,7 @@ use Rattle.dr_facts.proofs.Tables.{at_cases}
 use Rattle.dr_laws_cuts.proofs.Still.{recorded}
 use Rattle.dr_laws_cuts.proofs.Sent.{Held, every, Stays, sealed-held, held-sealed, sent-held, held-stays, seals-stay, cuts-stay}
 use Rattle.dr_logic.proofs.Choices.{choose_some}
+use Rattle.dr_logic.proofs.Truth.{false_true}
 use Rattle.dr_facts.proofs.Tracks.{bare-has}
 use Rattle.dr_facts.proofs.Refusals.{none-both, met, passed, chosen}
 use Rattle.dr_logic.proofs.Tables.{at_same}
@@ -125,21 +126,8 @@ module _ (w : World) (laws : CutsHold w) (s a b n : ℕ) (sends : SendsTo w a b)
         let number : (fields (table y) b).seal ≡ n = ap (λ (g : Fields). g.seal) here in
         record { number = number; holds = held-sealed y b a (subst (λ k. Held y b k a every) (sym number) (held-stays w y stays b n a every held)) }
 
-  -- a turn of the seal, by what decides it
-  abbrev ended_by : Bool → Bool → Bool → Ended
-  ended_by on passes counts =
-      cond (not on) (ended w true false)
-      (cond passes (ended (spent (updated w b (sealed n x.fields) None) x.server 7) false true)
-      (cond counts (ended (off (updated w b (sealed n x.fields) None) x.server) true true) (ended (off w x.server) true false)))
-
-  abbrev turn_by : Bool → Bool → Bool → Turn
-  turn_by on passes counts =
-      let e : Ended = ended_by on passes counts in
-      cond (not on) (w, None) (cond e.stopped (cut_short e.world m x e.done, Some x.server) (finished e.world m x, None))
-
-  turn-by : turn w m ≡ turn_by (w.control.on x.server) (pass (w.control.fuse x.server) 7) (counts_by (w.control.fuse x.server) (not x.slot))
-  unfolding turn update
-  turn-by = refl
+  abbrev new : World
+  new = updated w b (sealed n x.fields) None
 
   told-seal : (histories (w.events ++ Sealed s n a ∷ [])).write ≡ (histories w.events).write
   told-seal = ap (λ (h : Histories). h.write) (histories-append w.events (Sealed s n a ∷ []))
@@ -178,20 +166,16 @@ module _ (w : World) (laws : CutsHold w) (s a b n : ℕ) (sends : SendsTo w a b)
         by (Some why) is e = end-some w why laws e
 
     -- the move itself
-    turn-ends : Holding → primary_of x.fields ≡ Some a → (on passes counts : Bool) → on ≡ true → (t : Turn) → t ≡ turn_by on passes counts → EndsTurn armed u r t.0 t.1 (λ v. Ends armed u r v []) → SealEnd
-    turn-ends held takes false passes counts on t is e = absurd cc
-    turn-ends held takes true true counts on t is e =
-        let y : World = finished (spent (updated w b (sealed n x.fields) None) x.server 7) m x in
-        end-nil y (made-holds y (Sealed s n a ∷ []) (tt, tt) refl refl refl told-seal held takes) (λ d. made-for y (Sealed s n a ∷ []) (tt, tt) refl refl refl told-seal held)
-        (subst (λ (t : Turn). EndsTurn armed u r t.0 t.1 (λ v. Ends armed u r v [])) is e)
-    turn-ends held takes true false true on t is e =
-        let y : World = cut_short (off (updated w b (sealed n x.fields) None) x.server) m x true in
-        end-some y _ (made-holds y (Sealed s n a ∷ Stopped x.server 0 ∷ []) (tt, (tt, tt)) refl refl refl told-both held takes)
-        (subst (λ (t : Turn). EndsTurn armed u r t.0 t.1 (λ v. Ends armed u r v [])) is e)
-    turn-ends held takes true false false on t is e =
-        let y : World = cut_short (off w x.server) m x false in
-        end-some y _ (cuts-still w y (Stopped x.server 0 ∷ []) (tt, tt) refl refl refl (told-stop w x.server 0) laws)
-        (subst (λ (t : Turn). EndsTurn armed u r t.0 t.1 (λ v. Ends armed u r v [])) is e)
+    move-ends : Holding → primary_of x.fields ≡ Some a → w.control.on x.server ≡ true → EndsTurn armed u r (turn w m).0 (turn w m).1 (λ v. Ends armed u r v []) → SealEnd
+    move-ends held takes on =
+        turn-ends w m (λ t. EndsTurn armed u r t.0 t.1 (λ v. Ends armed u r v []) → SealEnd)
+        (λ down. false_true down on)
+        (λ up k ends. let y : World = finished (spent new x.server k) m x in
+        end-nil y (made-holds y (Sealed s n a ∷ []) (tt, tt) refl refl refl told-seal held takes) (λ d. made-for y (Sealed s n a ∷ []) (tt, tt) refl refl refl told-seal held) ends)
+        (λ up fused ends. let y : World = cut_short (off new x.server) m x true in
+        end-some y _ (made-holds y (Sealed s n a ∷ Stopped x.server 0 ∷ []) (tt, (tt, tt)) refl refl refl told-both held takes) ends)
+        (λ up fused ends. let y : World = cut_short (off w x.server) m x false in
+        end-some y _ (cuts-still w y (Stopped x.server 0 ∷ []) (tt, tt) refl refl refl (told-stop w x.server 0) laws) ends)
 
     -- the last entry, behind the checks
     sealed-now : Holding → nat_eq x.fields.seal n ≡ true → SealedFor w b a n
@@ -212,7 +196,7 @@ module _ (w : World) (laws : CutsHold w) (s a b n : ℕ) (sends : SendsTo w a b)
       where
         so : Holding → primary_of x.fields ≡ Some a → w.control.on x.server ≡ true → (e : Bool) → nat_eq x.fields.seal n ≡ e → EndsNext armed u r w (cond (not e) (Do (Make m)) Pass) (λ v. Ends armed u r v []) → SealEnd
         so held takes on true same ends = end-nil w laws (λ d. sealed-now held same) ends
-        so held takes on false same ends = turn-ends held takes _ _ _ on (act w (Make m)) (act-move w m ∙ turn-by) ends
+        so held takes on false same ends = move-ends held takes on (subst (λ (t : Turn). EndsTurn armed u r t.0 t.1 (λ v. Ends armed u r v [])) (act-move w m) ends)
 
     last : void_refusal a n w.control ≡ None → seal_refusal a b w.control ≡ None → Ends armed u r w (seal_on s a b n ∷ []) → SealEnd
     unfolding Ends

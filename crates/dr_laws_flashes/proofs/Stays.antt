@@ -15,7 +15,7 @@ use Rattle.dr_facts.proofs.Tables.{IsOrNot}
 use Rattle.dr_laws_sound.proofs.Due.{waiting-settled, waiting-marked_else, none_landed}
 use Rattle.dr_laws_freezes.proofs.Fair.{MayCome}
 use Rattle.dr_laws_freezes.proofs.KeepsWindow.{AllSilent, Silent, silent-told, silent-append}
-use Rattle.dr_laws_flashes.specs.Windows.{changes, is_on, reaches}
+use Rattle.dr_laws_flashes.specs.Windows.{changes, is_for, reaches}
 
 -- another volume, or another track
 abbrev pub Off : ℕ → ℕ → ℕ → ℕ → Type 0
@@ -126,8 +126,8 @@ off-by v q a b none = by (eqb_tells a v) (eqb_tells b q)
     by (inl is) (inl one) = let no : (nat_eq a v && nat_eq b q) ≡ true = λ i. is.0 i && one.0 i in absurd (let x : true ≡ false = sym no ∙ none in cc)
 
 -- write n is off where the event that tells it doesn't reach the track, by what is known of it
-pub on-off : (write : ℕ → Write) (v q n : ℕ) → is_on write v q n ≡ false → Off v q (write n).volume (write n).track
+pub on-off : (write : ℕ → Write) (v q n : ℕ) → is_for write v q n ≡ false → Off v q (write n).volume (write n).track
 on-off write v q n none = off-by v q (write n).volume (write n).track none
 
 pub stop-off : (write : ℕ → Write) (v q s n : ℕ) → 0 < n → reaches write v q (Stopped s n) ≡ false → Off v q (write n).volume (write n).track
-stop-off write v q s n lt none = on-off write v q n (ap (λ b. not b && is_on write v q n) (sym (ne_eqb n 0 (λ e. let no : 0 < 0 = subst (λ n. 0 < n) e lt in omega arith))) ∙ none)
+stop-off write v q s n lt none = on-off write v q n (ap (λ b. not b && is_for write v q n) (sym (ne_eqb n 0 (λ e. let no : 0 < 0 = subst (λ n. 0 < n) e lt in omega arith))) ∙ none)

@@ -33,13 +33,13 @@ changes v (Blanked x q) = nat_eq v x
 changes v e = false
 
 -- host write n is one for track q of volume v
-abbrev pub is_on : (ℕ → Write) → ℕ → ℕ → ℕ → Bool
-is_on write v q n = nat_eq (write n).volume v && nat_eq (write n).track q
+abbrev pub is_for : (ℕ → Write) → ℕ → ℕ → ℕ → Bool
+is_for write v q n = nat_eq (write n).volume v && nat_eq (write n).track q
 
 -- the event tells of a host write on track q of volume v that it was acknowledged, or that it landed as a server stopped
 abbrev pub reaches : (ℕ → Write) → ℕ → ℕ → Event → Bool
-reaches write v q (Ack n) = is_on write v q n
-reaches write v q (Stopped s n) = not (nat_eq n 0) && is_on write v q n
+reaches write v q (Ack n) = is_for write v q n
+reaches write v q (Stopped s n) = not (nat_eq n 0) && is_for write v q n
 reaches write v q e = false
 
 -- where in a stretch of moments target t takes the tracks of source s: the first moment that has this event, behind those before it

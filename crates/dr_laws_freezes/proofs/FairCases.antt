@@ -13,14 +13,15 @@ use Rattle.dr_model.specs.Histories.{histories}
 use Rattle.dr_model.specs.Relations.{Choices}
 use Rattle.dr_model.specs.Control.{Control, World}
 use Rattle.dr_model.specs.Carry.{Make, Next, Pass, Do, Entry, now}
-use Rattle.dr_model.specs.Moves.{Suspend, Thaw, Lift, Follow, DropPrimary, DropSecondary, Relate, FlashHold, FlashFree}
+use Rattle.dr_model.specs.Moves.{Suspend, Thaw, Lift, Follow, DropPrimary, DropSecondary, Relate, FlashHold, FlashFree, Unstage}
 use Rattle.dr_model.specs.PairEntries.{end_if, refuse_if, remove_both}
 use Rattle.dr_model.specs.WriteEntries.{freeze_on, end_freeze, thaw_on, end_thaw, lift_on, flash_hold_on, flash_free_on}
-use Rattle.dr_model.specs.Plans.{Plan, counted_refusal, restore_refusal, entries_plan, make_flash_plan, remove_flash_plan, resync_flash_plan, reverse_flash_plan, remove_pair_plan, pause_pair_plan, resume_pair_plan, failover_plan, failback_plan, compare_plan, expire_plan, freeze_done, unfreeze_done, hold_first, release_done}
+use Rattle.dr_model.specs.Plans.{Plan, counted_refusal, restore_refusal, entries_plan, make_flash_plan, remove_flash_plan, resync_flash_plan, reverse_flash_plan, remove_pair_plan, pause_pair_plan, resume_pair_plan, failover_plan, failback_plan, compare_plan, expire_plan, freeze_done, unfreeze_done, hold_first, release_done, redo_now, destage_entries, destage_plan}
 use Rattle.dr_model.specs.Runs.{masters_lost, said}
 use Rattle.dr_model.specs.Table.{table}
 use Rattle.dr_model.specs.Laws.{SoundRows}
 use Rattle.dr_laws_sound.proofs.KeepsSound.{Along}
+use Rattle.dr_laws_sound.proofs.FitsDestage.{along-destage}
 use Rattle.dr_laws_sound.proofs.FitsFlash.{as_begun, sound-begun, along-flash, along-withdraw, along-resync, along-reverse}
 use Rattle.dr_laws_sound.proofs.FitsPairs.{along-remove, along-pause, along-resume}
 use Rattle.dr_laws_sound.proofs.FitsFailover.{along-failover, along-failback, along-compare}
@@ -94,6 +95,10 @@ easy-relate : (freeze : Bool) (s t : ℕ) (choices : Choices) → AllEasy (hold_
 easy-relate true s t choices = easy-cons (flash_hold_on s) _ (λ k. pass-or k _ Pass (Do (Make (FlashHold s))) tt tt) (easy-cons (now (Relate t s choices)) [] (λ k. tt) easy-nil)
 easy-relate false s t choices = easy-cons (now (Relate t s choices)) [] (λ k. tt) easy-nil
 
+easy-destage : (staged : Option ℕ) (v : ℕ) → AllEasy (destage_entries staged v)
+easy-destage None v = easy-nil
+easy-destage (Some t) v = easy-cons (redo_now v) _ (λ k. tt) (easy-cons (now (Unstage v)) [] (λ k. tt) easy-nil)
+
 module _ (w : World) (k : Between w) where
   pub fair-flash : (dev : Option Name) (s t : ℕ) (freeze : Bool) (choices : Choices) → Fair w (make_flash_plan w.control dev s t freeze choices)
   unfolding AllEasy
@@ -126,6 +131,10 @@ module _ (w : World) (k : Between w) where
 
   pub fair-release : (l : ℕ) → Fair w (release_done w.control l)
   fair-release l = easy-plan w k _ _ (easy-map (flash_free_on l) w.control.volumes (λ v k. pass-or k _ (Do (Make (FlashFree v))) Pass tt tt)) (releases l w.control.volumes (as_begun w) (sound-begun w k.sound))
+
+  pub fair-destage : (v : ℕ) → Fair w (destage_plan w.control v)
+  unfolding AllEasy
+  fair-destage v = easy-plan w k _ _ (easy-check _ _, (easy-check _ _, easy-destage (w.control.volume v).staged v)) (along-destage w k.sound v)
 
   pub fair-expire : (x : ℕ) → w.control.on x ≡ true → Fair w (expire_plan w.control x)
   fair-expire x on = easy-plan w k _ _ (easy-map (lift_on x) w.control.volumes (λ v k. pass-or k _ (Do (Make (Lift v))) Pass tt tt)) (lifts x w.control.volumes (as_begun w) (sound-begun w k.sound) on)

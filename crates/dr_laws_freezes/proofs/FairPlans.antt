@@ -9,7 +9,7 @@ use Rattle.dr_model.specs.Carry.{Act, Make, OpenAttempt, attempt_begun, Redo, Ac
 use Rattle.dr_model.specs.Entries.{fields_at}
 use Rattle.dr_model.specs.Laws.{Sound}
 use Rattle.dr_laws_closed.proofs.Pendings.{all-filter}
-use Rattle.dr_laws_sound.proofs.Turns.{done, done_in_stop, opened_in_stop, server_of, after_act}
+use Rattle.dr_laws_sound.proofs.Turns.{done, done_in_stop, opened_in_stop, server_of, after_act, server_at, fused}
 use Rattle.dr_laws_sound.proofs.Along as along
 use Rattle.dr_laws_sound.proofs.KeepsSound.{MayDo, Along, Then, keeps-sound}
 use Rattle.dr_laws_freezes.proofs.Fair.{Fair, tag_after, come, come-open}
@@ -57,7 +57,6 @@ easy-tag k m e = refl
 
 abbrev pub EasyAct : Control → Act → Type 0
 EasyAct k (Make m) = EasyMove k m
-EasyAct k (Redo v) = ⊥
 EasyAct k (Acknowledge n) = ⊥
 EasyAct k a = Unit {0}
 
@@ -103,7 +102,7 @@ module _ (w : World) (tidy : Tidy w) where
       let m : Move = Hold v s n true in
       let y : Tidy (done w m f) = tidy-done w m f (come-open w v s n may) tt tidy in
       tidy-same (done w m f) (attempt_begun (done w m f) s) refl refl (λ j h. h) (record { unacked = y.fresh.unacked; later = y.fresh.later }) y
-  act-tidy (Redo v) f may easy = absurd easy
+  act-tidy (Redo v) f may easy = tidy-same w (fused w (server_at w v) f) refl refl (λ j h. h) (record { unacked = tidy.fresh.unacked; later = tidy.fresh.later }) tidy
   act-tidy (Acknowledge n) f may easy = absurd easy
   act-tidy (Drop n) f may easy =
       tidy-same w (dropped w n) refl refl (λ j h. h) (fresh-told w (dropped w n) [] (sym (append-nil w.events)) refl (all-filter _ (is_other n) w.control.pending tidy.fresh.unacked) (λ n. refl) tidy.fresh) tidy
@@ -114,7 +113,7 @@ module _ (w : World) (tidy : Tidy w) where
   act-fair : (a : Act) → MayDo w a → EasyAct w.control a → FairAct None w a
   act-fair (Make m) may easy = (may, easy-fair w m easy)
   act-fair (OpenAttempt v s n) may easy = may
-  act-fair (Redo v) may easy = absurd easy
+  act-fair (Redo v) may easy = may
   act-fair (Acknowledge n) may easy = absurd easy
   act-fair (Drop n) may easy = may
   act-fair (EndFreeze l m) may easy = tt
@@ -124,7 +123,7 @@ module _ (w : World) (tidy : Tidy w) where
   act-none : (a : Act) → EasyAct w.control a → act_tag a None ≡ None
   act-none (Make m) easy = easy-tag w.control m easy
   act-none (OpenAttempt v s n) easy = refl
-  act-none (Redo v) easy = absurd easy
+  act-none (Redo v) easy = refl
   act-none (Acknowledge n) easy = absurd easy
   act-none (Drop n) easy = refl
   act-none (EndFreeze l m) easy = refl

@@ -18,7 +18,7 @@ use Rattle.dr_model.specs.Runs.{Task}
 use Rattle.dr_laws_freezes.specs.Moments.{moments_from}
 use Rattle.dr_laws_freezes.specs.Windows.{FreezeCut}
 use Rattle.dr_laws_closed.proofs.Regroups.{regroups-same}
-use Rattle.dr_laws_sound.proofs.Cases.{Case, Says, DefinesServer, DefinesVolume, SetsLink, Issues, Writes, Applies, Lists, Shows, Stops, Arms, Starts, MakesFlash, RemovesFlash, ResyncsFlash, ReversesFlash, Copies, MakesPath, RemovesPath, MakesPair, RemovesPair, PausesPair, ResumesPair, FailsOver, FailsBack, Compares, Drains, Expires, Freezes, Unfreezes, MakesSession, RemovesSession, MakesMirror, PausesMirror, RemovesMirror, Aborts, AddsMember, RemovesMember, Exchanges, Recovers, Settles, added, expelled, aborted, ordered, Releases}
+use Rattle.dr_laws_sound.proofs.Cases.{Case, Says, DefinesServer, DefinesVolume, SetsLink, Issues, Writes, Applies, Lists, Shows, Stops, Arms, Starts, MakesFlash, RemovesFlash, ResyncsFlash, ReversesFlash, Copies, Destages, MakesPath, RemovesPath, MakesPair, RemovesPair, PausesPair, ResumesPair, FailsOver, FailsBack, Compares, Drains, Expires, Freezes, Unfreezes, MakesSession, RemovesSession, MakesMirror, PausesMirror, RemovesMirror, Aborts, AddsMember, RemovesMember, Exchanges, Recovers, Settles, added, expelled, aborted, ordered, Releases}
 use Rattle.dr_laws_sound.proofs.Steps.{sound-nothing, case-holds, ending-holds}
 use Rattle.dr_laws_sound.proofs.FitsMembers.{orders-added, orders-expelled}
 use Rattle.dr_laws_sound.proofs.FitsOrders.{orders-ordered}
@@ -30,7 +30,7 @@ use Rattle.dr_laws_freezes.proofs.FairSessions.{leaving, fair-sessions, fair-lea
 use Rattle.dr_laws_freezes.proofs.Windows.{Chain, freeze-cut}
 use Rattle.dr_laws_freezes.proofs.Chains.{run-chain}
 use Rattle.dr_laws_freezes.proofs.FairPlans.{Between}
-use Rattle.dr_laws_freezes.proofs.FairCases.{rows-between, answers-between, loses-between, Fair, fair-flash, fair-withdraw, fair-resync, fair-reverse, fair-freeze, fair-thaw, fair-expire, fair-pause, fair-resume, fair-failover, fair-failback, fair-compare, fair-remove, fair-release}
+use Rattle.dr_laws_freezes.proofs.FairCases.{rows-between, answers-between, loses-between, Fair, fair-flash, fair-withdraw, fair-resync, fair-reverse, fair-freeze, fair-thaw, fair-expire, fair-pause, fair-resume, fair-failover, fair-failback, fair-compare, fair-remove, fair-release, fair-destage}
 use Rattle.dr_laws_freezes.proofs.FairTables.{fair-says, fair-defines, fair-links, fair-shows, fair-stops, fair-arms, fair-paths, fair-unpaths, fair-adds, fair-issues, fair-lists}
 use Rattle.dr_model.specs.Runs.{image_told}
 use Rattle.dr_laws_sound.proofs.Listed.{image-lines}
@@ -74,6 +74,7 @@ fair-case w k line _ (RemovesFlash dev v t) = fair-withdraw w k dev v t
 fair-case w k line _ (ResyncsFlash dev v t sequence) = fair-resync w k dev v t sequence
 fair-case w k line _ (ReversesFlash dev v t) = fair-reverse w k dev v t
 fair-case w k line _ (Copies t most) = fair-copy w k t most
+fair-case w k line _ (Destages v) = fair-destage w k v
 fair-case w k line _ (MakesPath src tgt group) = fair-paths w k line src tgt group
 fair-case w k line _ (RemovesPath src tgt) = fair-unpaths w k line src tgt
 fair-case w k line _ (MakesPair devs a b kind choices part) = fair-pair w k devs a b kind choices part

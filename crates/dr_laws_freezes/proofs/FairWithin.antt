@@ -10,7 +10,7 @@ use Rattle.dr_model.specs.declared.event.Event.TheVariants.{Stopped}
 use Rattle.dr_model.specs.Layout.{Fields, is_part}
 use Rattle.dr_model.specs.Pairs.{is_metro}
 use Rattle.dr_model.specs.Control.{Control, Fuse, Pending, Volume, World, is_volume}
-use Rattle.dr_model.specs.Moves.{Move, Keep, Note, Suspend, target, settled, settled_in_stop, moved}
+use Rattle.dr_model.specs.Moves.{Move, Keep, Note, Suspend, target, settled, settled_in_stop, keeps_staged, moved_keeping}
 use Rattle.dr_model.specs.Carry.{Make, Drop, Next, Pass, Do, Entry, check}
 use Rattle.dr_model.specs.Entries.{fields_at, is_running, keep_on, copies_from, drop_unless, check_or_drop}
 use Rattle.dr_model.specs.WriteEntries.{partner_of, is_grouped, part_running, part_after}
@@ -81,7 +81,7 @@ module _ (v t : ℕ) where
     x = target m
 
     abbrev new : Volume
-    new = moved (w.control.volume x) (next_of w m) (carried_in w m)
+    new = moved_keeping (keeps_staged m) (w.control.volume x) (next_of w m) (carried_in w m)
 
     but-changed : Fresh W → TidyBut W
     but-changed fresh = record {

@@ -12,7 +12,7 @@ use Rattle.dr_model.specs.Histories.{Write, histories}
 use Rattle.dr_model.specs.Contents.{with_write}
 use Rattle.dr_model.specs.Control.{Pending, Volume, Fuse, World}
 use Rattle.dr_model.specs.Pairs.{is_metro}
-use Rattle.dr_model.specs.Moves.{Move, Mirror, LandBoth, moved, tracks_after}
+use Rattle.dr_model.specs.Moves.{Move, Mirror, LandBoth, tracks_after, keeps_staged, moved_keeping}
 use Rattle.dr_model.specs.Entries.{fields_at}
 use Rattle.dr_model.specs.Table.{table, waiting}
 use Rattle.dr_model.specs.Laws.{SoundRows}
@@ -68,7 +68,7 @@ module _ (v q : ℕ) (w : World) (rows : SoundRows (table w)) (st : Stays v q w)
     W = changed w m on fuse w.control.pending (w.events ++ es)
 
     abbrev row : Volume
-    row = moved (w.control.volume q) (next_of w m) (carried_in w m)
+    row = moved_keeping (keeps_staged m) (w.control.volume q) (next_of w m) (carried_in w m)
 
     apart : v ≢ q
     apart = two v q w rows st
@@ -123,7 +123,7 @@ module _ (v q : ℕ) (w : World) (rows : SoundRows (table w)) (st : Stays v q w)
     W2 = changed w m2 on fuse ps (w.events ++ es)
 
     abbrev row2 : Volume
-    row2 = moved (w.control.volume v) (next_of w m2) (carried_in w m2)
+    row2 = moved_keeping (keeps_staged m2) (w.control.volume v) (next_of w m2) (carried_in w m2)
 
     apart2 : q ≢ v
     apart2 e = two v q w rows st (sym e)

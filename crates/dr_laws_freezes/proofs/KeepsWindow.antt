@@ -14,7 +14,7 @@ use Rattle.dr_model.specs.Layout.{Tracks, Fields, is_part}
 use Rattle.dr_model.specs.Relations.{rest, in_order, is_bare, turned, given_up}
 use Rattle.dr_model.specs.Control.{Pending, Volume, Fuse, World}
 use Rattle.dr_model.specs.Pairs.{secondary_of, is_metro, is_suspended, is_engaged, voided}
-use Rattle.dr_model.specs.Moves.{Move, Land, Overwrite, Keep, Relate, Withdraw, Fetch, Resync, Reverse, Restore, Release, Store, Strike, Suspend, MakePrimary, DropPrimary, TakeOver, FallBack, Yield, Unsync, Mirror, LandBoth, Lift, Restart, Hold, Seal, Finish, Leave, Flash, Commit, Revert, target, told, told_in_stop, told_blank, settled, settled_in_stop, moved, tracks_after, FlashHold, FlashFree, told_freed}
+use Rattle.dr_model.specs.Moves.{Move, Land, Overwrite, Keep, Relate, Withdraw, Fetch, Resync, Reverse, Restore, Release, Store, Strike, Suspend, MakePrimary, DropPrimary, TakeOver, FallBack, Yield, Unsync, Mirror, LandBoth, Lift, Restart, Hold, Seal, Finish, Leave, Flash, Commit, Revert, target, told, told_in_stop, told_blank, settled, settled_in_stop, tracks_after, FlashHold, FlashFree, told_freed, keeps_staged, moved_keeping}
 use Rattle.dr_model.specs.Entries.{fields_at}
 use Rattle.dr_model.specs.Table.{Table, table, waiting}
 use Rattle.dr_model.specs.Rows.{next_bytes}
@@ -302,7 +302,7 @@ module _ (v q : ℕ) (w : World) (rows : SoundRows (table w)) (st : Stays v q w)
       x1 = target m
 
       abbrev row1 : Volume
-      row1 = moved (w.control.volume x1) (next_of w m) (carried_in w m)
+      row1 = moved_keeping (keeps_staged m) (w.control.volume x1) (next_of w m) (carried_in w m)
 
       ours-stay : (u : ℕ) → Ours u → (t : ℕ) → W.contents u t ≡ w.contents u t
       ours-stay u ours t =

@@ -10,7 +10,7 @@ use Rattle.dr_model.specs.Layout.{Fields, is_part}
 use Rattle.dr_model.specs.Control.{Control, Fuse, Pending, Volume, World, is_volume}
 use Rattle.dr_model.specs.Groups.{In}
 use Rattle.dr_model.specs.Laws.{AllPending}
-use Rattle.dr_model.specs.Moves.{Move, Land, Overwrite, MakeSecondary, MakePrimary, DropPrimary, DropSecondary, Resume, TakeOver, Yield, Mirror, LandBoth, Thaw, Lift, Suspend, Hold, target, told, told_in_stop, landed, settled, settled_in_stop, fields_left, moved, is_write, is_other, marked}
+use Rattle.dr_model.specs.Moves.{Move, Land, Overwrite, MakeSecondary, MakePrimary, DropPrimary, DropSecondary, Resume, TakeOver, Yield, Mirror, LandBoth, Thaw, Lift, Suspend, Hold, target, told, told_in_stop, landed, settled, settled_in_stop, fields_left, is_write, is_other, marked, keeps_staged, moved_keeping}
 use Rattle.dr_model.specs.Carry.{Act, Make, OpenAttempt, Redo, Acknowledge, Drop, EndFreeze, EndThaw, EndRecovery, Turn, act, dropped, acknowledged}
 use Rattle.dr_model.specs.Entries.{fields_at}
 use Rattle.dr_facts.proofs.Issued.{Alike, with-told, act-writes}
@@ -90,9 +90,9 @@ module _ (v b s : ℕ) (N : ℕ → Type 0) where
   at-old : (k : Control) → Rooted k → (j : ℕ) → At j (k.volume j)
   at-old k r j is = subst (λ j. Busy b (fields_at k j) × ((k.volume j).server ≡ s)) (sym is) (r.busy, r.server)
 
-  changed-rooted : (w : World) (m : Move) → M m → Rooted w.control → At v (at w.control.volume (target m) (moved (w.control.volume (target m)) (next_of w m) (carried_in w m)) v)
+  changed-rooted : (w : World) (m : Move) → M m → Rooted w.control → At v (at w.control.volume (target m) (moved_keeping (keeps_staged m) (w.control.volume (target m)) (next_of w m) (carried_in w m)) v)
   changed-rooted w m ok r =
-      at_cases At w.control.volume (target m) (moved (w.control.volume (target m)) (next_of w m) (carried_in w m))
+      at_cases At w.control.volume (target m) (moved_keeping (keeps_staged m) (w.control.volume (target m)) (next_of w m) (carried_in w m))
       (λ is. let old = at-old w.control r (target m) is in (busy-left m (w.control.volume (target m)) ok is old.0, old.1)) (λ j ne. at-old w.control r j) v
 
   abbrev Keeps : World → Turn → Type 0

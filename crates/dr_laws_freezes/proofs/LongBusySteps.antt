@@ -22,7 +22,7 @@ use Rattle.dr_model.specs.declared.state.PairState.TheVariants.{Suspended as Sus
 use Rattle.dr_model.specs.declared.step.Devs.{Devs}
 use Rattle.dr_model.specs.declared.step.Name.{Name}
 use Rattle.dr_model.specs.declared.step.Step.{Step}
-use Rattle.dr_model.specs.declared.step.Step.TheVariants.{Server, Volume, Link, Stop, StopAfter, Start, Issue, Write, Apply, Show, MakeFlash, RemoveFlash, ResyncFlash, ReverseFlash, Copy, MakePath, RemovePath, MakePair, RemovePair, PausePair, ResumePair, Failover, Failback, Drain, Expire, Freeze, Unfreeze, MakeSession, RemoveSession, AddMember, RemoveMember, MakeMirror, PauseMirror, ResumeMirror, RemoveMirror, Abort, Exchange, Compare, Recover, CommitFlash, RevertFlash, Image, ListPairs, ListFlashes, ListSession, ShowMirror, UnfreezeFlash}
+use Rattle.dr_model.specs.declared.step.Step.TheVariants.{Server, Volume, Link, Stop, StopAfter, Start, Issue, Write, Apply, Show, MakeFlash, RemoveFlash, ResyncFlash, ReverseFlash, Copy, Destage, MakePath, RemovePath, MakePair, RemovePair, PausePair, ResumePair, Failover, Failback, Drain, Expire, Freeze, Unfreeze, MakeSession, RemoveSession, AddMember, RemoveMember, MakeMirror, PauseMirror, ResumeMirror, RemoveMirror, Abort, Exchange, Compare, Recover, CommitFlash, RevertFlash, Image, ListPairs, ListFlashes, ListSession, ShowMirror, UnfreezeFlash}
 use Rattle.dr_model.specs.Refusals.{unknown, server_off, duplicate}
 use Rattle.dr_ids.specs.declared.refusal.Kind.TheVariants.{Write as OfWrite}
 use Rattle.dr_model.specs.Control.{Control}
@@ -36,7 +36,7 @@ use Rattle.dr_model.specs.Sessions.{Session, Mirror, session_in, members_in, has
 use Rattle.dr_model.specs.SessionEntries.{first_number, members_on, raise_attempt_on, raise_floor_on}
 use Rattle.dr_model.specs.RecoveryPlans.{decided_in, take_over_on, settle_on, end_recovery, recover_done, recover_plan, secondary_refusal, lets_commit, lets_revert, settle_member, settle_target, settle_plan, settle_refusal, member_of_target, revertible_target}
 use Rattle.dr_model.specs.SessionPlans.{table_plan, name_refusal, off_refusal, on_both, add_plan, add_to, add_target, member_target, expel_plan, expel_done, expel_found, outside_refusal, master_refusal, place_refusal, taken_refusal, copy_refusal, member_with, exchange_refusal, exchange_done, exchange_on, order_of}
-use Rattle.dr_model.specs.Plans.{Plan, plan_of, same, entries_plan, only_says, refuses, unless, on_named, on_owner, on_session, is_defined, is_owner, server_named, name_bytes, counted_refusal, restore_refusal, left_by, member_refusal, found_volumes, found_pair, differ, is_no_source, has_few_targets, is_plain_target, is_recorded_target, is_lone_restore, may_return, may_give_back, may_copy, at_most, left_to_copy, drain_plan, stop_on, stop_done, arm_on, expire_on, link_between, link_done, on_server, owner_of, server_refusal, server_done, volume_refusal, volume_done, issue_refusal, issue_done, show_refusal, show_done, expire_plan, path_refusal, make_path_done, unpath_refusal, remove_path_done, freeze_refusal, freeze_done, thaw_refusal, unfreeze_done, hold_first, release_refusal, release_done}
+use Rattle.dr_model.specs.Plans.{Plan, plan_of, same, entries_plan, only_says, refuses, unless, on_named, on_owner, on_session, is_defined, is_owner, server_named, name_bytes, counted_refusal, restore_refusal, left_by, member_refusal, found_volumes, found_pair, differ, is_no_source, has_few_targets, is_plain_target, is_recorded_target, is_lone_restore, may_return, may_give_back, may_copy, at_most, left_to_copy, drain_plan, stop_on, stop_done, arm_on, expire_on, link_between, link_done, on_server, owner_of, server_refusal, server_done, volume_refusal, volume_done, issue_refusal, issue_done, show_refusal, show_done, expire_plan, path_refusal, make_path_done, unpath_refusal, remove_path_done, freeze_refusal, freeze_done, thaw_refusal, unfreeze_done, hold_first, release_refusal, release_done, redo_now, destage_entries}
 use Rattle.dr_ids.specs.declared.refusal.Refusal.TheVariants.{JournalFull, Syntax}
 use Rattle.dr_logic.specs.Tables.{at}
 use Rattle.dr_model.specs.declared.event.Event.{Event}
@@ -47,8 +47,8 @@ use Rattle.dr_model.specs.Answers.{answer}
 use Rattle.dr_model.specs.Histories.{Write as HostWrite, Histories, after_event, histories}
 use Rattle.dr_model.specs.Control.{Pending, Volume as VolumeOf, World, new_volume, is_volume}
 use Rattle.dr_model.specs.Groups.{In}
-use Rattle.dr_model.specs.Moves.{Move, Relate, Withdraw, Resync, Reverse, Suspend, MakeSecondary, MakePrimary, DropPrimary, DropSecondary, Follow, TakeOver, Thaw, Lift, RaiseAttempt, RaiseFloor, Leave, is_write, FlashHold, FlashFree}
-use Rattle.dr_model.specs.Carry.{Make, Next, Pass, Do, Entry, now, check}
+use Rattle.dr_model.specs.Moves.{Move, Relate, Withdraw, Resync, Reverse, Suspend, MakeSecondary, MakePrimary, DropPrimary, DropSecondary, Follow, TakeOver, Thaw, Lift, RaiseAttempt, RaiseFloor, Leave, is_write, FlashHold, FlashFree, Unstage}
+use Rattle.dr_model.specs.Carry.{Make, Next, Pass, Do, Entry, now, check, redo_writes}
 use Rattle.dr_model.specs.Plans.{step_plan, has_room, has_room_for, write_done, apply_done, apply_on, has_landed, acknowledge_if, acknowledge_on, start_plan, start_on, remove_pair_plan, pause_pair_plan, resume_pair_plan, failover_plan, failback_plan, compare_plan, yield_refusal, with_pending}
 use Rattle.dr_model.specs.Forming.{Part as StepPart, after_part, formed, form_said}
 use Rattle.dr_model.specs.Runs.{compared, Task, course, begun, carried_out, answered, answered_part, after_plan, after_task, masters_lost, said, image_plan, image_told, imaged}
@@ -324,6 +324,12 @@ module _ (v b s : ℕ) (base : List Event) (w : World) (k : Frozen v b s none ba
       calm-then v b s none base (flash_hold_on x) _ (λ u j. chosen u (fields_at u.control x).flash_hold Pass (Do (Make (FlashHold x))) (λ h. tt) tt) (moving (Relate t x choices) [] tt empty)
   relate-kept false x t choices = moving (Relate t x choices) [] tt empty
 
+  -- ---- a staged track that goes to its place
+
+  destage-kept : (staged : Option ℕ) (x : ℕ) → C (destage_entries staged x)
+  destage-kept None x = empty
+  destage-kept (Some t) x = calm-then v b s none base (redo_now x) _ (λ u j. tt) (moving (Unstage x) [] tt empty)
+
   -- ---- thaws, and holds that end, of others
 
   thaw-kept : (l m : ℕ) → (nat_eq (subsystem v) l && nat_eq (subsystem (partner_of c v)) m) ≡ false → P (unfreeze_done c l m)
@@ -515,6 +521,7 @@ module _ (v b s : ℕ) (base : List Event) (w : World) (k : Frozen v b s none ba
     step-kept (ReverseFlash devs x t tgtpprc sequence) stay = entries-kept _ (Done Alone) (relations devs.dev x t _ (checked (is_running x) _ _ (refusing (restore_refusal t) _
         (checked (is_recorded_target x t) _ _ (checked (is_lone_restore x t) _ _ (checked (may_return x) _ _ (moving (Reverse t (left_by c t)) [] tt empty)))))))
     step-kept (Copy t most) stay = entries-kept _ (Done (Counted (at_most most (left_to_copy c t)))) (checked (is_defined t) _ _ (checked (is_running t) _ _ (checked (may_copy t) _ _ (checked (may_give_back t) _ _ (calm-copied v b s none base c t (at_most most (left_to_copy c t)))))))
+    step-kept (Destage x) stay = entries-kept _ (Done (Counted (redo_writes (c.volume x).staged))) (checked (is_defined x) _ _ (checked (is_running x) _ _ (destage-kept (c.volume x).staged x)))
     step-kept (MakePath devs src tgt group) stay = owned src (λ x. on_owner (owner_of c tgt) (λ y. unless (path_refusal c devs x y) (make_path_done src tgt group)))
         (λ x. owned tgt (λ y. unless (path_refusal c devs x y) (make_path_done src tgt group)) (λ y. one (path_refusal c devs x y) (make_path_done src tgt group)
         (tells (make_path_done src tgt group) (stays _ refl refl) refl refl (with-told w [] refl) refl empty (λ q. empty) (λ u j. j))))

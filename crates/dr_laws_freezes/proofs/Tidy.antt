@@ -13,7 +13,7 @@ use Rattle.dr_model.specs.declared.event.Event.{Event}
 use Rattle.dr_model.specs.declared.event.Event.TheVariants.{Stopped}
 use Rattle.dr_model.specs.Control.{Pending, Volume, Fuse, World, is_volume}
 use Rattle.dr_model.specs.Pairs.{is_metro, is_full_duplex, is_torn, is_engaged, first_state, next_state, with_more, state_with, is_last}
-use Rattle.dr_model.specs.Moves.{Move, Land, Overwrite, Mirror, Restore, Strike, Suspend, MakePrimary, DropPrimary, Resume, TakeOver, FallBack, Yield, Unsync, LandBoth, Lift, Restart, Hold, Free as FreeMove, Finish, target, told, told_in_stop, settled, settled_in_stop, landed, is_write, is_other, marked, fields_left, moved}
+use Rattle.dr_model.specs.Moves.{Move, Land, Overwrite, Mirror, Restore, Strike, Suspend, MakePrimary, DropPrimary, Resume, TakeOver, FallBack, Yield, Unsync, LandBoth, Lift, Restart, Hold, Free as FreeMove, Finish, target, told, told_in_stop, settled, settled_in_stop, landed, is_write, is_other, marked, fields_left, keeps_staged, moved_keeping}
 use Rattle.dr_model.specs.Entries.{fields_at}
 use Rattle.dr_model.specs.Allowed.{Runs}
 use Rattle.dr_model.specs.Laws.{AllPending}
@@ -248,7 +248,7 @@ module _ (w : World) (m : Move) (gentle : Gentle (fields_at w.control (target m)
   x = target m
 
   abbrev row : Volume
-  row = moved (w.control.volume x) (next_of w m) (carried_in w m)
+  row = moved_keeping (keeps_staged m) (w.control.volume x) (next_of w m) (carried_in w m)
 
   pub tidy-changed : Fresh W → Tidy W
   tidy-changed fresh = record {

@@ -20,7 +20,7 @@ use Rattle.dr_model.specs.Forming.{Part}
 use Rattle.dr_model.specs.Runs.{Task, course, begun, finish, carried_out, after_plan, after_task, after_tasks, run}
 use Rattle.dr_facts.proofs.Lists.{any-some, found, not-found, is-met}
 use Rattle.dr_facts.proofs.Tables.{at_part}
-use Rattle.dr_laws_sound.proofs.Cases.{Case, Says, DefinesServer, DefinesVolume, SetsLink, Issues, Writes, Applies, Lists, Shows, Stops, Arms, Starts, MakesFlash, RemovesFlash, ResyncsFlash, ReversesFlash, Copies, MakesPath, RemovesPath, MakesPair, RemovesPair, PausesPair, ResumesPair, FailsOver, FailsBack, Compares, Drains, Expires, Freezes, Unfreezes, MakesSession, RemovesSession, MakesMirror, PausesMirror, RemovesMirror, Aborts, AddsMember, RemovesMember, Exchanges, Recovers, Settles, one-passed, Releases}
+use Rattle.dr_laws_sound.proofs.Cases.{Case, Says, DefinesServer, DefinesVolume, SetsLink, Issues, Writes, Applies, Lists, Shows, Stops, Arms, Starts, MakesFlash, RemovesFlash, ResyncsFlash, ReversesFlash, Copies, Destages, MakesPath, RemovesPath, MakesPair, RemovesPair, PausesPair, ResumesPair, FailsOver, FailsBack, Compares, Drains, Expires, Freezes, Unfreezes, MakesSession, RemovesSession, MakesMirror, PausesMirror, RemovesMirror, Aborts, AddsMember, RemovesMember, Exchanges, Recovers, Settles, one-passed, Releases}
 use Rattle.dr_laws_sound.proofs.Parts.{Ending, OnePlan, Imaged, course-case, last-plan}
 use Rattle.dr_laws_sound.proofs.Turns.{act-cases, Counts, after_act}
 use Rattle.dr_laws_images.specs.OneServer.{OneServer}
@@ -156,6 +156,7 @@ module _ (k : Control) (events : List Event) (line : ℕ) where
   case-one _ (ResyncsFlash dev s t sequence) = record { first = λ one. one; last = λ j one. one }
   case-one _ (ReversesFlash dev s t) = record { first = λ one. one; last = λ j one. one }
   case-one _ (Copies t most) = record { first = λ one. one; last = λ j one. one }
+  case-one _ (Destages v) = record { first = λ one. one; last = λ j one. one }
   case-one _ (MakesPath src tgt group) = record { first = λ one. one; last = λ j one. one }
   case-one _ (RemovesPath src tgt) = record { first = λ one. one; last = λ j one. one }
   case-one _ (MakesPair devs a b kind choices part) = record { first = λ one. one; last = λ j one. one }

@@ -1,5 +1,6 @@
 -- What recovery makes of an image, beside what it makes of records and tracks.
-use Rattle.std.specs.Prelude.{◌≡◌, ◌<◌, ◌+◌, ℕ, List, filter, length}
+use Rattle.std.specs.Prelude.{◌≡◌, ◌<◌, ℕ, List, filter, length}
+use Rattle.dr_ids.specs.Sizes.{blocks_of}
 use Rattle.dr_model.specs.Layout.{Blocks}
 use Rattle.dr_model.specs.Control.{Control}
 use Rattle.dr_model.specs.Fits.{device_of}
@@ -22,4 +23,4 @@ pub record GivesBack (k : Control) (f : VolumeRecords) (contents : ℕ → ℕ �
 
 -- each block of a volume's device has 64 bytes
 abbrev pub IsWhole : Control → (ℕ → Blocks) → Type 0
-IsWhole k device = (v j : ℕ) → In v k.volumes → j < 13 + (k.volume v).tracks → length (device (device_of k v) j) ≡ 64
+IsWhole k device = (v j : ℕ) → In v k.volumes → j < blocks_of (k.volume v).tracks → length (device (device_of k v) j) ≡ 64

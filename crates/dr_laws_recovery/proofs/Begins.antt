@@ -116,7 +116,7 @@ acts = record { does = does; counts = λ w m f s k may. begun-stop w m f may k; 
     does : (w : World) (a : Act) (f : Option Fuse) → Sound w → Begun w → MayDo w a → Begun (after_act w a f)
     does w (Make m) f s k may = begun-done w m f may k
     does w (OpenAttempt v i n) f s k may = begun-opened_done w s v i n f may k
-    does w (Redo v) f s k may = absurd may
+    does w (Redo v) f s k may = record { cuts = k.cuts; forming = k.forming }
     does w (Acknowledge n) f s k may = absurd may
     does w (Drop n) f s k may = record { cuts = k.cuts; forming = k.forming }
     does w (EndFreeze l m) f s k may = begun-told w _ (Frozen l m ∷ []) refl refl (tt, tt) k

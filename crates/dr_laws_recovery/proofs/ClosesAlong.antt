@@ -7,7 +7,7 @@ use Rattle.dr_model.specs.declared.event.Event.{Event}
 use Rattle.dr_model.specs.declared.event.Event.TheVariants.{Issue, Stopped, Frozen, Thawed, Recovered, Volume as VolumeDefined}
 use Rattle.dr_model.specs.Histories.{Histories, histories, lists}
 use Rattle.dr_model.specs.Control.{Pending, Volume, World, Fuse, is_volume, new_volume, nothing}
-use Rattle.dr_model.specs.Moves.{Move, Restart, Hold, is_other, landed, moved, target, fields_left}
+use Rattle.dr_model.specs.Moves.{Move, Restart, Hold, is_other, landed, target, fields_left, keeps_staged, moved_keeping}
 use Rattle.dr_model.specs.Entries.{fields_at}
 use Rattle.dr_model.specs.Carry.{Act, Make, OpenAttempt, Redo, Acknowledge, Drop, EndFreeze, EndThaw, EndRecovery, acknowledged, dropped, frozen, thawed, recovered}
 use Rattle.dr_model.specs.Plans.{has_landed}
@@ -60,7 +60,7 @@ closing-pending w x k is sessions volume free =
 
 -- a move
 fields-then : (w : World) (m : Move) → fields_at (done w m None).control ≡ at (fields_at w.control) (target m) (fields_left m (w.control.volume (target m)))
-fields-then w m = fun_ext (λ u. at_map (λ (y : Volume). y.fields) w.control.volume (target m) (moved (w.control.volume (target m)) (next_of w m) (carried_in w m)) u)
+fields-then w m = fun_ext (λ u. at_map (λ (y : Volume). y.fields) w.control.volume (target m) (moved_keeping (keeps_staged m) (w.control.volume (target m)) (next_of w m) (carried_in w m)) u)
 
 pub stopped-silent : (x n : ℕ) → Silent (Stopped x n ∷ [])
 stopped-silent x n = record { cut = (tt, tt); stand = (tt, tt); list = λ write v. (tt, tt) }
@@ -92,7 +92,7 @@ acts = record {
     does : (w : World) (a : Act) (f : Option Fuse) → Sound w → Closes w → MayDo w a → Closing (after_act w a f)
     does w (Make m) f s k may = closing-done None w s k m f may
     does w (OpenAttempt v i n) f s k may = closing-opened None w s k v i n f may
-    does w (Redo v) f s k may = absurd may
+    does w (Redo v) f s k may = closing-pending w (fused w (server_at w v) f) k.1 refl refl refl k.1.free
     does w (Acknowledge n) f s k may = absurd may
     does w (Drop n) f s k may = closing-pending w (dropped w n) k.1 refl refl refl (all-filter _ (is_other n) w.control.pending k.1.free)
     does w (EndFreeze l m) f s k may = closing-unheard w (frozen w l m) (Frozen l m ∷ []) k.1 (unheard w (frozen w l m) (Frozen l m ∷ []) refl (tt, tt) (tt, tt) (histories-append w.events (Frozen l m ∷ [])) refl refl refl refl refl refl)

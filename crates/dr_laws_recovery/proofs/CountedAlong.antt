@@ -84,7 +84,7 @@ acts = record {
     does : (w : World) (a : Act) (f : Option Fuse) → Sound w → Counts w → MayDo w a → TargetsShowCuts (after_act w a f)
     does w (Make m) f s k may = done-keeps None w s k m f may
     does w (OpenAttempt v i n) f s k may = opened-keeps None w s k v i n f may
-    does w (Redo v) f s k may = absurd may
+    does w (Redo v) f s k may = counted-told w (fused w (server_at w v) f) k.1 [] tt tt (sym (append-nil w.events)) refl refl refl
     does w (Acknowledge n) f s k may = absurd may
     does w (Drop n) f s k may =
         let h : Histories = histories w.events in

@@ -15,7 +15,7 @@ use Rattle.dr_model.specs.Decisions.{Shown, decision}
 use Rattle.dr_model.specs.Control.{Fuse, Pending, Volume, World}
 use Rattle.dr_model.specs.Relations.{committed, reverted}
 use Rattle.dr_model.specs.Pairs.{taken_over}
-use Rattle.dr_model.specs.Moves.{Move, TakeOver, FallBack, Yield, Commit, Revert, target, moved}
+use Rattle.dr_model.specs.Moves.{Move, TakeOver, FallBack, Yield, Commit, Revert, target, keeps_staged, moved_keeping}
 use Rattle.dr_model.specs.Carry.{Act, Make, EndRecovery, OpenAttempt, Redo, Acknowledge, Drop, EndFreeze, EndThaw, Next, Pass, Do, End, Entry}
 use Rattle.dr_model.specs.ReadStops.{Ends}
 use Rattle.dr_model.specs.Entries.{fields_at, relation_state}
@@ -108,7 +108,7 @@ module _ (w : World) (s : ℕ) where
 
     plain : ((fields_at w.control (target m)).revertible ≡ false → (next_of u m).revertible ≡ false) → (v : ℕ) → (fields_at w.control v).revertible ≡ false → (fields_at j.control v).revertible ≡ false
     plain here v = subst (λ (x : ℕ → Volume). (fields_at w.control v).revertible ≡ false → (x v).fields.revertible ≡ false) (sym moves.volume)
-        (at_cases (λ v (y : Volume). (fields_at w.control v).revertible ≡ false → y.fields.revertible ≡ false) u.control.volume (target m) (moved (u.control.volume (target m)) (next_of u m) (carried_in u m)) here (λ q ne. k.plain q) v)
+        (at_cases (λ v (y : Volume). (fields_at w.control v).revertible ≡ false → y.fields.revertible ≡ false) u.control.volume (target m) (moved_keeping moves.keeps (u.control.volume (target m)) (next_of u m) (carried_in u m)) here (λ q ne. k.plain q) v)
 
     alike : Alike s (reverts w) (table u) (after (histories u.events).write (table u) m) → Alike s (reverts w) (table w) (table j)
     alike a = alike-then s (reverts w) (table w) (table u) (table j) k.alike (subst (Alike s (reverts w) (table u)) (sym rows) a)
@@ -208,7 +208,7 @@ module _ (w : World) (s : ℕ) where
   acts = record { does = does; counts = counts; opens = λ u v i n f j k may. absurd may.1; fails = λ u a f d j k may. keeps-told u _ _ _ _ k }
     where
       does : (u : World) (a : Act) (f : Option Fuse) → Sound u → Keeps u → MayRecover u a → Keeps (after_act u a f)
-      does u (Make m) f j k may = keeps-moved u (done u m f) j (sound-done None u m f j may.0) refl k m may.0 may.1 (table-done u j.rows.structure m f j.rows.images.blank may.0.allowed may.0.ready) (record { volumes = refl; volume = refl })
+      does u (Make m) f j k may = keeps-moved u (done u m f) j (sound-done None u m f j may.0) refl k m may.0 may.1 (table-done u j.rows.structure m f j.rows.images.blank may.0.allowed may.0.ready) (record { volumes = refl; keeps = keeps_staged m; volume = refl })
       does u (OpenAttempt v i n) f j k may = absurd may.1
       does u (Redo v) f j k may = absurd may.1
       does u (Acknowledge n) f j k may = absurd may.1
@@ -218,7 +218,7 @@ module _ (w : World) (s : ℕ) where
       does u (EndRecovery i n) f j k may = keeps-told u _ _ _ _ k
 
       counts : (u : World) (m : Move) (f : Option Fuse) → Sound u → Keeps u → MayRecover u (Make m) → Keeps (done_in_stop u m f)
-      counts u m f j k may = keeps-moved u (done_in_stop u m f) j (sound-stop None u m f j may.0) refl k m may.0 may.1 (table-stop u j.rows.structure m f j.rows.images.blank may.0.allowed may.0.ready) (record { volumes = refl; volume = refl })
+      counts u m f j k may = keeps-moved u (done_in_stop u m f) j (sound-stop None u m f j may.0) refl k m may.0 may.1 (table-stop u j.rows.structure m f j.rows.images.blank may.0.allowed may.0.ready) (record { volumes = refl; keeps = keeps_staged m; volume = refl })
 
   -- ---- the entries
 

@@ -9,7 +9,7 @@ use Rattle.dr_model.specs.declared.event.Event.TheVariants.{Recovered}
 use Rattle.dr_model.specs.Layout.{Fields}
 use Rattle.dr_model.specs.Decisions.{numbers_in, decision}
 use Rattle.dr_model.specs.Control.{Fuse, Volume, World}
-use Rattle.dr_model.specs.Moves.{Move, Commit, Revert, target, moved}
+use Rattle.dr_model.specs.Moves.{Move, Commit, Revert, target, keeps_staged, moved_keeping}
 use Rattle.dr_model.specs.Carry.{Act, Make, Next, Pass, Do, End, Entry, carry}
 use Rattle.dr_model.specs.Carried.{begun}
 use Rattle.dr_model.specs.Entries.{fields_at}
@@ -92,7 +92,7 @@ module _ (w : World) (sound : Sound w) (s : ℕ) (x : Session) (found : session_
 
   left-done : (u : World) (a : Move) (f : Option Fuse) (q : Member) (rest : List Member) → target a ≡ q.c.0 → (next_of u a).revertible ≡ false → LeftBut u (q ∷ rest) → LeftBut (done u a f) rest
   left-done u a f q rest is plain left m here = by
-      (at_cases (λ c (y : Volume). (c ≡ q.c.0 → y.fields.revertible ≡ false) × ((fields_at u.control c).revertible ≡ false → y.fields.revertible ≡ false)) u.control.volume (target a) (moved (u.control.volume (target a)) (next_of u a) (carried_in u a))
+      (at_cases (λ c (y : Volume). (c ≡ q.c.0 → y.fields.revertible ≡ false) × ((fields_at u.control c).revertible ≡ false → y.fields.revertible ≡ false)) u.control.volume (target a) (moved_keeping (keeps_staged a) (u.control.volume (target a)) (next_of u a) (carried_in u a))
       ((λ e. plain), (λ h. plain)) (λ c ne. ((λ e. absurd (ne (e ∙ sym is))), (λ h. h))) m.c.0)
       (left m here)
     where

@@ -1,5 +1,5 @@
 -- The start of a server leaves what a recovery makes of each session.
-use Rattle.std.proofs.Common.{ℕ, refl, subst, [], ◌∷◌, ◌++◌, take, length, Option, Some, None}
+use Rattle.std.proofs.Common.{ℕ, refl, subst, true, [], ◌∷◌, ◌++◌, take, length, Option, Some, None}
 use Rattle.std.proofs.Math.Seq.{take-length}
 use Rattle.dr_ids.specs.declared.refusal.Refusal.{Refusal}
 use Rattle.dr_ids.specs.declared.refusal.Refusal.TheVariants.{Stopped as StoppedIn}
@@ -23,13 +23,13 @@ module _ (w : World) (sound : Sound w) (x s : ℕ) where
   restart-done : (u : World) (v : ℕ) (f : Option Fuse) → starts.Inner x u → Keeps w s u → starts.OnServer x u v → Keeps w s (done u (Restart v) f)
   restart-done u v f j k may =
       let m = starts.may-restart x u v may in
-      keeps-still w s u (done u (Restart v) f) refl k (Restart v) (table-done u j.sound.rows.structure (Restart v) f j.sound.rows.images.blank m.allowed m.ready) (record { volumes = refl; volume = refl })
+      keeps-still w s u (done u (Restart v) f) refl k (Restart v) (table-done u j.sound.rows.structure (Restart v) f j.sound.rows.images.blank m.allowed m.ready) (record { volumes = refl; keeps = true; volume = refl })
       j.sound.rows j.sound.attempts m.allowed refl refl refl refl (λ n. n) (λ t. refl)
 
   restart-stop : (u : World) (v : ℕ) (f : Option Fuse) → starts.Inner x u → Keeps w s u → starts.OnServer x u v → Keeps w s (done_in_stop u (Restart v) f)
   restart-stop u v f j k may =
       let m = starts.may-restart x u v may in
-      keeps-still w s u (done_in_stop u (Restart v) f) refl k (Restart v) (table-stop u j.sound.rows.structure (Restart v) f j.sound.rows.images.blank m.allowed m.ready) (record { volumes = refl; volume = refl })
+      keeps-still w s u (done_in_stop u (Restart v) f) refl k (Restart v) (table-stop u j.sound.rows.structure (Restart v) f j.sound.rows.images.blank m.allowed m.ready) (record { volumes = refl; keeps = true; volume = refl })
       j.sound.rows j.sound.attempts m.allowed refl refl refl refl (λ n. n) (λ t. refl)
 
   start-acts : Rides (starts.Inner x) (Keeps w s) (starts.MayStart x)

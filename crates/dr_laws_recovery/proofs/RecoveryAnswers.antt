@@ -7,8 +7,8 @@ use Rattle.dr_ids.specs.declared.refusal.Refusal.{Refusal}
 use Rattle.dr_ids.specs.declared.refusal.Decision.{Decision}
 use Rattle.dr_model.specs.Refusals.{server_off, stopped}
 use Rattle.dr_model.specs.Control.{Control, Fuse, Volume, World}
-use Rattle.dr_model.specs.Moves.{Move, target, moved}
-use Rattle.dr_model.specs.Carry.{Act, Make, OpenAttempt, Redo, Acknowledge, Drop, EndFreeze, EndThaw, EndRecovery, act, Turn, turn, Next, Pass, Do, End, Entry, Outcome, carry, continue, go, pass, writes, lower}
+use Rattle.dr_model.specs.Moves.{Move, target, keeps_staged, moved_keeping}
+use Rattle.dr_model.specs.Carry.{Act, Make, OpenAttempt, Redo, Acknowledge, Drop, EndFreeze, EndThaw, EndRecovery, act, Turn, Next, Pass, Do, End, Entry, Outcome, carry, continue, go}
 use Rattle.dr_model.specs.Carried.{begun}
 use Rattle.dr_model.specs.Entries.{fields_at, is_running}
 use Rattle.dr_model.specs.RecoveryPlans.{decided_in, secondary_refusal, recover_entries, recover_done, recover_plan, says_group}
@@ -20,46 +20,13 @@ use Rattle.dr_facts.proofs.Lists.{not-found}
 use Rattle.dr_model.specs.Recovery.{decided_over}
 use Rattle.dr_laws_recovery.specs.Recovered.{recovered_in}
 use Rattle.dr_laws_recovery.specs.RecoveryAnswers.{secondary_server, FirstOff, Stops, IsCarriedOut, FirstServerIsOff, AnswersForCause}
-use Rattle.dr_laws_sound.proofs.Turns.{server_at, next_of, carried_in, done, done_in_stop, not_done, turn_by, turn-by}
+use Rattle.dr_laws_sound.proofs.Turns.{server_at, next_of, carried_in, done, done_in_stop, not_done, turn-armed}
 use Rattle.dr_laws_sound.proofs.FitsFlash.{as_begun}
 use Rattle.dr_laws_sound.proofs.Counting.{listed-found}
 use Rattle.dr_laws_sound.proofs.RecoveryEntries.{FitNext, AllFit, fit-recover}
 use Rattle.dr_laws_recovery.proofs.RecoversEnd.{answers-group}
 use Rattle.dr_facts.proofs.Tables.{at_part}
 use Rattle.dr_logic.proofs.Tables.{at_same}
-
--- ---- how a move ends, with its server's fuse
-
-lowered-armed : (n : ℕ) (f : Option Fuse) → is_some (lower n f) ≡ is_some f
-lowered-armed n None = refl
-lowered-armed n (Some f) = refl
-
--- where writes don't all pass, a fuse is armed
-cut-armed : (f : Option Fuse) (n : ℕ) → pass f n ≡ false → is_some f ≡ true
-cut-armed None n cut = absurd cc
-cut-armed (Some f) n cut = refl
-
-turn_by-armed : (w : World) (m : Move) (P : Turn → Type 0) (on passes counts : Bool)
-    → (passes ≡ false → is_some (w.control.fuse (server_at w (target m))) ≡ true)
-    → P (w, None)
-    → ((f : Option Fuse) → is_some f ≡ is_some (w.control.fuse (server_at w (target m))) → P (done w m f, None))
-    → (is_some (w.control.fuse (server_at w (target m))) ≡ true → (f : Option Fuse) → P (done_in_stop w m f, Some (server_at w (target m))))
-    → (is_some (w.control.fuse (server_at w (target m))) ≡ true → (f : Option Fuse) → P (not_done w (server_at w (target m)) f, Some (server_at w (target m))))
-    → P (turn_by w m on passes counts)
-turn_by-armed w m P false passes counts armed o a b c = o
-turn_by-armed w m P true true counts armed o a b c = a _ (lowered-armed (writes (carried_in w m)) (w.control.fuse (server_at w (target m))))
-turn_by-armed w m P true false true armed o a b c = b (armed refl) _
-turn_by-armed w m P true false false armed o a b c = c (armed refl) _
-
--- a server that stops in a move had its fuse armed, and one that doesn't keeps it armed, or not
-turn-armed : (w : World) (m : Move) (P : Turn → Type 0)
-    → P (w, None)
-    → ((f : Option Fuse) → is_some f ≡ is_some (w.control.fuse (server_at w (target m))) → P (done w m f, None))
-    → (is_some (w.control.fuse (server_at w (target m))) ≡ true → (f : Option Fuse) → P (done_in_stop w m f, Some (server_at w (target m))))
-    → (is_some (w.control.fuse (server_at w (target m))) ≡ true → (f : Option Fuse) → P (not_done w (server_at w (target m)) f, Some (server_at w (target m))))
-    → P (turn w m)
-turn-armed w m P o a b c =
-    subst P (sym (turn-by w m)) (turn_by-armed w m P _ _ _ (cut-armed (w.control.fuse (server_at w (target m))) (writes (carried_in w m))) o a b c)
 
 -- ---- the first secondary whose server is off
 
@@ -123,7 +90,7 @@ module _ (w : World) (x : Session) (on : (m : Member) → In m x.members → w.c
 
   done-stays : (u : World) (m : Move) (f : Option Fuse) → Stays u → is_some f ≡ is_some (u.control.fuse (server_at u (target m))) → Stays (done u m f)
   done-stays u m f s e = record {
-    servers = λ v. at_part (λ (y : Volume). y.server) u.control.volume (target m) (moved (u.control.volume (target m)) (next_of u m) (carried_in u m)) refl v ∙ s.servers v;
+    servers = λ v. at_part (λ (y : Volume). y.server) u.control.volume (target m) (moved_keeping (keeps_staged m) (u.control.volume (target m)) (next_of u m) (carried_in u m)) refl v ∙ s.servers v;
     is_on = s.is_on;
     armed = λ q. at_part is_some u.control.fuse (server_at u (target m)) f e q ∙ s.armed q;
   }
@@ -146,7 +113,7 @@ module _ (w : World) (x : Session) (on : (m : Member) → In m x.members → w.c
   act-ends u (Make m) rest s fit more =
       let q : ℕ = server_at u (target m) in
       turn-armed u m (λ t. EndsFor (continue t.0 t.1 rest).0 (continue t.0 t.1 rest).1)
-      (more u s)
+      (λ down. more u s)
       (λ f e. more (done u m f) (done-stays u m f s e))
       (λ armed f. inl (stops u (done_in_stop u m f) m s fit armed (at_same u.control.on q false)))
       (λ armed f. inl (stops u (not_done u q f) m s fit armed (at_same u.control.on q false)))

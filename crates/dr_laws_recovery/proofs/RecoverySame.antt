@@ -6,7 +6,7 @@ use Rattle.dr_ids.specs.declared.names.Member.{Member}
 use Rattle.dr_model.specs.Layout.{Fields}
 use Rattle.dr_model.specs.Decisions.{numbers_in, decision}
 use Rattle.dr_model.specs.Control.{Volume, World}
-use Rattle.dr_model.specs.Moves.{Move, target, moved}
+use Rattle.dr_model.specs.Moves.{Move, target, moved_keeping}
 use Rattle.dr_model.specs.Entries.{fields_at}
 use Rattle.dr_model.specs.SessionEntries.{counts_in, shown_of}
 use Rattle.dr_model.specs.Sessions.{Session}
@@ -108,7 +108,7 @@ left-away s false i none = grind rules
 module _ (s : ℕ) (u j : World) (m : Move) (moves : Moves u.control j.control (target m) (next_of u m) (carried_in u m)) where
   -- a part of records that the move leaves
   pub part-stays : {Y : Type 0} (g : Fields → Y) → g (next_of u m) ≡ g (fields_at u.control (target m)) → (v : ℕ) → g (fields_at j.control v) ≡ g (fields_at u.control v)
-  part-stays g same v = ap (λ (x : ℕ → Volume). g (x v).fields) moves.volume ∙ at_part (λ (y : Volume). g y.fields) u.control.volume (target m) (moved (u.control.volume (target m)) (next_of u m) (carried_in u m)) same v
+  part-stays g same v = ap (λ (x : ℕ → Volume). g (x v).fields) moves.volume ∙ at_part (λ (y : Volume). g y.fields) u.control.volume (target m) (moved_keeping moves.keeps (u.control.volume (target m)) (next_of u m) (carried_in u m)) same v
 
   pub decided-still : counts_in s (next_of u m) ≡ counts_in s (fields_at u.control (target m)) → shown_of (next_of u m) ≡ shown_of (fields_at u.control (target m)) → decided_over (fields_at j.control) j.control.volumes s ≡ decided_over (fields_at u.control) u.control.volumes s
   decided-still counted shows = λ i. decision (map (λ v. part-stays shown_of shows v i) (filter (λ v. part-stays (counts_in s) counted v i) (moves.volumes i)))
@@ -116,7 +116,7 @@ module _ (s : ℕ) (u j : World) (m : Move) (moves : Moves u.control j.control (
   -- one that doesn't count, before or after: those that count are as they were
   pub others-count : counts_in s (fields_at u.control (target m)) ≡ false → (v : ℕ) → counts_in s (fields_at u.control v) ≡ true → fields_at j.control v ≡ fields_at u.control v
   others-count before v c = ap (λ (x : ℕ → Volume). (x v).fields) moves.volume
-      ∙ ap (λ (y : Volume). y.fields) (at_other u.control.volume (target m) (moved (u.control.volume (target m)) (next_of u m) (carried_in u m)) v (λ e. false_true (subst (λ v. counts_in s (fields_at u.control v) ≡ false) (sym e) before) c))
+      ∙ ap (λ (y : Volume). y.fields) (at_other u.control.volume (target m) (moved_keeping moves.keeps (u.control.volume (target m)) (next_of u m) (carried_in u m)) v (λ e. false_true (subst (λ v. counts_in s (fields_at u.control v) ≡ false) (sym e) before) c))
 
   pub decided-away : counts_in s (fields_at u.control (target m)) ≡ false → counts_in s (next_of u m) ≡ false → decided_over (fields_at j.control) j.control.volumes s ≡ decided_over (fields_at u.control) u.control.volumes s
   decided-away before then_not = ap decision

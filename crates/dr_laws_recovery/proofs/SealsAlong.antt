@@ -70,7 +70,7 @@ acts = record { does = does; counts = λ w m f s k may. cuts-stop None w s k m f
     does : (w : World) (a : Act) (f : Option Fuse) → Sound w → SoundCuts w → MayDo w a → SoundCuts (after_act w a f)
     does w (Make m) f s k may = cuts-done None w s k m f may
     does w (OpenAttempt v i n) f s k may = cuts-opened None w s k v i n f may
-    does w (Redo v) f s k may = absurd may
+    does w (Redo v) f s k may = sound-same w k (fused w (server_at w v) f) refl refl refl
     does w (Acknowledge n) f s k may = absurd may
     does w (Drop n) f s k may =
         let h : Histories = histories w.events in

@@ -9,7 +9,7 @@ use Rattle.dr_model.specs.Control.{Control, Fuse, Volume, World}
 use Rattle.dr_model.specs.Layout.{Tracks}
 use Rattle.dr_model.specs.Relations.{is_bare, in_order, rest, turned, given_up}
 use Rattle.dr_model.specs.Pairs.{is_suspended}
-use Rattle.dr_model.specs.Moves.{Move, Land, Overwrite, Keep, Note, Relate, Withdraw, Fetch, Resync, Reverse, Restore, Release, Store, Strike, Suspend, MakeSecondary, MakePrimary, DropPrimary, DropSecondary, Follow, Resume, TakeOver, FallBack, Yield, Unsync, Mirror, LandBoth, Thaw, Lift, Restart, Hold, Free, Seal, Finish, RaiseAttempt, RaiseFloor, Leave, Flash, Commit, Revert, told_blank, told_restored, told, told_in_stop, landed, target, FlashHold, FlashFree, told_freed}
+use Rattle.dr_model.specs.Moves.{Move, Land, Overwrite, Keep, Note, Relate, Withdraw, Fetch, Resync, Reverse, Restore, Release, Store, Strike, Suspend, MakeSecondary, MakePrimary, DropPrimary, DropSecondary, Follow, Resume, TakeOver, FallBack, Yield, Unsync, Mirror, LandBoth, Thaw, Lift, Restart, Hold, Free, Seal, Finish, RaiseAttempt, RaiseFloor, Leave, Flash, Commit, Revert, told_blank, told_restored, told, told_in_stop, landed, target, FlashHold, FlashFree, told_freed, Unstage}
 use Rattle.dr_model.specs.Carry.{Act, Make, OpenAttempt, Redo, Acknowledge, Drop, EndFreeze, EndThaw, EndRecovery, act, Turn, Next, Pass, Do, End, Entry, Outcome, carry, continue, go, check}
 use Rattle.dr_model.specs.Plans.{Plan}
 use Rattle.dr_model.specs.Carried.{finish}
@@ -141,6 +141,7 @@ module _ (Q : ℕ → Type 0) where
   told-spared (Flash v from a s n) u q = (q, tt)
   told-spared (Commit v a s n) u q = (tt, tt)
   told-spared (Revert v a s n) u q = (q, tt)
+  told-spared (Unstage v) u q = tt
 
   in_stop-spared : (m : Move) (u : Volume) → Takes m → AllSpared (told_in_stop m u)
   in_stop-spared (Land n v t) u q = tt

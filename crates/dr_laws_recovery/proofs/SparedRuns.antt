@@ -16,7 +16,7 @@ use Rattle.dr_model.specs.Groups.{In}
 use Rattle.dr_model.specs.Pairs.{is_primary_of}
 use Rattle.dr_model.specs.Phases as phases
 use Rattle.dr_model.specs.Sessions.{Session, Mirror as SessionMirror, session_in, mirror_in, members_in, changed, begun as attempt_opened, with_mirror, mirror_lost_since, lost_since}
-use Rattle.dr_model.specs.Moves.{Move, Land, Overwrite, Keep, Note, Relate, Withdraw, Fetch, Resync, Reverse, Restore, Release, Store, Strike, Suspend, MakeSecondary, MakePrimary, DropPrimary, DropSecondary, Follow, Resume, TakeOver, FallBack, Yield, Unsync, Mirror, LandBoth, Thaw, Lift, Restart, Hold, Free, Seal, Finish, RaiseAttempt, RaiseFloor, Leave, Flash, Commit, Revert, target, fields_left, FlashHold, FlashFree}
+use Rattle.dr_model.specs.Moves.{Move, Land, Overwrite, Keep, Note, Relate, Withdraw, Fetch, Resync, Reverse, Restore, Release, Store, Strike, Suspend, MakeSecondary, MakePrimary, DropPrimary, DropSecondary, Follow, Resume, TakeOver, FallBack, Yield, Unsync, Mirror, LandBoth, Thaw, Lift, Restart, Hold, Free, Seal, Finish, RaiseAttempt, RaiseFloor, Leave, Flash, Commit, Revert, target, fields_left, FlashHold, FlashFree, Unstage}
 use Rattle.dr_model.specs.Carry.{Act, Make, OpenAttempt, Redo, Acknowledge, Drop, EndFreeze, EndThaw, EndRecovery, act, carry}
 use Rattle.dr_model.specs.Carried.{begun, carried_out}
 use Rattle.dr_model.specs.Entries.{fields_at, is_running, pair_state}
@@ -92,6 +92,7 @@ steady-left (Leave v a s) u is = refl
 steady-left (Flash v from a s n) u is = refl
 steady-left (Commit v a s n) u is = refl
 steady-left (Revert v a s n) u is = refl
+steady-left (Unstage v) u is = refl
 
 -- ---- tables of sessions that leave each its members
 

@@ -20,13 +20,13 @@ use Rattle.dr_model.specs.declared.step.Name.{Name}
 use Rattle.dr_model.specs.declared.step.Devs.{Devs}
 use Rattle.dr_model.specs.declared.step.PairChoices.{PairChoices}
 use Rattle.dr_model.specs.declared.step.Step.{Step}
-use Rattle.dr_model.specs.declared.step.Step.TheVariants.{Server, Volume, Link, Stop, StopAfter, Start, Issue, Write, Apply, Show, MakeFlash, RemoveFlash, ResyncFlash, ReverseFlash, Copy, MakePath, RemovePath, MakePair, RemovePair, PausePair, ResumePair, Failover, Failback, Compare, Drain, Expire, Freeze, Unfreeze, MakeSession, RemoveSession, AddMember, RemoveMember, MakeMirror, PauseMirror, ResumeMirror, RemoveMirror, Abort, Exchange, Recover, CommitFlash, RevertFlash, Image, ListPairs, ListFlashes, ListSession, ShowMirror, UnfreezeFlash}
+use Rattle.dr_model.specs.declared.step.Step.TheVariants.{Server, Volume, Link, Stop, StopAfter, Start, Issue, Write, Apply, Show, MakeFlash, RemoveFlash, ResyncFlash, ReverseFlash, Copy, Destage, MakePath, RemovePath, MakePair, RemovePair, PausePair, ResumePair, Failover, Failback, Compare, Drain, Expire, Freeze, Unfreeze, MakeSession, RemoveSession, AddMember, RemoveMember, MakeMirror, PauseMirror, ResumeMirror, RemoveMirror, Abort, Exchange, Recover, CommitFlash, RevertFlash, Image, ListPairs, ListFlashes, ListSession, ShowMirror, UnfreezeFlash}
 use Rattle.dr_model.specs.Layout.{Fields, is_part, kind_of}
 use Rattle.dr_model.specs.Control.{Control, Pending, World}
 use Rattle.dr_model.specs.Contents.{image_at}
 use Rattle.dr_model.specs.Groups.{In}
 use Rattle.dr_model.specs.Pairs.{is_primary_of, is_metro, held, goes_over, collides, must_restart, first_state}
-use Rattle.dr_model.specs.Moves.{Move, Relate, Withdraw, Fetch, Resync, Reverse, Restore, Release, Suspend, MakeSecondary, MakePrimary, DropPrimary, DropSecondary, Follow, Unsync, Mirror, LandBoth, Thaw, Lift, Restart, RaiseAttempt, RaiseFloor, Leave, TakeOver, Commit, Revert, Land, Overwrite, is_write, FlashHold, FlashFree}
+use Rattle.dr_model.specs.Moves.{Move, Relate, Withdraw, Fetch, Resync, Reverse, Restore, Release, Suspend, MakeSecondary, MakePrimary, DropPrimary, DropSecondary, Follow, Unsync, Mirror, LandBoth, Thaw, Lift, Restart, RaiseAttempt, RaiseFloor, Leave, TakeOver, Commit, Revert, Land, Overwrite, is_write, FlashHold, FlashFree, Unstage}
 use Rattle.dr_model.specs.Carry.{Make, Redo, Next, Pass, Do, Entry, carry, now}
 use Rattle.dr_model.specs.Carried.{begun, carried_out}
 use Rattle.dr_model.specs.Entries.{fields_at, is_at, copy_first, is_running, lowest_missing, for_lowest, lowest_held, give_back, fetch_next, keep_on, land_on, land_alone, is_no_secondary, is_open, is_settled, share_server, share_size, is_no_target, relation_state, pair_state}
@@ -41,7 +41,7 @@ use Rattle.dr_ids.specs.declared.refusal.Refusal.TheVariants.{OutOfOrder}
 use Rattle.dr_ids.specs.declared.refusal.PhaseName.TheVariants as phase
 use Rattle.dr_ids.specs.declared.refusal.Kind.TheVariants.{Server as OfServer, Volume as OfVolume, Lss as OfLss, Session as OfSession}
 use Rattle.dr_model.specs.Refusals.{unknown, duplicate, server_off}
-use Rattle.dr_model.specs.Plans.{Plan, same, none_follow, always, entries_plan, only_says, refuses, unless, on_named, on_server, name_bytes, server_named, on_owner, owner_of, on_session, server_refusal, server_done, volume_refusal, volume_done, link_between, link_done, issue_refusal, issue_done, write_done, apply_on, show_refusal, show_done, stop_on, stop_done, arm_on, start_on, start_plan, acknowledge_on, acknowledge_if, landed_on, expire_on, expire_plan, copy_plan, found_pair, found_volumes, is_defined, is_owner, differ, is_no_source, has_few_targets, is_plain_target, is_recorded_target, is_lone_restore, may_return, may_copy, may_give_back, at_most, left_to_copy, counted_refusal, restore_refusal, left_by, path_refusal, make_path_done, unpath_refusal, remove_path_done, freeze_refusal, freeze_done, thaw_refusal, unfreeze_done, make_pair_plan, remove_pair_plan, pause_pair_plan, resume_pair_plan, failover_plan, yield_refusal, failback_plan, member_refusal, drain_plan, plan_of, step_plan, has_room_for, has_room, compare_plan, hold_first, release_refusal, release_done}
+use Rattle.dr_model.specs.Plans.{Plan, same, none_follow, always, entries_plan, only_says, refuses, unless, on_named, on_server, name_bytes, server_named, on_owner, owner_of, on_session, server_refusal, server_done, volume_refusal, volume_done, link_between, link_done, issue_refusal, issue_done, write_done, apply_on, show_refusal, show_done, stop_on, stop_done, arm_on, start_on, start_plan, acknowledge_on, acknowledge_if, landed_on, expire_on, expire_plan, copy_plan, found_pair, found_volumes, is_defined, is_owner, differ, is_no_source, has_few_targets, is_plain_target, is_recorded_target, is_lone_restore, may_return, may_copy, may_give_back, at_most, left_to_copy, counted_refusal, restore_refusal, left_by, path_refusal, make_path_done, unpath_refusal, remove_path_done, freeze_refusal, freeze_done, thaw_refusal, unfreeze_done, make_pair_plan, remove_pair_plan, pause_pair_plan, resume_pair_plan, failover_plan, yield_refusal, failback_plan, member_refusal, drain_plan, plan_of, step_plan, has_room_for, has_room, compare_plan, hold_first, release_refusal, release_done, redo_now, destage_entries}
 use Rattle.dr_model.specs.TakenWrites.{takes_from, sends_write, sends_pending, is_target_in}
 use Rattle.dr_facts.proofs.Lists.{found, from-filter, any-some}
 use Rattle.dr_facts.proofs.Parts.{global-part, metro-part}
@@ -457,6 +457,10 @@ module _ (w : World) (line : ℕ) where
       write-fits (Apply n) same [] p.w p.volume p.track _ tt
       (λ h. (subst (λ (o : Option Pending). sends_pending j o (partner_of j p.volume) ≡ true) (sym e) h))
 
+  destage-fair : (Q : ℕ → Type 0) (staged : Option ℕ) (v : ℕ) → Fair (Takes Q) (destage_entries staged v)
+  destage-fair Q None v = fine-none (OkBy (Takes Q))
+  destage-fair Q (Some t) v = fine-then (OkBy (Takes Q)) (redo_now v) _ (λ k. tt) (last-move Q (Unstage v) tt)
+
   copy-fits : (t : ℕ) (most : Option ℕ) → Fits (Copy t most) (copy_plan j t most)
   copy-fits t most =
       let Q : ℕ → Type 0 = MayTake j (Copy t most) in
@@ -496,6 +500,9 @@ module _ (w : World) (line : ℕ) where
       entries-told w Q _ _ (found-fair Q devs.dev s t _ (fair-check (Takes Q) (is_running s) _ _ (fair-refuse (Takes Q) (restore_refusal t) _ (fair-check (Takes Q) (is_recorded_target s t) (relation_state j t) _
       (fair-check (Takes Q) (is_lone_restore s t) (relation_state j s) _ (fair-check (Takes Q) (may_return s) (pair_state j s) _ (last-move Q (Reverse t (left_by j t)) (((eq-eqb t t refl))))))))))
   of-step (Copy t most) = copy-fits t most
+  of-step (Destage v) =
+      let Q : ℕ → Type 0 = MayTake j (Destage v) in
+      entries-told w Q _ _ (fair-check (Takes Q) (is_defined v) _ _ (fair-check (Takes Q) (is_running v) _ _ (destage-fair Q (j.volume v).staged v)))
   of-step (MakePath devs src tgt group) =
       where-owned w _ (owner_of j src) (λ s. on_owner (owner_of j tgt) (λ u. unless (path_refusal j devs s u) (make_path_done src tgt group)))
       (λ s. where-owned w _ (owner_of j tgt) (λ u. unless (path_refusal j devs s u) (make_path_done src tgt group)) (λ u. where-none w _ (path_refusal j devs s u) (make_path_done src tgt group) (λ free. tables-told w _ _ _ _ tt)))

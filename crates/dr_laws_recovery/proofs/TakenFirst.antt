@@ -5,7 +5,7 @@ use Rattle.dr_ids.specs.declared.refusal.Decision.{Decision}
 use Rattle.dr_model.specs.Layout.{is_part}
 use Rattle.dr_model.specs.Control.{Control, Fuse, Volume, World}
 use Rattle.dr_model.specs.Sessions.{Session, session_in}
-use Rattle.dr_model.specs.Moves.{Move, TakeOver, Commit, Revert, target, moved}
+use Rattle.dr_model.specs.Moves.{Move, TakeOver, Commit, Revert, target, moved, keeps_staged, moved_keeping}
 use Rattle.dr_model.specs.Carry.{Act, Make, OpenAttempt, Redo, Acknowledge, Drop, EndFreeze, EndThaw, EndRecovery, Next, Pass, Do, End, Entry}
 use Rattle.dr_model.specs.Entries.{fields_at}
 use Rattle.dr_model.specs.RecoveryPlans.{decided_in, secondary_refusal, take_over_on, settle_on, end_recovery, recover_done, recover_plan}
@@ -59,7 +59,7 @@ module _ (w : World) (sound : Sound w) (s : ℕ) (x : Session) (found : session_
 
   still : (u : World) (a : Move) → EndsPart u a → (b : ℕ) → is_part (fields_at u.control b).secondary ≡ false → is_part (fields_at (done u a None).control b).secondary ≡ false
   still u a is b =
-      at_cases (λ b (y : Volume). is_part (fields_at u.control b).secondary ≡ false → is_part y.fields.secondary ≡ false) u.control.volume (target a) (moved (u.control.volume (target a)) (next_of u a) (carried_in u a))
+      at_cases (λ b (y : Volume). is_part (fields_at u.control b).secondary ≡ false → is_part y.fields.secondary ≡ false) u.control.volume (target a) (moved_keeping (keeps_staged a) (u.control.volume (target a)) (next_of u a) (carried_in u a))
       is (λ q ne h. h) b
 
   stays-taken : (u : World) (a : Move) → EndsPart u a → Taken u.control → Taken (done u a None).control

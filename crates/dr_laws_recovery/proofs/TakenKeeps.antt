@@ -10,7 +10,7 @@ use Rattle.dr_model.specs.Decisions.{Shown}
 use Rattle.dr_model.specs.Control.{Fuse, Volume, World}
 use Rattle.dr_model.specs.Relations.{flashed, committed, reverted}
 use Rattle.dr_model.specs.Pairs.{is_secondary_of}
-use Rattle.dr_model.specs.Moves.{Move, Hold, Free, Seal, Finish, RaiseFloor, Flash, Commit, Revert, target, moved}
+use Rattle.dr_model.specs.Moves.{Move, Hold, Free, Seal, Finish, RaiseFloor, Flash, Commit, Revert, target, keeps_staged, moved_keeping}
 use Rattle.dr_model.specs.Carry.{Act, Make, OpenAttempt, Redo, Acknowledge, Drop, EndFreeze, EndThaw, EndRecovery}
 use Rattle.dr_model.specs.Entries.{fields_at}
 use Rattle.dr_model.specs.PairEntries.{send_refusal}
@@ -100,7 +100,7 @@ module _ (w : World) (x : Session) where
       alike = alike-then n back (table w) (table u) (table j) k.alike (subst (Alike n back (table u)) (sym rows) alike);
       decided = decided ∙ k.decided;
       apart = λ q here. ap (λ (f : ℕ → Volume). is_secondary_of q.a.0 (f q.b.0).fields) moves.volume
-          ∙ (at_part (λ (y : Volume). is_secondary_of q.a.0 y.fields) u.control.volume (target m) (moved (u.control.volume (target m)) (next_of u m) (carried_in u m)) (parts q.a.0) q.b.0 ∙ k.apart q here);
+          ∙ (at_part (λ (y : Volume). is_secondary_of q.a.0 y.fields) u.control.volume (target m) (moved_keeping moves.keeps (u.control.volume (target m)) (next_of u m) (carried_in u m)) (parts q.a.0) q.b.0 ∙ k.apart q here);
     }
 
     -- one that leaves what is read of its volume
@@ -163,9 +163,9 @@ module _ (w : World) (x : Session) where
   acts = record { does = does; counts = counts; opens = opens; fails = λ u a f d j k may. stays-told u _ _ _ k }
     where
       does : (u : World) (a : Act) (f : Option Fuse) → Sound u → Stays u → MayFit (λ u. Fit) u a → Stays (after_act u a f)
-      does u (Make m) f j k may = stays-moved u (done u m f) j k m may.0 may.1 (table-done u j.rows.structure m f j.rows.images.blank may.0.allowed may.0.ready) (record { volumes = refl; volume = refl })
+      does u (Make m) f j k may = stays-moved u (done u m f) j k m may.0 may.1 (table-done u j.rows.structure m f j.rows.images.blank may.0.allowed may.0.ready) (record { volumes = refl; keeps = keeps_staged m; volume = refl })
       does u (OpenAttempt v s i) f j k may =
-          opened u (after_act u (OpenAttempt v s i) f) j k v s i may.0 (table-done u j.rows.structure (Hold v s i true) f j.rows.images.blank may.0.allowed may.0.ready) (record { volumes = refl; volume = refl })
+          opened u (after_act u (OpenAttempt v s i) f) j k v s i may.0 (table-done u j.rows.structure (Hold v s i true) f j.rows.images.blank may.0.allowed may.0.ready) (record { volumes = refl; keeps = true; volume = refl })
       does u (Redo v) f j k may = absurd may.1
       does u (Acknowledge i) f j k may = absurd may.1
       does u (Drop i) f j k may = absurd may.1
@@ -174,11 +174,11 @@ module _ (w : World) (x : Session) where
       does u (EndRecovery s i) f j k may = absurd may.1
 
       counts : (u : World) (m : Move) (f : Option Fuse) → Sound u → Stays u → MayFit (λ u. Fit) u (Make m) → Stays (done_in_stop u m f)
-      counts u m f j k may = stays-moved u (done_in_stop u m f) j k m may.0 may.1 (table-stop u j.rows.structure m f j.rows.images.blank may.0.allowed may.0.ready) (record { volumes = refl; volume = refl })
+      counts u m f j k may = stays-moved u (done_in_stop u m f) j k m may.0 may.1 (table-stop u j.rows.structure m f j.rows.images.blank may.0.allowed may.0.ready) (record { volumes = refl; keeps = keeps_staged m; volume = refl })
 
       opens : (u : World) (v s i : ℕ) (f : Option Fuse) → Sound u → Stays u → MayFit (λ u. Fit) u (OpenAttempt v s i) → Stays (opened_in_stop u v s i f)
       opens u v s i f j k may =
-          opened u (opened_in_stop u v s i f) j k v s i may.0 (table-stop u j.rows.structure (Hold v s i true) f j.rows.images.blank may.0.allowed may.0.ready) (record { volumes = refl; volume = refl })
+          opened u (opened_in_stop u v s i f) j k v s i may.0 (table-stop u j.rows.structure (Hold v s i true) f j.rows.images.blank may.0.allowed may.0.ready) (record { volumes = refl; keeps = true; volume = refl })
 
 module _ (w : World) (sound : Sound w) (x : Session) (listed : In x w.control.sessions) (taken : AreTaken w x) where
   -- where a member's primary can send, it is none of this session

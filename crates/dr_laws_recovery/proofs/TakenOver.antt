@@ -6,7 +6,7 @@ use Rattle.dr_model.specs.declared.step.Name.{Name}
 use Rattle.dr_model.specs.Control.{Fuse, Volume, World}
 use Rattle.dr_model.specs.Sessions.{Session, session_in, mirror_in, members_in}
 use Rattle.dr_model.specs.Pairs.{is_secondary_of}
-use Rattle.dr_model.specs.Moves.{Move, Hold, target, moved}
+use Rattle.dr_model.specs.Moves.{Move, Hold, target, keeps_staged, moved_keeping}
 use Rattle.dr_model.specs.Carry.{Act, Make, OpenAttempt, Redo, Acknowledge, Drop, EndFreeze, EndThaw, EndRecovery}
 use Rattle.dr_model.specs.Entries.{fields_at}
 use Rattle.dr_model.specs.PairEntries.{send_refusal}
@@ -47,8 +47,8 @@ module _ (w : World) (sound : Sound w) (x : Session) (m : Member) (listed : In x
 
   stays : (u : World) (a : Move) → Holds u → FitMove a → Holds (done u a None)
   stays u a h fit = (
-    ap (λ (y : Volume). y.fields) (at_other u.control.volume (target a) (moved (u.control.volume (target a)) (next_of u a) (carried_in u a)) m.c.0 fit.0) ∙ h.0,
-    at_part (λ (y : Volume). is_secondary_of m.a.0 y.fields) u.control.volume (target a) (moved (u.control.volume (target a)) (next_of u a) (carried_in u a)) (fit.1 u) m.b.0 ∙ h.1,
+    ap (λ (y : Volume). y.fields) (at_other u.control.volume (target a) (moved_keeping (keeps_staged a) (u.control.volume (target a)) (next_of u a) (carried_in u a)) m.c.0 fit.0) ∙ h.0,
+    at_part (λ (y : Volume). is_secondary_of m.a.0 y.fields) u.control.volume (target a) (moved_keeping (keeps_staged a) (u.control.volume (target a)) (next_of u a) (carried_in u a)) (fit.1 u) m.b.0 ∙ h.1,
   )
 
   acts : Rides Sound Holds (MayFit (λ u. Fit))

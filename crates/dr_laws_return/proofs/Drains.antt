@@ -14,7 +14,7 @@ use Rattle.dr_model.specs.Relations.{parted_if, noted, fetched}
 use Rattle.dr_model.specs.Pairs.{is_secondary_of}
 use Rattle.dr_model.specs.Control.{Control, Fuse, Volume, World}
 use Rattle.dr_model.specs.Moves.{Move, Keep, Note, Store, Strike, Suspend, target, fields_left}
-use Rattle.dr_model.specs.Carry.{Make, Next, Pass, Do, Entry, Outcome, Turn, continue, go, carry, pass, lower, writes, turn}
+use Rattle.dr_model.specs.Carry.{Make, Next, Pass, Do, Entry, Outcome, Turn, continue, go, carry, turn}
 use Rattle.dr_model.specs.Entries.{fields_at, is_running, keep_on, keep_if, copies_from, copy_first, stands_in, is_revertible, relation_state, pair_state}
 use Rattle.dr_model.specs.PairEntries.{link_down, has_path, are_linked, belongs_to, refuse_if, end_if, send_refusal, suspend_where, flashed_refusal, store_on, strike_on, sends, is_copying, tracks_to_send}
 use Rattle.dr_model.specs.Plans.{Plan, refuses, is_defined, has_room, drain_plan}
@@ -24,7 +24,7 @@ use Rattle.dr_model.specs.Laws.{Sound}
 use Rattle.dr_model.proofs.CarryLemmas.{act-move, carry-none, carry-first, carry-skips, carry-passed}
 use Rattle.dr_facts.proofs.Tables.{at_cases, at_part}
 use Rattle.dr_laws_sound.specs.Acknowledged.{said_in, part_answer}
-use Rattle.dr_laws_sound.proofs.Turns.{server_at, done, turn-by, turn_by, carried_in}
+use Rattle.dr_laws_sound.proofs.Turns.{server_at, done, turn-armed}
 use Rattle.dr_laws_sound.proofs.FitsFlash.{as_begun}
 use Rattle.dr_laws_sound.proofs.FitsPairs.{its-first, row, runs-done, part-same}
 use Rattle.dr_laws_sound.proofs.Steps.{sound-run}
@@ -40,31 +40,13 @@ use Rattle.dr_logic.proofs.Truth.{false_true}
 abbrev HasFuse : World → ℕ → Type 0
 HasFuse w q = is_some (w.control.fuse q) ≡ true
 
-lower-some : (n : ℕ) (o : Option Fuse) → is_some (lower n o) ≡ true → is_some o ≡ true
-lower-some n None h = h
-lower-some n (Some f) h = refl
-
-pass-some : (n : ℕ) (o : Option Fuse) → pass o n ≡ false → is_some o ≡ true
-pass-some n None h = absurd cc
-pass-some n (Some f) h = refl
-
 -- one that stops in a move had a fuse, and one that has a fuse behind a move had it before
-turn-by-fuse : (w : World) (m : Move) (P : Turn → Type 0) (on passes counts : Bool) → (passes ≡ false → HasFuse w (server_at w (target m)))
-    → P (w, None)
-    → ((f : Option Fuse) → (is_some f ≡ true → HasFuse w (server_at w (target m))) → P (done w m f, None))
-    → (HasFuse w (server_at w (target m)) → (u : World) → P (u, Some (server_at w (target m))))
-    → P (turn_by w m on passes counts)
-turn-by-fuse w m P false passes counts armed a b c = a
-turn-by-fuse w m P true true counts armed a b c = b _ (lower-some (writes (carried_in w m)) (w.control.fuse (server_at w (target m))))
-turn-by-fuse w m P true false true armed a b c = c (armed refl) _
-turn-by-fuse w m P true false false armed a b c = c (armed refl) _
-
 turn-fuse : (w : World) (m : Move) (P : Turn → Type 0)
     → P (w, None)
     → ((f : Option Fuse) → (is_some f ≡ true → HasFuse w (server_at w (target m))) → P (done w m f, None))
     → (HasFuse w (server_at w (target m)) → (u : World) → P (u, Some (server_at w (target m))))
     → P (turn w m)
-turn-fuse w m P a b c = subst P (sym (turn-by w m)) (turn-by-fuse w m P _ _ _ (pass-some (writes (carried_in w m)) (w.control.fuse (server_at w (target m)))) a b c)
+turn-fuse w m P a b c = turn-armed w m P (λ down. a) (λ f same. b f (λ h. sym same ∙ h)) (λ armed f. c armed _) (λ armed f. c armed _)
 
 -- ---- the acts of a send
 

@@ -3,7 +3,7 @@ use Rattle.std.proofs.Common.{ℕ, ◌≡◌, ◌≢◌, ◌⊎◌, inl, inr, re
 use Rattle.dr_model.specs.Layout.{Fields}
 use Rattle.dr_model.specs.Control.{Control, Volume}
 use Rattle.dr_model.specs.Pairs.{held_for}
-use Rattle.dr_model.specs.Moves.{Move, Suspend, MakePrimary, DropPrimary, TakeOver, FallBack, Yield, Lift, Restart, Hold, Finish, RaiseAttempt, Carried, moved, target, next_fields}
+use Rattle.dr_model.specs.Moves.{Move, Suspend, MakePrimary, DropPrimary, TakeOver, FallBack, Yield, Lift, Restart, Hold, Finish, RaiseAttempt, Carried, moved_keeping, target, next_fields}
 use Rattle.dr_model.specs.Entries.{fields_at}
 use Rattle.dr_model.specs.Sessions.{changed, begun}
 use Rattle.dr_model.specs.Groups.{Groups, HoldsMember, OpensAttempt}
@@ -18,13 +18,13 @@ module _ (k j : Control) (v : ℕ) (f : Fields) (c : Carried) (same : j.sessions
   framed = record {
     sessions = same;
     volumes = moves.volumes;
-    server = λ u. (λ i. (moves.volume i u).server) ∙ at_cases (λ u (y : Volume). y.server ≡ (k.volume u).server) k.volume v (moved (k.volume v) f c) refl (λ u ne. refl) u;
-    tracks = λ u. (λ i. (moves.volume i u).tracks) ∙ at_cases (λ u (y : Volume). y.tracks ≡ (k.volume u).tracks) k.volume v (moved (k.volume v) f c) refl (λ u ne. refl) u;
+    server = λ u. (λ i. (moves.volume i u).server) ∙ at_cases (λ u (y : Volume). y.server ≡ (k.volume u).server) k.volume v (moved_keeping moves.keeps (k.volume v) f c) refl (λ u ne. refl) u;
+    tracks = λ u. (λ i. (moves.volume i u).tracks) ∙ at_cases (λ u (y : Volume). y.tracks ≡ (k.volume u).tracks) k.volume v (moved_keeping moves.keeps (k.volume v) f c) refl (λ u ne. refl) u;
   }
 
   -- what is so of the new fields, and of the others as they were, is so
   fields-by : (P : ℕ → Fields → Type 0) → P v f → ((u : ℕ) → u ≢ v → P u (fields_at k u)) → (u : ℕ) → P u (fields_at j u)
-  fields-by P here there u = subst (λ (w : ℕ → Volume). P u (w u).fields) (sym moves.volume) (at_cases (λ u (y : Volume). P u y.fields) k.volume v (moved (k.volume v) f c) here there u)
+  fields-by P here there u = subst (λ (w : ℕ → Volume). P u (w u).fields) (sym moves.volume) (at_cases (λ u (y : Volume). P u y.fields) k.volume v (moved_keeping moves.keeps (k.volume v) f c) here there u)
 
   pub groups-moved : (f.recording ≡ true → ((fields_at k v).recording ≡ true) × ((f.attempt ≡ (fields_at k v).attempt) × (f.primary_partner ≡ (fields_at k v).primary_partner))) → Groups k → Groups j
   groups-moved quiet old = groups-same k j framed (fields-by (λ u g. g.recording ≡ true → ((fields_at k u).recording ≡ true) × ((g.attempt ≡ (fields_at k u).attempt) × (g.primary_partner ≡ (fields_at k u).primary_partner))) quiet (λ u ne h. (h, (refl, refl)))) old

@@ -1,5 +1,5 @@
 -- What a control state keeps of another one.
-use Rattle.std.specs.Prelude.{◌≡◌, ◌≤◌, ◌⊎◌, ◌+◌, ℕ, true, false, List, length, Some}
+use Rattle.std.specs.Prelude.{◌≡◌, ◌≤◌, ◌⊎◌, ◌+◌, ℕ, Bool, true, false, List, length, Some}
 use Rattle.dr_logic.specs.Tables.{at}
 use Rattle.dr_ids.specs.declared.names.Member.{Member}
 use Rattle.dr_ids.specs.declared.refusal.PhaseName.TheVariants as phase
@@ -8,7 +8,7 @@ use Rattle.dr_model.specs.Decisions.{Shown}
 use Rattle.dr_model.specs.Phases as phases
 use Rattle.dr_model.specs.SessionEntries.{members_on}
 use Rattle.dr_model.specs.Control.{Control, is_volume}
-use Rattle.dr_model.specs.Moves.{Move, Hold, RaiseAttempt, Carried, moved}
+use Rattle.dr_model.specs.Moves.{Move, Hold, RaiseAttempt, Carried, moved_keeping}
 use Rattle.dr_model.specs.Entries.{fields_at}
 use Rattle.dr_model.specs.Sessions.{Session, Mirror, session_in}
 use Rattle.dr_model.specs.Groups.{In, IsAt, HoldsMember}
@@ -40,10 +40,11 @@ RecordedBefore j k v = ((fields_at j v).recording ≡ true) × (((fields_at k v)
 abbrev pub RecordedOr : Control → Control → ℕ → ℕ → ℕ → Type 0
 RecordedOr j k v n u = ((u ≡ v) × (((fields_at k u).attempt ≡ n) × ((fields_at k u).primary_partner ≡ (fields_at j u).primary_partner))) ⊎ RecordedBefore j k u
 
--- volume v has other fields, and nothing else of a volume changed
+-- volume v has other fields, whatever is staged on it, and nothing else of a volume changed
 pub record Moves (k j : Control) (v : ℕ) (f : Fields) (c : Carried) : Type 0 where
   pub volumes : j.volumes ≡ k.volumes
-  pub volume : j.volume ≡ at k.volume v (moved (k.volume v) f c)
+  pub keeps : Bool
+  pub volume : j.volume ≡ at k.volume v (moved_keeping keeps (k.volume v) f c)
 
 -- a session without a master, or whose master is Idle
 abbrev pub Quiet : Session → Type 0

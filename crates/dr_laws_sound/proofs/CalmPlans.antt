@@ -23,14 +23,14 @@ use Rattle.dr_ids.specs.declared.refusal.Decision.{Decision}
 use Rattle.dr_model.specs.Plans.{counted_refusal, secondary_refusal, leaves_all, forbidden_unless, decided_in, restore_refusal, member_from, restores_refusal, yield_refusal, compare_entries, left_by, member_refusal, Plan, found_volumes, named_pair, is_defined, is_owner, differ, is_no_source, has_few_targets, is_plain_target, is_recorded_target, is_lone_restore, may_return, may_give_back, may_copy, at_most, left_to_copy}
 use Rattle.dr_model.specs.RecoveryPlans.{decided_in, settle_on}
 use Rattle.dr_laws_sound.proofs.Parts.{Ending, OnePlan, Imaged}
-use Rattle.dr_laws_sound.proofs.Cases.{Case, Says, DefinesServer, DefinesVolume, SetsLink, Issues, Writes, Applies, Lists, Shows, Stops, Arms, Starts, MakesFlash, RemovesFlash, ResyncsFlash, ReversesFlash, Copies, MakesPath, RemovesPath, MakesPair, RemovesPair, PausesPair, ResumesPair, FailsOver, FailsBack, Compares, Drains, Expires, Freezes, Unfreezes, MakesSession, RemovesSession, MakesMirror, PausesMirror, RemovesMirror, Aborts, AddsMember, RemovesMember, Exchanges, Recovers, Settles, Releases}
+use Rattle.dr_laws_sound.proofs.Cases.{Case, Says, DefinesServer, DefinesVolume, SetsLink, Issues, Writes, Applies, Lists, Shows, Stops, Arms, Starts, MakesFlash, RemovesFlash, ResyncsFlash, ReversesFlash, Copies, Destages, MakesPath, RemovesPath, MakesPair, RemovesPair, PausesPair, ResumesPair, FailsOver, FailsBack, Compares, Drains, Expires, Freezes, Unfreezes, MakesSession, RemovesSession, MakesMirror, PausesMirror, RemovesMirror, Aborts, AddsMember, RemovesMember, Exchanges, Recovers, Settles, Releases}
 use Rattle.std.specs.List.{find}
 use Rattle.dr_ids.specs.declared.names.Member.{Member}
 use Rattle.dr_model.specs.Sessions.{Session, session_in, members_in, in_session, is_member}
 use Rattle.dr_model.specs.Phases.{Work, Hold, Release as ReleaseWork, Seal, Flash, Commit, Revert, Finish, Report}
 use Rattle.dr_model.specs.SessionEntries.{may_hold, hold_refusal, stale_refusal, hold_on, void_refusal, free_on, is_drained, seal_refusal, seal_on, is_flashed, may_flash, flash_refusal, flash_on, is_committed, commit_refusal, commit_on, revert_on, is_past, finish_on, member_entries, members_on, order_entries}
 use Rattle.dr_model.specs.SessionPlans.{member_with}
-use Rattle.dr_laws_sound.proofs.Endless.{Goes, Endless, pass-goes, do-goes, choice-goes, keep-goes, settle-goes, map-endless, times-endless, start-endless, freeze-endless, thaw-endless, expire-endless, lands-endless, copy-endless, recover-endless, add-endless, relate-endless, release-endless}
+use Rattle.dr_laws_sound.proofs.Endless.{Goes, Endless, pass-goes, do-goes, choice-goes, keep-goes, settle-goes, map-endless, times-endless, start-endless, freeze-endless, thaw-endless, expire-endless, lands-endless, copy-endless, recover-endless, add-endless, relate-endless, release-endless, destage-endless}
 use Rattle.dr_laws_sound.proofs.StopsTold.{is_calm, Calm, Unstopped, none-calm, then-calm}
 
 -- the entries of every step are such
@@ -263,6 +263,7 @@ case-calm k events line _ (ReversesFlash dev s t) =
 case-calm k events line _ (Copies t most) =
     checked-calm (is_defined t) _ _ refl (checked-calm (is_running t) _ _ refl (checked-calm (may_copy t) (relation_state k t) _ refl (checked-calm (may_give_back t) (pair_state k (fields_at k t).source) _ refl
     (endless-calm _ (times-endless (at_most most (left_to_copy k t)) _ (copy-endless k t (fields_at k t).reversing))))))
+case-calm k events line _ (Destages v) = checked-calm (is_defined v) _ _ refl (checked-calm (is_running v) _ _ refl (endless-calm _ (destage-endless (k.volume v).staged v)))
 case-calm k events line _ (MakesPath src tgt group) = none-calm
 case-calm k events line _ (RemovesPath src tgt) = none-calm
 case-calm k events line _ (MakesPair devs a b kind choices part) = pair-calm a b k devs kind choices.full _

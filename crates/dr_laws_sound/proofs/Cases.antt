@@ -22,7 +22,7 @@ use Rattle.dr_model.specs.declared.step.Devs.{Devs}
 use Rattle.dr_model.specs.declared.step.PairChoices.{PairChoices}
 use Rattle.dr_model.specs.declared.step.TornWord.{TornWord}
 use Rattle.dr_model.specs.declared.step.Step.{Step}
-use Rattle.dr_model.specs.declared.step.Step.TheVariants.{Server, Volume, Link, Stop, StopAfter, Start, Issue, Write, Apply, Show, MakeFlash, RemoveFlash, ResyncFlash, ReverseFlash, Copy, MakePath, RemovePath, MakePair, RemovePair, PausePair, ResumePair, Failover, Failback, Drain, Expire, Freeze, Unfreeze, MakeSession, RemoveSession, AddMember, RemoveMember, MakeMirror, PauseMirror, ResumeMirror, RemoveMirror, Abort, Exchange, Recover, CommitFlash, RevertFlash, ListPairs, ListFlashes, ListSession, ShowMirror, UnfreezeFlash}
+use Rattle.dr_model.specs.declared.step.Step.TheVariants.{Server, Volume, Link, Stop, StopAfter, Start, Issue, Write, Apply, Show, MakeFlash, RemoveFlash, ResyncFlash, ReverseFlash, Copy, Destage, MakePath, RemovePath, MakePair, RemovePair, PausePair, ResumePair, Failover, Failback, Drain, Expire, Freeze, Unfreeze, MakeSession, RemoveSession, AddMember, RemoveMember, MakeMirror, PauseMirror, ResumeMirror, RemoveMirror, Abort, Exchange, Recover, CommitFlash, RevertFlash, ListPairs, ListFlashes, ListSession, ShowMirror, UnfreezeFlash}
 use Rattle.dr_model.specs.Layout.{is_part, kind_of}
 use Rattle.dr_model.specs.Limits.{most_servers, most_volumes, most_tracks, most_pending}
 use Rattle.dr_model.specs.Refusals.{server_off, unknown, duplicate, over}
@@ -41,7 +41,7 @@ use Rattle.dr_facts.proofs.Lists.{found}
 use Rattle.dr_model.specs.Groups.{In, Groups}
 use Rattle.dr_model.specs.Listings.{pair_lines, flash_lines, member_lines, mirror_lines, sessions_of, lists, listing_refusal}
 use Rattle.dr_laws_sound.proofs.Listed.{AllLines, pair-lines, flash-lines, session-lines, mirrors-lines, pair-few, flash-few, session-few, mirrors-few}
-use Rattle.dr_model.specs.Plans.{Plan, entries_plan, plan, step_plan, plan_of, has_room, same, none_follow, always, on_session, is_defined, only_says, refuses, unless, on_named, on_server, name_bytes, server_named, server_refusal, server_done, volume_refusal, volume_done, link_between, link_done, track_refusal, issue_refusal, issue_done, write_done, apply_on, apply_done, show_refusal, show_done, is_foreign, stop_on, stop_done, arm_on, start_on, start_plan, make_flash_plan, remove_flash_plan, resync_flash_plan, reverse_flash_plan, copy_plan, on_owner, owner_of, path_refusal, make_path_done, unpath_refusal, remove_path_done, make_pair_plan, remove_pair_plan, pause_pair_plan, resume_pair_plan, failover_plan, failback_plan, compare_plan, drain_plan, expire_on, expire_plan, freeze_refusal, freeze_done, thaw_refusal, unfreeze_done, release_refusal, release_done}
+use Rattle.dr_model.specs.Plans.{Plan, entries_plan, plan, step_plan, plan_of, has_room, same, none_follow, always, on_session, is_defined, only_says, refuses, unless, on_named, on_server, name_bytes, server_named, server_refusal, server_done, volume_refusal, volume_done, link_between, link_done, track_refusal, issue_refusal, issue_done, write_done, apply_on, apply_done, show_refusal, show_done, is_foreign, stop_on, stop_done, arm_on, start_on, start_plan, make_flash_plan, remove_flash_plan, resync_flash_plan, reverse_flash_plan, copy_plan, destage_plan, on_owner, owner_of, path_refusal, make_path_done, unpath_refusal, remove_path_done, make_pair_plan, remove_pair_plan, pause_pair_plan, resume_pair_plan, failover_plan, failback_plan, compare_plan, drain_plan, expire_on, expire_plan, freeze_refusal, freeze_done, thaw_refusal, unfreeze_done, release_refusal, release_done}
 use Rattle.dr_facts.proofs.Refusals.{none-both, met}
 
 -- a member is added, and removed; a master is aborted, and an order is carried out
@@ -114,6 +114,7 @@ pub data Case (k : Control) (events : List Event) (line : ℕ) : Plan → Type 0
   ResyncsFlash : (dev : Option Name) → (s t : ℕ) → (sequence : Option ℕ) → Case k events line (resync_flash_plan k dev s t sequence)
   ReversesFlash : (dev : Option Name) → (s t : ℕ) → Case k events line (reverse_flash_plan k dev s t)
   Copies : (t : ℕ) → (most : Option ℕ) → Case k events line (copy_plan k t most)
+  Destages : (v : ℕ) → Case k events line (destage_plan k v)
   MakesPath : (src tgt : ℕ) → (group : Bool) → Case k events line (make_path_done src tgt group)
   RemovesPath : (src tgt : ℕ) → Case k events line (remove_path_done src tgt)
   MakesPair : (devs : Devs) → (a b : ℕ) → (kind : Part) → (choices : PairChoices) → is_part kind ≡ true → Case k events line (make_pair_plan k events devs a b kind choices)
@@ -313,6 +314,7 @@ module _ (k : Control) (events : List Event) (line : ℕ) where
   of-case (ResyncFlash devs s t nocopy persistent recorded inhibited sequence) = ResyncsFlash devs.dev s t sequence
   of-case (ReverseFlash devs s t tgtpprc sequence) = ReversesFlash devs.dev s t
   of-case (Copy t most) = Copies t most
+  of-case (Destage v) = Destages v
   of-case (MakePath devs src tgt group) =
       where-owned (owner_of k src) (λ s. on_owner (owner_of k tgt) (λ u. unless (path_refusal k devs s u) (make_path_done src tgt group)))
       (λ s. where-owned (owner_of k tgt) (λ u. unless (path_refusal k devs s u) (make_path_done src tgt group)) (λ u. where-none (path_refusal k devs s u) (make_path_done src tgt group) (λ free. MakesPath src tgt group)))

@@ -8,7 +8,7 @@ use Rattle.dr_model.specs.Layout.{Tracks, Fields}
 use Rattle.dr_model.specs.Limits.{most_targets, most_tracks}
 use Rattle.dr_model.specs.Relations.{lowest, is_bare, is_whole, given_up}
 use Rattle.dr_model.specs.Control.{Fuse, Volume, World}
-use Rattle.dr_model.specs.Moves.{Move, Keep, Note, Restore, Release, target, fields_left, moved, told_blank}
+use Rattle.dr_model.specs.Moves.{Move, Keep, Note, Restore, Release, target, fields_left, moved, told_blank, keeps_staged, moved_keeping}
 use Rattle.dr_model.specs.Carry.{Make, Pass, Do, Entry, now}
 use Rattle.dr_model.specs.Entries.{fields_at, copies_from, keep_on, times, on_found, lowest_held, for_lowest, give_back}
 use Rattle.dr_facts.proofs.Tables.{at_cases, at_part}
@@ -130,7 +130,7 @@ module _ (volumes : List ℕ) (v s : ℕ) where
     restore : (b : ℕ) → p + 1 ≤ b → (w : World) → Live w → lowest_held v w.control ≡ Some t → Costs b w (for_lowest v (λ t. now (Restore s t v)) ∷ for_lowest v (λ t. now (Release v t)) ∷ more)
     restore b le w live is =
         let m : Move = Restore s t v in
-        let y : Volume = moved (w.control.volume s) (fields_left m (w.control.volume s)) (carried_in w m) in
+        let y : Volume = moved_keeping (keeps_staged m) (w.control.volume s) (fields_left m (w.control.volume s)) (carried_in w m) in
         costs-entry b w (for_lowest v (λ t. now (Restore s t v))) _ (Do (Make m)) (ap (λ o. on_found o (λ t. now (Restore s t v)) w.control) is) (
           release b (omega arith) w live is,
           (

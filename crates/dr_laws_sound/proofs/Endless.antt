@@ -7,13 +7,13 @@ use Rattle.dr_model.specs.Control.{Control}
 use Rattle.dr_model.specs.Layout.{Fields, is_part}
 use Rattle.dr_model.specs.Relations.{rest}
 use Rattle.dr_model.specs.Pairs.{held, goes_over, collides, must_restart}
-use Rattle.dr_model.specs.Moves.{Move, Keep, Note, Fetch, Restore, Release, Suspend, Unsync, Mirror, LandBoth, Thaw, Lift, Restart, RaiseAttempt, RaiseFloor, FlashHold, FlashFree}
+use Rattle.dr_model.specs.Moves.{Move, Keep, Note, Fetch, Restore, Release, Suspend, Unsync, Mirror, LandBoth, Thaw, Lift, Restart, RaiseAttempt, RaiseFloor, FlashHold, FlashFree, Unstage}
 use Rattle.dr_model.specs.Carry.{Act, Make, Redo, Acknowledge, now, Next, Pass, Do, End, Entry}
 use Rattle.dr_model.specs.Entries.{fields_at, copies_from, land_on, land_alone, keep_on, keep_if, copy_first, times, on_found, lowest_missing, lowest_held, fetch_next, for_lowest, give_back}
 use Rattle.dr_model.specs.PairEntries.{send_refusal, suspend_where, store_on, strike_on}
 use Rattle.dr_model.specs.WriteEntries.{sends_first, where_sent, send_first, land_collided, partner_of, is_grouped, land_mirrored, land_parted, is_parted, land_over, land_entries, is_between, freeze_on, end_freeze, freeze_entries, thaw_on, end_thaw, thaw_entries, belongs, lift_on, redo_on, restart_on, start_entries, flash_hold_on, flash_free_on, is_held_in}
 use Rattle.dr_ids.specs.declared.refusal.Decision.{Decision}
-use Rattle.dr_model.specs.Plans.{acknowledge_on, acknowledge_if, landed_on, hold_first}
+use Rattle.dr_model.specs.Plans.{acknowledge_on, acknowledge_if, landed_on, hold_first, redo_now, destage_entries}
 use Rattle.dr_model.specs.RecoveryPlans.{take_over_on, settle_on, end_recovery, recover_entries}
 use Rattle.dr_laws_sound.proofs.RecoveryEntries.{settle-cases}
 use Rattle.dr_ids.specs.declared.names.Member.{Member}
@@ -158,6 +158,11 @@ copy-endless k t true =
     (then-endless _ _ (lowest-goes t (λ q. now (Restore s q t)) (λ q k. do-goes _))
     (last-endless (for_lowest t (λ q. now (Release t q))) (lowest-goes t (λ q. now (Release t q)) (λ q k. do-goes _))))
 copy-endless k t false = last-endless (fetch_next t) (λ j. found-goes (lowest_missing t j) (λ q. now (Fetch t q)) j (λ q. do-goes _))
+
+-- a staged track that goes to its place
+pub destage-endless : (staged : Option ℕ) (v : ℕ) → Endless (destage_entries staged v)
+destage-endless None v = none-endless
+destage-endless (Some t) v = then-endless (redo_now v) _ (λ k. do-goes _) (last-endless (now (Unstage v)) (λ k. do-goes _))
 
 -- recoveries
 members-endless : (each : Member → Entry) → ((m : Member) (k : Control) → Goes (each m k)) → (ms : List Member) → Endless (map each ms)

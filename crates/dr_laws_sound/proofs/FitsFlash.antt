@@ -7,7 +7,7 @@ use Rattle.dr_model.specs.Limits.{most_targets}
 use Rattle.dr_model.specs.Layout.{Fields, is_part}
 use Rattle.dr_model.specs.Relations.{Choices}
 use Rattle.dr_model.specs.Control.{Control, World, is_volume, Fuse, Volume}
-use Rattle.dr_model.specs.Moves.{Relate, Withdraw, Resync, Reverse, Move, FlashHold, target, moved}
+use Rattle.dr_model.specs.Moves.{Relate, Withdraw, Resync, Reverse, Move, FlashHold, target, keeps_staged, moved_keeping}
 use Rattle.dr_model.specs.Carry.{Entry, Make, Pass, Do, now}
 use Rattle.dr_model.specs.PairEntries.{end_if, refuse_if, stands_free}
 use Rattle.dr_ids.specs.declared.refusal.Refusal.{Refusal}
@@ -71,7 +71,7 @@ named w x k dev s t ds go = checked w (is_defined s) _ _ x (λ first. checked w 
 -- a move leaves each volume its server, and what it doesn't change
 module _ (w : World) (m : Move) (f : Option Fuse) where
   abbrev pub row : Volume
-  row = moved (w.control.volume (target m)) (next_of w m) (carried_in w m)
+  row = moved_keeping (keeps_staged m) (w.control.volume (target m)) (next_of w m) (carried_in w m)
 
   pub runs-done : (v : ℕ) → Runs w v → Runs (done w m f) v
   runs-done v on = ap w.control.on (at_part (λ (x : Volume). x.server) w.control.volume (target m) row refl v) ∙ on

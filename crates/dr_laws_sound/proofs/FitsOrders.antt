@@ -280,7 +280,7 @@ module _ (w : World) (s : Sound w) (i server : ℕ) (x : Session) (r : Mirror) (
             record { runs = on; allowed = tt; fits = tt; group = member-finishes v.control st.stage.sound.groups st.stage.sound.attempts i x (found-in v (m ∷ rest) st.stage) m (member-of v m rest st.stage) n (sym last); ready = idle v m.a.0 st.stage.sound.queue on },
             λ f y. go _ (record {
               stage = moved v m rest (Finish m.a.0 n) f st.stage y;
-              silent = λ q has ends. silent-finishes v.control (done v (Finish m.a.0 n) f).control x server n m rest None refl (record { volumes = refl; volume = refl }) (st.silent q has ends);
+              silent = λ q has ends. silent-finishes v.control (done v (Finish m.a.0 n) f).control x server n m rest None refl (record { volumes = refl; keeps = true; volume = refl }) (st.silent q has ends);
             }),
           )
 
@@ -380,7 +380,7 @@ module _ (w : World) (s : Sound w) (i server : ℕ) (x : Session) (r : Mirror) (
             record { runs = on; allowed = flashes-allowed last v m rest st.stage group; fits = tt; group = group; ready = idle v m.c.0 st.stage.sound.queue on },
             λ f y. go _ (record {
               stage = moved v m rest (Flash m.c.0 m.b.0 m.a.0 i n) f st.stage y;
-              done = done-flashes v.control (done v (Flash m.c.0 m.b.0 m.a.0 i n) f).control (carried_in v (Flash m.c.0 m.b.0 m.a.0 i n)) x m server rest st.stage.sound.groups (listed-in v (m ∷ rest) st.stage) here st.done i n is (record { volumes = refl; volume = refl });
+              done = done-flashes v.control (done v (Flash m.c.0 m.b.0 m.a.0 i n) f).control (carried_in v (Flash m.c.0 m.b.0 m.a.0 i n)) x m server rest st.stage.sound.groups (listed-in v (m ∷ rest) st.stage) here st.done i n is (record { volumes = refl; keeps = true; volume = refl });
             }),
           )
 
@@ -406,7 +406,7 @@ module _ (w : World) (s : Sound w) (i server : ℕ) (x : Session) (r : Mirror) (
             record { runs = on; allowed = may-turn last v m rest st.stage group.revertible; fits = tt; group = group; ready = idle v m.c.0 st.stage.sound.queue on },
             λ f y. go _ (record {
               stage = moved v m rest (Commit m.c.0 m.a.0 i n) f st.stage y;
-              done = done-commits v.control (done v (Commit m.c.0 m.a.0 i n) f).control (carried_in v (Commit m.c.0 m.a.0 i n)) x m server rest st.stage.sound.groups (listed-in v (m ∷ rest) st.stage) here st.done n is (record { volumes = refl; volume = refl });
+              done = done-commits v.control (done v (Commit m.c.0 m.a.0 i n) f).control (carried_in v (Commit m.c.0 m.a.0 i n)) x m server rest st.stage.sound.groups (listed-in v (m ∷ rest) st.stage) here st.done n is (record { volumes = refl; keeps = true; volume = refl });
             }),
           )
 
@@ -434,7 +434,7 @@ module _ (w : World) (s : Sound w) (i server : ℕ) (x : Session) (r : Mirror) (
             record { runs = on; allowed = may-turn last v m rest st.stage group.revertible; fits = tt; group = group; ready = idle v m.c.0 st.stage.sound.queue on },
             λ f y. go _ (record {
               stage = moved v m rest (Revert m.c.0 m.a.0 i n) f st.stage y;
-              done = done-reverts v.control (done v (Revert m.c.0 m.a.0 i n) f).control (carried_in v (Revert m.c.0 m.a.0 i n)) x m server rest st.stage.sound.groups (listed-in v (m ∷ rest) st.stage) here st.done n is (record { volumes = refl; volume = refl });
+              done = done-reverts v.control (done v (Revert m.c.0 m.a.0 i n) f).control (carried_in v (Revert m.c.0 m.a.0 i n)) x m server rest st.stage.sound.groups (listed-in v (m ∷ rest) st.stage) here st.done n is (record { volumes = refl; keeps = true; volume = refl });
             }),
           )
       by send false true none floor =
@@ -443,7 +443,7 @@ module _ (w : World) (s : Sound w) (i server : ℕ) (x : Session) (r : Mirror) (
             λ f y. go _ (record {
               stage = moved v m rest (RaiseFloor m.c.0 n) f st.stage y;
               done = done-raises v.control (done v (RaiseFloor m.c.0 n) f).control (carried_in v (RaiseFloor m.c.0 n)) x m server rest st.stage.sound.groups (listed-in v (m ∷ rest) st.stage) here st.done n is
-                  (unflashed-plain v.control st.stage.sound.groups st.stage.sound.attempts i x found m here n (sym last) none) (record { volumes = refl; volume = refl });
+                  (unflashed-plain v.control st.stage.sound.groups st.stage.sound.attempts i x found m here n (sym last) none) (record { volumes = refl; keeps = true; volume = refl });
             }),
           )
       by send false false none floor = go v (does-pass v m rest st (done-reverted v.control i x m n st.stage.sound.groups st.stage.sound.attempts found here (sym last) is none))

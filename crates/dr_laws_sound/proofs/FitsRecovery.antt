@@ -128,7 +128,7 @@ module _ (w : World) (s : Sound w) (i : ℕ) (x : Session) (found : session_in w
             λ f y. go _ (record {
               stays = stays-done v a f st.stays y;
               same = shown-same v.control (done v a f).control i x.members (λ q there. ap (λ (z : Volume). z.fields) (at_other v.control.volume m.b.0 (row v a f) q.c.0 (other v st.stays m q here there))) ∙ st.same;
-              taken = taken-over v.control (done v a f).control (carried_in v a) x m st.stays.sound.groups (listed-in v st.stays) here rest (record { volumes = refl; volume = refl }) st.taken;
+              taken = taken-over v.control (done v a f).control (carried_in v a) x m st.stays.sound.groups (listed-in v st.stays) here rest (record { volumes = refl; keeps = true; volume = refl }) st.taken;
               left = λ q h. st.left q (inr h);
             }),
           )
@@ -188,7 +188,7 @@ module _ (w : World) (s : Sound w) (i : ℕ) (x : Session) (found : session_in w
             λ f y. go _ (record {
               stays = stays-done v a f st.stays y;
               way = rest-stays v.control (done v a f).control (carried_in v a) x m sound.groups (listed-in v st.stays) here sound.attempts t.flag
-                  (subst (λ q. Moves v.control (done v a f).control m.c.0 (committed q (fields_at v.control m.c.0)) (carried_in v a)) t.last (record { volumes = refl; volume = refl })) st.way;
+                  (subst (λ q. Moves v.control (done v a f).control m.c.0 (committed q (fields_at v.control m.c.0)) (carried_in v a)) t.last (record { volumes = refl; keeps = true; volume = refl })) st.way;
               left = λ q h. st.left q (inr h);
             }),
           )
@@ -220,7 +220,7 @@ module _ (w : World) (s : Sound w) (i : ℕ) (x : Session) (found : session_in w
             λ f y. go _ (record {
               stays = stays-done v a f st.stays y;
               way = reverts-stay v.control (done v a f).control (carried_in v a) x m sound.groups (listed-in v st.stays) here sound.attempts t.flag
-                  (subst (λ q. Moves v.control (done v a f).control m.c.0 (reverted q (fields_at v.control m.c.0)) (carried_in v a)) t.last (record { volumes = refl; volume = refl })) st.way;
+                  (subst (λ q. Moves v.control (done v a f).control m.c.0 (reverted q (fields_at v.control m.c.0)) (carried_in v a)) t.last (record { volumes = refl; keeps = true; volume = refl })) st.way;
               left = λ q h. st.left q (inr h);
             }),
           )

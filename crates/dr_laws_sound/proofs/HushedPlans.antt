@@ -20,12 +20,12 @@ use Rattle.dr_model.specs.declared.state.PairState.TheVariants.{Suspended as Sus
 use Rattle.dr_model.specs.declared.step.Devs.{Devs}
 use Rattle.dr_model.specs.declared.step.Name.{Name}
 use Rattle.dr_model.specs.declared.step.Step.{Step}
-use Rattle.dr_model.specs.declared.step.Step.TheVariants.{Server, Volume, Link, Stop, StopAfter, Start, Issue, Write, Apply, Show, MakeFlash, RemoveFlash, ResyncFlash, ReverseFlash, Copy, MakePath, RemovePath, MakePair, RemovePair, PausePair, ResumePair, Failover, Failback, Drain, Expire, Freeze, Unfreeze, MakeSession, RemoveSession, AddMember, RemoveMember, MakeMirror, PauseMirror, ResumeMirror, RemoveMirror, Abort, Exchange, Recover, CommitFlash, RevertFlash, ListPairs, ListFlashes, ListSession, ShowMirror, UnfreezeFlash}
+use Rattle.dr_model.specs.declared.step.Step.TheVariants.{Server, Volume, Link, Stop, StopAfter, Start, Issue, Write, Apply, Show, MakeFlash, RemoveFlash, ResyncFlash, ReverseFlash, Copy, Destage, MakePath, RemovePath, MakePair, RemovePair, PausePair, ResumePair, Failover, Failback, Drain, Expire, Freeze, Unfreeze, MakeSession, RemoveSession, AddMember, RemoveMember, MakeMirror, PauseMirror, ResumeMirror, RemoveMirror, Abort, Exchange, Recover, CommitFlash, RevertFlash, ListPairs, ListFlashes, ListSession, ShowMirror, UnfreezeFlash}
 use Rattle.dr_model.specs.Refusals.{unknown, server_off, duplicate}
 use Rattle.dr_model.specs.Control.{Control}
 use Rattle.dr_model.specs.Layout.{Fields, is_part, kind_of}
 use Rattle.dr_model.specs.Pairs.{first_state, held, records}
-use Rattle.dr_model.specs.Moves.{Move, Keep, Note, Withdraw, Fetch, Resync, Reverse, Restore, Release, Suspend, MakeSecondary, MakePrimary, DropPrimary, DropSecondary, Follow, TakeOver, Thaw, Lift, Free, Seal as SealMove, RaiseAttempt, RaiseFloor, Leave, Flash as FlashMove, Commit as CommitMove, Revert as RevertMove, Finish as FinishMove, Hold as HoldMove, FlashHold, FlashFree, Relate}
+use Rattle.dr_model.specs.Moves.{Move, Keep, Note, Withdraw, Fetch, Resync, Reverse, Restore, Release, Suspend, MakeSecondary, MakePrimary, DropPrimary, DropSecondary, Follow, TakeOver, Thaw, Lift, Free, Seal as SealMove, RaiseAttempt, RaiseFloor, Leave, Flash as FlashMove, Commit as CommitMove, Revert as RevertMove, Finish as FinishMove, Hold as HoldMove, FlashHold, FlashFree, Relate, Unstage}
 use Rattle.dr_model.specs.Carry.{Make, OpenAttempt, check, now, Next, Pass, Do, End, Entry}
 use Rattle.dr_model.specs.Entries.{fields_at, copies_from, is_running, relation_state, keep_on, keep_if, copy_first, times, on_found, lowest_missing, lowest_held, fetch_next, for_lowest, give_back, share_server, share_size, is_no_target, is_settled}
 use Rattle.dr_model.specs.PairEntries.{are_linked, reach_refusal, end_if, refuse_if, differs_at, two_servers, stands_free, may_follow, make_entries, leads_to, belongs_to, let_go, remove_both, remove_entries, may_pause, tell_paused, pause_entries, may_resume, follow_on, resume_on, resume_entries, may_take_over, failover_entries, leads_as, fall_back_on, yield_on, failback_entries, send_refusal, suspend_where, flashed_refusal, store_on, strike_on, send_entries, sends, tracks_to_send, suspend_after, suspend_running, is_copying, first_differing}
@@ -35,7 +35,7 @@ use Rattle.dr_model.specs.Sessions.{Session, Mirror, session_in, members_in, has
 use Rattle.dr_model.specs.SessionEntries.{first_number, last_of, hold_refusal, stale_refusal, hold_on, void_refusal, free_on, is_drained, seal_refusal, seal_on, is_flashed, flash_refusal, flash_on, is_committed, commit_refusal, commit_on, revert_on, is_past, finish_on, member_entries, members_on, order_entries, raise_attempt_on, raise_floor_on, add_entries}
 use Rattle.dr_model.specs.RecoveryPlans.{decided_in, take_over_on, settle_on, end_recovery, recover_entries, recover_done, recover_plan, group_of, says_group, secondary_refusal, lets_commit, lets_revert, settle_member, settle_target, settle_plan, settle_refusal, member_of_target, revertible_target}
 use Rattle.dr_model.specs.SessionPlans.{table_plan, mirror_phase, session_phase, says_phase, name_refusal, off_refusal, on_volume, on_both, add_plan, add_to, add_target, member_target, expel_plan, expel_done, expel_found, outside_refusal, master_refusal, place_refusal, taken_refusal, copy_refusal, member_with, exchange_refusal, exchange_done, exchange_on, order_of}
-use Rattle.dr_model.specs.Plans.{Plan, plan_of, same, none_follow, always, tables_plan, entries_plan, only_says, refuses, unless, on_named, on_owner, on_session, is_defined, is_owner, server_named, name_bytes, counted_refusal, restore_refusal, yield_refusal, left_by, member_refusal, found_volumes, found_pair, differ, is_no_source, has_few_targets, is_plain_target, is_recorded_target, is_lone_restore, may_return, may_give_back, may_copy, at_most, left_to_copy, drain_plan, stop_on, stop_done, arm_on, expire_on, link_between, link_done, on_server, owner_of, server_refusal, server_done, volume_refusal, volume_done, issue_refusal, issue_done, show_refusal, show_done, expire_plan, path_refusal, make_path_done, unpath_refusal, remove_path_done, freeze_refusal, freeze_done, thaw_refusal, unfreeze_done, compare_plan, hold_first, release_refusal, release_done}
+use Rattle.dr_model.specs.Plans.{Plan, plan_of, same, none_follow, always, tables_plan, entries_plan, only_says, refuses, unless, on_named, on_owner, on_session, is_defined, is_owner, server_named, name_bytes, counted_refusal, restore_refusal, yield_refusal, left_by, member_refusal, found_volumes, found_pair, differ, is_no_source, has_few_targets, is_plain_target, is_recorded_target, is_lone_restore, may_return, may_give_back, may_copy, at_most, left_to_copy, drain_plan, stop_on, stop_done, arm_on, expire_on, link_between, link_done, on_server, owner_of, server_refusal, server_done, volume_refusal, volume_done, issue_refusal, issue_done, show_refusal, show_done, expire_plan, path_refusal, make_path_done, unpath_refusal, remove_path_done, freeze_refusal, freeze_done, thaw_refusal, unfreeze_done, compare_plan, hold_first, release_refusal, release_done, redo_now, destage_entries}
 use Rattle.dr_laws_sound.specs.Acknowledged.{acknowledgements}
 use Rattle.dr_laws_sound.proofs.RecoveryEntries.{settle-cases}
 use Rattle.dr_model.specs.Listings.{pair_lines, flash_lines, member_lines, mirror_lines, sessions_of, lists, listing_refusal}
@@ -113,6 +113,10 @@ lift-hush s v k = choice-hush false (belongs k s v && held (fields_at k v)) (Do 
 
 lowest-hush : (v : ℕ) (d : ℕ → Entry) → ((t : ℕ) → Hush false (d t)) → Hush false (for_lowest v d)
 lowest-hush v d hush k = found-hush (lowest_held v k) d k (λ t. hush t k)
+
+destage-hush : (staged : Option ℕ) (v : ℕ) → AllHush false (destage_entries staged v)
+destage-hush None v = none-hush
+destage-hush (Some t) v = then-hush (redo_now v) _ (λ k. tt) (now-hush (Unstage v) tt)
 
 copy-hush : (k : Control) (t : ℕ) (b : Bool) → AllHush false (cond b (give_back k.volumes (fields_at k t).source t) (fetch_next t ∷ []))
 copy-hush k t true =
@@ -402,6 +406,7 @@ module _ (k : Control) (events : List Event) (line : ℕ) where
       (checked-hush (is_recorded_target s t) _ _ (checked-hush (is_lone_restore s t) _ _ (checked-hush (may_return s) _ _ (now-hush (Reverse t (left_by k t)) tt)))))))
   step-hush (Copy t most) other = entries-hush _ _ (checked-hush (is_defined t) _ _ (checked-hush (is_running t) _ _ (checked-hush (may_copy t) _ _ (checked-hush (may_give_back t) _ _
       (times-hush (at_most most (left_to_copy k t)) _ (copy-hush k t (fields_at k t).reversing))))))
+  step-hush (Destage v) other = entries-hush _ _ (checked-hush (is_defined v) _ _ (checked-hush (is_running v) _ _ (destage-hush (k.volume v).staged v)))
   step-hush (MakePath devs src tgt group) other = owned src (λ s. on_owner (owner_of k tgt) (λ u. unless (path_refusal k devs s u) (make_path_done src tgt group)))
       (λ s. owned tgt (λ u. unless (path_refusal k devs s u) (make_path_done src tgt group)) (λ u. one (path_refusal k devs s u) (make_path_done src tgt group) (tables _ _ Alone refl refl)))
   step-hush (RemovePath devs src tgt force) other = owned src (λ s. on_owner (owner_of k tgt) (λ u. unless (unpath_refusal k devs src tgt s u force) (remove_path_done src tgt)))

@@ -19,7 +19,7 @@ use Rattle.dr_model.specs.Control.{Control, Fuse, Pending, Volume, World, new_vo
 use Rattle.dr_model.specs.Layout.{Tracks}
 use Rattle.dr_model.specs.Relations.{rest, in_order, is_bare, turned, given_up}
 use Rattle.dr_model.specs.Pairs.{is_suspended}
-use Rattle.dr_model.specs.Moves.{Move, Land, Overwrite, Keep, Note, Relate, Withdraw, Fetch, Resync, Reverse, Restore, Release, Store, Strike, Suspend, MakeSecondary, MakePrimary, DropPrimary, DropSecondary, Follow, Resume, TakeOver, FallBack, Yield, Unsync, Mirror, LandBoth, Thaw, Lift, Restart, Hold, Free, Seal, Finish, RaiseAttempt, RaiseFloor, Leave, Flash, Commit, Revert, told_blank, told_restored, told, told_in_stop, landed, target, settled, settled_in_stop, is_other, marked, FlashHold, FlashFree, told_freed}
+use Rattle.dr_model.specs.Moves.{Move, Land, Overwrite, Keep, Note, Relate, Withdraw, Fetch, Resync, Reverse, Restore, Release, Store, Strike, Suspend, MakeSecondary, MakePrimary, DropPrimary, DropSecondary, Follow, Resume, TakeOver, FallBack, Yield, Unsync, Mirror, LandBoth, Thaw, Lift, Restart, Hold, Free, Seal, Finish, RaiseAttempt, RaiseFloor, Leave, Flash, Commit, Revert, told_blank, told_restored, told, told_in_stop, landed, target, settled, settled_in_stop, is_other, marked, FlashHold, FlashFree, Unstage, told_freed}
 use Rattle.dr_model.specs.Carry.{Act, Make, OpenAttempt, Redo, Acknowledge, Drop, EndFreeze, EndThaw, EndRecovery, act, Next, Pass, Do, End, Entry, Outcome, carry, continue, go, follow}
 use Rattle.dr_model.specs.Plans.{Plan, entries_plan, name_bytes, same, always, none_follow, server_done, volume_done, link_done, with_pending, issue_done, show_done, stop_done, arm_on, starting, start_plan, make_path_done, remove_path_done}
 use Rattle.dr_model.specs.Forming.{Part, after_part}
@@ -32,7 +32,7 @@ use Rattle.dr_model.specs.SessionPlans.{with_sessions, table_plan, says_phase, a
 use Rattle.dr_laws_sound.specs.Limits.{IsWithin}
 use Rattle.dr_facts.proofs.Sessions.{length-changed, changed-twice, length-left, joined-few}
 use Rattle.dr_model.specs.RecoveryPlans.{decided_in, recover_done}
-use Rattle.dr_laws_sound.proofs.Cases.{Case, Says, DefinesServer, DefinesVolume, SetsLink, Issues, Writes, Applies, Lists, Shows, Stops, Arms, Starts, MakesFlash, RemovesFlash, ResyncsFlash, ReversesFlash, Copies, MakesPath, RemovesPath, MakesPair, RemovesPair, PausesPair, ResumesPair, FailsOver, FailsBack, Compares, Drains, Expires, Freezes, Unfreezes, MakesSession, RemovesSession, MakesMirror, PausesMirror, RemovesMirror, Aborts, AddsMember, RemovesMember, Exchanges, Recovers, Settles, aborted, servers-left, is-new, may-issue, Releases}
+use Rattle.dr_laws_sound.proofs.Cases.{Case, Says, DefinesServer, DefinesVolume, SetsLink, Issues, Writes, Applies, Lists, Shows, Stops, Arms, Starts, MakesFlash, RemovesFlash, ResyncsFlash, ReversesFlash, Copies, Destages, MakesPath, RemovesPath, MakesPair, RemovesPair, PausesPair, ResumesPair, FailsOver, FailsBack, Compares, Drains, Expires, Freezes, Unfreezes, MakesSession, RemovesSession, MakesMirror, PausesMirror, RemovesMirror, Aborts, AddsMember, RemovesMember, Exchanges, Recovers, Settles, aborted, servers-left, is-new, may-issue, Releases}
 use Rattle.dr_laws_sound.proofs.Listed.{lines-plain, image-lines}
 use Rattle.dr_laws_sound.proofs.Parts.{Comes, Ending, OnePlan, Imaged, course-case, last-plan}
 use Rattle.dr_facts.proofs.Tables.{at_cases, at_part}
@@ -174,6 +174,7 @@ tells-silent (Leave v a s) u = refl
 tells-silent (Flash v from a s n) u = refl
 tells-silent (Commit v a s n) u = refl
 tells-silent (Revert v a s n) u = refl
+tells-silent (Unstage v) u = refl
 
 in_stop-silent : (m : Move) (u : Volume) → Silent (told_in_stop m u)
 in_stop-silent (Land n v t) u = refl
@@ -354,6 +355,7 @@ module _ (k : Control) where
   case-modest events line _ (ResyncsFlash dev s t sequence) = entries-modest _ _
   case-modest events line _ (ReversesFlash dev s t) = entries-modest _ _
   case-modest events line _ (Copies t most) = entries-modest _ _
+  case-modest events line _ (Destages v) = entries-modest _ _
   case-modest events line _ (MakesPath src tgt group) = quiet (make_path_done src tgt group).first [] [] (always (Done Alone)) refl unmoved refl
   case-modest events line _ (RemovesPath src tgt) = quiet (remove_path_done src tgt).first [] [] (always (Done Alone)) refl unmoved refl
   case-modest events line _ (MakesPair devs a b kind choices part) = entries-modest _ _

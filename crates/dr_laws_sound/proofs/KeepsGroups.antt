@@ -4,7 +4,7 @@ use Rattle.dr_logic.specs.Tables.{at}
 use Rattle.dr_model.specs.Sessions.{changed, begun}
 use Rattle.dr_model.specs.Histories.{Write}
 use Rattle.dr_model.specs.Control.{Control, Fuse, Pending, Volume, World}
-use Rattle.dr_model.specs.Moves.{Move, Suspend, MakePrimary, DropPrimary, TakeOver, FallBack, Yield, Lift, Restart, Hold, Finish, RaiseAttempt, target, moved}
+use Rattle.dr_model.specs.Moves.{Move, Suspend, MakePrimary, DropPrimary, TakeOver, FallBack, Yield, Lift, Restart, Hold, Finish, RaiseAttempt, target, keeps_staged, moved_keeping}
 use Rattle.dr_model.specs.Entries.{fields_at}
 use Rattle.dr_model.specs.Groups.{Groups, Housed, OpensAttempt}
 use Rattle.dr_model.specs.Table.{table}
@@ -21,7 +21,7 @@ use Rattle.dr_logic.proofs.Truth.{false_true}
 
 module _ (w : World) (write : ℕ → Write) (on : ℕ → Bool) (fuse : ℕ → Option Fuse) (ps : List Pending) where
   abbrev next : Move → Volume
-  next m = moved (w.control.volume (target m)) (next_of w m) (carried_in w m)
+  next m = moved_keeping (keeps_staged m) (w.control.volume (target m)) (next_of w m) (carried_in w m)
 
   -- the control state when the move is done
   abbrev after : Move → Control
@@ -74,7 +74,7 @@ module _ (w : World) (write : ℕ → Write) (on : ℕ → Bool) (fuse : ℕ →
 
   -- and what attempts say of sessions and volumes stays
   pub attempts-after : (m : Move) → InAttempt w.control m → Groups w.control → Attempts w.control → Attempts (after m)
-  attempts-after m g groups old = attempts-move w.control (after m) m (carried_in w m) refl (record { volumes = refl; volume = refl }) g groups old
+  attempts-after m g groups old = attempts-move w.control (after m) m (carried_in w m) refl (record { volumes = refl; keeps = keeps_staged m; volume = refl }) g groups old
 
   pub attempts-begun : (v s n : ℕ) → OpensAttempt w.control v s n → Groups w.control → Attempts w.control → Attempts (record (after (Hold v s n true)) { sessions = changed s begun w.control.sessions })
-  attempts-begun v s n opens groups old = attempts-opened w.control (after (Hold v s n true)) v s n (carried_in w (Hold v s n true)) refl (record { volumes = refl; volume = refl }) opens groups old
+  attempts-begun v s n opens groups old = attempts-opened w.control (after (Hold v s n true)) v s n (carried_in w (Hold v s n true)) refl (record { volumes = refl; keeps = true; volume = refl }) opens groups old

@@ -6,7 +6,7 @@ use Rattle.dr_model.specs.declared.state.Part.{Part}
 use Rattle.dr_model.specs.Layout.{Fields, is_part}
 use Rattle.dr_model.specs.Histories.{Write}
 use Rattle.dr_model.specs.Relations.{is_bare, is_whole, turned, given_up}
-use Rattle.dr_model.specs.Moves.{Move, Overwrite, Keep, Relate, Withdraw, Fetch, Reverse, Release, MakeSecondary, MakePrimary, DropPrimary, DropSecondary, TakeOver, Yield, Carried, moved, target, next_fields}
+use Rattle.dr_model.specs.Moves.{Move, Overwrite, Keep, Relate, Withdraw, Fetch, Reverse, Release, MakeSecondary, MakePrimary, DropPrimary, DropSecondary, TakeOver, Yield, Carried, target, next_fields, keeps_staged, moved_keeping}
 use Rattle.dr_model.specs.Table.{Row, Table}
 use Rattle.dr_model.specs.Rows.{after, volumes_of, carried_on, next_bytes, next_due, next_aside}
 use Rattle.dr_model.specs.Laws.{Structure, Parts, OnePart, RowParts, Partnered, OneWay, FreeSource, source, its_primary, its_secondary, fields}
@@ -51,11 +51,11 @@ module _ (T : Table) (old : Parts T) where
   pub no_partner : {P : Type 0} (x : ℕ) → Partnered x (T x) x (T x) → P
   no_partner x fits = absurd (fits.apart refl)
 
-  abbrev with_fields : ℕ → Fields → Carried → (ℕ → List ℕ) → (ℕ → List ℕ) → (ℕ → List ℕ) → Row
-  with_fields x g c bytes due aside = record (T x) { volume = moved (T x).volume g c; bytes = bytes; due = due; aside = aside }
+  abbrev with_fields : Bool → ℕ → Fields → Carried → (ℕ → List ℕ) → (ℕ → List ℕ) → (ℕ → List ℕ) → Row
+  with_fields keeps x g c bytes due aside = record (T x) { volume = moved_keeping keeps (T x).volume g c; bytes = bytes; due = due; aside = aside }
 
-  pub parts-at : (x : ℕ) (g : Fields) (c : Carried) (bytes due aside : ℕ → List ℕ) → Shape T x g → Parts (at T x (with_fields x g c bytes due aside))
-  parts-at x g c bytes due aside s = let y : Row = with_fields x g c bytes due aside in record {
+  pub parts-at : (keeps : Bool) (x : ℕ) (g : Fields) (c : Carried) (bytes due aside : ℕ → List ℕ) → Shape T x g → Parts (at T x (with_fields keeps x g c bytes due aside))
+  parts-at keeps x g c bytes due aside s = let y : Row = with_fields keeps x g c bytes due aside in record {
     one = each-at T x y (λ v r. RowParts r) s.one old.one;
     secondary = linked-at T x y its_secondary Partnered (λ u ne. s.second u) (λ h. no_partner x (s.second x h)) (λ v ne. old.secondary v x) old.secondary;
     primary = linked-at T x y its_primary Partnered (λ u ne. s.first u) (λ h. no_partner x (s.first x h)) (λ v ne. old.primary v x) old.primary;
@@ -161,4 +161,4 @@ module _ (T : Table) (old : Parts T) where
     part-shape m a = ended (target m) false
 
     pub kept-parts : (m : Move) → Allowed write T m → Parts (after write T m)
-    kept-parts m a = parts-at (target m) (next_fields m (volumes_of T)) (carried_on write m T) (next_bytes write m T) (next_due write m T) (next_aside m T) (part-shape m a)
+    kept-parts m a = parts-at (keeps_staged m) (target m) (next_fields m (volumes_of T)) (carried_on write m T) (next_bytes write m T) (next_due write m T) (next_aside m T) (part-shape m a)

@@ -10,7 +10,7 @@ use Rattle.dr_model.specs.Layout.{Tracks}
 use Rattle.dr_model.specs.Relations.{is_bare}
 use Rattle.dr_model.specs.Control.{Control, Pending, Fuse, Volume, World, is_volume}
 use Rattle.dr_model.specs.Pairs.{is_suspended}
-use Rattle.dr_model.specs.Moves.{Move, Land, Overwrite, Relate, Withdraw, Resync, Reverse, Restore, Release, Keep, Note, Fetch, Store, Strike, Suspend, MakeSecondary, MakePrimary, DropPrimary, DropSecondary, Follow, Resume, TakeOver, FallBack, Yield, Unsync, Mirror, LandBoth, Thaw, Lift, Restart, Hold, Free, Seal, Finish, RaiseAttempt, RaiseFloor, Leave, Flash, Commit, Revert, told_blank, told_restored, target, told, told_in_stop, settled, settled_in_stop, is_write, is_other, marked, landed, FlashHold, FlashFree, told_freed}
+use Rattle.dr_model.specs.Moves.{Move, Land, Overwrite, Relate, Withdraw, Resync, Reverse, Restore, Release, Keep, Note, Fetch, Store, Strike, Suspend, MakeSecondary, MakePrimary, DropPrimary, DropSecondary, Follow, Resume, TakeOver, FallBack, Yield, Unsync, Mirror, LandBoth, Thaw, Lift, Restart, Hold, Free, Seal, Finish, RaiseAttempt, RaiseFloor, Leave, Flash, Commit, Revert, told_blank, told_restored, target, told, told_in_stop, settled, settled_in_stop, is_write, is_other, marked, landed, FlashHold, FlashFree, told_freed, Unstage}
 use Rattle.dr_model.specs.Laws.{Lone, Together, servers, sizes, Below, Numbered, Queue, Waits, AllPending, Apart}
 use Rattle.dr_model.specs.Entries.{is_at}
 use Rattle.dr_model.specs.Allowed.{Coming, Ready}
@@ -261,6 +261,7 @@ module _ (starts : Option ℕ) (w : World) (old : Queue starts w) where
   told-quiet (RaiseAttempt v i) ready = tt
   told-quiet (RaiseFloor v i) ready = tt
   told-quiet (Leave v u s) ready = (tt, tt)
+  told-quiet (Unstage v) ready = tt
 
   stop-quiet : (m : Move) → Ready w m → AllQuiet n (told_in_stop m (w.control.volume (target m)))
   stop-quiet (Land k v t) ready = tt

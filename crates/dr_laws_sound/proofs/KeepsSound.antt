@@ -20,7 +20,7 @@ use Rattle.dr_model.specs.Laws.{SoundRows, SoundBut, Sound, Queue, AllPending, W
 use Rattle.dr_model.specs.Allowed.{Allowed, May, MayOpen, Runs}
 use Rattle.dr_model.proofs.Images.{histories-append}
 use Rattle.dr_laws_closed.proofs.Pendings.{all-filter}
-use Rattle.dr_laws_sound.proofs.Turns.{carried_in, done, done_in_stop, opened_in_stop, not_done, after_act, place, Writes}
+use Rattle.dr_laws_sound.proofs.Turns.{carried_in, done, done_in_stop, opened_in_stop, not_done, after_act, place, Writes, server_at, fused}
 use Rattle.dr_laws_sound.proofs.RowsAfter.{table-done, table-stop}
 use Rattle.dr_laws_sound.proofs.KeepsStructure.{kept-structure}
 use Rattle.dr_laws_sound.proofs.KeepsParts.{kept-parts}
@@ -127,6 +127,17 @@ module _ (starts : Option ℕ) where
   sound-gone w x s =
       sound-told w w.control.servers (at w.control.on x false) w.control.fuse w.control.link w.control.paths (Stopped x 0 ∷ []) (histories-append w.events (Stopped x 0 ∷ [])) (tt, tt) (goes-off starts w s.queue w.control.on x) s.housed s
 
+  -- a staged track is written to its place
+  pub sound-fused : (w : World) (x : ℕ) (f : Option Fuse) → SoundBut starts w → SoundBut starts (fused w x f)
+  sound-fused w x f s = record {
+    rows = s.rows;
+    targets = record { once = s.targets.once; few = s.targets.few };
+    groups = told-groups w w.control.servers w.control.on (at w.control.fuse x f) w.control.link w.control.paths s.groups;
+    housed = s.housed;
+    attempts = s.attempts;
+    queue = record { each = s.queue.each; apart = s.queue.apart; lone = s.queue.lone; numbers = s.queue.numbers };
+  }
+
   -- a freeze ends, a thaw, or a recovery
   pub sound-frozen : (w : World) (l m : ℕ) → SoundBut starts w → SoundBut starts (frozen w l m)
   sound-frozen w l m s =
@@ -166,7 +177,7 @@ module _ (starts : Option ℕ) where
 abbrev pub MayDo : World → Act → Type 0
 MayDo w (Make m) = May w m
 MayDo w (OpenAttempt v s n) = MayOpen w v s n
-MayDo w (Redo v) = ⊥
+MayDo w (Redo v) = Runs w v
 MayDo w (Acknowledge n) = ⊥
 MayDo w (Drop n) = AllPending (λ p. p.landed ≡ false) (filter (is_write n) w.control.pending)
 MayDo w (EndFreeze l m) = Unit {0}
@@ -179,7 +190,7 @@ keeps-sound = record { runs = runs; does = does; counts = λ w m f s may. sound-
     runs : (w : World) (a : Act) → Writes a → MayDo w a → Runs w (place a)
     runs w (Make m) d may = may.runs
     runs w (OpenAttempt v s n) d may = may.runs
-    runs w (Redo v) d may = absurd may
+    runs w (Redo v) d may = may
     runs w (Acknowledge n) d may = absurd may
     runs w (Drop n) d may = absurd d
     runs w (EndFreeze l m) d may = absurd d
@@ -189,7 +200,7 @@ keeps-sound = record { runs = runs; does = does; counts = λ w m f s may. sound-
     does : (w : World) (a : Act) (f : Option Fuse) → Sound w → MayDo w a → Sound (after_act w a f)
     does w (Make m) f s may = sound-done None w m f s may
     does w (OpenAttempt v i n) f s may = sound-opened None w v i n f s may
-    does w (Redo v) f s may = absurd may
+    does w (Redo v) f s may = sound-fused None w (server_at w v) f s
     does w (Acknowledge n) f s may = absurd may
     does w (Drop n) f s may = sound-dropped None w n may s
     does w (EndFreeze l m) f s may = sound-frozen None w l m s

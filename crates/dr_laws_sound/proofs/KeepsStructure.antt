@@ -8,7 +8,7 @@ use Rattle.dr_model.specs.Pairs.{is_kind}
 use Rattle.dr_model.specs.Layout.{Tracks, Fields, is_part}
 use Rattle.dr_model.specs.Histories.{Write}
 use Rattle.dr_model.specs.Relations.{rest, is_bare, is_whole, turned, given_up}
-use Rattle.dr_model.specs.Moves.{Move, Land, Overwrite, Keep, Note, Relate, Withdraw, Fetch, Resync, Reverse, Restore, Release, Store, Strike, Suspend, MakeSecondary, MakePrimary, DropPrimary, DropSecondary, Follow, Resume, TakeOver, FallBack, Yield, Unsync, Mirror, LandBoth, Thaw, Lift, Restart, Hold, Free, Seal, Finish, RaiseAttempt, RaiseFloor, Leave, Flash, Commit, Revert, moved, target, next_fields, FlashHold, FlashFree}
+use Rattle.dr_model.specs.Moves.{Move, Land, Overwrite, Keep, Note, Relate, Withdraw, Fetch, Resync, Reverse, Restore, Release, Store, Strike, Suspend, MakeSecondary, MakePrimary, DropPrimary, DropSecondary, Follow, Resume, TakeOver, FallBack, Yield, Unsync, Mirror, LandBoth, Thaw, Lift, Restart, Hold, Free, Seal, Finish, RaiseAttempt, RaiseFloor, Leave, Flash, Commit, Revert, target, next_fields, FlashHold, FlashFree, Unstage, keeps_staged, moved_keeping}
 use Rattle.dr_model.specs.Table.{Row, Table}
 use Rattle.dr_model.specs.Rows.{after, next_row, next_bytes, next_due, next_aside, volumes_of, carried_on}
 use Rattle.dr_model.specs.Laws.{Structure, Lawful, RowSets, RowFlags, RowDefined, SetsFit, FlagsFit, Flashed, OneRestore, RowReverts, source, fields}
@@ -157,7 +157,7 @@ module _ (write : ℕ → Write) (T : Table) (old : Structure T) where
       let v : ℕ = target m in
       let g : Fields = next_fields m (volumes_of T) in
       record (T v) {
-        volume = moved (T v).volume (record (fields T v) {
+        volume = moved_keeping (keeps_staged m) (T v).volume (record (fields T v) {
           primary = g.primary;
           primary_state = g.primary_state;
           primary_partner = g.primary_partner;
@@ -222,6 +222,7 @@ module _ (write : ℕ → Write) (T : Table) (old : Structure T) where
   kept-structure (Finish v n) a = paired (Finish v n) (lawful-past_attempt _ _ (old.lawful v) n) (λ q h. h)
   kept-structure (RaiseAttempt v n) a = paired (RaiseAttempt v n) (lawful-attempt _ _ (old.lawful v) n) (λ q h. h)
   kept-structure (RaiseFloor v n) a = paired (RaiseFloor v n) (lawful-floor _ _ (old.lawful v) n) (λ q h. h)
+  kept-structure (Unstage v) a = paired (Unstage v) (old.lawful v) (λ q h. h)
   kept-structure (Leave v u s) a = structure-at v _ (record {
     lawful = lawful-no_member _ _ (old.lawful v);
     sets = let s = old.sets v in record { apart = s.apart; noted_held = s.noted_held; rewritten_held = s.rewritten_held };

@@ -8,7 +8,7 @@ use Rattle.dr_logic.specs.Tables.{at}
 use Rattle.dr_model.specs.Limits.{most_targets}
 use Rattle.dr_model.specs.Control.{Control, Volume, new_volume}
 use Rattle.dr_model.specs.Relations.{is_bare, turned, given_up}
-use Rattle.dr_model.specs.Moves.{Move, Overwrite, Keep, Relate, Withdraw, Fetch, Reverse, Release, Carried, target, fields_left, moved}
+use Rattle.dr_model.specs.Moves.{Move, Overwrite, Keep, Relate, Withdraw, Fetch, Reverse, Release, Carried, target, fields_left, keeps_staged, moved_keeping}
 use Rattle.dr_model.specs.Entries.{copies_from, fields_at}
 use Rattle.dr_model.specs.Laws.{Once, FewTargets}
 use Rattle.dr_model.specs.Allowed.{Fits}
@@ -88,7 +88,7 @@ module _ (k : Control) (old : FewTargets k) where
     | inr not ↦ else x y v (λ h. absurd (not.1 (sym is ∙ eqb-true y.fields.source v (and_parts _ _ h).1)))
   ]
 
-  pub few-after : (m : Move) (c : Carried) → Fits k m → (v : ℕ) → counted (at k.volume (target m) (moved (k.volume (target m)) (fields_left m (k.volume (target m))) c)) v ≤ most_targets
+  pub few-after : (m : Move) (c : Carried) → Fits k m → (v : ℕ) → counted (at k.volume (target m) (moved_keeping (keeps_staged m) (k.volume (target m)) (fields_left m (k.volume (target m))) c)) v ≤ most_targets
   few-after (Relate x s choices) c fits = one-new x s _ refl fits
   few-after (Overwrite n x t) c fits = let u : Volume = k.volume x in no-more x _ (λ v. parted-copies _ u.fields.related u.fields.source v)
   few-after (Keep x t) c fits = let u : Volume = k.volume x in no-more x _ (λ v. parted-copies _ u.fields.related u.fields.source v)

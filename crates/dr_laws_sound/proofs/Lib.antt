@@ -1,6 +1,6 @@
 -- Read first: `KeepsStructure.antt`, `KeepsImages.antt`, `KeepsRecorded.antt`, `KeepsTargets.antt`, `KeepsQueue.antt`,
 -- `KeepsSound.antt`: what each kind of move keeps; `Along.antt`: over plans and runs; `CopyFirst.antt`, `Lands.antt`,
--- `FitsFlash.antt`, `FitsCopy.antt`, `FitsPairs.antt`, `FitsFailover.antt`, `FitsWrites.antt`, `FitsHolds.antt`, `Starts.antt`: plans;
+-- `FitsFlash.antt`, `FitsCopy.antt`, `FitsDestage.antt`, `FitsPairs.antt`, `FitsFailover.antt`, `FitsWrites.antt`, `FitsHolds.antt`, `Starts.antt`: plans;
 -- `Steps.antt`: each step's plan.
 -- The laws that stand:
 -- - soundness is kept by each step, wherever servers stop in it: `sound-task`, `sound-run` (`Steps.antt`)
@@ -87,6 +87,7 @@ pub mod Counting
 pub mod Lands
 pub mod FitsFlash
 pub mod FitsCopy
+pub mod FitsDestage
 pub mod FitsPairs
 pub mod FitsFailover
 pub mod Compares

@@ -22,13 +22,13 @@ use Rattle.dr_model.specs.Carry.{Make, Pass, Do, Entry, Outcome, carry, now}
 use Rattle.dr_model.specs.Entries.{fields_at, is_running, relation_state, pair_state, share_server, share_size, is_no_target, is_settled}
 use Rattle.dr_model.specs.PairEntries.{are_linked, reach_refusal, differs_at, two_servers, stands_free, may_follow, leads_to, belongs_to, let_go, remove_both, may_pause, tell_paused, may_resume, follow_on, resume_on, may_take_over, leads_as, fall_back_on, yield_on, first_differing}
 use Rattle.dr_model.specs.PlanParts.{Plan, only_says, tables_plan, entries_plan, unless, on_named, on_owner, on_session}
-use Rattle.dr_model.specs.Plans.{counted_refusal, restore_refusal, left_by, member_refusal, found_volumes, found_pair, named_pair, establish_entries, withdraw_entries, make_flash_plan, remove_flash_plan, resync_flash_plan, reverse_flash_plan, copy_plan, copy_one, make_pair_plan, remove_pair_plan, pause_pair_plan, resume_pair_plan, yield_refusal, failover_plan, failback_plan, compare_plan, is_defined, is_owner, differ, is_no_source, has_few_targets, is_plain_target, is_recorded_target, is_lone_restore, may_return, may_give_back, may_copy, at_most, left_to_copy}
+use Rattle.dr_model.specs.Plans.{counted_refusal, restore_refusal, left_by, member_refusal, found_volumes, found_pair, named_pair, establish_entries, withdraw_entries, make_flash_plan, remove_flash_plan, resync_flash_plan, reverse_flash_plan, copy_plan, destage_plan, copy_one, make_pair_plan, remove_pair_plan, pause_pair_plan, resume_pair_plan, yield_refusal, failover_plan, failback_plan, compare_plan, is_defined, is_owner, differ, is_no_source, has_few_targets, is_plain_target, is_recorded_target, is_lone_restore, may_return, may_give_back, may_copy, at_most, left_to_copy}
 use Rattle.dr_model.specs.SessionPlans.{mirror_phase, session_phase}
 use Rattle.dr_model.specs.Carried.{begun, finish, carried_out, answered}
 use Rattle.dr_model.specs.Forming.{refusal_said, part_refusal}
 use Rattle.dr_model.proofs.CarryLemmas.{carry-none}
 use Rattle.dr_laws_sound.specs.Stops.{refused_stop}
-use Rattle.dr_laws_sound.proofs.Endless.{do-goes, pass-goes, choice-goes, then-endless, last-endless, now-endless, times-endless, copy-endless, none-endless, relate-endless}
+use Rattle.dr_laws_sound.proofs.Endless.{do-goes, pass-goes, choice-goes, then-endless, last-endless, now-endless, times-endless, copy-endless, none-endless, relate-endless, destage-endless}
 use Rattle.dr_laws_sound.proofs.ChecksFirst.{ChecksFirst, first-done, first-check, first-refuse, first-leads, follow-stays}
 
 -- a plan is refused with r, which is no stop
@@ -143,6 +143,9 @@ pub still-copy : (k : Control) (t : ℕ) (most : Option ℕ) → Still (copy_pla
 still-copy k t most = still-entries _ _
     (first-check (is_defined t) _ _ (first-check (is_running t) _ _ (first-check (may_copy t) (relation_state k t) _ (first-check (may_give_back t) (pair_state k (fields_at k t).source) _
     (first-done _ (times-endless (at_most most (left_to_copy k t)) (copy_one k t) (copy-endless k t (fields_at k t).reversing)))))))
+
+pub still-destage : (k : Control) (v : ℕ) → Still (destage_plan k v)
+still-destage k v = still-entries _ _ (first-check (is_defined v) _ _ (first-check (is_running v) _ _ (first-done _ (destage-endless (k.volume v).staged v))))
 
 module _ (a b : ℕ) (k : Control) (devs : Devs) where
   pub still-pair : (events : List Event) (kind : Part) (choices : PairChoices) → Still (make_pair_plan k events devs a b kind choices)

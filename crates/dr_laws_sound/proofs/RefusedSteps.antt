@@ -12,7 +12,7 @@ use Rattle.dr_model.specs.declared.said.Said.TheVariants.{Refused}
 use Rattle.dr_model.specs.declared.said.Addition.TheVariants.{Alone}
 use Rattle.dr_model.specs.declared.step.Name.{Name}
 use Rattle.dr_model.specs.declared.step.Step.{Step}
-use Rattle.dr_model.specs.declared.step.Step.TheVariants.{Server, Volume, Link, Stop, StopAfter, Start, Issue, Write, Apply, Show, MakeFlash, RemoveFlash, ResyncFlash, ReverseFlash, Copy, MakePath, RemovePath, MakePair, RemovePair, PausePair, ResumePair, Failover, Failback, Drain, Expire, Freeze, Unfreeze, MakeSession, RemoveSession, AddMember, RemoveMember, MakeMirror, PauseMirror, ResumeMirror, RemoveMirror, Abort, Exchange, Recover, CommitFlash, RevertFlash, Run, ListPairs, ListFlashes, ListSession, ShowMirror, UnfreezeFlash}
+use Rattle.dr_model.specs.declared.step.Step.TheVariants.{Server, Volume, Link, Stop, StopAfter, Start, Issue, Write, Apply, Show, MakeFlash, RemoveFlash, ResyncFlash, ReverseFlash, Copy, Destage, MakePath, RemovePath, MakePair, RemovePair, PausePair, ResumePair, Failover, Failback, Drain, Expire, Freeze, Unfreeze, MakeSession, RemoveSession, AddMember, RemoveMember, MakeMirror, PauseMirror, ResumeMirror, RemoveMirror, Abort, Exchange, Recover, CommitFlash, RevertFlash, Run, ListPairs, ListFlashes, ListSession, ShowMirror, UnfreezeFlash}
 use Rattle.dr_model.specs.Layout.{kind_of}
 use Rattle.dr_model.specs.Listings.{listing_refusal}
 use Rattle.dr_model.specs.Control.{Control, World}
@@ -31,7 +31,7 @@ use Rattle.dr_facts.proofs.Sessions.{lost-none}
 use Rattle.dr_laws_sound.specs.RefusedSteps.{is_by_volume, is_off, with_issued, Leaves}
 use Rattle.dr_laws_sound.proofs.Endless.{last-endless, settle-goes, start-endless, freeze-endless, thaw-endless, expire-endless, now-endless, add-endless, release-endless}
 use Rattle.dr_laws_sound.proofs.ChecksFirst.{first-done, never-leads, on-stays}
-use Rattle.dr_laws_sound.proofs.RefusedPlans.{Refuses, Still, entries-refuse, still-plan, same-begun, still-entries, still-says, still-tables, never-refused, still-choice, still-unless, still-named, still-owner, still-session, phase-accepts, still-flash, still-withdraw, still-resync, still-reverse, still-copy, still-pair, still-remove, still-pause, still-resume, still-failover, still-failback}
+use Rattle.dr_laws_sound.proofs.RefusedPlans.{Refuses, Still, entries-refuse, still-plan, same-begun, still-entries, still-says, still-tables, never-refused, still-choice, still-unless, still-named, still-owner, still-session, phase-accepts, still-flash, still-withdraw, still-resync, still-reverse, still-copy, still-pair, still-remove, still-pause, still-resume, still-failover, still-failback, still-destage}
 use Rattle.dr_laws_sound.proofs.RefusedWrites.{says-left, write-left, applied-left, drain-left, exchange-left, recover-left}
 
 -- ---- plans that leave the world
@@ -105,6 +105,7 @@ plan-left w line (RemoveFlash devs s t sequence) one = still-withdraw w.control 
 plan-left w line (ResyncFlash devs s t nocopy persistent recorded inhibited sequence) one = still-resync w.control devs.dev s t sequence w
 plan-left w line (ReverseFlash devs s t tgtpprc sequence) one = still-reverse w.control devs.dev s t w
 plan-left w line (Copy t most) one = still-copy w.control t most w
+plan-left w line (Destage v) one = still-destage w.control v w
 plan-left w line (MakePath devs src tgt group) one = still-owner (owner_of w.control src) _ (λ s. still-owner (owner_of w.control tgt) _ (λ u. still-unless (path_refusal w.control devs s u) _ (still-tables _ _ _))) w
 plan-left w line (RemovePath devs src tgt force) one = still-owner (owner_of w.control src) _ (λ s. still-owner (owner_of w.control tgt) _ (λ u. still-unless (unpath_refusal w.control devs src tgt s u force) _ (still-tables _ _ _))) w
 plan-left w line (MakePair devs a b kind choices) one = still-pair a b w.control devs w.events (kind_of kind) choices w

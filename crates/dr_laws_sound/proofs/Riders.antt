@@ -38,11 +38,12 @@ use Rattle.dr_laws_closed.proofs.Regroups.{regroups-same, regroups-joined, regro
 use Rattle.dr_model.specs.Listings.{lists}
 use Rattle.dr_laws_sound.specs.Calm.{Carries, ComesTo}
 use Rattle.dr_laws_sound.proofs.Listed.{AllLines, Plain, lines-plain, lines-lists, image-lines}
-use Rattle.dr_laws_sound.proofs.Cases.{Case, Says, DefinesServer, DefinesVolume, SetsLink, Issues, Writes, Applies, Lists, Shows, Stops, Arms, Starts, MakesFlash, RemovesFlash, ResyncsFlash, ReversesFlash, Copies, MakesPath, RemovesPath, MakesPair, RemovesPair, PausesPair, ResumesPair, FailsOver, FailsBack, Compares, Drains, Expires, Freezes, Unfreezes, MakesSession, RemovesSession, MakesMirror, PausesMirror, RemovesMirror, Aborts, AddsMember, RemovesMember, Exchanges, Recovers, Settles, added, expelled, ordered, is-new, may-issue, Releases}
+use Rattle.dr_laws_sound.proofs.Cases.{Case, Says, DefinesServer, DefinesVolume, SetsLink, Issues, Writes, Applies, Lists, Shows, Stops, Arms, Starts, MakesFlash, RemovesFlash, ResyncsFlash, ReversesFlash, Copies, Destages, MakesPath, RemovesPath, MakesPair, RemovesPair, PausesPair, ResumesPair, FailsOver, FailsBack, Compares, Drains, Expires, Freezes, Unfreezes, MakesSession, RemovesSession, MakesMirror, PausesMirror, RemovesMirror, Aborts, AddsMember, RemovesMember, Exchanges, Recovers, Settles, added, expelled, ordered, is-new, may-issue, Releases}
 use Rattle.dr_laws_sound.proofs.KeepsSound.{Along, StepHolds, RowsAt, MayDo, keeps-sound, sound-gone, over}
 use Rattle.dr_laws_sound.proofs.Along as along
 use Rattle.dr_laws_sound.proofs.FitsFlash.{as_begun, sound-begun, along-flash, along-withdraw, along-resync, along-reverse}
 use Rattle.dr_laws_sound.proofs.FitsCopy.{along-copy}
+use Rattle.dr_laws_sound.proofs.FitsDestage.{along-destage}
 use Rattle.dr_laws_sound.proofs.FitsPairs.{along-pair, along-remove, along-pause, along-resume}
 use Rattle.dr_laws_sound.proofs.FitsFailover.{along-failover, along-failback, along-compare}
 use Rattle.dr_laws_sound.proofs.FitsDrain.{along-drain, suspends-after}
@@ -246,6 +247,7 @@ module _ (K : World → Type 0) (rider : Rider K) where
     case-rides _ (ResyncsFlash dev v t sequence) = entries _ _ (along-resync w s dev v t sequence)
     case-rides _ (ReversesFlash dev v t) = entries _ _ (along-reverse w s dev v t)
     case-rides _ (Copies t most) = entries _ _ (along-copy w s t most)
+    case-rides _ (Destages v) = entries _ _ (along-destage w s v)
     case-rides _ (MakesPath src tgt group) = tables _ _ _ (silently w _ k refl refl refl refl refl refl refl)
     case-rides _ (RemovesPath src tgt) = tables _ _ _ (silently w _ k refl refl refl refl refl refl refl)
     case-rides _ (MakesPair devs a b kind choices part) = entries _ _ (along-pair w s devs a b kind choices part)

@@ -16,7 +16,7 @@ use Rattle.dr_model.specs.Control.{Control, Pending, Volume, Fuse, World, is_vol
 use Rattle.dr_model.specs.Layout.{Tracks}
 use Rattle.dr_model.specs.Relations.{rest, is_bare, turned, given_up}
 use Rattle.dr_model.specs.Pairs.{is_suspended}
-use Rattle.dr_model.specs.Moves.{Move, Land, Overwrite, Keep, Relate, Withdraw, Fetch, Resync, Reverse, Restore, Release, Store, Suspend, Mirror, LandBoth, Hold, Flash, Commit, Revert, target, told, told_in_stop, landed, settled, settled_in_stop, moved, tracks_after, Lift, told_freed}
+use Rattle.dr_model.specs.Moves.{Move, Land, Overwrite, Keep, Relate, Withdraw, Fetch, Resync, Reverse, Restore, Release, Store, Suspend, Mirror, LandBoth, Hold, Flash, Commit, Revert, target, told, told_in_stop, landed, settled, settled_in_stop, tracks_after, Lift, told_freed, keeps_staged, moved_keeping}
 use Rattle.dr_model.specs.Table.{table, waiting, due, due_by, aside, aside_by}
 use Rattle.dr_model.specs.Rows.{emptied, next_row, next_due, next_aside, next_bytes, after}
 use Rattle.dr_model.specs.Laws.{servers, Structure, Blank, Queue, Waits, AllPending}
@@ -56,7 +56,7 @@ changed w m on fuse ps es =
     let x : ℕ = target m in
     let u : Volume = w.control.volume x in
     record {
-      control = record w.control { volume = at w.control.volume x (moved u (next_of w m) (carried_in w m)); on = on; fuse = fuse; pending = ps };
+      control = record w.control { volume = at w.control.volume x (moved_keeping (keeps_staged m) u (next_of w m) (carried_in w m)); on = on; fuse = fuse; pending = ps };
       contents = at w.contents x (tracks_after (next_of w m) (carried_in w m) (w.contents x));
       events = es;
     }
@@ -102,7 +102,7 @@ module _ (w : World) (blank : Blank (table w)) where
     x = target m
 
     abbrev next : Volume
-    next = moved (w.control.volume x) (next_of w m) (carried_in w m)
+    next = moved_keeping (keeps_staged m) (w.control.volume x) (next_of w m) (carried_in w m)
 
     abbrev bytes : ℕ → List ℕ
     bytes = tracks_after (next_of w m) (carried_in w m) (w.contents x)

@@ -23,7 +23,7 @@ use Rattle.dr_model.specs.Forming.{after_part}
 use Rattle.dr_model.specs.Runs.{begun, finish, after_plan}
 use Rattle.dr_model.specs.Laws.{Sound}
 use Rattle.dr_laws_sound.specs.Limits.{IsWithin}
-use Rattle.dr_laws_sound.proofs.Cases.{Case, Says, DefinesServer, DefinesVolume, SetsLink, Issues, Writes, Applies, Lists, Shows, Stops, Arms, Starts, MakesFlash, RemovesFlash, ResyncsFlash, ReversesFlash, Copies, MakesPath, RemovesPath, MakesPair, RemovesPair, PausesPair, ResumesPair, FailsOver, FailsBack, Compares, Drains, Expires, Freezes, Unfreezes, MakesSession, RemovesSession, MakesMirror, PausesMirror, RemovesMirror, Aborts, AddsMember, RemovesMember, Exchanges, Recovers, Settles, Releases}
+use Rattle.dr_laws_sound.proofs.Cases.{Case, Says, DefinesServer, DefinesVolume, SetsLink, Issues, Writes, Applies, Lists, Shows, Stops, Arms, Starts, MakesFlash, RemovesFlash, ResyncsFlash, ReversesFlash, Copies, Destages, MakesPath, RemovesPath, MakesPair, RemovesPair, PausesPair, ResumesPair, FailsOver, FailsBack, Compares, Drains, Expires, Freezes, Unfreezes, MakesSession, RemovesSession, MakesMirror, PausesMirror, RemovesMirror, Aborts, AddsMember, RemovesMember, Exchanges, Recovers, Settles, Releases}
 use Rattle.dr_facts.proofs.Sets.{not_removed, rest_low}
 use Rattle.dr_laws_sound.proofs.Costs.{Costs, costs-nil, costs-check, costs-last, carry-adds, Small, Light, AllLight, light-none, light-then, light-costs, small-pass, small-do}
 use Rattle.dr_laws_sound.proofs.CopyCosts.{rounds}
@@ -32,7 +32,7 @@ use Rattle.dr_model.specs.SessionPlans.{member_with}
 use Rattle.dr_laws_sessions.proofs.Members.{members-few}
 use Rattle.dr_laws_sound.proofs.SessionCosts.{add-costs, order-costs, light-settle, recover-costs}
 use Rattle.dr_model.specs.RecoveryPlans.{decided_in, settle_on}
-use Rattle.dr_laws_sound.proofs.WriteCosts.{brief-costs, brief-landing, after_write-few, brief-freeze, brief-thaw, brief-expire, brief-start, brief-release, brief-relate}
+use Rattle.dr_laws_sound.proofs.WriteCosts.{brief-costs, brief-landing, after_write-few, brief-freeze, brief-thaw, brief-expire, brief-start, brief-release, brief-relate, brief-destage}
 use Rattle.dr_model.proofs.LawfulLemmas.{removed}
 use Rattle.dr_facts.proofs.Tracks.{empty_has}
 use Rattle.dr_facts.proofs.Costs.{blanks-few, restored-few}
@@ -196,6 +196,7 @@ module _ (w : World) (x : Sound w) (h : IsWithin w.control) where
   case-spends line _ (Copies t most) = entries-spends _ _ 3585
       (costs-check 3585 _ (is_defined t) _ _ (costs-check 3585 _ (is_running t) _ _ (costs-check 3585 _ (may_copy t) _ _ (costs-check 3585 _ (may_give_back t) _ _
       (copy-costs (at_most most (left_to_copy w.control t)) t (copied-few w.control t most_tracks most (left-few t)) _ refl))))) (omega arith)
+  case-spends line _ (Destages v) = entries-spends _ _ 2 (costs-check 2 _ (is_defined v) _ _ (costs-check 2 _ (is_running v) _ _ (brief-costs 2 _ (brief-destage (w.control.volume v).staged v) _))) (omega arith)
   case-spends line _ (MakesPath src tgt group) = tables-spends _ _ _ (omega arith)
   case-spends line _ (RemovesPath src tgt) = tables-spends _ _ _ (omega arith)
   case-spends line _ (MakesPair devs a b kind choices part) = entries-spends _ _ 20 (light-costs _ (light-pair w.control devs a b kind choices.full _) 20 _ (omega arith)) (omega arith)

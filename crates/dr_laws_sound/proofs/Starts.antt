@@ -25,12 +25,12 @@ use Rattle.dr_model.proofs.Images.{histories-append}
 use Rattle.dr_laws_closed.proofs.Pendings.{each-on, both-on, all-filter}
 use Rattle.dr_facts.proofs.Tables.{at_cases}
 use Rattle.dr_facts.proofs.Sets.{if_false, if_true}
-use Rattle.dr_laws_sound.proofs.Turns.{after_act, fused, done_in_stop, not_done, place, server_of, Writes}
+use Rattle.dr_laws_sound.proofs.Turns.{after_act, done_in_stop, not_done, place, server_of, Writes}
 use Rattle.dr_laws_sound.proofs.Due.{acked_lists}
 use Rattle.dr_laws_sessions.proofs.Volumes.{groups-same}
 use Rattle.dr_laws_sound.proofs.RowsAfter.{calm-each}
 use Rattle.dr_laws_sound.proofs.KeepsQueue.{apart-filter, lone-filter, numbered-after}
-use Rattle.dr_laws_sound.proofs.KeepsSound.{StepHolds, over, sound-done, sound-stop, sound-not, rows-told}
+use Rattle.dr_laws_sound.proofs.KeepsSound.{StepHolds, over, sound-done, sound-stop, sound-not, rows-told, sound-fused}
 use Rattle.dr_laws_sound.proofs.Along as along
 use Rattle.dr_logic.proofs.Tables.{at_same, at_other}
 
@@ -271,7 +271,7 @@ module _ (s : ℕ) where
   does w (Make (Restart v)) f j may = record { sound = sound-done (Some s) w (Restart v) f j.sound (may-restart w v may); on = j.on }
   does w (Make m) f j may = absurd may
   does w (OpenAttempt v i n) f j may = absurd may
-  does w (Redo v) f j may = let x = j.sound in record { sound = record { rows = x.rows; targets = record { once = x.targets.once; few = x.targets.few }; groups = same-groups w.control (fused w (servers w.control v) f).control refl refl refl x.groups; housed = x.housed; attempts = x.attempts; queue = record { each = x.queue.each; apart = x.queue.apart; lone = x.queue.lone; numbers = x.queue.numbers } }; on = j.on }
+  does w (Redo v) f j may = record { sound = sound-fused (Some s) w (servers w.control v) f j.sound; on = j.on }
   does w (Acknowledge n) f j may = record { sound = subst (λ n. Starting (acknowledged w n)) may.number (acknowledges w j.sound may.waits may.first); on = j.on }
   does w (Drop n) f j may = absurd may
   does w (EndFreeze l m) f j may = absurd may

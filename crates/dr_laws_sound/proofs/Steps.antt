@@ -28,7 +28,7 @@ use Rattle.dr_laws_sessions.proofs.Housed.{housed-none, housed-server}
 use Rattle.dr_laws_attempts.proofs.Volumes.{attempts-none}
 use Rattle.dr_model.specs.Listings.{lists}
 use Rattle.dr_laws_sound.proofs.Listed.{AllLines, lines-plain, lines-lists, image-lines}
-use Rattle.dr_laws_sound.proofs.Cases.{Case, Says, DefinesServer, DefinesVolume, SetsLink, Issues, Writes, Applies, Lists, Shows, Stops, Arms, Starts, MakesFlash, RemovesFlash, ResyncsFlash, ReversesFlash, Copies, MakesPath, RemovesPath, MakesPair, RemovesPair, PausesPair, ResumesPair, FailsOver, FailsBack, Compares, Drains, Expires, Freezes, Unfreezes, MakesSession, RemovesSession, MakesMirror, PausesMirror, RemovesMirror, Aborts, AddsMember, RemovesMember, Exchanges, Recovers, Settles, IsTrack, servers-left, is-new, may-issue, Releases}
+use Rattle.dr_laws_sound.proofs.Cases.{Case, Says, DefinesServer, DefinesVolume, SetsLink, Issues, Writes, Applies, Lists, Shows, Stops, Arms, Starts, MakesFlash, RemovesFlash, ResyncsFlash, ReversesFlash, Copies, Destages, MakesPath, RemovesPath, MakesPair, RemovesPair, PausesPair, ResumesPair, FailsOver, FailsBack, Compares, Drains, Expires, Freezes, Unfreezes, MakesSession, RemovesSession, MakesMirror, PausesMirror, RemovesMirror, Aborts, AddsMember, RemovesMember, Exchanges, Recovers, Settles, IsTrack, servers-left, is-new, may-issue, Releases}
 use Rattle.dr_laws_sound.proofs.Parts.{Comes, Ending, OnePlan, Imaged, course-case, each-plan, last-plan}
 use Rattle.dr_laws_sound.proofs.KeepsQueue.{Quiet, AllQuiet, goes-off}
 use Rattle.dr_laws_sound.proofs.KeepsSound.{StepHolds, RowsAt, MayDo, holds-moves, keeps-sound, sound-told, over}
@@ -36,6 +36,7 @@ use Rattle.dr_laws_sound.proofs.Issues.{issued, sound-issued, one-new}
 use Rattle.dr_laws_sound.proofs.Lands.{found-alone}
 use Rattle.dr_laws_sound.proofs.FitsFlash.{sound-begun, holds-entries, holds-flash, holds-withdraw, holds-resync, holds-reverse}
 use Rattle.dr_laws_sound.proofs.FitsCopy.{holds-copy}
+use Rattle.dr_laws_sound.proofs.FitsDestage.{holds-destage}
 use Rattle.dr_laws_sound.proofs.FitsPairs.{holds-pair, holds-remove, holds-pause, holds-resume}
 use Rattle.dr_laws_sound.proofs.FitsFailover.{holds-failover, holds-failback, holds-compare}
 use Rattle.dr_laws_sound.proofs.FitsDrain.{holds-drain}
@@ -137,6 +138,7 @@ module _ (w : World) (s : Sound w) (line : ℕ) where
   case-holds _ (ResyncsFlash dev v t sequence) = holds-resync w s dev v t sequence
   case-holds _ (ReversesFlash dev v t) = holds-reverse w s dev v t
   case-holds _ (Copies t most) = holds-copy w s t most
+  case-holds _ (Destages v) = holds-destage w s v
   case-holds _ (MakesPath src tgt group) = holds-quiet w w.control.fuse w.control.link (with_path w.control.paths src tgt group) _ s (λ k. record k { paths = with_path k.paths src tgt group }) refl
   case-holds _ (RemovesPath src tgt) = holds-quiet w w.control.fuse w.control.link (without_path w.control.paths src tgt) _ s (λ k. record k { paths = without_path k.paths src tgt }) refl
   case-holds _ (MakesPair devs a b kind choices part) = holds-pair w s devs a b kind choices part

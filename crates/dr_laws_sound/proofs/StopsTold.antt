@@ -11,7 +11,7 @@ use Rattle.dr_model.specs.Control.{Control, Fuse, Volume as VolumeRow, World}
 use Rattle.dr_model.specs.Layout.{Tracks}
 use Rattle.dr_model.specs.Relations.{is_bare, in_order, rest}
 use Rattle.dr_model.specs.Pairs.{is_suspended}
-use Rattle.dr_model.specs.Moves.{Move, Land, Overwrite, Keep, Note, Relate, Withdraw, Fetch, Resync, Reverse, Restore, Release, Store, Strike, Suspend, MakeSecondary, MakePrimary, DropPrimary, DropSecondary, Follow, Resume, TakeOver, FallBack, Yield, Unsync, Mirror, LandBoth, Thaw, Lift, Restart, Hold, Free, Seal, Finish, RaiseAttempt, RaiseFloor, Leave, Flash, Commit, Revert, told_blank, told_restored, told, told_in_stop, landed, target, FlashHold, FlashFree, told_freed}
+use Rattle.dr_model.specs.Moves.{Move, Land, Overwrite, Keep, Note, Relate, Withdraw, Fetch, Resync, Reverse, Restore, Release, Store, Strike, Suspend, MakeSecondary, MakePrimary, DropPrimary, DropSecondary, Follow, Resume, TakeOver, FallBack, Yield, Unsync, Mirror, LandBoth, Thaw, Lift, Restart, Hold, Free, Seal, Finish, RaiseAttempt, RaiseFloor, Leave, Flash, Commit, Revert, told_blank, told_restored, told, told_in_stop, landed, target, FlashHold, FlashFree, told_freed, Unstage}
 use Rattle.dr_model.specs.Carry.{Act, Make, OpenAttempt, Redo, Acknowledge, Drop, EndFreeze, EndThaw, EndRecovery, act, Turn, Next, Pass, Do, End, Entry, Outcome, carry, continue, go}
 use Rattle.dr_laws_sound.specs.Stops.{first_stop, stop_in, refused_stop, StopsTold}
 use Rattle.dr_laws_sound.proofs.Turns.{act-cases, Counts, after_act, server_of}
@@ -91,6 +91,7 @@ told-calm (Finish v n) u = refl
 told-calm (RaiseAttempt v n) u = refl
 told-calm (RaiseFloor v n) u = refl
 told-calm (Leave v a s) u = refl
+told-calm (Unstage v) u = refl
 
 -- and the stop that it tells is the first
 in_stop-calm : (m : Move) (u : VolumeRow) → first_stop (told_in_stop m u) ≡ None

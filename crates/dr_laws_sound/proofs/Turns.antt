@@ -1,12 +1,13 @@
 -- How an act ends: it is done; or its server stops in it, and it counts as done or doesn't.
-use Rattle.std.proofs.Common.{ℕ, ◌≡◌, refl, ap, ◌∙◌, sym, subst, Bool, true, false, cond, not, [], ◌∷◌, ◌++◌, Option, Some, None}
+use Rattle.std.proofs.Common.{ℕ, ◌≡◌, refl, ap, ◌∙◌, sym, subst, Bool, true, false, cond, not, [], ◌∷◌, ◌++◌, Option, Some, None, is_some}
 use Rattle.dr_logic.specs.Tables.{at}
 use Rattle.dr_model.specs.declared.event.Event.TheVariants.{Stopped}
 use Rattle.dr_model.specs.Histories.{histories}
 use Rattle.dr_model.specs.Layout.{Fields}
 use Rattle.dr_model.specs.Control.{Fuse, Volume, World}
-use Rattle.dr_model.specs.Moves.{Move, Hold, Carried, target, next_fields, carried, told, told_in_stop, landed, settled, settled_in_stop, updated, moved}
-use Rattle.dr_model.specs.Carry.{Act, Make, OpenAttempt, Redo, Acknowledge, Drop, EndFreeze, EndThaw, EndRecovery, dropped, frozen, thawed, recovered, Turn, Ended, ended, update, turn, redo, redo_ended, redo_writes, act, acknowledged, spent, off, pass, counts_by, writes, finished, cut_short, equal, attempt_begun, opened_by}
+use Rattle.dr_model.specs.Moves.{Move, Hold, Carried, target, next_fields, carried, told, told_in_stop, landed, settled, settled_in_stop, keeps_staged, updated_keeping, moved}
+use Rattle.dr_model.specs.Carry.{Act, Make, OpenAttempt, Redo, Acknowledge, Drop, EndFreeze, EndThaw, EndRecovery, dropped, frozen, thawed, recovered, Turn, Ended, ended, turn, redo, redo_ended, redo_writes, act, acknowledged, spent, off, burnt, lower, pass, equal, attempt_begun, opened_by}
+use Rattle.dr_model.proofs.CarryLemmas.{lowered-armed, turn-ends}
 use Rattle.dr_facts.proofs.Turns.{equal-same, equal-not}
 use Rattle.dr_logic.proofs.Tables.{at_same}
 
@@ -20,7 +21,7 @@ abbrev pub carried_in : World → Move → Carried
 carried_in w m = carried m w.control.volume w.contents (histories w.events).write
 
 abbrev pub moved_in : World → Move → World
-moved_in w m = updated w (target m) (next_of w m) (carried_in w m)
+moved_in w m = updated_keeping (keeps_staged m) w (target m) (next_of w m) (carried_in w m)
 
 -- a move that is done, where its server's fuse is then that one
 abbrev pub done : World → Move → Option Fuse → World
@@ -48,35 +49,16 @@ not_done w s f = record w { control = record w.control { on = at w.control.on s 
 abbrev pub fused : World → ℕ → Option Fuse → World
 fused w s f = record w { control = record w.control { fuse = at w.control.fuse s f } }
 
--- a turn, by what decides it
-abbrev pub ended_by : World → Move → Bool → Bool → Bool → Ended
-ended_by w m on passes counts =
-    let s : ℕ = server_at w (target m) in
-    cond (not on) (ended w true false)
-    (cond passes (ended (spent (moved_in w m) s (writes (carried_in w m))) false true)
-    (cond counts (ended (off (moved_in w m) s) true true) (ended (off w s) true false)))
-
-abbrev pub turn_by : World → Move → Bool → Bool → Bool → Turn
-turn_by w m on passes counts =
-    let u : Volume = w.control.volume (target m) in
-    let e : Ended = ended_by w m on passes counts in
-    cond (not on) (w, None) (cond e.stopped (cut_short e.world m u e.done, Some u.server) (finished e.world m u, None))
-
-pub turn-by : (w : World) (m : Move) → let u : Volume = w.control.volume (target m) in
-    turn w m ≡ turn_by w m (w.control.on u.server) (pass (w.control.fuse u.server) (writes (carried_in w m))) (counts_by (w.control.fuse u.server) (not u.slot))
-unfolding turn update
-turn-by w m = refl
-
-turn_by-cases : (w : World) (m : Move) (P : Turn → Type 0) (on passes counts : Bool)
-    → (on ≡ false → P (w, None))
-    → ((f : Option Fuse) → P (done w m f, None))
-    → ((f : Option Fuse) → P (done_in_stop w m f, Some (server_at w (target m))))
-    → ((f : Option Fuse) → P (not_done w (server_at w (target m)) f, Some (server_at w (target m))))
-    → P (turn_by w m on passes counts)
-turn_by-cases w m P false passes counts o a b c = o refl
-turn_by-cases w m P true true counts o a b c = a _
-turn_by-cases w m P true false true o a b c = b _
-turn_by-cases w m P true false false o a b c = c _
+-- how a turn ends: a server that stops in it had its fuse armed, and one that doesn't has it armed as before
+pub turn-armed : (w : World) (m : Move) (P : Turn → Type 0)
+    → (w.control.on (server_at w (target m)) ≡ false → P (w, None))
+    → ((f : Option Fuse) → is_some f ≡ is_some (w.control.fuse (server_at w (target m))) → P (done w m f, None))
+    → (is_some (w.control.fuse (server_at w (target m))) ≡ true → (f : Option Fuse) → P (done_in_stop w m f, Some (server_at w (target m))))
+    → (is_some (w.control.fuse (server_at w (target m))) ≡ true → (f : Option Fuse) → P (not_done w (server_at w (target m)) f, Some (server_at w (target m))))
+    → P (turn w m)
+turn-armed w m P o a b c =
+    let fuse : Option Fuse = w.control.fuse (server_at w (target m)) in
+    turn-ends w m P o (λ on n. a (lower n fuse) (lowered-armed n fuse)) (λ on armed. b armed (burnt fuse)) (λ on armed. c armed (burnt fuse))
 
 pub turn-cases : (w : World) (m : Move) (P : Turn → Type 0)
     → (w.control.on (server_at w (target m)) ≡ false → P (w, None))
@@ -84,7 +66,7 @@ pub turn-cases : (w : World) (m : Move) (P : Turn → Type 0)
     → ((f : Option Fuse) → P (done_in_stop w m f, Some (server_at w (target m))))
     → ((f : Option Fuse) → P (not_done w (server_at w (target m)) f, Some (server_at w (target m))))
     → P (turn w m)
-turn-cases w m P o a b c = subst P (sym (turn-by w m)) (turn_by-cases w m P _ _ _ o a b c)
+turn-cases w m P o a b c = turn-armed w m P o (λ f same. a f) (λ armed. b) (λ armed. c)
 
 -- a staged track written to its place, by what decides it
 abbrev redone_by : World → ℕ → Bool → Bool → Ended

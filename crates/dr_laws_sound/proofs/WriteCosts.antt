@@ -6,13 +6,14 @@ use Rattle.dr_ids.specs.declared.refusal.Refusal.{Refusal}
 use Rattle.dr_model.specs.Layout.{Fields, is_part}
 use Rattle.dr_model.specs.Pairs.{held, goes_over, collides, is_last, must_restart}
 use Rattle.dr_model.specs.Control.{Control, Volume, World}
-use Rattle.dr_model.specs.Moves.{Move, Land, Overwrite, Keep, Note, Store, Strike, Suspend, Unsync, Mirror, LandBoth, Thaw, Lift, Restart, target, told, FlashFree, told_freed, FlashHold, Relate}
+use Rattle.dr_model.specs.Moves.{Move, Land, Overwrite, Keep, Note, Store, Strike, Suspend, Unsync, Mirror, LandBoth, Thaw, Lift, Restart, target, told, FlashFree, FlashHold, Relate, Unstage}
 use Rattle.dr_model.specs.Carry.{Make, Redo, Acknowledge, Drop, EndFreeze, EndThaw, Pass, Do, Entry, carry, check, now}
 use Rattle.dr_model.specs.Entries.{fields_at, copies_from, is_running, is_no_secondary, is_open, is_settled, relation_state, land_on, land_alone, keep_on, keep_if, copy_first, drop_unless, check_or_drop}
 use Rattle.dr_model.specs.WriteEntries.{sends_first, where_sent, send_first, land_collided, after_write, partner_of, is_grouped, land_mirrored, land_parted, is_parted, land_over, land_entries, landing, part_running, part_after, is_between, freeze_on, end_freeze, freeze_entries, thaw_on, end_thaw, thaw_entries, belongs, lift_on, redo_on, restart_on, start_entries, flash_free_on, is_held_in, flash_hold_on}
 use Rattle.std.specs.Prelude.{is_some}
 use Rattle.dr_model.specs.PairEntries.{send_refusal, suspend_where, store_on, strike_on, suspend_after}
-use Rattle.dr_model.specs.Plans.{acknowledge_on, acknowledge_if, landed_on, hold_first}
+use Rattle.dr_model.specs.Plans.{acknowledge_on, acknowledge_if, landed_on, hold_first, redo_now, destage_entries}
+use Rattle.dr_facts.proofs.Costs.{freed-few}
 use Rattle.dr_laws_sound.proofs.Costs.{Costs, carry-adds, Small, Light, AllLight, light-none, light-then, light-append, light-map, light-check, light-costs, small-pass, small-do, small-choice}
 use Rattle.dr_laws_sound.proofs.PairCosts.{suspend-once, suspend_after-few}
 use Rattle.dr_model.specs.Relations.{Choices}
@@ -163,19 +164,17 @@ brief-relate true s t choices =
     (brief-now (Relate t s choices) (λ u. omega arith))
 brief-relate false s t choices = brief-more 1 2 _ (omega arith) (brief-now (Relate t s choices) (λ u. omega arith))
 
--- the end of the holds of a volume tells one event at most
-freed-once : (v : ℕ) (u : Volume) → length (told (Lift v) u) ≤ 1
-freed-once v u = by u.fields.flash_hold
-  where
-    by : (b : Bool) → length (told_freed v b) ≤ 1
-    by true = omega arith
-    by false = omega arith
-
 pub brief-expire : (c : ℕ) (us : List ℕ) → length us ≤ c → (s : ℕ) → Brief c (map (lift_on s) us)
-brief-expire c us le s = brief-map c (lift_on s) (λ v. light-if (λ k. belongs k s v && held (fields_at k v)) (Lift v) (freed-once v)) us le
+brief-expire c us le s = brief-map c (lift_on s) (λ v. light-if (λ k. belongs k s v && held (fields_at k v)) (Lift v) (λ u. freed-few v u.fields.flash_hold)) us le
 
 pub brief-release : (c : ℕ) (us : List ℕ) → length us ≤ c → (l : ℕ) → Brief c (map (flash_free_on l) us)
 brief-release c us le l = brief-map c (flash_free_on l) (λ v. light-if (λ k. is_held_in k l v) (FlashFree v) (λ x. omega arith)) us le
+
+-- a staged track that goes to its place
+pub brief-destage : (staged : Option ℕ) (v : ℕ) → Brief 2 (destage_entries staged v)
+brief-destage None v = brief-none 2
+brief-destage (Some t) v =
+    brief-then 1 (redo_now v) (now (Unstage v) ∷ []) (λ w. small-do w (Redo v) (omega arith)) (brief-then 0 (now (Unstage v)) [] (λ w. small-do w (Make (Unstage v)) (omega arith)) (brief-none 0))
 
 -- a start
 light-redo : (s v : ℕ) → Light (redo_on s v)

@@ -9,6 +9,7 @@ use Rattle.std.proofs.lemmas.List.Folds.{flat_map-map}
 use Rattle.std.proofs.lemmas.List.Elements.{All-map}
 use Rattle.std.proofs.lemmas.Option.{slice_get-map, same_Some}
 use Rattle.dr_bits.specs.Membership.{lt_true}
+use Rattle.dr_ids.specs.Sizes.{blocks_of, most_tracks}
 use Rattle.dr_ids.specs.declared.names.ServerId.{ServerId}
 use Rattle.dr_ids.specs.declared.names.VolumeId.{VolumeId}
 use Rattle.dr_plant.specs.State.{PlantState, HasBlock}
@@ -77,7 +78,7 @@ placed-at t place o u places is = ap is_some (if-some (λ (v : VolumeId). place_
 pub placed-on : (t : ConfigTable) (v : ℕ) (o : Option DeviceId) (d : DeviceId) → option_map (λ (d : DeviceId). d.0) o ≡ place_of t v → o ≡ Some d → place_of t v ≡ Some d.0
 placed-on t v o d place is = sym place ∙ ap (option_map (λ (d : DeviceId). d.0)) is
 
-pub has-block : (s : PlantState) (t : ConfigTable) (v d k : ℕ) → StandsFor t s → place_of t v ≡ Some d → k < 13 + (volume_seen s t v).tracks → HasBlock s d k
+pub has-block : (s : PlantState) (t : ConfigTable) (v d k : ℕ) → StandsFor t s → place_of t v ≡ Some d → k < blocks_of (volume_seen s t v).tracks → HasBlock s d k
 has-block s t v d k stands place low =
     let e = entry-at-place t v d place in
     let there : volume_seen s t v ≡ volume_on (s.block d) (Some e.0) = volume-placed s t v d e.0 place e.1 in
@@ -123,9 +124,9 @@ module _ (s : PlantState) (t : ConfigTable) (r : Rest) (sound : IsSoundConfig t)
       let server : (volume_seen s t v).server ≡ e.server = ap (λ (y : control.Volume). y.server) there in
       let device : device_of (control_seen s t r) v ≡ d = device-listed s t r v d place in
       let blocks : s.block (device_of (control_seen s t r) v) ≡ s.block d = ap s.block device in
-      let whole = subst (λ (b : Blocks). (k : ℕ) → k < 13 + (volume_seen s t v).tracks → IsBlock (b k)) (ap s.block (device-placed t v d place)) readable.blocks in
-      let wide = subst (λ (b : Blocks). (k : ℕ) → k < 13 + (volume_seen s t v).tracks → IsBlock (b k)) (sym blocks) whole in
-      let n : ℕ = 13 + (volume_seen s t v).tracks in
+      let whole = subst (λ (b : Blocks). (k : ℕ) → k < blocks_of (volume_seen s t v).tracks → IsBlock (b k)) (ap s.block (device-placed t v d place)) readable.blocks in
+      let wide = subst (λ (b : Blocks). (k : ℕ) → k < blocks_of (volume_seen s t v).tracks → IsBlock (b k)) (sym blocks) whole in
+      let n : ℕ = blocks_of (volume_seen s t v).tracks in
       let e13 : 13 ≤ n = omega arith in
       let same : Agree n (device_blocks x) (s.block d) = (λ k low. same-block n k (s.block (device_of (control_seen s t r) v)) wide low ∙ ap (λ (b : Blocks). b k) blocks) in
       let head : Agree 13 (device_blocks x) (s.block d) = (λ k low. same k (omega (arith, low))) in
@@ -136,7 +137,7 @@ module _ (s : PlantState) (t : ConfigTable) (r : Rest) (sound : IsSoundConfig t)
           volume = readable.number;
           server = (let a : e.server < 8 = low.2 in omega (arith, server, a));
           some_tracks = (let a : 1 ≤ e.tracks = size.some in omega (arith, tracks, a));
-          tracks = (let a : e.tracks ≤ 256 = size.most in omega (arith, tracks, a));
+          tracks = (let a : e.tracks ≤ most_tracks = size.most in omega (arith, tracks, a));
           kept = kept-whole n n (s.block (device_of (control_seen s t r) v)) wide (omega arith);
           in_order = kept-ordered n (s.block (device_of (control_seen s t r) v));
         };

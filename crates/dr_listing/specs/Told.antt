@@ -1,6 +1,7 @@
 -- What a listing tells, one line after the other, and what it finds there.
-use Rattle.std.specs.Prelude.{◌≡◌, ℕ, ◌+◌, ◌<◌, Bool, true, false, List, [], ◌∷◌, map, length, All, IsSome, Option, Some, None}
+use Rattle.std.specs.Prelude.{◌≡◌, ℕ, ◌<◌, Bool, true, false, List, [], ◌∷◌, map, length, All, IsSome, Option, Some, None}
 use Rattle.std.specs.List.{flat_map}
+use Rattle.dr_ids.specs.Sizes.{blocks_of}
 use Rattle.dr_ids.specs.declared.names.Member.{Member}
 use Rattle.dr_plant.specs.State.{PlantState}
 use Rattle.dr_config.specs.Table.{ConfigTable, place_of}
@@ -57,4 +58,4 @@ AreBlocks n blocks = (k : ℕ) → k < n → IsBlock (blocks k)
 pub record IsReadable (s : PlantState) (t : ConfigTable) (v : ℕ) : Type 0 where
   pub defined : IsSome (place_of t v)
   pub number : v < 65536
-  pub blocks : AreBlocks (13 + (volume_seen s t v).tracks) (s.block (device_of t v))
+  pub blocks : AreBlocks (blocks_of (volume_seen s t v).tracks) (s.block (device_of t v))

@@ -2,6 +2,7 @@
 
 ghost use Rattle.std.specs.Prelude.{◌≡◌, ℕ, ◌+◌, ◌<◌, ◌≤◌, ◌*◌, ◌++◌, ◌==◌, length, map, All, IsSome};
 ghost use Rattle.std.specs.List.{flat_map, list_all};
+ghost use Rattle.dr_ids.specs.Sizes as sizes;
 ghost use Rattle.dr_config.specs.Table.{StandsFor, IsSoundConfig, place_of};
 ghost use Rattle.dr_model.specs.Listed.{ListsAll, kept_if, listing, listing_of};
 ghost use Rattle.dr_model.specs.Runs.{image_told, volume_told, blocks_told};
@@ -81,10 +82,10 @@ fn block_line<P: Plant>(plant: &P, device: DeviceId, v: VolumeId, index: u16) ->
 fn push_blocks<P: Plant>(plant: &P, config: &Config, v: VolumeId, journal: &mut Journal)
     requires defined { IsSome (place_of config.now v.0) }
     requires stands { StandsFor config.now (P.state plant.now) }
-    requires room { 269 ≤ journal.old.spare }
+    requires room { sizes.blocks_of sizes.most_tracks ≤ journal.old.spare }
     ensures told { (r : Rest) → journal.new.events ≡ journal.old.events ++ blocks_told (listing_of (control_seen (P.state plant.now) config.now r) (P.state plant.now).block v.0) }
     ensures readable { IsReadable (P.state plant.now) config.now v.0 }
-    ensures left { journal.old.spare ≤ journal.new.spare + 269 }
+    ensures left { journal.old.spare ≤ journal.new.spare + sizes.blocks_of sizes.most_tracks }
 {
     let device = config.device_of(v).unwrap();
     let blocks = blocks_of(config.tracks_of(v).unwrap());
@@ -96,11 +97,11 @@ fn push_blocks<P: Plant>(plant: &P, config: &Config, v: VolumeId, journal: &mut 
 /// The lines of all volumes' blocks, in order of definition.
 fn push_devices<P: Plant>(plant: &P, config: &Config, journal: &mut Journal)
     requires stands { StandsFor config.now (P.state plant.now) }
-    requires room { 64 * 269 ≤ journal.old.spare }
+    requires room { 64 * sizes.blocks_of sizes.most_tracks ≤ journal.old.spare }
     ensures told { (r : Rest) → journal.new.events ≡ journal.old.events ++ flat_map blocks_told (listing (control_seen (P.state plant.now) config.now r) (P.state plant.now).block) }
     ensures sound { IsSoundConfig config.now }
     ensures readable { All (IsReadable (P.state plant.now) config.now) (ids_of config.now.volumes) }
-    ensures left { journal.old.spare ≤ journal.new.spare + 64 * 269 }
+    ensures left { journal.old.spare ≤ journal.new.spare + 64 * sizes.blocks_of sizes.most_tracks }
 {
     for place in 0..config.volumes() {
         let v = config.volume_at(place).unwrap();

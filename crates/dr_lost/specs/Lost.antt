@@ -2,6 +2,7 @@
 use Rattle.std.specs.Prelude.{ℕ, ◌<◌, not, List, [], filter, nat_eq}
 use Rattle.std.specs.List.{flat_map, list_any, range_with_len}
 use Rattle.indexmap.specs.IndexSet.{insert_all}
+use Rattle.dr_ids.specs.Sizes.{most_tracks}
 use Rattle.dr_model.specs.Histories.{Lists}
 use Rattle.dr_model.specs.Groups.{In}
 use Rattle.dr_lost.specs.declared.lost.Pair.{Pair}
@@ -28,7 +29,7 @@ lost_by n stop end p = flat_map (lost_at stop end p) (tracks_below n)
 
 -- what pairs lost at all tracks that a volume may have, in their order, each write once
 abbrev pub lost_writes : Lists → Lists → List Pair → List ℕ
-lost_writes stop end pairs = each_once (flat_map (lost_by 256 stop end) pairs)
+lost_writes stop end pairs = each_once (flat_map (lost_by most_tracks stop end) pairs)
 
 -- what a volume holds at the first n tracks
 abbrev pub held_by : ℕ → Lists → ℕ → List ℕ
@@ -36,7 +37,7 @@ held_by n lists v = flat_map (lists v) (tracks_below n)
 
 -- what volumes hold at all tracks that a volume may have, in their order, each write once
 abbrev pub held_writes : Lists → List ℕ → List ℕ
-held_writes lists volumes = each_once (flat_map (held_by 256 lists) volumes)
+held_writes lists volumes = each_once (flat_map (held_by most_tracks lists) volumes)
 
 -- A write is lost at one of the first n tracks of one of some pairs: the second volume held it at the stop, and the first one doesn't at the end.
 pub record IsLost (n : ℕ) (stop end : Lists) (pairs : List Pair) (w : ℕ) : Type 0 where

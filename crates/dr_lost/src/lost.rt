@@ -2,6 +2,7 @@
 
 ghost use Rattle.std.specs.Prelude.{◌≡◌, ◌↔◌, ℕ, [], not, filter, nat_eq, IsTrue, IfOk, OnOk};
 ghost use Rattle.indexmap.specs.IndexSet.{contains, insert_all};
+ghost use Rattle.dr_ids.specs.Sizes.{most_tracks};
 ghost use Rattle.dr_model.specs.Histories.{Histories};
 ghost use Rattle.dr_lost.specs.Held.{StandsFor};
 ghost use Rattle.dr_lost.specs.Lost.{each_once, lost_at, lost_by, lost_writes, held_by, held_writes, IsLost, IsHeld};
@@ -62,7 +63,7 @@ impl Holdings {
         pair: Pair,
         lost: &mut IndexSet<u32>,
     ) -> Result<(), AllocError>
-        ensures { (a b : Histories) → StandsFor self.now a → StandsFor at_end.now b → OnOk result (lost.new.keys ≡ insert_all nat_eq lost.old.keys (lost_by 256 a.now b.now pair)) }
+        ensures { (a b : Histories) → StandsFor self.now a → StandsFor at_end.now b → OnOk result (lost.new.keys ≡ insert_all nat_eq lost.old.keys (lost_by most_tracks a.now b.now pair)) }
     {
         for track in 0..MAX_TRACKS {
             add_all(lost, &self.lost_at(at_end, pair, track)?)?;
@@ -73,7 +74,7 @@ impl Holdings {
     /// What pairs lost, in their order, each write once. Fails for want of memory alone.
     pub fn lost(&self, at_end: &Holdings, pairs: &[Pair]) -> Result<IndexSet<u32>, AllocError>
         ensures writes { (a b : Histories) → StandsFor self.now a → StandsFor at_end.now b → IfOk result (λ r. r.keys ≡ lost_writes a.now b.now pairs.now) }
-        ensures members { (a b : Histories) → StandsFor self.now a → StandsFor at_end.now b → IfOk result (λ r. (w : ℕ) → IsTrue (contains nat_eq r w) ↔ IsLost 256 a.now b.now pairs.now w) }
+        ensures members { (a b : Histories) → StandsFor self.now a → StandsFor at_end.now b → IfOk result (λ r. (w : ℕ) → IsTrue (contains nat_eq r w) ↔ IsLost most_tracks a.now b.now pairs.now w) }
     {
         let mut lost = IndexSet::new(self.alloc());
         for pair in pairs {
@@ -84,7 +85,7 @@ impl Holdings {
 
     // Adds what a volume holds at all tracks.
     fn add_held(&self, volume: u16, held: &mut IndexSet<u32>) -> Result<(), AllocError>
-        ensures { (h : Histories) → StandsFor self.now h → OnOk result (held.new.keys ≡ insert_all nat_eq held.old.keys (held_by 256 h.now volume)) }
+        ensures { (h : Histories) → StandsFor self.now h → OnOk result (held.new.keys ≡ insert_all nat_eq held.old.keys (held_by most_tracks h.now volume)) }
     {
         for track in 0..MAX_TRACKS {
             add_all(held, &self.list(volume, track)?)?;
@@ -95,7 +96,7 @@ impl Holdings {
     /// What volumes hold, in their order, each write once. Fails for want of memory alone.
     pub fn held(&self, volumes: &[u16]) -> Result<IndexSet<u32>, AllocError>
         ensures writes { (h : Histories) → StandsFor self.now h → IfOk result (λ r. r.keys ≡ held_writes h.now volumes.now) }
-        ensures members { (h : Histories) → StandsFor self.now h → IfOk result (λ r. (w : ℕ) → IsTrue (contains nat_eq r w) ↔ IsHeld 256 h.now volumes.now w) }
+        ensures members { (h : Histories) → StandsFor self.now h → IfOk result (λ r. (w : ℕ) → IsTrue (contains nat_eq r w) ↔ IsHeld most_tracks h.now volumes.now w) }
     {
         let mut held = IndexSet::new(self.alloc());
         for volume in volumes {

@@ -17,8 +17,8 @@ use Rattle.dr_model.specs.Layout.{Fields}
 use Rattle.dr_model.specs.Histories.{histories}
 use Rattle.dr_model.specs.Control.{Control, Volume, World}
 use Rattle.dr_model.specs.Refusals.{unknown, server_off}
-use Rattle.dr_model.specs.Moves.{Move, Carried, Keep, Note, Store, Suspend, target, next_fields, carried, moved}
-use Rattle.dr_model.specs.Carry.{Make, act, Next, Pass, Do, End, Entry, Turn, Ended, turn, update, finished, cut_short, writes, pass, counts_by, now}
+use Rattle.dr_model.specs.Moves.{Move, Carried, Keep, Note, Store, Suspend, target, next_fields, carried, moved, moved_keeping, keeps_staged}
+use Rattle.dr_model.specs.Carry.{Make, act, Next, Pass, Do, End, Entry, Turn, turn, now}
 use Rattle.dr_model.specs.Entries.{fields_at, subsystem, copies_from, stands_in, is_revertible, keep_on, copy_first}
 use Rattle.dr_model.specs.PairEntries.{link_down, send_refusal, flashed_refusal, suspend_where, store_on, strike_on}
 use Rattle.dr_model.specs.WriteEntries.{sends_first, where_sent, send_first}
@@ -29,7 +29,7 @@ use Rattle.dr_facts.proofs.Ends.{ends-skips}
 use Rattle.dr_moves.proofs.EntryLemmas.{alike-advances, alike-halts}
 use Rattle.dr_gcopy.specs.Sending.{pass_entries}
 use Rattle.dr_gcopy.proofs.SendLemmas.{suspends-none}
-use Rattle.dr_facts.proofs.Issued.{updated_by}
+use Rattle.dr_model.proofs.CarryLemmas.{turn-ends}
 use Rattle.dr_logic.proofs.Truth.{false_true}
 use Rattle.dr_logic.proofs.Tables.{at_same, at_other}
 
@@ -56,35 +56,19 @@ module _ (Q : (ℕ → Volume) → (ℕ → Bool) → (ℕ → ℕ → Bool) →
   abbrev Of : Control → Type 0
   Of k = Q k.volume k.on k.link k.paths k.volumes
 
-  abbrev turned_by : World → Move → Fields → Carried → Bool → Bool → Bool → Turn
-  turned_by w m f c on passes counts =
-      let u : Volume = w.control.volume (target m) in
-      let e : Ended = updated_by w (target m) f c on passes counts in
-      cond (not on) (w, None) (cond e.stopped (cut_short e.world m u e.done, Some u.server) (finished e.world m u, None))
+  -- the volume of a move once it is made
+  abbrev made : World → Move → Volume
+  made w m = moved_keeping (keeps_staged m) (w.control.volume (target m)) (next_fields m w.control.volume) (carried m w.control.volume w.contents (histories w.events).write)
 
   some-none : {P : Type 0} (s : ℕ) → ◌≡◌ {A = Option ℕ} (Some s) None → P
   some-none s h = absurd cc
 
-  by : (w : World) (m : Move) (f : Fields) (c : Carried) (on passes counts : Bool)
-      → Of w.control → Q (at w.control.volume (target m) (moved (w.control.volume (target m)) f c)) w.control.on w.control.link w.control.paths w.control.volumes
-      → (turned_by w m f c on passes counts).1 ≡ None → Of (turned_by w m f c on passes counts).0.control
-  by w m f c false passes counts same next h = same
-  by w m f c true true counts same next h = next
-  by w m f c true false true same next h = some-none _ h
-  by w m f c true false false same next h = some-none _ h
+  turned : (w : World) (m : Move) → Of w.control → Q (at w.control.volume (target m) (made w m)) w.control.on w.control.link w.control.paths w.control.volumes → (turn w m).1 ≡ None → Of (turn w m).0.control
+  turned w m same next =
+      turn-ends w m (λ (t : Turn). t.1 ≡ None → Of t.0.control)
+      (λ down none. same) (λ on n none. next) (λ on armed stopped. some-none _ stopped) (λ on armed stopped. some-none _ stopped)
 
-  pub turned : (w : World) (m : Move)
-      → Of w.control → Q (at w.control.volume (target m) (moved (w.control.volume (target m)) (next_fields m w.control.volume) (carried m w.control.volume w.contents (histories w.events).write))) w.control.on w.control.link w.control.paths w.control.volumes
-      → (turn w m).1 ≡ None → Of (turn w m).0.control
-  unfolding turn update
-  turned w m same next h =
-      let u : Volume = w.control.volume (target m) in
-      by w m (next_fields m w.control.volume) (carried m w.control.volume w.contents (histories w.events).write) (w.control.on u.server)
-      (pass (w.control.fuse u.server) (writes (carried m w.control.volume w.contents (histories w.events).write))) (counts_by (w.control.fuse u.server) (not u.slot)) same next h
-
-  pub acted : (w : World) (m : Move)
-      → Of w.control → Q (at w.control.volume (target m) (moved (w.control.volume (target m)) (next_fields m w.control.volume) (carried m w.control.volume w.contents (histories w.events).write))) w.control.on w.control.link w.control.paths w.control.volumes
-      → (act w (Make m)).1 ≡ None → Of (act w (Make m)).0.control
+  pub acted : (w : World) (m : Move) → Of w.control → Q (at w.control.volume (target m) (made w m)) w.control.on w.control.link w.control.paths w.control.volumes → (act w (Make m)).1 ≡ None → Of (act w (Make m)).0.control
   unfolding act
   acted w m same next h = turned w m same next h
 

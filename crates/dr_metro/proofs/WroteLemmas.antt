@@ -24,7 +24,7 @@ use Rattle.dr_model.specs.Refusals.{stopped}
 use Rattle.dr_model.specs.Sessions.{Session}
 use Rattle.dr_volume.specs.declared.fields.Fields.{Fields}
 use Rattle.dr_volume.specs.Update.{IsAsBefore}
-use Rattle.dr_volume.specs.View.{Rest, volume_seen, track_seen, IsSettled}
+use Rattle.dr_volume.specs.View.{Rest, volume_seen, track_seen}
 use Rattle.dr_volume.specs.Volume.{Says}
 use Rattle.dr_volume.proofs.SaysLaws.{says-along}
 use Rattle.dr_moves.specs.Checks.{is_stop}
@@ -155,13 +155,13 @@ wrote-by s u c h g old new es n server res refused carried rest fit told unarmed
 
 -- a server that went off at a read
 pub wrote-gone : (s u : PlantState) (c : ConfigTable) (h : Writes) (old new : Log) (es : List Entry) (server : ℕ) → IsAt s c → IsTold h old.events → ((r : Rest) → GoesOff (armed_in s) (world_seen u c r new.events) (Some (stopped server)) (world_seen s c r old.events))
-    → ((q : ℕ) → IsAsBefore s u c q) → StandsFor c u → ((q : ℕ) → IsSettled s c q → IsSettled u c q) → ((q : ℕ) → s.read_fuse q ≡ None → u.read_fuse q ≡ None) → Rose s.faults u.faults → old.spare ≤ new.spare + 1 → length new.events + new.spare ≡ length old.events + old.spare
+    → ((q : ℕ) → IsAsBefore s u c q) → StandsFor c u → ((q : ℕ) → s.read_fuse q ≡ None → u.read_fuse q ≡ None) → Rose s.faults u.faults → old.spare ≤ new.spare + 1 → length new.events + new.spare ≡ length old.events + old.spare
     → Wrote s u c h h old new (λ k. es) 1 {T = Unit {0}} (Err (stopped server))
-wrote-gone s u c h old new es server at told gone same stands settled unarmed rose room spare =
+wrote-gone s u c h old new es server at told gone same stands unarmed rose room spare =
     let ends : (xs : List Session) → Ends (armed_in s) (here u c xs h new.events) (Some (stopped server)) (here s c xs h old.events) es = (λ xs. ends-off (armed_in s) (here u c xs h new.events) (Some (stopped server)) (here s c xs h old.events) es (gone (rest_of xs h old.events))) in
     record {
       carried = ends;
-      at = record { rest = rest-same c s u at.rest stands settled same; fit = fit-same s u c same at.fit };
+      at = record { rest = rest-same c s u at.rest stands same; fit = fit-same s u c same at.fit };
       told = told-through (armed_in s) h (here s c [] h old.events) (here u c [] h new.events) es (Some (stopped server)) (ends []) told;
       unarmed = unarmed;
       faults = rose;
@@ -238,7 +238,7 @@ module _ (s m : PlantState) (c : ConfigTable) (h : Writes) (old mid : Log) (es :
 
   pub land-before : Ran s m c old mid es P most least (Ok tt) → IsAsBefore s m c v → CanLand s c h old.events n v t block f → CanLand m c h mid.events n v t block f
   land-before ran before can =
-      land-still f ran (ap (λ (z : ℕ → List ℕ). z t) before.tracks) (ap (λ (x : Volume). is_part x.fields.primary) before.volume ∙ can.primary) (says-along s m c v f before.volume can.says) can
+      land-still f ran (ap (λ (z : ℕ → List ℕ). z t) before.tracks) (ap (λ (x : Volume). is_part x.fields.primary) before.volume ∙ can.primary) (says-along s m c v f before can.says) can
 
 -- a volume without targets has none where those of another volume on another server moved, and that volume itself
 pub none-still : (s m : PlantState) (c : ConfigTable) (v u : ℕ) → RelationsFit s c → RelationsFit m c → MayPair s c v u → ((q : ℕ) → q ≢ u → copies_from u (volume_seen s c q).fields ≡ false → IsAsBefore s m c q) → HasNoTarget s c v → HasNoTarget m c v

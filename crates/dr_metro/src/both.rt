@@ -92,6 +92,14 @@ pub(crate) fn land_both_by<P: Plant>(
 {
     let landing = Move::LandBoth { w, v, t };
     let track = *bytes;
-    let done = make_by(plant, config, journal, &landing, fields, Some((t, track)));
+    let mut next = *fields;
+    let done = make_by(
+        plant,
+        config,
+        journal,
+        &landing,
+        &mut next,
+        Some((t, track)),
+    );
     settle_write(h, w, done)
 }

@@ -25,7 +25,7 @@ use dr_plant::Plant;
 /// Sends track t of primary v, whose server is on and which records, to its secondary u: the targets of u keep theirs, u
 /// stores it, and v strikes it off. Where u can't be reached, or isn't the secondary of v, v is suspended instead; where u
 /// stands in a revertible relationship nothing is done. Fails where a server stops in a move or goes off at a read; what was
-/// done by then stays. The journal needs room for an event for each volume and two more.
+/// done by then stays. The journal needs room for an event for each volume and three more.
 fn send_old<P: Plant>(
     plant: &mut P,
     config: &Config,
@@ -41,8 +41,8 @@ fn send_old<P: Plant>(
     requires collides { pairs.collides (volume_seen (P.state plant.old) config.now v.0).fields t ≡ true }
     requires pair { MayPair (P.state plant.old) config.now v.0 u.0 }
     requires within { t < (volume_seen (P.state plant.old) config.now v.0).tracks }
-    requires room { length config.now.volumes + 2 ≤ journal.old.spare }
-    ensures ran { Ran (P.state plant.old) (P.state plant.new) config.now journal.old journal.new (send_first (ids_of config.now.volumes) v.0 u.0 t) (λ q. ⊥) (length config.now.volumes + 2) (length config.now.volumes + 1) result }
+    requires room { length config.now.volumes + 3 ≤ journal.old.spare }
+    ensures ran { Ran (P.state plant.old) (P.state plant.new) config.now journal.old journal.new (send_first (ids_of config.now.volumes) v.0 u.0 t) (λ q. ⊥) (length config.now.volumes + 3) (length config.now.volumes + 2) result }
     ensures stops { OnErr result (is_stop (refusal_of result) ≡ true) }
 {
     if send_refusal(plant, config, v, u).is_some() {
@@ -56,7 +56,7 @@ fn send_old<P: Plant>(
 
 /// Carries out a write that collides on its primary, whose secondary is u: its track is sent first as it was, where it can be,
 /// and then the write lands on the primary alone. Fails where a server stops in a move or goes off at a read: then the write
-/// stays pending, and what was done by then stays. The journal needs room for two events for each volume and three more.
+/// stays pending, and what was done by then stays. The journal needs room for two events for each volume and four more.
 pub(crate) fn write_collided<P: Plant>(
     plant: &mut P,
     config: &Config,
@@ -70,8 +70,8 @@ pub(crate) fn write_collided<P: Plant>(
     requires primary { IsPrimary (P.state plant.old) config.now w.now.volume.0 }
     requires collides { pairs.collides (volume_seen (P.state plant.old) config.now w.now.volume.0).fields w.now.track ≡ true }
     requires pair { MayPair (P.state plant.old) config.now w.now.volume.0 u.0 }
-    requires room { length config.now.volumes + (length config.now.volumes + 3) ≤ journal.old.spare }
-    ensures wrote { Wrote (P.state plant.old) (P.state plant.new) config.now h.old h.new journal.old journal.new (λ k. collided_entries (ids_of config.now.volumes) w.now.w.0 w.now.volume.0 w.now.track u.0) (length config.now.volumes + (length config.now.volumes + 2)) result }
+    requires room { length config.now.volumes + (length config.now.volumes + 4) ≤ journal.old.spare }
+    ensures wrote { Wrote (P.state plant.old) (P.state plant.new) config.now h.old h.new journal.old journal.new (λ k. collided_entries (ids_of config.now.volumes) w.now.w.0 w.now.volume.0 w.now.track u.0) (length config.now.volumes + (length config.now.volumes + 3)) result }
     ensures stops { OnErr result (is_stop (refusal_of result) ≡ true) }
 {
     send_old(plant, config, journal, w.volume, u, w.track)?;

@@ -32,7 +32,7 @@ use dr_flash::copy_first;
 use dr_host::{Host, Pending};
 use dr_ids::{Refusal, VolumeId};
 use dr_model::Journal;
-use dr_moves::{read_told, unsynced};
+use dr_moves::read_told;
 use dr_plant::{Block, Plant};
 use dr_volume::{Fields, peek_fields};
 
@@ -218,7 +218,7 @@ pub(crate) fn write_both_by<P: Plant>(
     ensures stops { OnErr result (is_stop (refusal_of result) ≡ true) }
     ensures equal { OnOk result (track_seen (P.state plant.new) config.now u.0 w.now.track ≡ track_seen (P.state plant.new) config.now w.now.volume.0 w.now.track) }
 {
-    unsync_by(plant, config, journal, w.volume, w.track, fields)?;
-    let next = unsynced(fields, w.track);
+    let mut next = *fields;
+    unsync_by(plant, config, journal, w.volume, w.track, &mut next)?;
     read_and_store(plant, config, journal, h, w, u, &next, to, found)
 }

@@ -71,22 +71,23 @@ pub fn unsync<P: Plant>(
     make_move(plant, config, journal, &Move::Unsync { v, t }, None)
 }
 
-/// The same by the fields of the primary, which are at hand: of the record the gate alone is read.
+/// The same by the fields of the primary, which are at hand and become what the move leaves: of the record the gate alone is read.
 pub(crate) fn unsync_by<P: Plant>(
     plant: &mut P,
     config: &Config,
     journal: &mut Journal,
     v: VolumeId,
     t: u16,
-    fields: &Fields,
+    fields: &mut Fields,
 ) -> Result<(), Refusal>
     requires at { IsAt (P.state plant.old) config.now }
     requires may { May (P.state plant.old) config.now (Unsync v.0 t) }
-    requires says { Says (P.state plant.old) config.now v.0 fields.now }
+    requires says { Says (P.state plant.old) config.now v.0 fields.old }
     requires room { 1 ≤ journal.old.spare }
     ensures ran { Ran (P.state plant.old) (P.state plant.new) config.now journal.old journal.new (now (Unsync v.0 t) ∷ []) (λ q. q ≢ v.0) 1 0 result }
     ensures stops { OnErr result (is_stop (refusal_of result) ≡ true) }
     ensures moved { OnOk result (IsMoved (P.state plant.old) (P.state plant.new) config.now v.0 (pairs.unsynced (volume_seen (P.state plant.old) config.now v.0).fields t) None) }
+    ensures says { OnOk result (Says (P.state plant.new) config.now v.0 fields.new) }
 {
     make_move_by(plant, config, journal, &Move::Unsync { v, t }, fields, None)
 }
@@ -155,12 +156,13 @@ pub(crate) fn mirror_by<P: Plant>(
         w: m.write,
     };
     let track = *bytes;
+    let mut next = *fields;
     make_move_by(
         plant,
         config,
         journal,
         &store,
-        fields,
+        &mut next,
         Some((m.track, track)),
     )
 }

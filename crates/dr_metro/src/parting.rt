@@ -20,7 +20,7 @@ use dr_ids::{Refusal, VolumeId};
 use dr_model::Journal;
 use dr_moves::server_of;
 use dr_plant::Plant;
-use dr_volume::peek_fields;
+use dr_volume::peek_head;
 
 /// Whether the path from the logical subsystem of a to that of b has its group flag.
 pub(crate) fn is_grouped(config: &Config, a: VolumeId, b: VolumeId) -> bool
@@ -35,23 +35,23 @@ fn part_running<P: Plant>(plant: &mut P, config: &Config, journal: &mut Journal,
     requires rest { IsAtRest (P.state plant.old) config.now }
     requires fit { RelationsFit (P.state plant.old) config.now }
     requires defined { IsSome (place_of config.now v.0) }
-    requires room { 2 ≤ journal.old.spare }
+    requires room { 3 ≤ journal.old.spare }
     ensures ends { (r : Rest) (s : ℕ) → EndsSo (armed_in (P.state plant.old)) (world_seen (P.state plant.old) config.now r journal.old.events) (part_after v.0 s) (world_seen (P.state plant.new) config.now r journal.new.events) }
     ensures rest { IsAtRest (P.state plant.new) config.now }
     ensures fit { RelationsFit (P.state plant.new) config.now }
     ensures unarmed { (q : ℕ) → (P.state plant.old).read_fuse q ≡ None → (P.state plant.new).read_fuse q ≡ None }
     ensures faults { (f : ℕ) → Counted true f (P.state plant.old).faults → Counted true f (P.state plant.new).faults }
-    ensures room { journal.old.spare ≤ journal.new.spare + 2 }
+    ensures room { journal.old.spare ≤ journal.new.spare + 3 }
     ensures spare { length journal.new.events + journal.new.spare ≡ length journal.old.events + journal.old.spare }
 {
-    let fields = peek_fields(plant, config, v);
-    if !fields.primary.is_part() {
+    let head = peek_head(plant, config, v);
+    if !head.primary.is_part() {
         return;
     }
     if !plant.is_on(server_of(config, v).0) {
         return;
     }
-    let busy = is_grouped(config, v, fields.primary_partner);
+    let busy = is_grouped(config, v, head.primary_partner);
     let _ = suspend(plant, config, journal, v, busy);
 }
 
@@ -69,13 +69,13 @@ pub(crate) fn follow_write<P: Plant>(
     requires rest { IsAtRest (P.state plant.old) config.now }
     requires fit { RelationsFit (P.state plant.old) config.now }
     requires defined { IsSome (place_of config.now v.0) }
-    requires room { 2 ≤ journal.old.spare }
+    requires room { 3 ≤ journal.old.spare }
     ensures follows { (r : Rest) → Follows (armed_in (P.state plant.old)) (world_seen (P.state plant.old) config.now r journal.old.events) (Some why) (λ s. if collided then suspend_after v.0 s else part_after v.0 s) (world_seen (P.state plant.new) config.now r journal.new.events) }
     ensures rest { IsAtRest (P.state plant.new) config.now }
     ensures fit { RelationsFit (P.state plant.new) config.now }
     ensures unarmed { (q : ℕ) → (P.state plant.old).read_fuse q ≡ None → (P.state plant.new).read_fuse q ≡ None }
     ensures faults { (f : ℕ) → Counted (is_stop (Some why)) f (P.state plant.old).faults → Counted (is_stop (Some why)) f (P.state plant.new).faults }
-    ensures room { journal.old.spare ≤ journal.new.spare + 2 }
+    ensures room { journal.old.spare ≤ journal.new.spare + 3 }
     ensures spare { length journal.new.events + journal.new.spare ≡ length journal.old.events + journal.old.spare }
 {
     if collided {

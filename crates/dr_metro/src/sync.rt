@@ -89,8 +89,8 @@ fn write_parted<P: Plant>(
     requires due { IsDue (P.state plant.old) config.now h.old journal.old.events w.now }
     requires running { IsOn (P.state plant.old) config.now w.now.volume.0 }
     requires primary { IsPrimary (P.state plant.old) config.now w.now.volume.0 }
-    requires room { length config.now.volumes + 3 ≤ journal.old.spare }
-    ensures wrote { Wrote (P.state plant.old) (P.state plant.new) config.now h.old h.new journal.old journal.new (λ k. parted_entries (ids_of config.now.volumes) busy w.now.w.0 w.now.volume.0 w.now.track) (length config.now.volumes + 2) result }
+    requires room { length config.now.volumes + 4 ≤ journal.old.spare }
+    ensures wrote { Wrote (P.state plant.old) (P.state plant.new) config.now h.old h.new journal.old journal.new (λ k. parted_entries (ids_of config.now.volumes) busy w.now.w.0 w.now.volume.0 w.now.track) (length config.now.volumes + 3) result }
     ensures end { IfOk result (λ e. e ≡ end_of busy) }
     ensures suspended { OnOk result (is_suspended (volume_seen (P.state plant.new) config.now w.now.volume.0).fields.primary_state ≡ true) }
     ensures stops { OnErr result (is_stop (refusal_of result) ≡ true) }
@@ -119,8 +119,8 @@ fn write_over<P: Plant>(
     requires pair { MayPair (P.state plant.old) config.now w.now.volume.0 u.0 }
     requires says { Says (P.state plant.old) config.now w.now.volume.0 fields.now }
     requires alone { found ≡ false → HasNoTarget (P.state plant.old) config.now w.now.volume.0 }
-    requires room { length config.now.volumes + (length config.now.volumes + 3) ≤ journal.old.spare }
-    ensures wrote { Wrote (P.state plant.old) (P.state plant.new) config.now h.old h.new journal.old journal.new (λ k. over_entries (ids_of config.now.volumes) (parts k w.now.volume.0 u.0) (entries.is_grouped k w.now.volume.0 u.0) w.now.w.0 w.now.volume.0 w.now.track u.0) (length config.now.volumes + (length config.now.volumes + 2)) result }
+    requires room { length config.now.volumes + (length config.now.volumes + 4) ≤ journal.old.spare }
+    ensures wrote { Wrote (P.state plant.old) (P.state plant.new) config.now h.old h.new journal.old journal.new (λ k. over_entries (ids_of config.now.volumes) (parts k w.now.volume.0 u.0) (entries.is_grouped k w.now.volume.0 u.0) w.now.w.0 w.now.volume.0 w.now.track u.0) (length config.now.volumes + (length config.now.volumes + 3)) result }
     ensures end { (xs : List Session) → IfOk result (λ e. e ≡ end_of (parts (here (P.state plant.old) config.now xs h.old journal.old.events).control w.now.volume.0 u.0 && entries.is_grouped (here (P.state plant.old) config.now xs h.old journal.old.events).control w.now.volume.0 u.0)) }
     ensures mirrors { OnOk result (Mirrors (P.state plant.new) config.now w.now.volume.0 u.0 w.now.track) }
     ensures stops { OnErr result (is_stop (refusal_of result) ≡ true) }
@@ -152,8 +152,8 @@ fn place_write<P: Plant>(
     requires known { server.0 < 8 }
     requires shows { Shows (P.state plant.old) config.now w.now.volume.0 fields.now }
     requires alone { found ≡ false → HasNoTarget (P.state plant.old) config.now w.now.volume.0 }
-    requires room { length config.now.volumes + (length config.now.volumes + 3) ≤ journal.old.spare }
-    ensures wrote { Wrote (P.state plant.old) (P.state plant.new) config.now h.old h.new journal.old journal.new (λ k. entries_by k (plain fields.now) w.now.w.0 w.now.volume.0 w.now.track) (length config.now.volumes + (length config.now.volumes + 2)) result }
+    requires room { length config.now.volumes + (length config.now.volumes + 4) ≤ journal.old.spare }
+    ensures wrote { Wrote (P.state plant.old) (P.state plant.new) config.now h.old h.new journal.old journal.new (λ k. entries_by k (plain fields.now) w.now.w.0 w.now.volume.0 w.now.track) (length config.now.volumes + (length config.now.volumes + 3)) result }
     ensures end { (xs : List Session) → IfOk result (λ e. e ≡ end_of (waits_by (here (P.state plant.old) config.now xs h.old journal.old.events).control (plain fields.now) w.now.volume.0 w.now.track)) }
     ensures mirrors { is_metro fields.now.primary ≡ true → IfOk result (λ e. e ≡ Landed → Mirrors (P.state plant.new) config.now w.now.volume.0 fields.now.primary_partner.0 w.now.track) }
     ensures stops { OnErr result (is_stop (refusal_of result) ≡ true) }
@@ -183,8 +183,8 @@ fn carry_write<P: Plant>(
     requires due { IsDue (P.state plant.old) config.now h.old journal.old.events w.now }
     requires pair { is_part fields.now.primary ≡ true → MayPair (P.state plant.old) config.now w.now.volume.0 fields.now.primary_partner.0 }
     requires shows { Shows (P.state plant.old) config.now w.now.volume.0 fields.now }
-    requires room { length config.now.volumes + (length config.now.volumes + 3) ≤ journal.old.spare }
-    ensures wrote { Wrote (P.state plant.old) (P.state plant.new) config.now h.old h.new journal.old journal.new (λ k. landing k w.now.w.0 w.now.volume.0 w.now.track) (length config.now.volumes + (length config.now.volumes + 2)) result }
+    requires room { length config.now.volumes + (length config.now.volumes + 4) ≤ journal.old.spare }
+    ensures wrote { Wrote (P.state plant.old) (P.state plant.new) config.now h.old h.new journal.old journal.new (λ k. landing k w.now.w.0 w.now.volume.0 w.now.track) (length config.now.volumes + (length config.now.volumes + 3)) result }
     ensures end { (xs : List Session) → IfOk result (λ e. e ≡ end_of (waits (here (P.state plant.old) config.now xs h.old journal.old.events).control w.now.volume.0 w.now.track)) }
     ensures mirrors { is_metro fields.now.primary ≡ true → IfOk result (λ e. e ≡ Landed → Mirrors (P.state plant.new) config.now w.now.volume.0 fields.now.primary_partner.0 w.now.track) }
 {
@@ -216,7 +216,7 @@ fn carry_write<P: Plant>(
 /// acknowledged. Fails where a server stops in a move or goes off at a read: then the write stays pending, what was done
 /// by then stays, and a primary whose own server still runs is suspended, long busy where the path has its group flag and
 /// the write didn't collide. The first stop is the one that is given. The journal needs room for two events for each
-/// volume and five more.
+/// volume and seven more.
 pub fn sync_write<P: Plant>(
     plant: &mut P,
     config: &Config,
@@ -234,7 +234,7 @@ pub fn sync_write<P: Plant>(
     requires within { w.now.track < (volume_seen (P.state plant.old) config.now w.now.volume.0).tracks }
     requires fits { w.now.offset + w.now.len ≤ 64 }
     requires found { find (has_number w.now.w.0) h.old.pending ≡ Some w.now }
-    requires room { length config.now.volumes + (length config.now.volumes + 5) ≤ journal.old.spare }
+    requires room { length config.now.volumes + (length config.now.volumes + 7) ≤ journal.old.spare }
     ensures carried { (xs : List Session) → EndsFollowed (armed_in (P.state plant.old)) (here (P.state plant.old) config.now xs h.old journal.old.events) (landing (here (P.state plant.old) config.now xs h.old journal.old.events).control w.now.w.0 w.now.volume.0 w.now.track) (after_write (here (P.state plant.old) config.now xs h.old journal.old.events).control w.now.volume.0 w.now.track) (here (P.state plant.new) config.now xs h.new journal.new.events) (refusal_of result) }
     ensures end { (xs : List Session) → IfOk result (λ e. e ≡ end_of (waits (here (P.state plant.old) config.now xs h.old journal.old.events).control w.now.volume.0 w.now.track)) }
     ensures mirrors { is_metro (volume_seen (P.state plant.old) config.now w.now.volume.0).fields.primary ≡ true → IfOk result (λ e. e ≡ Landed → Mirrors (P.state plant.new) config.now w.now.volume.0 (volume_seen (P.state plant.old) config.now w.now.volume.0).fields.primary_partner w.now.track) }
@@ -244,7 +244,7 @@ pub fn sync_write<P: Plant>(
     ensures unarmed { (q : ℕ) → (P.state plant.old).read_fuse q ≡ None → (P.state plant.new).read_fuse q ≡ None }
     ensures faults { Counted (is_stop (refusal_of result)) (P.state plant.old).faults (P.state plant.new).faults }
     ensures issued { h.new.issued ≡ h.old.issued }
-    ensures room { journal.old.spare ≤ journal.new.spare + (length config.now.volumes + (length config.now.volumes + 4)) }
+    ensures room { journal.old.spare ≤ journal.new.spare + (length config.now.volumes + (length config.now.volumes + 6)) }
     ensures spare { length journal.new.events + journal.new.spare ≡ length journal.old.events + journal.old.spare }
 {
     let fields = peek_fields(plant, config, w.volume);

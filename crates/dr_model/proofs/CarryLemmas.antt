@@ -1,5 +1,5 @@
--- How a plan is carried out, entry by entry: for the exact clauses of the functions that carry it out.
-use Rattle.std.proofs.Common.{cond, ℕ, ◌≡◌, refl, ap, ◌∙◌, Bool, true, false, List, [], ◌∷◌, ◌++◌, Some, None}
+-- How an update ends, and how a plan is carried out, entry by entry: for the exact clauses of the functions that carry it out.
+use Rattle.std.proofs.Common.{cond, not, ℕ, ◌≡◌, refl, ap, ◌∙◌, sym, subst, Bool, true, false, List, [], ◌∷◌, ◌++◌, Option, Some, None, is_some}
 use Rattle.std.proofs.lemmas.List.{append-nil}
 use Rattle.dr_ids.specs.declared.refusal.Refusal.{Refusal}
 use Rattle.dr_ids.specs.declared.refusal.Refusal.TheVariants.{Stopped}
@@ -7,11 +7,94 @@ use Rattle.dr_model.specs.Refusals.{stopped}
 use Rattle.dr_model.specs.declared.event.Event.{Event}
 use Rattle.dr_model.specs.declared.said.Said.{Said}
 use Rattle.dr_model.specs.declared.said.Said.TheVariants.{Refused}
-use Rattle.dr_model.specs.Control.{Control, World}
-use Rattle.dr_model.specs.Moves.{Move}
-use Rattle.dr_model.specs.Carry.{Act, Make, Redo, Acknowledge, Next, Pass, Do, End, Entry, Turn, Outcome, act, turn, redo, redo_ended, acknowledged, carry, go, continue, check, follow, Drop, dropped}
+use Rattle.dr_model.specs.Histories.{histories}
+use Rattle.dr_model.specs.Layout.{Fields}
+use Rattle.dr_model.specs.Control.{Control, Fuse, Volume, World}
+use Rattle.dr_model.specs.Moves.{Move, Carried, target, next_fields, carried, keeps_staged, updated_keeping}
+use Rattle.dr_model.specs.Carry.{Act, Make, Redo, Acknowledge, Next, Pass, Do, End, Entry, Turn, Outcome, act, turn, redo, redo_ended, acknowledged, carry, go, continue, check, follow, Drop, dropped, Ended, ended, lower, pass, writes, gate_at, counts_by, spent, off, update_keeping, finished, cut_short}
 use Rattle.dr_model.specs.Plans.{Plan, tables_plan, only_says, refuses, same}
 use Rattle.dr_model.specs.Runs.{begun, finish, answered, after_plan, said}
+
+-- a fuse is armed after writes as it was before
+pub lowered-armed : (n : ℕ) (f : Option Fuse) → is_some (lower n f) ≡ is_some f
+lowered-armed n None = refl
+lowered-armed n (Some f) = refl
+
+-- where writes don't all pass, one is armed
+pub cut-armed : (f : Option Fuse) (n : ℕ) → pass f n ≡ false → is_some f ≡ true
+cut-armed None n cut = absurd cc
+cut-armed (Some f) n cut = refl
+
+-- How an update ends. Nothing else need be known of how many writes it has.
+module _ (keeps : Bool) (w : World) (v : ℕ) (f : Fields) (c : Carried) where
+  abbrev u : Volume
+  u = w.control.volume v
+
+  abbrev new : World
+  new = updated_keeping keeps w v f c
+
+  -- by what decides it
+  abbrev ended_by : Bool → Bool → Bool → Ended
+  ended_by on passes counts =
+      cond (not on) (ended w true false)
+      (cond passes (ended (spent new u.server (writes u f c)) false true)
+      (cond counts (ended (off new u.server) true true) (ended (off w u.server) true false)))
+
+  ended-by : update_keeping keeps w v f c ≡ ended_by (w.control.on u.server) (pass (w.control.fuse u.server) (writes u f c)) (counts_by (gate_at u f c) (w.control.fuse u.server) (not u.slot))
+  unfolding update_keeping
+  ended-by = refl
+
+  cases_by : (P : Ended → Type 0) (on passes counts : Bool) → w.control.on u.server ≡ on → (passes ≡ false → is_some (w.control.fuse u.server) ≡ true)
+      → (w.control.on u.server ≡ false → P (ended w true false))
+      → (w.control.on u.server ≡ true → (n : ℕ) → P (ended (spent new u.server n) false true))
+      → (w.control.on u.server ≡ true → is_some (w.control.fuse u.server) ≡ true → P (ended (off new u.server) true true))
+      → (w.control.on u.server ≡ true → is_some (w.control.fuse u.server) ≡ true → P (ended (off w u.server) true false))
+      → P (ended_by on passes counts)
+  cases_by P false passes counts is armed o a b d = o is
+  cases_by P true true counts is armed o a b d = a is _
+  cases_by P true false true is armed o a b d = b is (armed refl)
+  cases_by P true false false is armed o a b d = d is (armed refl)
+
+  -- its server is off; all writes pass; the server, whose fuse was armed, stops, and it is done, or it isn't
+  pub update-cases : (P : Ended → Type 0)
+      → (w.control.on u.server ≡ false → P (ended w true false))
+      → (w.control.on u.server ≡ true → (n : ℕ) → P (ended (spent new u.server n) false true))
+      → (w.control.on u.server ≡ true → is_some (w.control.fuse u.server) ≡ true → P (ended (off new u.server) true true))
+      → (w.control.on u.server ≡ true → is_some (w.control.fuse u.server) ≡ true → P (ended (off w u.server) true false))
+      → P (update_keeping keeps w v f c)
+  update-cases P o a b d =
+      subst P (sym ended-by) (cases_by P _ _ _ refl (cut-armed (w.control.fuse u.server) (writes u f c)) o a b d)
+
+-- and so a move
+module _ (w : World) (m : Move) where
+  abbrev row : Volume
+  row = w.control.volume (target m)
+
+  abbrev next : Fields
+  next = next_fields m w.control.volume
+
+  abbrev track : Carried
+  track = carried m w.control.volume w.contents (histories w.events).write
+
+  abbrev made : World
+  made = updated_keeping (keeps_staged m) w (target m) next track
+
+  abbrev turned_by : Bool → Ended → Turn
+  turned_by on e = cond (not on) (w, None) (cond e.stopped (cut_short e.world m row e.done, Some row.server) (finished e.world m row, None))
+
+  pub turn-ends : (P : Turn → Type 0)
+      → (w.control.on row.server ≡ false → P (w, None))
+      → (w.control.on row.server ≡ true → (n : ℕ) → P (finished (spent made row.server n) m row, None))
+      → (w.control.on row.server ≡ true → is_some (w.control.fuse row.server) ≡ true → P (cut_short (off made row.server) m row true, Some row.server))
+      → (w.control.on row.server ≡ true → is_some (w.control.fuse row.server) ≡ true → P (cut_short (off w row.server) m row false, Some row.server))
+      → P (turn w m)
+  unfolding turn
+  turn-ends P o a b d =
+      update-cases (keeps_staged m) w (target m) next track (λ e. P (turned_by (w.control.on row.server) e))
+      (λ down. subst (λ on. P (turned_by on (ended w true false))) (sym down) (o down))
+      (λ on n. subst (λ up. P (turned_by up (ended (spent made row.server n) false true))) (sym on) (a on n))
+      (λ on armed. subst (λ up. P (turned_by up (ended (off made row.server) true true))) (sym on) (b on armed))
+      (λ on armed. subst (λ up. P (turned_by up (ended (off w row.server) true false))) (sym on) (d on armed))
 
 -- what an act is
 pub act-move : (w : World) (m : Move) → act w (Make m) ≡ turn w m

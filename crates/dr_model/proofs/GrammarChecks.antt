@@ -166,3 +166,15 @@ lss_remote = refl
 lss_wide : outcome (line_of (codes "unfreezeflash 10 1000")) ≡ 18000
 unfolding outcome line_of words_from words_behind command_named commands command_word read_words read_on setting_named settings setting_word operands needed operand_value operand_items own_steps all_digits no_options no_operands spelled_bytes has flagged valued setting_items may_end may_end_with steps_of step_of paired ranges_items form
 lss_wide = refl
+
+destaged : outcome (line_of (codes "@destage 1000")) ≡ 1
+unfolding outcome line_of words_from words_behind command_named commands command_word read_words read_on setting_named settings setting_word operands needed operand_value operand_items own_steps all_digits no_options no_operands spelled_bytes has flagged valued setting_items may_end may_end_with steps_of step_of paired ranges_items form
+destaged = refl
+
+destaged_more : outcome (line_of (codes "@destage 1000 2")) ≡ 15000
+unfolding outcome line_of words_from words_behind command_named commands command_word read_words read_on setting_named settings setting_word operands needed operand_value operand_items own_steps all_digits no_options no_operands spelled_bytes has flagged valued setting_items may_end may_end_with steps_of step_of paired ranges_items form
+destaged_more = refl
+
+destaged_none : outcome (line_of (codes "@destage")) ≡ 9000
+unfolding outcome line_of words_from words_behind command_named commands command_word read_words read_on setting_named settings setting_word operands needed operand_value operand_items own_steps all_digits no_options no_operands spelled_bytes has flagged valued setting_items may_end may_end_with steps_of step_of paired ranges_items form
+destaged_none = refl

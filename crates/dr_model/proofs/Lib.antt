@@ -1,4 +1,4 @@
--- Read first: `CarryLemmas.antt`: a plan entry by entry; `Images.antt`, `LawfulLemmas.antt`; `Asking.antt`,
+-- Read first: `CarryLemmas.antt`: how an update ends, and a plan entry by entry; `Images.antt`, `LawfulLemmas.antt`; `Asking.antt`,
 -- `Overlay.antt` for `image_of`.
 -- - Histories one event further: `histories-push`, `histories-append`; images: `image-push`, `image-issue` (a write that
 --   is issued later changes no image) in `Images.antt`.
@@ -15,3 +15,4 @@ pub mod CarryLemmas
 pub mod GrammarChecks
 pub mod LawfulLemmas
 pub mod MemoryLemmas
+pub mod StagedChecks

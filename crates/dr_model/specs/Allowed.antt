@@ -8,7 +8,7 @@ use Rattle.dr_model.specs.Control.{Pending, Control, World}
 use Rattle.dr_model.specs.declared.state.Part.{Part}
 use Rattle.dr_model.specs.declared.state.Part.TheVariants.{Global}
 use Rattle.dr_model.specs.Layout.{Tracks, is_part}
-use Rattle.dr_model.specs.Moves.{Move, Land, Overwrite, Keep, Note, Relate, Withdraw, Fetch, Resync, Reverse, Restore, Release, Store, Strike, Suspend, MakeSecondary, MakePrimary, DropPrimary, DropSecondary, Follow, Resume, TakeOver, FallBack, Yield, Unsync, Mirror, LandBoth, Thaw, FlashHold, FlashFree, Lift, Restart, Hold, Free, Seal, Finish, RaiseAttempt, RaiseFloor, Leave, Flash, Commit, Revert, target, is_write}
+use Rattle.dr_model.specs.Moves.{Move, Land, Overwrite, Keep, Note, Relate, Withdraw, Fetch, Resync, Reverse, Restore, Release, Store, Strike, Suspend, MakeSecondary, MakePrimary, DropPrimary, DropSecondary, Follow, Resume, TakeOver, FallBack, Yield, Unsync, Mirror, LandBoth, Thaw, FlashHold, FlashFree, Lift, Restart, Hold, Free, Seal, Finish, RaiseAttempt, RaiseFloor, Leave, Flash, Commit, Revert, Unstage, target, is_write}
 use Rattle.dr_model.specs.Pairs.{is_metro, is_kind, is_pending, is_suspended, records}
 use Rattle.dr_model.specs.Entries.{targets_of}
 use Rattle.dr_model.specs.Table.{Table, table}
@@ -293,6 +293,7 @@ Allowed write T (Leave v u s) = Unit {0}
 Allowed write T (Flash v u a s n) = MayFlash T v u a n
 Allowed write T (Commit v a s n) = MayTurn T v n
 Allowed write T (Revert v a s n) = MayTurn T v n
+Allowed write T (Unstage v) = Unit {0}
 
 -- no write has landed on a volume of v's server
 abbrev pub Idle : World → ℕ → Type 0

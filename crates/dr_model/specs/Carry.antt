@@ -1,5 +1,5 @@
 -- Moves carried out on servers that may stop within any device write. No plan says what a stop leaves: this does.
-use Rattle.std.specs.Prelude.{ℕ, ◌-◌, Bool, true, false, not, List, [], ◌∷◌, ◌++◌, filter, Option, Some, None, nat_eq, nat_lt, nat_le, if◌then◌else◌}
+use Rattle.std.specs.Prelude.{ℕ, ◌+◌, ◌-◌, Bool, true, false, not, List, [], ◌∷◌, ◌++◌, filter, Option, Some, None, nat_eq, nat_le, if◌then◌else◌}
 use Rattle.dr_logic.specs.Tables.{at}
 use Rattle.dr_ids.specs.Paths.{without_path}
 use Rattle.dr_ids.specs.declared.refusal.Refusal.{Refusal}
@@ -9,13 +9,22 @@ use Rattle.dr_model.specs.Histories.{histories}
 use Rattle.dr_model.specs.Layout.{Fields, byte, bit}
 use Rattle.dr_model.specs.Control.{Control, Fuse, Volume, World}
 use Rattle.dr_model.specs.Sessions.{changed, begun}
-use Rattle.dr_model.specs.Moves.{Move, Hold, Carried, target, next_fields, carried, told, told_in_stop, landed, settled, settled_in_stop, updated, is_other}
+use Rattle.dr_model.specs.Moves.{Move, Hold, Carried, target, next_fields, carried, told, told_in_stop, landed, settled, settled_in_stop, keeps_staged, updated_keeping, is_other}
 use Rattle.dr_model.specs.declared.event.Event.TheVariants.{Ack, Stopped, Frozen, Thawed, Recovered}
 
--- a move writes the six blocks of the slot that isn't chosen, then the gate, then the carried track's own block
-abbrev pub writes : Carried → ℕ
-writes None = 7
-writes (Some c) = 8
+-- the staged track gives way to another that is carried
+abbrev pub gives_way : Option ℕ → Carried → Bool
+gives_way (Some t) (Some c) = not (nat_eq t c.0)
+gives_way _ _ = false
+
+-- how many blocks a move writes before the gate's, by the volume as it was, its next fields and what is carried: the staged track's own
+-- block where it gives way, then the six of the slot that isn't chosen
+abbrev pub gate_at : Volume → Fields → Carried → ℕ
+gate_at v f c = if gives_way v.staged c then 7 else 6
+
+-- a move writes these blocks, and then the gate
+abbrev pub writes : Volume → Fields → Carried → ℕ
+writes v f c = gate_at v f c + 1
 
 -- a fuse after n more writes
 abbrev pub lowered : ℕ → Fuse → Fuse
@@ -36,20 +45,20 @@ abbrev pub gate_turned : Option (List ℕ) → Bool → Bool
 gate_turned None new = false
 gate_turned (Some bytes) new = equal (bit (byte bytes 0) 0) new
 
--- a move that stops in its write number n, counted from 0, counts as done: not in the slot's six writes, in the
--- gate's write where what stands there chooses the new slot, and in the write after it
-abbrev pub counts : ℕ → Option (List ℕ) → Bool → Bool
-counts n torn new = if nat_lt n 6 then false else if nat_eq n 6 then gate_turned torn new else true
+-- a move that stops in its write number n, counted from 0, counts as done exactly in the gate's write, where what stands there
+-- chooses the new slot
+abbrev pub counts : ℕ → ℕ → Option (List ℕ) → Bool → Bool
+counts gate n torn new = if nat_eq n gate then gate_turned torn new else false
 
 -- n writes of a server pass
 abbrev pub pass : Option Fuse → ℕ → Bool
 pass None n = true
 pass (Some f) n = nat_le n f.after
 
--- where the next write is cut short: a move of a volume whose new slot is that one counts as done
-abbrev pub counts_by : Option Fuse → Bool → Bool
-counts_by None new = false
-counts_by (Some f) new = counts f.after f.torn new
+-- where not all writes pass: a move with so many before the gate's, of a volume whose new slot is that one, counts as done
+abbrev pub counts_by : ℕ → Option Fuse → Bool → Bool
+counts_by gate None new = false
+counts_by gate (Some f) new = counts gate f.after f.torn new
 
 -- a server that stopped in a write: off, and its fuse at 0
 abbrev pub burnt : Option Fuse → Option Fuse
@@ -74,16 +83,20 @@ pub record Ended : Type 0 where
 abbrev pub ended : World → Bool → Bool → Ended
 ended w stopped done = record { world = w; stopped = stopped; done = done }
 
--- A volume is given these fields and this track: nothing is done on a server that is off, all of it where the writes pass; else
--- the server stops, and it is done or not as the write that is cut short says.
-unfoldable pub update : World → ℕ → Fields → Carried → Ended
-update w v f c =
-    let s : ℕ = (w.control.volume v).server in
-    let fuse : Option Fuse = w.control.fuse s in
-    if not (w.control.on s) then ended w true false
-    else if pass fuse (writes c) then ended (spent (updated w v f c) s (writes c)) false true
-    else if counts_by fuse (not (w.control.volume v).slot) then ended (off (updated w v f c) s) true true
-    else ended (off w s) true false
+-- A volume is given these fields and this track, and keeps what is staged, or doesn't: nothing is done on a server that is off, all of
+-- it where the writes pass; else the server stops, and it is done or not as the write that is cut short says.
+unfoldable pub update_keeping : Bool → World → ℕ → Fields → Carried → Ended
+update_keeping keeps w v f c =
+    let u : Volume = w.control.volume v in
+    let fuse : Option Fuse = w.control.fuse u.server in
+    if not (w.control.on u.server) then ended w true false
+    else if pass fuse (writes u f c) then ended (spent (updated_keeping keeps w v f c) u.server (writes u f c)) false true
+    else if counts_by (gate_at u f c) fuse (not u.slot) then ended (off (updated_keeping keeps w v f c) u.server) true true
+    else ended (off w u.server) true false
+
+-- by a move of any kind but the one that leaves nothing staged
+abbrev pub update : World → ℕ → Fields → Carried → Ended
+update = update_keeping true
 
 -- a world in which a move of a volume that was so is done
 abbrev pub finished : World → Move → Volume → World
@@ -109,7 +122,7 @@ turn_ended w m e =
 -- One move, until a write is cut short. No plan comes to a move whose server is off: there nothing would be done.
 unfoldable pub turn : World → Move → Turn
 turn w m =
-    turn_ended w m (update w (target m) (next_fields m w.control.volume) (carried m w.control.volume w.contents (histories w.events).write))
+    turn_ended w m (update_keeping (keeps_staged m) w (target m) (next_fields m w.control.volume) (carried m w.control.volume w.contents (histories w.events).write))
 
 -- a volume's staged track is written to its own place: one write, where a track is staged; nothing that is read changes
 abbrev pub redo_writes : Option ℕ → ℕ

@@ -1,5 +1,6 @@
 -- The limits.
 use Rattle.std.specs.Prelude.{ℕ}
+pub use Rattle.dr_ids.specs.Sizes.{most_tracks}
 
 -- the most events of a journal
 abbrev pub most_events : ℕ
@@ -20,10 +21,6 @@ most_servers = 8
 -- the most volumes
 abbrev pub most_volumes : ℕ
 most_volumes = 64
-
--- of a volume
-abbrev pub most_tracks : ℕ
-most_tracks = 256
 
 -- the most targets of a FlashCopy source
 abbrev pub most_targets : ℕ

@@ -1,7 +1,8 @@
 -- Images in a run: what an `@image` lists. The control state has records, and the devices have blocks: the slot that isn't chosen, torn
 -- bytes, bytes that no field says. So what is listed isn't a function of a script. It is a device for each volume that says what the run
 -- knows of it; and that these are the plant's own devices is said of a run's last step (`ImagesDevices`).
-use Rattle.std.specs.Prelude.{◌≡◌, ℕ, zero, suc, ◌+◌, ◌<◌, List, [], ◌∷◌, ◌++◌, map, Bool, true, false, All, Option, Some, Result, if◌then◌else◌}
+use Rattle.std.specs.Prelude.{◌≡◌, ℕ, zero, suc, ◌<◌, List, [], ◌∷◌, ◌++◌, map, Bool, true, false, All, Option, Some, Result, if◌then◌else◌}
+use Rattle.dr_ids.specs.Sizes.{blocks_of}
 use Rattle.dr_model.specs.declared.step.Step.{Step}
 use Rattle.dr_model.specs.Layout.{Blocks, physical}
 use Rattle.dr_model.specs.Limits.{image_events}
@@ -61,13 +62,13 @@ abbrev pub kept_blocks : ℕ → Blocks → List Kept
 kept_blocks zero blocks = []
 kept_blocks (suc n) blocks = kept_blocks n blocks ++ kept_if n (blocks n) (trimmed (blocks n))
 
--- a volume as it lies on its device, of 13 blocks and one more for each track
+-- a volume as it lies on its device
 abbrev pub listing_of : Control → (ℕ → Blocks) → ℕ → Volume
 listing_of k device v = record {
   volume = v;
   server = (k.volume v).server;
   tracks = (k.volume v).tracks;
-  blocks = kept_blocks (13 + (k.volume v).tracks) (device (device_of k v));
+  blocks = kept_blocks (blocks_of (k.volume v).tracks) (device (device_of k v));
 }
 
 -- all volumes, in order of definition

@@ -94,6 +94,8 @@ pub data Move : Type 0 where
   Flash : (v u a s n : ℕ) → Move
   Commit : (v a s n : ℕ) → Move
   Revert : (v a s n : ℕ) → Move
+  -- nothing is staged on v any more
+  Unstage : (v : ℕ) → Move
 
 -- the volume whose record the move updates
 abbrev pub target : Move → ℕ
@@ -138,6 +140,7 @@ target (Leave v u s) = v
 target (Flash v u a s n) = v
 target (Commit v a s n) = v
 target (Revert v a s n) = v
+target (Unstage v) = v
 
 -- the fields that the move leaves there
 abbrev pub fields_left : Move → Volume → Fields
@@ -182,6 +185,7 @@ fields_left (Leave v a s) u = no_member u.fields
 fields_left (Flash v from a s n) u = flashed s n u.fields
 fields_left (Commit v a s n) u = committed n u.fields
 fields_left (Revert v a s n) u = reverted n u.fields
+fields_left (Unstage v) u = u.fields
 
 -- by the fields of all volumes before it
 abbrev pub next_fields : Move → (ℕ → Volume) → Fields
@@ -289,14 +293,28 @@ settled_in_stop (Overwrite n v t) ps = marked n ps
 settled_in_stop (LandBoth n v t) ps = marked n ps
 settled_in_stop _ ps = ps
 
--- a volume after a move: the other slot has the new fields, and the carried track is staged
-abbrev pub staged_track : Carried → Option ℕ
-staged_track None = None
-staged_track (Some c) = Some c.0
+-- every kind of move but one keeps a staged track in the record, until another takes its stead
+abbrev pub keeps_staged : Move → Bool
+keeps_staged (Unstage v) = false
+keeps_staged m = true
 
--- a volume after a move: its other slot is chosen, with the new fields and the carried track staged
+-- what was staged, unless it is blank now
+abbrev pub unless_blank : Tracks → Option ℕ → Option ℕ
+unless_blank blank None = None
+unless_blank blank (Some t) = if contains blank t then None else Some t
+
+-- what is staged after a move: the carried track; else, where it is kept, what was, unless the new blank set holds it
+abbrev pub staged_after : Bool → Option ℕ → Tracks → Carried → Option ℕ
+staged_after keeps old blank None = if keeps then unless_blank blank old else None
+staged_after keeps old blank (Some c) = Some c.0
+
+-- a volume after a move that keeps what is staged, or doesn't: its other slot is chosen, with the new fields and what is staged
+abbrev pub moved_keeping : Bool → Volume → Fields → Carried → Volume
+moved_keeping keeps v f c = record v { slot = not v.slot; fields = f; staged = staged_after keeps v.staged f.blank c }
+
+-- a volume after a move of any kind but that one
 abbrev pub moved : Volume → Fields → Carried → Volume
-moved v f c = record v { slot = not v.slot; fields = f; staged = staged_track c }
+moved = moved_keeping true
 
 -- track t is the carried one
 abbrev pub is_carried : Carried → ℕ → Bool
@@ -312,9 +330,13 @@ carried_bytes (Some c) = c.1
 abbrev pub tracks_after : Fields → Carried → (ℕ → List ℕ) → ℕ → List ℕ
 tracks_after f c old t = if is_carried c t then carried_bytes c else if contains f.blank t then zeros else old t
 
--- a world after a volume got these fields and this track
-abbrev pub updated : World → ℕ → Fields → Carried → World
-updated w v f c = record w {
-  control = record w.control { volume = at w.control.volume v (moved (w.control.volume v) f c) };
+-- a world after a volume got these fields and this track, and kept what was staged, or didn't
+abbrev pub updated_keeping : Bool → World → ℕ → Fields → Carried → World
+updated_keeping keeps w v f c = record w {
+  control = record w.control { volume = at w.control.volume v (moved_keeping keeps (w.control.volume v) f c) };
   contents = at w.contents v (tracks_after f c (w.contents v));
 }
+
+-- a world after a move of any kind but that one
+abbrev pub updated : World → ℕ → Fields → Carried → World
+updated = updated_keeping true

@@ -16,8 +16,8 @@ use Rattle.dr_model.specs.Refusals.{server_off, unknown, duplicate, over}
 use Rattle.dr_model.specs.Contents.{image_at}
 use Rattle.dr_model.specs.Control.{Control, Fuse, Pending, new_volume, is_volume}
 use Rattle.dr_model.specs.Relations.{Choices, rest}
-use Rattle.dr_model.specs.Moves.{Relate, Withdraw, Resync, Reverse, is_write}
-use Rattle.dr_model.specs.Carry.{Entry, Next, Pass, Do, Acknowledge, now, check}
+use Rattle.dr_model.specs.Moves.{Relate, Withdraw, Resync, Reverse, Unstage, is_write}
+use Rattle.dr_model.specs.Carry.{Entry, Next, Pass, Do, Redo, Acknowledge, redo_writes, now, check}
 use Rattle.dr_model.specs.Entries.{fields_at, is_running, running_check, subsystem, first_of, share_server, share_size, is_no_target, copies_from, targets_of, stands_in, is_any, relation_state, pair_state, is_no_secondary, takes_back, times, fetch_next, give_back}
 use Rattle.dr_model.specs.Sessions.{session_in, members_in, is_member, in_session}
 use Rattle.dr_model.specs.PairEntries.{refuse_if, make_entries, remove_entries, pause_entries, resume_entries, failover_entries, failback_entries, is_copying, tracks_to_send, sends, suspend_after, link_down, first_active, first_differing, differs_at, stands_free}
@@ -40,7 +40,7 @@ use Rattle.dr_model.specs.declared.step.PairChoices.{PairChoices}
 use Rattle.dr_model.specs.declared.step.TornWord.{TornWord}
 use Rattle.dr_model.specs.declared.step.TornWord.TheVariants.{Same, Fill, Bytes}
 use Rattle.dr_model.specs.declared.step.Step.{Step}
-use Rattle.dr_model.specs.declared.step.Step.TheVariants.{Server, Volume, Link, Stop, StopAfter, Start, Issue as IssueWrite, Write, Apply, Show, MakeFlash, RemoveFlash, ResyncFlash, ReverseFlash, Copy, MakePath, RemovePath, MakePair, RemovePair, PausePair, ResumePair, Failover, Failback, Drain, Expire, Freeze, Unfreeze, MakeSession, RemoveSession, AddMember, RemoveMember, MakeMirror, PauseMirror, ResumeMirror, RemoveMirror, Abort, Exchange, Recover, CommitFlash, RevertFlash, UnfreezeFlash, ListPairs, ListFlashes, ListSession, ShowMirror}
+use Rattle.dr_model.specs.declared.step.Step.TheVariants.{Server, Volume, Link, Stop, StopAfter, Start, Issue as IssueWrite, Write, Apply, Show, MakeFlash, RemoveFlash, ResyncFlash, ReverseFlash, Copy, Destage, MakePath, RemovePath, MakePair, RemovePair, PausePair, ResumePair, Failover, Failback, Drain, Expire, Freeze, Unfreeze, MakeSession, RemoveSession, AddMember, RemoveMember, MakeMirror, PauseMirror, ResumeMirror, RemoveMirror, Abort, Exchange, Recover, CommitFlash, RevertFlash, UnfreezeFlash, ListPairs, ListFlashes, ListSession, ShowMirror}
 
 -- a server is defined; it is on
 abbrev pub server_done : Control → Name → Plan
@@ -66,7 +66,7 @@ abbrev pub is_foreign : Control → Option ℕ → ℕ → Bool
 is_foreign k None server = false
 is_foreign k (Some v) server = not (nat_eq (k.volume v).server server)
 
--- the identifier is taken, its subsystem is another server's, it has no track or more than 256, or there are 64 volumes
+-- the identifier is taken, its subsystem is another server's, it has no track or too many, or there are 64 volumes
 abbrev pub volume_refusal : Control → ℕ → ℕ → ℕ → Option Refusal
 volume_refusal k v server tracks =
     if is_volume k v then Some (duplicate OfVolume)
@@ -405,6 +405,24 @@ copy_plan k t most =
     ∷ times count (copy_one k t))
     (Done (Counted count))
 
+-- a staged track is written to its place
+abbrev pub redo_now : ℕ → Entry
+redo_now v k = Do (Redo v)
+
+-- and then nothing is staged any more
+abbrev pub destage_entries : Option ℕ → ℕ → List Entry
+destage_entries None v = []
+destage_entries (Some t) v = redo_now v ∷ now (Unstage v) ∷ []
+
+-- `@destage`, which answers how many tracks were staged
+abbrev pub destage_plan : Control → ℕ → Plan
+destage_plan k v =
+    entries_plan
+    (check (is_defined v) (unknown OfVolume)
+    ∷ running_check k v
+    ∷ destage_entries (k.volume v).staged v)
+    (Done (Counted (redo_writes (k.volume v).staged)))
+
 -- a path is defined, or gets another flag
 abbrev pub make_path_done : ℕ → ℕ → Bool → Plan
 make_path_done src tgt group = tables_plan (λ k. record k { paths = with_path k.paths src tgt group }) [] (Done Alone)
@@ -565,6 +583,7 @@ plan_of k events line (RemoveFlash devs s t sequence) = remove_flash_plan k devs
 plan_of k events line (ResyncFlash devs s t nocopy persistent recorded inhibited sequence) = resync_flash_plan k devs.dev s t sequence
 plan_of k events line (ReverseFlash devs s t tgtpprc sequence) = reverse_flash_plan k devs.dev s t
 plan_of k events line (Copy t most) = copy_plan k t most
+plan_of k events line (Destage v) = destage_plan k v
 plan_of k events line (MakePath devs src tgt group) = path_plan k devs src tgt group
 plan_of k events line (RemovePath devs src tgt force) = unpath_plan k devs src tgt force
 plan_of k events line (MakePair devs a b kind choices) = make_pair_plan k events devs a b (kind_of kind) choices

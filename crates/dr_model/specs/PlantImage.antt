@@ -7,6 +7,7 @@ use Rattle.std.specs.List.{flat_map, list_all, list_any, position, slice_get, sl
 use Rattle.std.specs.Str.{bytes_eq}
 use Rattle.dr_logic.specs.Bytes.{zeros}
 use Rattle.dr_ids.specs.Spelling.{digit_in, hex4}
+use Rattle.dr_ids.specs.Sizes.{most_tracks, blocks_of}
 use Rattle.dr_model.specs.Layout.{Blocks, Fields, fields}
 use Rattle.dr_model.specs.LineText.{bytes_text, spaced}
 use Rattle.dr_model.specs.LineWords.{◌>>=◌, decimal_word}
@@ -112,9 +113,9 @@ kept_of bytes = if nat_le (length bytes) 64 && ends_kept bytes then Some (bytes 
 abbrev pub kept_word : List ℕ → Option (List ℕ)
 kept_word word = upper_bytes word >>= kept_of
 
--- a server's number is at most 7, and a volume has 1 to 256 tracks
+-- a server's number is at most 7, and a volume has at least one track and at most the limit
 abbrev pub volume_of : ℕ → ℕ → ℕ → Option Volume
-volume_of v s t = if nat_le s 7 && (nat_le 1 t && nat_le t 256) then Some (record { volume = v; server = s; tracks = t; blocks = [] }) else None
+volume_of v s t = if nat_le s 7 && (nat_le 1 t && nat_le t most_tracks) then Some (record { volume = v; server = s; tracks = t; blocks = [] }) else None
 
 -- the volume that the words behind `volume` say
 abbrev pub volume_said : List (List ℕ) → Option Volume
@@ -171,7 +172,7 @@ place_of vs v = position (λ w. nat_eq w.volume v) vs
 
 -- a block lies on its volume's device, and comes behind those that have come
 unfoldable pub can_fill : ℕ → ℕ → Volume → Kept → Bool
-can_fill place p w b = nat_le place p && (nat_lt b.index (13 + w.tracks) && list_all (λ c. nat_lt c.index b.index) w.blocks)
+can_fill place p w b = nat_le place p && (nat_lt b.index (blocks_of w.tracks) && list_all (λ c. nat_lt c.index b.index) w.blocks)
 
 -- the volumes where the one at a place has a block more
 unfoldable pub with_block : List Volume → ℕ → Kept → List Volume
@@ -278,8 +279,8 @@ pub record IsVolume (v : Volume) : Type 0 where
   pub volume : v.volume < 65536
   pub server : v.server ≤ 7
   pub some_tracks : 1 ≤ v.tracks
-  pub tracks : v.tracks ≤ 256
-  pub kept : All (IsKept (13 + v.tracks)) v.blocks
+  pub tracks : v.tracks ≤ most_tracks
+  pub kept : All (IsKept (blocks_of v.tracks)) v.blocks
   pub in_order : AllPairs (λ b c. b.index < c.index) v.blocks
 
 -- the volumes of an image, whatever their relationships say

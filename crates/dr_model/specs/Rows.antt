@@ -9,7 +9,7 @@ use Rattle.dr_model.specs.Layout.{Tracks, Fields}
 use Rattle.dr_model.specs.Control.{Volume}
 use Rattle.dr_model.specs.Views.{view}
 use Rattle.dr_model.specs.Relations.{rest, is_bare, turned, given_up}
-use Rattle.dr_model.specs.Moves.{Move, Land, Overwrite, Keep, Relate, Withdraw, Fetch, Resync, Reverse, Restore, Release, Store, Mirror, LandBoth, Flash, Commit, Revert, Carried, target, next_fields, carried, moved}
+use Rattle.dr_model.specs.Moves.{Move, Land, Overwrite, Keep, Relate, Withdraw, Fetch, Resync, Reverse, Restore, Release, Store, Mirror, LandBoth, Flash, Commit, Revert, Carried, target, next_fields, carried, keeps_staged, moved_keeping}
 use Rattle.dr_model.specs.Table.{Row, Table}
 
 -- the volumes of a table
@@ -78,7 +78,7 @@ carried_on write m T = carried m (volumes_of T) (contents_of T) write
 abbrev pub next_row : (ℕ → Write) → Move → Table → Row
 next_row write m T =
     let r : Row = T (target m) in
-    record r { volume = moved r.volume (next_fields m (volumes_of T)) (carried_on write m T); bytes = next_bytes write m T; due = next_due write m T; aside = next_aside m T }
+    record r { volume = moved_keeping (keeps_staged m) r.volume (next_fields m (volumes_of T)) (carried_on write m T); bytes = next_bytes write m T; due = next_due write m T; aside = next_aside m T }
 
 -- the table after a move: one row changes
 abbrev pub after : (ℕ → Write) → Table → Move → Table

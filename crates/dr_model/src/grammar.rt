@@ -14,6 +14,7 @@ pub enum Command {
     AtApply,
     AtDrain,
     AtCopy,
+    AtDestage,
     AtExchange,
     AtRun,
     AtAbort,

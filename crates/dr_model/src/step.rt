@@ -85,6 +85,9 @@ pub enum Step {
         volume: u16,
         most: Option<u32>,
     },
+    Destage {
+        volume: u16,
+    },
     Exchange {
         session: u8,
         server: Name,

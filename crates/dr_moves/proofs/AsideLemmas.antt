@@ -8,7 +8,7 @@ use Rattle.dr_model.specs.Layout.{Fields}
 use Rattle.dr_model.specs.Control.{Volume}
 use Rattle.dr_model.specs.Moves.{Move, Land, Overwrite, Keep, Relate, Withdraw, Fetch, Reverse, Restore, Release, Store, Mirror, LandBoth, Flash, Commit, Revert, Carried, fields_left}
 use Rattle.dr_model.specs.Relations.{is_bare, parted_if, fetched, noted, rewritten, withdrawn_if, turned, given_up}
-use Rattle.dr_volume.specs.Update.{IsAsBefore, IsMoved, OthersStay}
+use Rattle.dr_volume.specs.Update.{IsAsBefore, IsMovedKeeping, OthersStay}
 use Rattle.dr_volume.specs.View.{volume_seen}
 use Rattle.dr_moves.specs.Aside.{KeepsAside, AsideFits}
 use Rattle.dr_moves.specs.Made.{Apart}
@@ -45,12 +45,12 @@ aside-kept (Revert v a s n) x apart keeps = λ r. absurd (let e : false ≡ true
 aside-kept m x apart keeps = keeps
 
 -- v is as it was, or got these fields
-module _ (s u : PlantState) (c : ConfigTable) (v : ℕ) (f : Fields) (t : Carried) (fit : AsideFits s c) (keeps : KeepsAside f) where
-  own : IsAsBefore s u c v ⊎ IsMoved s u c v f t → KeepsAside (volume_seen u c v).fields
+module _ {keeps_staged : Bool} (s u : PlantState) (c : ConfigTable) (v : ℕ) (f : Fields) (t : Carried) (fit : AsideFits s c) (keeps : KeepsAside f) where
+  own : IsAsBefore s u c v ⊎ IsMovedKeeping keeps_staged s u c v f t → KeepsAside (volume_seen u c v).fields
   own (inl same) = subst (λ (x : Volume). KeepsAside x.fields) (sym same.volume) (fit.aside v)
   own (inr is) = subst (λ (x : Volume). KeepsAside x.fields) (sym is.volume) keeps
 
-  pub aside-after : IsAsBefore s u c v ⊎ IsMoved s u c v f t → OthersStay s u c v → AsideFits u c
+  pub aside-after : IsAsBefore s u c v ⊎ IsMovedKeeping keeps_staged s u c v f t → OthersStay s u c v → AsideFits u c
   aside-after how others = record {
     aside = λ q. elim (cases_eq q v) [
       | inl is ↦ subst (λ z. KeepsAside (volume_seen u c z).fields) (sym is) (own how)

@@ -13,12 +13,12 @@ use Rattle.dr_model.specs.Layout.{Fields}
 use Rattle.dr_model.specs.Lawful.{IsLawful}
 use Rattle.dr_model.specs.Log.{Log}
 use Rattle.dr_model.specs.Control.{Volume}
-use Rattle.dr_model.specs.Moves.{Move, Carried, target, fields_left, carried, told, told_in_stop, landed}
+use Rattle.dr_model.specs.Moves.{Move, Carried, target, fields_left, carried, told, told_in_stop, landed, keeps_staged}
 use Rattle.dr_model.specs.Carry.{update}
 use Rattle.dr_model.specs.ReadStops.{GoesOff}
 use Rattle.dr_model.specs.Refusals.{stopped}
 use Rattle.dr_volume.specs.Update.{EndsAs, IsAsBefore, IsMoved, OthersStay}
-use Rattle.dr_volume.specs.View.{Rest, volume_seen, track_seen, IsSettled}
+use Rattle.dr_volume.specs.View.{Rest, volume_seen, track_seen}
 use Rattle.dr_moves.specs.Here.{world_seen, armed_in}
 use Rattle.dr_moves.specs.Made.{IsAt, May, room_for, after_stop, Made, Kept}
 use Rattle.dr_moves.specs.Moves.{volume_with}
@@ -43,7 +43,7 @@ module _ (s : PlantState) (c : ConfigTable) (m : Move) (v : ℕ) (t : Carried) (
   -- finds v ready
   pub ready-by : Ready s c v m t
   ready-by = record {
-    ready = subst (StandsReady s c) is_target (record { stands = at.rest.stands; defined = may.defined; running = may.running; settled = at.rest.settled (target m); size = at.rest.sizes (target m) });
+    ready = subst (StandsReady s c) is_target (record { stands = at.rest.stands; defined = may.defined; running = may.running; size = at.rest.sizes (target m) });
     below = below s c at.rest.sizes m may.asks;
     lawful = may-fits.lawful;
     covers = may-fits.covers;
@@ -54,7 +54,7 @@ module _ (s : PlantState) (c : ConfigTable) (m : Move) (v : ℕ) (t : Carried) (
   pub kept-by : (u : PlantState) (old new : Log) (server : ℕ) (res : Result (Unit {0}) Stop) → IsAsBefore s u c v ⊎ IsMoved s u c v (fields_left m (volume_seen s c v)) t → OthersStay s u c v
       → Stayed s u c old new server (room_for m (volume_seen s c v)) res → Kept s u c old new (room_for m (volume_seen s c (target m))) (is_err res) res
   kept-by u old new server res either others stayed = record {
-    at = at-after s u c v (fields_left m (volume_seen s c v)) t either others at stayed.stands stayed.settled may-fits.leaves;
+    at = at-after s u c v (fields_left m (volume_seen s c v)) t either others at stayed.stands may-fits.leaves;
     aside = λ fit. aside-after s u c v (fields_left m (volume_seen s c v)) t fit (aside-kept m (volume_seen s c v) (at.fit.apart v) (fit.aside v)) either others;
     unarmed = stayed.unarmed;
     faults = stayed.faults;
@@ -90,11 +90,10 @@ module _ (m : Move) (x : Volume) (f : Fields) (y : Volume) (old new : Log) (rows
   done-left is = subst (λ es. old.spare ≡ new.spare + length es) rows.done is
 
   -- what stays where it was done, and where its server stopped in it
-  pub stayed-done : (s u : PlantState) (c : ConfigTable) (server : ℕ) → StandsFor c u → ((q : ℕ) → IsSettled s c q → IsSettled u c q) → ((q : ℕ) → s.read_fuse q ≡ None → u.read_fuse q ≡ None) → u.faults ≡ s.faults → u.on ≡ s.on
+  pub stayed-done : (s u : PlantState) (c : ConfigTable) (server : ℕ) → StandsFor c u → ((q : ℕ) → s.read_fuse q ≡ None → u.read_fuse q ≡ None) → u.faults ≡ s.faults → u.on ≡ s.on
       → new.events ≡ old.events ++ told m y → old.spare ≡ new.spare + length (told m y) → Stayed s u c old new server (room_for m x) {E = Stop} (Ok tt)
-  stayed-done s u c server stands settled unarmed faults on tells left = record {
+  stayed-done s u c server stands unarmed faults on tells left = record {
     stands = stands;
-    settled = settled;
     unarmed = unarmed;
     faults = faults;
     on = on;
@@ -105,11 +104,10 @@ module _ (m : Move) (x : Volume) (f : Fields) (y : Volume) (old new : Log) (rows
         omega (arith, e, left);
   }
 
-  pub stayed-stopped : (s u : PlantState) (c : ConfigTable) (server : ℕ) (stop : Stop) → StandsFor c u → ((q : ℕ) → IsSettled s c q → IsSettled u c q) → ((q : ℕ) → s.read_fuse q ≡ None → u.read_fuse q ≡ None) → u.faults ≡ risen s.faults → u.on server ≡ false
+  pub stayed-stopped : (s u : PlantState) (c : ConfigTable) (server : ℕ) (stop : Stop) → StandsFor c u → ((q : ℕ) → s.read_fuse q ≡ None → u.read_fuse q ≡ None) → u.faults ≡ risen s.faults → u.on server ≡ false
       → old.spare ≤ new.spare + (length (told_in_stop m y) + 1) → length new.events + new.spare ≡ length old.events + old.spare → Stayed s u c old new server (room_for m x) {E = Stop} (Err stop)
-  stayed-stopped s u c server stop stands settled unarmed faults off most sum = record {
+  stayed-stopped s u c server stop stands unarmed faults off most sum = record {
     stands = stands;
-    settled = settled;
     unarmed = unarmed;
     faults = omega (arith, faults);
     on = tt;
@@ -119,11 +117,11 @@ module _ (m : Move) (x : Volume) (f : Fields) (y : Volume) (old new : Log) (rows
   }
 
 -- what was made of it
-module _ (s u : PlantState) (c : ConfigTable) (old new : Log) (m : Move) (v : ℕ) (f : Fields) (t : Carried) (y : Volume) (is_target : target m ≡ v) (ready : Ready s c v m t)
+module _ (s u : PlantState) (c : ConfigTable) (old new : Log) (m : Move) (v : ℕ) (f : Fields) (t : Carried) (y : Volume) (is_target : target m ≡ v) (keeps : keeps_staged m ≡ true) (ready : Ready s c v m t)
     (carries : carried m (volume_seen s c) (track_seen s c) (histories old.events).write ≡ t) (rows : Rows m (volume_seen s c v) f y) where
   pub made-done : ((r : Rest) → EndsAs (world_seen u c r old.events) false (update (world_seen s c r old.events) v f t)) → IsMoved s u c v f t → OthersStay s u c v → new.events ≡ old.events ++ told m y → Made s u c old new m v t (Ok tt)
   made-done ends is others tells = record {
-    turned = λ r. turn-done s u c m v f t old.events new.events is_target ready.ready.running rows.next carries r (ends r) (tells ∙ ap (λ es. old.events ++ es) rows.done);
+    turned = λ r. turn-done s u c m v f t old.events new.events is_target keeps ready.ready.running rows.next carries r (ends r) (tells ∙ ap (λ es. old.events ++ es) rows.done);
     came = subst (λ g. IsMoved s u c v g t) rows.next is;
     others = others;
     server = tt;
@@ -141,7 +139,7 @@ module _ (s u : PlantState) (c : ConfigTable) (old new : Log) (m : Move) (v : �
     turned = λ r. elim (ends r) [
       | inl off ↦ inl (off.0, subst (λ n. GoesOff (armed_in s) (world_seen u c r new.events) (Some (stopped n)) (world_seen s c r old.events)) at off.1)
       | inr stops ↦ inr
-          (turn-stopped s u c m v f t old.events new.events is_target ready.ready.running rows.next carries r was now stops is_was is_now
+          (turn-stopped s u c m v f t old.events new.events is_target keeps ready.ready.running rows.next carries r was now stops is_was is_now
           (tells ∙ (λ i. old.events ++ (if not (beq now was) then rows.in_stop i ++ Stopped (sym at i) (landed m) ∷ [] else Stopped (sym at i) 0 ∷ [])))
           ∙ ap (λ n. (world_seen u c (after_stop m (not (beq now was)) r) new.events, Some n)) at)
     ];

@@ -78,6 +78,12 @@ led armed w v es leads = subst (Ends armed v None w) (append-nil es) (leads arme
 pub failed : (armed : ℕ → Bool) (w u : World) (r : Option Refusal) (es : List Entry) → Fails armed w es u r → Ends armed u r w es
 failed armed w u r es fails = subst (Ends armed u r w) (append-nil es) (fails [])
 
+-- a call whose entries led on, or failed
+pub ends-by : {T : Type 0} (res : Result T Refusal) (armed : ℕ → Bool) (w u : Rest → World) (es : Rest → List Entry)
+    → OnOk res ((r : Rest) → Leads (w r) (es r) (u r)) → OnErr res ((r : Rest) → Fails armed (w r) (es r) (u r) (refusal_of res)) → (r : Rest) → Ends armed (u r) (refusal_of res) (w r) (es r)
+ends-by (Ok x) armed w u es leads fails r = led armed (w r) (u r) (es r) (leads r)
+ends-by (Err e) armed w u es leads fails r = failed armed (w r) (u r) (Some e) (es r) (fails r)
+
 -- what was made, where all went well
 pub made-ok : {T E : Type 0} (res : Result T E) (makes : Bool → Type 0) → makes (is_ok res) → OnOk res (makes true)
 made-ok (Ok x) makes made = made

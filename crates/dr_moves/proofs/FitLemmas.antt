@@ -1,5 +1,5 @@
 -- Relationships that fit go on to fit, where one volume moved.
-use Rattle.std.proofs.Common.{ℕ, ◌≡◌, ◌≢◌, ◌⊎◌, inl, inr, true, false, refl, sym, ◌∙◌, ap, subst}
+use Rattle.std.proofs.Common.{ℕ, Bool, ◌≡◌, ◌≢◌, ◌⊎◌, inl, inr, true, false, refl, sym, ◌∙◌, ap, subst}
 use Rattle.std.specs.Prelude.{is_some}
 use Rattle.std.specs.FinSet.{contains}
 use Rattle.std.proofs.lemmas.Bool.{cases_eq}
@@ -7,9 +7,9 @@ use Rattle.dr_plant.specs.State.{PlantState}
 use Rattle.dr_config.specs.Table.{ConfigTable, place_of}
 use Rattle.dr_model.specs.Layout.{Fields}
 use Rattle.dr_model.specs.Control.{Volume}
-use Rattle.dr_model.specs.Moves.{Carried, moved}
+use Rattle.dr_model.specs.Moves.{Carried, moved_keeping}
 use Rattle.dr_volume.specs.View.{volume_seen}
-use Rattle.dr_volume.specs.Update.{IsAsBefore, IsMoved, OthersStay}
+use Rattle.dr_volume.specs.Update.{IsAsBefore, IsMovedKeeping, OthersStay}
 use Rattle.dr_moves.specs.Fit.{SourceFits, RelationsFit, LeavesFit}
 
 -- the same, of a table of volumes
@@ -24,19 +24,19 @@ fit-same s u t same fit =
     let is : volume_seen s t ≡ volume_seen u t = (λ i q. sym (same q).volume i) in
     record { source = subst (λ f. Sources t f) is fit.source; apart = subst (λ f. Aparts f) is fit.apart }
 
-module _ (s u : PlantState) (t : ConfigTable) (v : ℕ) (f : Fields) (m : Carried) (fit : RelationsFit s t) (leaves : LeavesFit s t v f) (here : volume_seen u t v ≡ moved (volume_seen s t v) f m) (others : OthersStay s u t v) where
+module _ (keeps : Bool) (s u : PlantState) (t : ConfigTable) (v : ℕ) (f : Fields) (m : Carried) (fit : RelationsFit s t) (leaves : LeavesFit s t v f) (here : volume_seen u t v ≡ moved_keeping keeps (volume_seen s t v) f m) (others : OthersStay s u t v) where
   other : (q : ℕ) → q ≢ v → volume_seen u t q ≡ volume_seen s t q
   other q ne = (others q ne).volume
 
   -- v itself
-  own-source : f.related ≡ true → SourceFits (is_some (place_of t f.source)) (moved (volume_seen s t v) f m) (volume_seen u t f.source)
+  own-source : f.related ≡ true → SourceFits (is_some (place_of t f.source)) (moved_keeping keeps (volume_seen s t v) f m) (volume_seen u t f.source)
   own-source related =
       let x = leaves.source related in
       let y = subst (λ z. SourceFits (is_some (place_of t f.source)) (volume_seen s t v) z) (sym (other f.source (leaves.other related))) x in
       record { defined = y.defined; plain = y.plain; same_tracks = y.same_tracks; same_server = y.same_server }
 
   -- a volume whose source is v
-  source-moved : (q : ℕ) → (volume_seen s t q).fields.related ≡ true → (volume_seen s t q).fields.source ≡ v → SourceFits (is_some (place_of t (volume_seen s t q).fields.source)) (volume_seen s t q) (moved (volume_seen s t v) f m)
+  source-moved : (q : ℕ) → (volume_seen s t q).fields.related ≡ true → (volume_seen s t q).fields.source ≡ v → SourceFits (is_some (place_of t (volume_seen s t q).fields.source)) (volume_seen s t q) (moved_keeping keeps (volume_seen s t v) f m)
   source-moved q related is =
       let x = fit.source q related in
       record {
@@ -67,9 +67,9 @@ module _ (s u : PlantState) (t : ConfigTable) (v : ℕ) (f : Fields) (m : Carrie
   }
 
 -- where v is as it was, or moved
-pub fit-after : (s u : PlantState) (t : ConfigTable) (v : ℕ) (f : Fields) (m : Carried) → RelationsFit s t → LeavesFit s t v f → IsAsBefore s u t v ⊎ IsMoved s u t v f m → OthersStay s u t v → RelationsFit u t
-fit-after s u t v f m fit leaves (inl same) others = fit-same s u t (λ q. elim (cases_eq q v) [ inl is ↦ subst (λ z. IsAsBefore s u t z) (sym is) same | inr ne ↦ others q ne ]) fit
-fit-after s u t v f m fit leaves (inr h) others = fit-moved s u t v f m fit leaves h.volume others
+pub fit-after : {keeps : Bool} (s u : PlantState) (t : ConfigTable) (v : ℕ) (f : Fields) (m : Carried) → RelationsFit s t → LeavesFit s t v f → IsAsBefore s u t v ⊎ IsMovedKeeping keeps s u t v f m → OthersStay s u t v → RelationsFit u t
+fit-after {keeps = keeps} s u t v f m fit leaves (inl same) others = fit-same s u t (λ q. elim (cases_eq q v) [ inl is ↦ subst (λ z. IsAsBefore s u t z) (sym is) same | inr ne ↦ others q ne ]) fit
+fit-after {keeps = keeps} s u t v f m fit leaves (inr h) others = fit-moved keeps s u t v f m fit leaves h.volume others
 
 -- a target is no source
 pub target-no_source : (s : PlantState) (t : ConfigTable) (v u : ℕ) → RelationsFit s t → (volume_seen s t v).fields.related ≡ true → (volume_seen s t u).fields.related ≡ true → (volume_seen s t u).fields.source ≢ v

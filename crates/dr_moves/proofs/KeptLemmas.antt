@@ -9,8 +9,7 @@ use Rattle.dr_model.specs.Layout.{Fields}
 use Rattle.dr_model.specs.Log.{Log}
 use Rattle.dr_model.specs.Control.{Volume}
 use Rattle.dr_model.specs.Moves.{Carried}
-use Rattle.dr_volume.specs.Update.{IsAsBefore, IsMoved, OthersStay}
-use Rattle.dr_volume.specs.View.{IsSettled}
+use Rattle.dr_volume.specs.Update.{IsAsBefore, IsMovedKeeping, OthersStay}
 use Rattle.dr_moves.specs.Aside.{KeepsAside, AsideFits}
 use Rattle.dr_moves.specs.Fit.{LeavesFit}
 use Rattle.dr_moves.specs.Here.{armed_in, IsAtRest}
@@ -18,9 +17,9 @@ use Rattle.dr_moves.specs.Made.{IsAt, Kept}
 use Rattle.dr_moves.proofs.FitLemmas.{fit-same, fit-after}
 use Rattle.dr_moves.proofs.GateLemmas.{rest-after}
 
-pub at-after : (s u : PlantState) (c : ConfigTable) (v : ℕ) (f : Fields) (t : Carried) → IsAsBefore s u c v ⊎ IsMoved s u c v f t → OthersStay s u c v → IsAt s c → StandsFor c u → ((q : ℕ) → IsSettled s c q → IsSettled u c q) → LeavesFit s c v f → IsAt u c
-at-after s u c v f t how others at stands settled leaves = record {
-  rest = rest-after c s u v f t at.rest stands settled how others;
+pub at-after : {keeps : Bool} (s u : PlantState) (c : ConfigTable) (v : ℕ) (f : Fields) (t : Carried) → IsAsBefore s u c v ⊎ IsMovedKeeping keeps s u c v f t → OthersStay s u c v → IsAt s c → StandsFor c u → LeavesFit s c v f → IsAt u c
+at-after s u c v f t how others at stands leaves = record {
+  rest = rest-after c s u v f t at.rest stands how others;
   fit = fit-after s u c v f t at.fit leaves how others;
 }
 

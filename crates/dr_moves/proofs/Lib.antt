@@ -39,4 +39,5 @@ pub mod FollowLemmas
 pub mod ActedLemmas
 pub mod WentLemmas
 pub mod PlacingLemmas
+pub mod DestageLemmas
 pub mod HeardLemmas

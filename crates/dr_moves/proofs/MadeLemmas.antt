@@ -1,12 +1,13 @@
 -- Whether a stopped update counts as done, by the slots before it and behind.
-use Rattle.std.proofs.Common.{ℕ, ◌≡◌, refl, ap, ◌∙◌, sym, Bool, true, false, not, cond}
+use Rattle.std.proofs.Common.{ℕ, ◌≡◌, refl, ap, ◌∙◌, sym, Bool, true, false, not}
 use mathlib.Core.Bool.{beq}
 use Rattle.dr_model.specs.Layout.{Fields}
-use Rattle.dr_model.specs.Control.{World}
-use Rattle.dr_model.specs.Moves.{Carried, moved, updated}
-use Rattle.dr_model.specs.Carry.{update, ended, pass, writes, counts_by, spent, off}
+use Rattle.dr_model.specs.Control.{Volume, World}
+use Rattle.dr_model.specs.Moves.{Carried, moved}
+use Rattle.dr_model.specs.Carry.{Ended, update}
 use Rattle.dr_volume.specs.Update.{EndsAs}
 use Rattle.dr_logic.proofs.Tables.{at_same}
+use Rattle.dr_model.proofs.CarryLemmas.{update-cases}
 
 -- two slots differ
 abbrev pub differ : Bool → Bool → Bool
@@ -29,20 +30,13 @@ not_beq false false = refl
 
 -- where an update is stopped, it counts as done exactly where the slot changed
 pub done-by_slot : (w : World) (v : ℕ) (f : Fields) (c : Carried) → (update w v f c).stopped ≡ true → (update w v f c).done ≡ differ ((update w v f c).world.control.volume v).slot (w.control.volume v).slot
-unfolding update
 done-by_slot w v f c =
-    let s = (w.control.volume v).server in
     let old = (w.control.volume v).slot in
-    elim (w.control.on s) as (λ a. (cond (not a) (ended w true false) (cond (pass (w.control.fuse s) (writes c)) (ended (spent (updated w v f c) s (writes c)) false true) (cond (counts_by (w.control.fuse s) (not old)) (ended (off (updated w v f c) s) true true) (ended (off w s) true false)))).stopped ≡ true → (cond (not a) (ended w true false) (cond (pass (w.control.fuse s) (writes c)) (ended (spent (updated w v f c) s (writes c)) false true) (cond (counts_by (w.control.fuse s) (not old)) (ended (off (updated w v f c) s) true true) (ended (off w s) true false)))).done ≡ differ ((cond (not a) (ended w true false) (cond (pass (w.control.fuse s) (writes c)) (ended (spent (updated w v f c) s (writes c)) false true) (cond (counts_by (w.control.fuse s) (not old)) (ended (off (updated w v f c) s) true true) (ended (off w s) true false)))).world.control.volume v).slot old) [
-      | false ↦ λ h. sym (differ_same old)
-      | true ↦ elim (pass (w.control.fuse s) (writes c)) as (λ b. (cond b (ended (spent (updated w v f c) s (writes c)) false true) (cond (counts_by (w.control.fuse s) (not old)) (ended (off (updated w v f c) s) true true) (ended (off w s) true false))).stopped ≡ true → (cond b (ended (spent (updated w v f c) s (writes c)) false true) (cond (counts_by (w.control.fuse s) (not old)) (ended (off (updated w v f c) s) true true) (ended (off w s) true false))).done ≡ differ ((cond b (ended (spent (updated w v f c) s (writes c)) false true) (cond (counts_by (w.control.fuse s) (not old)) (ended (off (updated w v f c) s) true true) (ended (off w s) true false))).world.control.volume v).slot old) [
-        | true ↦ λ h. cc
-        | false ↦ elim (counts_by (w.control.fuse s) (not old)) as (λ b. (cond b (ended (off (updated w v f c) s) true true) (ended (off w s) true false)).stopped ≡ true → (cond b (ended (off (updated w v f c) s) true true) (ended (off w s) true false)).done ≡ differ ((cond b (ended (off (updated w v f c) s) true true) (ended (off w s) true false)).world.control.volume v).slot old) [
-          | true ↦ λ h. sym (ap (λ x. differ x.slot old) (at_same w.control.volume v (moved (w.control.volume v) f c)) ∙ differ_not old)
-          | false ↦ λ h. sym (differ_same old)
-        ]
-      ]
-    ]
+    update-cases true w v f c (λ (e : Ended). e.stopped ≡ true → e.done ≡ differ (e.world.control.volume v).slot old)
+    (λ down h. sym (differ_same old))
+    (λ on n h. cc)
+    (λ on armed h. sym (ap (λ (x : Volume). differ x.slot old) (at_same w.control.volume v (moved (w.control.volume v) f c)) ∙ differ_not old))
+    (λ on armed h. sym (differ_same old))
 
 -- as the program looks at the slots before and after
 pub done-by : (w u : World) (v : ℕ) (f : Fields) (c : Carried) (before after : Bool) → EndsAs u true (update w v f c) → before ≡ (w.control.volume v).slot → after ≡ (u.control.volume v).slot → (update w v f c).done ≡ not (beq after before)

@@ -12,7 +12,7 @@ use Rattle.dr_model.specs.Histories.{Write}
 use Rattle.dr_model.specs.Contents.{with_write}
 use Rattle.dr_model.specs.Layout.{Tracks, Fields}
 use Rattle.dr_model.specs.Lawful.{Low, NoRelation, IsLawful}
-use Rattle.dr_model.specs.Moves.{Move, Land, Overwrite, Keep, Note, Relate, Withdraw, Fetch, Resync, Reverse, Restore, Release, Store, Strike, Suspend, MakeSecondary, MakePrimary, DropPrimary, DropSecondary, Follow, Resume, TakeOver, FallBack, Yield, Unsync, Mirror, LandBoth, Thaw, FlashHold, FlashFree, Lift, Restart, Hold, Free, Seal, Finish, RaiseAttempt, RaiseFloor, Leave, Flash, Commit, Revert, Carried, is_carried, target, fields_left, carried}
+use Rattle.dr_model.specs.Moves.{Move, Land, Overwrite, Keep, Note, Relate, Withdraw, Fetch, Resync, Reverse, Restore, Release, Store, Strike, Suspend, MakeSecondary, MakePrimary, DropPrimary, DropSecondary, Follow, Resume, TakeOver, FallBack, Yield, Unsync, Mirror, LandBoth, Thaw, FlashHold, FlashFree, Lift, Restart, Hold, Free, Seal, Finish, RaiseAttempt, RaiseFloor, Leave, Flash, Commit, Revert, Carried, is_carried, target, fields_left, carried, Unstage}
 use Rattle.dr_model.specs.Relations.{rest, is_whole, is_bare, parted_if, closed, fetched, noted, rewritten, withdrawn_if, resynced, turned, given_up, restored, flashed, committed, reverted}
 use Rattle.dr_model.specs.Pairs.{altered, written, held_for, freed, sealed, past_attempt, with_attempt, with_floor, no_member, suspended, made_secondary, made_primary, no_primary, no_secondary, received, struck, resumed, taken_over, fallen_back, yielded, unsynced, mirrored, synced, thawed, flash_held, flash_freed, lifted, restarted}
 use Rattle.dr_volume.specs.Update.{Covers}
@@ -135,6 +135,7 @@ module _ (s : PlantState) (c : ConfigTable) (fit : RelationsFit s c) where
   fits (Store v t u last) write lawful asks = kept-fits v (received last (volume_seen s c v).fields t) (Some (t, track_seen s c u t)) (lawful-received (volume_seen s c v).tracks (volume_seen s c v).fields lawful last t asks.1) (covers-carried (volume_seen s c v).fields.blank t (track_seen s c u t)) refl refl (apart-less (volume_seen s c v).fields.own (volume_seen s c v).fields.blank t (fit.apart v))
   fits (Strike v t last) write lawful asks = kept-fits v (struck last (volume_seen s c v).fields t) None (lawful-struck (volume_seen s c v).tracks (volume_seen s c v).fields lawful last t asks) (covers-all (volume_seen s c v).fields.blank None) refl refl (fit.apart v)
   fits (Suspend v busy) write lawful asks = kept-fits v (suspended busy (volume_seen s c v).fields) None (lawful-suspended (volume_seen s c v).tracks (volume_seen s c v).fields lawful busy asks) (covers-all (volume_seen s c v).fields.blank None) refl refl (fit.apart v)
+  fits (Unstage v) write lawful asks = kept-fits v (volume_seen s c v).fields None lawful (covers-all (volume_seen s c v).fields.blank None) refl refl (fit.apart v)
   fits (MakeSecondary v u kind state) write lawful asks = kept-fits v (made_secondary u kind state (volume_seen s c v).fields) None (lawful-made_secondary (volume_seen s c v).tracks (volume_seen s c v).fields lawful u kind state asks) (covers-all (volume_seen s c v).fields.blank None) refl refl (fit.apart v)
   fits (MakePrimary v u kind state full) write lawful asks = kept-fits v (made_primary (volume_seen s c v).tracks u kind state full (volume_seen s c v).fields) None (lawful-made_primary (volume_seen s c v).tracks (volume_seen s c v).fields lawful u kind state full asks) (covers-all (volume_seen s c v).fields.blank None) refl refl (fit.apart v)
   fits (DropPrimary v) write lawful asks = kept-fits v (no_primary (volume_seen s c v).fields) None (lawful-no_primary (volume_seen s c v).tracks (volume_seen s c v).fields lawful) (covers-all (volume_seen s c v).fields.blank None) refl refl (fit.apart v)

@@ -1,12 +1,14 @@
 -- What a move makes of a volume looks at its tracks and its fields alone.
-use Rattle.std.proofs.Common.{ℕ, ◌≡◌, refl, sym, ◌∙◌}
+use Rattle.std.proofs.Common.{ℕ, ◌≡◌, true, refl, sym, ◌∙◌}
 use Rattle.dr_model.specs.Layout.{Fields}
 use Rattle.dr_model.specs.Control.{Volume}
-use Rattle.dr_model.specs.Moves.{Move, Land, fields_left, told, told_in_stop}
+use Rattle.dr_model.specs.Moves.{Move, Land, fields_left, told, told_in_stop, keeps_staged}
 use Rattle.dr_volume.specs.declared.fields.Fields as declared
 use Rattle.dr_volume.specs.Plain.{plain}
-use Rattle.dr_moves.specs.Moves.{volume_with}
+use Rattle.dr_moves.specs.Moves.{move_of, volume_with}
 use Rattle.dr_moves.specs.Told.{seen}
+use Rattle.dr_moves.specs.declared.moves.Move as moves
+use Rattle.dr_moves.specs.declared.moves.Move.TheVariants as move
 use Rattle.dr_moves.specs.declared.told.Sight.{Sight}
 
 pub fields-with : (m : Move) (x : Volume) → fields_left m (volume_with x.tracks x.fields) ≡ fields_left m x
@@ -42,3 +44,8 @@ told-seen m n f = refl
 pub stop-seen : (m : Move) (n : ℕ) (f : declared.Fields) → told_in_stop m (volume_with n (seen (sight f))) ≡ told_in_stop m (volume_with n (plain f))
 stop-seen (Land w v t) n f = refl
 stop-seen m n f = refl
+
+-- each keeps what is staged: the one kind that doesn't is `destage`'s
+pub keeps-of : (m : moves.Move) → keeps_staged (move_of m) ≡ true
+keeps-of (move.Land w v t) = refl
+keeps-of m = refl

@@ -9,7 +9,7 @@ use Rattle.dr_model.specs.declared.event.Event.TheVariants.{Stopped}
 use Rattle.dr_model.specs.Refusals.{stopped}
 use Rattle.dr_model.specs.Control.{World}
 use Rattle.dr_model.specs.Carry.{Ended, ended, Entry, Do, Redo, act, redo}
-use Rattle.dr_model.specs.ReadStops.{shut}
+use Rattle.dr_model.specs.ReadStops.{GoesOff, shut}
 use Rattle.dr_model.proofs.CarryLemmas.{act-redo}
 use Rattle.dr_volume.specs.View.{Rest, volume_seen}
 use Rattle.dr_volume.specs.Update.{EndsAs, after_reading}
@@ -20,18 +20,31 @@ use Rattle.dr_facts.proofs.Ends.{ends-off, ends-goes, ends-stops}
 use Rattle.dr_moves.proofs.ReadLemmas.{on-running, is-armed}
 
 -- the server, whose read fuse is armed, went off before any write
-record Shuts (s : PlantState) (server : ℕ) (w u : World) (failed : Bool) : Type 0 where
-  stuck : passes_read (s.read_fuse server) ≡ false
-  world : u ≡ shut w server
-  answer : failed ≡ true
+pub record Shuts (s : PlantState) (server : ℕ) (w u : World) (failed : Bool) : Type 0 where
+  pub stuck : passes_read (s.read_fuse server) ≡ false
+  pub world : u ≡ shut w server
+  pub answer : failed ≡ true
 
 -- an act that begins with a read ends as the machine's, or at that read
-split : (s : PlantState) (server : ℕ) (w u : World) (b : Bool) (e : Ended) → EndsAs u b (after_reading s server w e) → EndsAs u b e ⊎ Shuts s server w u b
+pub split : (s : PlantState) (server : ℕ) (w u : World) (b : Bool) (e : Ended) → EndsAs u b (after_reading s server w e) → EndsAs u b e ⊎ Shuts s server w u b
 split s server w u b e ends =
     elim (passes_read (s.read_fuse server)) as (λ p. passes_read (s.read_fuse server) ≡ p → EndsAs u b (if p then e else ended (shut w server) true false) → EndsAs u b e ⊎ Shuts s server w u b) [
       | true ↦ λ pass h. inl h
       | false ↦ λ stuck h. inr (record { stuck = stuck; world = h.world; answer = h.stopped })
     ] refl ends
+
+-- and so it went off, and the journal is told
+pub shut-off : (s s' : PlantState) (t : ConfigTable) (r : Rest) (ev mid : List Event) (v : ℕ) → s.on (volume_seen s t v).server ≡ true → (volume_seen s t v).server < 8 → mid ≡ ev ++ Stopped (volume_seen s t v).server 0 ∷ []
+    → Shuts s (volume_seen s t v).server (world_seen s t r ev) (world_seen s' t r ev) true → GoesOff (armed_in s) (world_seen s' t r mid) (Some (stopped (volume_seen s t v).server)) (world_seen s t r ev)
+shut-off s s' t r ev mid v on low told x =
+    let o = (volume_seen s t v).server in
+    record {
+      server = o;
+      on = on-running s o on;
+      is_armed = is-armed s o low (armed-of (s.read_fuse o) x.stuck);
+      world = ap (world_seen s' t r) told ∙ ap (λ (y : World). record y { events = ev ++ Stopped o 0 ∷ [] }) x.world;
+      refusal = refl;
+    }
 
 module _ (s s' : PlantState) (t : ConfigTable) (r : Rest) (ev : List Event) (v : ℕ) (on : s.on (volume_seen s t v).server ≡ true) (d : Entry) (comes : d (world_seen s t r ev).control ≡ Do (Redo v)) where
   abbrev w : World
@@ -62,11 +75,5 @@ module _ (s s' : PlantState) (t : ConfigTable) (r : Rest) (ev : List Event) (v :
         (redo_by true x.stopped
         ∙ ap (λ (y : World). (record y { events = ev ++ Stopped o 0 ∷ [] }, Some o)) (sym x.world)
         ∙ ap (λ es. (world_seen s' t r es, Some o)) (sym told)) refl
-    | inr x ↦ ends-off (armed_in s) (world_seen s' t r mid) (Some (stopped o)) w (d ∷ ds) (record {
-      server = o;
-      on = on-running s o on;
-      is_armed = is-armed s o low (armed-of (s.read_fuse o) x.stuck);
-      world = ap (world_seen s' t r) told ∙ ap (λ (y : World). record y { events = ev ++ Stopped o 0 ∷ [] }) x.world;
-      refusal = refl;
-    })
+    | inr x ↦ ends-off (armed_in s) (world_seen s' t r mid) (Some (stopped o)) w (d ∷ ds) (shut-off s s' t r ev mid v on low told x)
   ]

@@ -11,7 +11,7 @@ use Rattle.dr_model.specs.declared.event.Event.TheVariants.{Stopped}
 use Rattle.dr_model.specs.Control.{Volume, World}
 use Rattle.dr_model.specs.Refusals.{stopped}
 use Rattle.dr_model.specs.ReadStops.{GoesOff}
-use Rattle.dr_volume.specs.View.{Rest, volume_seen, track_seen, device_of, on_seen, IsSettled}
+use Rattle.dr_volume.specs.View.{Rest, volume_seen, track_seen, device_of, on_seen}
 use Rattle.dr_volume.specs.Update.{IsAsBefore}
 use Rattle.dr_volume.proofs.UpdateLaws.{server-seen}
 use Rattle.dr_volume.proofs.UnreadLaws.{Unread, unread, lies-at}
@@ -47,10 +47,9 @@ module _ (c : ConfigTable) (s u : PlantState) (v : ℕ) (stands : StandsFor c s)
       let x = lies-at c s v defined size stands in
       (λ i. (is i).on (server-seen c s v (device_of c v) x.0 x.1 i)) ∙ off-after_read s (device_of c v) (sym stuck)
 
-pub rest-same : (c : ConfigTable) (s u : PlantState) → IsAtRest s c → StandsFor c u → ((q : ℕ) → IsSettled s c q → IsSettled u c q) → ((q : ℕ) → IsAsBefore s u c q) → IsAtRest u c
-rest-same c s u rest stands settled same = record {
+pub rest-same : (c : ConfigTable) (s u : PlantState) → IsAtRest s c → StandsFor c u → ((q : ℕ) → IsAsBefore s u c q) → IsAtRest u c
+rest-same c s u rest stands same = record {
   stands = stands;
-  settled = λ q. settled q (rest.settled q);
   sizes = λ q. subst (λ n. n ≤ 256) (sym (ap (λ (y : Volume). y.tracks) (same q).volume)) (rest.sizes q);
 }
 

@@ -9,8 +9,8 @@ use Rattle.dr_model.specs.declared.event.Event.TheVariants.{Stopped}
 use Rattle.dr_model.specs.Histories.{histories}
 use Rattle.dr_model.specs.Layout.{Fields}
 use Rattle.dr_model.specs.Control.{Volume, World}
-use Rattle.dr_model.specs.Moves.{Move, Carried, target, fields_left, carried, told, told_in_stop, landed}
-use Rattle.dr_model.specs.Carry.{Turn, turn, update, finished, cut_short, Ended}
+use Rattle.dr_model.specs.Moves.{Move, Carried, target, fields_left, carried, told, told_in_stop, landed, keeps_staged}
+use Rattle.dr_model.specs.Carry.{Turn, turn, update, update_keeping, finished, cut_short, Ended}
 use Rattle.dr_volume.specs.Update.{EndsAs, IsAsBefore, IsMoved}
 use Rattle.dr_volume.specs.View.{Rest, world, volume_seen, track_seen}
 use Rattle.dr_moves.specs.Here.{world_seen}
@@ -18,7 +18,7 @@ use Rattle.dr_moves.specs.Made.{after_done, after_stop, Came}
 use Rattle.dr_moves.proofs.ReadLemmas.{on-running}
 use Rattle.dr_moves.proofs.MadeLemmas.{done-by}
 
-module _ (s u : PlantState) (c : ConfigTable) (m : Move) (v : ℕ) (f : Fields) (t : Carried) (before after : List Event) (is_target : target m ≡ v) (on : s.on (volume_seen s c v).server ≡ true)
+module _ (s u : PlantState) (c : ConfigTable) (m : Move) (v : ℕ) (f : Fields) (t : Carried) (before after : List Event) (is_target : target m ≡ v) (keeps : keeps_staged m ≡ true) (on : s.on (volume_seen s c v).server ≡ true)
     (next : f ≡ fields_left m (volume_seen s c v)) (carries : carried m (volume_seen s c) (track_seen s c) (histories before).write ≡ t) (r : Rest) where
   abbrev x : Volume
   x = volume_seen s c v
@@ -41,7 +41,7 @@ module _ (s u : PlantState) (c : ConfigTable) (m : Move) (v : ℕ) (f : Fields) 
   turn-is : turn w m ≡ (if e.stopped then (cut_short e.world m x e.done, Some x.server) else (finished e.world m x, None))
   unfolding turn
   turn-is =
-      (λ i. ended_at (is_target i) (update w (is_target i) (fields_left m (volume_seen s c (is_target i))) (carried m (volume_seen s c) (track_seen s c) (histories before).write)))
+      (λ i. ended_at (is_target i) (update_keeping (keeps i) w (is_target i) (fields_left m (volume_seen s c (is_target i))) (carried m (volume_seen s c) (track_seen s c) (histories before).write)))
       ∙ (λ i. ended_at v (update w v (sym next i) (carries i)))
       ∙ ap (λ b. cond (not b) (w, None) (cond e.stopped (cut_short e.world m x e.done, Some x.server) (finished e.world m x, None))) (on-running s x.server on)
 

@@ -1,11 +1,12 @@
 -- The machine's state that a call finds and leaves, and how the call ended.
 use Rattle.std.specs.Prelude.{ℕ, ◌≤◌, Bool, ◌&&◌, List, Option, Some, None, is_some, nat_lt, Result, Ok, Err}
+use Rattle.dr_ids.specs.Sizes.{most_tracks}
 use Rattle.dr_ids.specs.declared.refusal.Refusal.{Refusal}
 use Rattle.dr_plant.specs.State.{PlantState}
 use Rattle.dr_config.specs.Table.{ConfigTable, StandsFor}
 use Rattle.dr_model.specs.declared.event.Event.{Event}
 use Rattle.dr_model.specs.Control.{World}
-use Rattle.dr_volume.specs.View.{Rest, world, volume_seen, IsSettled}
+use Rattle.dr_volume.specs.View.{Rest, world, volume_seen}
 
 -- the state that plant, configuration, the rest and a journal show
 abbrev pub world_seen : PlantState → ConfigTable → Rest → List Event → World
@@ -20,9 +21,7 @@ refusal_of (Err r) = Some r
 abbrev pub armed_in : PlantState → ℕ → Bool
 armed_in s server = nat_lt server 8 && is_some (s.read_fuse server)
 
--- The configuration stands for the plant, each running volume's staged track stands at its place, and no volume is
--- larger than a volume may be.
+-- The configuration stands for the plant, and no volume is larger than a volume may be.
 pub record IsAtRest (s : PlantState) (t : ConfigTable) : Type 0 where
   pub stands : StandsFor t s
-  pub settled : (v : ℕ) → IsSettled s t v
-  pub sizes : (v : ℕ) → (volume_seen s t v).tracks ≤ 256
+  pub sizes : (v : ℕ) → (volume_seen s t v).tracks ≤ most_tracks

@@ -20,7 +20,7 @@ use Rattle.dr_moves.specs.Fit.{SourceFits, RelationsFit}
 use Rattle.dr_moves.specs.Here.{world_seen, armed_in, IsAtRest}
 use Rattle.dr_moves.specs.declared.acts.Stop.{Stop}
 
--- Configuration and plant agree, staged tracks are at their places, and relationships fit.
+-- Configuration and plant agree, and relationships fit.
 pub record IsAt (s : PlantState) (c : ConfigTable) : Type 0 where
   pub rest : IsAtRest s c
   pub fit : RelationsFit s c

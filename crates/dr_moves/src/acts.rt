@@ -52,6 +52,7 @@ pub(crate) fn change<P: Plant>(
     ensures stayed { Stayed (P.state plant.old) (P.state plant.new) config.now journal.old journal.new (volume_seen (P.state plant.old) config.now v.0).server (room_for (move_of m.now) (volume_seen (P.state plant.old) config.now v.0)) result }
     ensures room_left { OnOk result (journal.old.spare ≡ journal.new.spare + length (machine.told (move_of m.now) (volume_seen (P.state plant.old) config.now v.0))) }
     ensures opened { OnOk result (IsOpened (P.state plant.new) config.now v.0 (record { gate = gate.new; fields = fields.new })) }
+    ensures says { OnOk result (Says (P.state plant.new) config.now v.0 fields.new) }
     ensures others_opened { OthersOpened (P.state plant.old) (P.state plant.new) config.now v.0 }
 {
     let size = tracks_of(config, v);
@@ -91,6 +92,7 @@ pub(crate) fn change_by<P: Plant>(
     ensures either { IsAsBefore (P.state plant.old) (P.state plant.new) config.now v.0 ⊎ IsMoved (P.state plant.old) (P.state plant.new) config.now v.0 (machine.fields_left (move_of m.now) (volume_seen (P.state plant.old) config.now v.0)) track }
     ensures stayed { Stayed (P.state plant.old) (P.state plant.new) config.now journal.old journal.new (volume_seen (P.state plant.old) config.now v.0).server (room_for (move_of m.now) (volume_seen (P.state plant.old) config.now v.0)) result }
     ensures room_left { OnOk result (journal.old.spare ≡ journal.new.spare + length (machine.told (move_of m.now) (volume_seen (P.state plant.old) config.now v.0))) }
+    ensures says { OnOk result (Says (P.state plant.new) config.now v.0 fields.new) }
 {
     match open_told(plant, config, journal, v) {
         Ok(mut gate) => change(plant, config, journal, v, m, &mut gate, fields, track),

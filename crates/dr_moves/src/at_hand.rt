@@ -52,43 +52,44 @@ pub fn make_opened<P: Plant>(
     )
 }
 
-/// Makes a move by the fields of its volume, which are at hand, as `make` does: of the record the gate alone is read. What these fields
-/// say of a staged track is not looked at. Fails where the server stops in it or goes off at that read.
+/// Makes a move by the fields of its volume, which are at hand and become what the move leaves, as `make` does: of the record the
+/// gate alone is read. Fails where the server stops in it or goes off at that read.
 pub fn make_by<P: Plant>(
     plant: &mut P,
     config: &Config,
     journal: &mut Journal,
     m: &Move,
-    fields: &Fields,
+    fields: &mut Fields,
     track: Option<(u16, Block)>,
 ) -> Result<(), Stop>
     requires at { IsAt (P.state plant.old) config.now }
     requires may { May (P.state plant.old) config.now (move_of m.now) }
-    requires says { Says (P.state plant.old) config.now (machine.target (move_of m.now)) fields.now }
+    requires says { Says (P.state plant.old) config.now (machine.target (move_of m.now)) fields.old }
     requires carries { machine.carried (move_of m.now) (volume_seen (P.state plant.old) config.now) (track_seen (P.state plant.old) config.now) (histories journal.old.events).write ≡ track }
     requires room { room_for (move_of m.now) (volume_seen (P.state plant.old) config.now (machine.target (move_of m.now))) ≤ journal.old.spare }
     ensures made { Made (P.state plant.old) (P.state plant.new) config.now journal.old journal.new (move_of m.now) (machine.target (move_of m.now)) track result }
     ensures kept { Kept (P.state plant.old) (P.state plant.new) config.now journal.old journal.new (room_for (move_of m.now) (volume_seen (P.state plant.old) config.now (machine.target (move_of m.now)))) (is_err result) result }
     ensures room_left { OnOk result (journal.old.spare ≡ journal.new.spare + length (machine.told (move_of m.now) (volume_seen (P.state plant.old) config.now (machine.target (move_of m.now))))) }
+    ensures says { OnOk result (Says (P.state plant.new) config.now (machine.target (move_of m.now)) fields.new) }
 {
-    let mut next = *fields;
-    change_by(plant, config, journal, target_of(m), m, &mut next, track)
+    change_by(plant, config, journal, target_of(m), m, fields, track)
 }
 
-/// Makes a move that lands no host write by the fields of its volume, which are at hand, as an entry of a plan. Fails with
+/// Makes a move that lands no host write by the fields of its volume, which are at hand and become what the move leaves, as an entry
+/// of a plan. Fails with
 /// `Refusal::Stopped` of its server, where `make_by` fails. The journal needs the same room.
 pub fn make_move_by<P: Plant>(
     plant: &mut P,
     config: &Config,
     journal: &mut Journal,
     m: &Move,
-    fields: &Fields,
+    fields: &mut Fields,
     track: Option<(u16, Block)>,
 ) -> Result<(), Refusal>
     requires at { IsAt (P.state plant.old) config.now }
     requires may { May (P.state plant.old) config.now (move_of m.now) }
     requires calm { is_calm (move_of m.now) ≡ true }
-    requires says { Says (P.state plant.old) config.now (machine.target (move_of m.now)) fields.now }
+    requires says { Says (P.state plant.old) config.now (machine.target (move_of m.now)) fields.old }
     requires carries { machine.carried (move_of m.now) (volume_seen (P.state plant.old) config.now) (track_seen (P.state plant.old) config.now) (histories journal.old.events).write ≡ track }
     requires room { room_for (move_of m.now) (volume_seen (P.state plant.old) config.now (machine.target (move_of m.now))) ≤ journal.old.spare }
     ensures entered { Entered (P.state plant.old) (P.state plant.new) config.now journal.old.events journal.new.events (move_of m.now) (machine.target (move_of m.now)) result }
@@ -97,6 +98,7 @@ pub fn make_move_by<P: Plant>(
     ensures kept { Kept (P.state plant.old) (P.state plant.new) config.now journal.old journal.new (room_for (move_of m.now) (volume_seen (P.state plant.old) config.now (machine.target (move_of m.now)))) (is_err result) result }
     ensures room_left { OnOk result (journal.old.spare ≡ journal.new.spare + length (machine.told (move_of m.now) (volume_seen (P.state plant.old) config.now (machine.target (move_of m.now))))) }
     ensures old_or_new { IsAsBefore (P.state plant.old) (P.state plant.new) config.now (machine.target (move_of m.now)) ⊎ IsMoved (P.state plant.old) (P.state plant.new) config.now (machine.target (move_of m.now)) (machine.fields_left (move_of m.now) (volume_seen (P.state plant.old) config.now (machine.target (move_of m.now)))) track }
+    ensures says { OnOk result (Says (P.state plant.new) config.now (machine.target (move_of m.now)) fields.new) }
 {
     match make_by(plant, config, journal, m, fields, track) {
         Ok(()) => Ok(()),

@@ -2,9 +2,11 @@
 
 ghost use Rattle.std.specs.Prelude.{◌≡◌, ◌≤◌, ◌<◌, true, if◌then◌else◌};
 ghost use Rattle.std.specs.FinSet.{difference, insert};
+ghost use Rattle.dr_ids.specs.Sizes.{most_tracks};
 ghost use Rattle.dr_model.specs.Pairs as pairs;
 ghost use Rattle.dr_model.specs.Relations as relations;
 ghost use Rattle.dr_volume.specs.Plain.{plain};
+ghost use Rattle.dr_volume.specs.Update.{stages};
 ghost use Rattle.dr_moves.specs.Options.{choices};
 
 use crate::options::FlashOptions;
@@ -15,7 +17,8 @@ use dr_volume::Fields;
 
 /// The fields of a volume that is a target no more.
 fn parted(f: &mut Fields)
-    ensures { plain f.new ≡ relations.parted_if true (plain f.old) }
+    ensures fields { plain f.new ≡ relations.parted_if true (plain f.old) }
+    ensures stages { stages f.new ≡ stages f.old }
 {
     f.related = false;
     f.source = VolumeId(0);
@@ -37,8 +40,9 @@ fn parted(f: &mut Fields)
 
 /// A relationship that isn't persistent ends where the target holds all tracks.
 fn closed(n: u16, f: &mut Fields)
-    requires { n ≤ 256 }
-    ensures { plain f.new ≡ relations.closed n (plain f.old) }
+    requires { n ≤ most_tracks }
+    ensures fields { plain f.new ≡ relations.closed n (plain f.old) }
+    ensures stages { stages f.new ≡ stages f.old }
 {
     if is_whole(n, &f.own) && !f.persistent {
         parted(f);
@@ -47,7 +51,7 @@ fn closed(n: u16, f: &mut Fields)
 
 /// Track t is one of a set, where it is to be.
 fn insert_if(there: bool, set: &mut TrackSet, t: u16)
-    requires { t < 256 }
+    requires { t < most_tracks }
     ensures { set.new ≡ (if there then insert set.old t else set.old) }
 {
     if there {
@@ -57,8 +61,9 @@ fn insert_if(there: bool, set: &mut TrackSet, t: u16)
 
 /// A volume whose track t has new bytes.
 pub fn altered(f: &mut Fields, t: u16)
-    requires { t < 256 }
-    ensures { plain f.new ≡ pairs.altered (plain f.old) t }
+    requires { t < most_tracks }
+    ensures fields { plain f.new ≡ pairs.altered (plain f.old) t }
+    ensures stages { stages f.new ≡ stages f.old }
 {
     let first = f.primary.is_part();
     insert_if(first, &mut f.out_of_sync, t);
@@ -68,8 +73,9 @@ pub fn altered(f: &mut Fields, t: u16)
 /// A volume on whose track t a host write landed: of a primary that records the track has changed since it began to, of
 /// any other primary it is out of sync.
 pub fn written(f: &mut Fields, t: u16)
-    requires { t < 256 }
-    ensures { plain f.new ≡ pairs.written (plain f.old) t }
+    requires { t < most_tracks }
+    ensures fields { plain f.new ≡ pairs.written (plain f.old) t }
+    ensures stages { stages f.new ≡ stages f.old }
 {
     let first = f.primary.is_part();
     let recording = f.recording;
@@ -80,8 +86,9 @@ pub fn written(f: &mut Fields, t: u16)
 
 /// The target holds track t.
 fn fetched(f: &mut Fields, t: u16)
-    requires { t < 256 }
-    ensures { plain f.new ≡ relations.fetched (plain f.old) t }
+    requires { t < most_tracks }
+    ensures fields { plain f.new ≡ relations.fetched (plain f.old) t }
+    ensures stages { stages f.new ≡ stages f.old }
 {
     f.own.insert(t);
     f.blank.remove(t);
@@ -89,8 +96,9 @@ fn fetched(f: &mut Fields, t: u16)
 
 /// Track t of the source changes, which is noted where changes are recorded.
 pub fn noted(f: &mut Fields, t: u16)
-    requires { t < 256 }
-    ensures { plain f.new ≡ relations.noted (plain f.old) t }
+    requires { t < most_tracks }
+    ensures fields { plain f.new ≡ relations.noted (plain f.old) t }
+    ensures stages { stages f.new ≡ stages f.old }
 {
     let recorded = f.recorded;
     insert_if(recorded, &mut f.source_changes, t);
@@ -98,8 +106,9 @@ pub fn noted(f: &mut Fields, t: u16)
 
 /// Track t of the target changes, which is noted where changes are recorded.
 fn rewritten(f: &mut Fields, t: u16)
-    requires { t < 256 }
-    ensures { plain f.new ≡ relations.rewritten (plain f.old) t }
+    requires { t < most_tracks }
+    ensures fields { plain f.new ≡ relations.rewritten (plain f.old) t }
+    ensures stages { stages f.new ≡ stages f.old }
 {
     let recorded = f.recorded;
     insert_if(recorded, &mut f.target_changes, t);
@@ -107,7 +116,8 @@ fn rewritten(f: &mut Fields, t: u16)
 
 /// A target of `s`, as its relationship is made.
 pub fn made(s: VolumeId, o: &FlashOptions, f: &mut Fields)
-    ensures { plain f.new ≡ relations.made s.0 (choices o.now) (plain f.old) }
+    ensures fields { plain f.new ≡ relations.made s.0 (choices o.now) (plain f.old) }
+    ensures stages { stages f.new ≡ stages f.old }
 {
     f.related = true;
     f.source = s;
@@ -129,8 +139,9 @@ pub fn made(s: VolumeId, o: &FlashOptions, f: &mut Fields)
 
 /// A target of n tracks whose relationship ends: the tracks that it doesn't hold read zeros.
 pub fn withdrawn(n: u16, f: &mut Fields)
-    requires { n ≤ 256 }
-    ensures { plain f.new ≡ relations.withdrawn_if true n (plain f.old) }
+    requires { n ≤ most_tracks }
+    ensures fields { plain f.new ≡ relations.withdrawn_if true n (plain f.old) }
+    ensures stages { stages f.new ≡ stages f.old }
 {
     f.blank = rest(n, &f.own);
     parted(f);
@@ -148,7 +159,8 @@ pub(crate) fn unchanged(f: &Fields) -> TrackSet
 
 /// A target that shares its changed tracks with its source again; where a sequence is given, it has that one.
 pub fn resynced(sequence: Option<u32>, f: &mut Fields)
-    ensures { plain f.new ≡ relations.resynced sequence (plain f.old) }
+    ensures fields { plain f.new ≡ relations.resynced sequence (plain f.old) }
+    ensures stages { stages f.new ≡ stages f.old }
 {
     f.own = unchanged(f);
     f.source_changes = TrackSet::empty();
@@ -158,7 +170,8 @@ pub fn resynced(sequence: Option<u32>, f: &mut Fields)
 
 /// A target that is to be restored onto its source: what it holds from then on is what comes back.
 fn turned(f: &mut Fields)
-    ensures { plain f.new ≡ relations.turned (plain f.old) }
+    ensures fields { plain f.new ≡ relations.turned (plain f.old) }
+    ensures stages { stages f.new ≡ stages f.old }
 {
     f.source_changes.union(&f.target_changes);
     f.own = f.source_changes;
@@ -171,15 +184,17 @@ fn turned(f: &mut Fields)
 
 /// A target that has given track t back.
 fn given_up(f: &mut Fields, t: u16)
-    ensures { plain f.new ≡ relations.given_up (plain f.old) t }
+    ensures fields { plain f.new ≡ relations.given_up (plain f.old) t }
+    ensures stages { stages f.new ≡ stages f.old }
 {
     f.own.remove(t);
 }
 
 /// A restore onto a source of n tracks that has no track left to give back ends.
 fn restored(n: u16, f: &mut Fields)
-    requires { n ≤ 256 }
-    ensures { plain f.new ≡ relations.restored n (plain f.old) }
+    requires { n ≤ most_tracks }
+    ensures fields { plain f.new ≡ relations.restored n (plain f.old) }
+    ensures stages { stages f.new ≡ stages f.old }
 {
     if f.own.len() == 0 {
         withdrawn(n, f);
@@ -188,9 +203,10 @@ fn restored(n: u16, f: &mut Fields)
 
 /// A target of n tracks that takes track t of its source, which ends a relationship that isn't persistent where it was the last.
 pub(crate) fn taken(n: u16, f: &mut Fields, t: u16)
-    requires size { n ≤ 256 }
-    requires below { t < 256 }
-    ensures { plain f.new ≡ relations.closed n (relations.fetched (plain f.old) t) }
+    requires size { n ≤ most_tracks }
+    requires below { t < most_tracks }
+    ensures fields { plain f.new ≡ relations.closed n (relations.fetched (plain f.old) t) }
+    ensures stages { stages f.new ≡ stages f.old }
 {
     fetched(f, t);
     closed(n, f);
@@ -198,9 +214,10 @@ pub(crate) fn taken(n: u16, f: &mut Fields, t: u16)
 
 /// A target that keeps its source's track t, which is about to change.
 pub(crate) fn kept(n: u16, f: &mut Fields, t: u16)
-    requires size { n ≤ 256 }
-    requires below { t < 256 }
-    ensures { plain f.new ≡ relations.closed n (relations.noted (relations.fetched (plain f.old) t) t) }
+    requires size { n ≤ most_tracks }
+    requires below { t < most_tracks }
+    ensures fields { plain f.new ≡ relations.closed n (relations.noted (relations.fetched (plain f.old) t) t) }
+    ensures stages { stages f.new ≡ stages f.old }
 {
     fetched(f, t);
     noted(f, t);
@@ -209,9 +226,10 @@ pub(crate) fn kept(n: u16, f: &mut Fields, t: u16)
 
 /// A target on whose track t a host write landed.
 pub(crate) fn overwritten(n: u16, f: &mut Fields, t: u16)
-    requires size { n ≤ 256 }
-    requires below { t < 256 }
-    ensures { plain f.new ≡ relations.closed n (relations.rewritten (relations.fetched (plain f.old) t) t) }
+    requires size { n ≤ most_tracks }
+    requires below { t < most_tracks }
+    ensures fields { plain f.new ≡ relations.closed n (relations.rewritten (relations.fetched (plain f.old) t) t) }
+    ensures stages { stages f.new ≡ stages f.old }
 {
     fetched(f, t);
     rewritten(f, t);
@@ -220,8 +238,9 @@ pub(crate) fn overwritten(n: u16, f: &mut Fields, t: u16)
 
 /// A target of n tracks that is to be restored onto its source, which ends where there is nothing to give back.
 pub(crate) fn reversed(n: u16, f: &mut Fields)
-    requires { n ≤ 256 }
-    ensures { plain f.new ≡ relations.restored n (relations.turned (plain f.old)) }
+    requires { n ≤ most_tracks }
+    ensures fields { plain f.new ≡ relations.restored n (relations.turned (plain f.old)) }
+    ensures stages { stages f.new ≡ stages f.old }
 {
     turned(f);
     restored(n, f);
@@ -229,8 +248,9 @@ pub(crate) fn reversed(n: u16, f: &mut Fields)
 
 /// A target of n tracks that has given track t back, which ends the restore where it was the last.
 pub(crate) fn released(n: u16, f: &mut Fields, t: u16)
-    requires { n ≤ 256 }
-    ensures { plain f.new ≡ relations.restored n (relations.given_up (plain f.old) t) }
+    requires { n ≤ most_tracks }
+    ensures fields { plain f.new ≡ relations.restored n (relations.given_up (plain f.old) t) }
+    ensures stages { stages f.new ≡ stages f.old }
 {
     given_up(f, t);
     restored(n, f);

@@ -6,7 +6,7 @@
 //! done. `make_opened` is the same for a caller who has opened the volume, and `make_by` for one who has its fields.
 //! `make_move` is `make` as an entry of a plan, and `make_move_by` is `make_by` as one. `Asks` (specs) is what a kind of move
 //! asks of the plant, and `Kept` what stays over each of these calls. `place_staged` puts a staged track in its place as a
-//! server starts.
+//! server starts, and `destage_told` does so and leaves none staged.
 //!
 //! What a run knows besides devices and journal, the host's pending writes, the sessions and the paths, is `Beside`: it hears
 //! `News`, and what it shows changes as the machine's does. `open_attempt` is the first hold of an attempt, and `perform` does an act
@@ -44,10 +44,10 @@ pub use following::{Behind, follow};
 pub use hearing::open_attempt;
 pub use moves::Move;
 pub use options::FlashOptions;
-pub use pair_fields::{is_engaged, is_torn, unsynced, with_more};
+pub use pair_fields::{is_engaged, is_torn, with_more};
 pub use pairs::{is_quiet, is_unpaired, pair_state};
 pub use performing::{Act, perform};
 pub use place::{server_of, tracks_of};
-pub use placing::place_staged;
+pub use placing::{destage_told, place_staged};
 pub use reads::read_told;
 pub use sets::{lowest, rest};

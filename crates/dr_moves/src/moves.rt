@@ -1,11 +1,13 @@
 //! The catalogue of moves: a move is a value, with its row in each of the machine's tables.
 
 ghost use Rattle.std.specs.Prelude.{◌≡◌, ◌≤◌, ◌<◌, ◌+◌, [], ◌∷◌, ◌++◌, length, Some, if◌then◌else◌};
+ghost use Rattle.dr_ids.specs.Sizes.{most_tracks};
 ghost use Rattle.dr_ids.specs.declared.names.VolumeId.{VolumeId};
 ghost use Rattle.dr_model.specs.declared.event.Event.TheVariants.{Suspended, Begin, Cut, FlashFreed};
 ghost use Rattle.dr_model.specs.Moves as machine;
 ghost use Rattle.dr_model.specs.Pairs as pairs;
 ghost use Rattle.dr_volume.specs.Plain.{plain};
+ghost use Rattle.dr_volume.specs.Update.{stages};
 ghost use Rattle.dr_moves.specs.Moves.{move_of, volume_with, IsBelow, number_of};
 ghost use Rattle.dr_moves.specs.Entered.{is_calm};
 ghost use Rattle.dr_moves.specs.Told.{seen};
@@ -308,11 +310,12 @@ pub fn target_of(m: &Move) -> VolumeId
     }
 }
 
-/// The fields of a volume with so many tracks become those that a move leaves.
+/// The fields of a volume with so many tracks become those that a move leaves. What they stage stays.
 pub fn next_fields(m: &Move, size: u16, f: &mut Fields)
-    requires size { size ≤ 256 }
-    requires below { IsBelow 256 (move_of m.now) }
-    ensures { plain f.new ≡ machine.fields_left (move_of m.now) (volume_with size (plain f.old)) }
+    requires size { size ≤ most_tracks }
+    requires below { IsBelow most_tracks (move_of m.now) }
+    ensures fields { plain f.new ≡ machine.fields_left (move_of m.now) (volume_with size (plain f.old)) }
+    ensures stages { stages f.new ≡ stages f.old }
 {
     match m {
         Move::Land { t, .. } => written(f, *t),

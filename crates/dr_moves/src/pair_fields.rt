@@ -2,10 +2,12 @@
 
 ghost use Rattle.std.specs.Prelude.{◌≡◌, ◌≤◌, ◌<◌, ◌||◌, ◌&&◌, if◌then◌else◌};
 ghost use Rattle.std.specs.FinSet.{union, empty};
+ghost use Rattle.dr_ids.specs.Sizes.{most_tracks};
 ghost use Rattle.dr_model.specs.declared.state.PairState.TheVariants.{FullDuplex, CopyPending};
 ghost use Rattle.dr_model.specs.Pairs as pairs;
 ghost use Rattle.dr_model.specs.Relations.{all_tracks};
 ghost use Rattle.dr_volume.specs.Plain.{plain};
+ghost use Rattle.dr_volume.specs.Update.{stages};
 
 use dr_bits::TrackSet;
 use dr_ids::VolumeId;
@@ -14,7 +16,8 @@ use dr_volume::Fields;
 
 /// A volume that becomes the secondary of `a`.
 pub fn made_secondary(a: VolumeId, kind: Part, state: PairState, f: &mut Fields)
-    ensures { plain f.new ≡ pairs.made_secondary a.0 kind state (plain f.old) }
+    ensures fields { plain f.new ≡ pairs.made_secondary a.0 kind state (plain f.old) }
+    ensures stages { stages f.new ≡ stages f.old }
 {
     f.secondary = kind;
     f.secondary_state = state;
@@ -24,7 +27,7 @@ pub fn made_secondary(a: VolumeId, kind: Part, state: PairState, f: &mut Fields)
 
 /// The tracks that are out of sync as a pair of volumes with n tracks is made: all, or none.
 fn first_tracks(n: u16, full: bool) -> TrackSet
-    requires { n ≤ 256 }
+    requires { n ≤ most_tracks }
     ensures { result ≡ (if full then all_tracks n else empty) }
 {
     if full {
@@ -36,8 +39,9 @@ fn first_tracks(n: u16, full: bool) -> TrackSet
 
 /// A volume of n tracks that becomes the primary of `b`: all its tracks are out of sync, or none is.
 pub fn made_primary(n: u16, b: VolumeId, kind: Part, state: PairState, full: bool, f: &mut Fields)
-    requires { n ≤ 256 }
-    ensures { plain f.new ≡ pairs.made_primary n b.0 kind state full (plain f.old) }
+    requires { n ≤ most_tracks }
+    ensures fields { plain f.new ≡ pairs.made_primary n b.0 kind state full (plain f.old) }
+    ensures stages { stages f.new ≡ stages f.old }
 {
     f.primary = kind;
     f.primary_state = state;
@@ -51,7 +55,8 @@ pub fn made_primary(n: u16, b: VolumeId, kind: Part, state: PairState, full: boo
 
 /// A volume that is a primary no more. Its attempt stays.
 pub fn no_primary(f: &mut Fields)
-    ensures { plain f.new ≡ pairs.no_primary (plain f.old) }
+    ensures fields { plain f.new ≡ pairs.no_primary (plain f.old) }
+    ensures stages { stages f.new ≡ stages f.old }
 {
     f.primary = Part::Absent;
     f.primary_state = PairState::CopyPending;
@@ -65,7 +70,8 @@ pub fn no_primary(f: &mut Fields)
 
 /// A volume that is a secondary no more.
 pub fn no_secondary(f: &mut Fields)
-    ensures { plain f.new ≡ pairs.no_secondary (plain f.old) }
+    ensures fields { plain f.new ≡ pairs.no_secondary (plain f.old) }
+    ensures stages { stages f.new ≡ stages f.old }
 {
     f.secondary = Part::Absent;
     f.secondary_state = PairState::CopyPending;
@@ -75,14 +81,16 @@ pub fn no_secondary(f: &mut Fields)
 
 /// A secondary in another state.
 pub fn followed(state: PairState, f: &mut Fields)
-    ensures { plain f.new ≡ record (plain f.old) { secondary_state = state } }
+    ensures fields { plain f.new ≡ record (plain f.old) { secondary_state = state } }
+    ensures stages { stages f.new ≡ stages f.old }
 {
     f.secondary_state = state;
 }
 
 /// A primary that goes on.
 pub fn resumed(state: PairState, f: &mut Fields)
-    ensures { plain f.new ≡ pairs.resumed state (plain f.old) }
+    ensures fields { plain f.new ≡ pairs.resumed state (plain f.old) }
+    ensures stages { stages f.new ≡ stages f.old }
 {
     f.primary_state = state;
     f.long_busy = false;
@@ -90,7 +98,8 @@ pub fn resumed(state: PairState, f: &mut Fields)
 
 /// A secondary that becomes a Suspended primary of its primary, with no track out of sync.
 pub fn taken_over(f: &mut Fields)
-    ensures { plain f.new ≡ pairs.taken_over (plain f.old) }
+    ensures fields { plain f.new ≡ pairs.taken_over (plain f.old) }
+    ensures stages { stages f.new ≡ stages f.old }
 {
     f.primary = f.secondary;
     f.primary_state = PairState::Suspended;
@@ -112,7 +121,8 @@ pub fn is_engaged(f: &Fields) -> bool
 
 /// Where what was recorded counts, it is out of sync too, and nothing is recorded.
 pub(crate) fn count_recorded(counts: bool, f: &mut Fields)
-    ensures { f.new ≡ record f.old { out_of_sync = if counts then union f.old.out_of_sync f.old.change_recording else f.old.out_of_sync; change_recording = if counts then empty else f.old.change_recording } }
+    ensures fields { f.new ≡ record f.old { out_of_sync = if counts then union f.old.out_of_sync f.old.change_recording else f.old.out_of_sync; change_recording = if counts then empty else f.old.change_recording } }
+    ensures stages { stages f.new ≡ stages f.old }
 {
     if counts {
         f.out_of_sync.union(&f.change_recording);
@@ -123,7 +133,8 @@ pub(crate) fn count_recorded(counts: bool, f: &mut Fields)
 /// A primary after a void: what changed while it recorded is out of sync too, and it neither records nor is held by
 /// coordination.
 pub(crate) fn voided(f: &mut Fields)
-    ensures { plain f.new ≡ pairs.voided (plain f.old) }
+    ensures fields { plain f.new ≡ pairs.voided (plain f.old) }
+    ensures stages { stages f.new ≡ stages f.old }
 {
     let engaged = is_engaged(f);
     count_recorded(engaged, f);
@@ -133,7 +144,8 @@ pub(crate) fn voided(f: &mut Fields)
 
 /// A primary that is Suspended, after a void; it is long busy where it is to be, or was.
 pub fn suspended(busy: bool, f: &mut Fields)
-    ensures { plain f.new ≡ pairs.suspended busy (plain f.old) }
+    ensures fields { plain f.new ≡ pairs.suspended busy (plain f.old) }
+    ensures stages { stages f.new ≡ stages f.old }
 {
     f.primary_state = PairState::Suspended;
     f.long_busy = f.long_busy || busy;
@@ -142,7 +154,8 @@ pub fn suspended(busy: bool, f: &mut Fields)
 
 /// A primary that is voided, with these tracks out of sync too.
 fn widened(more: &TrackSet, f: &mut Fields)
-    ensures { plain f.new ≡ pairs.with_more more.now (plain f.old) }
+    ensures fields { plain f.new ≡ pairs.with_more more.now (plain f.old) }
+    ensures stages { stages f.new ≡ stages f.old }
 {
     voided(f);
     f.out_of_sync.union(more);
@@ -159,7 +172,8 @@ pub fn with_more(more: &TrackSet, f: &Fields) -> Fields
 
 /// The primary of a pair that goes the other way round from now on.
 pub fn fallen_back(more: &TrackSet, state: PairState, f: &mut Fields)
-    ensures { plain f.new ≡ pairs.fallen_back more.now state (plain f.old) }
+    ensures fields { plain f.new ≡ pairs.fallen_back more.now state (plain f.old) }
+    ensures stages { stages f.new ≡ stages f.old }
 {
     f.primary_state = state;
     widened(more, f);
@@ -167,7 +181,8 @@ pub fn fallen_back(more: &TrackSet, state: PairState, f: &mut Fields)
 
 /// And its secondary, which was a primary: its attempt stays.
 pub fn yielded(a: VolumeId, kind: Part, state: PairState, f: &mut Fields)
-    ensures { plain f.new ≡ pairs.yielded a.0 kind state (plain f.old) }
+    ensures fields { plain f.new ≡ pairs.yielded a.0 kind state (plain f.old) }
+    ensures stages { stages f.new ≡ stages f.old }
 {
     no_primary(f);
     made_secondary(a, kind, state, f);
@@ -182,7 +197,8 @@ fn state_after(last: bool, state: PairState) -> PairState
 
 /// A secondary that has stored track t, maybe the last one.
 pub fn received(last: bool, f: &mut Fields, t: u16)
-    ensures { plain f.new ≡ pairs.received last (plain f.old) t }
+    ensures fields { plain f.new ≡ pairs.received last (plain f.old) t }
+    ensures stages { stages f.new ≡ stages f.old }
 {
     f.blank.remove(t);
     f.seal = 0;
@@ -191,32 +207,25 @@ pub fn received(last: bool, f: &mut Fields, t: u16)
 
 /// A primary whose track t is out of sync no more, maybe the last one.
 pub fn struck(last: bool, f: &mut Fields, t: u16)
-    ensures { plain f.new ≡ pairs.struck last (plain f.old) t }
+    ensures fields { plain f.new ≡ pairs.struck last (plain f.old) t }
+    ensures stages { stages f.new ≡ stages f.old }
 {
     f.out_of_sync.remove(t);
     f.primary_state = state_after(last, f.primary_state);
 }
 
-/// The fields of a primary of which track t is about to change on both sides.
-pub fn unsynced(f: &Fields, t: u16) -> Fields
-    requires { t < 256 }
-    ensures { plain result ≡ pairs.unsynced (plain f.now) t }
-{
-    let mut next = *f;
-    next.out_of_sync.insert(t);
-    next
-}
-
 /// A secondary that has stored new bytes of track t.
 pub fn mirrored(f: &mut Fields, t: u16)
-    ensures { plain f.new ≡ pairs.mirrored (plain f.old) t }
+    ensures fields { plain f.new ≡ pairs.mirrored (plain f.old) t }
+    ensures stages { stages f.new ≡ stages f.old }
 {
     f.blank.remove(t);
 }
 
 /// A primary whose track t has new bytes, which its secondary has too.
 pub fn synced(f: &mut Fields, t: u16)
-    ensures { plain f.new ≡ pairs.synced (plain f.old) t }
+    ensures fields { plain f.new ≡ pairs.synced (plain f.old) t }
+    ensures stages { stages f.new ≡ stages f.old }
 {
     f.blank.remove(t);
     f.out_of_sync.remove(t);
@@ -224,7 +233,8 @@ pub fn synced(f: &mut Fields, t: u16)
 
 /// A volume that is long busy no more.
 pub fn thawed(f: &mut Fields)
-    ensures { plain f.new ≡ pairs.thawed (plain f.old) }
+    ensures fields { plain f.new ≡ pairs.thawed (plain f.old) }
+    ensures stages { stages f.new ≡ stages f.old }
 {
     f.long_busy = false;
 }
@@ -249,7 +259,8 @@ fn state_at_start(f: &Fields) -> PairState
 
 /// A volume that goes on as its server starts.
 pub fn restarted(f: &mut Fields)
-    ensures { plain f.new ≡ pairs.restarted (plain f.old) }
+    ensures fields { plain f.new ≡ pairs.restarted (plain f.old) }
+    ensures stages { stages f.new ≡ stages f.old }
 {
     f.primary_state = state_at_start(f);
     voided(f);

@@ -1,11 +1,12 @@
-//! What a volume's fields say of its pair.
+//! What a volume's head says of its pair.
 
-ghost use Rattle.std.specs.Prelude.{◌≡◌, ◌||◌, false, Some, List, IsSome};
+ghost use Rattle.std.specs.Prelude.{◌≡◌, ◌&&◌, ◌||◌, not, false, Some, List, IsSome, if◌then◌else◌};
+ghost use Rattle.dr_ids.specs.declared.refusal.PairSeen.TheVariants as seen;
 ghost use Rattle.dr_config.specs.Table.{StandsFor, place_of};
 ghost use Rattle.dr_model.specs.declared.event.Event.{Event};
 ghost use Rattle.dr_model.specs.Entries as entries;
+ghost use Rattle.dr_model.specs.Layout.{is_part};
 ghost use Rattle.dr_model.specs.Pairs as pairs;
-ghost use Rattle.dr_volume.specs.Plain.{plain};
 ghost use Rattle.dr_volume.specs.View.{Rest};
 ghost use Rattle.dr_moves.specs.Checks.{is_stop};
 ghost use Rattle.dr_moves.specs.Here.{world_seen};
@@ -14,18 +15,18 @@ use dr_config::Config;
 use dr_ids::{PairSeen, Refusal, VolumeId};
 use dr_model::PairState;
 use dr_plant::Plant;
-use dr_volume::{Fields, peek_fields};
+use dr_volume::{Head, peek_head};
 
-/// Whether a volume has no part in a pair.
-pub fn is_unpaired(f: &Fields) -> bool
-    ensures { result ≡ pairs.is_unpaired (plain f.now) }
+/// Whether a volume has no part in a pair, by its head.
+pub fn is_unpaired(f: &Head) -> bool
+    ensures { result ≡ (not (is_part f.now.primary) && not (is_part f.now.secondary)) }
 {
     !f.primary.is_part() && !f.secondary.is_part()
 }
 
-/// Whether a volume is no primary, or a Suspended one.
-pub fn is_quiet(f: &Fields) -> bool
-    ensures { result ≡ pairs.is_quiet (plain f.now) }
+/// Whether a volume is no primary, or a Suspended one, by its head.
+pub fn is_quiet(f: &Head) -> bool
+    ensures { result ≡ (not (is_part f.now.primary) || pairs.is_suspended f.now.primary_state) }
 {
     !f.primary.is_part() || f.primary_state.is_suspended()
 }
@@ -53,8 +54,8 @@ fn target_seen(state: PairState) -> PairSeen
 }
 
 /// How a volume's pair is seen: the state of the part that it has.
-fn pair_seen(f: &Fields) -> PairSeen
-    ensures { result ≡ pairs.pair_seen (plain f.now) }
+fn pair_seen(f: &Head) -> PairSeen
+    ensures { result ≡ (if is_part f.now.primary then pairs.state_seen f.now.primary_state else if is_part f.now.secondary then pairs.target_seen f.now.secondary_state else seen.None) }
 {
     if f.primary.is_part() {
         state_seen(f.primary_state)
@@ -72,9 +73,9 @@ pub fn pair_state<P: Plant>(plant: &P, config: &Config, v: VolumeId) -> Refusal
     ensures refusal { (r : Rest) (events : List Event) → result ≡ entries.pair_state (world_seen (P.state plant.now) config.now r events).control v.0 }
     ensures calm { is_stop (Some result) ≡ false }
 {
-    let fields = peek_fields(plant, config, v);
+    let head = peek_head(plant, config, v);
     Refusal::PairState {
         volume: v,
-        found: pair_seen(&fields),
+        found: pair_seen(&head),
     }
 }

@@ -1,6 +1,7 @@
 //! The server and the size of a volume that is defined.
 
 ghost use Rattle.std.specs.Prelude.{◌≡◌, ◌≤◌, ◌<◌, length, IsSome};
+ghost use Rattle.dr_ids.specs.Sizes.{most_tracks};
 ghost use Rattle.dr_plant.specs.State.{PlantState};
 ghost use Rattle.dr_config.specs.Table.{place_of};
 ghost use Rattle.dr_volume.specs.View.{volume_seen};
@@ -22,7 +23,7 @@ pub fn server_of(config: &Config, v: VolumeId) -> ServerId
 pub fn tracks_of(config: &Config, v: VolumeId) -> u16
     requires defined { IsSome (place_of config.now v.0) }
     ensures seen { (s : PlantState) → (volume_seen s config.now v.0).tracks ≡ result }
-    ensures few { result ≤ 256 }
+    ensures few { result ≤ most_tracks }
 {
     config.tracks_of(v).unwrap()
 }

@@ -9,7 +9,7 @@ ghost use Rattle.dr_model.specs.ReadStops.{GoesOff};
 ghost use Rattle.dr_model.specs.Refusals.{stopped};
 ghost use Rattle.dr_volume.specs.Opened.{IsGate};
 ghost use Rattle.dr_volume.specs.Update.{IsAsBefore};
-ghost use Rattle.dr_volume.specs.View.{Rest, volume_seen, track_seen, IsSettled};
+ghost use Rattle.dr_volume.specs.View.{Rest, volume_seen, track_seen};
 ghost use Rattle.dr_moves.specs.Here.{world_seen, refusal_of, armed_in, IsAtRest};
 ghost use Rattle.dr_moves.specs.Ready.{StandsReady};
 
@@ -54,7 +54,6 @@ pub(crate) fn open_told<P: Plant>(
     ensures refused { OnErr result (refusal_of result ≡ Some (stopped (volume_seen (P.state plant.old) config.now v.0).server)) }
     ensures same { (u : ℕ) → IsAsBefore (P.state plant.old) (P.state plant.new) config.now u }
     ensures stands { StandsFor config.now (P.state plant.new) }
-    ensures settled { (u : ℕ) → IsSettled (P.state plant.old) config.now u → IsSettled (P.state plant.new) config.now u }
     ensures off { OnErr result ((P.state plant.new).on (volume_seen (P.state plant.old) config.now v.0).server ≡ false) }
     ensures unarmed { (q : ℕ) → (P.state plant.old).read_fuse q ≡ None → (P.state plant.new).read_fuse q ≡ None }
     ensures faults { Counted (is_err result) (P.state plant.old).faults (P.state plant.new).faults }

@@ -20,7 +20,7 @@ use dr_ids::{Decision, Member, SessionId};
 use dr_moves::{Move, Next};
 use dr_plant::Plant;
 use dr_revert::is_flashed;
-use dr_volume::peek_fields;
+use dr_volume::peek_head;
 
 /// A target that is revertible from attempt n is committed.
 fn commit_if<P: Plant>(plant: &P, config: &Config, s: SessionId, m: &Member, n: u32) -> Next
@@ -28,7 +28,7 @@ fn commit_if<P: Plant>(plant: &P, config: &Config, s: SessionId, m: &Member, n: 
     requires target { IsSome (place_of config.now m.now.c.0) }
     ensures { result ≡ (if entries.is_flashed n (volume_seen (P.state plant.now) config.now m.now.c.0).fields then Do (move.Commit m.now.c m.now.a s n) else Pass) }
 {
-    if !is_flashed(n, &peek_fields(plant, config, m.c)) {
+    if !is_flashed(n, &peek_head(plant, config, m.c)) {
         return Next::Pass;
     }
     Next::Do(Move::Commit {
@@ -45,7 +45,7 @@ fn revert_if<P: Plant>(plant: &P, config: &Config, s: SessionId, m: &Member, n: 
     requires target { IsSome (place_of config.now m.now.c.0) }
     ensures { result ≡ (if entries.is_flashed n (volume_seen (P.state plant.now) config.now m.now.c.0).fields then Do (move.Revert m.now.c m.now.a s n) else Pass) }
 {
-    if !is_flashed(n, &peek_fields(plant, config, m.c)) {
+    if !is_flashed(n, &peek_head(plant, config, m.c)) {
         return Next::Pass;
     }
     Next::Do(Move::Revert {

@@ -4,6 +4,7 @@ use Rattle.std.specs.Prelude.{is_some}
 use Rattle.std.specs.List.{range_with_len}
 use Rattle.std.proofs.lemmas.List.FromFn.{get_or-map-range_with_len}
 use Rattle.dr_logic.specs.Bytes.{zeros}
+use Rattle.dr_ids.specs.Sizes.{most_tracks, blocks_of}
 use Rattle.dr_model.specs.Layout as layout
 use Rattle.dr_model.specs.Layout.{Blocks, chosen, only_if}
 use Rattle.dr_volume.specs.Plain.{plain, normal}
@@ -14,7 +15,7 @@ use Rattle.dr_report.specs.declared.device.Device.{Device}
 use Rattle.dr_report.specs.Known.{known, known_on}
 
 module _ (b c : Blocks) (low : (q : ℕ) → q < 13 → c q ≡ b q) (n : ℕ) where
-  fields-same : n ≤ 256 → layout.fields n c ≡ layout.fields n b
+  fields-same : n ≤ most_tracks → layout.fields n c ≡ layout.fields n b
   fields-same few = sym (plain-normal n (chosen c) few) ∙ ap (λ r. plain (normal n r)) (record-low b c low) ∙ plain-normal n (chosen b) few
 
   staged-same : layout.staged n c ≡ layout.staged n b
@@ -24,7 +25,7 @@ module _ (b c : Blocks) (low : (q : ℕ) → q < 13 → c q ≡ b q) (n : ℕ) w
   bytes-same = sym (staged_bytes-normal n (chosen c)) ∙ ap (λ r. (normal n r).staged_bytes) (record-low b c low) ∙ staged_bytes-normal n (chosen b)
 
 -- what is read of a device
-pub read-known : (b : Blocks) (d : Device) → d.volume.tracks ≤ 256 → d.blocks.items ≡ map b (range_with_len 0 (13 + d.volume.tracks))
+pub read-known : (b : Blocks) (d : Device) → d.volume.tracks ≤ most_tracks → d.blocks.items ≡ map b (range_with_len 0 (blocks_of d.volume.tracks))
     → plain d.fields ≡ layout.fields d.volume.tracks (listed d.blocks.items)
     → d.fields.staged ≡ layout.staged d.volume.tracks (listed d.blocks.items)
     → d.fields.staged_bytes ≡ only_if (is_some (layout.staged d.volume.tracks (listed d.blocks.items))) (chosen (listed d.blocks.items) 5) zeros

@@ -3,6 +3,7 @@ use Rattle.std.specs.Prelude.{ℕ, ◌+◌, Bool, not, List, map, nat_eq, Option
 use Rattle.std.specs.FinSet.{contains}
 use Rattle.std.specs.List.{find, range_with_len, slice_index_or}
 use Rattle.dr_logic.specs.Bytes.{zeros}
+use Rattle.dr_ids.specs.Sizes.{blocks_of}
 use Rattle.dr_model.specs.Layout as layout
 use Rattle.dr_model.specs.Layout.{Blocks, is_staged, only_if, chosen}
 use Rattle.dr_model.specs.PlantImage.{Volume, device_blocks}
@@ -42,7 +43,7 @@ abbrev pub known_on : ℕ → ℕ → Blocks → Known
 known_on volume tracks blocks = record {
   volume = volume;
   tracks = tracks;
-  blocks = map blocks (range_with_len 0 (13 + tracks));
+  blocks = map blocks (range_with_len 0 (blocks_of tracks));
   fields = layout.fields tracks blocks;
   staged = layout.staged tracks blocks;
   staged_bytes = only_if (is_some (layout.staged tracks blocks)) (chosen blocks 5) zeros;

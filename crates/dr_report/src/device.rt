@@ -2,10 +2,12 @@
 
 ghost use Rattle.std.specs.Prelude.{◌≡◌, ◌≤◌, map, IfOk};
 ghost use Rattle.std.specs.List.{range_with_len};
+ghost use Rattle.dr_ids.specs.Sizes.{most_tracks};
 ghost use Rattle.dr_model.specs.PlantImage.{IsLaid};
 ghost use Rattle.dr_image.specs.Shown.{block_at};
 ghost use Rattle.dr_report.specs.Known.{known, all_known, known_by, known_at};
 
+use dr_ids::blocks_of;
 use dr_image::{Image, ImageVolume};
 use dr_plant::Block;
 use dr_volume::{Fields, from_blocks};
@@ -39,10 +41,10 @@ fn read_device(
     place: usize,
     volume: ImageVolume,
 ) -> Result<Device, AllocError>
-    requires { volume.tracks ≤ 256 }
+    requires { volume.tracks ≤ most_tracks }
     ensures { IfOk result (λ device. known device ≡ known_at image.now place volume) }
 {
-    let blocks = device_blocks(alloc, image, place, 13 + volume.tracks)?;
+    let blocks = device_blocks(alloc, image, place, blocks_of(volume.tracks))?;
     let fields = from_blocks(volume.tracks, &blocks);
     Ok(Device {
         volume,

@@ -10,7 +10,7 @@ ghost use Rattle.dr_volume.specs.View.{Rest, volume_seen};
 ghost use Rattle.dr_moves.specs.Checks.{OnNone, is_stop};
 ghost use Rattle.dr_moves.specs.Here.{world_seen};
 
-use crate::fields::{is_committed, is_flashed_by, may_flash};
+use crate::fields::{is_committed, is_flashed, may_flash};
 use dr_config::Config;
 use dr_flash::relation_state;
 use dr_ids::{Refusal, VolumeId};
@@ -51,7 +51,7 @@ pub(crate) fn flash_refusal<P: Plant>(
     ensures may { OnNone result (entries.is_flashed n (volume_seen (P.state plant.now) config.now t.0).fields ≡ false → entries.may_flash b.0 (volume_seen (P.state plant.now) config.now t.0).fields ≡ true) }
     ensures calm { is_stop result ≡ false }
 {
-    if is_flashed_by(n, f) {
+    if is_flashed(n, f) {
         return None;
     }
     if !may_flash(b, f) {
@@ -76,7 +76,7 @@ pub(crate) fn commit_refusal<P: Plant>(
     ensures may { OnNone result ((entries.is_committed n (volume_seen (P.state plant.now) config.now t.0).fields || entries.is_flashed n (volume_seen (P.state plant.now) config.now t.0).fields) ≡ true) }
     ensures calm { is_stop result ≡ false }
 {
-    if is_committed(n, f) || is_flashed_by(n, f) {
+    if is_committed(n, f) || is_flashed(n, f) {
         return None;
     }
     Some(relation_state(plant, config, t))

@@ -1,24 +1,15 @@
-//! What the fields of a target, and its head, say of an attempt.
+//! What the head of a target says of an attempt.
 
 ghost use Rattle.std.specs.Prelude.{◌≡◌, ◌&&◌, not, nat_eq};
-ghost use Rattle.dr_model.specs.SessionEntries as sessions;
-ghost use Rattle.dr_volume.specs.Plain.{plain};
 
 use dr_ids::VolumeId;
-use dr_volume::{Fields, Head};
+use dr_volume::Head;
 
-/// Whether a target is revertible from attempt n.
-pub fn is_flashed(n: u32, f: &Fields) -> bool
-    ensures { result ≡ sessions.is_flashed n (plain f.now) }
+/// Whether a target with this head is revertible from attempt n.
+pub fn is_flashed(n: u32, f: &Head) -> bool
+    ensures { result ≡ (f.now.revertible && nat_eq f.now.sequence n) }
 {
     f.revertible && f.sequence == n
-}
-
-/// The same by its head.
-pub(crate) fn is_flashed_by(n: u32, head: &Head) -> bool
-    ensures { result ≡ (head.now.revertible && nat_eq head.now.sequence n) }
-{
-    head.revertible && head.sequence == n
 }
 
 /// Whether a target with this head is a member's with number n.

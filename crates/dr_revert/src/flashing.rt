@@ -20,7 +20,7 @@ ghost use Rattle.dr_moves.specs.declared.moves.Move.TheVariants as move;
 ghost use Rattle.dr_revert.specs.Views.{previous_seen};
 
 use crate::checks::flash_refusal;
-use crate::fields::is_flashed_by;
+use crate::fields::is_flashed;
 use crate::turning::turn_target;
 use dr_config::Config;
 use dr_gcopy::send_refusal;
@@ -34,7 +34,7 @@ use dr_volume::{Head, peek_head};
 fn flash_next(s: SessionId, m: &Member, n: u32, f: &Head) -> Next
     ensures { result ≡ (if f.now.revertible && nat_eq f.now.sequence n then Pass else Do (move.Flash m.now.c m.now.b m.now.a s n)) }
 {
-    if is_flashed_by(n, f) {
+    if is_flashed(n, f) {
         return Next::Pass;
     }
     Next::Do(Move::Flash {

@@ -1,12 +1,11 @@
 //! The flash of a member's target is taken back.
 
-ghost use Rattle.std.specs.Prelude.{◌≡◌, ℕ, ◌≤◌, ◌+◌, true, false, length, nat_lt, None, Some, IsSome, OnOk, OnErr, if◌then◌else◌};
+ghost use Rattle.std.specs.Prelude.{◌≡◌, ℕ, ◌≤◌, ◌+◌, true, false, length, nat_eq, nat_lt, ◌&&◌, None, Some, IsSome, OnOk, OnErr, if◌then◌else◌};
 ghost use Rattle.dr_logic.specs.Counts.{Counted};
 ghost use Rattle.dr_config.specs.Table.{place_of};
 ghost use Rattle.dr_model.specs.ReadStops.{Ends};
 ghost use Rattle.dr_model.specs.Relations as relations;
 ghost use Rattle.dr_model.specs.SessionEntries as entries;
-ghost use Rattle.dr_volume.specs.Plain.{plain};
 ghost use Rattle.dr_volume.specs.Update.{IsMoved, OthersStay};
 ghost use Rattle.dr_volume.specs.View.{Rest, volume_seen};
 ghost use Rattle.dr_moves.specs.Checks.{is_stop};
@@ -27,12 +26,12 @@ use dr_ids::{Member, Refusal, SessionId};
 use dr_model::Journal;
 use dr_moves::{Move, Next};
 use dr_plant::Plant;
-use dr_volume::{Fields, peek_fields};
+use dr_volume::{Head, peek_head};
 
 /// What becomes of a member's target whose flash is to be taken back: where it isn't flashed for the attempt, it is to be
 /// flashed for none up to it any more.
-fn revert_next(s: SessionId, m: &Member, n: u32, f: &Fields) -> Next
-    ensures { result ≡ (if entries.is_flashed n (plain f.now) then Do (move.Revert m.now.c m.now.a s n) else if nat_lt f.now.floor n then Do (move.RaiseFloor m.now.c n) else Pass) }
+fn revert_next(s: SessionId, m: &Member, n: u32, f: &Head) -> Next
+    ensures { result ≡ (if f.now.revertible && nat_eq f.now.sequence n then Do (move.Revert m.now.c m.now.a s n) else if nat_lt f.now.floor n then Do (move.RaiseFloor m.now.c n) else Pass) }
 {
     if is_flashed(n, f) {
         Next::Do(Move::Revert {
@@ -90,6 +89,6 @@ pub fn revert<P: Plant>(
     if let Some(why) = send_refusal(plant, config, m.a, m.b) {
         return Err(why);
     }
-    let next = revert_next(s, m, n, &peek_fields(plant, config, m.c));
+    let next = revert_next(s, m, n, &peek_head(plant, config, m.c));
     turn_target(plant, config, journal, m.c, &next)
 }

@@ -210,6 +210,13 @@ fn at_saying(step: &Step) -> Option<Saying>
                 ..no_operands()
             },
         ),
+        Step::Destage { volume } => at_sign(
+            Command::AtDestage,
+            Operands {
+                volume,
+                ..no_operands()
+            },
+        ),
         Step::Exchange {
             session,
             server,

@@ -82,6 +82,9 @@ pub(crate) fn step_of(command: Command, options: &Options, operands: &Operands, 
             volume: operands.volume,
             most: operands.most,
         },
+        Command::AtDestage => Step::Destage {
+            volume: operands.volume,
+        },
         Command::AtExchange => Step::Exchange {
             session: operands.session,
             server: operands.server,

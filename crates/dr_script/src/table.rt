@@ -23,6 +23,7 @@ pub(crate) fn commands() -> &'static [Command]
         Command::AtApply,
         Command::AtDrain,
         Command::AtCopy,
+        Command::AtDestage,
         Command::AtExchange,
         Command::AtRun,
         Command::AtAbort,
@@ -78,6 +79,7 @@ pub(crate) fn command_word(command: Command) -> &'static [u8]
         Command::AtApply => b"@apply",
         Command::AtDrain => b"@drain",
         Command::AtCopy => b"@copy",
+        Command::AtDestage => b"@destage",
         Command::AtExchange => b"@exchange",
         Command::AtRun => b"@run",
         Command::AtAbort => b"@abort",
@@ -274,6 +276,7 @@ pub(crate) fn settings(command: Command) -> &'static [Setting]
         | Command::AtApply
         | Command::AtDrain
         | Command::AtCopy
+        | Command::AtDestage
         | Command::AtExchange
         | Command::AtRun
         | Command::AtAbort
@@ -312,6 +315,7 @@ pub(crate) fn needed(command: Command) -> &'static [Setting]
         | Command::AtApply
         | Command::AtDrain
         | Command::AtCopy
+        | Command::AtDestage
         | Command::AtExchange
         | Command::AtRun
         | Command::AtAbort
@@ -361,6 +365,7 @@ pub(crate) fn operands(command: Command) -> &'static [Operand]
         ],
         Command::AtApply => &[Operand::Count],
         Command::AtDrain | Command::AtCopy => &[Operand::OneVolume, Operand::CountOrAll],
+        Command::AtDestage => &[Operand::OneVolume],
         Command::AtExchange => &[
             Operand::SessionNumber,
             Operand::ServerName,

@@ -1,12 +1,13 @@
 -- What defining a server or a volume comes to, over what plant, configuration, writes and journal show.
-use Rattle.std.proofs.Common.{ℕ, suc, zero, ◌≡◌, ◌≢◌, ◌<◌, ◌≤◌, ◌+◌, inl, inr, List, [], ◌∷◌, ◌++◌, length, slice_get, refl, ap, ◌∙◌, sym, subst, arith, Bool, true, false, ◌||◌, not, min, cond, nat_eq, nat_lt, nat_le, Option, Some, None, Err}
+use Rattle.std.proofs.Common.{ℕ, suc, zero, ◌≡◌, ◌≢◌, ◌<◌, ◌≤◌, inl, inr, List, [], ◌∷◌, ◌++◌, length, slice_get, refl, ap, ◌∙◌, sym, subst, arith, Bool, true, false, ◌||◌, not, min, cond, nat_eq, nat_lt, nat_le, Option, Some, None, Err}
 use Rattle.std.proofs.lemmas.Bool.Decides.{nat_tests, eqb_tells}
 use Rattle.std.specs.Prelude.{is_some}
 use Rattle.std.specs.List.{find}
-use Rattle.std.specs.Option.{option_map, unwrap_or}
+use Rattle.std.specs.Option.{option_map}
 use Rattle.std.proofs.lemmas.List.{append-nil, length-map, map-append}
 use Rattle.dr_logic.specs.Tables.{at}
 use Rattle.dr_logic.specs.Bytes.{zeros}
+use Rattle.dr_ids.specs.Sizes.{most_tracks, blocks_of}
 use Rattle.dr_plant.specs.State.{PlantState, with_device}
 use Rattle.dr_config.specs.Table.{ConfigTable, IsSoundConfig, place_of, entry_of, lss_of, lss_owner, server_named, StandsFor}
 use Rattle.dr_config.specs.declared.entries.VolumeEntry.{VolumeEntry}
@@ -32,7 +33,7 @@ use Rattle.dr_ids.specs.declared.refusal.Kind.TheVariants as kind
 use Rattle.dr_ids.specs.declared.refusal.Which.TheVariants as limit
 use Rattle.dr_model.specs.Runs.{after_plan, said}
 use Rattle.dr_model.proofs.CarryLemmas.{plan-refuses, plan-tables}
-use Rattle.dr_volume.specs.View.{on_seen, fuses_seen, volume_seen, track_seen, volume_at, track_at, track_on, ids_of, device_of, IsSettled, TracksSettled}
+use Rattle.dr_volume.specs.View.{on_seen, fuses_seen, volume_seen, track_seen, volume_at, track_at, track_on, ids_of}
 use Rattle.dr_volume.specs.View as view
 use Rattle.dr_volume.proofs.VolumeLaws.{volume-placed, track-placed}
 use Rattle.dr_ids.specs.declared.refusal.Fault.{Fault}
@@ -59,7 +60,7 @@ slice_get-seam (x ∷ xs) y = slice_get-seam xs y
 
 -- one more server changes nothing of devices and volumes
 pub rest-server : (s : PlantState) (t : ConfigTable) (name : List ℕ) → IsAtRest s t → IsAtRest s (with_server t name)
-rest-server s t name r = record { stands = stands-with_server t name s r.stands; settled = r.settled; sizes = r.sizes }
+rest-server s t name r = record { stands = stands-with_server t name s r.stands; sizes = r.sizes }
 
 module _ (s : PlantState) (t : ConfigTable) (h : Tables) (ev : List Event) (line : ℕ) (name : Name) where
   abbrev w : World
@@ -102,10 +103,10 @@ find-ids p (e ∷ es) = elim (p e.id) as (λ b. cond b (Some e.id) (find p (ids_
 abbrev pub capped : ℕ → ℕ
 capped n = min n 65535
 
-bad-size : (n : ℕ) → (nat_eq (capped n) 0 || nat_lt 256 (capped n)) ≡ (nat_eq n 0 || nat_lt 256 n)
+bad-size : (n : ℕ) → (nat_eq (capped n) 0 || nat_lt most_tracks (capped n)) ≡ (nat_eq n 0 || nat_lt most_tracks n)
 bad-size n = grind (arith, nat_tests)
 
-capped-small : (n size : ℕ) → size ≡ capped n → size ≤ 256 → size ≡ n
+capped-small : (n size : ℕ) → size ≡ capped n → size ≤ most_tracks → size ≡ n
 capped-small n size sized most = omega (arith, sized, most)
 
 -- a volume is refused by the machine where it is by the configuration
@@ -137,13 +138,13 @@ module _ (s : PlantState) (t : ConfigTable) (h : Tables) (ev : List Event) (soun
       ap (λ b. cond b (Some (duplicate kind.Volume)) (plans-rest)) (is_volume-here s t h ev v ∙ some-place)
       ∙ ap (λ b. cond (is_some (place_of t v)) (Some (duplicate kind.Volume)) (cond b (Some (duplicate kind.Lss)) plans-sizes)) foreign-here
       ∙ ap (λ b. cond (is_some (place_of t v)) (Some (duplicate kind.Volume)) (cond (rules.is_foreign (lss_owner t (lss_of v)) server) (Some (duplicate kind.Lss)) (cond b (Some (over limit.Tracks)) (plans-count (length (ids_of t.volumes)))))) (sym (bad-size n))
-      ∙ ap (λ m. cond (is_some (place_of t v)) (Some (duplicate kind.Volume)) (cond (rules.is_foreign (lss_owner t (lss_of v)) server) (Some (duplicate kind.Lss)) (cond (nat_eq (capped n) 0 || nat_lt 256 (capped n)) (Some (over limit.Tracks)) (plans-count m)))) (length-map t.volumes (λ (e : VolumeEntry). e.id))
+      ∙ ap (λ m. cond (is_some (place_of t v)) (Some (duplicate kind.Volume)) (cond (rules.is_foreign (lss_owner t (lss_of v)) server) (Some (duplicate kind.Lss)) (cond (nat_eq (capped n) 0 || nat_lt most_tracks (capped n)) (Some (over limit.Tracks)) (plans-count m)))) (length-map t.volumes (λ (e : VolumeEntry). e.id))
     where
       plans-count : ℕ → Option Refusal
       plans-count m = cond (nat_le 64 m) (Some (over limit.Volumes)) None
 
       plans-sizes : Option Refusal
-      plans-sizes = cond (nat_eq n 0 || nat_lt 256 n) (Some (over limit.Tracks)) (plans-count (length (ids_of t.volumes)))
+      plans-sizes = cond (nat_eq n 0 || nat_lt most_tracks n) (Some (over limit.Tracks)) (plans-count (length (ids_of t.volumes)))
 
       plans-rest : Option Refusal
       plans-rest = cond (plans.is_foreign k (model.first_of k (model.subsystem v)) server) (Some (duplicate kind.Lss)) plans-sizes
@@ -177,7 +178,7 @@ module _ (s : PlantState) (t : ConfigTable) (v server n : ℕ) (stands : StandsF
   entry = record { id = v; server = server; tracks = n }
 
   abbrev s' : PlantState
-  s' = with_device s server (13 + n)
+  s' = with_device s server (blocks_of n)
 
   abbrev t' : ConfigTable
   t' = with_volume t v server n
@@ -189,7 +190,7 @@ module _ (s : PlantState) (t : ConfigTable) (v server n : ℕ) (stands : StandsF
   entry-new = slice_get-seam t.volumes entry
 
   blocks-new : s'.block (length t.volumes) ≡ zero_blocks
-  blocks-new = block-new s server (13 + n) (length t.volumes) (sym stands.count)
+  blocks-new = block-new s server (blocks_of n) (length t.volumes) (sym stands.count)
 
   seen-new : volume_seen s' t' v ≡ new_volume server n
   seen-new = volume-placed s' t' v (length t.volumes) entry placed-new entry-new ∙ ap (λ b. view.volume_on b (Some entry)) blocks-new ∙ volume-zeros entry
@@ -200,7 +201,7 @@ module _ (s : PlantState) (t : ConfigTable) (v server n : ℕ) (stands : StandsF
 
   at-old : (d : ℕ) → d < length t.volumes → (volume_at s' t' (Some d) ≡ volume_at s t (Some d)) × ((q : ℕ) → track_at s' t' (Some d) q ≡ track_at s t (Some d) q)
   at-old d lt =
-      let same = block-old s server (13 + n) d (λ e. let count = stands.count in absurd (omega (arith, lt, e, count))) in
+      let same = block-old s server (blocks_of n) d (λ e. let count = stands.count in absurd (omega (arith, lt, e, count))) in
       ((λ i. view.volume_on (same i) (entry-old d lt i)), λ q i. track_on (same i) (entry-old d lt i) q)
 
   old-by : (o : Option ℕ) (u : ℕ) → place_of t u ≡ o → (volume_at s' t' o ≡ volume_at s t o) × ((q : ℕ) → track_at s' t' o q ≡ track_at s t o q)
@@ -231,31 +232,12 @@ module _ (s : PlantState) (t : ConfigTable) (v server n : ℕ) (stands : StandsF
   ids-now : ids_of t.volumes ++ v ∷ [] ≡ ids_of t'.volumes
   ids-now = sym (map-append (λ (e : VolumeEntry). e.id) t.volumes (entry ∷ []))
 
-  settled-new : IsSettled s' t' v
-  settled-new on = subst (λ o. TracksSettled (s'.block (device_of t' v)) o) (sym (ap (λ (x : Volume). x.staged) seen-new)) tt
-
-  settled-old : (u : ℕ) → u ≢ v → IsSettled s t u → IsSettled s' t' u
-  unfolding with_device
-  settled-old u ne is =
-      let stays = place-of-other t v u server n (λ e. ne (sym e)) in
-      subst (λ o. s'.on (volume_at s' t' o).server ≡ true → TracksSettled (s'.block (unwrap_or o 0)) (volume_at s' t' o).staged) (sym stays) (settled-by (place_of t u) u refl is)
-    where
-      settled-by : (o : Option ℕ) (u : ℕ) → place_of t u ≡ o → (s.on (volume_at s t o).server ≡ true → TracksSettled (s.block (unwrap_or o 0)) (volume_at s t o).staged)
-          → s'.on (volume_at s' t' o).server ≡ true → TracksSettled (s'.block (unwrap_or o 0)) (volume_at s' t' o).staged
-      settled-by None u is settled on = tt
-      settled-by (Some d) u is settled on =
-          let lt = position-within (λ (e : VolumeEntry). nat_eq e.id u) t.volumes d is in
-          let same = block-old s server (13 + n) d (λ e. let count = stands.count in absurd (omega (arith, lt, e, count))) in
-          let there = (at-old d lt).0 in
-          subst (λ (x : Volume). TracksSettled (s'.block d) x.staged) (sym there) (subst (λ b. TracksSettled b (volume_at s t (Some d)).staged) (sym same) (settled (ap (λ (x : Volume). s.on x.server) (sym there) ∙ on)))
-
-  pub rest-volume : n ≤ 256 → StandsFor t' s' → IsAtRest s t → IsAtRest s' t'
+  pub rest-volume : n ≤ most_tracks → StandsFor t' s' → IsAtRest s t → IsAtRest s' t'
   rest-volume most new r = record {
     stands = new;
-    settled = λ u. elim (eqb_tells u v) [ inl p ↦ subst (IsSettled s' t') (sym p.1) settled-new | inr p ↦ settled-old u p.1 (r.settled u) ];
     sizes = λ u. elim (eqb_tells u v) [
-      | inl p ↦ subst (λ x. (volume_seen s' t' x).tracks ≤ 256) (sym p.1) (subst (λ m. m ≤ 256) (sym (ap (λ (x : Volume). x.tracks) seen-new)) most)
-      | inr p ↦ subst (λ m. m ≤ 256) (sym (ap (λ (x : Volume). x.tracks) (old u p.1).0)) (r.sizes u)
+      | inl p ↦ subst (λ x. (volume_seen s' t' x).tracks ≤ most_tracks) (sym p.1) (subst (λ m. m ≤ most_tracks) (sym (ap (λ (x : Volume). x.tracks) seen-new)) most)
+      | inr p ↦ subst (λ m. m ≤ most_tracks) (sym (ap (λ (x : Volume). x.tracks) (old u p.1).0)) (r.sizes u)
     ];
   }
 
@@ -264,8 +246,8 @@ module _ (s : PlantState) (t : ConfigTable) (v server n : ℕ) (stands : StandsF
       → (let u : World = here s t h ev in record u { control = record u.control { volumes = u.control.volumes ++ v ∷ []; volume = at u.control.volume v (new_volume server n) }; events = ev ++ VolumeDefined v server n ∷ [] }) ≡ here s' t' h mid
   defined-here h ev mid told i = record (here s t h ev) {
     control = record (here s t h ev).control {
-      on = sym (on-still s server (13 + n)) i;
-      fuse = sym (fuses-still s server (13 + n)) i;
+      on = sym (on-still s server (blocks_of n)) i;
+      fuse = sym (fuses-still s server (blocks_of n)) i;
       volumes = ids-now i;
       volume = λ u. volume-now u i;
     };
@@ -293,7 +275,7 @@ module _ (s : PlantState) (t : ConfigTable) (h : Tables) (ev : List Event) (line
       ∙ (λ i. said (here (sym still i) (sym same i) h ev) line (Refused r))
 
   pub volume-defined : (mid : List Event) (s' : PlantState) (t' : ConfigTable) (size : ℕ) (bytes : List ℕ) (server : ℕ) → StandsFor t s → bytes ≡ name_bytes name → server_named t bytes ≡ Some server
-      → size ≡ capped n → None ≡ rules.volume_refusal t v server size → s' ≡ with_device s server (13 + size) → t' ≡ with_volume t v server size
+      → size ≡ capped n → None ≡ rules.volume_refusal t v server size → s' ≡ with_device s server (blocks_of size) → t' ≡ with_volume t v server size
       → mid ≡ ev ++ VolumeDefined v server size ∷ [] → after_plan w' line (volume_plan w'.control v name n) ≡ said (here s' t' h mid) line (Done Alone)
   volume-defined mid s' t' size bytes server stands named there sized free added is defined =
       let fits = volume-accepted t v server size (sym free) in
@@ -306,15 +288,15 @@ module _ (s : PlantState) (t : ConfigTable) (h : Tables) (ev : List Event) (line
       ∙ ap (λ x. said (here x (with_volume t v server size) h mid) line (Done Alone)) (sym added)
       ∙ ap (λ x. said (here s' x h mid) line (Done Alone)) (sym is))
 
-pub ready-defined : (s : PlantState) (t : ConfigTable) (h : Tables) (ev mid : List Event) (v server n : ℕ) (s' : PlantState) (t' : ConfigTable) → IsReady s t h ev → None ≡ rules.volume_refusal t v server n → s' ≡ with_device s server (13 + n)
+pub ready-defined : (s : PlantState) (t : ConfigTable) (h : Tables) (ev mid : List Event) (v server n : ℕ) (s' : PlantState) (t' : ConfigTable) → IsReady s t h ev → None ≡ rules.volume_refusal t v server n → s' ≡ with_device s server (blocks_of n)
     → t' ≡ with_volume t v server n → StandsFor t' s' → mid ≡ ev ++ VolumeDefined v server n ∷ [] → IsReady s' t' h mid
 ready-defined s t h ev mid v server n s' t' ready free added is stands told =
     let fits = volume-accepted t v server n (sym free) in
-    let new : StandsFor (with_volume t v server n) (with_device s server (13 + n)) = subst (λ x. StandsFor (with_volume t v server n) x) added (subst (λ x. StandsFor x s') is stands) in
+    let new : StandsFor (with_volume t v server n) (with_device s server (blocks_of n)) = subst (λ x. StandsFor (with_volume t v server n) x) added (subst (λ x. StandsFor x s') is stands) in
     let rest = rest-volume s t v server n ready.rest.stands fits.new fits.most new ready.rest in
     record {
-      rest = subst (λ x. IsAtRest x t') (sym added) (subst (λ x. IsAtRest (with_device s server (13 + n)) x) (sym is) rest);
-      reads = λ k lt. ap (λ (x : PlantState). x.read_fuse k) added ∙ ap (λ (f : ℕ → Option ℕ). f k) (reads-still s server (13 + n)) ∙ ready.reads k lt;
+      rest = subst (λ x. IsAtRest x t') (sym added) (subst (λ x. IsAtRest (with_device s server (blocks_of n)) x) (sym is) rest);
+      reads = λ k lt. ap (λ (x : PlantState). x.read_fuse k) added ∙ ap (λ (f : ℕ → Option ℕ). f k) (reads-still s server (blocks_of n)) ∙ ready.reads k lt;
       told = told-push h.host ev mid (VolumeDefined v server n) (λ x. refl) told ready.told;
     }
 
@@ -361,7 +343,7 @@ module _ (s : PlantState) (t : ConfigTable) (h : Tables) (ev : List Event) (line
 
 pub ready-link : (s : PlantState) (t t' : ConfigTable) (h : Tables) (ev : List Event) (a b : ℕ) (up : Bool) → t' ≡ with_link t a b up → IsReady s t h ev → IsReady s t' h ev
 ready-link s t t' h ev a b up is r = subst (λ x. IsReady s x h ev) (sym is) (record {
-  rest = record { stands = stands-with_link t a b up s r.rest.stands; settled = r.rest.settled; sizes = r.rest.sizes };
+  rest = record { stands = stands-with_link t a b up s r.rest.stands; sizes = r.rest.sizes };
   reads = r.reads;
   told = r.told;
 })

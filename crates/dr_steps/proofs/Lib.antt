@@ -36,9 +36,10 @@
 --   and how those that follow ended. The call that does the following answers with the first refusal, and swallows its
 --   own. In the step (`DrainLemmas.antt`), `follows-to` takes the refusal apart; all but a stop are `sym
 --   same`. The entries that follow must test that their server runs: it may be the one that stopped.
--- - **A big match in two**: `carry_out` has the forms on servers, volumes and host writes, and listings; its default arm calls
---   `carry_session`, which requires `is_plain step ≡ false`. That follows from the `.not-V` of the arms (`none-plain`). The last default
---   arm needs no form: a step that is none of all these has a course of its own, and no plan but to say that it is done (`plan-else`).
+-- - **A big match in parts**: `carry_out` has the forms that change the configuration; its default arm calls `carry_host`, whose default arm
+--   calls `carry_listing`, and so on to `carry_return`. Each requires that the step is of none of the forms before (`is_defining step ≡
+--   false`), which follows from the `.not-V` of the arms (`none-defining`). The last default arm needs no form: a step that is none of all
+--   these has a course of its own, and no plan but to say that it is done (`plan-else`).
 -- - **A listing** (`ListingLemmas.antt`): its plan is a refusal or lines that come (`list-refused`, `list-done`), its lines tell of no
 --   write and no stop (`told-lines`, `lines-calm`); an image is the same with its own course (`image-done`, `image-full`).
 pub mod BackgroundLemmas

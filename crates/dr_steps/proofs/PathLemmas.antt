@@ -18,7 +18,7 @@ use Rattle.dr_model.specs.declared.event.Event.{Event}
 use Rattle.dr_model.specs.declared.said.Said.TheVariants.{Done, Refused}
 use Rattle.dr_model.specs.declared.said.Addition.TheVariants.{Alone}
 use Rattle.dr_model.specs.declared.step.Devs.{Devs}
-use Rattle.dr_model.specs.Layout.{Fields, is_part}
+use Rattle.dr_model.specs.Layout.{is_part}
 use Rattle.dr_model.specs.Control.{Control, Volume, World}
 use Rattle.dr_model.specs.Entries.{subsystem, pair_state}
 use Rattle.dr_model.specs.Pairs.{is_suspended}
@@ -27,6 +27,8 @@ use Rattle.dr_model.specs.Plans.{Plan, owner_of, on_owner, is_named, path_refusa
 use Rattle.dr_model.specs.Refusals.{unknown, over, server_off}
 use Rattle.dr_model.specs.Runs.{after_plan, said}
 use Rattle.dr_model.proofs.CarryLemmas.{plan-refuses, plan-tables}
+use Rattle.dr_volume.specs.Head.{head_of}
+use Rattle.dr_volume.specs.declared.head.Head.{Head}
 use Rattle.dr_volume.specs.View.{volume_seen, ids_of}
 use Rattle.dr_volume.proofs.VolumeLaws.{volume-placed}
 use Rattle.dr_flash.proofs.CopyLemmas.{ids-next}
@@ -48,11 +50,11 @@ pub first-none : (p : ℕ → Bool) (t : ConfigTable) (place : ℕ) → length t
 first-none p t place all = ap (λ es. find p (ids_of es)) (drop_all place t.volumes all)
 
 -- a volume with these fields copies from one subsystem to another
-abbrev pub active_by : ℕ → ℕ → ℕ → Fields → Bool
-active_by src tgt v f = nat_eq (subsystem v) src && (is_part f.primary && (nat_eq (subsystem f.primary_partner) tgt && not (is_suspended f.primary_state)))
+abbrev pub active_by : ℕ → ℕ → ℕ → Head → Bool
+active_by src tgt v h = nat_eq (subsystem v) src && (is_part h.primary && (nat_eq (subsystem h.primary_partner.0) tgt && not (is_suspended h.primary_state)))
 
 abbrev pub active_in : PlantState → ConfigTable → ℕ → ℕ → ℕ → Bool
-active_in s t src tgt v = active_by src tgt v (volume_seen s t v).fields
+active_in s t src tgt v = active_by src tgt v (head_of (volume_seen s t v).fields)
 
 module _ (s : PlantState) (t : ConfigTable) (h : Tables) (ev : List Event) (line : ℕ) where
   abbrev pub w : World
@@ -153,14 +155,14 @@ held-some on force r x o is unforced some = some ∙ (λ i. if not (sym is i) th
 -- what is ready stays so
 pub ready-path : (s : PlantState) (t u : ConfigTable) (h : Tables) (ev : List Event) (src tgt : ℕ) (group : Bool) → u ≡ with_path_between t src tgt group → IsReady s t h ev → IsReady s u h ev
 ready-path s t u h ev src tgt group is r = subst (λ x. IsReady s x h ev) (sym is) (record {
-  rest = record { stands = stands-with_path_between t src tgt group s r.rest.stands; settled = r.rest.settled; sizes = r.rest.sizes };
+  rest = record { stands = stands-with_path_between t src tgt group s r.rest.stands; sizes = r.rest.sizes };
   reads = r.reads;
   told = r.told;
 })
 
 pub ready-unpath : (s : PlantState) (t u : ConfigTable) (h : Tables) (ev : List Event) (src tgt : ℕ) → u ≡ without_path_between t src tgt → IsReady s t h ev → IsReady s u h ev
 ready-unpath s t u h ev src tgt is r = subst (λ x. IsReady s x h ev) (sym is) (record {
-  rest = record { stands = stands-without_path_between t src tgt s r.rest.stands; settled = r.rest.settled; sizes = r.rest.sizes };
+  rest = record { stands = stands-without_path_between t src tgt s r.rest.stands; sizes = r.rest.sizes };
   reads = r.reads;
   told = r.told;
 })

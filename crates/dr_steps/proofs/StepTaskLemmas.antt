@@ -18,11 +18,11 @@ use Rattle.dr_model.specs.declared.said.Said.{Said}
 use Rattle.dr_model.specs.declared.said.Said.TheVariants.{Done, Held, Refused}
 use Rattle.dr_model.specs.declared.step.Name.{Name}
 use Rattle.dr_model.specs.declared.step.Step.{Step}
-use Rattle.dr_model.specs.declared.step.Step.TheVariants.{Server, Volume, Link, Stop, StopAfter, Start, Issue, Write, Apply, Show, MakeFlash, RemoveFlash, ResyncFlash, ReverseFlash, UnfreezeFlash, Copy, MakePath, RemovePath, MakePair, RemovePair, PausePair, ResumePair, Failover, Failback, Drain, Expire, Freeze, Unfreeze, MakeSession, RemoveSession, AddMember, RemoveMember, MakeMirror, PauseMirror, ResumeMirror, RemoveMirror, Abort, Exchange, Run, Compare, Image, Recover, CommitFlash, RevertFlash, ListPairs, ListFlashes, ListSession, ShowMirror}
+use Rattle.dr_model.specs.declared.step.Step.TheVariants.{Server, Volume, Link, Stop, StopAfter, Start, Issue, Write, Apply, Show, MakeFlash, RemoveFlash, ResyncFlash, ReverseFlash, UnfreezeFlash, Copy, Destage, MakePath, RemovePath, MakePair, RemovePair, PausePair, ResumePair, Failover, Failback, Drain, Expire, Freeze, Unfreeze, MakeSession, RemoveSession, AddMember, RemoveMember, MakeMirror, PauseMirror, ResumeMirror, RemoveMirror, Abort, Exchange, Run, Compare, Image, Recover, CommitFlash, RevertFlash, ListPairs, ListFlashes, ListSession, ShowMirror}
 use Rattle.dr_model.specs.declared.step.TornWord.{TornWord}
 use Rattle.dr_model.specs.declared.step.Devs.{Devs}
 use Rattle.dr_model.specs.declared.step.PairChoices.{PairChoices}
-use Rattle.dr_steps.specs.Forms.{is_plain, is_relation, is_pair, is_session, is_recovery}
+use Rattle.dr_steps.specs.Forms.{is_defining, is_hosted, is_listing, is_plain, is_relation, is_pair, is_session, is_recovery}
 use Rattle.dr_model.specs.Answers.{answer}
 use Rattle.dr_model.specs.Control.{Control, World}
 use Rattle.dr_model.specs.Plans.{refuses, only_says, plan_of, compare_plan, has_room}
@@ -48,11 +48,27 @@ told-answer h events now line a told is =
     subst (λ (x : Histories). EachPending (λ (p : Pending). x.write (p.w.0) ≡ record { volume = p.volume.0; track = p.track; offset = p.offset; bytes = bytes_of p }) h.host.pending)
     (sym (ap histories told ∙ histories-push events (answer line a))) is
 
--- a step of another form is none of those on servers, volumes, paths and host writes, no freeze or thaw, and no listing
-pub none-plain : (step : Step)
+-- a step of another form is none of those that define servers, volumes and links, is on no path, and no freeze or thaw
+pub none-defining : (step : Step)
     → ((n : Name) → step ≡ Server n → ⊥)
     → ((v : ℕ) (n : Name) (t : ℕ) → step ≡ Volume v n t → ⊥)
     → ((a b : Name) (up : Bool) → step ≡ Link a b up → ⊥)
+    → ((d : Devs) (s t : ℕ) (g : Bool) → step ≡ MakePath d s t g → ⊥)
+    → ((d : Devs) (s t : ℕ) (f : Bool) → step ≡ RemovePath d s t f → ⊥)
+    → ((d : Devs) (l m : ℕ) → step ≡ Freeze d l m → ⊥)
+    → ((d : Devs) (l m : ℕ) → step ≡ Unfreeze d l m → ⊥)
+    → is_defining step ≡ false
+none-defining (Server n) server volume link path unpath freeze thaw = absurd (server n refl)
+none-defining (Volume v n t) server volume link path unpath freeze thaw = absurd (volume v n t refl)
+none-defining (Link a b up) server volume link path unpath freeze thaw = absurd (link a b up refl)
+none-defining (MakePath d s t g) server volume link path unpath freeze thaw = absurd (path d s t g refl)
+none-defining (RemovePath d s t f) server volume link path unpath freeze thaw = absurd (unpath d s t f refl)
+none-defining (Freeze d l m) server volume link path unpath freeze thaw = absurd (freeze d l m refl)
+none-defining (Unfreeze d l m) server volume link path unpath freeze thaw = absurd (thaw d l m refl)
+none-defining _ server volume link path unpath freeze thaw = refl
+
+-- or no host write, shows no track, and is on no server as it runs
+pub none-hosted : (step : Step)
     → ((v t o l : ℕ) (b : List ℕ) → step ≡ Issue v t o l b → ⊥)
     → ((v t o l : ℕ) (b : List ℕ) → step ≡ Write v t o l b → ⊥)
     → ((n : ℕ) → step ≡ Apply n → ⊥)
@@ -60,36 +76,34 @@ pub none-plain : (step : Step)
     → ((n : Name) → step ≡ Stop n → ⊥)
     → ((n : Name) (k : ℕ) (torn : TornWord) → step ≡ StopAfter n k torn → ⊥)
     → ((n : Name) → step ≡ Start n → ⊥)
-    → ((d : Devs) (s t : ℕ) (g : Bool) → step ≡ MakePath d s t g → ⊥)
-    → ((d : Devs) (s t : ℕ) (f : Bool) → step ≡ RemovePath d s t f → ⊥)
     → ((n : Name) → step ≡ Expire n → ⊥)
-    → ((d : Devs) (l m : ℕ) → step ≡ Freeze d l m → ⊥)
-    → ((d : Devs) (l m : ℕ) → step ≡ Unfreeze d l m → ⊥)
+    → is_hosted step ≡ false
+none-hosted (Issue v t o l b) issue write apply show stop arm start expire = absurd (issue v t o l b refl)
+none-hosted (Write v t o l b) issue write apply show stop arm start expire = absurd (write v t o l b refl)
+none-hosted (Apply n) issue write apply show stop arm start expire = absurd (apply n refl)
+none-hosted (Show v t) issue write apply show stop arm start expire = absurd (show v t refl)
+none-hosted (Stop n) issue write apply show stop arm start expire = absurd (stop n refl)
+none-hosted (StopAfter n x torn) issue write apply show stop arm start expire = absurd (arm n x torn refl)
+none-hosted (Start n) issue write apply show stop arm start expire = absurd (start n refl)
+none-hosted (Expire n) issue write apply show stop arm start expire = absurd (expire n refl)
+none-hosted _ issue write apply show stop arm start expire = refl
+
+-- or no listing
+pub none-listing : (step : Step)
     → ((d : Devs) (v : ℕ) → step ≡ ListPairs d v → ⊥)
     → ((d : Devs) (v : ℕ) → step ≡ ListFlashes d v → ⊥)
     → ((d : Devs) (l : ℕ) → step ≡ ListSession d l → ⊥)
     → ((d : Devs) (l : ℕ) → step ≡ ShowMirror d l → ⊥)
-    → is_plain step ≡ false
-none-plain (Server n) server volume link issue write apply show stop arm start path unpath expire freeze thaw pairs flashes members mirrors = absurd (server n refl)
-none-plain (Volume v n t) server volume link issue write apply show stop arm start path unpath expire freeze thaw pairs flashes members mirrors = absurd (volume v n t refl)
-none-plain (Link a b up) server volume link issue write apply show stop arm start path unpath expire freeze thaw pairs flashes members mirrors = absurd (link a b up refl)
-none-plain (Issue v t o l b) server volume link issue write apply show stop arm start path unpath expire freeze thaw pairs flashes members mirrors = absurd (issue v t o l b refl)
-none-plain (Write v t o l b) server volume link issue write apply show stop arm start path unpath expire freeze thaw pairs flashes members mirrors = absurd (write v t o l b refl)
-none-plain (Apply n) server volume link issue write apply show stop arm start path unpath expire freeze thaw pairs flashes members mirrors = absurd (apply n refl)
-none-plain (Show v t) server volume link issue write apply show stop arm start path unpath expire freeze thaw pairs flashes members mirrors = absurd (show v t refl)
-none-plain (Stop n) server volume link issue write apply show stop arm start path unpath expire freeze thaw pairs flashes members mirrors = absurd (stop n refl)
-none-plain (StopAfter n x torn) server volume link issue write apply show stop arm start path unpath expire freeze thaw pairs flashes members mirrors = absurd (arm n x torn refl)
-none-plain (Start n) server volume link issue write apply show stop arm start path unpath expire freeze thaw pairs flashes members mirrors = absurd (start n refl)
-none-plain (MakePath d s t g) server volume link issue write apply show stop arm start path unpath expire freeze thaw pairs flashes members mirrors = absurd (path d s t g refl)
-none-plain (RemovePath d s t f) server volume link issue write apply show stop arm start path unpath expire freeze thaw pairs flashes members mirrors = absurd (unpath d s t f refl)
-none-plain (Expire n) server volume link issue write apply show stop arm start path unpath expire freeze thaw pairs flashes members mirrors = absurd (expire n refl)
-none-plain (Freeze d l m) server volume link issue write apply show stop arm start path unpath expire freeze thaw pairs flashes members mirrors = absurd (freeze d l m refl)
-none-plain (Unfreeze d l m) server volume link issue write apply show stop arm start path unpath expire freeze thaw pairs flashes members mirrors = absurd (thaw d l m refl)
-none-plain (ListPairs d v) server volume link issue write apply show stop arm start path unpath expire freeze thaw pairs flashes members mirrors = absurd (pairs d v refl)
-none-plain (ListFlashes d v) server volume link issue write apply show stop arm start path unpath expire freeze thaw pairs flashes members mirrors = absurd (flashes d v refl)
-none-plain (ListSession d l) server volume link issue write apply show stop arm start path unpath expire freeze thaw pairs flashes members mirrors = absurd (members d l refl)
-none-plain (ShowMirror d l) server volume link issue write apply show stop arm start path unpath expire freeze thaw pairs flashes members mirrors = absurd (mirrors d l refl)
-none-plain _ server volume link issue write apply show stop arm start path unpath expire freeze thaw pairs flashes members mirrors = refl
+    → is_listing step ≡ false
+none-listing (ListPairs d v) pairs flashes members mirrors = absurd (pairs d v refl)
+none-listing (ListFlashes d v) pairs flashes members mirrors = absurd (flashes d v refl)
+none-listing (ListSession d l) pairs flashes members mirrors = absurd (members d l refl)
+none-listing (ShowMirror d l) pairs flashes members mirrors = absurd (mirrors d l refl)
+none-listing _ pairs flashes members mirrors = refl
+
+-- then it is none of all these
+pub none-plain : (step : Step) → is_defining step ≡ false → is_hosted step ≡ false → is_listing step ≡ false → is_plain step ≡ false
+none-plain step defining hosted listing = (λ i. defining i || (hosted i || listing i))
 
 -- or none of those on sessions
 pub none-session : (step : Step)
@@ -131,14 +145,16 @@ pub none-relation : (step : Step)
     → ((d : Devs) (s t : ℕ) (p : Bool) (n : Option ℕ) → step ≡ ReverseFlash d s t p n → ⊥)
     → ((d : Devs) (l : ℕ) → step ≡ UnfreezeFlash d l → ⊥)
     → ((t : ℕ) (most : Option ℕ) → step ≡ Copy t most → ⊥)
+    → ((v : ℕ) → step ≡ Destage v → ⊥)
     → is_relation step ≡ false
-none-relation (MakeFlash d s t a b c e f n) make remove resync reverse release copy = absurd (make d s t a b c e f n refl)
-none-relation (RemoveFlash d s t n) make remove resync reverse release copy = absurd (remove d s t n refl)
-none-relation (ResyncFlash d s t a b c e n) make remove resync reverse release copy = absurd (resync d s t a b c e n refl)
-none-relation (ReverseFlash d s t p n) make remove resync reverse release copy = absurd (reverse d s t p n refl)
-none-relation (UnfreezeFlash d l) make remove resync reverse release copy = absurd (release d l refl)
-none-relation (Copy t most) make remove resync reverse release copy = absurd (copy t most refl)
-none-relation _ make remove resync reverse release copy = refl
+none-relation (MakeFlash d s t a b c e f n) make remove resync reverse release copy destage = absurd (make d s t a b c e f n refl)
+none-relation (RemoveFlash d s t n) make remove resync reverse release copy destage = absurd (remove d s t n refl)
+none-relation (ResyncFlash d s t a b c e n) make remove resync reverse release copy destage = absurd (resync d s t a b c e n refl)
+none-relation (ReverseFlash d s t p n) make remove resync reverse release copy destage = absurd (reverse d s t p n refl)
+none-relation (UnfreezeFlash d l) make remove resync reverse release copy destage = absurd (release d l refl)
+none-relation (Copy t most) make remove resync reverse release copy destage = absurd (copy t most refl)
+none-relation (Destage v) make remove resync reverse release copy destage = absurd (destage v refl)
+none-relation _ make remove resync reverse release copy destage = refl
 
 -- or none of those on a pair that stays as it lies
 pub none-pair : (step : Step)

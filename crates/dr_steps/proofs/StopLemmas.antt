@@ -1,6 +1,6 @@
 -- What stopping a server and arming its fuse come to, over what plant, configuration, writes and journal
 -- show.
-use Rattle.std.proofs.Common.{ℕ, ◌≡◌, ◌<◌, List, [], ◌∷◌, ◌++◌, refl, ap, ◌∙◌, sym, subst, inl, inr, true, false, cond, Some, None}
+use Rattle.std.proofs.Common.{ℕ, ◌≡◌, ◌<◌, List, [], ◌∷◌, ◌++◌, refl, ap, ◌∙◌, sym, subst, true, false, cond, Some, None}
 use Rattle.std.proofs.lemmas.List.{append-nil}
 use Rattle.dr_plant.specs.State.{PlantState, off}
 use Rattle.dr_plant.specs.declared.plant.WriteFuse.{WriteFuse}
@@ -18,14 +18,12 @@ use Rattle.dr_model.specs.Control.{Fuse, World}
 use Rattle.dr_model.specs.Plans.{Plan, only_says, on_server, on_named, name_bytes, stop_done, stop_on, armed, arm_on, torn_bytes}
 use Rattle.dr_model.specs.Runs.{after_plan, said}
 use Rattle.dr_model.proofs.CarryLemmas.{plan-says, plan-refuses, plan-tables}
-use Rattle.dr_volume.specs.View.{torn_seen, volume_seen, ReadsPass}
+use Rattle.dr_volume.specs.View.{torn_seen, ReadsPass}
 use Rattle.dr_volume.proofs.WorldLaws.{on-at, on-seen, fuses-at}
-use Rattle.std.proofs.lemmas.Bool.Decides.{eqb_tells}
 use Rattle.dr_logic.specs.Tables.{at}
 use Rattle.dr_steps.specs.Here.{here}
 use Rattle.dr_moves.specs.Here.{IsAtRest}
 use Rattle.dr_steps.specs.declared.tables.Tables.{Tables}
-use Rattle.dr_logic.proofs.Tables.{at_same, at_other}
 
 module _ (s : PlantState) (t : ConfigTable) (h : Tables) (ev : List Event) (line : ℕ) where
   abbrev w : World
@@ -69,17 +67,10 @@ module _ (s : PlantState) (t : ConfigTable) (h : Tables) (ev : List Event) (line
       ∙ (λ i. said (record w { control = record w.control { fuse = sym (fuses-at s (fused f server) server (Some f) low refl) i } }) line (Done Alone))
       ∙ ap (λ x. said (here x t h ev) line (Done Alone)) (sym is)
 
-off-other : (s : PlantState) (server q : ℕ) → (off s server).on q ≡ true → s.on q ≡ true
-off-other s server q on = elim (eqb_tells q server) [
-  | inl p ↦ let e : true ≡ false = sym on ∙ ap (off s server).on p.1 ∙ at_same s.on server false in absurd cc
-  | inr p ↦ sym (at_other s.on server false q p.1) ∙ on
-]
-
--- a server that is off has nothing to settle
+-- what holds between two commands holds where a server is off
 pub rest-off : (s u : PlantState) (t : ConfigTable) (server : ℕ) → u ≡ off s server → IsAtRest s t → IsAtRest u t
 rest-off s u t server is rest = subst (λ x. IsAtRest x t) (sym is) (record {
   stands = record { count = rest.stands.count; device = rest.stands.device };
-  settled = λ v on. rest.settled v (off-other s server (volume_seen s t v).server on);
   sizes = rest.sizes;
 })
 

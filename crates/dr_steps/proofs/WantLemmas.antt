@@ -4,7 +4,6 @@ use Rattle.std.specs.Prelude.{is_some, IsSome, IsOk, OnErr, if◌then◌else◌}
 use Rattle.std.specs.Option.{option_or}
 use Rattle.std.proofs.lemmas.Bool.Decides.{nat_tests}
 use Rattle.dr_ids.specs.Paths.{path_in}
-use Rattle.dr_ids.specs.declared.names.Member.{Member}
 use Rattle.dr_ids.specs.declared.refusal.Fault.{Fault}
 use Rattle.dr_ids.specs.declared.refusal.Fault.TheVariants.{NoMemory, Refused as FaultRefused}
 use Rattle.dr_ids.specs.declared.refusal.Refusal.{Refusal}
@@ -17,7 +16,6 @@ use Rattle.dr_model.specs.declared.step.Name.{Name}
 use Rattle.dr_model.specs.declared.step.Step.{Step}
 use Rattle.dr_model.specs.declared.step.Step.TheVariants.{Server, Volume, Issue, Write, MakePath, MakeSession, AddMember, Run, Compare, Image}
 use Rattle.dr_model.specs.Control.{Control, World}
-use Rattle.dr_model.specs.Entries.{subsystem}
 use Rattle.dr_model.specs.Forming.{refusal_said}
 use Rattle.dr_model.specs.Limits.{most_events, image_events, step_events}
 use Rattle.dr_model.specs.Log.{memory_for}
@@ -36,7 +34,7 @@ use Rattle.dr_admin.specs.Adding as adding
 use Rattle.dr_admin.specs.Adding.{enrol_refusal, member_planned, AddsSo}
 use Rattle.dr_steps.specs.Here.{here, OnNoMemory}
 use Rattle.dr_steps.specs.Members.{AreThere}
-use Rattle.dr_steps.specs.Wants.{WantsRow, WantsMemory, AsksRow, room_needed, room_taken}
+use Rattle.dr_steps.specs.Wants.{WantsRow, WantsMemory}
 use Rattle.dr_steps.specs.declared.tables.Tables.{Tables}
 use Rattle.dr_steps.proofs.DefineLemmas.{capped, volume-refusal}
 use Rattle.dr_steps.proofs.LocatedLemmas.{is_volume-here}

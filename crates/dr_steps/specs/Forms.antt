@@ -1,32 +1,44 @@
 -- Forms of steps.
-use Rattle.std.specs.Prelude.{Bool, true, false}
+use Rattle.std.specs.Prelude.{Bool, true, false, ◌||◌}
 use Rattle.dr_model.specs.declared.step.Step.{Step}
-use Rattle.dr_model.specs.declared.step.Step.TheVariants.{Server, Volume, Link, Stop, StopAfter, Start, Issue, Write, Apply, Show, MakePath, RemovePath, Expire, Freeze, Unfreeze, MakeFlash, RemoveFlash, ResyncFlash, ReverseFlash, UnfreezeFlash, Copy, MakePair, RemovePair, PausePair, ResumePair, Drain, MakeSession, RemoveSession, AddMember, RemoveMember, MakeMirror, PauseMirror, ResumeMirror, RemoveMirror, Abort, Exchange, Recover, CommitFlash, RevertFlash, ListPairs, ListFlashes, ListSession, ShowMirror}
+use Rattle.dr_model.specs.declared.step.Step.TheVariants.{Server, Volume, Link, Stop, StopAfter, Start, Issue, Write, Apply, Show, MakePath, RemovePath, Expire, Freeze, Unfreeze, MakeFlash, RemoveFlash, ResyncFlash, ReverseFlash, UnfreezeFlash, Copy, Destage, MakePair, RemovePair, PausePair, ResumePair, Drain, MakeSession, RemoveSession, AddMember, RemoveMember, MakeMirror, PauseMirror, ResumeMirror, RemoveMirror, Abort, Exchange, Recover, CommitFlash, RevertFlash, ListPairs, ListFlashes, ListSession, ShowMirror}
 
--- those on servers, volumes, paths and host writes, freezes and thaws, and listings
+-- those that define servers, volumes and links, those on paths, and freezes and thaws of pairs
+abbrev pub is_defining : Step → Bool
+is_defining (Server name) = true
+is_defining (Volume v name tracks) = true
+is_defining (Link a b up) = true
+is_defining (MakePath devs src tgt group) = true
+is_defining (RemovePath devs src tgt force) = true
+is_defining (Freeze devs l m) = true
+is_defining (Unfreeze devs l m) = true
+is_defining _ = false
+
+-- host writes, what shows a track, and those on a server as it runs: its stop, its fuse, its start, the end of its holds
+abbrev pub is_hosted : Step → Bool
+is_hosted (Issue v t offset len bytes) = true
+is_hosted (Write v t offset len bytes) = true
+is_hosted (Apply n) = true
+is_hosted (Show v t) = true
+is_hosted (Stop name) = true
+is_hosted (StopAfter name writes torn) = true
+is_hosted (Start name) = true
+is_hosted (Expire name) = true
+is_hosted _ = false
+
+-- listings
+abbrev pub is_listing : Step → Bool
+is_listing (ListPairs devs v) = true
+is_listing (ListFlashes devs v) = true
+is_listing (ListSession devs l) = true
+is_listing (ShowMirror devs l) = true
+is_listing _ = false
+
+-- all of these
 abbrev pub is_plain : Step → Bool
-is_plain (Server name) = true
-is_plain (Volume v name tracks) = true
-is_plain (Link a b up) = true
-is_plain (Issue v t offset len bytes) = true
-is_plain (Write v t offset len bytes) = true
-is_plain (Apply n) = true
-is_plain (Show v t) = true
-is_plain (Stop name) = true
-is_plain (StopAfter name writes torn) = true
-is_plain (Start name) = true
-is_plain (MakePath devs src tgt group) = true
-is_plain (RemovePath devs src tgt force) = true
-is_plain (Expire name) = true
-is_plain (Freeze devs l m) = true
-is_plain (Unfreeze devs l m) = true
-is_plain (ListPairs devs v) = true
-is_plain (ListFlashes devs v) = true
-is_plain (ListSession devs l) = true
-is_plain (ShowMirror devs l) = true
-is_plain _ = false
+is_plain step = is_defining step || (is_hosted step || is_listing step)
 
--- those on FlashCopy relationships and flash holds
+-- those on FlashCopy relationships and flash holds, and of staged tracks
 abbrev pub is_relation : Step → Bool
 is_relation (MakeFlash devs s t nocopy persistent recorded inhibited freeze sequence) = true
 is_relation (RemoveFlash devs s t sequence) = true
@@ -34,6 +46,7 @@ is_relation (ResyncFlash devs s t nocopy persistent recorded inhibited sequence)
 is_relation (ReverseFlash devs s t tgtpprc sequence) = true
 is_relation (UnfreezeFlash devs l) = true
 is_relation (Copy t most) = true
+is_relation (Destage v) = true
 is_relation _ = false
 
 -- those on pairs that stay as they lie

@@ -1,5 +1,5 @@
 -- Where a step may end for want of memory: where it asks for memory, behind its refusals, and never where the journal is full.
-use Rattle.std.specs.Prelude.{◌≡◌, ℕ, ◌+◌, ◌-◌, ◌<◌, ◌⊎◌, Bool, true, false, not, List, length, is_some, Option, None, Result, Ok, Err}
+use Rattle.std.specs.Prelude.{◌≡◌, ℕ, ◌+◌, ◌-◌, ◌<◌, ◌⊎◌, Bool, true, false, not, List, length, is_some, None, Result, Ok, Err}
 use Rattle.dr_ids.specs.Paths.{path_in}
 use Rattle.dr_model.specs.declared.event.Event.{Event}
 use Rattle.dr_model.specs.declared.step.Step.{Step}

@@ -3,7 +3,7 @@
 ghost use Rattle.std.specs.Prelude.{◌≡◌, ℕ, ◌+◌, ◌<◌, ◌≤◌, true, [], length, Ok, OnOk, OnErr};
 ghost use Rattle.dr_logic.specs.Counts.{Counted};
 ghost use Rattle.dr_model.specs.Laws.{Sound};
-ghost use Rattle.dr_model.specs.Limits.{most_events};
+ghost use Rattle.dr_model.specs.Limits.{most_events, step_events};
 ghost use Rattle.dr_model.specs.Plans.{has_room};
 ghost use Rattle.dr_model.specs.Runs.{after_task};
 ghost use Rattle.dr_model.specs.declared.step.Step.TheVariants as step;
@@ -43,7 +43,7 @@ fn compare_answered<P: Plant>(
 )
     requires ready { IsReady (P.state plant.old) config.now tables.old journal.old.events }
     requires sound { Sound (here (P.state plant.old) config.now tables.old journal.old.events) }
-    requires room { 4096 ≤ journal.old.spare }
+    requires room { step_events ≤ journal.old.spare }
     requires has_room { has_room journal.old.events ≡ true }
     ensures task { after_task (here (P.state plant.old) config.now tables.old journal.old.events) (record { line = number; asked = Ok (step.Compare v.0 u.0); listed = [] })
         ≡ here (P.state plant.new) config.now tables.new journal.new.events }

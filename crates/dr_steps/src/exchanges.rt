@@ -2,6 +2,7 @@
 
 ghost use Rattle.std.specs.Prelude.{◌≡◌, ℕ, ◌+◌, ◌<◌, ◌≤◌, false, length, IfSome};
 ghost use Rattle.dr_model.specs.Laws.{Sound};
+ghost use Rattle.dr_model.specs.Limits.{step_events};
 ghost use Rattle.dr_model.specs.Runs.{after_plan, said};
 ghost use Rattle.dr_model.specs.SessionPlans as plans;
 ghost use Rattle.dr_model.specs.Sessions as model;
@@ -41,7 +42,7 @@ pub fn ask_server<P: Plant>(
     requires low { server.0 < 8 }
     requires known { server.0 < length config.now.names }
     requires few { length config.now.volumes ≤ 64 }
-    requires room { 4096 ≤ journal.old.spare }
+    requires room { step_events ≤ journal.old.spare }
     ensures step { Carries (here (P.state plant.old) config.now tables.old journal.old.events)
         (plans.asking (here (P.state plant.old) config.now tables.old journal.old.events).control s.0 server.0 reply)
         (here (P.state plant.new) config.now tables.new journal.new.events) (said_of result) }
@@ -80,7 +81,7 @@ pub fn exchange<P: Plant>(
     requires sound { Sound (here (P.state plant.old) config.now tables.old journal.old.events) }
     requires short { name.now.len ≤ 24 }
     requires few { length config.now.volumes ≤ 64 }
-    requires room { 4096 ≤ journal.old.spare }
+    requires room { step_events ≤ journal.old.spare }
     ensures step { (line : ℕ) → after_plan (here (P.state plant.old) config.now tables.old journal.old.events) line
         (plans.exchange_plan (here (P.state plant.old) config.now tables.old journal.old.events).control s.0 name.now reply)
         ≡ said (here (P.state plant.new) config.now tables.new journal.new.events) line (said_of result) }

@@ -26,7 +26,7 @@ pub fn expire<P: Plant>(
     requires ready { IsReady (P.state plant.old) config.now tables.now journal.old.events }
     requires sound { Sound (here (P.state plant.old) config.now tables.now journal.old.events) }
     requires short { name.now.len ≤ 24 }
-    requires room { 66 ≤ journal.old.spare }
+    requires room { 130 ≤ journal.old.spare }
     ensures step { (line : ℕ) → StepLeads (here (P.state plant.old) config.now tables.now journal.old.events) line (Step.Expire name.now)
         (here (P.state plant.new) config.now tables.now journal.new.events) (said_of result) }
     ensures faults { CountsStop (said_of result) (P.state plant.old) (P.state plant.new) }

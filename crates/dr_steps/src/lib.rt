@@ -6,7 +6,7 @@
 //! journal may still need before it begins, so want of memory never cuts it short (`same`). `carry_image` is an `@image`: it
 //! lists the plant's own devices (`lists`) and writes none (`still`). `define_server`,
 //! `define_volume`, `set_link`, `issue`, `write`, `apply`, `show`, `stop`, `arm`, `start`, `make_flash`,
-//! `remove_flash`, `resync_flash`, `reverse_flash`, `unfreeze_flash`, `copy`, `make_path`, `remove_path`, `make_pair`, `remove_pair`,
+//! `remove_flash`, `resync_flash`, `reverse_flash`, `unfreeze_flash`, `copy`, `destage_volume`, `make_path`, `remove_path`, `make_pair`, `remove_pair`,
 //! `pause_pair`, `resume_pair`, `fail_over`, `fail_back`, `compare`, `drain`, `expire`, `freeze`, `thaw`, `make_session`, `remove_session`,
 //! `make_mirror`, `pause_mirror`, `remove_mirror`, `abort_attempt`, `add_member`, `remove_member`, `exchange`,
 //! `recover_session`, `commit_flash`, `revert_flash`, `list_pairs`, `list_flashes`, `list_session` and `show_mirror` are
@@ -22,6 +22,7 @@ mod exchanges;
 mod expiry;
 mod flash;
 mod forming;
+mod forms;
 mod freezing;
 mod imaging;
 mod listing;

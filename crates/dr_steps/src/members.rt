@@ -6,6 +6,7 @@ ghost use Rattle.dr_model.specs.declared.event.Event.{Event};
 ghost use Rattle.dr_model.specs.declared.said.Said.TheVariants.{Refused};
 ghost use Rattle.dr_model.specs.Entries.{subsystem};
 ghost use Rattle.dr_model.specs.Laws.{Sound};
+ghost use Rattle.dr_model.specs.Limits.{step_events};
 ghost use Rattle.dr_model.specs.PlanParts.{Plan};
 ghost use Rattle.dr_model.specs.Runs.{after_plan, said};
 ghost use Rattle.dr_model.specs.SessionPlans as plans;
@@ -94,7 +95,7 @@ pub fn add_member<P: Plant>(
     requires ready { IsReady (P.state plant.old) config.now tables.old journal.old.events }
     requires sound { Sound (here (P.state plant.old) config.now tables.old journal.old.events) }
     requires short { FitsOwner devs.now.dev }
-    requires room { 4096 ≤ journal.old.spare }
+    requires room { step_events ≤ journal.old.spare }
     ensures step { OnAnswer result (λ x. (line : ℕ) → after_plan (here (P.state plant.old) config.now tables.old journal.old.events) line
         (plans.add_plan (here (P.state plant.old) config.now tables.old journal.old.events).control devs.now.dev l.0 a.0 s.0)
         ≡ said (here (P.state plant.new) config.now tables.new journal.new.events) line x) }
@@ -135,7 +136,7 @@ pub fn remove_member<P: Plant>(
     requires ready { IsReady (P.state plant.old) config.now tables.old journal.old.events }
     requires sound { Sound (here (P.state plant.old) config.now tables.old journal.old.events) }
     requires short { FitsOwner devs.now.dev }
-    requires room { 4096 ≤ journal.old.spare }
+    requires room { step_events ≤ journal.old.spare }
     ensures step { (line : ℕ) → after_plan (here (P.state plant.old) config.now tables.old journal.old.events) line
         (plans.expel_plan (here (P.state plant.old) config.now tables.old journal.old.events).control devs.now.dev l.0 a.0 s.0)
         ≡ said (here (P.state plant.new) config.now tables.new journal.new.events) line (said_of result) }

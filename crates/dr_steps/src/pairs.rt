@@ -6,6 +6,7 @@ ghost use Rattle.dr_config.specs.Table.{ConfigTable, place_of};
 ghost use Rattle.dr_model.specs.declared.event.Event.{Event};
 ghost use Rattle.dr_model.specs.Laws.{Sound};
 ghost use Rattle.dr_model.specs.Layout as part;
+ghost use Rattle.dr_model.specs.Limits.{step_events};
 ghost use Rattle.dr_model.specs.PairEntries.{refuse_if};
 ghost use Rattle.dr_model.specs.Pairs as pairs;
 ghost use Rattle.dr_model.specs.Plans as plans;
@@ -221,7 +222,7 @@ pub fn drain<P: Plant>(
     requires ready { IsReady (P.state plant.old) config.now tables.now journal.old.events }
     requires sound { Sound (here (P.state plant.old) config.now tables.now journal.old.events) }
     requires few { length config.now.volumes ≤ 64 }
-    requires room { 4096 ≤ journal.old.spare }
+    requires room { step_events ≤ journal.old.spare }
     ensures step { Carries (here (P.state plant.old) config.now tables.now journal.old.events)
         (plans.drain_plan (here (P.state plant.old) config.now tables.now journal.old.events).control a.0 most)
         (here (P.state plant.new) config.now tables.now journal.new.events) (said_of result) }
@@ -251,7 +252,7 @@ pub fn drain_by<P: Plant>(
     requires sound { Sound (here (P.state plant.old) config.now tables.now journal.old.events) }
     requires head { head.now ≡ head_of (volume_seen (P.state plant.old) config.now a.0).fields }
     requires few { length config.now.volumes ≤ 64 }
-    requires room { 4096 ≤ journal.old.spare }
+    requires room { step_events ≤ journal.old.spare }
     ensures step { Carries (here (P.state plant.old) config.now tables.now journal.old.events)
         (plans.drain_plan (here (P.state plant.old) config.now tables.now journal.old.events).control a.0 most)
         (here (P.state plant.new) config.now tables.now journal.new.events) (said_of result) }

@@ -25,7 +25,7 @@ use dr_ids::{Fault, Kind, Lss, Refusal, ServerId, VolumeId};
 use dr_model::{Addition, Devs, Journal};
 use dr_moves::pair_state;
 use dr_plant::Plant;
-use dr_volume::{Fields, peek_fields};
+use dr_volume::{Head, peek_head};
 
 /// Defines the path from one logical subsystem to another, or gives it another flag. Refused where no volume lies in one of
 /// them, where their servers aren't those that the line names, or are one, or one is off, or where their link is down. Where
@@ -65,14 +65,14 @@ pub fn make_path<P: Plant>(
     }
 }
 
-/// Whether a volume of these fields is a primary in one logical subsystem, with its secondary in the other, and isn't
+/// Whether a volume of this head is a primary in one logical subsystem, with its secondary in the other, and isn't
 /// Suspended.
-fn is_active(v: VolumeId, f: &Fields, src: Lss, tgt: Lss) -> bool
-    ensures { result ≡ (nat_eq (subsystem v.0) src.0 && (is_part f.now.primary && (nat_eq (subsystem f.now.primary_partner.0) tgt.0 && not (is_suspended f.now.primary_state)))) }
+fn is_active(v: VolumeId, h: &Head, src: Lss, tgt: Lss) -> bool
+    ensures { result ≡ (nat_eq (subsystem v.0) src.0 && (is_part h.now.primary && (nat_eq (subsystem h.now.primary_partner.0) tgt.0 && not (is_suspended h.now.primary_state)))) }
 {
     v.lss().0 == src.0
-        && (f.primary.is_part()
-            && (f.primary_partner.lss().0 == tgt.0 && !f.primary_state.is_suspended()))
+        && (h.primary.is_part()
+            && (h.primary_partner.lss().0 == tgt.0 && !h.primary_state.is_suspended()))
 }
 
 /// The first primary in one logical subsystem with its secondary in the other that isn't Suspended.
@@ -83,8 +83,8 @@ fn first_active<P: Plant>(plant: &P, config: &Config, src: Lss, tgt: Lss) -> Opt
 {
     for place in 0..config.volumes() {
         let v = config.volume_at(place).unwrap();
-        let fields = peek_fields(plant, config, v);
-        if is_active(v, &fields, src, tgt) {
+        let head = peek_head(plant, config, v);
+        if is_active(v, &head, src, tgt) {
             return Some(v);
         }
     }

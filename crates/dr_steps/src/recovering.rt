@@ -2,6 +2,7 @@
 
 ghost use Rattle.std.specs.Prelude.{◌≡◌, ℕ, ◌≤◌, false, length};
 ghost use Rattle.dr_model.specs.Laws.{Sound};
+ghost use Rattle.dr_model.specs.Limits.{step_events};
 ghost use Rattle.dr_model.specs.RecoveryPlans as plans;
 ghost use Rattle.dr_model.specs.Runs.{after_plan, said};
 ghost use Rattle.dr_recover.specs.Outcomes.{lets_by};
@@ -45,7 +46,7 @@ pub fn recover_session<P: Plant>(
     requires ready { IsReady (P.state plant.old) config.now tables.now journal.old.events }
     requires sound { Sound (here (P.state plant.old) config.now tables.now journal.old.events) }
     requires few { length config.now.volumes ≤ 64 }
-    requires room { 4096 ≤ journal.old.spare }
+    requires room { step_events ≤ journal.old.spare }
     ensures step { (line : ℕ) → after_plan (here (P.state plant.old) config.now tables.now journal.old.events) line
         (plans.recover_plan (here (P.state plant.old) config.now tables.now journal.old.events).control s.0)
         ≡ said (here (P.state plant.new) config.now tables.now journal.new.events) line (said_of result) }
@@ -77,7 +78,7 @@ fn settle_flash<P: Plant>(
     requires sound { Sound (here (P.state plant.old) config.now tables.now journal.old.events) }
     requires short { FitsOwner dev.now }
     requires few { length config.now.volumes ≤ 64 }
-    requires room { 4096 ≤ journal.old.spare }
+    requires room { step_events ≤ journal.old.spare }
     ensures step { (line : ℕ) → after_plan (here (P.state plant.old) config.now tables.now journal.old.events) line
         (plans.settle_plan (here (P.state plant.old) config.now tables.now journal.old.events).control dev.now (lets_by commit) source.0)
         ≡ said (here (P.state plant.new) config.now tables.now journal.new.events) line (said_of result) }
@@ -113,7 +114,7 @@ pub fn commit_flash<P: Plant>(
     requires sound { Sound (here (P.state plant.old) config.now tables.now journal.old.events) }
     requires short { FitsOwner dev.now }
     requires few { length config.now.volumes ≤ 64 }
-    requires room { 4096 ≤ journal.old.spare }
+    requires room { step_events ≤ journal.old.spare }
     ensures step { (line : ℕ) → after_plan (here (P.state plant.old) config.now tables.now journal.old.events) line
         (plans.settle_plan (here (P.state plant.old) config.now tables.now journal.old.events).control dev.now plans.lets_commit source.0)
         ≡ said (here (P.state plant.new) config.now tables.now journal.new.events) line (said_of result) }
@@ -137,7 +138,7 @@ pub fn revert_flash<P: Plant>(
     requires sound { Sound (here (P.state plant.old) config.now tables.now journal.old.events) }
     requires short { FitsOwner dev.now }
     requires few { length config.now.volumes ≤ 64 }
-    requires room { 4096 ≤ journal.old.spare }
+    requires room { step_events ≤ journal.old.spare }
     ensures step { (line : ℕ) → after_plan (here (P.state plant.old) config.now tables.now journal.old.events) line
         (plans.settle_plan (here (P.state plant.old) config.now tables.now journal.old.events).control dev.now plans.lets_revert source.0)
         ≡ said (here (P.state plant.new) config.now tables.now journal.new.events) line (said_of result) }

@@ -3,6 +3,7 @@
 ghost use Rattle.std.specs.Prelude.{◌≡◌, ℕ, ◌≤◌, false, length};
 ghost use Rattle.dr_model.specs.Laws.{Sound};
 ghost use Rattle.dr_model.specs.Layout as part;
+ghost use Rattle.dr_model.specs.Limits.{step_events};
 ghost use Rattle.dr_model.specs.Plans as plans;
 ghost use Rattle.dr_model.specs.Runs.{after_plan, said};
 ghost use Rattle.dr_volume.specs.View.{track_seen};
@@ -132,7 +133,7 @@ pub fn carry_return<P: Plant>(
     requires sound { Sound (here (P.state plant.old) config.now tables.now journal.old.events) }
     requires fits { IsWellFormed step.now }
     requires few { length config.now.volumes ≤ 64 }
-    requires room { 4096 ≤ journal.old.spare }
+    requires room { step_events ≤ journal.old.spare }
     requires form { is_plain step.now ≡ false }
     requires session { is_session step.now ≡ false }
     requires recovery { is_recovery step.now ≡ false }

@@ -207,7 +207,7 @@ pub fn write<P: Plant>(
     requires some { 1 ≤ write.now.len }
     requires fits { write.now.offset + write.now.len ≤ 64 }
     requires count { tables.old.host.issued + 1 < 2 ^ 32 }
-    requires room { length config.now.volumes + (length config.now.volumes + 6) ≤ journal.old.spare }
+    requires room { length config.now.volumes + (length config.now.volumes + 8) ≤ journal.old.spare }
     ensures step { OnSaid result (λ a. (line : ℕ) → StepLeads (here (P.state plant.old) config.now tables.old journal.old.events) line
         (Step.Write write.now.volume.0 write.now.track write.now.offset write.now.len write.now.bytes)
         (here (P.state plant.new) config.now tables.new journal.new.events) a) }
@@ -243,7 +243,7 @@ pub fn apply<P: Plant>(
 ) -> Result<Said, Refusal>
     requires ready { IsReady (P.state plant.old) config.now tables.old journal.old.events }
     requires sound { Sound (here (P.state plant.old) config.now tables.old journal.old.events) }
-    requires room { length config.now.volumes + (length config.now.volumes + 5) ≤ journal.old.spare }
+    requires room { length config.now.volumes + (length config.now.volumes + 7) ≤ journal.old.spare }
     ensures step { (line : ℕ) → StepLeads (here (P.state plant.old) config.now tables.old journal.old.events) line (Step.Apply w)
         (here (P.state plant.new) config.now tables.new journal.new.events) (answered_by result) }
     ensures ready { IsReady (P.state plant.new) config.now tables.new journal.new.events }
@@ -303,7 +303,7 @@ fn carry_write<P: Plant>(
     requires there { track_refusal (here (P.state plant.old) config.now tables.old journal.old.events).control write.now.volume.0 write.now.track ≡ None }
     requires fit { RelationsFit (P.state plant.old) config.now }
     requires partners { PartnersFit (P.state plant.old) config.now }
-    requires room { length config.now.volumes + (length config.now.volumes + 5) ≤ journal.old.spare }
+    requires room { length config.now.volumes + (length config.now.volumes + 7) ≤ journal.old.spare }
     ensures carried { EndsFollowed (armed_in (P.state plant.old)) (here (P.state plant.old) config.now tables.old journal.old.events)
         (landing (here (P.state plant.old) config.now tables.old journal.old.events).control write.now.w.0 write.now.volume.0 write.now.track)
         (after_write (here (P.state plant.old) config.now tables.old journal.old.events).control write.now.volume.0 write.now.track) (here (P.state plant.new) config.now tables.new journal.new.events) (refusal_of result) }

@@ -1,6 +1,6 @@
 //! The steps that stop a server, arm its fuse, and start it.
 
-ghost use Rattle.std.specs.Prelude.{◌≡◌, ℕ, ◌≤◌};
+ghost use Rattle.std.specs.Prelude.{◌≡◌, ℕ, ◌+◌, ◌≤◌, length};
 ghost use Rattle.dr_model.specs.Plans.{torn_bytes, says_acked};
 ghost use Rattle.dr_model.specs.declared.said.Said.TheVariants.{Done};
 ghost use Rattle.dr_model.specs.declared.step.Step.{Step};
@@ -104,7 +104,7 @@ pub fn start<P: Plant>(
 ) -> Result<Addition, Refusal>
     requires ready { IsReady (P.state plant.old) config.now tables.old journal.old.events }
     requires short { name.now.len ≤ 24 }
-    requires room { 3 ≤ journal.old.spare }
+    requires room { length config.now.volumes + length config.now.volumes + 3 ≤ journal.old.spare }
     ensures step { (line : ℕ) → StepLeads (here (P.state plant.old) config.now tables.old journal.old.events) line (Step.Start name.now)
         (here (P.state plant.new) config.now tables.new journal.new.events) (said_of result) }
     ensures faults { CountsStop (said_of result) (P.state plant.old) (P.state plant.new) }

@@ -1,302 +1,60 @@
 //! One step of a line: whether it may be carried out, what it comes to, and its answer.
 
-ghost use Rattle.std.specs.Prelude.{◌≡◌, ℕ, ◌+◌, ◌<◌, ◌≤◌, ◌++◌, ◌^◌, true, false, [], ◌∷◌, length, Some, None, Ok, OnOk, OnErr};
+ghost use Rattle.std.specs.Prelude.{◌≡◌, ℕ, ◌+◌, ◌<◌, ◌≤◌, ◌^◌, true, false, [], length, Some, None, Ok, OnOk, OnErr};
 ghost use Rattle.dr_logic.specs.Counts.{Counted};
 ghost use Rattle.dr_ids.specs.declared.refusal.Refusal.{Refusal};
-ghost use Rattle.dr_model.specs.Answers.{answer};
 ghost use Rattle.dr_model.specs.Laws.{Sound};
-ghost use Rattle.dr_model.specs.Limits.{most_events};
+ghost use Rattle.dr_model.specs.Limits.{most_events, step_events};
 ghost use Rattle.dr_model.specs.LineText.{IsWritten};
 ghost use Rattle.dr_model.specs.Plans.{has_room, plan_of};
 ghost use Rattle.dr_model.specs.Listed.{Lists, task_on};
 ghost use Rattle.dr_model.specs.Runs.{Devices, own_course, after_plan, after_task};
-ghost use Rattle.dr_model.specs.declared.said.Said.TheVariants.{Refused};
 ghost use Rattle.dr_model.specs.declared.step.Step.{Step};
 ghost use Rattle.dr_steps.specs.Faults.{CountsStop, told_stop};
-ghost use Rattle.dr_steps.specs.Forms.{is_plain, is_relation, is_session, is_recovery};
-ghost use Rattle.dr_steps.specs.Here.{here, said_of, OnAnswer, OnSaid, OnNoMemory, StepLeads, IsReady};
+ghost use Rattle.dr_steps.specs.Forms.{is_defining, is_hosted};
+ghost use Rattle.dr_steps.specs.Here.{here, OnSaid, OnNoMemory, StepLeads, IsReady};
 ghost use Rattle.dr_steps.specs.Wants.{WantsRow, WantsMemory};
 ghost use Rattle.dr_steps.specs.WellFormed.{IsWellFormed};
 
-use crate::answers::{
-    STEP_EVENTS, all_done, answer_widened, has_room, refuse, refused, say, widened,
-};
-use crate::background::copy;
+use crate::answers::{STEP_EVENTS, all_done, answer_widened, has_room, refuse, say, widened};
 use crate::comparing::carry_compare;
 use crate::define::{define_server, define_volume, set_link};
-use crate::exchanges::exchange;
 use crate::expiry::expire;
-use crate::flash::{make_flash, remove_flash, resync_flash, reverse_flash, unfreeze_flash};
 use crate::forming::carry_run;
+use crate::forms::carry_session;
 use crate::freezing::{freeze, unfreeze};
 use crate::imaging::carry_image;
 use crate::listing::{list_flashes, list_pairs, list_session, show_mirror};
 use crate::masters::{lose_masters, servers_on};
-use crate::members::{add_member, remove_member};
-use crate::pairs::{drain, make_pair, pause_pair, remove_pair, resume_pair};
 use crate::paths::{make_path, remove_path};
-use crate::recovering::{commit_flash, recover_session, revert_flash};
-use crate::returning::carry_return;
-use crate::sessions::{
-    abort_attempt, make_mirror, make_session, pause_mirror, remove_mirror, remove_session,
-};
 use crate::steps::{HostWrite, apply, issue, show, write};
 use crate::stops::{arm, start, stop};
 use crate::tables::Tables;
 use dr_config::Config;
 use dr_ids::{Fault, Lss, Refusal, SessionId, VolumeId};
-use dr_model::{Addition, Journal, Said, Step};
-use dr_moves::FlashOptions;
+use dr_model::{Journal, Said, Step};
 use dr_plant::Plant;
 use std::alloc::AllocError;
 
-/// Carries out a step on a FlashCopy relationship, or the end of flash holds.
-fn carry_relation<P: Plant>(
-    plant: &mut P,
-    config: &Config,
-    tables: &Tables,
-    journal: &mut Journal,
-    step: &Step,
-) -> Result<Addition, Refusal>
-    requires ready { IsReady (P.state plant.old) config.now tables.now journal.old.events }
-    requires sound { Sound (here (P.state plant.old) config.now tables.now journal.old.events) }
-    requires fits { IsWellFormed step.now }
-    requires few { length config.now.volumes ≤ 64 }
-    requires room { 4096 ≤ journal.old.spare }
-    requires form { is_plain step.now ≡ false }
-    requires session { is_session step.now ≡ false }
-    requires recovery { is_recovery step.now ≡ false }
-    ensures step { (line : ℕ) → StepLeads (here (P.state plant.old) config.now tables.now journal.old.events) line step.now
-        (here (P.state plant.new) config.now tables.now journal.new.events) (said_of result) }
-    ensures faults { CountsStop (said_of result) (P.state plant.old) (P.state plant.new) }
-    ensures ready { IsReady (P.state plant.new) config.now tables.now journal.new.events }
-    ensures room { 1 ≤ journal.new.spare }
-{
-    match *step {
-        Step::MakeFlash {
-            devs,
-            s,
-            t,
-            nocopy,
-            persistent,
-            recorded,
-            inhibited,
-            freeze,
-            sequence,
-        } => {
-            let options = FlashOptions {
-                nocopy,
-                persistent,
-                recorded,
-                inhibited,
-                sequence: sequence.unwrap_or(0),
-            };
-            make_flash(
-                plant,
-                config,
-                tables,
-                journal,
-                &devs.dev,
-                VolumeId(s),
-                VolumeId(t),
-                freeze,
-                &options,
-            )
-        }
-        Step::RemoveFlash { devs, s, t, .. } => {
-            remove_flash(
-                plant,
-                config,
-                tables,
-                journal,
-                &devs.dev,
-                VolumeId(s),
-                VolumeId(t),
-            )
-        }
-        Step::ResyncFlash {
-            devs,
-            s,
-            t,
-            sequence,
-            ..
-        } => {
-            resync_flash(
-                plant,
-                config,
-                tables,
-                journal,
-                &devs.dev,
-                VolumeId(s),
-                VolumeId(t),
-                sequence,
-            )
-        }
-        Step::ReverseFlash { devs, s, t, .. } => {
-            reverse_flash(
-                plant,
-                config,
-                tables,
-                journal,
-                &devs.dev,
-                VolumeId(s),
-                VolumeId(t),
-            )
-        }
-        Step::UnfreezeFlash { devs, lss } => {
-            unfreeze_flash(plant, config, tables, journal, &devs.dev, Lss(lss))
-        }
-        Step::Copy { volume, most } => {
-            copy(plant, config, tables, journal, VolumeId(volume), most)
-        }
-        _ => carry_pair(plant, config, tables, journal, step),
-    }
-}
-
-/// Carries out a step on a pair.
-fn carry_pair<P: Plant>(
-    plant: &mut P,
-    config: &Config,
-    tables: &Tables,
-    journal: &mut Journal,
-    step: &Step,
-) -> Result<Addition, Refusal>
-    requires ready { IsReady (P.state plant.old) config.now tables.now journal.old.events }
-    requires sound { Sound (here (P.state plant.old) config.now tables.now journal.old.events) }
-    requires fits { IsWellFormed step.now }
-    requires few { length config.now.volumes ≤ 64 }
-    requires room { 4096 ≤ journal.old.spare }
-    requires form { is_plain step.now ≡ false }
-    requires session { is_session step.now ≡ false }
-    requires recovery { is_recovery step.now ≡ false }
-    requires other { is_relation step.now ≡ false }
-    ensures step { (line : ℕ) → StepLeads (here (P.state plant.old) config.now tables.now journal.old.events) line step.now
-        (here (P.state plant.new) config.now tables.now journal.new.events) (said_of result) }
-    ensures faults { CountsStop (said_of result) (P.state plant.old) (P.state plant.new) }
-    ensures ready { IsReady (P.state plant.new) config.now tables.now journal.new.events }
-    ensures room { 1 ≤ journal.new.spare }
-{
-    match *step {
-        Step::MakePair {
-            devs,
-            a,
-            b,
-            kind,
-            choices,
-        } => make_pair(
-            plant,
-            config,
-            tables,
-            journal,
-            &devs,
-            VolumeId(a),
-            VolumeId(b),
-            kind,
-            choices,
-        ),
-        Step::RemovePair {
-            devs,
-            a,
-            b,
-            source_only,
-        } => remove_pair(
-            plant,
-            config,
-            tables,
-            journal,
-            &devs,
-            VolumeId(a),
-            VolumeId(b),
-            source_only,
-        ),
-        Step::PausePair { devs, a, b } => pause_pair(
-            plant,
-            config,
-            tables,
-            journal,
-            &devs,
-            VolumeId(a),
-            VolumeId(b),
-        ),
-        Step::ResumePair { devs, a, b, kind } => resume_pair(
-            plant,
-            config,
-            tables,
-            journal,
-            &devs,
-            VolumeId(a),
-            VolumeId(b),
-            kind,
-        ),
-        Step::Drain { volume, most } => {
-            drain(plant, config, tables, journal, VolumeId(volume), most)
-        }
-        _ => carry_return(plant, config, tables, journal, step),
-    }
-}
-
-/// Carries out a recovery, or a commit or a revert by hand.
-fn carry_recovery<P: Plant>(
-    plant: &mut P,
-    config: &Config,
-    tables: &Tables,
-    journal: &mut Journal,
-    step: &Step,
-) -> Result<Addition, Refusal>
-    requires ready { IsReady (P.state plant.old) config.now tables.now journal.old.events }
-    requires sound { Sound (here (P.state plant.old) config.now tables.now journal.old.events) }
-    requires fits { IsWellFormed step.now }
-    requires few { length config.now.volumes ≤ 64 }
-    requires room { 4096 ≤ journal.old.spare }
-    requires form { is_plain step.now ≡ false }
-    requires session { is_session step.now ≡ false }
-    ensures step { (line : ℕ) → StepLeads (here (P.state plant.old) config.now tables.now journal.old.events) line step.now
-        (here (P.state plant.new) config.now tables.now journal.new.events) (said_of result) }
-    ensures faults { CountsStop (said_of result) (P.state plant.old) (P.state plant.new) }
-    ensures ready { IsReady (P.state plant.new) config.now tables.now journal.new.events }
-    ensures room { 1 ≤ journal.new.spare }
-{
-    match *step {
-        Step::Recover { session } => {
-            recover_session(plant, config, tables, journal, SessionId(session))
-        }
-        Step::CommitFlash { devs, source, .. } => commit_flash(
-            plant,
-            config,
-            tables,
-            journal,
-            &devs.dev,
-            VolumeId(source),
-        ),
-        Step::RevertFlash { devs, source, .. } => revert_flash(
-            plant,
-            config,
-            tables,
-            journal,
-            &devs.dev,
-            VolumeId(source),
-        ),
-        _ => carry_relation(plant, config, tables, journal, step),
-    }
-}
-
-/// Carries out a step on a session, its members or its master. Where there is no memory nothing has changed.
-fn carry_session<P: Plant>(
+/// Carries out a listing. Where there is no memory nothing has changed.
+fn carry_listing<P: Plant>(
     plant: &mut P,
     config: &Config,
     tables: &mut Tables,
     journal: &mut Journal,
+    line: u32,
     step: &Step,
-) -> Result<Addition, Fault>
+) -> Result<Said, Fault>
     requires ready { IsReady (P.state plant.old) config.now tables.old journal.old.events }
     requires sound { Sound (here (P.state plant.old) config.now tables.old journal.old.events) }
     requires fits { IsWellFormed step.now }
     requires few { length config.now.volumes ≤ 64 }
-    requires room { 4096 ≤ journal.old.spare }
-    requires form { is_plain step.now ≡ false }
-    ensures step { OnAnswer result (λ a. (line : ℕ) → StepLeads (here (P.state plant.old) config.now tables.old journal.old.events) line step.now
+    requires room { step_events ≤ journal.old.spare }
+    requires other { is_defining step.now ≡ false }
+    requires unhosted { is_hosted step.now ≡ false }
+    ensures step { OnSaid result (λ a. StepLeads (here (P.state plant.old) config.now tables.old journal.old.events) line step.now
         (here (P.state plant.new) config.now tables.new journal.new.events) a) }
-    ensures faults { OnAnswer result (λ a. CountsStop a (P.state plant.old) (P.state plant.new)) }
+    ensures faults { OnSaid result (λ a. CountsStop a (P.state plant.old) (P.state plant.new)) }
     ensures wanted { OnNoMemory result (WantsRow (here (P.state plant.old) config.now tables.old journal.old.events) step.now) }
     ensures same { OnNoMemory result (here (P.state plant.new) config.now tables.new journal.new.events ≡ here (P.state plant.old) config.now tables.old journal.old.events) }
     ensures same_plant { OnNoMemory result (P.state plant.new ≡ P.state plant.old) }
@@ -305,253 +63,6 @@ fn carry_session<P: Plant>(
     ensures room { 1 ≤ journal.new.spare }
 {
     match *step {
-        Step::MakeSession { devs, lss, session } => make_session(
-            plant,
-            config,
-            tables,
-            journal,
-            &devs,
-            Lss(lss),
-            SessionId(session),
-        ),
-        Step::RemoveSession { devs, lss, session } => refused(remove_session(
-            plant,
-            config,
-            tables,
-            journal,
-            &devs,
-            Lss(lss),
-            SessionId(session),
-        )),
-        Step::AddMember {
-            devs,
-            lss,
-            volume,
-            session,
-        } => add_member(
-            plant,
-            config,
-            tables,
-            journal,
-            &devs,
-            Lss(lss),
-            VolumeId(volume),
-            SessionId(session),
-        ),
-        Step::RemoveMember {
-            devs,
-            lss,
-            volume,
-            session,
-        } => refused(remove_member(
-            plant,
-            config,
-            tables,
-            journal,
-            &devs,
-            Lss(lss),
-            VolumeId(volume),
-            SessionId(session),
-        )),
-        Step::MakeMirror {
-            devs,
-            lss,
-            session,
-            ..
-        } => refused(make_mirror(
-            plant,
-            config,
-            tables,
-            journal,
-            &devs,
-            Lss(lss),
-            SessionId(session),
-        )),
-        Step::PauseMirror { devs, lss, session } => refused(pause_mirror(
-            plant,
-            config,
-            tables,
-            journal,
-            &devs,
-            Lss(lss),
-            SessionId(session),
-            true,
-        )),
-        Step::ResumeMirror {
-            devs,
-            lss,
-            session,
-            ..
-        } => refused(pause_mirror(
-            plant,
-            config,
-            tables,
-            journal,
-            &devs,
-            Lss(lss),
-            SessionId(session),
-            false,
-        )),
-        Step::RemoveMirror { devs, lss, session } => refused(remove_mirror(
-            plant,
-            config,
-            tables,
-            journal,
-            &devs,
-            Lss(lss),
-            SessionId(session),
-        )),
-        Step::Abort { session } => refused(abort_attempt(
-            plant,
-            config,
-            tables,
-            journal,
-            SessionId(session),
-        )),
-        Step::Exchange {
-            session,
-            server,
-            reply,
-        } => refused(exchange(
-            plant,
-            config,
-            tables,
-            journal,
-            SessionId(session),
-            &server,
-            reply,
-        )),
-        _ => refused(carry_recovery(plant, config, tables, journal, step)),
-    }
-}
-
-/// Carries out a step that is one plan. Where there is no memory nothing has changed.
-fn carry_out<P: Plant>(
-    plant: &mut P,
-    config: &mut Config,
-    tables: &mut Tables,
-    journal: &mut Journal,
-    line: u32,
-    step: &Step,
-) -> Result<Said, Fault>
-    requires ready { IsReady (P.state plant.old) config.old tables.old journal.old.events }
-    requires sound { Sound (here (P.state plant.old) config.old tables.old journal.old.events) }
-    requires fits { IsWellFormed step.now }
-    requires few { length config.old.volumes ≤ 64 }
-    requires room { 4096 ≤ journal.old.spare }
-    requires count { tables.old.host.issued + 1 < 2 ^ 32 }
-    ensures step { OnSaid result (λ a. StepLeads (here (P.state plant.old) config.old tables.old journal.old.events) line step.now
-        (here (P.state plant.new) config.new tables.new journal.new.events) a) }
-    ensures faults { OnSaid result (λ a. CountsStop a (P.state plant.old) (P.state plant.new)) }
-    ensures wanted { OnNoMemory result (WantsRow (here (P.state plant.old) config.old tables.old journal.old.events) step.now) }
-    ensures same { OnNoMemory result (here (P.state plant.new) config.new tables.new journal.new.events ≡ here (P.state plant.old) config.old tables.old journal.old.events) }
-    ensures same_plant { OnNoMemory result (P.state plant.new ≡ P.state plant.old) }
-    ensures ready { IsReady (P.state plant.new) config.new tables.new journal.new.events }
-    ensures issued { tables.new.host.issued ≤ tables.old.host.issued + 1 }
-    ensures room { 1 ≤ journal.new.spare }
-{
-    match *step {
-        Step::Server { name } => all_done(define_server(plant, config, tables, journal, &name)),
-        Step::Volume {
-            volume,
-            server,
-            tracks,
-        } => all_done(define_volume(
-            plant,
-            config,
-            tables,
-            journal,
-            VolumeId(volume),
-            &server,
-            tracks,
-        )),
-        Step::MakePath {
-            devs,
-            src,
-            tgt,
-            group,
-        } => all_done(make_path(
-            plant,
-            config,
-            tables,
-            journal,
-            &devs,
-            Lss(src),
-            Lss(tgt),
-            group,
-        )),
-        Step::RemovePath {
-            devs,
-            src,
-            tgt,
-            force,
-        } => widened(remove_path(
-            plant,
-            config,
-            tables,
-            journal,
-            &devs,
-            Lss(src),
-            Lss(tgt),
-            force,
-        )),
-        Step::Link { a, b, up } => widened(set_link(plant, config, tables, journal, &a, &b, up)),
-        Step::Issue {
-            volume,
-            track,
-            offset,
-            len,
-            bytes,
-        } => {
-            let asked = asked(volume, track, offset, len, bytes);
-            all_done(issue(plant, config, tables, journal, &asked))
-        }
-        Step::Write {
-            volume,
-            track,
-            offset,
-            len,
-            bytes,
-        } => {
-            let asked = asked(volume, track, offset, len, bytes);
-            write(plant, config, tables, journal, &asked)
-        }
-        Step::Apply { w } => answer_widened(apply(plant, config, tables, journal, w)),
-        Step::Show { volume, track } => widened(show(
-            plant,
-            config,
-            tables,
-            journal,
-            line,
-            VolumeId(volume),
-            track,
-        )),
-        Step::Stop { server } => widened(stop(plant, config, tables, journal, &server)),
-        Step::StopAfter {
-            server,
-            writes,
-            torn,
-        } => widened(arm(plant, config, tables, journal, &server, writes, torn)),
-        Step::Start { server } => widened(start(plant, config, tables, journal, &server)),
-        Step::Expire { server } => widened(expire(plant, config, tables, journal, &server)),
-        Step::Freeze { devs, l, m } => widened(freeze(
-            plant,
-            config,
-            tables,
-            journal,
-            &devs,
-            Lss(l),
-            Lss(m),
-        )),
-        Step::Unfreeze { devs, l, m } => widened(unfreeze(
-            plant,
-            config,
-            tables,
-            journal,
-            &devs,
-            Lss(l),
-            Lss(m),
-        )),
         Step::ListPairs { devs, volume } => widened(list_pairs(
             plant,
             config,
@@ -592,6 +103,169 @@ fn carry_out<P: Plant>(
     }
 }
 
+/// Carries out a host write, a step that shows a track, or one that stops or starts a server, arms its fuse or ends its holds. Where
+/// there is no memory nothing has changed.
+fn carry_host<P: Plant>(
+    plant: &mut P,
+    config: &Config,
+    tables: &mut Tables,
+    journal: &mut Journal,
+    line: u32,
+    step: &Step,
+) -> Result<Said, Fault>
+    requires ready { IsReady (P.state plant.old) config.now tables.old journal.old.events }
+    requires sound { Sound (here (P.state plant.old) config.now tables.old journal.old.events) }
+    requires fits { IsWellFormed step.now }
+    requires few { length config.now.volumes ≤ 64 }
+    requires room { step_events ≤ journal.old.spare }
+    requires count { tables.old.host.issued + 1 < 2 ^ 32 }
+    requires other { is_defining step.now ≡ false }
+    ensures step { OnSaid result (λ a. StepLeads (here (P.state plant.old) config.now tables.old journal.old.events) line step.now
+        (here (P.state plant.new) config.now tables.new journal.new.events) a) }
+    ensures faults { OnSaid result (λ a. CountsStop a (P.state plant.old) (P.state plant.new)) }
+    ensures wanted { OnNoMemory result (WantsRow (here (P.state plant.old) config.now tables.old journal.old.events) step.now) }
+    ensures same { OnNoMemory result (here (P.state plant.new) config.now tables.new journal.new.events ≡ here (P.state plant.old) config.now tables.old journal.old.events) }
+    ensures same_plant { OnNoMemory result (P.state plant.new ≡ P.state plant.old) }
+    ensures ready { IsReady (P.state plant.new) config.now tables.new journal.new.events }
+    ensures issued { tables.new.host.issued ≤ tables.old.host.issued + 1 }
+    ensures room { 1 ≤ journal.new.spare }
+{
+    match *step {
+        Step::Issue {
+            volume,
+            track,
+            offset,
+            len,
+            bytes,
+        } => {
+            let asked = asked(volume, track, offset, len, bytes);
+            all_done(issue(plant, config, tables, journal, &asked))
+        }
+        Step::Write {
+            volume,
+            track,
+            offset,
+            len,
+            bytes,
+        } => {
+            let asked = asked(volume, track, offset, len, bytes);
+            write(plant, config, tables, journal, &asked)
+        }
+        Step::Apply { w } => answer_widened(apply(plant, config, tables, journal, w)),
+        Step::Show { volume, track } => widened(show(
+            plant,
+            config,
+            tables,
+            journal,
+            line,
+            VolumeId(volume),
+            track,
+        )),
+        Step::Stop { server } => widened(stop(plant, config, tables, journal, &server)),
+        Step::StopAfter {
+            server,
+            writes,
+            torn,
+        } => widened(arm(plant, config, tables, journal, &server, writes, torn)),
+        Step::Start { server } => widened(start(plant, config, tables, journal, &server)),
+        Step::Expire { server } => widened(expire(plant, config, tables, journal, &server)),
+        _ => carry_listing(plant, config, tables, journal, line, step),
+    }
+}
+
+/// Carries out a step that is one plan. Where there is no memory nothing has changed.
+fn carry_out<P: Plant>(
+    plant: &mut P,
+    config: &mut Config,
+    tables: &mut Tables,
+    journal: &mut Journal,
+    line: u32,
+    step: &Step,
+) -> Result<Said, Fault>
+    requires ready { IsReady (P.state plant.old) config.old tables.old journal.old.events }
+    requires sound { Sound (here (P.state plant.old) config.old tables.old journal.old.events) }
+    requires fits { IsWellFormed step.now }
+    requires few { length config.old.volumes ≤ 64 }
+    requires room { step_events ≤ journal.old.spare }
+    requires count { tables.old.host.issued + 1 < 2 ^ 32 }
+    ensures step { OnSaid result (λ a. StepLeads (here (P.state plant.old) config.old tables.old journal.old.events) line step.now
+        (here (P.state plant.new) config.new tables.new journal.new.events) a) }
+    ensures faults { OnSaid result (λ a. CountsStop a (P.state plant.old) (P.state plant.new)) }
+    ensures wanted { OnNoMemory result (WantsRow (here (P.state plant.old) config.old tables.old journal.old.events) step.now) }
+    ensures same { OnNoMemory result (here (P.state plant.new) config.new tables.new journal.new.events ≡ here (P.state plant.old) config.old tables.old journal.old.events) }
+    ensures same_plant { OnNoMemory result (P.state plant.new ≡ P.state plant.old) }
+    ensures ready { IsReady (P.state plant.new) config.new tables.new journal.new.events }
+    ensures issued { tables.new.host.issued ≤ tables.old.host.issued + 1 }
+    ensures room { 1 ≤ journal.new.spare }
+{
+    match *step {
+        Step::Server { name } => all_done(define_server(plant, config, tables, journal, &name)),
+        Step::Volume {
+            volume,
+            server,
+            tracks,
+        } => all_done(define_volume(
+            plant,
+            config,
+            tables,
+            journal,
+            VolumeId(volume),
+            &server,
+            tracks,
+        )),
+        Step::Link { a, b, up } => widened(set_link(plant, config, tables, journal, &a, &b, up)),
+        Step::MakePath {
+            devs,
+            src,
+            tgt,
+            group,
+        } => all_done(make_path(
+            plant,
+            config,
+            tables,
+            journal,
+            &devs,
+            Lss(src),
+            Lss(tgt),
+            group,
+        )),
+        Step::RemovePath {
+            devs,
+            src,
+            tgt,
+            force,
+        } => widened(remove_path(
+            plant,
+            config,
+            tables,
+            journal,
+            &devs,
+            Lss(src),
+            Lss(tgt),
+            force,
+        )),
+        Step::Freeze { devs, l, m } => widened(freeze(
+            plant,
+            config,
+            tables,
+            journal,
+            &devs,
+            Lss(l),
+            Lss(m),
+        )),
+        Step::Unfreeze { devs, l, m } => widened(unfreeze(
+            plant,
+            config,
+            tables,
+            journal,
+            &devs,
+            Lss(l),
+            Lss(m),
+        )),
+        _ => carry_host(plant, config, tables, journal, line, step),
+    }
+}
+
 /// A host write as a step asks for it.
 fn asked(volume: u16, track: u32, offset: u8, len: u8, bytes: [u8; 64]) -> HostWrite
     ensures { result ≡ record { volume = record { 0 = volume }; track = track; offset = offset; len = len; bytes = bytes } }
@@ -619,7 +293,7 @@ fn carry_answered<P: Plant>(
     requires sound { Sound (here (P.state plant.old) config.old tables.old journal.old.events) }
     requires fits { IsWellFormed step.now }
     requires few { length config.old.volumes ≤ 64 }
-    requires room { 4096 ≤ journal.old.spare }
+    requires room { step_events ≤ journal.old.spare }
     requires count { tables.old.host.issued + 1 < 2 ^ 32 }
     requires alone { own_course (Ok step.now) ≡ None }
     requires has_room { has_room journal.old.events ≡ true }
@@ -660,7 +334,7 @@ fn carry_planned<P: Plant>(
     requires sound { Sound (here (P.state plant.old) config.old tables.old journal.old.events) }
     requires fits { IsWellFormed step.now }
     requires few { length config.old.volumes ≤ 64 }
-    requires room { 4096 ≤ journal.old.spare }
+    requires room { step_events ≤ journal.old.spare }
     requires count { tables.old.host.issued + 1 < 2 ^ 32 }
     requires alone { own_course (Ok step.now) ≡ None }
     requires has_room { has_room journal.old.events ≡ true }

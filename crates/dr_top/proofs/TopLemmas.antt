@@ -7,6 +7,7 @@ use Rattle.std.proofs.lemmas.List.{length-map}
 use Rattle.std.proofs.lemmas.Option.{slice_get-map}
 use Rattle.dr_logic.specs.Counts.{Counted}
 use Rattle.dr_logic.specs.Bytes.{zeros}
+use Rattle.dr_ids.specs.Sizes.{blocks_of}
 use Rattle.dr_plant.specs.State.{PlantState, IsFresh}
 use Rattle.dr_config.specs.Links.{none_down}
 use Rattle.dr_config.specs.Table.{ConfigTable, IsSoundConfig, StandsFor, place_of, entry_of}
@@ -90,7 +91,7 @@ module _ (s : PlantState) (fresh : IsFresh s) where
 
   pub ready-fresh : IsReady s empty_table idle []
   ready-fresh = record {
-    rest = record { stands = stands-empty [] none_down s fresh.no_devices; settled = λ v on. tt; sizes = λ v. omega arith };
+    rest = record { stands = stands-empty [] none_down s fresh.no_devices; sizes = λ v. omega arith };
     reads = fresh.no_read_fuse;
     told = tt;
   }
@@ -161,7 +162,7 @@ module _ (s : PlantState) (t : ConfigTable) (h : Tables) (ev : List Event) (soun
   devices-here = record {
     count = stands.count ∙ sym (length-map t.volumes (λ (e : VolumeEntry). e.id));
     owner = λ d v at. let l = listed s t h ev sound d v at in (stands.device d l.0 l.1).0 ∙ ap (λ (x : Volume). x.server) (sym (volume-placed s t v d l.0 l.2 l.1));
-    size = λ d v at. let l = listed s t h ev sound d v at in (stands.device d l.0 l.1).1 ∙ ap (λ (x : Volume). 13 + x.tracks) (sym (volume-placed s t v d l.0 l.2 l.1));
+    size = λ d v at. let l = listed s t h ev sound d v at in (stands.device d l.0 l.1).1 ∙ ap (λ (x : Volume). blocks_of x.tracks) (sym (volume-placed s t v d l.0 l.2 l.1));
   }
 
 -- how steps stand that led to what the plant shows

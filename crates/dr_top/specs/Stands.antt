@@ -1,6 +1,7 @@
 -- What holds where steps of a script were carried out, whatever read them and printed their answers.
-use Rattle.std.specs.Prelude.{◌≡◌, ℕ, ◌+◌, ◌≤◌, List, Some, length, slice_get}
+use Rattle.std.specs.Prelude.{◌≡◌, ℕ, ◌≤◌, List, Some, length, slice_get}
 use Rattle.dr_logic.specs.Counts.{Counted}
+use Rattle.dr_ids.specs.Sizes.{blocks_of}
 use Rattle.dr_plant.specs.State.{PlantState}
 use Rattle.dr_model.specs.declared.event.Event.{Event}
 use Rattle.dr_model.specs.Control.{World, nothing}
@@ -35,7 +36,7 @@ use Rattle.dr_steps.specs.Faults.{told_stop}
 pub record HasDevices (w : World) (s : PlantState) : Type 0 where
   pub count : s.count ≡ length w.control.volumes
   pub owner : (d v : ℕ) → slice_get w.control.volumes d ≡ Some v → s.owner d ≡ (w.control.volume v).server
-  pub size : (d v : ℕ) → slice_get w.control.volumes d ≡ Some v → s.size d ≡ 13 + (w.control.volume v).tracks
+  pub size : (d v : ℕ) → slice_get w.control.volumes d ≡ Some v → s.size d ≡ blocks_of (w.control.volume v).tracks
 
 -- The journal is that of the world to which the steps lead. What an image among them lists says what is known of each volume there, its
 -- text reads as this image, and recovery makes of it what it would make in that world; and where the last step is an image, it listed the

@@ -1,15 +1,17 @@
 -- How writes end by the write fuse of their server: all of them pass, or one is cut short.
-use Rattle.std.proofs.Common.{ℕ, ◌≡◌, ◌≤◌, ◌<◌, ◌/◌, ◌%◌, ◌^◌, ◌⊎◌, inl, inr, Bool, true, false, not, List, [], length, refl, sym, ◌∙◌, ap, subst, arith, nat_eq, nat_lt, nat_le, Option, None, Some}
+use Rattle.std.proofs.Common.{ℕ, ◌≡◌, ◌+◌, ◌-◌, ◌++◌, cond, ◌≤◌, ◌<◌, ◌/◌, ◌%◌, ◌^◌, ◌⊎◌, inl, inr, Bool, true, false, not, List, [], length, refl, sym, ◌∙◌, ap, subst, arith, nat_eq, nat_le, Option, None, Some}
 use Rattle.std.specs.Prelude.{if◌then◌else◌}
 use Rattle.std.proofs.lemmas.Bool.{cases_order}
-use Rattle.std.proofs.lemmas.Bool.Decides.{nat_tests}
+use Rattle.std.proofs.lemmas.List.{length-append}
+use Rattle.std.proofs.lemmas.Bool.Decides.{Decides-eqb, nat_tests}
 use Rattle.dr_logic.specs.Tables.{at}
+use Rattle.dr_logic.proofs.Tables.{at_same}
 use Rattle.dr_plant.specs.State.{PlantState, torn_by}
 use Rattle.dr_plant.specs.declared.plant.WriteFuse.{WriteFuse}
 use Rattle.dr_plant.specs.declared.plant.Torn.{Torn}
 use Rattle.dr_plant.specs.declared.plant.Torn.TheVariants.{Untouched, Bytes}
 use Rattle.dr_record.specs.Writes.{BlockWrite, write, after_writes, Passes, write_fuse_after, all_written}
-use Rattle.dr_record.specs.Slots.{slot_of, choice, torn_choice, block_writes, IsCutShort}
+use Rattle.dr_record.specs.Slots.{slot_of, choice, torn_choice, block_writes, record_writes, IsCutShort}
 use Rattle.dr_record.proofs.WritesLemmas.{append-goes, append-stops}
 use Rattle.dr_record.proofs.WriteLists.{writes_pass, writes_torn_at}
 use Rattle.dr_record.proofs.PutLemmas.{put-cut_short}
@@ -20,10 +22,10 @@ use Rattle.dr_model.specs.Carry as machine
 use Rattle.dr_volume.specs.declared.fields.Fields.{Fields}
 use Rattle.dr_volume.specs.Record.{record_block, IsWhole}
 use Rattle.dr_volume.specs.View.{fuse_seen, torn_seen}
-use Rattle.dr_volume.specs.Update.{staging, track_writes, update_writes}
+use Rattle.dr_volume.specs.Update.{track_with, given_way, track_writes}
 use Rattle.dr_volume.proofs.VolumeLaws.{chosen_slot}
-use Rattle.dr_volume.proofs.ReadingLaws.{ReadsNext}
-use Rattle.dr_volume.proofs.RewriteLaws.{Stays, record_part, record-ends, after-record}
+use Rattle.dr_volume.proofs.ReadingLaws.{ReadsAs}
+use Rattle.dr_volume.proofs.RewriteLaws.{AreIdle, Spared, idle-spares, spared-as, spared-slot, Stays, Renewed, Follows, follows-renewed, reads-stayed, record_part, record-behind, record-ends}
 
 -- From s to t so many writes were all done.
 pub record Passed (s t : PlantState) (dev n : ℕ) (stopped : Bool) : Type 0 where
@@ -65,14 +67,26 @@ writes-cut s t dev ws g b on fuse low h =
       fuse = ap (λ (r : PlantState × Bool). r.0.write_fuse) e;
     }
 
-pub length-update : (slot : Bool) (f : Fields) (m : Carried) → length (update_writes slot f m) ≡ machine.writes m
-unfolding block_writes
-length-update slot f None = refl
-length-update slot f (Some c) = refl
+-- how many writes a move has
+unless-way : (t : ℕ) (bytes : List ℕ) (same : Bool) → length (track_writes (cond same None (Some (t, bytes)))) + 6 ≡ (if not same then 7 else 6)
+unless-way t bytes true = refl
+unless-way t bytes false = refl
 
-length-part : (s : PlantState) (dev : ℕ) (f : Fields) (m : Carried) → length (record_part s dev f m) ≡ 7
+pub length-way : (m : Carried) (o : Option ℕ) (bytes : List ℕ) → length (track_writes (given_way m (track_with o bytes))) + 6 ≡ (if machine.gives_way o m then 7 else 6)
+length-way None None bytes = refl
+length-way None (Some t) bytes = refl
+length-way (Some x) None bytes = refl
+length-way (Some x) (Some t) bytes = unless-way t bytes (nat_eq t x.0)
+
+pub length-part : (slot : Bool) (x : Fields) → length (record_writes 6 slot (record_block x)) ≡ 7
 unfolding block_writes
-length-part s dev f m = refl
+length-part slot x = refl
+
+pub length-behind : (ws : List BlockWrite) (slot : Bool) (x : Fields) → length (ws ++ record_writes 6 slot (record_block x)) ≡ length ws + 6 + 1
+length-behind ws slot x =
+    let part = length-part slot x in
+    let all = length-append ws (record_writes 6 slot (record_block x)) in
+    omega arith
 
 -- The slot that is chosen where the fuse stood at the record's writes: the new one where the move counts as done.
 equal-turned : (x old : Bool) → x ≡ (if machine.equal x (not old) then not old else old)
@@ -88,81 +102,87 @@ gate-cut : (torn : Torn) (old : Bool) (gate : List ℕ) → choice gate ≡ old 
 gate-cut Untouched old gate h = h
 gate-cut (Bytes b) old gate h = gate_read b ∙ equal-turned (layout.bit (layout.byte b 0) 0) old
 
-turned-at : (g : WriteFuse) (old : Bool) (gate : List ℕ) → choice gate ≡ old → g.after ≡ 6 → torn_choice 6 (Some g) gate ≡ (if machine.counts g.after (torn_seen g.torn) (not old) then not old else old)
-turned-at g old gate h k =
-    ap (λ n. if nat_eq n 6 then choice (torn_by g.torn gate) else choice gate) k
-    ∙ gate-cut g.torn old gate h
-    ∙ ap (λ n. if machine.counts n (torn_seen g.torn) (not old) then not old else old) (sym k)
+turned-if : (torn : Torn) (old : Bool) (gate : List ℕ) (at : Bool) → choice gate ≡ old → (if at then choice (torn_by torn gate) else choice gate) ≡ (if (if at then machine.gate_turned (torn_seen torn) (not old) else false) then not old else old)
+turned-if torn old gate true h = gate-cut torn old gate h
+turned-if torn old gate false h = h
 
-turned-below : (g : WriteFuse) (old : Bool) (gate : List ℕ) → choice gate ≡ old → g.after < 6 → torn_choice 6 (Some g) gate ≡ (if machine.counts g.after (torn_seen g.torn) (not old) then not old else old)
-turned-below g old gate h low =
-    let other : nat_eq g.after 6 ≡ false = grind (arith, nat_tests) in
-    let below : nat_lt g.after 6 ≡ true = grind (arith, nat_tests) in
-    ap (λ p. if p then choice (torn_by g.torn gate) else choice gate) other
-    ∙ h
-    ∙ sym (ap (λ p. if (if p then false else if nat_eq g.after 6 then machine.gate_turned (torn_seen g.torn) (not old) else true) then not old else old) below)
+apart_low : (x y : ℕ) → x < y → nat_eq x y ≡ false
+apart_low x y low = grind (arith, nat_tests)
 
-turned : (g : WriteFuse) (old : Bool) (gate : List ℕ) → choice gate ≡ old → g.after < 7 → torn_choice 6 (Some g) gate ≡ (if machine.counts g.after (torn_seen g.torn) (not old) then not old else old)
-turned g old gate h low = elim (cases_order g.after 6) [
-  | inl e ↦ turned-at g old gate h e
-  | inr (inl l) ↦ turned-below g old gate h l
-  | inr (inr l) ↦ absurd (omega arith)
+apart_high : (x y : ℕ) → y < x → nat_eq x y ≡ false
+apart_high x y high = grind (arith, nat_tests)
+
+-- n writes later a fuse stands at the gate's where it stood there before
+behind-at : (a n : ℕ) → n ≤ a → nat_eq (a - n) 6 ≡ nat_eq a (n + 6)
+behind-at a n high = elim (cases_order a (n + 6)) [
+  | inl e ↦ (Decides-eqb (a - n) 6).1 (omega arith) ∙ sym ((Decides-eqb a (n + 6)).1 e)
+  | inr (inl l) ↦ apart_low (a - n) 6 (omega arith) ∙ sym (apart_low a (n + 6) l)
+  | inr (inr l) ↦ apart_high (a - n) 6 (omega arith) ∙ sym (apart_high a (n + 6) l)
 ]
 
--- past the gate's write a move counts as done
-counts-past : (g : WriteFuse) (new : Bool) → 7 ≤ g.after → machine.counts g.after (torn_seen g.torn) new ≡ true
-counts-past g new high =
-    let other : nat_eq g.after 6 ≡ false = grind (arith, nat_tests) in
-    let above : nat_lt g.after 6 ≡ false = grind (arith, nat_tests) in
-    (λ i. if above i then false else if other i then machine.gate_turned (torn_seen g.torn) new else true)
+turned : (g : WriteFuse) (n : ℕ) (old : Bool) (gate : List ℕ) → choice gate ≡ old → n ≤ g.after → torn_choice 6 (Some (record g { after = g.after - n })) gate ≡ (if machine.counts (n + 6) g.after (torn_seen g.torn) (not old) then not old else old)
+turned g n old gate h high =
+    ap (λ at. if at then choice (torn_by g.torn gate) else choice gate) (behind-at g.after n high)
+    ∙ turned-if g.torn old gate (nat_eq g.after (n + 6)) h
 
--- What the device reads as where the fuse cut short an update: the next record where the move counts as done.
-pub record CutEnds (s t : PlantState) (dev : ℕ) (f : Fields) (m : Carried) (done : Bool) : Type 0 where
-  pub next : done ≡ true → ReadsNext (s.block dev) (t.block dev) f m
-  pub stays : done ≡ false → Stays (s.block dev) (t.block dev)
+-- What the device reads as where the fuse cut short a move: the next record where it counts as done.
+pub record CutEnds (n : ℕ) (s t : PlantState) (dev : ℕ) (ws : List BlockWrite) (x : Fields) (done : Bool) : Type 0 where
+  pub next : done ≡ true → Follows s t dev ws x
+  pub stays : done ≡ false → ReadsAs n (s.block dev) (t.block dev)
 
 differs : (a : Bool) → not a ≡ a → ⊥
 differs true h = cc
 differs false h = cc
 
-by_slot : (s t : PlantState) (dev : ℕ) (f : Fields) (m : Carried) (done : Bool) → Stays (s.block dev) (t.block dev) ⊎ ReadsNext (s.block dev) (t.block dev) f m → slot_of t dev ≡ (if done then not (slot_of s dev) else slot_of s dev) → CutEnds s t dev f m done
-by_slot s t dev f m true (inl w) h = record {
-  next = λ e. absurd (differs (slot_of s dev) (sym h ∙ chosen_slot t dev ∙ w.slot ∙ sym (chosen_slot s dev)));
+by_slot : (n : ℕ) (s u t : PlantState) (dev : ℕ) (ws : List BlockWrite) (x : Fields) (done : Bool) → Spared n (s.block dev) (u.block dev) → after_writes s dev ws ≡ (u, false) → Stays (u.block dev) (t.block dev) ⊎ Renewed (u.block dev) (t.block dev) x → slot_of t dev ≡ (if done then not (slot_of u dev) else slot_of u dev) → CutEnds n s t dev ws x done
+by_slot n s u t dev ws x true spared before (inl w) h = record {
+  next = λ e. absurd (differs (slot_of u dev) (sym h ∙ chosen_slot t dev ∙ w.slot ∙ sym (chosen_slot u dev)));
   stays = λ e. absurd (cc);
 }
-by_slot s t dev f m true (inr w) h = record { next = λ e. w; stays = λ e. absurd (cc) }
-by_slot s t dev f m false (inl w) h = record { next = λ e. absurd (cc); stays = λ e. w }
-by_slot s t dev f m false (inr w) h = record {
+by_slot n s u t dev ws x true spared before (inr w) h = record { next = λ e. follows-renewed n s u t dev ws x spared before w; stays = λ e. absurd (cc) }
+by_slot n s u t dev ws x false spared before (inl w) h = record { next = λ e. absurd (cc); stays = λ e. reads-stayed n (s.block dev) (u.block dev) (t.block dev) spared w }
+by_slot n s u t dev ws x false spared before (inr w) h = record {
   next = λ e. absurd (cc);
-  stays = λ e. absurd (differs (slot_of s dev) (ap (λ b. not b) (chosen_slot s dev) ∙ sym w.slot ∙ sym (chosen_slot t dev) ∙ h));
+  stays = λ e. absurd (differs (slot_of u dev) (ap (λ b. not b) (chosen_slot u dev) ∙ sym w.slot ∙ sym (chosen_slot t dev) ∙ h));
 }
 
--- the fuse stood at one of the record's writes
-cut-in_record : (s t : PlantState) (dev : ℕ) (f : Fields) (m : Carried) (g : WriteFuse) (b : Bool) → IsWhole (staging m f) → s.on (s.owner dev) ≡ true → s.write_fuse (s.owner dev) ≡ Some g → g.after < 7 → after_writes s dev (update_writes (not (slot_of s dev)) (staging m f) m) ≡ (t, b) → CutEnds s t dev f m (machine.counts g.after (torn_seen g.torn) (not (slot_of s dev)))
-cut-in_record s t dev f m g b whole on fuse low h =
-    let first = record_part s dev f m in
-    let u = writes_torn_at s dev first (write 0 []) g on fuse (subst (λ k. g.after < k) (sym (length-part s dev f m)) low) in
-    let e = sym h ∙ append-stops s _ dev first (track_writes m) u in
-    let all : after_writes s dev first ≡ (t, true) = u ∙ (λ i. (sym (ap (λ (r : PlantState × Bool). r.0) e) i, true)) in
-    let cut : IsCutShort 6 s t dev = put-cut_short s t dev 6 (not (slot_of s dev)) (record_block (staging m f)) all in
-    by_slot s t dev f m _ (record-ends s t dev f m true whole all)
-    (cut.slot
-    ∙ (λ i. if on i then torn_choice 6 (fuse i) (s.block dev 0) else slot_of s dev)
-    ∙ turned g (slot_of s dev) (s.block dev 0) refl low)
-
--- it stood behind them
-cut-behind : (s t : PlantState) (dev : ℕ) (f : Fields) (m : Carried) (g : WriteFuse) (b : Bool) → IsWhole (staging m f) → s.on (s.owner dev) ≡ true → s.write_fuse (s.owner dev) ≡ Some g → 7 ≤ g.after → after_writes s dev (update_writes (not (slot_of s dev)) (staging m f) m) ≡ (t, b) → CutEnds s t dev f m (machine.counts g.after (torn_seen g.torn) (not (slot_of s dev)))
-cut-behind s t dev f m g b whole on fuse high h =
-    let first = record_part s dev f m in
-    let u = writes_pass s dev first on (subst (λ k. Passes k (s.write_fuse (s.owner dev))) (sym (length-part s dev f m)) (subst (λ x. Passes 7 x) (sym fuse) high)) in
+-- the fuse stood at one of the idle writes
+cut-in_idle : (n : ℕ) (s t : PlantState) (dev : ℕ) (ws : List BlockWrite) (x : Fields) (g : WriteFuse) (b : Bool) → AreIdle n (s.block dev) ws → s.on (s.owner dev) ≡ true → s.write_fuse (s.owner dev) ≡ Some g → g.after < length ws → after_writes s dev (ws ++ record_writes 6 (not (slot_of s dev)) (record_block x)) ≡ (t, b) → CutEnds n s t dev ws x (machine.counts (length ws + 6) g.after (torn_seen g.torn) (not (slot_of s dev)))
+cut-in_idle n s t dev ws x g b idle on fuse low h =
+    let u = writes_torn_at s dev ws (write 0 []) g on fuse low in
+    let e = sym (append-stops s _ dev ws (record_writes 6 (not (slot_of s dev)) (record_block x)) u) ∙ h in
+    let other : nat_eq g.after (length ws + 6) ≡ false = grind (arith, nat_tests) in
+    let not_done : machine.counts (length ws + 6) g.after (torn_seen g.torn) (not (slot_of s dev)) ≡ false = ap (λ p. if p then machine.gate_turned (torn_seen g.torn) (not (slot_of s dev)) else false) other in
     record {
-      next = λ e. after-record s _ t dev f m b whole u (sym (append-goes s _ dev first (track_writes m) u) ∙ h);
-      stays = λ e. absurd (let never : true ≡ false = sym (counts-past g (not (slot_of s dev)) high) ∙ e in cc);
+      next = λ done. absurd (let never : true ≡ false = sym done ∙ not_done in cc);
+      stays = λ e2. spared-as n (s.block dev) (t.block dev) (idle-spares n s t dev ws b idle (u ∙ e));
     }
 
-pub update-cut : (s t : PlantState) (dev : ℕ) (f : Fields) (m : Carried) (g : WriteFuse) (b : Bool) → IsWhole (staging m f) → s.on (s.owner dev) ≡ true → s.write_fuse (s.owner dev) ≡ Some g → after_writes s dev (update_writes (not (slot_of s dev)) (staging m f) m) ≡ (t, b) → CutEnds s t dev f m (machine.counts g.after (torn_seen g.torn) (not (slot_of s dev)))
-update-cut s t dev f m g b whole on fuse h = elim (cases_order g.after 6) [
-  | inl e ↦ cut-in_record s t dev f m g b whole on fuse (omega arith) h
-  | inr (inl l) ↦ cut-in_record s t dev f m g b whole on fuse (omega arith) h
-  | inr (inr l) ↦ cut-behind s t dev f m g b whole on fuse (omega arith) h
+-- it stood at one of the record's or at the gate's
+cut-in_record : (n : ℕ) (s t : PlantState) (dev : ℕ) (ws : List BlockWrite) (x : Fields) (g : WriteFuse) (b : Bool) → IsWhole x → AreIdle n (s.block dev) ws → s.on (s.owner dev) ≡ true → s.write_fuse (s.owner dev) ≡ Some g → length ws ≤ g.after → g.after < length ws + 6 + 1 → after_writes s dev (ws ++ record_writes 6 (not (slot_of s dev)) (record_block x)) ≡ (t, b) → CutEnds n s t dev ws x (machine.counts (length ws + 6) g.after (torn_seen g.torn) (not (slot_of s dev)))
+cut-in_record n s t dev ws x g b whole idle on fuse high low h =
+    let o = s.owner dev in
+    let k = length ws in
+    let u = all_written s dev ws in
+    let before = writes_pass s dev ws on (subst (λ f. Passes k f) (sym fuse) high) in
+    let spared : Spared n (s.block dev) (u.block dev) = idle-spares n s u dev ws false idle before in
+    let left : WriteFuse = record g { after = g.after - k } in
+    let armed : u.write_fuse o ≡ Some left = at_same s.write_fuse o (write_fuse_after k (s.write_fuse o)) ∙ ap (write_fuse_after k) fuse in
+    let all : after_writes u dev (record_part u dev x) ≡ (t, b) =
+    ap (after_writes u dev) (sym (record-behind n s u dev x spared)) ∙ sym (append-goes s u dev ws (record_writes 6 (not (slot_of s dev)) (record_block x)) before) ∙ h in
+    let torn = writes_torn_at u dev (record_part u dev x) (write 0 []) left on armed (subst (λ m. g.after - k < m) (sym (length-part (not (slot_of u dev)) x)) (let e : g.after - k < 7 = omega arith in e)) in
+    let stopped : b ≡ true = ap (λ (r : PlantState × Bool). r.1) (sym all ∙ torn) in
+    let cut : IsCutShort 6 u t dev = put-cut_short u t dev 6 (not (slot_of u dev)) (record_block x) (all ∙ (λ i. (t, stopped i))) in
+    let same : slot_of u dev ≡ slot_of s dev = spared-slot n s u dev spared in
+    by_slot n s u t dev ws x _ spared before (record-ends u t dev x b whole all)
+    (cut.slot
+    ∙ (λ i. if on i then torn_choice 6 (armed i) (u.block dev 0) else slot_of u dev)
+    ∙ turned g k (slot_of s dev) (u.block dev 0) same high
+    ∙ ap (λ old. if machine.counts (k + 6) g.after (torn_seen g.torn) (not (slot_of s dev)) then not old else old) (sym same))
+
+pub move-cut : (n : ℕ) (s t : PlantState) (dev : ℕ) (ws : List BlockWrite) (x : Fields) (g : WriteFuse) (b : Bool) → IsWhole x → AreIdle n (s.block dev) ws → s.on (s.owner dev) ≡ true → s.write_fuse (s.owner dev) ≡ Some g → g.after < length ws + 6 + 1 → after_writes s dev (ws ++ record_writes 6 (not (slot_of s dev)) (record_block x)) ≡ (t, b) → CutEnds n s t dev ws x (machine.counts (length ws + 6) g.after (torn_seen g.torn) (not (slot_of s dev)))
+move-cut n s t dev ws x g b whole idle on fuse low h = elim (cases_order g.after (length ws)) [
+  | inl e ↦ cut-in_record n s t dev ws x g b whole idle on fuse (omega arith) low h
+  | inr (inl l) ↦ cut-in_idle n s t dev ws x g b idle on fuse l h
+  | inr (inr l) ↦ cut-in_record n s t dev ws x g b whole idle on fuse (omega arith) low h
 ]

@@ -6,46 +6,54 @@ use Rattle.dr_plant.specs.State.{PlantState}
 use Rattle.dr_record.specs.Slots.{slot_of, choice}
 use Rattle.dr_config.specs.Table.{ConfigTable, place_of}
 use Rattle.dr_config.specs.declared.entries.VolumeEntry.{VolumeEntry}
+use Rattle.dr_model.specs.Layout as layout
 use Rattle.dr_model.specs.Layout.{chosen, only_if}
 use Rattle.dr_model.specs.Lawful.{IsLawful}
 use Rattle.dr_model.specs.Control.{Volume}
-use Rattle.dr_model.specs.Moves.{Carried, carried_bytes, staged_track}
+use Rattle.dr_model.specs.Moves.{Carried, carried_bytes, staged_after}
 use Rattle.dr_volume.specs.declared.fields.Fields.{Fields}
 use Rattle.dr_volume.specs.declared.opened.Gate.{Gate}
 use Rattle.dr_volume.specs.declared.opened.Opened.{Opened}
 use Rattle.dr_volume.specs.Plain.{plain}
 use Rattle.dr_volume.specs.View.{device_of, volume_seen}
 use Rattle.dr_volume.specs.Volume.{Shows}
-use Rattle.dr_volume.specs.Update.{staging, IsAsBefore, IsMoved, OthersStay}
+use Rattle.dr_volume.specs.Update.{staging, staged_next, next_record, IsAsBefore, IsMoved, OthersStay}
 use Rattle.dr_volume.specs.Opened.{IsGate, IsOpened, OthersOpened}
 use Rattle.dr_volume.proofs.VolumeLaws.{placed, volume-placed, device-placed, chosen_slot}
-use Rattle.dr_volume.proofs.ReadingLaws.{ReadsNext, bytes-next, plain-staging, staged-staging, bytes-staging}
+use Rattle.dr_volume.proofs.ReadingLaws.{ReadsNext, bytes-next, next-staged, staged_on, plain-staging, bytes-staging}
 use Rattle.dr_volume.proofs.SeenLaws.{Lies, seen, apart_devices}
-use Rattle.dr_volume.proofs.UpdateLaws.{Task, Run, outcome, update-done}
+use Rattle.dr_volume.proofs.UpdateLaws.{Task, Run, done-next, update-done}
 
 -- what was opened is what the update leaves
-only_some : (m : Carried) → carried_bytes m ≡ only_if (is_some (staged_track m)) (carried_bytes m) zeros
-only_some None = refl
-only_some (Some t) = refl
+only_some : (m : Carried) (f : Fields) → carried_bytes m ≡ only_if (is_some (staging m f).staged) (carried_bytes m) zeros
+only_some None f = refl
+only_some (Some t) f = refl
 
-pub opened-next : (c : ConfigTable) (s t : PlantState) (v d : ℕ) (e : VolumeEntry) (f : Fields) (m : Carried) (o g : Gate) (x : Fields) → Task c s v d e f m → Run s t d f m false → IsGate s c v o → g.device.0 ≡ o.device.0 → g.slot ≡ not o.slot → x ≡ staging m f → IsOpened t c v (record { gate = g; fields = x })
+pub opened-next : (c : ConfigTable) (s t : PlantState) (v d : ℕ) (e : VolumeEntry) (f : Fields) (m : Carried) (o g : Gate) (x : Fields) → Task c s v d e true f m → Run s t d e.tracks true f m false → IsGate s c v o → g.device.0 ≡ o.device.0 → g.slot ≡ not o.slot → x ≡ next_record true (staged_on e.tracks (s.block d)) f m → IsOpened t c v (record { gate = g; fields = x })
 opened-next c s t v d e f m o g x k run opened device turned fields =
-    let next : ReadsNext (s.block d) (t.block d) f m = (outcome c s t v d e f m false k run).done refl in
-    let moved : IsMoved s t c v (plain f) m = update-done c s t v d e f m k run in
+    let next : ReadsNext e.tracks (s.block d) (t.block d) true f m = done-next c s t v d e true f m k run in
+    let moved : IsMoved s t c v (plain f) m = update-done c s t v d e true f m k run in
+    let kept : Carried = staged_next true f.blank m (staged_on e.tracks (s.block d)) in
+    let new : Fields = staging kept f in
     let at : device_of c v ≡ d = device-placed c v d k.lies.place in
+    let was : layout.staged e.tracks (s.block d) ≡ (volume_seen s c v).staged = ap (λ (w : Volume). w.staged) (sym (seen c s v d e k.lies s)) in
+    let staged : new.staged ≡ (volume_seen t c v).staged =
+    next-staged true (layout.staged e.tracks (s.block d)) (chosen (s.block d) 5) f m
+    ∙ ap (λ y. staged_after true y f.blank m) was
+    ∙ sym (ap (λ (w : Volume). w.staged) moved.volume) in
     let slot : slot_of t d ≡ not o.slot =
     chosen_slot t d ∙ next.slot ∙ ap (λ b. not b) (sym (chosen_slot s d) ∙ ap (λ q. slot_of s q) (sym at) ∙ opened.slot) in
-    let shows : Shows t c v (staging m f) = record {
-      fields = plain-staging m f ∙ sym (ap (λ (w : Volume). w.fields) moved.volume);
-      staged = staged-staging m f ∙ sym (ap (λ (w : Volume). w.staged) moved.volume);
+    let shows : Shows t c v new = record {
+      fields = plain-staging kept f ∙ sym (ap (λ (w : Volume). w.fields) moved.volume);
+      staged = staged;
       staged_bytes =
-          bytes-staging m f ∙ only_some m
-          ∙ sym ((λ i. only_if (is_some (moved.volume i).staged) (chosen (t.block (at i)) 5) zeros)
-          ∙ ap (λ bs. only_if (is_some (staged_track m)) bs zeros) (bytes-next (s.block d) (t.block d) f m next));
+          bytes-staging kept f ∙ only_some kept f
+          ∙ ap (λ bs. only_if (is_some new.staged) bs zeros) (sym (bytes-next e.tracks (s.block d) (t.block d) true f m k.fits next))
+          ∙ (λ i. only_if (is_some (staged i)) (chosen (t.block (sym at i)) 5) zeros);
       lawful =
-          subst (λ (w : Volume). IsLawful w.tracks (plain (staging m f))) (sym moved.volume)
-          (subst (λ (w : Volume). IsLawful w.tracks (plain (staging m f))) (sym (seen c s v d e k.lies s))
-          (subst (λ g. IsLawful e.tracks g) (sym (plain-staging m f)) k.lawful));
+          subst (λ (w : Volume). IsLawful w.tracks (plain new)) (sym moved.volume)
+          (subst (λ (w : Volume). IsLawful w.tracks (plain new)) (sym (seen c s v d e k.lies s))
+          (subst (λ y. IsLawful e.tracks y) (sym (plain-staging kept f)) k.fits.lawful));
     } in
     record {
       gate = record { device = device ∙ opened.device; slot = ap (λ q. slot_of t q) at ∙ slot ∙ sym turned };

@@ -1,16 +1,15 @@
 -- Writing a staged track to its own place, as the machine sees it.
-use Rattle.std.proofs.Common.{ℕ, ◌≡◌, ◌≢◌, ◌≤◌, ◌<◌, ◌+◌, Bool, true, false, not, ◌&&◌, nat_eq, nat_lt, arith, List, length, refl, sym, ◌∙◌, ap, subst, cond, inl, inr, Option, None, Some}
+use Rattle.std.proofs.Common.{ℕ, ◌≡◌, ◌≢◌, ◌≤◌, ◌<◌, ◌+◌, ◌++◌, Bool, true, false, not, arith, List, length, refl, sym, ◌∙◌, ap, subst, cond, inl, inr, Option, None, Some}
 use Rattle.std.specs.Prelude.{is_some, IfSome, if◌then◌else◌}
 use Rattle.std.proofs.lemmas.Bool.{cases_eq}
-use Rattle.std.proofs.lemmas.Bool.Decides.{Decides-eqb, nat_tests}
 use Rattle.dr_logic.specs.Bytes.{zeros}
 use Rattle.dr_logic.specs.Counts.{risen}
 use Rattle.dr_plant.specs.State.{PlantState, after_read, can_read, passes_read}
 use Rattle.dr_plant.specs.declared.plant.WriteFuse.{WriteFuse}
+use Rattle.dr_record.specs.Slots.{record_writes}
 use Rattle.dr_record.specs.Writes.{after_writes}
 use Rattle.dr_config.specs.Table.{ConfigTable, StandsFor}
 use Rattle.dr_config.specs.declared.entries.VolumeEntry.{VolumeEntry}
-use Rattle.dr_ids.specs.BigEndian.{be16_at}
 use Rattle.dr_model.specs.Layout as layout
 use Rattle.dr_model.specs.Layout.{Blocks, chosen, is_staged, only_if}
 use Rattle.dr_model.specs.Control.{Volume, World}
@@ -18,47 +17,38 @@ use Rattle.dr_model.specs.Moves.{Carried, is_carried, carried_bytes}
 use Rattle.dr_model.specs.Carry as machine
 use Rattle.dr_model.specs.Carry.{Ended, ended}
 use Rattle.dr_volume.specs.declared.fields.Fields.{Fields}
-use Rattle.dr_volume.specs.View.{Rest, world, volume_seen, device_of, IsSettled, TracksSettled, fuse_seen}
+use Rattle.dr_volume.specs.Record.{record_block}
+use Rattle.dr_volume.specs.View.{Rest, world, volume_seen, device_of, fuse_seen}
 use Rattle.dr_volume.specs.Volume.{LiesOn, Shows}
-use Rattle.dr_volume.specs.Update.{track_with, track_writes, read_and_write, staged_seen, IsAsBefore, OthersStay, ServerStays, EndsAs, after_reading}
-use Rattle.dr_volume.proofs.VolumeLaws.{device-placed, device-stands}
-use Rattle.dr_volume.proofs.ReadingLaws.{ReadsAs, staged-raw, bytes-raw}
-use Rattle.dr_volume.proofs.RanLaws.{Ran, ran, ran-stands, read-goes, read-stops}
-use Rattle.dr_volume.proofs.RewriteLaws.{TrackWritten, track-written, choice-low, record-low}
+use Rattle.dr_volume.specs.Update.{track_with, stages, staging, staged_next, given_way, track_writes, update_writes, read_and_write, staged_seen, IsAsBefore, OthersStay, ServerStays, EndsAs, after_reading}
+use Rattle.dr_volume.proofs.VolumeLaws.{device-placed, device-stands, tracks-of}
+use Rattle.dr_volume.proofs.ReadingLaws.{staged-raw, bytes-raw, staged_on, staged-low, StandsOwn}
+use Rattle.dr_volume.proofs.RanLaws.{ran, ran-stands, read-goes, read-stops}
+use Rattle.dr_volume.proofs.RewriteLaws.{Spared, idle-spares, staged-idle, spared-as, track-written, record-low}
 use Rattle.dr_volume.proofs.FuseLaws.{Passed, Cut, writes-passed, below_number, writes-cut}
 use Rattle.dr_volume.proofs.WorldLaws.{world-spent, world-off, shown-before, fuse-seen, on-seen}
-use Rattle.dr_volume.proofs.SeenLaws.{Lies, lies-of, seen, is-before, others-stay, others-settled, settled-on, settled-off}
+use Rattle.dr_volume.proofs.SeenLaws.{Lies, lies-of, seen, is-before, others-stay}
 use Rattle.dr_volume.proofs.UpdateLaws.{ends_as, read-off, read-on, read-first, idle, idle-world, server-seen}
 
--- the staged track of a device, with its bytes
-abbrev staged_on : ℕ → Blocks → Carried
-staged_on n b = track_with (layout.staged n b) (chosen b 5)
-
 -- the staged track of that device was written
-abbrev Run : PlantState → PlantState → ℕ → ℕ → Bool → Type 0
+abbrev pub Run : PlantState → PlantState → ℕ → ℕ → Bool → Type 0
 Run s t d n b = read_and_write s d (track_writes (staged_on n (s.block d))) ≡ (t, b)
 
-is_carried-staged : (o : Option ℕ) (bytes : List ℕ) (k : ℕ) → is_carried (track_with o bytes) k ≡ is_staged o k
-is_carried-staged None bytes k = refl
-is_carried-staged (Some t) bytes k = refl
+is_carried-staged : (o : Option ℕ) (bytes : List ℕ) (k : ℕ) → is_staged o k ≡ true → (is_carried (track_with o bytes) k ≡ true) × (carried_bytes (track_with o bytes) ≡ bytes)
+is_carried-staged None bytes k is = absurd (cc)
+is_carried-staged (Some t) bytes k is = (is, refl)
 
--- what is read of the device stays
-track-reads_as : (s t : PlantState) (d n : ℕ) (b : Bool) → TrackWritten s t d (staged_on n (s.block d)) b → ReadsAs n (s.block d) (t.block d)
-track-reads_as s t d n b w = record {
-  slot = choice-low (s.block d) (t.block d) w.low;
-  record_same = record-low (s.block d) (t.block d) w.low;
-  own = λ k free. w.own k (is_carried-staged (layout.staged n (s.block d)) (chosen (s.block d) 5) k ∙ free);
-}
+-- the writes of the staged track are idle, and where they were done it stands in its own block
+pub redo-spares : (s t : PlantState) (d n : ℕ) (b : Bool) → after_writes s d (track_writes (staged_on n (s.block d))) ≡ (t, b) → Spared n (s.block d) (t.block d)
+redo-spares s t d n b h = idle-spares n s t d (track_writes (staged_on n (s.block d))) b (staged-idle n (s.block d) (layout.staged n (s.block d)) (chosen (s.block d) 5) refl) h
 
-own_settled : (b : Blocks) (o : Option ℕ) (bytes : List ℕ) → bytes ≡ chosen b 5 → ((k : ℕ) → is_carried (track_with o bytes) k ≡ true → b (13 + k) ≡ carried_bytes (track_with o bytes)) → TracksSettled b o
-own_settled b None bytes same own = tt
-own_settled b (Some t) bytes same own = own t ((Decides-eqb t t).1 refl) ∙ same
-
-track-settled : (s t : PlantState) (d n : ℕ) → TrackWritten s t d (staged_on n (s.block d)) false → TracksSettled (t.block d) (layout.staged n (t.block d))
-track-settled s t d n w =
-    let same = record-low (s.block d) (t.block d) w.low in
-    subst (λ o. TracksSettled (t.block d) o) (sym (staged-raw n (chosen (t.block d)) (chosen (s.block d)) same))
-    (own_settled (t.block d) (layout.staged n (s.block d)) (chosen (s.block d) 5) (sym (bytes-raw (chosen (t.block d)) (chosen (s.block d)) same)) (w.done refl))
+pub redo-stands : (s t : PlantState) (d n : ℕ) → after_writes s d (track_writes (staged_on n (s.block d))) ≡ (t, false) → StandsOwn n (t.block d)
+redo-stands s t d n h k is =
+    let spared = redo-spares s t d n false h in
+    let same = record-low (s.block d) (t.block d) spared.low in
+    let was : is_staged (layout.staged n (s.block d)) k ≡ true = ap (λ o. is_staged o k) (sym (staged-raw n (chosen (t.block d)) (chosen (s.block d)) same)) ∙ is in
+    let one = is_carried-staged (layout.staged n (s.block d)) (chosen (s.block d) 5) k was in
+    (track-written s t d (staged_on n (s.block d)) false h).done refl k one.0 ∙ one.1 ∙ sym (bytes-raw (chosen (t.block d)) (chosen (s.block d)) same)
 
 -- the machine's work again on a staged track
 abbrev number : World → ℕ → ℕ
@@ -93,10 +83,8 @@ pub record Redone (c : ConfigTable) (s t : PlantState) (v : ℕ) (b : Bool) : Ty
   pub written : read_and_write s (device_of c v) (track_writes (staged_seen s c v)) ≡ (t, b)
   pub exact : (r : Rest) → EndsAs (world t c r) b (after_reading s (volume_seen s c v).server (world s c r) (machine.redo (world s c r) v))
   pub same : (u : ℕ) → IsAsBefore s t c u
-  pub done : b ≡ false → TracksSettled (t.block (device_of c v)) (volume_seen t c v).staged
   pub stands : StandsFor c t
   pub unarmed : (q : ℕ) → s.read_fuse q ≡ None → t.read_fuse q ≡ None
-  pub settled : (u : ℕ) → IsSettled s c u → IsSettled t c u
   pub servers : (q : ℕ) → q ≢ (volume_seen s c v).server → ServerStays s t q
   pub on : b ≡ false → t.on ≡ s.on
   pub off : b ≡ true → t.on (volume_seen s c v).server ≡ false
@@ -105,28 +93,12 @@ pub record Redone (c : ConfigTable) (s t : PlantState) (v : ℕ) (b : Bool) : Ty
 pub same-all : (c : ConfigTable) (s t : PlantState) (v : ℕ) → IsAsBefore s t c v → OthersStay s t c v → (u : ℕ) → IsAsBefore s t c u
 same-all c s t v here there u = elim (cases_eq u v) [ inl is ↦ subst (λ w. IsAsBefore s t c w) (sym is) here | inr ne ↦ there u ne ]
 
-settled-all : (c : ConfigTable) (s t : PlantState) (v d : ℕ) (e : VolumeEntry) (b : Bool) → Lies c s v d e → Ran s t d b → (b ≡ false → TracksSettled (t.block (device_of c v)) (volume_seen t c v).staged) → (u : ℕ) → IsSettled s c u → IsSettled t c u
-settled-all c s t v d e b lies r done u h =
-    elim (cases_eq u v) [
-      | inl is ↦ subst (λ w. IsSettled t c w) (sym is)
-          (elim b as (λ x. b ≡ x → IsSettled t c v) [ true ↦ λ stopped. settled-off c s t v d e lies (r.off stopped) | false ↦ λ ok up. done ok ] refl)
-      | inr ne ↦ others-settled c s t v d e lies r.apart r.was_on u ne h
-    ]
-
 redo-here : (c : ConfigTable) (s t : PlantState) (v d : ℕ) (e : VolumeEntry) (b : Bool) → Lies c s v d e → Run s t d e.tracks b → IsAsBefore s t c v
 redo-here c s t v d e b lies run =
     let ws = track_writes (staged_on e.tracks (s.block d)) in
     elim (can_read s d) as (λ w. can_read s d ≡ w → IsAsBefore s t c v) [
-      | true ↦ λ can. is-before c s t v d e lies (track-reads_as s t d e.tracks b (track-written s t d (staged_on e.tracks (s.block d)) b (sym (read-goes s d ws can) ∙ run)))
+      | true ↦ λ can. is-before c s t v d e lies (spared-as e.tracks (s.block d) (t.block d) (redo-spares s t d e.tracks b (sym (read-goes s d ws can) ∙ run)))
       | false ↦ λ stuck. subst (λ u. IsAsBefore s u c v) (ap (λ (x : PlantState × Bool). x.0) (sym (read-stops s d ws stuck) ∙ run)) (idle c s v d e lies)
-    ] refl
-
-redo-done : (c : ConfigTable) (s t : PlantState) (v d : ℕ) (e : VolumeEntry) → Lies c s v d e → Run s t d e.tracks false → TracksSettled (t.block (device_of c v)) (volume_seen t c v).staged
-redo-done c s t v d e lies run =
-    let ws = track_writes (staged_on e.tracks (s.block d)) in
-    elim (can_read s d) as (λ w. can_read s d ≡ w → TracksSettled (t.block (device_of c v)) (volume_seen t c v).staged) [
-      | true ↦ λ can. settled-on c s t v d e lies (track-settled s t d e.tracks (track-written s t d (staged_on e.tracks (s.block d)) false (sym (read-goes s d ws can) ∙ run)))
-      | false ↦ λ stuck. absurd (let never : true ≡ false = ap (λ (x : PlantState × Bool). x.1) (sym (read-stops s d ws stuck) ∙ run) in cc)
     ] refl
 
 world-idle : (c : ConfigTable) (s t : PlantState) (v d : ℕ) (e : VolumeEntry) (b : Bool) (r : Rest) → Lies c s v d e → OthersStay s t c v → Run s t d e.tracks b → s.on (s.owner d) ≡ false → EndsAs (world t c r) b (machine.redo (world s c r) v)
@@ -161,19 +133,18 @@ world-on c s t v d e b r lies here there up h =
           (record { world = world-off s t c r o g lies.low cut.on cut.fuse low.1 ∙ ap (λ x. machine.off x o) before; stopped = cut.cut })
     ] refl
 
-redo-world : (c : ConfigTable) (s t : PlantState) (v d : ℕ) (e : VolumeEntry) (b : Bool) (r : Rest) → Lies c s v d e → IsAsBefore s t c v → OthersStay s t c v → Run s t d e.tracks b → passes_read (s.read_fuse (s.owner d)) ≡ true → EndsAs (world t c r) b (machine.redo (world s c r) v)
+pub redo-world : (c : ConfigTable) (s t : PlantState) (v d : ℕ) (e : VolumeEntry) (b : Bool) (r : Rest) → Lies c s v d e → IsAsBefore s t c v → OthersStay s t c v → Run s t d e.tracks b → passes_read (s.read_fuse (s.owner d)) ≡ true → EndsAs (world t c r) b (machine.redo (world s c r) v)
 redo-world c s t v d e b r lies here there run pass =
     elim (s.on (s.owner d)) as (λ w. s.on (s.owner d) ≡ w → EndsAs (world t c r) b (machine.redo (world s c r) v)) [
       | true ↦ λ up. world-on c s t v d e b r lies here there up (sym (read-goes s d (track_writes (staged_on e.tracks (s.block d))) (read-on s d pass up)) ∙ run)
       | false ↦ λ off. world-idle c s t v d e b r lies there run off
     ] refl
 
-redone-on : (c : ConfigTable) (s t : PlantState) (v d : ℕ) (e : VolumeEntry) (b : Bool) → Lies c s v d e → StandsFor c s → Run s t d e.tracks b → Redone c s t v b
+pub redone-on : (c : ConfigTable) (s t : PlantState) (v d : ℕ) (e : VolumeEntry) (b : Bool) → Lies c s v d e → StandsFor c s → Run s t d e.tracks b → Redone c s t v b
 redone-on c s t v d e b lies stands run =
     let r = ran s t d (track_writes (staged_on e.tracks (s.block d))) b run in
     let here = redo-here c s t v d e b lies run in
     let there = others-stay c s t v d e lies r.apart in
-    let done : b ≡ false → TracksSettled (t.block (device_of c v)) (volume_seen t c v).staged = (λ ok. redo-done c s t v d e lies (run ∙ (λ i. (t, ok i)))) in
     record {
       written =
           (λ i. read_and_write s (device-placed c v d lies.place i) (track_writes (track_with (seen c s v d e lies s i).staged (chosen (s.block (device-placed c v d lies.place i)) 5))))
@@ -182,10 +153,8 @@ redone-on c s t v d e b lies stands run =
           (λ stuck. let x : ◌≡◌ {A = PlantState × Bool} (t, b) (after_read s d, true) = sym run ∙ read-stops s d (track_writes (staged_on e.tracks (s.block d))) stuck in (ap (λ (y : PlantState × Bool). y.0) x, ap (λ (y : PlantState × Bool). y.1) x))
           (λ pass. redo-world c s t v d e b rest lies here there run pass) refl;
       same = same-all c s t v here there;
-      done = done;
       stands = ran-stands c s t d b r stands;
       unarmed = r.unarmed;
-      settled = settled-all c s t v d e b lies r done;
       servers = λ q ne. r.others q (λ is. ne (is ∙ sym (server-seen c s v d e lies)));
       on = r.on;
       off = λ stopped. ap t.on (server-seen c s v d e lies) ∙ r.off stopped;
@@ -198,46 +167,67 @@ redone-unread c s t v d n on stands stuck is =
     let x = lies-of c s v d n on stands in
     redone-on c s t v d x.0 true x.1 stands (read-stops s d (track_writes (staged_on x.0.tracks (s.block d))) stuck ∙ (λ i. (sym is i, true)))
 
--- what the fields that the device shows stage
+-- what the fields that the device shows stage is what the volume does
 shown_staged : (o : Option ℕ) (f : Option ℕ) (bytes chosen_bytes : List ℕ) → f ≡ o → bytes ≡ only_if (is_some o) chosen_bytes zeros → track_with f bytes ≡ track_with o chosen_bytes
 shown_staged None f bytes chosen_bytes is h = ap (λ x. track_with x bytes) is
 shown_staged (Some t) f bytes chosen_bytes is h = (λ i. track_with (is i) (h i))
+
+pub shows-staged : (c : ConfigTable) (s : PlantState) (v : ℕ) (f : Fields) → Shows s c v f → track_with f.staged f.staged_bytes ≡ staged_seen s c v
+shows-staged c s v f shows = shown_staged (volume_seen s c v).staged f.staged f.staged_bytes (chosen (s.block (device_of c v)) 5) shows.staged shows.staged_bytes
+
+-- it lies on the device
+pub seen-staged : (c : ConfigTable) (s : PlantState) (v d : ℕ) (e : VolumeEntry) → Lies c s v d e → staged_seen s c v ≡ staged_on e.tracks (s.block d)
+seen-staged c s v d e lies = (λ i. track_with (seen c s v d e lies s i).staged (chosen (s.block (device-placed c v d lies.place i)) 5))
+
+-- what is staged was looked at
+pub staged-looked : (table : ConfigTable) (s s1 : PlantState) (v d n : ℕ) (e : VolumeEntry) (o : Carried) → LiesOn table v d n → Lies table s v d e → s1 ≡ s → o ≡ track_with (layout.staged n (s1.block d)) (chosen (s1.block d) 5) → o ≡ staged_on e.tracks (s.block d)
+staged-looked table s s1 v d n e o on lies same is =
+    is ∙ (λ i. track_with (layout.staged (sym (tracks-of table v d n on e lies.entry) i) ((same i).block d)) (chosen ((same i).block d) 5))
+
+-- fields that stage a track, or none, stage that
+pub staging-stages : (m : Carried) (f : Fields) → track_with (staging m f).staged (staging m f).staged_bytes ≡ m
+staging-stages None f = refl
+staging-stages (Some c) f = refl
+
+-- the writes of an update look at what fields stage by `old` alone
+restaging : (x o : Carried) (f : Fields) → staging x (staging o f) ≡ staging x f
+restaging None None f = refl
+restaging None (Some c) f = refl
+restaging (Some c) None f = refl
+restaging (Some c) (Some o) f = refl
+
+blank-staging : (o : Carried) (f : Fields) → (staging o f).blank ≡ f.blank
+blank-staging None f = refl
+blank-staging (Some c) f = refl
+
+pub restaged : (slot : Bool) (o m : Carried) (f : Fields) → update_writes slot (stages (staging o f)) (staging o f) m ≡ update_writes slot o f m
+restaged slot o m f =
+    ap (λ x. update_writes slot x (staging o f) m) (staging-stages o f)
+    ∙ ap (λ b. track_writes (given_way m o) ++ record_writes 6 slot (record_block (staging (staged_next true b m o) (staging o f)))) (blank-staging o f)
+    ∙ ap (λ g. track_writes (given_way m o) ++ record_writes 6 slot (record_block g)) (restaging (staged_next true f.blank m o) o f)
 
 -- the work again where it could
 pub redone-read : (c : ConfigTable) (s t : PlantState) (v d n : ℕ) (f : Fields) (b : Bool) → LiesOn c v d n → StandsFor c s → can_read s d ≡ true → Shows s c v f → after_writes s d (track_writes (track_with f.staged f.staged_bytes)) ≡ (t, b) → Redone c s t v b
 redone-read c s t v d n f b on stands can shows h =
     let x = lies-of c s v d n on stands in
-    let is = seen c s v d x.0 x.1 s in
-    let staged : f.staged ≡ layout.staged x.0.tracks (s.block d) = shows.staged ∙ ap (λ (w : Volume). w.staged) is in
-    let bytes : f.staged_bytes ≡ only_if (is_some (layout.staged x.0.tracks (s.block d))) (chosen (s.block d) 5) zeros =
-    shows.staged_bytes
-    ∙ ap (λ (w : Volume). only_if (is_some w.staged) (chosen (s.block (device_of c v)) 5) zeros) is
-    ∙ ap (λ q. only_if (is_some (layout.staged x.0.tracks (s.block d))) (chosen (s.block q) 5) zeros) (device-placed c v d x.1.place) in
-    let m = shown_staged (layout.staged x.0.tracks (s.block d)) f.staged f.staged_bytes (chosen (s.block d) 5) staged bytes in
+    let m = shows-staged c s v f shows ∙ seen-staged c s v d x.0 x.1 in
     redone-on c s t v d x.0 b x.1 stands
     (read-goes s d (track_writes (staged_on x.0.tracks (s.block d))) can ∙ ap (λ y. after_writes s d (track_writes y)) (sym m) ∙ h)
-
--- a track that is staged is one of the volume's
-staged_below : (n k : ℕ) (there low : Bool) (o : Option ℕ) → nat_lt k n ≡ low → o ≡ (if there && low then Some k else None) → IfSome o (λ t. t < n)
-staged_below n k there low None h is = tt
-staged_below n k true true (Some t) h is = let e : t ≡ k = cc in grind (arith, nat_tests)
-staged_below n k true false (Some t) h is = absurd (cc)
-staged_below n k false low (Some t) h is = absurd (cc)
-
-staged-low : (n : ℕ) (b : Blocks) → IfSome (layout.staged n b) (λ t. t < n)
-unfolding layout.staged_of
-staged-low n b = staged_below n (be16_at (chosen b 0) 14) (nat_eq (layout.byte (chosen b 0) 7) 1) (nat_lt (be16_at (chosen b 0) 14) n) _ refl refl
 
 fits : (n d : ℕ) (s : PlantState) (o : Option ℕ) (bytes : List ℕ) → n ≤ 256 → s.size d ≡ 13 + n → IfSome o (λ t. t < n) → IfSome (track_with o bytes) (λ t. (t.0 < 256) × (13 + t.0 < s.size d))
 fits n d s None bytes few size low = tt
 fits n d s (Some t) bytes few size low = ((omega arith), (omega arith))
 
 -- so its block is on the device
-pub staged-fits : (c : ConfigTable) (s s1 : PlantState) (v d n : ℕ) (f : Fields) (m : Carried) → LiesOn c v d n → StandsFor c s → s1 ≡ s → Shows s c v f → m ≡ track_with f.staged f.staged_bytes → (d < s1.count) × IfSome m (λ t. (t.0 < 256) × (13 + t.0 < s1.size d))
-staged-fits c s s1 v d n f m on stands same shows is =
+pub seen-fits : (c : ConfigTable) (s : PlantState) (v d n : ℕ) → LiesOn c v d n → StandsFor c s → (d < s.count) × IfSome (staged_seen s c v) (λ t. (t.0 < 256) × (13 + t.0 < s.size d))
+seen-fits c s v d n on stands =
     let x = lies-of c s v d n on stands in
     let device = device-stands s c v d x.0 x.1.place x.1.entry stands in
-    let staged : f.staged ≡ layout.staged x.0.tracks (s.block d) = shows.staged ∙ ap (λ (w : Volume). w.staged) (seen c s v d x.0 x.1 s) in
-    let low = fits x.0.tracks d s (layout.staged x.0.tracks (s.block d)) f.staged_bytes x.1.few device.1 (staged-low x.0.tracks (s.block d)) in
-    let all : IfSome m (λ t. (t.0 < 256) × (13 + t.0 < s.size d)) = subst (λ (y : Carried). IfSome y (λ t. (t.0 < 256) × (13 + t.0 < s.size d))) (sym (is ∙ ap (λ o. track_with o f.staged_bytes) staged)) low in
-    subst (λ (u : PlantState). (d < u.count) × IfSome m (λ t. (t.0 < 256) × (13 + t.0 < u.size d))) (sym same) (device.0, all)
+    let low = fits x.0.tracks d s (layout.staged x.0.tracks (s.block d)) (chosen (s.block d) 5) x.1.few device.1 (staged-low x.0.tracks (s.block d)) in
+    (device.0, subst (λ (y : Carried). IfSome y (λ t. (t.0 < 256) × (13 + t.0 < s.size d))) (sym (seen-staged c s v d x.0 x.1)) low)
+
+pub staged-fits : (c : ConfigTable) (s s1 : PlantState) (v d n : ℕ) (f : Fields) (m : Carried) → LiesOn c v d n → StandsFor c s → s1 ≡ s → Shows s c v f → m ≡ track_with f.staged f.staged_bytes → (d < s1.count) × IfSome m (λ t. (t.0 < 256) × (13 + t.0 < s1.size d))
+staged-fits c s s1 v d n f m on stands same shows is =
+    let all = seen-fits c s v d n on stands in
+    subst (λ (u : PlantState). (d < u.count) × IfSome m (λ t. (t.0 < 256) × (13 + t.0 < u.size d))) (sym same)
+    (all.0, subst (λ (y : Carried). IfSome y (λ t. (t.0 < 256) × (13 + t.0 < s.size d))) (sym (is ∙ shows-staged c s v f shows)) all.1)

@@ -1,20 +1,17 @@
 -- What the machine sees of the volumes of a plant, once the device of one of them was read and written.
-use Rattle.std.proofs.Common.{ℕ, ◌≡◌, ◌≢◌, ◌≤◌, ◌<◌, true, false, List, refl, sym, ◌∙◌, ap, subst, arith, Option, None, Some}
-use Rattle.std.specs.Prelude.{slice_get, unwrap_or}
+use Rattle.std.proofs.Common.{ℕ, ◌≡◌, ◌≢◌, ◌≤◌, ◌<◌, Bool, List, refl, sym, ◌∙◌, ap, arith, None, Some}
+use Rattle.std.specs.Prelude.{slice_get}
 use Rattle.dr_plant.specs.State.{PlantState}
 use Rattle.dr_config.specs.Table.{ConfigTable, place_of, StandsFor}
 use Rattle.dr_config.specs.declared.entries.VolumeEntry.{VolumeEntry}
 use Rattle.dr_config.proofs.Lookups.{entry-at-place}
-use Rattle.dr_model.specs.Control.{Volume}
-use Rattle.dr_model.specs.Layout as layout
-use Rattle.dr_model.specs.Layout.{slot_chosen, chosen}
-use Rattle.dr_model.specs.Moves.{Carried, moved, tracks_after}
+use Rattle.dr_model.specs.Moves.{Carried, moved_keeping, tracks_after}
 use Rattle.dr_volume.specs.declared.fields.Fields.{Fields}
 use Rattle.dr_volume.specs.Plain.{plain}
-use Rattle.dr_volume.specs.View.{volume_seen, volume_at, volume_on, track_seen, track_at, track_on, device_of, IsSettled, TracksSettled}
+use Rattle.dr_volume.specs.View.{volume_seen, volume_at, volume_on, track_seen, track_at, track_on}
 use Rattle.dr_volume.specs.Volume.{LiesOn}
-use Rattle.dr_volume.specs.Update.{IsAsBefore, IsMoved, OthersStay}
-use Rattle.dr_volume.proofs.VolumeLaws.{entry, volume-placed, track-placed, device-placed}
+use Rattle.dr_volume.specs.Update.{IsAsBefore, IsMovedKeeping, OthersStay}
+use Rattle.dr_volume.proofs.VolumeLaws.{entry, volume-placed, track-placed}
 use Rattle.dr_volume.proofs.ReadingLaws.{ReadsAs, ReadsNext, Fitting, volume-same, track-same, volume-next, track-next}
 
 -- The volume v lies on the device d of its server, and e is what is defined of it.
@@ -47,12 +44,12 @@ is-before c s t v d e lies h = record {
   tracks = λ i k. (track-seen c s v d e lies t k ∙ track-same (s.block d) (t.block d) e k lies.few h ∙ sym (track-seen c s v d e lies s k)) i;
 }
 
-pub is-moved : (c : ConfigTable) (s t : PlantState) (v d : ℕ) (e : VolumeEntry) (f : Fields) (m : Carried) → Lies c s v d e → Fitting e.tracks (s.block d) f m → ReadsNext (s.block d) (t.block d) f m → IsMoved s t c v (plain f) m
-is-moved c s t v d e f m lies fit h =
+pub is-moved : (c : ConfigTable) (s t : PlantState) (v d : ℕ) (e : VolumeEntry) (keeps : Bool) (f : Fields) (m : Carried) → Lies c s v d e → Fitting e.tracks (s.block d) keeps f m → ReadsNext e.tracks (s.block d) (t.block d) keeps f m → IsMovedKeeping keeps s t c v (plain f) m
+is-moved c s t v d e keeps f m lies fit h =
     let before : track_on (s.block d) (Some e) ≡ track_seen s c v = (λ i k. sym (track-seen c s v d e lies s k) i) in
     record {
-      volume = seen c s v d e lies t ∙ volume-next (s.block d) (t.block d) e f m fit h ∙ ap (λ w. moved w (plain f) m) (sym (seen c s v d e lies s));
-      tracks = λ i k. (track-seen c s v d e lies t k ∙ track-next (s.block d) (t.block d) e f m k fit h ∙ ap (λ old. tracks_after (plain f) m old k) before) i;
+      volume = seen c s v d e lies t ∙ volume-next (s.block d) (t.block d) e keeps f m fit h ∙ ap (λ w. moved_keeping keeps w (plain f) m) (sym (seen c s v d e lies s));
+      tracks = λ i k. (track-seen c s v d e lies t k ∙ track-next (s.block d) (t.block d) e keeps f m k fit h ∙ ap (λ old. tracks_after (plain f) m old k) before) i;
     }
 
 -- another volume lies on another device
@@ -76,29 +73,3 @@ others-stay c s t v d e lies apart u ne = record {
     | Some j ↦ λ is. ap (λ (b : ℕ → List ℕ). track_on b (slice_get c.volumes j)) (λ i b. apart j b (apart_devices c s v u d j e lies ne is) i)
   ] refl;
 }
-
-server_on : (b b2 : ℕ → List ℕ) (o : Option VolumeEntry) → (volume_on b o).server ≡ (volume_on b2 o).server
-server_on b b2 None = refl
-server_on b b2 (Some e) = refl
-
--- it stays settled too
-pub others-settled : (c : ConfigTable) (s t : PlantState) (v d : ℕ) (e : VolumeEntry) → Lies c s v d e → ((j b : ℕ) → j ≢ d → t.block j b ≡ s.block j b) → ((q : ℕ) → t.on q ≡ true → s.on q ≡ true) → (u : ℕ) → u ≢ v → IsSettled s c u → IsSettled t c u
-others-settled c s t v d e lies apart was_on u ne =
-    elim (place_of c u) as (λ o. place_of c u ≡ o → (s.on (volume_at s c o).server ≡ true → TracksSettled (s.block (unwrap_or o 0)) (volume_at s c o).staged) → t.on (volume_at t c o).server ≡ true → TracksSettled (t.block (unwrap_or o 0)) (volume_at t c o).staged) [
-      | None ↦ λ is h on. tt
-      | Some j ↦ λ is h on.
-          let same : s.block j ≡ t.block j = (λ i b. sym (apart j b (apart_devices c s v u d j e lies ne is)) i) in
-          let was = was_on _ (ap t.on (server_on (s.block j) (t.block j) (slice_get c.volumes j)) ∙ on) in
-          subst (λ (b : ℕ → List ℕ). TracksSettled b (volume_on b (slice_get c.volumes j)).staged) same (h was)
-    ] refl
-
--- the volume itself is settled where its staged track stands in its own block
-pub settled-on : (c : ConfigTable) (s t : PlantState) (v d : ℕ) (e : VolumeEntry) → Lies c s v d e → TracksSettled (t.block d) (layout.staged e.tracks (t.block d)) → TracksSettled (t.block (device_of c v)) (volume_seen t c v).staged
-settled-on c s t v d e lies h =
-    subst (λ (w : Volume). TracksSettled (t.block (device_of c v)) w.staged) (sym (seen c s v d e lies t))
-    (subst (λ q. TracksSettled (t.block q) (layout.staged e.tracks (t.block d))) (sym (device-placed c v d lies.place)) h)
-
--- a volume whose server is off is settled
-pub settled-off : (c : ConfigTable) (s t : PlantState) (v d : ℕ) (e : VolumeEntry) → Lies c s v d e → t.on (s.owner d) ≡ false → IsSettled t c v
-settled-off c s t v d e lies off on =
-    absurd (let never : true ≡ false = sym on ∙ ap t.on (ap (λ (w : Volume). w.server) (seen c s v d e lies t) ∙ sym lies.owner) ∙ off in cc)

@@ -10,12 +10,13 @@ use Rattle.dr_record.specs.Slots.{slot_of}
 use Rattle.dr_config.specs.Table.{ConfigTable, place_of}
 use Rattle.dr_logic.specs.Bytes.{zeros}
 use Rattle.dr_model.specs.Control.{Volume}
-use Rattle.dr_model.specs.Layout.{Blocks, chosen, is_staged, only_if, slot_begin}
+use Rattle.dr_model.specs.Layout.{Blocks, chosen, is_staged, only_if, slot_begin, staged}
 use Rattle.dr_volume.specs.Plain.{cut, normal, staged_below}
 use Rattle.dr_volume.specs.Record.{with_head, no_record, raw_of, staged_in}
 use Rattle.dr_volume.specs.View.{volume_seen, track_seen}
 use Rattle.dr_volume.specs.Volume.{LiesOn, Shows}
 use Rattle.dr_volume.proofs.Sets.{contains-cut}
+use Rattle.dr_volume.proofs.RecordLaws.{staged-normal}
 use Rattle.dr_volume.proofs.VolumeLaws.{entry, volume-placed, shows-normal, track-staged, track-not_staged, some_of_staged, chosen_slot}
 
 -- of the tracks below n, those are staged and blank that the blocks say
@@ -84,3 +85,7 @@ looked s s1 d k begin second same begins is = (λ i. (same i).block d (begins i 
 
 pub looked-head : (s s1 : PlantState) (d begin : ℕ) (second : Bool) → s1 ≡ s → begin ≡ slot_begin second → second ≡ slot_of s d → s1.block d begin ≡ chosen (s.block d) 0
 looked-head s s1 d begin second same begins is = ap (s1.block d) (let e : begin ≡ begin + 0 = omega arith in e) ∙ looked s s1 d 0 begin second same begins is
+
+-- what the chosen slot stages, by its head
+pub staged-head : (n : ℕ) (b : Blocks) → staged_below n (staged_in (chosen b 0)) ≡ staged n b
+staged-head n b = sym (normal-staged n (chosen b)) ∙ staged-normal n (chosen b)

@@ -2,26 +2,23 @@
 use Rattle.std.proofs.Common.{ℕ, ◌≡◌, ◌≤◌, ◌<◌, true, false, [], refl, sym, ◌∙◌, ap, subst, Option, None, Some, arith}
 use Rattle.std.specs.Prelude.{is_some}
 use Rattle.dr_plant.specs.State.{PlantState, after_read, can_read, passes_read}
-use Rattle.dr_plant.proofs.StateLemmas.{block-after_read}
 use Rattle.dr_config.specs.Table.{ConfigTable, StandsFor, place_of}
 use Rattle.dr_config.specs.declared.entries.VolumeEntry.{VolumeEntry}
 use Rattle.dr_model.specs.Control.{Volume}
 use Rattle.dr_model.specs.ReadStops.{shut}
-use Rattle.dr_volume.specs.View.{Rest, world, volume_seen, device_of, IsSettled}
+use Rattle.dr_volume.specs.View.{Rest, world, volume_seen, device_of}
 use Rattle.dr_volume.specs.Update.{IsAsBefore}
 use Rattle.dr_volume.proofs.VolumeLaws.{placed, volume-placed, device-placed}
 use Rattle.dr_volume.proofs.RanLaws.{ran, ran-stands, read-stops}
 use Rattle.dr_volume.proofs.SeenLaws.{Lies, others-stay}
 use Rattle.dr_volume.proofs.UpdateLaws.{idle, burnt-world, server-seen}
 use Rattle.dr_volume.proofs.RedoLaws.{same-all}
-use Rattle.dr_volume.proofs.SettledLaws.{settled-along}
 use Rattle.dr_logic.proofs.Truth.{and-second-false}
 
 pub record Unread (c : ConfigTable) (s t : PlantState) (v : ℕ) : Type 0 where
   pub shuts : (r : Rest) → world t c r ≡ shut (world s c r) (volume_seen s c v).server
   pub same : (u : ℕ) → IsAsBefore s t c u
   pub stands : StandsFor c t
-  pub settled : (u : ℕ) → IsSettled s c u → IsSettled t c u
   pub unarmed : (q : ℕ) → s.read_fuse q ≡ None → t.read_fuse q ≡ None
   pub low : (volume_seen s c v).server < 8
   pub armed : s.on (volume_seen s c v).server ≡ true → is_some (s.read_fuse (volume_seen s c v).server) ≡ true
@@ -54,7 +51,6 @@ unread c s t v defined few stands stuck is =
       shuts = λ rest. ap (λ u. world u c rest) is ∙ burnt-world c s v d x.0 rest x.1 (subst (λ u. (q : ℕ) → (q ≡ v → ⊥) → IsAsBefore s u c q) is others) stuck ∙ ap (λ o. shut (world s c rest) o) (sym server);
       same = same-all c s t v (subst (λ u. IsAsBefore s u c v) (sym is) (idle c s v d x.0 x.1)) others;
       stands = ran-stands c s t d true r stands;
-      settled = settled-along c s t (ap (λ (u : PlantState). u.block) is ∙ block-after_read s d) r.was_on;
       unarmed = r.unarmed;
       low = subst (λ o. o < 8) (sym server) x.1.low;
       armed = λ up. subst (λ o. s.on o ≡ true → is_some (s.read_fuse o) ≡ true) (sym server) (λ on. armed-of (s.read_fuse (s.owner d)) (and-second-false (s.on (s.owner d)) _ stuck on)) up;

@@ -1,6 +1,6 @@
 -- The laws of reading a volume: what its device's chosen slot gives is what the machine sees.
 use Rattle.std.proofs.Common.{ℕ, ◌≡◌, ◌≤◌, ◌<◌, ◌+◌, ◌/◌, ◌%◌, ◌^◌, Bool, true, false, arith, sym, ◌∙◌, ap, refl, subst, nat_eq, Option, None, Some}
-use Rattle.std.specs.Prelude.{is_some, option_map, slice_get, unwrap_or, if◌then◌else◌, IfSome}
+use Rattle.std.specs.Prelude.{is_some, option_map, slice_get, unwrap_or, if◌then◌else◌}
 use Rattle.dr_plant.specs.State.{PlantState, HasBlock}
 use Rattle.dr_record.specs.Taken.{taken_from}
 use Rattle.dr_record.specs.Slots.{Chooses, slot_of}
@@ -11,7 +11,6 @@ use Rattle.dr_config.proofs.Lists.{position-within}
 use Rattle.dr_config.proofs.Lookups.{entry-at-place}
 use Rattle.dr_plant.specs.declared.plant.DeviceId.{DeviceId}
 use Rattle.dr_model.specs.Control.{Volume}
-use Rattle.dr_model.specs.Moves.{Carried}
 use Rattle.dr_model.specs.Layout as layout
 use Rattle.dr_model.specs.Layout.{Blocks, chosen, slot_chosen, slot_begin, only_if}
 use Rattle.std.specs.FinSet.{contains}
@@ -33,6 +32,13 @@ entry_of_tracks (Some e) n is = (e, refl, (cc is))
 -- the entry of a volume that is defined
 pub entry : (t : ConfigTable) (v d n : ℕ) → LiesOn t v d n → (e : VolumeEntry) × (slice_get t.volumes d ≡ Some e) × (e.tracks ≡ n)
 entry t v d n lies = entry_of_tracks (slice_get t.volumes d) n lies.tracks
+
+pub tracks-of : (t : ConfigTable) (v d n : ℕ) → LiesOn t v d n → (e : VolumeEntry) → slice_get t.volumes d ≡ Some e → e.tracks ≡ n
+tracks-of t v d n lies e is =
+    let x = entry t v d n lies in
+    let same : Some x.0 ≡ Some e = sym x.1 ∙ is in
+    let one : x.0 ≡ e = cc in
+    ap (λ (y : VolumeEntry). y.tracks) (sym one) ∙ x.2
 
 device_found : (o : Option DeviceId) (d : DeviceId) (p : Option ℕ) → option_map (λ (x : DeviceId). x.0) o ≡ p → o ≡ Some d → p ≡ Some d.0
 device_found o d p place is = sym place ∙ ap (λ q. option_map (λ (x : DeviceId). x.0) q) is
@@ -113,7 +119,7 @@ shows-normal s t v d n f lies is =
     }
 
 -- A track that is staged reads as the staged bytes, else one that is blank as zeros, else as its own block.
-physical_is : (n : ℕ) (b : Blocks) (k : ℕ) → layout.physical n b k ≡ (if layout.is_staged (layout.staged n b) k then chosen b 5 else if contains (layout.fields n b).blank k then zeros else b (13 + k))
+pub physical_is : (n : ℕ) (b : Blocks) (k : ℕ) → layout.physical n b k ≡ (if layout.is_staged (layout.staged n b) k then chosen b 5 else if contains (layout.fields n b).blank k then zeros else b (13 + k))
 unfolding layout.physical
 physical_is n b k = refl
 
@@ -190,16 +196,3 @@ device-lies s t v d n lies stands =
     let device = device-stands s t v d e.0 lies.place e.1 stands in
     let size = device.1 in
     record { device = device.0; blocks = omega arith }
-
-track-room : (m : Carried) (n size : ℕ) → n ≤ 256 → size ≡ 13 + n → IfSome m (λ t. t.0 < n) → IfSome m (λ t. (t.0 < 256) × (13 + t.0 < size))
-track-room None n size few is within = tt
-track-room (Some t) n size few is within = ((omega arith), (omega arith))
-
-pub room-lies : (s : PlantState) (t : ConfigTable) (v d n : ℕ) (m : Carried) → LiesOn t v d n → StandsFor t s → IfSome m (λ k. k.0 < (volume_seen s t v).tracks) → IfSome m (λ k. (k.0 < 256) × (13 + k.0 < s.size d))
-room-lies s t v d n m lies stands within =
-    let e = entry t v d n lies in
-    let few : n ≤ 256 = lies.few in
-    let tracks : e.0.tracks ≡ n = e.2 in
-    let device = device-stands s t v d e.0 lies.place e.1 stands in
-    track-room m e.0.tracks (s.size d) (omega arith) device.1
-    (subst (λ (w : Volume). IfSome m (λ k. k.0 < w.tracks)) (volume-placed s t v d e.0 lies.place e.1) within)

@@ -10,13 +10,13 @@ use Rattle.dr_plant.specs.State.{PlantState}
 use Rattle.dr_plant.specs.declared.plant.WriteFuse.{WriteFuse}
 use Rattle.dr_record.specs.Writes.{write_fuse_after}
 use Rattle.dr_config.specs.Table.{ConfigTable}
-use Rattle.dr_model.specs.Control.{World, Volume}
+use Rattle.dr_model.specs.Control.{World}
 use Rattle.dr_model.specs.Layout as layout
-use Rattle.dr_model.specs.Moves.{Carried, moved, tracks_after, updated}
+use Rattle.dr_model.specs.Moves.{Carried, moved_keeping, tracks_after, updated_keeping}
 use Rattle.dr_model.specs.Carry as machine
 use Rattle.dr_model.specs.Carry.{Ended, ended}
 use Rattle.dr_volume.specs.View.{Rest, world, on_seen, fuses_seen, fuse_seen, volume_seen, track_seen, ids_of}
-use Rattle.dr_volume.specs.Update.{IsAsBefore, IsMoved, OthersStay}
+use Rattle.dr_volume.specs.Update.{IsAsBefore, IsMovedKeeping, OthersStay}
 use Rattle.dr_config.specs.declared.entries.VolumeEntry.{VolumeEntry}
 use Rattle.dr_config.proofs.KeyLaws.{eqb-turned}
 use Rattle.dr_logic.proofs.Tables.{at_same, at_other}
@@ -98,65 +98,42 @@ shown-before s t c r v here there =
     let tracks = table_same (track_seen s c) (track_seen t c) v here.tracks (λ q ne. (there q ne).tracks) in
     λ i. record (world s c r) { control = record (world s c r).control { volume = volumes i }; contents = tracks i }
 
-pub shown-moved : (s t : PlantState) (c : ConfigTable) (r : Rest) (v : ℕ) (f : layout.Fields) (m : Carried) → IsMoved s t c v f m → OthersStay s t c v → shown s t c r ≡ updated (world s c r) v f m
-shown-moved s t c r v f m here there =
-    let volumes = table_at (volume_seen s c) (volume_seen t c) v (moved (volume_seen s c v) f m) here.volume (λ q ne. (there q ne).volume) in
+pub shown-moved : (s t : PlantState) (c : ConfigTable) (r : Rest) (v : ℕ) (keeps : Bool) (f : layout.Fields) (m : Carried) → IsMovedKeeping keeps s t c v f m → OthersStay s t c v → shown s t c r ≡ updated_keeping keeps (world s c r) v f m
+shown-moved s t c r v keeps f m here there =
+    let volumes = table_at (volume_seen s c) (volume_seen t c) v (moved_keeping keeps (volume_seen s c v) f m) here.volume (λ q ne. (there q ne).volume) in
     let tracks = table_at (track_seen s c) (track_seen t c) v (tracks_after f m (track_seen s c v)) here.tracks (λ q ne. (there q ne).tracks) in
     λ i. record (world s c r) { control = record (world s c r).control { volume = volumes i }; contents = tracks i }
 
 -- The machine's update, by whether the server is on, whether the writes pass, and whether a stopped move counts.
-pub update-off : (w : World) (v : ℕ) (f : layout.Fields) (m : Carried) (o : ℕ) → (w.control.volume v).server ≡ o → w.control.on o ≡ false → machine.update w v f m ≡ ended w true false
-unfolding machine.update
-update-off w v f m o is h =
-    let off = ap w.control.on is ∙ h in
-    ap (λ b. if not b then ended w true false
-    else if machine.pass (w.control.fuse (w.control.volume v).server) (machine.writes m) then ended (machine.spent (updated w v f m) (w.control.volume v).server (machine.writes m)) false true
-    else if machine.counts_by (w.control.fuse (w.control.volume v).server) (not (w.control.volume v).slot) then ended (machine.off (updated w v f m) (w.control.volume v).server) true true
-    else ended (machine.off w (w.control.volume v).server) true false) off
+module _ (keeps : Bool) (w : World) (v : ℕ) (f : layout.Fields) (m : Carried) where
+  abbrev n : ℕ
+  n = machine.writes (w.control.volume v) f m
 
-pub update-passed : (w : World) (v : ℕ) (f : layout.Fields) (m : Carried) (o : ℕ) → (w.control.volume v).server ≡ o → w.control.on o ≡ true → machine.pass (w.control.fuse o) (machine.writes m) ≡ true → machine.update w v f m ≡ ended (machine.spent (updated w v f m) o (machine.writes m)) false true
-unfolding machine.update
-update-passed w v f m o is on pass =
-    (λ i. if not (w.control.on (is i)) then ended w true false
-    else if machine.pass (w.control.fuse (is i)) (machine.writes m) then ended (machine.spent (updated w v f m) (is i) (machine.writes m)) false true
-    else if machine.counts_by (w.control.fuse (is i)) (not (w.control.volume v).slot) then ended (machine.off (updated w v f m) (is i)) true true
-    else ended (machine.off w (is i)) true false)
-    ∙ (λ i. if not (on i) then ended w true false
-    else if pass i then ended (machine.spent (updated w v f m) o (machine.writes m)) false true
-    else if machine.counts_by (w.control.fuse o) (not (w.control.volume v).slot) then ended (machine.off (updated w v f m) o) true true
-    else ended (machine.off w o) true false)
+  abbrev new : World
+  new = updated_keeping keeps w v f m
 
-pub update-cut_short : (w : World) (v : ℕ) (f : layout.Fields) (m : Carried) (o : ℕ) (done : Bool) → (w.control.volume v).server ≡ o → w.control.on o ≡ true → machine.pass (w.control.fuse o) (machine.writes m) ≡ false → machine.counts_by (w.control.fuse o) (not (w.control.volume v).slot) ≡ done → machine.update w v f m ≡ (if done then ended (machine.off (updated w v f m) o) true true else ended (machine.off w o) true false)
-unfolding machine.update
-update-cut_short w v f m o done is on pass counts =
-    (λ i. if not (w.control.on (is i)) then ended w true false
-    else if machine.pass (w.control.fuse (is i)) (machine.writes m) then ended (machine.spent (updated w v f m) (is i) (machine.writes m)) false true
-    else if machine.counts_by (w.control.fuse (is i)) (not (w.control.volume v).slot) then ended (machine.off (updated w v f m) (is i)) true true
-    else ended (machine.off w (is i)) true false)
-    ∙ (λ i. if not (on i) then ended w true false
-    else if pass i then ended (machine.spent (updated w v f m) o (machine.writes m)) false true
-    else if counts i then ended (machine.off (updated w v f m) o) true true
-    else ended (machine.off w o) true false)
+  abbrev by : ℕ → Bool → Bool → Bool → Ended
+  by o on pass counts =
+      if not on then ended w true false
+      else if pass then ended (machine.spent new o n) false true
+      else if counts then ended (machine.off new o) true true
+      else ended (machine.off w o) true false
 
--- An update that counts as done is seen by the slot: it is the other one then, and else the same.
-pub done-slot : (w : World) (v : ℕ) (f : layout.Fields) (m : Carried) → ((machine.update w v f m).world.control.volume v).slot ≡ (if (machine.update w v f m).done then not (w.control.volume v).slot else (w.control.volume v).slot)
-unfolding machine.update
-done-slot w v f m =
-    let o = (w.control.volume v).server in
-    let moved_slot = ap (λ (x : Volume). x.slot) (at_same w.control.volume v (moved (w.control.volume v) f m)) in
-    elim (w.control.on o) as (λ on. (let e : Ended = (if not on then ended w true false
-    else if machine.pass (w.control.fuse o) (machine.writes m) then ended (machine.spent (updated w v f m) o (machine.writes m)) false true
-    else if machine.counts_by (w.control.fuse o) (not (w.control.volume v).slot) then ended (machine.off (updated w v f m) o) true true
-    else ended (machine.off w o) true false) in (e.world.control.volume v).slot ≡ (if e.done then not (w.control.volume v).slot else (w.control.volume v).slot))) [
-      | false ↦ refl
-      | true ↦ elim (machine.pass (w.control.fuse o) (machine.writes m)) as (λ p. (let e : Ended = (if p then ended (machine.spent (updated w v f m) o (machine.writes m)) false true
-          else if machine.counts_by (w.control.fuse o) (not (w.control.volume v).slot) then ended (machine.off (updated w v f m) o) true true
-          else ended (machine.off w o) true false) in (e.world.control.volume v).slot ≡ (if e.done then not (w.control.volume v).slot else (w.control.volume v).slot))) [
-            | true ↦ moved_slot
-            | false ↦ elim (machine.counts_by (w.control.fuse o) (not (w.control.volume v).slot)) as (λ p. (let e : Ended = (if p then ended (machine.off (updated w v f m) o) true true
-                else ended (machine.off w o) true false) in (e.world.control.volume v).slot ≡ (if e.done then not (w.control.volume v).slot else (w.control.volume v).slot))) [ true ↦ moved_slot | false ↦ refl ]
-          ]
-    ]
+  abbrev counts : ℕ → Bool
+  counts o = machine.counts_by (machine.gate_at (w.control.volume v) f m) (w.control.fuse o) (not (w.control.volume v).slot)
+
+  update-by : (o : ℕ) → (w.control.volume v).server ≡ o → machine.update_keeping keeps w v f m ≡ by o (w.control.on o) (machine.pass (w.control.fuse o) n) (counts o)
+  unfolding machine.update_keeping
+  update-by o is i = by (is i) (w.control.on (is i)) (machine.pass (w.control.fuse (is i)) n) (counts (is i))
+
+  pub update-off : (o : ℕ) → (w.control.volume v).server ≡ o → w.control.on o ≡ false → machine.update_keeping keeps w v f m ≡ ended w true false
+  update-off o is off = update-by o is ∙ ap (λ on. by o on (machine.pass (w.control.fuse o) n) (counts o)) off
+
+  pub update-passed : (o : ℕ) → (w.control.volume v).server ≡ o → w.control.on o ≡ true → machine.pass (w.control.fuse o) n ≡ true → machine.update_keeping keeps w v f m ≡ ended (machine.spent new o n) false true
+  update-passed o is on pass = update-by o is ∙ (λ i. by o (on i) (pass i) (counts o))
+
+  pub update-cut_short : (o : ℕ) (done : Bool) → (w.control.volume v).server ≡ o → w.control.on o ≡ true → machine.pass (w.control.fuse o) n ≡ false → counts o ≡ done → machine.update_keeping keeps w v f m ≡ (if done then ended (machine.off new o) true true else ended (machine.off w o) true false)
+  update-cut_short o done is on pass counted = update-by o is ∙ (λ i. by o (on i) (pass i) (counted i))
 
 pub any_id : (es : List VolumeEntry) (v : ℕ) → list_any (nat_eq v) (ids_of es) ≡ is_some (find (λ (e : VolumeEntry). e.id == v) es)
 any_id [] v = refl

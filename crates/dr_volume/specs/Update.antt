@@ -1,5 +1,5 @@
 -- What an update of a volume writes to its device, and what it leaves of the volume and of the machine's world.
-use Rattle.std.specs.Prelude.{◌≡◌, ℕ, ◌+◌, Bool, true, false, ◌||◌, List, [], ◌∷◌, ◌++◌, Option, Some, None, if◌then◌else◌, ◌≢◌}
+use Rattle.std.specs.Prelude.{◌≡◌, ℕ, ◌+◌, Bool, true, false, ◌||◌, List, [], ◌∷◌, ◌++◌, Option, Some, None, if◌then◌else◌, ◌≢◌, nat_eq}
 use Rattle.std.specs.FinSet.{contains}
 use Rattle.dr_logic.specs.Bytes.{zeros}
 use Rattle.dr_bits.specs.Tracks.{Tracks}
@@ -10,11 +10,12 @@ use Rattle.dr_config.specs.Table.{ConfigTable}
 use Rattle.dr_model.specs.Layout as layout
 use Rattle.dr_model.specs.Layout.{chosen}
 use Rattle.dr_model.specs.Control.{World}
-use Rattle.dr_model.specs.Carry.{Ended, ended}
+use Rattle.dr_model.specs.Carry.{Ended, ended, update_keeping, redo}
 use Rattle.dr_model.specs.ReadStops.{shut}
-use Rattle.dr_model.specs.Moves.{Carried, is_carried, moved, tracks_after}
+use Rattle.dr_model.specs.Moves.{Carried, is_carried, moved_keeping, tracks_after}
 use Rattle.dr_volume.specs.declared.fields.Fields.{Fields}
-use Rattle.dr_volume.specs.Record.{record_block}
+use Rattle.dr_volume.specs.Plain.{normal}
+use Rattle.dr_volume.specs.Record.{record_block, raw_of}
 use Rattle.dr_volume.specs.View.{volume_seen, track_seen, device_of}
 
 -- the fields that stage the carried track, or none
@@ -22,19 +23,52 @@ abbrev pub staging : Carried → Fields → Fields
 staging None f = record f { staged = None; staged_bytes = zeros }
 staging (Some c) f = record f { staged = Some c.0; staged_bytes = c.1 }
 
--- the staged track of the fields, with its bytes
+-- a staged track, if there is one, with its bytes
 abbrev pub track_with : Option ℕ → List ℕ → Carried
 track_with None bytes = None
 track_with (Some t) bytes = Some (t, bytes)
 
--- the carried track is written to its own block
+-- what fields stage
+abbrev pub stages : Fields → Carried
+stages f = track_with f.staged f.staged_bytes
+
+-- what was staged, with its bytes, unless it is blank now
+abbrev pub kept_filled : Tracks → Carried → Carried
+kept_filled blank None = None
+kept_filled blank (Some o) = if contains blank o.0 then None else Some o
+
+-- what a record stages after a move: the carried track; else, where it is kept, what was staged, unless the next blank set holds it
+abbrev pub staged_next : Bool → Tracks → Carried → Carried → Carried
+staged_next keeps blank None old = if keeps then kept_filled blank old else None
+staged_next keeps blank (Some c) old = Some c
+
+-- the staged track that gives way to another that is carried, with its bytes
+abbrev pub given_way : Carried → Carried → Carried
+given_way None old = None
+given_way (Some c) None = None
+given_way (Some c) (Some o) = if nat_eq o.0 c.0 then None else Some o
+
+-- a track is written to its own block
 abbrev pub track_writes : Carried → List BlockWrite
 track_writes None = []
 track_writes (Some c) = write (13 + c.0) c.1 ∷ []
 
--- the writes of an update: the record into a slot, its gate, and the carried track
-abbrev pub update_writes : Bool → Fields → Carried → List BlockWrite
-update_writes slot f c = record_writes 6 slot (record_block f) ++ track_writes c
+-- the fields that a move writes, where that was staged
+abbrev pub next_record : Bool → Carried → Fields → Carried → Fields
+next_record keeps old f c = staging (staged_next keeps f.blank c old) f
+
+-- the writes of a move that keeps what is staged, or doesn't: the track that gives way, then the record into a slot, and its gate
+abbrev pub writes_keeping : Bool → Bool → Carried → Fields → Carried → List BlockWrite
+writes_keeping keeps slot old f c = track_writes (given_way c old) ++ record_writes 6 slot (record_block (next_record keeps old f c))
+
+-- the writes of an update
+abbrev pub update_writes : Bool → Carried → Fields → Carried → List BlockWrite
+update_writes slot old f c = writes_keeping true slot old f c
+
+-- the writes of a volume's staged track to its place, and then of a record that stages none
+abbrev pub destage_writes : Bool → Carried → Fields → List BlockWrite
+destage_writes slot None f = []
+destage_writes slot (Some o) f = track_writes (Some o) ++ record_writes 6 slot (record_block (staging None f))
 
 -- the device is read, and then these writes are done in order until one is stopped: what that leaves, and whether the
 -- read or a write was stopped
@@ -50,10 +84,19 @@ pub record IsAsBefore (s t : PlantState) (c : ConfigTable) (v : ℕ) : Type 0 wh
   pub volume : volume_seen t c v ≡ volume_seen s c v
   pub tracks : track_seen t c v ≡ track_seen s c v
 
--- From s to t the volume got these fields in its other slot, and this track.
-pub record IsMoved (s t : PlantState) (c : ConfigTable) (v : ℕ) (f : layout.Fields) (m : Carried) : Type 0 where
-  pub volume : volume_seen t c v ≡ moved (volume_seen s c v) f m
+-- From s to t the volume got these fields in its other slot, and this track; it keeps what was staged, or doesn't.
+pub record IsMovedKeeping (keeps : Bool) (s t : PlantState) (c : ConfigTable) (v : ℕ) (f : layout.Fields) (m : Carried) : Type 0 where
+  pub volume : volume_seen t c v ≡ moved_keeping keeps (volume_seen s c v) f m
   pub tracks : track_seen t c v ≡ tracks_after f m (track_seen s c v)
+
+-- From s to t the volume got these fields in its other slot, and this track, and keeps what was staged.
+abbrev pub IsMoved : PlantState → PlantState → ConfigTable → ℕ → layout.Fields → Carried → Type 0
+IsMoved s t c v f m = IsMovedKeeping true s t c v f m
+
+-- From s to t the volume's staged track, if there was one, went to its place, and none is staged.
+abbrev pub IsDestaged : Bool → PlantState → PlantState → ConfigTable → ℕ → Type 0
+IsDestaged true s t c v = IsMovedKeeping false s t c v (volume_seen s c v).fields None
+IsDestaged false s t c v = IsAsBefore s t c v
 
 -- From s to t every volume but v has what it had.
 abbrev pub OthersStay : PlantState → PlantState → ConfigTable → ℕ → Type 0
@@ -78,3 +121,16 @@ pub record ServerStays (s t : PlantState) (server : ℕ) : Type 0 where
   pub on : t.on server ≡ s.on server
   pub write_fuse : t.write_fuse server ≡ s.write_fuse server
   pub read_fuse : t.read_fuse server ≡ s.read_fuse server
+
+-- the fields of a volume as its device gives them, with what is staged
+abbrev pub fields_seen : PlantState → ConfigTable → ℕ → Fields
+fields_seen s c v = normal (volume_seen s c v).tracks (raw_of (chosen (s.block (device_of c v))))
+
+-- a staged track went to its place, which ended so; where it wasn't stopped, a move that changes no field leaves none staged
+abbrev pub unstaged : Option ℕ → ℕ → Ended → Ended
+unstaged None v e = e
+unstaged (Some t) v e = if e.stopped then e else update_keeping false e.world v (e.world.control.volume v).fields None
+
+-- how it ends that a volume's staged track goes to its place, and then none is staged
+abbrev pub destaged : World → ℕ → Ended
+destaged w v = unstaged (w.control.volume v).staged v (redo w v)

@@ -1,5 +1,5 @@
 -- The state of the machine that a plant and its configuration show.
-use Rattle.std.specs.Prelude.{◌≡◌, ℕ, ◌+◌, ◌<◌, Bool, true, List, Option, Some, None, slice_get, nat_lt, unwrap_or, map, if◌then◌else◌}
+use Rattle.std.specs.Prelude.{◌≡◌, ℕ, ◌<◌, Bool, true, List, Option, Some, None, slice_get, nat_lt, unwrap_or, map, if◌then◌else◌}
 use Rattle.dr_logic.specs.Bytes.{zeros}
 use Rattle.dr_plant.specs.State.{PlantState}
 use Rattle.dr_plant.specs.declared.plant.WriteFuse.{WriteFuse}
@@ -9,7 +9,7 @@ use Rattle.dr_config.specs.Table.{ConfigTable, place_of, link_up}
 use Rattle.dr_config.specs.declared.entries.VolumeEntry.{VolumeEntry}
 use Rattle.dr_model.specs.declared.event.Event.{Event}
 use Rattle.dr_model.specs.Sessions.{Session}
-use Rattle.dr_model.specs.Layout.{Blocks, slot_chosen, fields, staged, physical, chosen}
+use Rattle.dr_model.specs.Layout.{Blocks, slot_chosen, fields, staged, physical}
 use Rattle.dr_model.specs.Control.{Control, Fuse, Pending, Volume, World, new_volume}
 
 -- what a run knows beside the plant and the configuration: the writes issued and pending, the sessions, and the journal
@@ -97,15 +97,6 @@ world s t r = record { control = control_seen s t r; contents = track_seen s t; 
 -- the number of a volume's device, 0 where it isn't defined
 abbrev pub device_of : ConfigTable → ℕ → ℕ
 device_of t v = unwrap_or (place_of t v) 0
-
--- a device's staged bytes stand at their track's own place too
-abbrev pub TracksSettled : Blocks → Option ℕ → Type 0
-TracksSettled blocks None = Unit {0}
-TracksSettled blocks (Some t) = blocks (13 + t) ≡ chosen blocks 5
-
--- Where a volume's server is on, its staged track stands at its own place, so that the next move may stage another.
-abbrev pub IsSettled : PlantState → ConfigTable → ℕ → Type 0
-IsSettled s t v = s.on (volume_seen s t v).server ≡ true → TracksSettled (s.block (device_of t v)) (volume_seen s t v).staged
 
 -- no read fuse is armed
 abbrev pub ReadsPass : PlantState → Type 0

@@ -2,6 +2,7 @@
 
 ghost use Rattle.std.specs.Prelude.{◌≡◌, ◌≤◌, ◌+◌, ◌<◌, length, is_some};
 ghost use Rattle.dr_logic.specs.Bytes.{zeros};
+ghost use Rattle.dr_ids.specs.Sizes.{most_tracks};
 ghost use Rattle.dr_model.specs.Layout as layout;
 ghost use Rattle.dr_model.specs.Lawful.{IsLawful};
 ghost use Rattle.dr_volume.specs.Plain.{plain};
@@ -14,7 +15,7 @@ use dr_plant::Block;
 
 /// The fields of a volume with so many tracks, from all blocks of its device.
 pub fn from_blocks(tracks: u16, blocks: &[Block]) -> Fields
-    requires few { tracks ≤ 256 }
+    requires few { tracks ≤ most_tracks }
     requires sized { length blocks.now ≡ 13 + tracks }
     ensures fields { plain result ≡ layout.fields tracks (listed blocks.now) }
     ensures staged { result.staged ≡ layout.staged tracks (listed blocks.now) }

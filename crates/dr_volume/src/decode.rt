@@ -2,6 +2,7 @@
 
 ghost use Rattle.std.specs.Prelude.{◌≡◌, ◌<◌, ◌≤◌, ◌+◌, length, take, drop};
 ghost use Rattle.std.specs.FinSet.{empty, intersection};
+ghost use Rattle.dr_ids.specs.Sizes.{most_tracks};
 ghost use Rattle.dr_bits.specs.Tracks.{of_bytes};
 ghost use Rattle.dr_model.specs.Layout as layout;
 ghost use Rattle.dr_record.specs.Writes.{IsDevice};
@@ -20,7 +21,7 @@ use dr_plant::{Block, Plant};
 
 /// The fields of the volume that lies there, whether or not its server is on.
 pub(crate) fn fields_on<P: Plant>(plant: &P, place: Place) -> Fields
-    requires few { place.tracks ≤ 256 }
+    requires few { place.tracks ≤ most_tracks }
     requires device { IsDevice (P.state plant.now) place.device.0 13 }
     ensures { result ≡ plain.normal place.tracks (raw_of (layout.chosen ((P.state plant.now).block place.device.0))) }
 {
@@ -40,7 +41,7 @@ pub(crate) fn fields_on<P: Plant>(plant: &P, place: Place) -> Fields
 /// The fields of a volume with so many tracks, from the six blocks of its slot.
 #[tactic(auto, unfolding(crate::specs::Plain::normal, crate::specs::Record::with_head, crate::specs::Record::no_record, dr_model::specs::Layout::fields_of))]
 pub(crate) fn fields_in(tracks: u16, slot: &[Block]) -> Fields
-    requires few { tracks ≤ 256 }
+    requires few { tracks ≤ most_tracks }
     requires six { length slot.now ≡ 6 }
     ensures { result ≡ plain.normal tracks (raw_of (listed slot.now)) }
 {
@@ -97,8 +98,8 @@ pub(crate) fn staged_in(head: &Block) -> Option<u16>
     }
 }
 
-// A staged track that the volume has, else none.
-fn below(tracks: u16, staged: Option<u16>) -> Option<u16>
+/// A staged track that the volume has, else none.
+pub(crate) fn below(tracks: u16, staged: Option<u16>) -> Option<u16>
     ensures { result ≡ plain.staged_below tracks staged }
 {
     match staged {

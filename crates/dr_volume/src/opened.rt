@@ -1,8 +1,9 @@
 //! A volume that was read for a move: its record is read once, and its tracks are read and its move
 //! is made by what was read.
 
-ghost use Rattle.std.specs.Prelude.{◌≡◌, ◌≢◌, ℕ, ◌<◌, ◌+◌, not, true, false, None, IsSome, IfSome, IfOk, OnOk, OnErr, is_ok, is_err, ◌⊎◌, if◌then◌else◌};
+ghost use Rattle.std.specs.Prelude.{◌≡◌, ◌≢◌, ℕ, List, ◌<◌, ◌≤◌, ◌+◌, not, true, false, None, IsSome, IfSome, IfOk, OnOk, OnErr, is_ok, is_err, ◌⊎◌, if◌then◌else◌};
 ghost use Rattle.dr_logic.specs.Counts.{risen};
+ghost use Rattle.dr_ids.specs.Sizes.{most_tracks};
 ghost use Rattle.dr_plant.specs.State.{after_read, can_read};
 ghost use Rattle.dr_record.specs.Writes.{IsDevice, after_writes};
 ghost use Rattle.dr_record.specs.Slots.{slot_of};
@@ -11,15 +12,17 @@ ghost use Rattle.dr_model.specs.Carry as machine;
 ghost use Rattle.dr_model.specs.Lawful.{IsLawful};
 ghost use Rattle.dr_model.specs.Layout as layout;
 ghost use Rattle.dr_volume.specs.Plain.{plain};
-ghost use Rattle.dr_volume.specs.View.{Rest, world, volume_seen, track_seen, device_of, IsSettled};
+ghost use Rattle.dr_volume.specs.View.{Rest, world, volume_seen, track_seen, device_of};
 ghost use Rattle.dr_volume.specs.Volume.{LiesOn, Shows};
-ghost use Rattle.dr_volume.specs.Update.{staging, track_writes, update_writes, Covers, IsAsBefore, IsMoved, OthersStay, EndsAs, ServerStays};
+ghost use Rattle.dr_volume.specs.Update.{track_with, stages, staging, kept_filled, staged_next, given_way, track_writes, next_record, update_writes, staged_seen, Covers, IsAsBefore, IsMoved, OthersStay, EndsAs, ServerStays};
 ghost use Rattle.dr_volume.specs.Opened.{IsGate, IsOpened, OthersOpened, in_own_block};
 
+use crate::blocks::begin_of;
 use crate::codes::zero_block;
-use crate::decode::fields_on;
+use crate::decode::{below, fields_on, staged_in};
 use crate::fields::Fields;
-use crate::place::{FIRST_TRACK, device_of, find, tell_sound};
+use crate::place::{FIRST_TRACK, Place, device_of, find, tell_sound};
+use dr_bits::TrackSet;
 use dr_config::Config;
 use dr_ids::VolumeId;
 use dr_plant::{Block, DeviceId, Plant, Stopped};
@@ -144,8 +147,8 @@ impl Gate {
     }
 
     /// Gives the volume other fields and, where one is given, a track with its bytes: the move of
-    /// `update`, which reads nothing. Gate and fields become what the move leaves, so that another
-    /// may follow, and so may the moves of other volumes that were opened before. Fails where the volume's
+    /// `update`, which reads nothing: what the fields stage is what the volume does. Gate and fields become what the move
+    /// leaves, so that another may follow, and so may the moves of other volumes that were opened before. Fails where the volume's
     /// server is off or stops within the move; then the volume is to be opened again.
     pub fn change<P: Plant>(
         &mut self,
@@ -160,9 +163,9 @@ impl Gate {
         requires gate { IsGate (P.state plant.old) config.now v.0 self.old }
         requires lawful { IsLawful (volume_seen (P.state plant.old) config.now v.0).tracks (plain next.old) }
         requires within { IfSome staged (λ t. t.0 < (volume_seen (P.state plant.old) config.now v.0).tracks) }
-        requires settled { IsSettled (P.state plant.old) config.now v.0 }
+        requires staged { stages next.old ≡ staged_seen (P.state plant.old) config.now v.0 }
         requires covers { Covers (volume_seen (P.state plant.old) config.now v.0).fields.blank next.old.blank staged }
-        ensures written { after_writes (P.state plant.old) (device_of config.now v.0) (update_writes (not (volume_seen (P.state plant.old) config.now v.0).slot) (staging staged next.old) staged) ≡ (P.state plant.new, is_err result) }
+        ensures written { after_writes (P.state plant.old) (device_of config.now v.0) (update_writes (not (volume_seen (P.state plant.old) config.now v.0).slot) (staged_seen (P.state plant.old) config.now v.0) next.old staged) ≡ (P.state plant.new, is_err result) }
         ensures exact { (r : Rest) → EndsAs (world (P.state plant.new) config.now r) (is_err result) (machine.update (world (P.state plant.old) config.now r) v.0 (plain next.old) staged) }
         ensures opened { OnOk result (IsOpened (P.state plant.new) config.now v.0 (record { gate = self.new; fields = next.new })) }
         ensures others_opened { OthersOpened (P.state plant.old) (P.state plant.new) config.now v.0 }
@@ -171,7 +174,6 @@ impl Gate {
         ensures others { OthersStay (P.state plant.old) (P.state plant.new) config.now v.0 }
         ensures stands { StandsFor config.now (P.state plant.new) }
         ensures unarmed { (q : ℕ) → (P.state plant.old).read_fuse q ≡ None → (P.state plant.new).read_fuse q ≡ None }
-        ensures settled { (u : ℕ) → IsSettled (P.state plant.old) config.now u → IsSettled (P.state plant.new) config.now u }
         ensures servers { (q : ℕ) → q ≢ (volume_seen (P.state plant.old) config.now v.0).server → ServerStays (P.state plant.old) (P.state plant.new) q }
         ensures on { OnOk result ((P.state plant.new).on ≡ (P.state plant.old).on) }
         ensures off { OnErr result ((P.state plant.new).on (volume_seen (P.state plant.old) config.now v.0).server ≡ false) }
@@ -180,7 +182,6 @@ impl Gate {
     {
         tell_sound(config);
         let slot = self.slot;
-        stage(next, &staged);
         self.slot = !slot;
         rewrite(plant, self.device, slot, next, &staged)
     }
@@ -195,11 +196,40 @@ pub(crate) fn is_staged(staged: Option<u16>, t: u16) -> bool
     }
 }
 
-// Fields stage the carried track in place of what they staged.
-fn stage(fields: &mut Fields, carried: &Option<(u16, Block)>)
-    ensures { fields.new ≡ staging carried.now fields.old }
+/// The track that the slot of a volume stages, with its bytes.
+pub(crate) fn staged_on<P: Plant>(plant: &P, place: Place, slot: bool) -> Option<(u16, Block)>
+    requires few { place.tracks ≤ most_tracks }
+    requires device { IsDevice (P.state plant.now) place.device.0 13 }
+    requires chosen { slot_of (P.state plant.now) place.device.0 ≡ slot }
+    ensures { result ≡ track_with (layout.staged place.tracks ((P.state plant.now).block place.device.0)) (layout.chosen ((P.state plant.now).block place.device.0) 5) }
 {
-    match carried {
+    let begin = begin_of(slot);
+    let head = plant.peek(place.device, begin);
+    let bytes = plant.peek(place.device, begin + 5);
+    match below(place.tracks, staged_in(&head)) {
+        Some(track) => Some((track, bytes)),
+        None => None,
+    }
+}
+
+/// The track that fields stage, with its bytes.
+pub(crate) fn staged_track(fields: &Fields) -> Option<(u16, Block)>
+    ensures { result ≡ stages fields.now }
+{
+    match fields.staged {
+        Some(t) => {
+            let bytes = fields.staged_bytes;
+            Some((t, bytes))
+        }
+        None => None,
+    }
+}
+
+/// Fields stage a track, or none, in place of what they staged.
+pub(crate) fn stage(fields: &mut Fields, track: &Option<(u16, Block)>)
+    ensures { fields.new ≡ staging track.now fields.old }
+{
+    match track {
         Some(track) => {
             fields.staged = Some(track.0);
             fields.staged_bytes = track.1;
@@ -211,31 +241,73 @@ fn stage(fields: &mut Fields, carried: &Option<(u16, Block)>)
     }
 }
 
-// Writes the next fields to the slot that isn't `slot`, which the device chooses, then the gate, then the track.
-fn rewrite<P: Plant>(
+// Fields stage what they do after a move that carries that track, or none. What stays staged isn't copied.
+fn stage_next(fields: &mut Fields, carried: &Option<(u16, Block)>)
+    ensures { fields.new ≡ next_record true (stages fields.old) fields.old carried.now }
+{
+    match (carried, fields.staged) {
+        (Some(_), _) => stage(fields, carried),
+        (None, Some(t)) if !fields.blank.contains(t) => {}
+        _ => stage(fields, &None),
+    }
+}
+
+// The staged track that gives way to another that is carried.
+fn giving_way(carried: &Option<(u16, Block)>, staged: Option<u16>) -> Option<u16>
+    ensures { (bytes : List ℕ) → track_with result bytes ≡ given_way carried.now (track_with staged bytes) }
+{
+    match (carried, staged) {
+        (Some(track), Some(t)) if t != track.0 => Some(t),
+        _ => None,
+    }
+}
+
+// Writes the track that fields stage to its own block, where it gives way to another that is carried.
+fn make_way<P: Plant>(
+    plant: &mut P,
+    device: DeviceId,
+    fields: &Fields,
+    carried: &Option<(u16, Block)>,
+) -> Result<(), Stopped>
+    requires device { device.0 < (P.state plant.old).count }
+    requires track { IfSome (stages fields.now) (λ t. (t.0 < most_tracks) × (13 + t.0 < (P.state plant.old).size device.0)) }
+    ensures { after_writes (P.state plant.old) device.0 (track_writes (given_way carried.now (stages fields.now))) ≡ (P.state plant.new, is_err result) }
+{
+    match giving_way(carried, fields.staged) {
+        Some(t) => plant.write(device, FIRST_TRACK + t, &fields.staged_bytes),
+        None => Ok(()),
+    }
+}
+
+/// Writes the staged track that gives way to its own block, then the next fields, with what is staged then, to the slot that
+/// isn't `slot`, which the device chooses, then the gate. What the next fields stage is what was staged.
+pub(crate) fn rewrite<P: Plant>(
     plant: &mut P,
     device: DeviceId,
     slot: bool,
-    next: &Fields,
+    next: &mut Fields,
     carried: &Option<(u16, Block)>,
 ) -> Result<(), Stopped>
     requires device { IsDevice (P.state plant.old) device.0 13 }
     requires chosen { slot_of (P.state plant.old) device.0 ≡ slot }
-    requires track { IfSome carried.now (λ t. (t.0 < 256) × (13 + t.0 < (P.state plant.old).size device.0)) }
-    ensures { after_writes (P.state plant.old) device.0 (update_writes (not (slot_of (P.state plant.old) device.0)) next.now carried.now) ≡ (P.state plant.new, is_err result) }
+    requires track { IfSome (stages next.old) (λ t. (t.0 < most_tracks) × (13 + t.0 < (P.state plant.old).size device.0)) }
+    ensures staged { next.new ≡ next_record true (stages next.old) next.old carried.now }
+    ensures written { after_writes (P.state plant.old) device.0 (update_writes (not (slot_of (P.state plant.old) device.0)) (stages next.old) next.old carried.now) ≡ (P.state plant.new, is_err result) }
 {
-    put(plant, device, slot, next)?;
-    write_track(plant, device, carried)
+    let way = make_way(plant, device, next, carried);
+    stage_next(next, carried);
+    way?;
+    put(plant, device, slot, next)
 }
 
-// Writes a track to its own block.
+/// Writes a track to its own block.
 pub(crate) fn write_track<P: Plant>(
     plant: &mut P,
     device: DeviceId,
     carried: &Option<(u16, Block)>,
 ) -> Result<(), Stopped>
     requires device { device.0 < (P.state plant.old).count }
-    requires track { IfSome carried.now (λ t. (t.0 < 256) × (13 + t.0 < (P.state plant.old).size device.0)) }
+    requires track { IfSome carried.now (λ t. (t.0 < most_tracks) × (13 + t.0 < (P.state plant.old).size device.0)) }
     ensures { after_writes (P.state plant.old) device.0 (track_writes carried.now) ≡ (P.state plant.new, is_err result) }
 {
     match carried {

@@ -2,27 +2,28 @@
 use Rattle.std.specs.FinSet.{contains, contains-empty}
 use Rattle.std.proofs.Common.{ℕ, suc, zero, ◌≡◌, ◌≤◌, ◌+◌, refl, ap, ◌∙◌, sym, subst, arith, Bool, true, false, cond, nat_cmp, Option, Some, None}
 use Rattle.dr_logic.specs.Tables.{at}
+use Rattle.dr_ids.specs.Sizes.{most_tracks}
 use Rattle.dr_plant.specs.State.{PlantState, with_device, started, after_read, faulted, off, can_read}
 use Rattle.dr_config.specs.Table.{ConfigTable, place_of, StandsFor}
 use Rattle.dr_config.proofs.Devices.{stands-along}
 use Rattle.dr_model.specs.Control.{Volume}
 use Rattle.dr_model.specs.Layout.{Blocks, Fields, no_fields}
-use Rattle.dr_volume.specs.View.{volume_at, volume_on, device_of, TracksSettled}
+use Rattle.dr_volume.specs.View.{volume_at, volume_on}
 use Rattle.drsim.specs.Two.{AreReady, two, small}
 use Rattle.dr_steps.proofs.ZeroDevice.{zero_blocks, volume-zeros}
 
 -- as it was defined, or no volume
 abbrev IsNew : Volume → Type 0
-IsNew x = (x.fields ≡ no_fields) × (x.staged ≡ None) × (x.tracks ≤ 256)
+IsNew x = (x.fields ≡ no_fields) × (x.tracks ≤ most_tracks)
 
 new-on : (b : Blocks) (v : ℕ) → b ≡ zero_blocks → IsNew (volume_on b (Some (small v)))
-new-on b v z = subst IsNew (sym (ap (λ x. volume_on x (Some (small v))) z ∙ volume-zeros (small v))) (refl, refl, omega arith)
+new-on b v z = subst IsNew (sym (ap (λ x. volume_on x (Some (small v))) z ∙ volume-zeros (small v))) (refl, omega arith)
 
 new-at : (s : PlantState) → s.block 0 ≡ zero_blocks → s.block 1 ≡ zero_blocks → (o : Option ℕ) → IsNew (volume_at s two o)
-new-at s z0 z1 None = (refl, refl, omega arith)
+new-at s z0 z1 None = (refl, omega arith)
 new-at s z0 z1 (Some zero) = new-on (s.block 0) 4096 z0
 new-at s z0 z1 (Some (suc zero)) = new-on (s.block 1) 4097 z1
-new-at s z0 z1 (Some (suc (suc d))) = (refl, refl, omega arith)
+new-at s z0 z1 (Some (suc (suc d))) = (refl, omega arith)
 
 -- the two devices, of zeros
 blocks-two : (b : ℕ → Blocks) (c : ℕ) → 0 ≡ c → (at (at b c zero_blocks) (c + 1) zero_blocks 0 ≡ zero_blocks) × (at (at b c zero_blocks) (c + 1) zero_blocks 1 ≡ zero_blocks)
@@ -33,7 +34,7 @@ ready-new s z0 z1 stands =
     let new = λ (u : ℕ). new-at s z0 z1 (place_of two u) in
     record {
       table = refl;
-      rest = record { stands = stands; settled = λ v on. subst (λ o. TracksSettled (s.block (device_of two v)) o) (sym (new v).1) tt; sizes = λ v. (new v).2 };
+      rest = record { stands = stands; sizes = λ v. (new v).1 };
       fit = record {
         source = λ v is. absurd (let never : false ≡ true = sym (ap (λ (f : Fields). f.related) (new v).0) ∙ is in cc);
         apart = λ v k is. absurd (let never : false ≡ true = sym (contains-empty nat_cmp k) ∙ sym (ap (λ (f : Fields). contains f.own k) (new v).0) ∙ is in cc);

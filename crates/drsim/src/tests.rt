@@ -341,7 +341,7 @@ fn reads_and_writes_that_fail(rt: HostRuntime) -> Result<(), AllocError> {
         recovery_that_fails(&rt, rt.alloc(), call)?;
     }
     for after in 0..21 {
-        let done = after >= 9;
+        let done = after >= 8;
         let source = if done { 2 } else { 1 };
         assert_eq!(rt;
             stopped_at(rt.alloc(), after)?,
@@ -535,26 +535,26 @@ impl<'a> io::Read for Counting<'a> {
 
 /// Lines of one move each, or of few, behind those above, and how many blocks each of them may read.
 const LINES: [(&str, u32); 20] = [
-    ("mkpprc -type gcp -mode full 1000:2000", 52),
-    ("@write 1000 0 0 41", 16),
-    ("@drain 1000 all", 61),
-    ("mksession -lss 10 -volume 1000 01", 34),
+    ("mkpprc -type gcp -mode full 1000:2000", 32),
+    ("@write 1000 0 0 41", 15),
+    ("@drain 1000 all", 56),
+    ("mksession -lss 10 -volume 1000 01", 24),
     ("mkgmir -lss 10 -session 01", 0),
-    ("@run 01 1", 88),
+    ("@run 01 1", 86),
     ("rmgmir -lss 10 -session 01", 0),
     ("chsession -lss 10 -action remove -volume 1000 01", 8),
-    ("pausepprc 1000:2000", 30),
-    ("resumepprc -type gcp 1000:2000", 44),
-    ("failoverpprc -type gcp 2000:1000", 15),
-    ("pausepprc 1000:2000", 22),
-    ("failbackpprc -type gcp 2000:1000", 68),
+    ("pausepprc 1000:2000", 20),
+    ("resumepprc -type gcp 1000:2000", 34),
+    ("failoverpprc -type gcp 2000:1000", 10),
+    ("pausepprc 1000:2000", 12),
+    ("failbackpprc -type gcp 2000:1000", 58),
     ("@stop A", 0),
     ("@start A", 15),
-    ("rmpprc 2000:1000", 30),
-    ("@write 2000 0 0 42", 44),
+    ("rmpprc 2000:1000", 20),
+    ("@write 2000 0 0 42", 38),
     ("@show 3000 0", 8),
-    ("resyncflash -record 2000:3000", 18),
-    ("rmflash 2000:3000", 9),
+    ("resyncflash -record 2000:3000", 12),
+    ("rmflash 2000:3000", 10),
 ];
 
 /// No record is read twice for one move: its gate by a read, and gate and slot by looks; of a track that is carried, what tells where

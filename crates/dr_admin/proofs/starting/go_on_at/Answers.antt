@@ -1,10 +1,10 @@
-use Rattle.std.proofs.Common.{◌≡◌, sym, ap, ◌∙◌, subst, Some, option_map}
-use Rattle.std.specs.Prelude.{IfSome}
+use Rattle.std.proofs.Common.{◌≡◌, arith, refl, sym, ap, ◌∙◌, subst, Some, option_map}
+use Rattle.std.specs.Prelude.{IfSome, Err, is_some}
 use Rattle.dr_ids.specs.declared.names.VolumeId.{VolumeId}
 use Rattle.dr_config.specs.Table.{place_of}
 use Rattle.dr_moves.specs.Here.{world_seen, refusal_of}
 use Rattle.dr_moves.proofs.TurnLemmas.{ok-along, err-along}
-use Rattle.dr_admin.proofs.StartLemmas.{started-skip, started-goes, started-fails, started-stops, starting-skip, stayed-then, stayed-same}
+use Rattle.dr_admin.proofs.StartLemmas.{started-skip, started-goes, started-fails, started-stops, stayed-then, stayed-same}
 use Rattle.dr_admin.proofs.starting.go_on_at.Goals as goal
 
 pub returns-then-not-belongs-clause-goes : goal.returns-then-not-belongs-clause-goes
@@ -12,16 +12,14 @@ returns-then-not-belongs-clause-goes g c r armed u q ds =
     started-skip c.args.config.now c.unwrap-v.result.0 c.args.s.0 c.args.place (sym (ap (option_map (λ (v : VolumeId). v.0)) c.unwrap-v.ensures) ∙ c.volume_at.ensures.value) ds
     (g.P.Plant.state c.args.plant.now) r c.args.journal.now.events armed u q (sym c.if-not-belongs.ensures)
 
-pub returns-then-not-belongs-clause-starting : goal.returns-then-not-belongs-clause-starting
-returns-then-not-belongs-clause-starting g c =
-    starting-skip (g.P.Plant.state c.args.plant.now) c.args.config.now c.unwrap-v.result.0 c.args.s.0 c.args.place c.requires.starting
-    (subst (λ o. IfSome o (λ v. place_of c.args.config.now v.0 ≡ Some c.args.place)) c.unwrap-v.ensures c.volume_at.ensures.place) (sym c.if-not-belongs.ensures)
+pub redo_own-requires-clause-defined : goal.redo_own-requires-clause-defined
+redo_own-requires-clause-defined g c = ap is_some (subst (λ o. IfSome o (λ v. place_of c.args.config.now v.0 ≡ Some c.args.place)) c.unwrap-v.ensures c.volume_at.ensures.place)
 
-pub redo_own-requires-clause-at : goal.redo_own-requires-clause-at
-redo_own-requires-clause-at g c = subst (λ o. IfSome o (λ v. place_of c.args.config.now v.0 ≡ Some c.args.place)) c.unwrap-v.ensures c.volume_at.ensures.place
+pub restart_own-requires-clause-defined : goal.restart_own-requires-clause-defined
+restart_own-requires-clause-defined g c = ap is_some (subst (λ o. IfSome o (λ v. place_of c.args.config.now v.0 ≡ Some c.args.place)) c.unwrap-v.ensures c.volume_at.ensures.place)
 
-pub restart_own-requires-clause-at : goal.restart_own-requires-clause-at
-restart_own-requires-clause-at g c = subst (λ o. IfSome o (λ v. place_of c.args.config.now v.0 ≡ Some c.args.place)) c.unwrap-v.ensures c.volume_at.ensures.place
+pub restart_own-requires-clause-on : goal.restart_own-requires-clause-on
+restart_own-requires-clause-on g c = ap (λ f. f c.args.s.0) c.in-Ok.ensures.stayed.on ∙ c.requires.on
 
 pub returns-in-Ok-clause-goes : goal.returns-in-Ok-clause-goes
 returns-in-Ok-clause-goes g c =
@@ -44,9 +42,15 @@ returns-in-Err-clause-fails g c r ds =
     _ (world_seen s t r c.args.journal.now.events) (world_seen s1 t r c.redo_own.new.journal.events) (Some c.in-Err.why) (c.in-Err.ensures.halts r)
 
 pub returns-then-not-belongs-clause-stayed : goal.returns-then-not-belongs-clause-stayed
-returns-then-not-belongs-clause-stayed g c = stayed-same (g.P.Plant.state c.args.plant.now) c.args.config.now c.args.journal.now c.args.s.0 c.requires.starting.stands
+returns-then-not-belongs-clause-stayed g c = stayed-same (g.P.Plant.state c.args.plant.now) c.args.config.now c.args.journal.now c.args.s.0 3 c.requires.rest.stands
 
 pub returns-in-Ok-clause-stayed : goal.returns-in-Ok-clause-stayed
 returns-in-Ok-clause-stayed g c =
-    stayed-then (g.P.Plant.state c.args.plant.now) (g.P.Plant.state c.redo_own.new.plant) (g.P.Plant.state c.restart_own.new.plant) c.args.config.now c.args.journal.now c.redo_own.new.journal c.restart_own.new.journal c.args.s.0 c.restart_own.result
+    stayed-then (g.P.Plant.state c.args.plant.now) (g.P.Plant.state c.redo_own.new.plant) (g.P.Plant.state c.restart_own.new.plant) c.args.config.now c.args.journal.now c.redo_own.new.journal c.restart_own.new.journal c.args.s.0 1 3 3 c.restart_own.result (omega arith)
     c.in-Ok.ensures.told c.in-Ok.ensures.stayed c.restart_own.ensures.stayed
+
+pub returns-in-Err-clause-stayed : goal.returns-in-Err-clause-stayed
+returns-in-Err-clause-stayed g c =
+    let s = g.P.Plant.state c.args.plant.now in
+    stayed-then s s (g.P.Plant.state c.redo_own.new.plant) c.args.config.now c.args.journal.now c.args.journal.now c.redo_own.new.journal c.args.s.0 1 1 3 (Err c.in-Err.why) (omega arith)
+    refl (stayed-same s c.args.config.now c.args.journal.now c.args.s.0 1 c.requires.rest.stands) c.in-Err.ensures.stayed

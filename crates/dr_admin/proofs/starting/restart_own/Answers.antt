@@ -1,4 +1,5 @@
-use Rattle.std.proofs.Common.{◌≡◌, sym, ap, ◌∙◌, subst, Some}
+use Rattle.std.proofs.Common.{◌≡◌, ◌≤◌, sym, ap, ◌∙◌, subst, Some}
+use Rattle.dr_ids.specs.Sizes.{most_tracks}
 use Rattle.dr_model.specs.WriteEntries.{restart_on}
 use Rattle.dr_model.specs.Refusals.{stopped}
 use Rattle.dr_volume.specs.View.{volume_seen}
@@ -6,12 +7,18 @@ use Rattle.dr_moves.specs.Here.{world_seen, armed_in, refusal_of}
 use Rattle.dr_moves.specs.Turns.{Advances, Halts}
 use Rattle.dr_moves.proofs.TurnLemmas.{ok-along, err-along}
 use Rattle.dr_admin.proofs.OwnerLemmas.{own-server}
-use Rattle.dr_admin.proofs.StartLemmas.{ready-volume, starting-still, rest-stopped, of-each}
+use Rattle.dr_admin.proofs.StartLemmas.{of-each}
 use Rattle.dr_admin.proofs.starting.restart_own.Goals as goal
 
 pub restart-requires-clause-ready : goal.restart-requires-clause-ready
 restart-requires-clause-ready g c =
-    ready-volume (g.P.Plant.state c.args.plant.now) c.args.config.now c.args.v.0 c.args.s.0 _ c.args.place c.requires.starting c.requires.settled c.requires.at c.requires.owned
+    let s = g.P.Plant.state c.args.plant.now in
+    record {
+      stands = c.requires.rest.stands;
+      defined = c.requires.defined;
+      running = ap s.on (own-server s c.args.config.now c.args.v.0 c.args.s.0 c.requires.owned) ∙ c.requires.on;
+      size = c.requires.rest.sizes c.args.v.0;
+    }
 
 pub returns-clause-advances : goal.returns-clause-advances
 returns-clause-advances g c =
@@ -35,7 +42,6 @@ returns-clause-stayed g c =
     let s = g.P.Plant.state c.args.plant.now in let s' = g.P.Plant.state c.restart.new.plant in
     record {
       stands = c.restart.ensures.stands;
-      settled = c.restart.ensures.settled;
       unarmed = c.restart.ensures.unarmed;
       faults = c.restart.ensures.faults;
       on = c.restart.ensures.on;
@@ -44,20 +50,10 @@ returns-clause-stayed g c =
       spare = c.restart.ensures.spare;
     }
 
-pub returns-clause-starting : goal.returns-clause-starting
-returns-clause-starting g c =
-    let s = g.P.Plant.state c.args.plant.now in let s' = g.P.Plant.state c.restart.new.plant in let t = c.args.config.now in
-    ok-along c.restart.result c.restart.ensures.on (λ on.
-    starting-still s s' t c.args.s.0 _ c.requires.starting
-    (of-each (λ u. (volume_seen s' t u).server ≡ (volume_seen s t u).server) c.args.v.0 c.restart.ensures.server (λ u ne. ap (λ x. x.server) (c.restart.ensures.others u ne).volume))
-    (of-each (λ u. (volume_seen s' t u).tracks ≡ (volume_seen s t u).tracks) c.args.v.0 c.restart.ensures.size (λ u ne. ap (λ x. x.tracks) (c.restart.ensures.others u ne).volume))
-    c.restart.ensures.stands c.restart.ensures.settled on)
-
 pub returns-clause-rest : goal.returns-clause-rest
 returns-clause-rest g c =
     let s = g.P.Plant.state c.args.plant.now in let s' = g.P.Plant.state c.restart.new.plant in let t = c.args.config.now in
-    err-along c.restart.result c.restart.ensures.off c.restart.ensures.off (λ off _.
-    rest-stopped s s' t c.args.s.0 _ c.requires.starting
-    (of-each (λ u. (volume_seen s' t u).server ≡ (volume_seen s t u).server) c.args.v.0 c.restart.ensures.server (λ u ne. ap (λ x. x.server) (c.restart.ensures.others u ne).volume))
-    (of-each (λ u. (volume_seen s' t u).tracks ≡ (volume_seen s t u).tracks) c.args.v.0 c.restart.ensures.size (λ u ne. ap (λ x. x.tracks) (c.restart.ensures.others u ne).volume))
-    c.restart.ensures.stands c.restart.ensures.settled (sym (ap s'.on (own-server s t c.args.v.0 c.args.s.0 c.requires.owned)) ∙ off))
+    record {
+      stands = c.restart.ensures.stands;
+      sizes = λ q. subst (λ n. n ≤ most_tracks) (sym (of-each (λ u. (volume_seen s' t u).tracks ≡ (volume_seen s t u).tracks) c.args.v.0 c.restart.ensures.size (λ u ne. ap (λ x. x.tracks) (c.restart.ensures.others u ne).volume) q)) (c.requires.rest.sizes q);
+    }

@@ -1,4 +1,5 @@
-use Rattle.std.proofs.Common.{sym, ap, ◌∙◌, subst, [], ◌∷◌, ◌++◌, Some, None}
+use Rattle.std.proofs.Common.{true, ap, ◌∙◌, subst, [], ◌∷◌, ◌++◌, Some, None}
+use Rattle.dr_logic.proofs.Tables.{at_same}
 use Rattle.dr_logic.specs.Counts.{Rose}
 use Rattle.dr_plant.specs.State.{PlantState}
 use Rattle.dr_host.specs.Hearing.{with_writes}
@@ -8,13 +9,17 @@ use Rattle.dr_moves.specs.Here.{armed_in}
 use Rattle.dr_moves.proofs.KeptLemmas.{wider-armed}
 use Rattle.dr_facts.proofs.Ends.{ends-wider}
 use Rattle.dr_admin.specs.Answering.{write_number}
-use Rattle.dr_admin.specs.Starting.{hosted, IsStarting, start_from, acks}
-use Rattle.dr_admin.proofs.StartLemmas.{starting-first, started-unarmed, started-faults, started-on, comes-done, comes-failed, told-both}
+use Rattle.dr_admin.specs.Starting.{hosted, start_from, acks}
+use Rattle.dr_admin.proofs.StartLemmas.{rest-started, started-unarmed, started-faults, started-on, comes-done, comes-failed, told-both}
 use Rattle.dr_admin.proofs.starting.turn_on.Goals as goal
 
-pub go_on_all-requires-clause-starting : goal.go_on_all-requires-clause-starting
-go_on_all-requires-clause-starting g c =
-    subst (λ (s : PlantState). IsStarting s c.args.config.now c.args.s.0 0) (sym c.start.ensures) (starting-first (g.P.Plant.state c.args.plant.now) c.args.config.now c.args.s.0 c.requires.rest)
+pub go_on_all-requires-clause-rest : goal.go_on_all-requires-clause-rest
+go_on_all-requires-clause-rest g c = rest-started (g.P.Plant.state c.args.plant.now) (g.P.Plant.state c.start.new.self) c.args.config.now c.args.s.0 c.start.ensures c.requires.rest
+
+pub go_on_all-requires-clause-on : goal.go_on_all-requires-clause-on
+go_on_all-requires-clause-on g c =
+    let s = g.P.Plant.state c.args.plant.now in
+    ap (λ f. f c.args.s.0) (started-on s (g.P.Plant.state c.start.new.self) c.args.s.0 c.start.ensures) ∙ at_same s.on c.args.s.0 true
 
 pub returns-in-Ok-clause-plan : goal.returns-in-Ok-clause-plan
 returns-in-Ok-clause-plan g c r =

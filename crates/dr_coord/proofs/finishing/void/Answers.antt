@@ -1,7 +1,7 @@
-use Rattle.std.proofs.Common.{arith, ap, sym, ◌∙◌}
+use Rattle.std.proofs.Common.{arith, ap, sym, ◌∙◌, ◌||◌}
 use Rattle.dr_model.specs.Moves.{Finish}
-use Rattle.dr_model.specs.Pairs.{is_engaged}
 use Rattle.dr_coord.specs.Changes.{void_on}
+use Rattle.dr_volume.specs.declared.head.Head.{Head}
 use Rattle.dr_volume.specs.View.{volume_seen}
 use Rattle.dr_moves.specs.Here.{world_seen, armed_in, refusal_of}
 use Rattle.dr_moves.proofs.EntryLemmas.{act-ends, move-advances, move-halts, skips}
@@ -13,7 +13,7 @@ use Rattle.dr_coord.proofs.finishing.void.Goals as goal
 pub returns-then-not-is_engaged-clause-advances : goal.returns-then-not-is_engaged-clause-advances
 returns-then-not-is_engaged-clause-advances g c r =
     skips (world_seen (g.P.Plant.state c.args.plant.now) c.args.config.now r c.args.journal.now.events) (void_on c.args.v.0)
-    (void-skips (g.P.Plant.state c.args.plant.now) c.args.config.now r c.args.journal.now.events c.args.v.0 (ap (is_engaged) (sym c.peek_fields.ensures.fields) ∙ sym c.if-not-is_engaged.ensures))
+    (void-skips (g.P.Plant.state c.args.plant.now) c.args.config.now r c.args.journal.now.events c.args.v.0 (ap (λ (f : Head). f.recording || f.coordination) (sym c.peek_head.ensures) ∙ sym c.if-not-is_engaged.ensures))
 
 pub returns-then-not-is_engaged-clause-carried : goal.returns-then-not-is_engaged-clause-carried
 returns-then-not-is_engaged-clause-carried g c r =
@@ -25,7 +25,7 @@ returns-clause-advances g c =
     let t = c.args.config.now in
     ok-along c.make_move.result c.make_move.ensures.entered.done (λ done r.
     move-advances (world_seen s t r c.args.journal.now.events) (world_seen (g.P.Plant.state c.make_move.new.plant) t r c.make_move.new.journal.events) (void_on c.args.v.0) (Finish c.args.v.0 0)
-    (void-comes s t r c.args.journal.now.events c.args.v.0 (ap (is_engaged) (sym c.peek_fields.ensures.fields) ∙ sym c.if-not-is_engaged.ensures)) (done r))
+    (void-comes s t r c.args.journal.now.events c.args.v.0 (ap (λ (f : Head). f.recording || f.coordination) (sym c.peek_head.ensures) ∙ sym c.if-not-is_engaged.ensures)) (done r))
 
 pub returns-clause-halts : goal.returns-clause-halts
 returns-clause-halts g c =
@@ -33,7 +33,7 @@ returns-clause-halts g c =
     let t = c.args.config.now in
     err-along c.make_move.result c.make_move.ensures.entered.failed c.make_move.ensures.entered.refused (λ failed refused r.
     move-halts (armed_in s) (world_seen s t r c.args.journal.now.events) (world_seen (g.P.Plant.state c.make_move.new.plant) t r c.make_move.new.journal.events) (refusal_of c.make_move.result) (void_on c.args.v.0) (Finish c.args.v.0 0) (volume_seen s t c.args.v.0).server
-    (void-comes s t r c.args.journal.now.events c.args.v.0 (ap (is_engaged) (sym c.peek_fields.ensures.fields) ∙ sym c.if-not-is_engaged.ensures)) refused (failed r))
+    (void-comes s t r c.args.journal.now.events c.args.v.0 (ap (λ (f : Head). f.recording || f.coordination) (sym c.peek_head.ensures) ∙ sym c.if-not-is_engaged.ensures)) refused (failed r))
 
 pub returns-clause-carried : goal.returns-clause-carried
 returns-clause-carried g c =

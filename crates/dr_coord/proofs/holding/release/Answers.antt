@@ -5,9 +5,8 @@ use Rattle.dr_model.specs.SessionEntries.{void_refusal, free_on, release_entries
 use Rattle.dr_volume.specs.declared.head.Head.{Head}
 use Rattle.dr_volume.specs.View.{volume_seen}
 use Rattle.dr_moves.specs.Here.{world_seen, armed_in, refusal_of}
-use Rattle.dr_moves.proofs.EntryLemmas.{counted-stop, only-stops, one-checked}
+use Rattle.dr_moves.proofs.EntryLemmas.{counted-stop, only-stops, one-checked, ends-by}
 use Rattle.dr_moves.proofs.TurnLemmas.{ok-along, err-along}
-use Rattle.dr_gcopy.proofs.TwoMoves.{ends-by}
 use Rattle.dr_coord.proofs.holding.release.Goals as goal
 
 pub returns-in-Some-clause-fails : goal.returns-in-Some-clause-fails
@@ -37,7 +36,7 @@ returns-clause-fails g c =
 pub returns-clause-carried : goal.returns-clause-carried
 returns-clause-carried g c =
     let s = g.P.Plant.state c.args.plant.now in
-    ends-by c.free.result (armed_in s) (λ r. world_seen s c.args.config.now r c.args.journal.now.events) (λ r. world_seen (g.P.Plant.state c.free.new.plant) c.args.config.now r c.free.new.journal.events) (release_entries c.args.m.now.a.0 c.args.n) (returns-clause-leads g c) (returns-clause-fails g c)
+    ends-by c.free.result (armed_in s) (λ r. world_seen s c.args.config.now r c.args.journal.now.events) (λ r. world_seen (g.P.Plant.state c.free.new.plant) c.args.config.now r c.free.new.journal.events) (λ r. release_entries c.args.m.now.a.0 c.args.n) (returns-clause-leads g c) (returns-clause-fails g c)
 
 pub returns-clause-unchanged : goal.returns-clause-unchanged
 returns-clause-unchanged g c calm =

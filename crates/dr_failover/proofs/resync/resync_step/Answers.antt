@@ -51,6 +51,11 @@ returns-in-Ok-clause-carried g c r =
     (copying-checked w c.args.x.0 None (c.in_default.ensures.refusal r c.args.journal.now.events))
     (subst (λ es. EndsFollowed (armed_in s) w es (suspend_after c.args.x.0) u None) (sym (one-sent (ids_of t.volumes) c.args.x.0 x.fields.primary_partner x.tracks c.in-Some-lowest.t x.fields.out_of_sync some)) (c.in-Ok.ensures.carried r))
 
+pub returns-in-Ok-clause-sent : goal.returns-in-Ok-clause-sent
+returns-in-Ok-clause-sent g c more =
+    let some = c.in-Some-lowest.ensures.lowest ∙ (λ i. lowest (sym (c.tracks_of.ensures.seen (g.P.Plant.state c.args.plant.now)) i) (ap (λ (f : Fields). f.out_of_sync) c.peek_fields-fields.ensures.fields i)) in
+    record { track = c.in-Some-lowest.t; is_lowest = sym some; sent = c.in-Ok.ensures.struck; stored = c.in-Ok.ensures.stored }
+
 pub returns-in-Ok-clause-duplex : goal.returns-in-Ok-clause-duplex
 returns-in-Ok-clause-duplex g c r is =
     never-duplex (world_seen (g.P.Plant.state c.args.plant.now) c.args.config.now r c.args.journal.now.events) c.args.x.0 (c.in_default.ensures.refusal r c.args.journal.now.events) is

@@ -6,11 +6,10 @@ use Rattle.dr_model.specs.Pairs.{is_primary_of, is_kind}
 use Rattle.dr_model.specs.ReadStops.{Ends}
 use Rattle.dr_volume.specs.View.{volume_seen}
 use Rattle.dr_moves.specs.Here.{world_seen, armed_in, refusal_of}
-use Rattle.dr_moves.proofs.EntryLemmas.{ends-clear, ends-why}
+use Rattle.dr_moves.proofs.EntryLemmas.{ends-clear, ends-why, ends-by}
 use Rattle.dr_moves.proofs.TurnLemmas.{ok-along}
 use Rattle.dr_gcopy.specs.Kinds.{part_of}
 use Rattle.dr_gcopy.proofs.PairChecks.{unless-stopped, servers-apart}
-use Rattle.dr_gcopy.proofs.TwoMoves.{ends-by}
 use Rattle.dr_gmirror.specs.Orders.{with_sessions}
 use Rattle.dr_failover.specs.Steps.{failback_moves}
 use Rattle.dr_failover.proofs.TurnedLemmas.{leads-partner}
@@ -68,7 +67,7 @@ returns-clause-carried g c r =
     subst (λ (k : Part). Ends (armed_in s) v (refusal_of c.turn_both.result) w (failback_entries w.control (plans.yield_refusal c.args.y.0) c.args.x.0 c.args.y.0 k)) c.part_of.ensures.part
     (c.in_default.ensures.checked q ev (armed_in s) v (refusal_of c.turn_both.result) _
     (ends-clear (armed_in s) v (refusal_of c.turn_both.result) w (plans.yield_refusal c.args.y.0) moves (sym (c.in_default-yield_refusal.ensures.refusal r ev))
-    (ends-by c.turn_both.result (armed_in s) (λ r. world_seen s t r ev) (λ r. world_seen u t r c.turn_both.new.journal.events) moves c.turn_both.ensures.leads c.turn_both.ensures.fails q)))
+    (ends-by c.turn_both.result (armed_in s) (λ r. world_seen s t r ev) (λ r. world_seen u t r c.turn_both.new.journal.events) (λ r. moves) c.turn_both.ensures.leads c.turn_both.ensures.fails q)))
 
 pub returns-clause-unchanged : goal.returns-clause-unchanged
 returns-clause-unchanged g c calm = unless-stopped _ c.turn_both.result c.turn_both.ensures.stops calm

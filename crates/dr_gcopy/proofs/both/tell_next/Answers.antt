@@ -4,8 +4,8 @@ use Rattle.dr_model.specs.declared.state.PairState.TheVariants.{Suspended}
 use Rattle.dr_model.specs.Carry.{Make, Do, Pass}
 use Rattle.dr_model.specs.Moves.{Follow}
 use Rattle.dr_model.specs.PairEntries.{belongs_to}
-use Rattle.dr_model.specs.Pairs.{is_secondary_of}
 use Rattle.dr_moves.specs.Here.{world_seen}
+use Rattle.dr_gcopy.specs.Heads.{secondary_by}
 use Rattle.dr_gcopy.proofs.both.tell_next.Goals as goal
 
 pub returns-in-Some-clause-comes : goal.returns-in-Some-clause-comes
@@ -15,5 +15,5 @@ returns-in-Some-clause-comes g c r events =
 
 pub returns-clause-comes : goal.returns-clause-comes
 returns-clause-comes g c r events =
-    let own = ap (is_secondary_of c.args.a.0) (sym c.peek_fields.ensures.fields) ∙ sym c.is_secondary_of.ensures ∙ c.if-not-is_secondary_of.false in
+    let own = ap (secondary_by c.args.a.0) (sym c.peek_head.ensures) ∙ sym c.is_secondary_by.ensures ∙ c.if-not-is_secondary_by.false in
     λ i. cond (not (is_some (sym (c.in_default.ensures.refusal r events) i)) && own i) (Do (Make (Follow c.args.b.0 Suspended))) Pass

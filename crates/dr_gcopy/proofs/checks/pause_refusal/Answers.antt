@@ -1,13 +1,12 @@
-use Rattle.std.proofs.Common.{ap, sym, ◌∙◌, not, ◌&&◌, Some}
+use Rattle.std.proofs.Common.{ap, sym, ◌∙◌, Some}
 use Rattle.std.proofs.lemmas.Bool.{and_parts}
 use Rattle.dr_ids.specs.declared.refusal.Refusal.{Refusal}
-use Rattle.dr_model.specs.Layout.{Fields}
 use Rattle.dr_model.specs.Entries.{pair_state}
 use Rattle.dr_model.specs.PairEntries.{may_pause}
-use Rattle.dr_model.specs.Pairs.{is_primary_of, is_suspended}
 use Rattle.dr_moves.specs.Here.{world_seen}
 use Rattle.dr_facts.proofs.Ends.{ends-passed}
 use Rattle.dr_moves.proofs.EntryLemmas.{refuses}
+use Rattle.dr_gcopy.specs.Heads.{active_by}
 use Rattle.dr_gcopy.proofs.checks.pause_refusal.Goals as goal
 
 pub returns-in-Some-clause-checked : goal.returns-in-Some-clause-checked
@@ -17,14 +16,14 @@ returns-in-Some-clause-checked g c r events armed ds =
 pub returns-then-not-may_pause-clause-checked : goal.returns-then-not-may_pause-clause-checked
 returns-then-not-may_pause-clause-checked g c r events armed ds =
     c.in_default.ensures.checked r events armed (world_seen (g.P.Plant.state c.args.plant.now) c.args.config.now r events) (Some c.pair_state.result) _
-    (refuses armed (world_seen (g.P.Plant.state c.args.plant.now) c.args.config.now r events) (may_pause c.args.a.0 c.args.b.0) (pair_state (world_seen (g.P.Plant.state c.args.plant.now) c.args.config.now r events).control c.args.a.0) (Some c.pair_state.result) _ (ap (λ (f : Fields). is_primary_of c.args.b.0 f && not (is_suspended f.primary_state)) (sym c.peek_fields.ensures.fields) ∙ sym c.may_pause.ensures ∙ c.if-not-may_pause.true) (ap (λ (x : Refusal). Some x) (c.pair_state.ensures.refusal r events)))
+    (refuses armed (world_seen (g.P.Plant.state c.args.plant.now) c.args.config.now r events) (may_pause c.args.a.0 c.args.b.0) (pair_state (world_seen (g.P.Plant.state c.args.plant.now) c.args.config.now r events).control c.args.a.0) (Some c.pair_state.result) _ (ap (active_by c.args.b.0) (sym c.peek_head.ensures) ∙ sym c.may_pause.ensures ∙ c.if-not-may_pause.true) (ap (λ (x : Refusal). Some x) (c.pair_state.ensures.refusal r events)))
 
 pub returns-clause-checked : goal.returns-clause-checked
 returns-clause-checked g c r events armed u r' ds more =
     c.in_default.ensures.checked r events armed u r' _
-    (ends-passed armed u r' (world_seen (g.P.Plant.state c.args.plant.now) c.args.config.now r events) (may_pause c.args.a.0 c.args.b.0) (pair_state (world_seen (g.P.Plant.state c.args.plant.now) c.args.config.now r events).control c.args.a.0) _ (ap (λ (f : Fields). is_primary_of c.args.b.0 f && not (is_suspended f.primary_state)) (sym c.peek_fields.ensures.fields) ∙ sym c.may_pause.ensures ∙ c.if-not-may_pause.false)
+    (ends-passed armed u r' (world_seen (g.P.Plant.state c.args.plant.now) c.args.config.now r events) (may_pause c.args.a.0 c.args.b.0) (pair_state (world_seen (g.P.Plant.state c.args.plant.now) c.args.config.now r events).control c.args.a.0) _ (ap (active_by c.args.b.0) (sym c.peek_head.ensures) ∙ sym c.may_pause.ensures ∙ c.if-not-may_pause.false)
     (more))
 
 pub returns-clause-primary : goal.returns-clause-primary
 returns-clause-primary g c =
-    (and_parts _ _ ((and_parts _ _ (ap (λ (f : Fields). is_primary_of c.args.b.0 f && not (is_suspended f.primary_state)) (sym c.peek_fields.ensures.fields) ∙ sym c.may_pause.ensures ∙ c.if-not-may_pause.false)).0)).0
+    (and_parts _ _ ((and_parts _ _ (ap (active_by c.args.b.0) (sym c.peek_head.ensures) ∙ sym c.may_pause.ensures ∙ c.if-not-may_pause.false)).0)).0

@@ -20,7 +20,7 @@ invariant-loop-sent g l = record {
   unarmed : (q : ℕ) → (g.P.Plant.state l.fn.plant).read_fuse q ≡ None → (g.P.Plant.state l.plant).read_fuse q ≡ None;
   on : (g.P.Plant.state l.plant).on ≡ (g.P.Plant.state l.fn.plant).on;
   faults : (g.P.Plant.state l.plant).faults ≡ (g.P.Plant.state l.fn.plant).faults;
-  room : length l.config.volumes + 5 ≤ l.journal.spare;
+  room : length l.config.volumes + 7 ≤ l.journal.spare;
   primary : is_part (volume_seen (g.P.Plant.state l.plant) l.config l.a.0).fields.primary ≡ true;
   spare : length l.journal.events + l.journal.spare ≡ length l.fn.journal.events + l.fn.journal.spare;
 }

@@ -12,7 +12,7 @@ use Rattle.dr_moves.proofs.TurnLemmas.{refused-by}
 use Rattle.dr_gcopy.specs.Kinds.{part_of}
 use Rattle.dr_gcopy.specs.Steps.{make_moves, difference_seen}
 use Rattle.dr_gcopy.proofs.PairChecks.{unless-stopped}
-use Rattle.dr_gcopy.proofs.TwoMoves.{ends-by}
+use Rattle.dr_moves.proofs.EntryLemmas.{ends-by}
 use Rattle.dr_gcopy.proofs.making.make_pair.Goals as goal
 use Rattle.dr_logic.proofs.Results.{err-always}
 
@@ -40,7 +40,7 @@ returns-clause-carried g c r =
     (subst (λ es. Ends (armed_in (g.P.Plant.state c.args.plant.now)) (world_seen (g.P.Plant.state c.carry_both.new.plant) c.args.config.now r c.carry_both.new.journal.events) (refusal_of c.carry_both.result) (world_seen (g.P.Plant.state c.args.plant.now) c.args.config.now r c.args.journal.now.events) es) kinds
     (subst (λ (x : PlantState). Ends (armed_in x) (world_seen (g.P.Plant.state c.carry_both.new.plant) c.args.config.now r c.carry_both.new.journal.events) (refusal_of c.carry_both.result) (world_seen x c.args.config.now r c.args.journal.now.events) (make_moves c.args.a.0 c.args.b.0 c.part_of-part.result c.first_state.result c.args.full)) c.in_ok-compare.ensures.passed
     (subst (λ (l : Log). Ends (armed_in (g.P.Plant.state c.compare.new.plant)) (world_seen (g.P.Plant.state c.carry_both.new.plant) c.args.config.now r c.carry_both.new.journal.events) (refusal_of c.carry_both.result) (world_seen (g.P.Plant.state c.compare.new.plant) c.args.config.now r l.events) (make_moves c.args.a.0 c.args.b.0 c.part_of-part.result c.first_state.result c.args.full)) c.in_ok-compare.ensures.silent
-    (ends-by c.carry_both.result (armed_in (g.P.Plant.state c.compare.new.plant)) (λ r. (world_seen (g.P.Plant.state c.compare.new.plant) c.args.config.now r c.compare.new.journal.events)) (λ r. (world_seen (g.P.Plant.state c.carry_both.new.plant) c.args.config.now r c.carry_both.new.journal.events)) (make_moves c.args.a.0 c.args.b.0 c.part_of-part.result c.first_state.result c.args.full) c.carry_both.ensures.leads c.carry_both.ensures.fails r)))))
+    (ends-by c.carry_both.result (armed_in (g.P.Plant.state c.compare.new.plant)) (λ r. (world_seen (g.P.Plant.state c.compare.new.plant) c.args.config.now r c.compare.new.journal.events)) (λ r. (world_seen (g.P.Plant.state c.carry_both.new.plant) c.args.config.now r c.carry_both.new.journal.events)) (λ r. make_moves c.args.a.0 c.args.b.0 c.part_of-part.result c.first_state.result c.args.full) c.carry_both.ensures.leads c.carry_both.ensures.fails r)))))
 
 pub returns-clause-unchanged : goal.returns-clause-unchanged
 returns-clause-unchanged g c calm = unless-stopped _ c.carry_both.result c.carry_both.ensures.stops calm

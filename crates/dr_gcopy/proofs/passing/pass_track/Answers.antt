@@ -41,7 +41,7 @@ pub strike_by-requires-clause-says : goal.strike_by-requires-clause-says
 strike_by-requires-clause-says g c =
     let s = g.P.Plant.state c.args.plant.now in
     let t = c.args.config.now in
-    says-along s (g.P.Plant.state c.store.new.plant) t c.args.a.0 c.args.fields.now (c.store.ensures.others c.args.a.0 (servers-apart s t c.args.a.0 c.args.b.0 c.requires.can.two_servers)).volume c.requires.can.says
+    says-along s (g.P.Plant.state c.store.new.plant) t c.args.a.0 c.args.fields.now (c.store.ensures.others c.args.a.0 (servers-apart s t c.args.a.0 c.args.b.0 c.requires.can.two_servers)) c.requires.can.says
 
 pub strike_by-requires-clause-last : goal.strike_by-requires-clause-last
 strike_by-requires-clause-last g c =

@@ -2,10 +2,10 @@ use Rattle.std.proofs.Common.{sym, Some}
 use Rattle.dr_model.specs.PairEntries.{flashed_refusal}
 use Rattle.dr_volume.specs.View.{ids_of}
 use Rattle.dr_moves.specs.Here.{world_seen, armed_in, refusal_of}
-use Rattle.dr_moves.proofs.EntryLemmas.{counted-stop, only-stops}
+use Rattle.dr_moves.proofs.EntryLemmas.{counted-stop, only-stops, ends-by}
 use Rattle.dr_moves.proofs.TurnLemmas.{ok-along, err-along}
 use Rattle.dr_gcopy.specs.Sending.{stranger_refusal, receive_entries}
-use Rattle.dr_gcopy.proofs.SendLemmas.{ends-by, refuse-passes, refuse-ends}
+use Rattle.dr_gcopy.proofs.SendLemmas.{refuse-passes, refuse-ends}
 use Rattle.dr_gcopy.proofs.receiving.receive_track.Goals as goal
 
 pub returns-in-Some-clause-carried : goal.returns-in-Some-clause-carried
@@ -36,7 +36,7 @@ returns-clause-fails g c =
 
 pub returns-clause-carried : goal.returns-clause-carried
 returns-clause-carried g c r =
-    ends-by c.keep_and_store.result (armed_in (g.P.Plant.state c.args.plant.now)) (λ r. (world_seen (g.P.Plant.state c.args.plant.now) c.args.config.now r c.args.journal.now.events)) (λ r. (world_seen (g.P.Plant.state c.keep_and_store.new.plant) c.args.config.now r c.keep_and_store.new.journal.events)) (receive_entries (ids_of c.args.config.now.volumes) c.args.a.0 c.args.b.0 c.args.t c.args.last)
+    ends-by c.keep_and_store.result (armed_in (g.P.Plant.state c.args.plant.now)) (λ r. (world_seen (g.P.Plant.state c.args.plant.now) c.args.config.now r c.args.journal.now.events)) (λ r. (world_seen (g.P.Plant.state c.keep_and_store.new.plant) c.args.config.now r c.keep_and_store.new.journal.events)) (λ r. receive_entries (ids_of c.args.config.now.volumes) c.args.a.0 c.args.b.0 c.args.t c.args.last)
     (ok-along c.keep_and_store.result c.keep_and_store.ensures.leads (λ leads r armed u q ds more.
     (refuse-passes (world_seen (g.P.Plant.state c.args.plant.now) c.args.config.now r c.args.journal.now.events) (stranger_refusal c.args.a.0 c.args.b.0) (sym (c.in_default.ensures.refusal r c.args.journal.now.events))) armed u q _ ((refuse-passes (world_seen (g.P.Plant.state c.args.plant.now) c.args.config.now r c.args.journal.now.events) (flashed_refusal c.args.b.0) (sym (c.in_default-flashed_refusal.ensures.refusal r c.args.journal.now.events))) armed u q _ (leads r armed u q ds more))))
     (err-along c.keep_and_store.result c.keep_and_store.ensures.fails c.keep_and_store.ensures.refused (λ fails refused r ds.

@@ -2,19 +2,19 @@ use Rattle.std.proofs.Common.{arith, ap, sym, ◌∙◌}
 use Rattle.dr_model.specs.Plans.{counted_refusal}
 use Rattle.dr_flash.specs.Standing.{counted_by}
 use Rattle.dr_moves.specs.Here.{world_seen, armed_in, refusal_of}
-use Rattle.dr_moves.proofs.EntryLemmas.{counted-stop, only-stops}
+use Rattle.dr_moves.proofs.EntryLemmas.{counted-stop, ends-by, only-stops}
 use Rattle.dr_moves.proofs.TurnLemmas.{ok-along, err-along}
 use Rattle.dr_incr.specs.Steps.{resync_entries}
-use Rattle.dr_incr.proofs.StepLemmas.{ends-by, stop-refused}
+use Rattle.dr_incr.proofs.StepLemmas.{stop-refused}
 use Rattle.dr_incr.proofs.TargetLemmas.{target-of}
 use Rattle.dr_incr.proofs.CopyLaws.{copy-shown}
 use Rattle.dr_incr.proofs.renewal.resync.Goals as goal
 
 pub returns-in-Some-clause-carried : goal.returns-in-Some-clause-carried
-returns-in-Some-clause-carried g c r = c.in-Some.ensures.checked (counted_refusal c.args.t.0) r c.args.journal.now.events (ap counted_by (sym c.peek_fields.ensures.fields) ∙ sym c.counted_refusal-first.ensures.refusal) (armed_in (g.P.Plant.state c.args.plant.now)) _
+returns-in-Some-clause-carried g c r = c.in-Some.ensures.checked (counted_refusal c.args.t.0) r c.args.journal.now.events (ap counted_by (sym c.peek_head.ensures) ∙ sym c.counted_refusal-first.ensures.refusal) (armed_in (g.P.Plant.state c.args.plant.now)) _
 
 pub returns-in-Some-clause-fails : goal.returns-in-Some-clause-fails
-returns-in-Some-clause-fails g c r ds = c.in-Some.ensures.checked (counted_refusal c.args.t.0) r c.args.journal.now.events (ap counted_by (sym c.peek_fields.ensures.fields) ∙ sym c.counted_refusal-first.ensures.refusal) (armed_in (g.P.Plant.state c.args.plant.now)) _
+returns-in-Some-clause-fails g c r ds = c.in-Some.ensures.checked (counted_refusal c.args.t.0) r c.args.journal.now.events (ap counted_by (sym c.peek_head.ensures) ∙ sym c.counted_refusal-first.ensures.refusal) (armed_in (g.P.Plant.state c.args.plant.now)) _
 
 pub make_move-requires-clause-may : goal.make_move-requires-clause-may
 make_move-requires-clause-may g c =
@@ -28,13 +28,13 @@ returns-clause-room_left g c = ok-along c.make_move.result c.make_move.ensures.r
 pub returns-clause-leads : goal.returns-clause-leads
 returns-clause-leads g c =
     ok-along c.make_move.result c.make_move.ensures.entered.advances (λ goes r armed u r' ds more.
-    c.in_default.ensures.checked (counted_refusal c.args.t.0) r c.args.journal.now.events (ap counted_by (sym c.peek_fields.ensures.fields) ∙ sym c.counted_refusal-first.ensures.refusal) armed u r' _
+    c.in_default.ensures.checked (counted_refusal c.args.t.0) r c.args.journal.now.events (ap counted_by (sym c.peek_head.ensures) ∙ sym c.counted_refusal-first.ensures.refusal) armed u r' _
     (goes r armed u r' ds more))
 
 pub returns-clause-fails : goal.returns-clause-fails
 returns-clause-fails g c =
     err-along c.make_move.result c.make_move.ensures.entered.halts c.make_move.ensures.entered.refused (λ halts refused r ds.
-    c.in_default.ensures.checked (counted_refusal c.args.t.0) r c.args.journal.now.events (ap counted_by (sym c.peek_fields.ensures.fields) ∙ sym c.counted_refusal-first.ensures.refusal) (armed_in (g.P.Plant.state c.args.plant.now)) (world_seen (g.P.Plant.state c.make_move.new.plant) c.args.config.now r c.make_move.new.journal.events) (refusal_of c.make_move.result) _
+    c.in_default.ensures.checked (counted_refusal c.args.t.0) r c.args.journal.now.events (ap counted_by (sym c.peek_head.ensures) ∙ sym c.counted_refusal-first.ensures.refusal) (armed_in (g.P.Plant.state c.args.plant.now)) (world_seen (g.P.Plant.state c.make_move.new.plant) c.args.config.now r c.make_move.new.journal.events) (refusal_of c.make_move.result) _
     (halts r ds))
 
 pub returns-clause-carried : goal.returns-clause-carried

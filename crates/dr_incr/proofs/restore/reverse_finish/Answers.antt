@@ -8,9 +8,9 @@ use Rattle.dr_model.specs.Carry.{now}
 use Rattle.dr_model.specs.Moves.{Release}
 use Rattle.dr_model.specs.Entries.{for_lowest}
 use Rattle.dr_moves.specs.Here.{world_seen, armed_in, refusal_of}
-use Rattle.dr_moves.proofs.EntryLemmas.{alike-advances, alike-halts}
+use Rattle.dr_moves.proofs.EntryLemmas.{alike-advances, alike-halts, ends-by}
 use Rattle.dr_moves.proofs.TurnLemmas.{ok-along, err-along}
-use Rattle.dr_incr.proofs.StepLemmas.{ends-by, lowest-entry}
+use Rattle.dr_incr.proofs.StepLemmas.{lowest-entry}
 use Rattle.dr_incr.proofs.restore.reverse_finish.Goals as goal
 
 pub make_move-requires-clause-room : goal.make_move-requires-clause-room

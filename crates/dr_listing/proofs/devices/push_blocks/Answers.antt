@@ -1,4 +1,5 @@
 use Rattle.std.proofs.Common.{◌≡◌, ◌+◌, ◌++◌, arith, sym, ap, subst, ◌∙◌, rules}
+use Rattle.dr_ids.specs.Sizes.{blocks_of}
 use Rattle.dr_model.specs.Layout.{Blocks}
 use Rattle.dr_model.specs.Listed.{kept_blocks}
 use Rattle.dr_volume.specs.View.{volume_seen}
@@ -36,7 +37,7 @@ returns-clause-told g c r =
     let v = c.args.v.0 in
     let place = placed-on t v c.device_of.result c.unwrap-device.result c.device_of.ensures.place c.unwrap-device.ensures in
     let tracks = tracks-seen s t v c.tracks_of.result c.unwrap.result c.requires.defined c.tracks_of.ensures.value c.unwrap.ensures in
-    let end : c.loop-index.index ≡ 13 + (volume_seen s t v).tracks = (let e = c.blocks_of-blocks.ensures in let f = c.loop-index-test.false in let a = c.loop-index.auto.index-end in omega (arith, e, f, a, tracks)) in
+    let end : c.loop-index.index ≡ blocks_of (volume_seen s t v).tracks = (let e = c.blocks_of-blocks.ensures in let f = c.loop-index-test.false in let a = c.loop-index.auto.index-end in omega (arith, e, f, a, tracks)) in
     let device = device-listed s t r v c.unwrap-device.result.0 place in
     c.loop-index.invariant.told ∙ (λ i. c.args.journal.now.events ++ kept_lines v (kept_blocks (end i) (s.block (sym device i))))
 
@@ -47,9 +48,9 @@ returns-clause-readable g c =
     let v = c.args.v.0 in
     let place = placed-on t v c.device_of.result c.unwrap-device.result c.device_of.ensures.place c.unwrap-device.ensures in
     let tracks = tracks-seen s t v c.tracks_of.result c.unwrap.result c.requires.defined c.tracks_of.ensures.value c.unwrap.ensures in
-    let end : c.loop-index.index ≡ 13 + (volume_seen s t v).tracks = (let e = c.blocks_of-blocks.ensures in let f = c.loop-index-test.false in let a = c.loop-index.auto.index-end in omega (arith, e, f, a, tracks)) in
+    let end : c.loop-index.index ≡ blocks_of (volume_seen s t v).tracks = (let e = c.blocks_of-blocks.ensures in let f = c.loop-index-test.false in let a = c.loop-index.auto.index-end in omega (arith, e, f, a, tracks)) in
     record {
       defined = c.requires.defined;
       number = search rules;
-      blocks = subst (λ (b : Blocks). AreBlocks (13 + (volume_seen s t v).tracks) b) (sym (ap s.block (device-placed t v c.unwrap-device.result.0 place))) (subst (λ n. AreBlocks n (s.block c.unwrap-device.result.0)) end c.loop-index.invariant.blocks);
+      blocks = subst (λ (b : Blocks). AreBlocks (blocks_of (volume_seen s t v).tracks) b) (sym (ap s.block (device-placed t v c.unwrap-device.result.0 place))) (subst (λ n. AreBlocks n (s.block c.unwrap-device.result.0)) end c.loop-index.invariant.blocks);
     }

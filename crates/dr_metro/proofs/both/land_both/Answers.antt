@@ -1,4 +1,5 @@
 use Rattle.std.proofs.Common.{ap}
+use Rattle.dr_volume.proofs.SaysLaws.{shows-says}
 use Rattle.dr_moves.specs.Checks.{is_stop}
 use Rattle.dr_moves.proofs.TurnLemmas.{err-along}
 use Rattle.dr_gcopy.proofs.RanLemmas.{counted-failed}
@@ -16,7 +17,7 @@ land_both_by-requires-clause-can g c =
       primary = q.primary;
       within = q.within;
       bytes = q.bytes;
-      says = record { fields = c.peek_fields-fields.ensures.fields; lawful = c.peek_fields-fields.ensures.lawful };
+      says = shows-says _ _ _ _ c.peek_fields-fields.ensures;
     }
 
 pub returns-clause-faults : goal.returns-clause-faults

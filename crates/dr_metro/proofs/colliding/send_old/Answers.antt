@@ -30,7 +30,7 @@ returns-then-is_some-clause-ran g c =
     record {
       leads = ok-two c.suspend.result h.advances h.moved (λ advances moved r. parted-leads (ids_of t.volumes) v u c.args.t (world_seen s t r j.events) (world_seen m t r l.events) (parted r) (ap (λ (x : Volume). x.fields.recording) moved.volume) (advances r));
       fails = err-along c.suspend.result h.halts h.refused (λ halts refused r. parted-fails (ids_of t.volumes) v u c.args.t (world_seen s t r j.events) (armed_in s) (world_seen m t r l.events) (refusal_of c.suspend.result) (parted r) (halts r));
-      stays = stays-by s m t j l (λ q. ⊥) (n + 2) (n + 1) (volume_seen s t v).server c.suspend.result h.refused h.rest h.fit h.unarmed h.faults (λ q never. absurd never) h.on
+      stays = stays-by s m t j l (λ q. ⊥) (n + 3) (n + 2) (volume_seen s t v).server c.suspend.result h.refused h.rest h.fit h.unarmed h.faults (λ q never. absurd never) h.on
           (let most = h.room in omega (arith, most)) (ok-along c.suspend.result h.room_left (λ is. omega (arith, is))) h.spare;
     }
 
@@ -70,8 +70,8 @@ returns-clause-ran g c =
         faults = counted-stops c.pass_on.result s.faults m.faults h.faults h.stops;
         others = λ q never. absurd never;
         on = h.on;
-        room = h.room;
-        left = h.room_left;
+        room = let most = h.room in omega (arith, most);
+        left = ok-along c.pass_on.result h.room_left (λ is. omega (arith, is));
         spare = h.spare;
       };
     }

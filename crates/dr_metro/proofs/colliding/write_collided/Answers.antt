@@ -16,7 +16,7 @@ returns-in_err-send_old-clause-wrote g c =
     let w = c.args.w.now in
     let v = w.volume.0 in
     let n = length t.volumes in
-    wrote-failed s (g.P.Plant.state c.send_old.new.plant) t c.args.h.now c.args.journal.now c.send_old.new.journal (send_first (ids_of t.volumes) v c.args.u.0 w.track) (λ q. ⊥) (n + 2) (n + 1) (land_alone (ids_of t.volumes) w.w.0 v w.track) (n + (n + 2))
+    wrote-failed s (g.P.Plant.state c.send_old.new.plant) t c.args.h.now c.args.journal.now c.send_old.new.journal (send_first (ids_of t.volumes) v c.args.u.0 w.track) (λ q. ⊥) (n + 3) (n + 2) (land_alone (ids_of t.volumes) w.w.0 v w.track) (n + (n + 3))
     c.from_residual.result c.in_err-send_old.field-0.0 c.from_residual.ensures.0 c.from_residual.ensures.1 (omega arith) c.requires.due.told c.in_err-send_old.ensures.ran
 
 pub returns-in_err-send_old-clause-stops : goal.returns-in_err-send_old-clause-stops
@@ -33,7 +33,7 @@ write_alone-requires-clause-due g c =
     let w = c.args.w.now in
     let n = length t.volumes in
     let ran = c.in_ok-send_old.ensures.ran in
-    due-still s m t h j.events l.events w ran.stays.at (ran-told s m t h j l (send_first (ids_of t.volumes) w.volume.0 c.args.u.0 w.track) (λ q. ⊥) (n + 2) (n + 1) (Ok tt) ran c.requires.due.told) c.requires.due
+    due-still s m t h j.events l.events w ran.stays.at (ran-told s m t h j l (send_first (ids_of t.volumes) w.volume.0 c.args.u.0 w.track) (λ q. ⊥) (n + 3) (n + 2) (Ok tt) ran c.requires.due.told) c.requires.due
 
 pub write_alone-requires-clause-running : goal.write_alone-requires-clause-running
 write_alone-requires-clause-running g c =
@@ -50,5 +50,5 @@ returns-clause-wrote g c =
     let v = w.volume.0 in
     let n = length t.volumes in
     let new = c.write_alone.new in
-    wrote-then s (g.P.Plant.state c.send_old.new.plant) t c.args.h.now c.args.journal.now c.send_old.new.journal (send_first (ids_of t.volumes) v c.args.u.0 w.track) (λ q. ⊥) (n + 2) (n + 1) (g.P.Plant.state new.plant) new.h new.journal (land_alone (ids_of t.volumes) w.w.0 v w.track)
-    (n + 1) (n + (n + 2)) c.write_alone.result (omega arith) c.in_ok-send_old.ensures.ran c.write_alone.ensures.wrote
+    wrote-then s (g.P.Plant.state c.send_old.new.plant) t c.args.h.now c.args.journal.now c.send_old.new.journal (send_first (ids_of t.volumes) v c.args.u.0 w.track) (λ q. ⊥) (n + 3) (n + 2) (g.P.Plant.state new.plant) new.h new.journal (land_alone (ids_of t.volumes) w.w.0 v w.track)
+    (n + 1) (n + (n + 3)) c.write_alone.result (omega arith) c.in_ok-send_old.ensures.ran c.write_alone.ensures.wrote

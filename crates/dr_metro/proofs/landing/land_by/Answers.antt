@@ -54,7 +54,7 @@ returns-in-Err-clause-wrote g c =
     subst (λ q. Wrote s u t c.args.host.now c.args.host.now old new (λ z. land_on c.args.w.0 v c.args.target.track ∷ []) 1 {T = Unit {0}} (Err (stopped q))) can.server
     (wrote-gone s u t c.args.host.now old new (land_on c.args.w.0 v c.args.target.track ∷ []) (volume_seen s t v).server can.at can.told
     (λ r. unread-gone t s u v rest.stands (rest.sizes v) can.defined c.in-Err.ensures.done c.in-Err.ensures.state (ap s.on can.server ∙ can.running) r old.events new.events told)
-    x.same x.stands x.settled x.unarmed (unread-rose t s u v rest.stands (rest.sizes v) can.defined c.in-Err.ensures.done c.in-Err.ensures.state)
+    x.same x.stands x.unarmed (unread-rose t s u v rest.stands (rest.sizes v) can.defined c.in-Err.ensures.done c.in-Err.ensures.state)
     (let h = c.push.ensures.spare in omega (arith, h))
     (let h = c.push.ensures.spare in let e = ap length c.push.ensures.events in let l = length-append old.events (Stopped c.args.target.server.0 0 ∷ []) in omega (arith, h, e, l)))
 

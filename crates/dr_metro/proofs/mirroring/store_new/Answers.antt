@@ -60,7 +60,7 @@ mirror_by-requires-clause-says g c =
     let s = g.P.Plant.state c.args.plant.now in
     let t = c.args.config.now in
     let u = c.args.m.to.0 in
-    says-along s (g.P.Plant.state c.keep_found.new.plant) t u c.args.to.now (c.in_ok-keep_found.ensures.ran.stays.others u (no-own s t u c.requires.can.at.fit)).volume c.requires.can.says
+    says-along s (g.P.Plant.state c.keep_found.new.plant) t u c.args.to.now (c.in_ok-keep_found.ensures.ran.stays.others u (no-own s t u c.requires.can.at.fit)) c.requires.can.says
 
 pub returns-clause-ran : goal.returns-clause-ran
 returns-clause-ran g c =

@@ -1,3 +1,4 @@
+use Rattle.dr_volume.proofs.SaysLaws.{shows-says}
 use Rattle.dr_gcopy.proofs.RanLemmas.{counted-failed}
 use Rattle.dr_metro.proofs.mirroring.write_both.Goals as goal
 
@@ -10,8 +11,8 @@ write_both_by-requires-clause-can g c =
       primary = q.primary;
       pair = record { to = q.to; two_servers = q.two_servers; size = q.size };
       reached = q.reached;
-      says = record { fields = c.peek_fields-fields.ensures.fields; lawful = c.peek_fields-fields.ensures.lawful };
-      says_to = record { fields = c.peek_fields-to.ensures.fields; lawful = c.peek_fields-to.ensures.lawful };
+      says = shows-says _ _ _ _ c.peek_fields-fields.ensures;
+      says_to = shows-says _ _ _ _ c.peek_fields-to.ensures;
       alone = λ never. absurd cc;
     }
 

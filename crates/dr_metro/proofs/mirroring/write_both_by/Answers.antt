@@ -52,7 +52,6 @@ read_and_store-requires-clause-can g c =
     let can = c.requires.can in
     let ran = c.in_ok-unsync_by.ensures.ran in
     let moved = c.in_ok-unsync_by.ensures.moved.volume in
-    let is : plain c.unsynced-next.result ≡ (volume_seen m t v).fields = c.unsynced-next.ensures ∙ ap (λ (f : Fields). unsynced f w.track) can.says.fields ∙ sym (ap (λ (y : Volume). y.fields) moved) in
     let told = ran-told s m t h c.args.journal.now c.unsync_by.new.journal (now (Unsync v w.track) ∷ []) (λ q. q ≢ v) 1 0 (Ok tt) ran can.due.told in
     record {
       due = due-still s m t h c.args.journal.now.events c.unsync_by.new.journal.events w ran.stays.at told can.due;
@@ -60,11 +59,8 @@ read_and_store-requires-clause-can g c =
       primary = ap (λ (y : Volume). is_part y.fields.primary) moved ∙ can.primary;
       pair = pair-still s m t v u can.pair;
       reached = on-still s m t u ran.stays.on can.reached;
-      says = record {
-        fields = is;
-        lawful = subst (λ (f : Fields). IsLawful (volume_seen m t v).tracks f) (sym is) (seen-lawful m t v can.due.defined (ran.stays.at.rest.sizes v) ran.stays.at.rest.stands);
-      };
-      says_to = says-along s m t u c.args.to.now (ran.stays.others u (λ e. servers-apart s t v u can.pair.two_servers (sym e))).volume can.says_to;
+      says = c.in_ok-unsync_by.ensures.says;
+      says_to = says-along s m t u c.args.to.now (ran.stays.others u (λ e. servers-apart s t v u can.pair.two_servers (sym e))) can.says_to;
       alone = λ none. none-moved s m t v ran.stays.at.fit (λ q ne. ran.stays.others q ne) (can.alone none);
     }
 
@@ -84,9 +80,3 @@ returns-clause-wrote g c =
     wrote-alike s u t h c.read_and_store.new.h c.args.journal.now c.read_and_store.new.journal (λ k. now (Unsync v w.track) ∷ mirror_entries ids w.w.0 v w.track c.args.u.0) (λ k. land_mirrored ids w.w.0 v w.track c.args.u.0) (n + (n + 2)) c.read_and_store.result (λ xs. sym (mirrored-is ids w.w.0 v w.track c.args.u.0))
     (wrote-then s (g.P.Plant.state c.unsync_by.new.plant) t h c.args.journal.now c.unsync_by.new.journal (now (Unsync v w.track) ∷ []) (λ q. q ≢ v) 1 0 u c.read_and_store.new.h c.read_and_store.new.journal (mirror_entries ids w.w.0 v w.track c.args.u.0)
     (n + (n + 2)) (n + (n + 2)) c.read_and_store.result (omega arith) c.in_ok-unsync_by.ensures.ran c.read_and_store.ensures.wrote)
-
-pub unsynced-next-requires : goal.unsynced-next-requires
-unsynced-next-requires g c =
-    let few = c.requires.can.due.at.rest.sizes c.args.w.now.volume.0 in
-    let inside = c.requires.can.due.within in
-    omega (arith, few, inside)

@@ -91,7 +91,7 @@ returns-in-Ok-clause-wrote g c =
     let new = c.place_write.new in
     let r = refusal_of c.place_write.result in
     let on = ap (on_seen s) (c.server_of-server.ensures.seen s) ∙ on-seen s c.server_of-server.result.0 c.server_of-server.ensures.known ∙ sym c.is_on.ensures in
-    wrote-carried s u t h new.h c.args.journal.now new.journal (λ k. entries_by k (plain c.args.fields.now) w.w.0 v w.track) (λ k. landing k w.w.0 v w.track) (n + (n + 2)) c.place_write.result
+    wrote-carried s u t h new.h c.args.journal.now new.journal (λ k. entries_by k (plain c.args.fields.now) w.w.0 v w.track) (λ k. landing k w.w.0 v w.track) (n + (n + 3)) c.place_write.result
     (λ xs. let k = (here s t xs h ev).control in
     let x = here u t xs new.h new.journal.events in
     write-passes (armed_in s) (here s t xs h ev) w.w.0 v x r (land_entries k w.w.0 v w.track) (on ∙ c.if-not-is_on.false) (sym (c.in-Ok.ensures.refusal (rest_of xs h ev) ev))

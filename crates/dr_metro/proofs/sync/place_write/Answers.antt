@@ -8,6 +8,7 @@ use Rattle.dr_model.specs.Pairs.{goes_over, is_metro}
 use Rattle.dr_model.specs.WriteEntries.{is_grouped}
 use Rattle.dr_volume.specs.Plain.{plain}
 use Rattle.dr_volume.specs.View.{ids_of, volume_seen}
+use Rattle.dr_volume.proofs.SaysLaws.{shows-says}
 use Rattle.dr_facts.proofs.Parts.{global-part, metro-part, global_metro}
 use Rattle.dr_metro.specs.declared.sync.WriteEnd.{WriteEnd}
 use Rattle.dr_metro.specs.declared.sync.WriteEnd.TheVariants.{Held}
@@ -24,7 +25,7 @@ returns-then-is_held-clause-wrote g c =
     let h = c.args.h.now in
     let w = c.args.w.now in
     let f = plain c.args.fields.now in
-    wrote-nothing s t h c.args.journal.now (λ k. entries_by k f w.w.0 w.volume.0 w.track) (length t.volumes + (length t.volumes + 2)) Held
+    wrote-nothing s t h c.args.journal.now (λ k. entries_by k f w.w.0 w.volume.0 w.track) (length t.volumes + (length t.volumes + 3)) Held
     (λ xs. held-entries (here s t xs h c.args.journal.now.events).control f w.w.0 w.volume.0 w.track (sym c.is_held.ensures ∙ c.if-is_held.true)) c.requires.due.at c.requires.due.told
 
 pub returns-then-is_held-clause-end : goal.returns-then-is_held-clause-end
@@ -48,7 +49,7 @@ write_over-requires-clause-pair g c =
     c.requires.pair (metro-part f.primary (and_parts (is_metro f.primary) _ goes).0)
 
 pub write_over-requires-clause-says : goal.write_over-requires-clause-says
-write_over-requires-clause-says g c = record { fields = c.requires.shows.fields; lawful = c.requires.shows.lawful }
+write_over-requires-clause-says g c = shows-says _ _ _ _ c.requires.shows
 
 pub returns-then-goes_over-clause-wrote : goal.returns-then-goes_over-clause-wrote
 returns-then-goes_over-clause-wrote g c =
@@ -59,7 +60,7 @@ returns-then-goes_over-clause-wrote g c =
     let w = c.args.w.now in
     let f = plain c.args.fields.now in
     let n = length t.volumes in
-    wrote-alike s x t h c.write_over.new.h c.args.journal.now c.write_over.new.journal (λ k. over_entries (ids_of t.volumes) (parts k w.volume.0 f.primary_partner) (is_grouped k w.volume.0 f.primary_partner) w.w.0 w.volume.0 w.track f.primary_partner) (λ k. entries_by k f w.w.0 w.volume.0 w.track) (n + (n + 2)) c.write_over.result
+    wrote-alike s x t h c.write_over.new.h c.args.journal.now c.write_over.new.journal (λ k. over_entries (ids_of t.volumes) (parts k w.volume.0 f.primary_partner) (is_grouped k w.volume.0 f.primary_partner) w.w.0 w.volume.0 w.track f.primary_partner) (λ k. entries_by k f w.w.0 w.volume.0 w.track) (n + (n + 3)) c.write_over.result
     (λ xs. sym (over-entries (here s t xs h c.args.journal.now.events).control f w.w.0 w.volume.0 w.track (sym c.is_held.ensures ∙ c.if-is_held.false) (sym c.goes_over.ensures ∙ c.if-goes_over.true))) c.write_over.ensures.wrote
 
 pub returns-then-goes_over-clause-end : goal.returns-then-goes_over-clause-end
@@ -96,8 +97,8 @@ returns-then-collides-clause-wrote g c =
     let f = plain c.args.fields.now in
     let n = length t.volumes in
     let new = c.write_collided.new in
-    landed-wrote c.write_collided.result c.landed.result c.landed.ensures s x t h new.h c.args.journal.now new.journal (λ k. entries_by k f w.w.0 w.volume.0 w.track) (n + (n + 2))
-    (wrote-alike s x t h new.h c.args.journal.now new.journal (λ k. collided_entries (ids_of t.volumes) w.w.0 w.volume.0 w.track f.primary_partner) (λ k. entries_by k f w.w.0 w.volume.0 w.track) (n + (n + 2)) c.write_collided.result
+    landed-wrote c.write_collided.result c.landed.result c.landed.ensures s x t h new.h c.args.journal.now new.journal (λ k. entries_by k f w.w.0 w.volume.0 w.track) (n + (n + 3))
+    (wrote-alike s x t h new.h c.args.journal.now new.journal (λ k. collided_entries (ids_of t.volumes) w.w.0 w.volume.0 w.track f.primary_partner) (λ k. entries_by k f w.w.0 w.volume.0 w.track) (n + (n + 3)) c.write_collided.result
     (λ xs. sym (collided-entries (here s t xs h c.args.journal.now.events).control f w.w.0 w.volume.0 w.track (sym c.is_held.ensures ∙ c.if-is_held.false) (sym c.goes_over.ensures ∙ c.if-goes_over.false) (sym c.collides.ensures ∙ c.if-collides.true))) c.write_collided.ensures.wrote)
 
 pub returns-then-collides-clause-end : goal.returns-then-collides-clause-end
@@ -125,8 +126,8 @@ returns-clause-wrote g c =
     let f = plain c.args.fields.now in
     let n = length t.volumes in
     let new = c.write_here.new in
-    landed-wrote c.write_here.result c.landed-2.result c.landed-2.ensures s x t h new.h c.args.journal.now new.journal (λ k. entries_by k f w.w.0 w.volume.0 w.track) (n + (n + 2))
-    (wrote-within s x t h new.h c.args.journal.now new.journal (λ k. entries_by k f w.w.0 w.volume.0 w.track) (n + 1) (n + (n + 2)) c.write_here.result (omega arith)
+    landed-wrote c.write_here.result c.landed-2.result c.landed-2.ensures s x t h new.h c.args.journal.now new.journal (λ k. entries_by k f w.w.0 w.volume.0 w.track) (n + (n + 3))
+    (wrote-within s x t h new.h c.args.journal.now new.journal (λ k. entries_by k f w.w.0 w.volume.0 w.track) (n + 1) (n + (n + 3)) c.write_here.result (omega arith)
     (wrote-alike s x t h new.h c.args.journal.now new.journal (λ k. land_alone (ids_of t.volumes) w.w.0 w.volume.0 w.track) (λ k. entries_by k f w.w.0 w.volume.0 w.track) (n + 1) c.write_here.result
     (λ xs. sym (alone-entries (here s t xs h c.args.journal.now.events).control f w.w.0 w.volume.0 w.track (sym c.is_held.ensures ∙ c.if-is_held.false) (sym c.goes_over.ensures ∙ c.if-goes_over.false) (sym c.collides.ensures ∙ c.if-collides.false))) c.write_here.ensures.wrote))
 

@@ -3,6 +3,7 @@ use Rattle.std.specs.Result.{IfOk}
 use Rattle.dr_logic.proofs.Truth.{false_true}
 use Rattle.dr_model.specs.WriteEntries.{is_grouped, land_mirrored}
 use Rattle.dr_volume.specs.View.{ids_of}
+use Rattle.dr_volume.proofs.SaysLaws.{shows-says}
 use Rattle.dr_moves.proofs.TurnLemmas.{ok-along}
 use Rattle.dr_metro.specs.declared.sync.WriteEnd.{WriteEnd}
 use Rattle.dr_metro.specs.Here.{here, rest_of}
@@ -24,11 +25,11 @@ returns-then-not-can_send-clause-wrote g c =
     let n = length t.volumes in
     let ids = ids_of t.volumes in
     let new = c.write_parted.new in
-    wrote-alike s x t h new.h c.args.journal.now new.journal (λ k. parted_entries ids c.is_grouped-busy.result w.w.0 v w.track) (λ k. over_entries ids (parts k v u) (is_grouped k v u) w.w.0 v w.track u) (n + (n + 2)) c.write_parted.result
+    wrote-alike s x t h new.h c.args.journal.now new.journal (λ k. parted_entries ids c.is_grouped-busy.result w.w.0 v w.track) (λ k. over_entries ids (parts k v u) (is_grouped k v u) w.w.0 v w.track u) (n + (n + 3)) c.write_parted.result
     (λ xs. let k = (here s t xs h ev).control in
     ap (λ b. parted_entries ids b w.w.0 v w.track) c.is_grouped-busy.ensures
     ∙ ap (λ b. over_entries ids b (is_grouped k v u) w.w.0 v w.track u) (sym (not-sent c.can_send.result (parts k v u) (c.can_send.ensures.sends (rest_of xs h ev) ev) c.if-not-can_send.true)))
-    (wrote-within s x t h new.h c.args.journal.now new.journal (λ k. parted_entries ids c.is_grouped-busy.result w.w.0 v w.track) (n + 2) (n + (n + 2)) c.write_parted.result (omega arith) c.write_parted.ensures.wrote)
+    (wrote-within s x t h new.h c.args.journal.now new.journal (λ k. parted_entries ids c.is_grouped-busy.result w.w.0 v w.track) (n + 3) (n + (n + 3)) c.write_parted.result (omega arith) c.write_parted.ensures.wrote)
 
 pub returns-then-not-can_send-clause-end : goal.returns-then-not-can_send-clause-end
 returns-then-not-can_send-clause-end g c xs =
@@ -55,7 +56,7 @@ write_both_by-requires-clause-can g c =
       pair = q.pair;
       reached = c.can_send.ensures.reached c.if-not-can_send.false;
       says = q.says;
-      says_to = record { fields = c.peek_fields-to.ensures.fields; lawful = c.peek_fields-to.ensures.lawful };
+      says_to = shows-says _ _ _ _ c.peek_fields-to.ensures;
       alone = q.alone;
     }
 
@@ -72,10 +73,10 @@ returns-clause-wrote g c =
     let n = length t.volumes in
     let ids = ids_of t.volumes in
     let new = c.write_both_by.new in
-    landed-wrote c.write_both_by.result c.landed.result c.landed.ensures s x t h new.h c.args.journal.now new.journal (λ k. over_entries ids (parts k v u) (is_grouped k v u) w.w.0 v w.track u) (n + (n + 2))
-    (wrote-alike s x t h new.h c.args.journal.now new.journal (λ k. land_mirrored ids w.w.0 v w.track u) (λ k. over_entries ids (parts k v u) (is_grouped k v u) w.w.0 v w.track u) (n + (n + 2)) c.write_both_by.result
+    landed-wrote c.write_both_by.result c.landed.result c.landed.ensures s x t h new.h c.args.journal.now new.journal (λ k. over_entries ids (parts k v u) (is_grouped k v u) w.w.0 v w.track u) (n + (n + 3))
+    (wrote-alike s x t h new.h c.args.journal.now new.journal (λ k. land_mirrored ids w.w.0 v w.track u) (λ k. over_entries ids (parts k v u) (is_grouped k v u) w.w.0 v w.track u) (n + (n + 3)) c.write_both_by.result
     (λ xs. let k = (here s t xs h ev).control in ap (λ b. over_entries ids b (is_grouped k v u) w.w.0 v w.track u) (sym (is-sent c.can_send.result (parts k v u) (c.can_send.ensures.sends (rest_of xs h ev) ev) c.if-not-can_send.false)))
-    c.write_both_by.ensures.wrote)
+    (wrote-within s x t h new.h c.args.journal.now new.journal (λ k. land_mirrored ids w.w.0 v w.track u) (n + (n + 2)) (n + (n + 3)) c.write_both_by.result (omega arith) c.write_both_by.ensures.wrote))
 
 pub returns-clause-end : goal.returns-clause-end
 returns-clause-end g c xs =

@@ -30,8 +30,8 @@ returns-in_err-suspend-clause-wrote g c =
     let e = c.in_err-suspend.field-0.0 in
     let h = c.suspend.ensures in
     let x = c.in_err-suspend.ensures in
-    wrote-failed s m t c.args.h.now j l (now (Suspend v c.args.busy) ∷ []) (λ q. q ≢ v) 2 1 (cond c.args.busy [] (land_alone (ids_of t.volumes) w.w.0 v w.track)) (n + 2) c.from_residual.result e c.from_residual.ensures.0 c.from_residual.ensures.1 (omega arith) c.requires.due.told
-    (ran-made s m t j l (Suspend v c.args.busy) (now (Suspend v c.args.busy)) (λ q. q ≢ v) 2 1 (Err e) (λ r. refl) tt x.halts (stays-by s m t j l (λ q. q ≢ v) 2 1 (volume_seen s t v).server (Err e) x.refused h.rest h.fit h.unarmed x.faults h.others tt h.room tt h.spare))
+    wrote-failed s m t c.args.h.now j l (now (Suspend v c.args.busy) ∷ []) (λ q. q ≢ v) 3 2 (cond c.args.busy [] (land_alone (ids_of t.volumes) w.w.0 v w.track)) (n + 3) c.from_residual.result e c.from_residual.ensures.0 c.from_residual.ensures.1 (omega arith) c.requires.due.told
+    (ran-made s m t j l (Suspend v c.args.busy) (now (Suspend v c.args.busy)) (λ q. q ≢ v) 3 2 (Err e) (λ r. refl) tt x.halts (stays-by s m t j l (λ q. q ≢ v) 3 2 (volume_seen s t v).server (Err e) x.refused h.rest h.fit h.unarmed x.faults h.others tt h.room tt h.spare))
 
 pub returns-in_err-suspend-clause-stops : goal.returns-in_err-suspend-clause-stops
 returns-in_err-suspend-clause-stops g c = err-always c.from_residual.result (ap is_stop (refused-by c.from_residual.result c.in_err-suspend.field-0.0 c.from_residual.ensures.0 c.from_residual.ensures.1 ∙ c.in_err-suspend.ensures.refused))
@@ -49,9 +49,9 @@ returns-then-busy-clause-wrote g c =
     let h = c.suspend.ensures in
     let x = c.in_ok-suspend.ensures in
     let alone = land_alone (ids_of t.volumes) w.w.0 v w.track in
-    let ran = ran-made s m t j l (Suspend v c.args.busy) (now (Suspend v c.args.busy)) (λ q. q ≢ v) 2 1 (Ok tt) (λ r. refl) x.advances tt (stays-by s m t j l (λ q. q ≢ v) 2 1 (volume_seen s t v).server (Ok tt) tt h.rest h.fit h.unarmed x.faults h.others x.on h.room x.room_left h.spare) in
-    wrote-then s m t c.args.h.now j l (now (Suspend v c.args.busy) ∷ []) (λ q. q ≢ v) 2 1 m c.args.h.now l (cond c.args.busy [] alone) 0 (n + 2) (Ok Held) (omega arith) ran
-    (wrote-nothing m t c.args.h.now l (λ k. cond c.args.busy [] alone) 0 Held (λ xs. ap (λ b. cond b [] alone) c.if-busy.true) ran.stays.at (ran-told s m t c.args.h.now j l (now (Suspend v c.args.busy) ∷ []) (λ q. q ≢ v) 2 1 (Ok tt) ran c.requires.due.told))
+    let ran = ran-made s m t j l (Suspend v c.args.busy) (now (Suspend v c.args.busy)) (λ q. q ≢ v) 3 2 (Ok tt) (λ r. refl) x.advances tt (stays-by s m t j l (λ q. q ≢ v) 3 2 (volume_seen s t v).server (Ok tt) tt h.rest h.fit h.unarmed x.faults h.others x.on h.room x.room_left h.spare) in
+    wrote-then s m t c.args.h.now j l (now (Suspend v c.args.busy) ∷ []) (λ q. q ≢ v) 3 2 m c.args.h.now l (cond c.args.busy [] alone) 0 (n + 3) (Ok Held) (omega arith) ran
+    (wrote-nothing m t c.args.h.now l (λ k. cond c.args.busy [] alone) 0 Held (λ xs. ap (λ b. cond b [] alone) c.if-busy.true) ran.stays.at (ran-told s m t c.args.h.now j l (now (Suspend v c.args.busy) ∷ []) (λ q. q ≢ v) 3 2 (Ok tt) ran c.requires.due.told))
 
 pub returns-then-busy-clause-end : goal.returns-then-busy-clause-end
 returns-then-busy-clause-end g c = ap end_of (sym c.if-busy.true)
@@ -70,8 +70,8 @@ write_alone-requires-clause-due g c =
     let l = c.suspend.new.journal in
     let h = c.suspend.ensures in
     let x = c.in_ok-suspend.ensures in
-    let ran = ran-made s m t j l (Suspend v c.args.busy) (now (Suspend v c.args.busy)) (λ q. q ≢ v) 2 1 (Ok tt) (λ r. refl) x.advances tt (stays-by s m t j l (λ q. q ≢ v) 2 1 (volume_seen s t v).server (Ok tt) tt h.rest h.fit h.unarmed x.faults h.others x.on h.room x.room_left h.spare) in
-    due-still s m t c.args.h.now j.events l.events w ran.stays.at (ran-told s m t c.args.h.now j l (now (Suspend v c.args.busy) ∷ []) (λ q. q ≢ v) 2 1 (Ok tt) ran c.requires.due.told) c.requires.due
+    let ran = ran-made s m t j l (Suspend v c.args.busy) (now (Suspend v c.args.busy)) (λ q. q ≢ v) 3 2 (Ok tt) (λ r. refl) x.advances tt (stays-by s m t j l (λ q. q ≢ v) 3 2 (volume_seen s t v).server (Ok tt) tt h.rest h.fit h.unarmed x.faults h.others x.on h.room x.room_left h.spare) in
+    due-still s m t c.args.h.now j.events l.events w ran.stays.at (ran-told s m t c.args.h.now j l (now (Suspend v c.args.busy) ∷ []) (λ q. q ≢ v) 3 2 (Ok tt) ran c.requires.due.told) c.requires.due
 
 pub write_alone-requires-clause-running : goal.write_alone-requires-clause-running
 write_alone-requires-clause-running g c =
@@ -92,9 +92,9 @@ returns-clause-wrote g c =
     let x = c.in_ok-suspend.ensures in
     let alone = land_alone (ids_of t.volumes) w.w.0 v w.track in
     let new = c.write_alone.new in
-    landed-wrote c.write_alone.result c.landed.result c.landed.ensures s u t c.args.h.now new.h j new.journal (λ k. parted_entries (ids_of t.volumes) c.args.busy w.w.0 v w.track) (n + 2)
-    (wrote-then s m t c.args.h.now j l (now (Suspend v c.args.busy) ∷ []) (λ q. q ≢ v) 2 1 u new.h new.journal (cond c.args.busy [] alone) (n + 1) (n + 2) c.write_alone.result (omega arith)
-    (ran-made s m t j l (Suspend v c.args.busy) (now (Suspend v c.args.busy)) (λ q. q ≢ v) 2 1 (Ok tt) (λ r. refl) x.advances tt (stays-by s m t j l (λ q. q ≢ v) 2 1 (volume_seen s t v).server (Ok tt) tt h.rest h.fit h.unarmed x.faults h.others x.on h.room x.room_left h.spare))
+    landed-wrote c.write_alone.result c.landed.result c.landed.ensures s u t c.args.h.now new.h j new.journal (λ k. parted_entries (ids_of t.volumes) c.args.busy w.w.0 v w.track) (n + 3)
+    (wrote-then s m t c.args.h.now j l (now (Suspend v c.args.busy) ∷ []) (λ q. q ≢ v) 3 2 u new.h new.journal (cond c.args.busy [] alone) (n + 1) (n + 3) c.write_alone.result (omega arith)
+    (ran-made s m t j l (Suspend v c.args.busy) (now (Suspend v c.args.busy)) (λ q. q ≢ v) 3 2 (Ok tt) (λ r. refl) x.advances tt (stays-by s m t j l (λ q. q ≢ v) 3 2 (volume_seen s t v).server (Ok tt) tt h.rest h.fit h.unarmed x.faults h.others x.on h.room x.room_left h.spare))
     (wrote-alike m u t c.args.h.now new.h l new.journal (λ k. alone) (λ k. cond c.args.busy [] alone) (n + 1) c.write_alone.result (λ xs. sym (ap (λ b. cond b [] alone) c.if-busy.false)) c.write_alone.ensures.wrote))
 
 pub returns-clause-end : goal.returns-clause-end

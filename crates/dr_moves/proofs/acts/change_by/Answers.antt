@@ -39,7 +39,6 @@ returns-in-Err-clause-stayed g c =
     let x = volume_seen (g.P.Plant.state c.args.plant.now) c.args.config.now c.args.v.0 in
     record {
       stands = c.in-Err.ensures.stands;
-      settled = c.in-Err.ensures.settled;
       unarmed = c.in-Err.ensures.unarmed;
       faults = c.in-Err.ensures.faults;
       on = tt;

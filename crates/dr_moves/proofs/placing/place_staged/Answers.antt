@@ -12,7 +12,6 @@ returns-in-Ok-clause-advances g c r d comes =
 pub returns-in-Ok-clause-stayed : goal.returns-in-Ok-clause-stayed
 returns-in-Ok-clause-stayed g c = record {
   stands = c.redo.ensures.stands;
-  settled = c.redo.ensures.settled;
   unarmed = c.redo.ensures.unarmed;
   faults = c.in-Ok.ensures.no_fault;
   on = c.in-Ok.ensures.on;
@@ -31,7 +30,6 @@ returns-in-Err-clause-halts g c r d comes =
 pub returns-in-Err-clause-stayed : goal.returns-in-Err-clause-stayed
 returns-in-Err-clause-stayed g c = record {
   stands = c.redo.ensures.stands;
-  settled = c.redo.ensures.settled;
   unarmed = c.redo.ensures.unarmed;
   faults = let e = c.in-Err.ensures.fault in omega (arith, e);
   on = tt;

@@ -2,7 +2,6 @@ use Rattle.std.proofs.Common.{ap, sym, ◌∙◌, subst, Some}
 use Rattle.dr_plant.specs.State.{PlantState}
 use Rattle.dr_model.specs.ReadStops.{GoesOff}
 use Rattle.dr_config.specs.Table.{StandsFor}
-use Rattle.dr_volume.specs.View.{IsSettled}
 use Rattle.dr_moves.specs.Here.{world_seen, armed_in}
 use Rattle.dr_moves.proofs.ReadLemmas.{left-unread, unread-gone, unread-rose, unread-off, before-same}
 use Rattle.dr_moves.proofs.reads.open_told.Goals as goal
@@ -12,9 +11,6 @@ returns-in-Ok-clause-same g c = before-same c.args.config.now (g.P.Plant.state c
 
 pub returns-in-Ok-clause-stands : goal.returns-in-Ok-clause-stands
 returns-in-Ok-clause-stands g c = subst (StandsFor c.args.config.now) (sym c.in-Ok.ensures.same) c.requires.ready.stands
-
-pub returns-in-Ok-clause-settled : goal.returns-in-Ok-clause-settled
-returns-in-Ok-clause-settled g c q settled = subst (λ s. IsSettled s c.args.config.now q) (sym c.in-Ok.ensures.same) settled
 
 pub returns-in-Ok-clause-unarmed : goal.returns-in-Ok-clause-unarmed
 returns-in-Ok-clause-unarmed g c q none = ap (λ (s : PlantState). s.read_fuse q) c.in-Ok.ensures.same ∙ none
@@ -33,9 +29,6 @@ returns-in-Err-clause-same g c = (left-unread c.args.config.now (g.P.Plant.state
 
 pub returns-in-Err-clause-stands : goal.returns-in-Err-clause-stands
 returns-in-Err-clause-stands g c = (left-unread c.args.config.now (g.P.Plant.state c.args.plant.now) (g.P.Plant.state c.open_gate.new.plant) c.args.v.0 c.requires.ready.stands c.requires.ready.size c.requires.ready.defined c.in-Err.ensures.done c.in-Err.ensures.state).stands
-
-pub returns-in-Err-clause-settled : goal.returns-in-Err-clause-settled
-returns-in-Err-clause-settled g c = (left-unread c.args.config.now (g.P.Plant.state c.args.plant.now) (g.P.Plant.state c.open_gate.new.plant) c.args.v.0 c.requires.ready.stands c.requires.ready.size c.requires.ready.defined c.in-Err.ensures.done c.in-Err.ensures.state).settled
 
 pub returns-in-Err-clause-off : goal.returns-in-Err-clause-off
 returns-in-Err-clause-off g c = unread-off c.args.config.now (g.P.Plant.state c.args.plant.now) (g.P.Plant.state c.open_gate.new.plant) c.args.v.0 c.requires.ready.stands c.requires.ready.size c.requires.ready.defined c.in-Err.ensures.done c.in-Err.ensures.state

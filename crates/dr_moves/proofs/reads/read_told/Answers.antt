@@ -33,7 +33,7 @@ returns-in-Err-clause-same g c = (left-unread c.args.config.now (g.P.Plant.state
 pub returns-in-Err-clause-rest : goal.returns-in-Err-clause-rest
 returns-in-Err-clause-rest g c =
     let x = left-unread c.args.config.now (g.P.Plant.state c.args.plant.now) (g.P.Plant.state c.read_track.new.plant) c.args.v.0 c.requires.rest.stands (c.requires.rest.sizes c.args.v.0) c.requires.defined c.in-Err.ensures.done c.in-Err.ensures.state in
-    rest-same c.args.config.now (g.P.Plant.state c.args.plant.now) (g.P.Plant.state c.read_track.new.plant) c.requires.rest x.stands x.settled x.same
+    rest-same c.args.config.now (g.P.Plant.state c.args.plant.now) (g.P.Plant.state c.read_track.new.plant) c.requires.rest x.stands x.same
 
 pub returns-in-Err-clause-unarmed : goal.returns-in-Err-clause-unarmed
 returns-in-Err-clause-unarmed g c = (left-unread c.args.config.now (g.P.Plant.state c.args.plant.now) (g.P.Plant.state c.read_track.new.plant) c.args.v.0 c.requires.rest.stands (c.requires.rest.sizes c.args.v.0) c.requires.defined c.in-Err.ensures.done c.in-Err.ensures.state).unarmed

@@ -14,6 +14,6 @@ returns-clause-refusal g c r events =
     let f = (volume_seen s c.args.config.now c.args.t.0).fields in
     let k = (world_seen s c.args.config.now r events).control in
     let committed : is_committed c.args.n f ≡ false = ap (λ (h : Head). h.member && (nat_eq h.sequence c.args.n && not h.revertible)) (sym c.requires.head) ∙ sym c.if-is_committed.ensures in
-    let flashed : is_flashed c.args.n f ≡ false = ap (λ (h : Head). h.revertible && nat_eq h.sequence c.args.n) (sym c.requires.head) ∙ sym c.if-is_flashed_by.ensures in
+    let flashed : is_flashed c.args.n f ≡ false = ap (λ (h : Head). h.revertible && nat_eq h.sequence c.args.n) (sym c.requires.head) ∙ sym c.if-is_flashed.ensures in
     ap (λ (e : Refusal). Some e) (c.relation_state.ensures.refusal r events)
     ∙ sym (λ i. if committed i || flashed i then None else Some (relation_state k c.args.t.0))

@@ -15,7 +15,7 @@ returns-then-not-may_flash-clause-refusal g c r events =
     let f = (volume_seen s c.args.config.now c.args.t.0).fields in
     let b = (volume_seen s c.args.config.now c.args.b.0).fields in
     let k = (world_seen s c.args.config.now r events).control in
-    let flashed : is_flashed c.args.n f ≡ false = ap (λ (h : Head). h.revertible && nat_eq h.sequence c.args.n) (sym c.requires.head) ∙ sym c.if-is_flashed_by.ensures in
+    let flashed : is_flashed c.args.n f ≡ false = ap (λ (h : Head). h.revertible && nat_eq h.sequence c.args.n) (sym c.requires.head) ∙ sym c.if-is_flashed.ensures in
     let may : may_flash c.args.b.0 f ≡ false = ap (λ (h : Head). (h.related && nat_eq h.source.0 c.args.b.0) && (h.recorded && (h.inhibited && (not h.reversing && not h.revertible)))) (sym c.requires.head) ∙ sym c.if-not-may_flash.ensures in
     ap (λ (e : Refusal). Some e) (c.relation_state.ensures.refusal r events)
     ∙ sym (λ i. if flashed i then None else if not (may i) then Some (relation_state k c.args.t.0)

@@ -8,9 +8,8 @@ use Rattle.dr_moves.specs.Here.{world_seen, armed_in, refusal_of}
 use Rattle.dr_moves.specs.Coming.{Went}
 use Rattle.dr_moves.specs.declared.carrying.Next.TheVariants.{Pass, Do}
 use Rattle.dr_moves.specs.declared.moves.Move.TheVariants as move
-use Rattle.dr_moves.proofs.EntryLemmas.{only-stops}
+use Rattle.dr_moves.proofs.EntryLemmas.{only-stops, ends-by}
 use Rattle.dr_moves.proofs.TurnLemmas.{ok-along, err-along}
-use Rattle.dr_gcopy.proofs.TwoMoves.{ends-by}
 use Rattle.dr_revert.specs.Turns.{Turns}
 use Rattle.dr_revert.proofs.EntryLemmas.{check-refuses, check-leads, check-fails, alone-leads, alone-fails, unless-off, unless-all, may-related, flash-next}
 use Rattle.dr_revert.proofs.TargetLemmas.{flash-turns}
@@ -58,7 +57,7 @@ pub returns-clause-carried : goal.returns-clause-carried
 returns-clause-carried g c =
     let s = g.P.Plant.state c.args.plant.now in
     let t = c.args.config.now in
-    ends-by c.turn_target.result (armed_in s) (λ r. (world_seen s t r c.args.journal.now.events)) (λ r. (world_seen (g.P.Plant.state c.turn_target.new.plant) t r c.turn_target.new.journal.events)) (flash_entries c.args.s.0 c.args.m.now c.args.n) (returns-clause-leads g c) (returns-clause-fails g c)
+    ends-by c.turn_target.result (armed_in s) (λ r. (world_seen s t r c.args.journal.now.events)) (λ r. (world_seen (g.P.Plant.state c.turn_target.new.plant) t r c.turn_target.new.journal.events)) (λ r. flash_entries c.args.s.0 c.args.m.now c.args.n) (returns-clause-leads g c) (returns-clause-fails g c)
 
 pub returns-clause-unchanged : goal.returns-clause-unchanged
 returns-clause-unchanged g c calm =

@@ -1,18 +1,16 @@
-use Rattle.std.proofs.Common.{ap, sym, subst, ◌∙◌, [], ◌∷◌}
+use Rattle.std.proofs.Common.{ap, refl, sym, subst, ◌∙◌, [], ◌∷◌, ◌&&◌, nat_eq}
 use Rattle.std.specs.Prelude.{if◌then◌else◌, nat_lt}
 use Rattle.std.proofs.lemmas.Bool.{and_parts}
-use Rattle.dr_model.specs.Layout.{Fields}
 use Rattle.dr_model.specs.PairEntries.{send_refusal}
 use Rattle.dr_model.specs.SessionEntries.{is_flashed, revert_on, revert_entries}
-use Rattle.dr_volume.specs.Plain.{plain}
+use Rattle.dr_volume.specs.declared.head.Head.{Head}
 use Rattle.dr_volume.specs.View.{volume_seen}
 use Rattle.dr_moves.specs.Here.{world_seen, armed_in, refusal_of}
 use Rattle.dr_moves.specs.Coming.{Went}
 use Rattle.dr_moves.specs.declared.carrying.Next.TheVariants.{Pass, Do}
 use Rattle.dr_moves.specs.declared.moves.Move.TheVariants as move
-use Rattle.dr_moves.proofs.EntryLemmas.{only-stops}
+use Rattle.dr_moves.proofs.EntryLemmas.{only-stops, ends-by}
 use Rattle.dr_moves.proofs.TurnLemmas.{ok-along, err-along}
-use Rattle.dr_gcopy.proofs.TwoMoves.{ends-by}
 use Rattle.dr_revert.specs.Turns.{Turns}
 use Rattle.dr_revert.proofs.EntryLemmas.{check-refuses, check-leads, check-fails, alone-leads, alone-fails, either-all, either-first, revert-next}
 use Rattle.dr_revert.proofs.TargetLemmas.{revert-turns, floor-turns}
@@ -34,7 +32,7 @@ returns-clause-leads g c =
     let t = c.args.config.now in
     ok-along c.turn_target.result c.turn_target.ensures.advances (λ goes r.
     check-leads (world_seen s t r c.args.journal.now.events) (send_refusal c.args.m.now.a.0 c.args.m.now.b.0) ((revert_on c.args.s.0 c.args.m.now.a.0 c.args.m.now.c.0 c.args.n) ∷ []) (c.in_default.ensures.refusal r c.args.journal.now.events) (world_seen (g.P.Plant.state c.turn_target.new.plant) t r c.turn_target.new.journal.events)
-    (alone-leads (world_seen s t r c.args.journal.now.events) (world_seen (g.P.Plant.state c.turn_target.new.plant) t r c.turn_target.new.journal.events) (revert_on c.args.s.0 c.args.m.now.a.0 c.args.m.now.c.0 c.args.n) (goes r (revert_on c.args.s.0 c.args.m.now.a.0 c.args.m.now.c.0 c.args.n) (revert-next s t r c.args.journal.now.events c.args.m.now c.args.s c.args.n c.revert_next-next.result (plain c.peek_fields.result) c.peek_fields.ensures.fields c.revert_next-next.ensures))))
+    (alone-leads (world_seen s t r c.args.journal.now.events) (world_seen (g.P.Plant.state c.turn_target.new.plant) t r c.turn_target.new.journal.events) (revert_on c.args.s.0 c.args.m.now.a.0 c.args.m.now.c.0 c.args.n) (goes r (revert_on c.args.s.0 c.args.m.now.a.0 c.args.m.now.c.0 c.args.n) (revert-next s t r c.args.journal.now.events c.args.m.now c.args.s c.args.n c.revert_next-next.result (volume_seen s t c.args.m.now.c.0).fields refl (c.revert_next-next.ensures ∙ ap (λ (h : Head). if h.revertible && nat_eq h.sequence c.args.n then Do (move.Revert c.args.m.now.c c.args.m.now.a c.args.s c.args.n) else if nat_lt h.floor c.args.n then Do (move.RaiseFloor c.args.m.now.c c.args.n) else Pass) c.peek_head.ensures)))))
 
 pub returns-clause-fails : goal.returns-clause-fails
 returns-clause-fails g c =
@@ -42,13 +40,13 @@ returns-clause-fails g c =
     let t = c.args.config.now in
     err-along c.turn_target.result c.turn_target.ensures.halts c.turn_target.ensures.halts (λ ends _ r.
     check-fails (world_seen s t r c.args.journal.now.events) (send_refusal c.args.m.now.a.0 c.args.m.now.b.0) ((revert_on c.args.s.0 c.args.m.now.a.0 c.args.m.now.c.0 c.args.n) ∷ []) (c.in_default.ensures.refusal r c.args.journal.now.events) (armed_in s) (world_seen (g.P.Plant.state c.turn_target.new.plant) t r c.turn_target.new.journal.events) (refusal_of c.turn_target.result)
-    (alone-fails (armed_in s) (world_seen s t r c.args.journal.now.events) (world_seen (g.P.Plant.state c.turn_target.new.plant) t r c.turn_target.new.journal.events) (refusal_of c.turn_target.result) (revert_on c.args.s.0 c.args.m.now.a.0 c.args.m.now.c.0 c.args.n) (ends r (revert_on c.args.s.0 c.args.m.now.a.0 c.args.m.now.c.0 c.args.n) (revert-next s t r c.args.journal.now.events c.args.m.now c.args.s c.args.n c.revert_next-next.result (plain c.peek_fields.result) c.peek_fields.ensures.fields c.revert_next-next.ensures))))
+    (alone-fails (armed_in s) (world_seen s t r c.args.journal.now.events) (world_seen (g.P.Plant.state c.turn_target.new.plant) t r c.turn_target.new.journal.events) (refusal_of c.turn_target.result) (revert_on c.args.s.0 c.args.m.now.a.0 c.args.m.now.c.0 c.args.n) (ends r (revert_on c.args.s.0 c.args.m.now.a.0 c.args.m.now.c.0 c.args.n) (revert-next s t r c.args.journal.now.events c.args.m.now c.args.s c.args.n c.revert_next-next.result (volume_seen s t c.args.m.now.c.0).fields refl (c.revert_next-next.ensures ∙ ap (λ (h : Head). if h.revertible && nat_eq h.sequence c.args.n then Do (move.Revert c.args.m.now.c c.args.m.now.a c.args.s c.args.n) else if nat_lt h.floor c.args.n then Do (move.RaiseFloor c.args.m.now.c c.args.n) else Pass) c.peek_head.ensures)))))
 
 pub returns-clause-carried : goal.returns-clause-carried
 returns-clause-carried g c =
     let s = g.P.Plant.state c.args.plant.now in
     let t = c.args.config.now in
-    ends-by c.turn_target.result (armed_in s) (λ r. (world_seen s t r c.args.journal.now.events)) (λ r. (world_seen (g.P.Plant.state c.turn_target.new.plant) t r c.turn_target.new.journal.events)) (revert_entries c.args.s.0 c.args.m.now c.args.n) (returns-clause-leads g c) (returns-clause-fails g c)
+    ends-by c.turn_target.result (armed_in s) (λ r. (world_seen s t r c.args.journal.now.events)) (λ r. (world_seen (g.P.Plant.state c.turn_target.new.plant) t r c.turn_target.new.journal.events)) (λ r. revert_entries c.args.s.0 c.args.m.now c.args.n) (returns-clause-leads g c) (returns-clause-fails g c)
 
 pub returns-clause-unchanged : goal.returns-clause-unchanged
 returns-clause-unchanged g c calm =
@@ -62,7 +60,7 @@ returns-clause-moved g c =
     let u = g.P.Plant.state c.turn_target.new.plant in
     let t = c.args.config.now in
     let f = (volume_seen s t c.args.m.now.c.0).fields in
-    let is = c.revert_next-next.ensures ∙ ap (λ (f : Fields). if is_flashed c.args.n f then Do (move.Revert c.args.m.now.c c.args.m.now.a c.args.s c.args.n) else if nat_lt f.floor c.args.n then Do (move.RaiseFloor c.args.m.now.c c.args.n) else Pass) c.peek_fields.ensures.fields in
+    let is = c.revert_next-next.ensures ∙ ap (λ (h : Head). if h.revertible && nat_eq h.sequence c.args.n then Do (move.Revert c.args.m.now.c c.args.m.now.a c.args.s c.args.n) else if nat_lt h.floor c.args.n then Do (move.RaiseFloor c.args.m.now.c c.args.n) else Pass) c.peek_head.ensures in
     ok-along c.turn_target.result c.turn_target.ensures.went (λ went on. (either-first (Went s u t) (is_flashed c.args.n f) (nat_lt f.floor c.args.n) (Do (move.Revert c.args.m.now.c c.args.m.now.a c.args.s c.args.n)) (Do (move.RaiseFloor c.args.m.now.c c.args.n)) on (subst (Went s u t) is went)).moved)
 
 pub returns-clause-shows_aside : goal.returns-clause-shows_aside
@@ -82,7 +80,7 @@ turn_target-requires-clause-turns g c =
     let t = c.args.config.now in
     let v = c.args.m.now.c in
     let f = (volume_seen s t v.0).fields in
-    let is = c.revert_next-next.ensures ∙ ap (λ (f : Fields). if is_flashed c.args.n f then Do (move.Revert c.args.m.now.c c.args.m.now.a c.args.s c.args.n) else if nat_lt f.floor c.args.n then Do (move.RaiseFloor c.args.m.now.c c.args.n) else Pass) c.peek_fields.ensures.fields in
+    let is = c.revert_next-next.ensures ∙ ap (λ (h : Head). if h.revertible && nat_eq h.sequence c.args.n then Do (move.Revert c.args.m.now.c c.args.m.now.a c.args.s c.args.n) else if nat_lt h.floor c.args.n then Do (move.RaiseFloor c.args.m.now.c c.args.n) else Pass) c.peek_head.ensures in
     let running = ap s.on c.requires.together ∙ c.in_default.ensures.reached in
     subst (Turns s t v.0) (sym is)
     (either-all (Turns s t v.0) (is_flashed c.args.n f) (nat_lt f.floor c.args.n) (Do (move.Revert v c.args.m.now.a c.args.s c.args.n)) (Do (move.RaiseFloor v c.args.n)) tt

@@ -1,4 +1,4 @@
-use Rattle.std.proofs.Common.{sym, refl, ◌+◌, ◌-◌, ap, length}
+use Rattle.std.proofs.Common.{sym, refl, ◌+◌, length}
 use Rattle.dr_ids.specs.declared.refusal.Refusal.TheVariants.{JournalFull}
 use Rattle.dr_steps.specs.Here.{here}
 use Rattle.dr_steps.proofs.StepTaskLemmas.{compare-full, refused-task, refused-told, refused-faults}

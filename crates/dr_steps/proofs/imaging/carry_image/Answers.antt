@@ -1,4 +1,4 @@
-use Rattle.std.proofs.Common.{◌++◌, [], ◌∷◌, ap, sym, refl, ◌∙◌, Ok, ◌+◌, ◌-◌, length}
+use Rattle.std.proofs.Common.{◌++◌, [], ◌∷◌, ap, sym, refl, ◌∙◌, Ok, ◌+◌, length}
 use Rattle.dr_ids.specs.declared.refusal.Refusal.TheVariants.{JournalFull}
 use Rattle.dr_model.specs.Answers.{answer}
 use Rattle.dr_model.specs.Listed.{listing}
@@ -13,7 +13,7 @@ use Rattle.dr_steps.specs.Here.{here, rest_of}
 use Rattle.dr_steps.proofs.ListingLemmas.{told-lines, image-done, image-full, full-lists, calm-answer}
 use Rattle.dr_steps.proofs.StepTaskLemmas.{told-answer, refused-task, refused-told, refused-faults}
 use Rattle.dr_logic.proofs.Results.{err-always}
-use Rattle.dr_steps.proofs.WantLemmas.{not-both, step-full, image-room}
+use Rattle.dr_steps.proofs.WantLemmas.{not-both, image-room}
 use Rattle.dr_steps.proofs.imaging.carry_image.Goals as goal
 
 pub returns-then-not-has_room_for-clause-task : goal.returns-then-not-has_room_for-clause-task

@@ -1,50 +1,44 @@
-use Rattle.std.proofs.Common.{◌≡◌, ◌<◌, ap, sym, subst, ◌∙◌, not, cond, inl, refl, true, false, rules}
+use Rattle.std.proofs.Common.{◌≡◌, ◌<◌, ◌+◌, ap, sym, subst, ◌∙◌, not, cond, inl, refl, true, false, rules}
 use Rattle.std.specs.Prelude.{is_err, IfSome}
 use Rattle.dr_logic.specs.Counts.{risen}
 use Rattle.dr_plant.specs.State.{PlantState, after_read, can_read}
-use Rattle.dr_plant.proofs.StateLemmas.{block-after_read}
 use Rattle.dr_record.specs.Slots.{slot_of}
-use Rattle.dr_record.specs.Writes.{after_writes}
-use Rattle.dr_config.specs.Table.{StandsFor}
-use Rattle.dr_model.specs.Lawful.{IsLawful}
-use Rattle.dr_volume.specs.Opened.{IsGate}
-use Rattle.dr_volume.specs.Plain.{plain}
-use Rattle.dr_volume.specs.View.{volume_seen, device_of, IsSettled}
-use Rattle.dr_volume.specs.Update.{IsAsBefore, Covers, staging, update_writes}
-use Rattle.dr_volume.proofs.OpenedLaws.{slot-opened}
-use Rattle.dr_volume.proofs.VolumeLaws.{lies-opened}
+use Rattle.dr_record.specs.Writes.{IsDevice, after_writes}
+use Rattle.dr_model.specs.Moves.{Carried}
+use Rattle.dr_volume.specs.View.{volume_seen}
+use Rattle.dr_volume.specs.Update.{staged_seen, stages, update_writes, read_and_write, IsAsBefore}
+use Rattle.dr_volume.proofs.VolumeLaws.{device-placed, device-lies}
 use Rattle.dr_volume.proofs.RanLaws.{ran, ran-stands, read-goes, read-stops, on_ok, on_err}
 use Rattle.dr_volume.proofs.SeenLaws.{lies-of, others-stay}
-use Rattle.dr_volume.proofs.SettledLaws.{settled-along}
 use Rattle.dr_volume.proofs.UpdateLaws.{Run, Changed, task, changed, read-first, idle, server-seen, update-unread}
+use Rattle.dr_volume.proofs.RedoLaws.{seen-staged, seen-fits, staged-looked, staging-stages, restaged}
 use Rattle.dr_volume.proofs.change.update.Goals as goal
 
 -- the volume could not be read
-pub returns-in_err-gate : goal.returns-in_err-gate
-returns-in_err-gate g c =
+pub returns-in_err-slot : goal.returns-in_err-slot
+returns-in_err-slot g c =
     let s = g.P.Plant.state c.args.plant.now in
-    let t = g.P.Plant.state c.open_gate.new.plant in
+    let t = g.P.Plant.state c.read_choice.new.plant in
     let table = c.args.config.now in
     let v = c.args.v.0 in
-    let d = device_of table v in
-    let lies = lies-opened table v d c.tell_sound.ensures c.requires.defined refl in
-    let x = lies-of table s v d lies.0 lies.1 c.requires.stands in
-    let stuck : can_read s d ≡ false = sym c.in_err-gate.ensures.done in
-    let is : t ≡ after_read s d = c.in_err-gate.ensures.state in
+    let d = c.find-place.result.device.0 in
+    let at = device-placed table v d c.find-place.ensures.place in
+    let x = lies-of table s v d _ c.find-place.ensures c.requires.stands in
+    let stuck : can_read s d ≡ false = sym c.in_err-slot.ensures.done in
+    let is : t ≡ after_read s d = c.in_err-slot.ensures.state in
     let failed = c.from_residual.ensures.0 in
-    let ws = update_writes (not (volume_seen s table v).slot) (staging c.args.staged c.args.next.now) c.args.staged in
+    let ws = update_writes (not (volume_seen s table v).slot) (staged_seen s table v) c.args.next.now c.args.staged in
     let r = ran s t d ws true (read-stops s d ws stuck ∙ (λ i. (sym is i, true))) in
     let others = others-stay table s t v d x.0 x.1 r.apart in
     let server = server-seen table s v d x.0 x.1 in
     record {
-      written = read-stops s d ws stuck ∙ (λ i. (sym is i, sym failed i));
+      written = ap (λ q. read_and_write s q ws) at ∙ read-stops s d ws stuck ∙ (λ i. (sym is i, sym failed i));
       exact = λ rest. update-unread table s t v d x.0 c.args.next.now c.args.staged _ rest x.1 others stuck is failed;
       done = search rules;
       old_or_new = inl (subst (λ u. IsAsBefore s u table v) (sym is) (idle table s v d x.0 x.1));
       others = others;
       stands = ran-stands table s t d true r c.requires.stands;
       unarmed = r.unarmed;
-      settled = settled-along table s t (ap (λ (u : PlantState). u.block) is ∙ block-after_read s d) r.was_on;
       servers = λ q ne. r.others q (λ e. ne (e ∙ sym server));
       on = search rules;
       off = on_err c.from_residual.result (λ stopped. ap t.on server ∙ r.off refl);
@@ -52,52 +46,55 @@ returns-in_err-gate g c =
       no_fault = search rules;
     }
 
-pub change-requires : goal.change-requires
-change-requires g c =
+pub rewrite-requires-clause-device : goal.rewrite-requires-clause-device
+rewrite-requires-clause-device g c =
+    subst (λ y. IsDevice y c.find-place.result.device.0 13) (sym c.in_ok-slot.ensures.same)
+    (device-lies (g.P.Plant.state c.args.plant.now) c.args.config.now c.args.v.0 _ _ c.find-place.ensures c.requires.stands)
+
+pub rewrite-requires-clause-track : goal.rewrite-requires-clause-track
+rewrite-requires-clause-track g c =
+    let s = g.P.Plant.state c.args.plant.now in
     let table = c.args.config.now in
     let v = c.args.v.0 in
-    let same = sym c.in_ok-gate.ensures.same in
-    record {
-      defined = c.requires.defined;
-      stands = subst (StandsFor table) same c.requires.stands;
-      gate = subst (λ y. IsGate y table v c.in_ok-gate.gate) same c.in_ok-gate.ensures.gate;
-      lawful = subst (λ (y : PlantState). IsLawful (volume_seen y table v).tracks (plain c.args.next.now)) same c.requires.lawful;
-      within = subst (λ (y : PlantState). IfSome c.args.staged (λ t. t.0 < (volume_seen y table v).tracks)) same c.requires.within;
-      settled = subst (λ y. IsSettled y table v) same c.requires.settled;
-      covers = subst (λ (y : PlantState). Covers (volume_seen y table v).fields.blank c.args.next.now.blank c.args.staged) same c.requires.covers;
-    }
+    let d = c.find-place.result.device.0 in
+    let x = lies-of table s v d _ c.find-place.ensures c.requires.stands in
+    let old = staged-looked table s _ v d _ x.0 _ c.find-place.ensures x.1 c.in_ok-slot.ensures.same c.staged_on-old.ensures in
+    let is = ap stages c.stage.ensures ∙ staging-stages c.staged_on-old.result c.args.next.now in
+    subst (λ (y : PlantState). IfSome (stages c.stage.new.fields) (λ t. (t.0 < 256) × (13 + t.0 < y.size d))) (sym c.in_ok-slot.ensures.same)
+    (subst (λ (m : Carried). IfSome m (λ t. (t.0 < 256) × (13 + t.0 < s.size d))) (seen-staged table s v d x.0 x.1 ∙ sym old ∙ sym is)
+    (seen-fits table s v d _ c.find-place.ensures c.requires.stands).1)
 
 pub returns : goal.returns
 returns g c =
     let s = g.P.Plant.state c.args.plant.now in
-    let t = g.P.Plant.state c.change.new.plant in
+    let t = g.P.Plant.state c.rewrite.new.plant in
     let table = c.args.config.now in
     let v = c.args.v.0 in
-    let d = device_of table v in
+    let d = c.find-place.result.device.0 in
     let f = c.args.next.now in
     let m = c.args.staged in
-    let b = is_err c.change.result in
-    let gate = c.in_ok-gate.ensures.gate in
-    let slot : slot_of s d ≡ (volume_seen s table v).slot = gate.slot ∙ slot-opened s table v c.in_ok-gate.gate c.requires.defined gate in
-    let lies = lies-opened table v d c.tell_sound.ensures c.requires.defined refl in
-    let k = task table s v d lies.0 f m lies.1 c.requires.stands c.requires.lawful c.requires.within c.requires.covers c.requires.settled in
-    let run : Run s t d f m b =
-    ap (λ x. after_writes s d (update_writes (not x) (staging m f) m)) slot
-    ∙ subst (λ (y : PlantState). after_writes y d (update_writes (not (volume_seen y table v).slot) (staging m f) m) ≡ (t, b)) c.in_ok-gate.ensures.same c.change.ensures.written in
-    let all : Changed table s t v f m b = changed table s t v d k.0 f m b c.requires.stands k.1 run in
-    let can : can_read s d ≡ true = sym c.in_ok-gate.ensures.done in
+    let b = is_err c.rewrite.result in
+    let same = c.in_ok-slot.ensures.same in
+    let at = device-placed table v d c.find-place.ensures.place in
+    let k = task table s v d _ f m c.find-place.ensures c.requires.stands c.requires.lawful c.requires.within c.requires.covers in
+    let old = staged-looked table s _ v d _ k.0 _ c.find-place.ensures k.1.lies same c.staged_on-old.ensures in
+    let run : Run s t d k.0.tracks true f m b =
+    ap (λ o. after_writes s d (update_writes (not (slot_of s d)) o f m)) (sym old)
+    ∙ ap (after_writes s d) (sym (ap (λ g. update_writes (not (slot_of s d)) (stages g) g m) c.stage.ensures ∙ restaged (not (slot_of s d)) c.staged_on-old.result m f))
+    ∙ subst (λ (y : PlantState). after_writes y d (update_writes (not (slot_of y d)) (stages c.stage.new.fields) c.stage.new.fields m) ≡ (t, b)) same c.rewrite.ensures.written in
+    let all : Changed table s t v true f m b = changed table s t v d k.0 true f m b c.requires.stands k.1 run in
+    let can : can_read s d ≡ true = sym c.in_ok-slot.ensures.done in
     record {
-      written = read-goes s d _ can ∙ all.written;
+      written = ap (λ q. read_and_write s q (update_writes (not (volume_seen s table v).slot) (staged_seen s table v) f m)) at ∙ read-goes s d _ can ∙ ap (λ q. after_writes s q (update_writes (not (volume_seen s table v).slot) (staged_seen s table v) f m)) (sym at) ∙ all.written;
       exact = λ rest. read-first table s t v d k.0 _ b rest _ k.1.lies all.others (λ stuck. absurd (let never : true ≡ false = sym can ∙ stuck in cc)) (λ pass. all.exact rest) refl;
-      done = on_ok c.change.result all.done;
+      done = on_ok c.rewrite.result all.done;
       old_or_new = all.old_or_new;
       others = all.others;
       stands = all.stands;
       unarmed = all.unarmed;
-      settled = all.settled;
       servers = all.servers;
-      on = on_ok c.change.result all.on;
-      off = on_err c.change.result all.off;
-      fault = on_err c.change.result (λ stopped. all.faults ∙ ap (λ x. cond x (risen s.faults) s.faults) stopped);
-      no_fault = on_ok c.change.result (λ ok. all.faults ∙ ap (λ x. cond x (risen s.faults) s.faults) ok);
+      on = on_ok c.rewrite.result all.on;
+      off = on_err c.rewrite.result all.off;
+      fault = on_err c.rewrite.result (λ stopped. all.faults ∙ ap (λ x. cond x (risen s.faults) s.faults) stopped);
+      no_fault = on_ok c.rewrite.result (λ ok. all.faults ∙ ap (λ x. cond x (risen s.faults) s.faults) ok);
     }

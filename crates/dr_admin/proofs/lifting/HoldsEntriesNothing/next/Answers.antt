@@ -75,7 +75,7 @@ returns-clause-room g c =
     let t = c.args.config.now in
     let first = ap length (lift-first t c.unwrap-v.result.0 x.s.0 x.place (sym (ap (option_map (λ (v : VolumeId). v.0)) c.unwrap-v.ensures) ∙ c.volume_at.ensures.value)) in
     let few = lift-few s t c.unwrap-v.result x.s.0 c.lift_next.result c.lift_next.ensures in
-    subst (λ n. cost_of c.lift_next.result s t + length (lift_from t x.s.0 n) ≤ length (lift_from t x.s.0 x.place)) (sym (behind x.place (length t.volumes) c.volumes.result c.min-self.result c.volumes.ensures.count (there t x.s.0 x.place c.requires.some) c.min-self.ensures)) (omega (arith, first, few))
+    subst (λ n. cost_of c.lift_next.result s t + (length (lift_from t x.s.0 n) + length (lift_from t x.s.0 n)) ≤ length (lift_from t x.s.0 x.place) + length (lift_from t x.s.0 x.place)) (sym (behind x.place (length t.volumes) c.volumes.result c.min-self.result c.volumes.ensures.count (there t x.s.0 x.place c.requires.some) c.min-self.ensures)) (omega (arith, first, few))
 
 pub returns-clause-most : goal.returns-clause-most
 returns-clause-most g c = let fewer = returns-clause-room g c in omega (arith, fewer)
@@ -87,4 +87,4 @@ returns-clause-stop g c =
     let t = c.args.config.now in
     let few = lift-few s t c.unwrap-v.result x.s.0 c.lift_next.result c.lift_next.ensures in
     let some = c.requires.some in
-    most-few c.lift_next.result s t (length (lift_from t x.s.0 x.place) + 1) (omega (arith, few, some))
+    most-few c.lift_next.result s t (length (lift_from t x.s.0 x.place) + length (lift_from t x.s.0 x.place) + 1) (omega (arith, few, some))

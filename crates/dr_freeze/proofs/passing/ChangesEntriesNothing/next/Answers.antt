@@ -65,7 +65,7 @@ returns-clause-room g c =
     let t = c.args.config.now in
     let first = ap length (changes-next t x.x x.l.0 x.m.0 x.place c.unwrap-v.result.0 (sym (ap (option_map (λ (v : VolumeId). v.0)) c.unwrap-v.ensures) ∙ c.volume_at.ensures.value)) in
     let few = c.change_next.ensures.few in
-    subst (λ n. cost_of c.change_next.result (g.P.Plant.state c.args.plant.now) t + length (changes_from t x.x x.l.0 x.m.0 n) ≤ length (changes_from t x.x x.l.0 x.m.0 x.place)) (sym (behind x.place (length t.volumes) c.volumes.result c.min-self.result c.volumes.ensures.count (there t x.x x.l.0 x.m.0 x.place c.requires.some) c.min-self.ensures)) (omega (arith, first, few))
+    subst (λ n. cost_of c.change_next.result (g.P.Plant.state c.args.plant.now) t + (length (changes_from t x.x x.l.0 x.m.0 n) + length (changes_from t x.x x.l.0 x.m.0 n)) ≤ length (changes_from t x.x x.l.0 x.m.0 x.place) + length (changes_from t x.x x.l.0 x.m.0 x.place)) (sym (behind x.place (length t.volumes) c.volumes.result c.min-self.result c.volumes.ensures.count (there t x.x x.l.0 x.m.0 x.place c.requires.some) c.min-self.ensures)) (omega (arith, first, few))
 
 pub returns-clause-most : goal.returns-clause-most
 returns-clause-most g c = let fewer = returns-clause-room g c in omega (arith, fewer)
@@ -75,4 +75,4 @@ returns-clause-stop g c =
     let x = c.args.self.now in
     let few = c.change_next.ensures.few in
     let some = c.requires.some in
-    most-few c.change_next.result (g.P.Plant.state c.args.plant.now) c.args.config.now (length (changes_from c.args.config.now x.x x.l.0 x.m.0 x.place) + 1) (omega (arith, few, some))
+    most-few c.change_next.result (g.P.Plant.state c.args.plant.now) c.args.config.now (length (changes_from c.args.config.now x.x x.l.0 x.m.0 x.place) + length (changes_from c.args.config.now x.x x.l.0 x.m.0 x.place) + 1) (omega (arith, few, some))

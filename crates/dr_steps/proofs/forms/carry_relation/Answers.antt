@@ -3,7 +3,7 @@ use Rattle.dr_model.specs.Plans.{plan_of, make_flash_plan}
 use Rattle.dr_model.specs.Runs.{after_plan}
 use Rattle.dr_steps.specs.Here.{here}
 use Rattle.dr_steps.proofs.StepTaskLemmas.{none-relation}
-use Rattle.dr_steps.proofs.task.carry_relation.Goals as goal
+use Rattle.dr_steps.proofs.forms.carry_relation.Goals as goal
 
 pub returns-in-MakeFlash-clause-step : goal.returns-in-MakeFlash-clause-step
 returns-in-MakeFlash-clause-step g c line =
@@ -37,4 +37,4 @@ returns-in-UnfreezeFlash-clause-step g c line =
     ∙ c.unfreeze_flash.ensures.step line
 
 pub carry_pair-requires-clause-other : goal.carry_pair-requires-clause-other
-carry_pair-requires-clause-other g c = none-relation c.args.step.now c.in_default.not-MakeFlash c.in_default.not-RemoveFlash c.in_default.not-ResyncFlash c.in_default.not-ReverseFlash c.in_default.not-UnfreezeFlash c.in_default.not-Copy
+carry_pair-requires-clause-other g c = none-relation c.args.step.now c.in_default.not-MakeFlash c.in_default.not-RemoveFlash c.in_default.not-ResyncFlash c.in_default.not-ReverseFlash c.in_default.not-UnfreezeFlash c.in_default.not-Copy c.in_default.not-Destage

@@ -4,7 +4,7 @@ use Rattle.dr_model.specs.Runs.{after_plan}
 use Rattle.dr_steps.specs.Here.{here}
 use Rattle.dr_steps.proofs.CarriesLemmas.{carries-plan}
 use Rattle.dr_steps.proofs.StepTaskLemmas.{none-pair}
-use Rattle.dr_steps.proofs.task.carry_pair.Goals as goal
+use Rattle.dr_steps.proofs.forms.carry_pair.Goals as goal
 
 pub returns-in-MakePair-clause-step : goal.returns-in-MakePair-clause-step
 returns-in-MakePair-clause-step g c line =

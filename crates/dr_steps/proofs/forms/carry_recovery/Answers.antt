@@ -3,7 +3,7 @@ use Rattle.dr_model.specs.Plans.{plan_of}
 use Rattle.dr_model.specs.Runs.{after_plan}
 use Rattle.dr_steps.specs.Here.{here}
 use Rattle.dr_steps.proofs.StepTaskLemmas.{none-recovery}
-use Rattle.dr_steps.proofs.task.carry_recovery.Goals as goal
+use Rattle.dr_steps.proofs.forms.carry_recovery.Goals as goal
 
 pub returns-in-Recover-clause-step : goal.returns-in-Recover-clause-step
 returns-in-Recover-clause-step g c line =

@@ -1,5 +1,5 @@
 use Rattle.dr_steps.proofs.StepTaskLemmas.{none-session}
-use Rattle.dr_steps.proofs.task.carry_session.Goals as goal
+use Rattle.dr_steps.proofs.forms.carry_session.Goals as goal
 
 pub carry_recovery-requires-clause-session : goal.carry_recovery-requires-clause-session
 carry_recovery-requires-clause-session g c =
