@@ -25,7 +25,7 @@ CHAPTERS = [
     ("Journal and lists", "Histories Contents Tables Answers Refusals"),
     ("Moves", "Moves Carry Relations Pairs"),
     ("Plans by command", "Plans PlanParts Entries WriteEntries PairEntries Sessions Phases SessionPlans SessionEntries"
-                         " Forming RecoveryPlans"),
+                         " Messages MessagePlans Forming RecoveryPlans"),
     ("Grammar", "Grammar LineTable LineSteps LineWords"),
     ("Texts", "Text Spelling"),
 ]

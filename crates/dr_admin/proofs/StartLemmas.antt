@@ -1,16 +1,16 @@
 -- What starting a server comes to: its volumes write their staged tracks to their places and go on, and a write is
 -- acknowledged.
 use Rattle.std.proofs.Common.{ℕ, ◌≡◌, ◌≢◌, ◌<◌, ◌≤◌, ◌+◌, inl, inr, List, [], ◌∷◌, ◌++◌, length, slice_get, refl, ap, ◌∙◌, sym, subst, arith, Bool, true, false, ◌&&◌, cond, nat_eq, Option, Some, None}
-use Rattle.std.specs.Prelude.{option_map, Result, Ok, Err, IfOk, OnErr, if◌then◌else◌}
+use Rattle.std.specs.Prelude.{option_map, Result, Ok, Err, if◌then◌else◌}
 use Rattle.std.proofs.lemmas.Bool.Decides.{eqb_tells}
-use Rattle.std.proofs.lemmas.List.{drop_all, append-nil, append_assoc}
+use Rattle.std.proofs.lemmas.List.{drop_all, append_assoc}
 use Rattle.dr_logic.specs.Tables.{at}
-use Rattle.dr_ids.specs.declared.names.WriteId.{WriteId}
 use Rattle.dr_ids.specs.declared.refusal.Refusal.{Refusal}
 use Rattle.dr_plant.specs.State.{PlantState, started, started_read, started_write}
 use Rattle.dr_plant.specs.declared.plant.WriteFuse.{WriteFuse}
 use Rattle.dr_config.specs.Table.{ConfigTable, StandsFor}
 use Rattle.dr_config.specs.declared.entries.VolumeEntry.{VolumeEntry}
+use Rattle.dr_host.specs.Here.{here, rest_of}
 use Rattle.dr_host.specs.Writes as writes
 use Rattle.dr_host.specs.Writes.{Writes, has_owner, without}
 use Rattle.dr_host.proofs.Seen.{seen-landed}
@@ -20,13 +20,14 @@ use Rattle.dr_model.specs.declared.said.Addition.TheVariants.{Alone}
 use Rattle.dr_model.specs.declared.said.Said.TheVariants.{Done, Refused}
 use Rattle.dr_model.specs.Control.{World}
 use Rattle.dr_model.specs.Carry.{Entry, Do, Pass, Make, Redo, Acknowledge}
+use Rattle.dr_model.specs.Messages as messages
 use Rattle.dr_model.specs.ReadStops.{Ends}
 use Rattle.dr_model.specs.Plans.{Plan, only_says, landed_on, acknowledge_if, acknowledge_on, says_acked, fuse_at_start, starting, start_plan, start_on}
 use Rattle.dr_model.specs.Entries.{fields_at}
 use Rattle.dr_model.specs.Moves.{Restart}
 use Rattle.dr_model.specs.Pairs.{must_restart}
 use Rattle.dr_model.specs.WriteEntries.{redo_on, restart_on, start_entries}
-use Rattle.dr_volume.specs.View.{Rest, ids_of, fuses_seen, fuse_seen}
+use Rattle.dr_volume.specs.View.{Rest, with_flight, ids_of, fuses_seen, fuse_seen}
 use Rattle.dr_volume.proofs.WorldLaws.{on-at, on-seen, fuses-at, fuse-seen}
 use Rattle.dr_moves.specs.Here.{world_seen, armed_in, IsAtRest}
 use Rattle.dr_moves.specs.Turns.{Advances, Halts}
@@ -36,8 +37,8 @@ use Rattle.dr_facts.proofs.Ends.{ends-none, ends-skips, ends-wider}
 use Rattle.dr_moves.specs.Ready.{Stayed}
 use Rattle.dr_model.specs.Log.{Log}
 use Rattle.dr_logic.specs.Counts.{Counted}
-use Rattle.dr_admin.specs.Answering.{Comes, write_number}
-use Rattle.dr_admin.specs.Starting.{hosted, start_from, start_events, acks, without_acked}
+use Rattle.dr_admin.specs.Answering.{Comes}
+use Rattle.dr_admin.specs.Starting.{start_from, start_events, acks, without_acked}
 use Rattle.dr_admin.proofs.OwnerLemmas.{belongs-seen}
 use Rattle.dr_logic.proofs.Tables.{at_same, at_other}
 
@@ -165,7 +166,7 @@ started-fuse (Some f) = elim (nat_eq f.after 0) as (λ b. fuse_seen (cond (cond 
 
 -- the machine's state then
 started-here : (s : PlantState) (t : ConfigTable) (r : Rest) (ev mid : List Event) (server : ℕ) → server < 8 → mid ≡ ev ++ Started server ∷ []
-    → record (world_seen s t r ev) { control = starting server (world_seen s t r ev).control; events = ev ++ Started server ∷ [] } ≡ world_seen (started s server) t r mid
+    → record (world_seen s t r ev) { control = starting server (world_seen s t r ev).control; events = ev ++ Started server ∷ [] } ≡ world_seen (started s server) t (with_flight (messages.started server r.flight) r) mid
 unfolding started
 started-here s t r ev mid server low told i =
     let w : World = world_seen s t r ev in
@@ -173,6 +174,7 @@ started-here s t r ev mid server low told i =
       control = record w.control {
         on = sym (on-at s (started s server) server true low refl) i;
         fuse = (ap (λ f. at (fuses_seen s) server (fuse_at_start f)) (fuse-seen s server low) ∙ ap (at (fuses_seen s) server) (sym (started-fuse (s.write_fuse server))) ∙ sym (fuses-at s (started s server) server (started_write (s.write_fuse server)) low refl)) i;
+        flight = messages.started server r.flight;
       };
       events = sym told i;
     }
@@ -181,10 +183,10 @@ started-here s t r ev mid server low told i =
 
 module _ (s : PlantState) (t : ConfigTable) (r : Rest) (h : Writes) (ev : List Event) (server : ℕ) where
   abbrev x : World
-  x = hosted s t r h ev
+  x = here s t r h ev
 
   pub landed-here : writes.landed_on t server h.pending ≡ landed_on x.control server
-  landed-here = seen-landed t x.control server h.pending refl (λ v. belongs-seen s t (record r { issued = h.issued; pending = x.control.pending }) ev v server)
+  landed-here = seen-landed t x.control server h.pending refl (λ v. belongs-seen s t (rest_of r h ev) ev v server)
 
   pub acked-none : (armed : ℕ → Bool) → writes.landed_on t server h.pending ≡ None → Ends armed x None x (acknowledge_on server ∷ [])
   acked-none armed none = ends-skips armed x None x (acknowledge_on server) [] (ap acknowledge_if (sym landed-here ∙ none)) (ends-none armed x None x (record { world = refl; refusal = refl }))
@@ -197,28 +199,19 @@ module _ (s : PlantState) (t : ConfigTable) (r : Rest) (h : Writes) (ev : List E
   plan-off : server < 8 → s.on server ≡ false → start_on x.control server ≡ start_plan x.control server
   plan-off low off = ap (λ b. cond b (only_says (Done Alone)) (start_plan x.control server)) (on-seen s server low ∙ off)
 
-  plan-on : server < 8 → s.on server ≡ true → start_on x.control server ≡ only_says (Done Alone)
-  plan-on low on = ap (λ b. cond b (only_says (Done Alone)) (start_plan x.control server)) (on-seen s server low ∙ on)
-
-  -- the server was on already
-  pub comes-on : (armed : ℕ → Bool) → server < 8 → s.on server ≡ true → Comes armed x (start_on x.control server) x (Done Alone)
-  comes-on armed low on = subst (λ (p : Plan). Comes armed x p x (Done Alone)) (sym (plan-on low on)) (record {
-    refusal = None;
-    carried = ends-none armed x None _ (record { world = λ i. record x { events = sym (append-nil ev) i }; refusal = refl });
-    tables = refl;
-    alone = λ q. refl;
-    answer = refl;
-  })
-
-  -- it was off, and all went so
+  -- how it went
   module _ (low : server < 8) (off : s.on server ≡ false) (mid : List Event) (told : mid ≡ ev ++ Started server ∷ []) (u : World) where
     abbrev entries : List Entry
     entries = start_from t server 0 ++ acknowledge_on server ∷ []
 
-    begins : (armed : ℕ → Bool) (q : Option Refusal) → Ends armed u q (hosted (started s server) t r h mid) entries → Ends armed u q (record x { control = starting server x.control; events = ev ++ Started server ∷ [] }) entries
-    begins armed q ends = subst (λ (y : World). Ends armed u q y entries) (sym (started-here s t (record r { issued = h.issued; pending = x.control.pending }) ev mid server low told)) ends
+    -- as the entries begin
+    abbrev begins_in : World
+    begins_in = here (started s server) t (with_flight (messages.started server r.flight) r) h mid
 
-    pub comes-done : (armed : ℕ → Bool) (a : Option ℕ) → Ends armed u None (hosted (started s server) t r h mid) entries → a ≡ writes.landed_on t server h.pending → Comes armed x (start_on x.control server) u (says_acked a)
+    begins : (armed : ℕ → Bool) (q : Option Refusal) → Ends armed u q begins_in entries → Ends armed u q (record x { control = starting server x.control; events = ev ++ Started server ∷ [] }) entries
+    begins armed q ends = subst (λ (y : World). Ends armed u q y entries) (sym (started-here s t (rest_of r h ev) ev mid server low told)) ends
+
+    pub comes-done : (armed : ℕ → Bool) (a : Option ℕ) → Ends armed u None begins_in entries → a ≡ writes.landed_on t server h.pending → Comes armed x (start_on x.control server) u (says_acked a)
     comes-done armed a ends is = subst (λ (p : Plan). Comes armed x p u (says_acked a)) (sym (plan-off low off)) (record {
       refusal = None;
       carried = begins armed None ends;
@@ -227,7 +220,7 @@ module _ (s : PlantState) (t : ConfigTable) (r : Rest) (h : Writes) (ev : List E
       answer = ap says_acked (sym (is ∙ landed-here));
     })
 
-    pub comes-failed : (armed : ℕ → Bool) (why : Refusal) → Ends armed u (Some why) (hosted (started s server) t r h mid) entries → Comes armed x (start_on x.control server) u (Refused why)
+    pub comes-failed : (armed : ℕ → Bool) (why : Refusal) → Ends armed u (Some why) begins_in entries → Comes armed x (start_on x.control server) u (Refused why)
     comes-failed armed why ends = subst (λ (p : Plan). Comes armed x p u (Refused why)) (sym (plan-off low off)) (record {
       refusal = Some why;
       carried = begins armed (Some why) ends;
@@ -238,21 +231,10 @@ module _ (s : PlantState) (t : ConfigTable) (r : Rest) (h : Writes) (ev : List E
 
 -- ---- what is told
 
-pub told-both : (server : ℕ) (a : Option ℕ) (ev mid now : List Event) → mid ≡ ev ++ Started server ∷ [] → now ≡ mid ++ acks a → now ≡ ev ++ start_events false server a
+pub told-both : (server : ℕ) (a : Option ℕ) (ev mid now : List Event) → mid ≡ ev ++ Started server ∷ [] → now ≡ mid ++ acks a → now ≡ ev ++ start_events server a
 told-both server a ev mid now first second = second ∙ ap (λ es. es ++ acks a) first ∙ append_assoc ev (Started server ∷ []) (acks a)
 
--- a server that was on is told of nothing
-pub told-none : (on : Bool) (server : ℕ) (ev : List Event) → on ≡ true → ev ≡ ev ++ start_events on server None
-told-none on server ev is = sym (append-nil ev) ∙ ap (λ b. ev ++ start_events b server None) (sym is)
-
-pub room-none : (on : Bool) (server n : ℕ) → on ≡ true → n ≡ n + length (start_events on server None)
-room-none on server n is = let none : n ≡ n + 0 = omega arith in none ∙ ap (λ b. n + length (start_events b server None)) (sym is)
-
-issued-without : (a : Option ℕ) (h h' : Writes) → h' ≡ without_acked a h → h'.issued ≡ h.issued
+-- a start issues no write
+pub issued-without : (a : Option ℕ) (h h' : Writes) → h' ≡ without_acked a h → h'.issued ≡ h.issued
 issued-without None h h' is = ap (λ (x : Writes). x.issued) is
 issued-without (Some n) h h' is = ap (λ (x : Writes). x.issued) is
-
--- a start issues no write
-pub issued-same : (res : Result (Option WriteId) Refusal) (h h' : Writes) → IfOk res (λ a. h' ≡ without_acked (write_number a) h) → OnErr res (h' ≡ h) → h'.issued ≡ h.issued
-issued-same (Ok a) h h' is same = issued-without (write_number a) h h' is
-issued-same (Err e) h h' is same = ap (λ (x : Writes). x.issued) same

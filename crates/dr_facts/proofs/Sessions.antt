@@ -1,12 +1,17 @@
--- A session that is found in the table, the table where no server went off, and how long the table is.
+-- A session that is found in the table, the tables where no server went off, and how long the table is.
 use Rattle.std.proofs.Common.{◌≡◌, refl, Option, Some, None, ℕ, true, false, cond, List, [], ◌∷◌, sym, ◌∙◌, ap, ◌==◌, Bool, not, ◌&&◌, nat_lt, nat_le, filter, option_map, ◌++◌, ◌≤◌, ◌<◌, ◌+◌, length, arith}
 use Rattle.std.proofs.lemmas.List.{length-append}
 use Rattle.std.proofs.lemmas.Bool.Decides.{nat_tests}
 use Rattle.dr_ids.specs.declared.refusal.Refusal.TheVariants.{Limit}
 use Rattle.dr_ids.specs.declared.refusal.Which.TheVariants as limit
-use Rattle.std.proofs.lemmas.Bool.{eqb-true}
+use Rattle.std.proofs.lemmas.Bool.{eqb-true, and_right}
+use Rattle.std.proofs.lemmas.List.Folds.{list_any_none}
 use Rattle.dr_model.specs.Sessions.{Session, Mirror, in_session, session_in, all_low, mirror_lost_since, lost_since, changed, without_session, is_only, left_by, leaves, left, joined_by, new_session, joins, joined, join_refusal}
 use Rattle.dr_model.specs.Phases as phases
+use Rattle.dr_model.specs.Control.{Control}
+use Rattle.dr_model.specs.Messages.{Flight, loses, loses_master, loses_in, is_lost}
+use Rattle.dr_model.specs.Messages as messages
+use Rattle.dr_model.specs.Carried.{losing}
 use Rattle.dr_ids.specs.declared.names.Member.{Member}
 use Rattle.dr_facts.proofs.Lists.{from-filter, all-each, each-all}
 
@@ -42,6 +47,29 @@ lost-none on (x ∷ ss) = λ i. record x { mirror = mirrors x.mirror i } ∷ los
     mirrors : (o : Option Mirror) → option_map (mirror_lost_since on on) o ≡ o
     mirrors None = refl
     mirrors (Some r) = ap (λ q. Some q) (same-mirror r)
+
+-- and no epoch begins
+flight-kept : (on : ℕ → Bool) (ss : List Session) (f : Flight) → messages.lost_since on on ss f ≡ f
+flight-kept on ss f = λ i. record f { epoch = λ s. ap (λ b. cond b (f.epoch s + 1) (f.epoch s)) (none s) i }
+  where
+    -- a server isn't both on and off
+    stays : (r : Mirror) → loses on on r ≡ false
+    stays r = by (on r.server)
+      where
+        by : (b : Bool) → (b && (not b && is_lost (Some (phases.phase_lost r.master.servers)))) ≡ false
+        by true = refl
+        by false = refl
+
+    keeps : (o : Option Mirror) → loses_master on on o ≡ false
+    keeps None = refl
+    keeps (Some r) = stays r
+
+    none : (s : ℕ) → loses_in on on s ss ≡ false
+    none s = list_any_none (λ (x : Session). x.number == s && loses_master on on x.mirror) ss (λ n x low. and_right _ _ (keeps _))
+
+-- so nothing changes
+pub losing-none : (k : Control) → losing k.on k ≡ k
+losing-none k = λ i. record k { sessions = lost-none k.on k.sessions i; flight = flight-kept k.on k.sessions k.flight i }
 
 -- ---- how many sessions there are
 

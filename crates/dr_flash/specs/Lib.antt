@@ -3,4 +3,3 @@ pub mod Heads
 pub mod Keeping
 pub mod Standing
 pub mod HostWrites
-pub mod Making

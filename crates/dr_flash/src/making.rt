@@ -7,7 +7,7 @@ ghost use Rattle.dr_config.specs.Table.{StandsFor, place_of};
 ghost use Rattle.dr_model.specs.declared.event.Event.{Event};
 ghost use Rattle.dr_model.specs.Carry.{now};
 ghost use Rattle.dr_model.specs.Moves.{Relate};
-ghost use Rattle.dr_model.specs.Plans.{alike_checks, free_checks, flash_entries};
+ghost use Rattle.dr_model.specs.Plans.{alike_checks, free_checks, establish_checks, flash_entries};
 ghost use Rattle.dr_model.specs.ReadStops.{Ends};
 ghost use Rattle.dr_model.specs.Refusals.{stopped};
 ghost use Rattle.dr_volume.specs.Update.{OthersStay};
@@ -17,7 +17,6 @@ ghost use Rattle.dr_moves.specs.Fit.{RelationsFit};
 ghost use Rattle.dr_moves.specs.Here.{world_seen, refusal_of, armed_in, IsAtRest};
 ghost use Rattle.dr_moves.specs.Made.{MayRelate};
 ghost use Rattle.dr_moves.specs.Options.{choices};
-ghost use Rattle.dr_flash.specs.Making.{establish_checks};
 ghost use Rattle.dr_flash.specs.Views.{view_seen, OthersShow};
 
 use crate::standing::{look_at_targets, relation_state};

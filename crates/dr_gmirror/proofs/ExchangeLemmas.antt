@@ -1,13 +1,15 @@
 -- The plan of an exchange, from what the calls say.
 use Rattle.std.proofs.Common.{ℕ, ◌≡◌, ◌+◌, Bool, true, false, ◌&&◌, nat_le, List, [], ◌++◌, length, refl, sym, ◌∙◌, ap, subst, Option, None, Some}
-use Rattle.std.specs.Prelude.{if◌then◌else◌}
+use Rattle.std.specs.Prelude.{Result, Ok, Err, OnOk, if◌then◌else◌}
+use Rattle.std.specs.Result.{result_and}
 use Rattle.dr_ids.specs.declared.names.Member.{Member}
 use Rattle.dr_ids.specs.declared.refusal.Refusal.{Refusal}
 use Rattle.dr_ids.specs.declared.refusal.Refusal.TheVariants.{Stopped as StoppedIn, OutOfOrder}
 use Rattle.dr_ids.specs.declared.refusal.PhaseName.TheVariants as phase
 use Rattle.dr_plant.specs.State.{PlantState}
 use Rattle.dr_config.specs.Table.{ConfigTable}
-use Rattle.dr_master.specs.Seen.{reply_of, count_in}
+use Rattle.dr_master.specs.Seen.{reply_of, count_in, work_of}
+use Rattle.dr_master.specs.declared.orders.OrderKind.{OrderKind}
 use Rattle.dr_master.specs.declared.reports.Reply.{Reply}
 use Rattle.dr_session.specs.Seen.{expects}
 use Rattle.dr_model.specs.declared.event.Event.{Event}
@@ -21,10 +23,10 @@ use Rattle.dr_model.specs.Groups.{In}
 use Rattle.dr_model.specs.Laws.{Sound}
 use Rattle.dr_model.specs.Pairs.{is_secondary_of}
 use Rattle.dr_model.specs.Carry.{Entry, follow, Outcome}
-use Rattle.dr_model.specs.PlanParts.{same, none_follow, refuses, unless}
+use Rattle.dr_model.specs.PlanParts.{none_follow, refuses, unless}
 use Rattle.dr_model.specs.ReadStops.{Ends}
 use Rattle.dr_model.specs.SessionEntries.{members_on, reply_after}
-use Rattle.dr_model.specs.SessionPlans.{answered_by, exchange_done, exchange_on, exchange_refusal, order_of}
+use Rattle.dr_model.specs.SessionPlans.{exchanged, exchange_done, exchange_on, exchange_refusal, order_of}
 use Rattle.dr_model.proofs.CarryLemmas.{carry-none}
 use Rattle.dr_laws_recovery.specs.TakenOver.{IsLeft}
 use Rattle.dr_laws_recovery.proofs.TakenOver.{leaves-carried}
@@ -33,7 +35,7 @@ use Rattle.dr_moves.specs.Here.{world_seen}
 use Rattle.dr_facts.proofs.Ends.{ends-none}
 use Rattle.dr_gmirror.specs.declared.looks.Look.{Look}
 use Rattle.dr_gmirror.specs.Orders.{with_sessions}
-use Rattle.dr_gmirror.specs.Exchange.{PlanEnds, Looks, LooksAt, members_in_reply, is_awaited}
+use Rattle.dr_gmirror.specs.Exchange.{PlanEnds, exchange_rest, Looks, LooksAt, members_in_reply, is_awaited}
 use Rattle.dr_laws_sound.proofs.RefusedPlans.{same-begun}
 
 -- a plan that is a refusal
@@ -54,12 +56,17 @@ pub follow-nothing : (w : World) (r : Refusal) → w ≡ follow w r none_follow
 follow-nothing w (StoppedIn s) = sym (ap (λ (o : Outcome). o.0) (carry-none w))
 follow-nothing w _ = refl
 
--- the sessions after an exchange
-pub last-world : (reply : Bool) (u : PlantState) (t : ConfigTable) (mid new : List Session) (r : Rest) (events : List Event) (s server : ℕ) (work : phases.Work) (ms : List Member) (y : phases.Reply)
-    → new ≡ (if reply then changed s (with_master (λ m. phases.taken m server y)) mid else mid) → y ≡ reply_after s work ms (world_seen u t (with_sessions mid r) events).control
-    → world_seen u t (with_sessions new r) events ≡ record (world_seen u t (with_sessions mid r) events) { control = (if reply then answered_by s server work ms else same) (world_seen u t (with_sessions mid r) events).control }
-last-world true u t mid new r events s server work ms y is says = ap (λ z. world_seen u t (with_sessions z r) events) (is ∙ ap (λ a. changed s (with_master (λ m. phases.taken m server a)) mid) says)
-last-world false u t mid new r events s server work ms y is says = ap (λ z. world_seen u t (with_sessions z r) events) is
+-- the sessions and the flight after an exchange
+pub last-world : (reply : Bool) (u : PlantState) (t : ConfigTable) (mid new : List Session) (r : Rest) (events : List Event) (s server : ℕ) (kind : OrderKind) (ms : List Member) (y : phases.Reply)
+    → new ≡ (if reply then changed s (with_master (λ m. phases.taken m server y)) mid else mid) → y ≡ reply_after s (work_of kind) ms (world_seen u t (with_sessions mid r) events).control
+    → world_seen u t (exchange_rest (Ok kind) s server new r) events ≡ record (world_seen u t (with_sessions mid r) events) { control = exchanged s server reply (work_of kind) ms (world_seen u t (with_sessions mid r) events).control }
+last-world true u t mid new r events s server kind ms y is says = ap (λ z. world_seen u t (exchange_rest (Ok kind) s server z r) events) (is ∙ ap (λ a. changed s (with_master (λ m. phases.taken m server a)) mid) says)
+last-world false u t mid new r events s server kind ms y is says = ap (λ z. world_seen u t (exchange_rest (Ok kind) s server z r) events) is
+
+-- what holds where an exchange went well, whatever it gives back
+pub ok-alone : {T E : Type 0} (P : Type 0) (r : Result T E) → OnOk (result_and r (Ok (tt {0}))) P → OnOk r P
+ok-alone P (Ok x) h = h
+ok-alone P (Err e) h = h
 
 -- the reply is one that the master awaits
 pub expected-by : (o : Option Mirror) (server : ℕ) (y : Reply) (a : phases.Reply) → reply_of y ≡ a → count_in y ≡ members_in_reply (reply_of y) → is_awaited o server a ≡ true → expects o server y ≡ true

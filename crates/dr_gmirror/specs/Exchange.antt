@@ -5,20 +5,23 @@ use Rattle.dr_ids.specs.declared.refusal.PhaseName.{PhaseName}
 use Rattle.dr_ids.specs.declared.refusal.PhaseName.TheVariants as phase
 use Rattle.dr_ids.specs.declared.refusal.Refusal.{Refusal}
 use Rattle.dr_ids.specs.declared.refusal.Refusal.TheVariants.{OutOfOrder}
-use Rattle.dr_master.specs.Seen.{order_of as order_seen}
+use Rattle.dr_master.specs.Seen.{order_of as order_seen, work_of}
+use Rattle.dr_master.specs.declared.orders.OrderKind.{OrderKind}
 use Rattle.dr_model.specs.declared.said.Said.{Said}
 use Rattle.dr_model.specs.declared.said.Said.TheVariants.{Refused}
+use Rattle.dr_model.specs.Messages.{Flight, heard}
 use Rattle.dr_model.specs.Phases as phases
-use Rattle.dr_model.specs.Sessions.{Mirror, session_in, mirror_in, members_in}
+use Rattle.dr_model.specs.Sessions.{Mirror, Session, session_in, mirror_in, members_in}
 use Rattle.dr_model.specs.Control.{Control, World}
 use Rattle.dr_model.specs.PlanParts.{Plan}
 use Rattle.dr_model.specs.Runs.{begun, finish, answered}
 use Rattle.dr_model.specs.ReadStops.{Ends}
 use Rattle.dr_model.specs.SessionEntries.{order_entries, members_on, reply_after}
 use Rattle.dr_model.specs.SessionPlans.{exchange_refusal, order_of, says_phase}
+use Rattle.dr_volume.specs.View.{Rest, with_flight}
 use Rattle.dr_moves.specs.Turns.{Leads}
 use Rattle.dr_gmirror.specs.declared.looks.Look.{Look}
-use Rattle.dr_gmirror.specs.Orders.{MayOrder}
+use Rattle.dr_gmirror.specs.Orders.{MayOrder, with_sessions}
 
 -- A plan is carried out from w, where reads may fail: how its entries ended, what follows, and what is answered.
 pub record PlanEnds (armed : ℕ → Bool) (w : World) (p : Plan) (u : World) (answer : Said) : Type 0 where
@@ -29,9 +32,18 @@ pub record PlanEnds (armed : ℕ → Bool) (w : World) (p : Plan) (u : World) (a
   pub answers : answer ≡ answered p u.control refusal
 
 -- what an exchange answers: its session's phase after it, or why it failed
-abbrev pub exchange_answer : Result (Unit {0}) Refusal → ℕ → Control → Said
-exchange_answer (Ok x) s k = says_phase s k
+abbrev pub exchange_answer : Result OrderKind Refusal → ℕ → Control → Said
+exchange_answer (Ok kind) s k = says_phase s k
 exchange_answer (Err why) s k = Refused why
+
+-- the messages in flight behind it: where the order that was carried out is a report, the server's fence has risen to the session's epoch
+abbrev pub exchange_flight : Result OrderKind Refusal → ℕ → ℕ → Flight → Flight
+exchange_flight (Ok kind) s server f = heard s server (f.epoch s) (work_of kind) f
+exchange_flight (Err why) s server f = f
+
+-- what else a run knows behind it, with these sessions
+abbrev pub exchange_rest : Result OrderKind Refusal → ℕ → ℕ → List Session → Rest → Rest
+exchange_rest result s server ss r = with_flight (exchange_flight result s server r.flight) (with_sessions ss r)
 
 -- why there is no exchange: there is no master, or the master and the server say so
 abbrev pub refusal_in : Control → Option Mirror → ℕ → List Member → Option Refusal

@@ -1,6 +1,7 @@
 //! A session's master and a server exchange an order and the reply.
 
-ghost use Rattle.std.specs.Prelude.{◌≡◌, ◌≢◌, ℕ, ◌<◌, ◌≤◌, ◌+◌, ◌&&◌, true, false, length, None, Some, IfSome, List, OnOk, OnErr, option_map, if◌then◌else◌};
+ghost use Rattle.std.specs.Prelude.{◌≡◌, ◌≢◌, ℕ, ◌<◌, ◌≤◌, ◌+◌, ◌&&◌, true, false, length, None, Some, Ok, IfSome, List, OnOk, OnErr, option_map, if◌then◌else◌};
+ghost use Rattle.std.specs.Result.{result_and};
 ghost use Rattle.dr_logic.specs.Counts.{Counted};
 ghost use Rattle.dr_ids.specs.declared.names.Member.{Member};
 ghost use Rattle.dr_ids.specs.declared.refusal.PhaseName.TheVariants as phase;
@@ -26,7 +27,7 @@ ghost use Rattle.dr_moves.specs.Made.{IsAt, Kept};
 ghost use Rattle.dr_moves.specs.Aside.{AsideFits};
 ghost use Rattle.dr_laws_recovery.specs.TakenOver.{IsLeft};
 ghost use Rattle.dr_gmirror.specs.Orders.{with_sessions, AreReady};
-ghost use Rattle.dr_gmirror.specs.Exchange.{PlanEnds, exchange_answer, refusal_in, order_in, says_shown, can_settle, Looks, IsNear, MayExchange};
+ghost use Rattle.dr_gmirror.specs.Exchange.{PlanEnds, exchange_answer, exchange_rest, refusal_in, order_in, says_shown, can_settle, Looks, IsNear, MayExchange};
 
 use crate::looks::{Look, apart_refusal, has_member_on, idle_refusal, is_idle, off_refusal};
 use crate::orders::carry_out;
@@ -136,7 +137,7 @@ fn reply_if(ss: &mut Sessions, s: SessionId, server: ServerId, y: Reply, on: boo
     }
 }
 
-/// The server carries out the order, and the master may learn of its reply.
+/// The server carries out the order, of which the kind is given back, and the master may learn of its reply.
 fn exchange_order<P: Plant>(
     plant: &mut P,
     config: &Config,
@@ -146,7 +147,7 @@ fn exchange_order<P: Plant>(
     server: ServerId,
     order: Order,
     reply: bool,
-) -> Result<(), Refusal>
+) -> Result<OrderKind, Refusal>
     requires at { IsAt (P.state plant.old) config.now }
     requires aside { AsideFits (P.state plant.old) config.now }
     requires members { AreReady (P.state plant.old) config.now (model.members_in (model.session_in ss.old.sessions s.0)) }
@@ -157,27 +158,28 @@ fn exchange_order<P: Plant>(
     requires room { length (model.members_in (model.session_in ss.old.sessions s.0)) + length (model.members_in (model.session_in ss.old.sessions s.0)) + 2 ≤ journal.old.spare }
     ensures carried { (r : Rest) → PlanEnds (armed_in (P.state plant.old)) (world_seen (P.state plant.old) config.now (with_sessions ss.old.sessions r) journal.old.events)
         (plans.exchange_done s.0 server.0 reply (members_on server.0 (model.members_in (model.session_in ss.old.sessions s.0))) (Some (master.order_of order)))
-        (world_seen (P.state plant.new) config.now (with_sessions ss.new.sessions r) journal.new.events) (exchange_answer result s.0 (world_seen (P.state plant.new) config.now (with_sessions ss.new.sessions r) journal.new.events).control) }
-    ensures kept { Kept (P.state plant.old) (P.state plant.new) config.now journal.old journal.new (length (model.members_in (model.session_in ss.old.sessions s.0)) + length (model.members_in (model.session_in ss.old.sessions s.0)) + 2) (is_stop (refusal_of result)) result }
+        (world_seen (P.state plant.new) config.now (exchange_rest result s.0 server.0 ss.new.sessions r) journal.new.events) (exchange_answer result s.0 (world_seen (P.state plant.new) config.now (exchange_rest result s.0 server.0 ss.new.sessions r) journal.new.events).control) }
+    ensures kept { Kept (P.state plant.old) (P.state plant.new) config.now journal.old journal.new (length (model.members_in (model.session_in ss.old.sessions s.0)) + length (model.members_in (model.session_in ss.old.sessions s.0)) + 2) (is_stop (refusal_of result)) (result_and result (Ok tt)) }
 {
     match carry_out(plant, config, journal, ss, s, server, order) {
         Ok(y) => {
             reply_if(ss, s, server, y, reply);
-            Ok(())
+            Ok(order.kind)
         }
         Err(why) => Err(why),
     }
 }
 
-/// A server carries out what a session's master asks of it, and the master learns of the reply where it is to. Where no
-/// attempt goes on, the exchange begins one: the order is the hold of the next attempt. Refused where the session has no
-/// master, or else where the master's server is off; or else, where no attempt goes on, where the master is paused or the
-/// server has no members, or the next number would be 2^32, and in other phases where the server isn't owed the phase's
-/// order; or else where the server is off, or else where the link between the two servers is down. Then nothing has changed.
-/// Fails too where a member refuses, or where a server stops in a move or goes off at a read; what was done by then stays, and
-/// the master learns of nothing. A lost master to which all have reported goes on by what they show. In a sound world the target
-/// of a member whose secondary isn't its primary's, as after a takeover, stays as it is. The journal needs room
-/// for two events for each of the session's members, which are at most 64, and two more.
+/// A server carries out what a session's master asks of it, and the master learns of the reply where it is to. The kind of the
+/// order is given back: a report raises the server's fence to the session's epoch, which the caller is to do. Where no attempt
+/// goes on, the exchange begins one: the order is the hold of the next attempt. Refused where the session has no master, or
+/// else where the master's server is off; or else, where no attempt goes on, where the master is paused or the server has no
+/// members, or the next number would be 2^32, and in other phases where the server isn't owed the phase's order; or else where
+/// the server is off, or else where the link between the two servers is down. Then nothing has changed. Fails too where a
+/// member refuses, or where a server stops in a move or goes off at a read; what was done by then stays, and the master learns
+/// of nothing. A lost master to which all have reported goes on by what they show. In a sound world the target of a member
+/// whose secondary isn't its primary's, as after a takeover, stays as it is. The journal needs room for two events for each of
+/// the session's members, which are at most 64, and two more.
 pub fn exchange<P: Plant>(
     plant: &mut P,
     config: &Config,
@@ -186,7 +188,7 @@ pub fn exchange<P: Plant>(
     s: SessionId,
     server: ServerId,
     reply: bool,
-) -> Result<(), Refusal>
+) -> Result<OrderKind, Refusal>
     requires rest { IsAtRest (P.state plant.old) config.now }
     requires fit { RelationsFit (P.state plant.old) config.now }
     requires aside { AsideFits (P.state plant.old) config.now }
@@ -201,12 +203,12 @@ pub fn exchange<P: Plant>(
     requires room { length (model.members_in (model.session_in ss.old.sessions s.0)) + length (model.members_in (model.session_in ss.old.sessions s.0)) + 2 ≤ journal.old.spare }
     ensures carried { (r : Rest) → PlanEnds (armed_in (P.state plant.old)) (world_seen (P.state plant.old) config.now (with_sessions ss.old.sessions r) journal.old.events)
         (plans.exchange_on (world_seen (P.state plant.old) config.now (with_sessions ss.old.sessions r) journal.old.events).control s.0 (model.mirror_in (model.session_in ss.old.sessions s.0)) server.0 reply (model.members_in (model.session_in ss.old.sessions s.0)))
-        (world_seen (P.state plant.new) config.now (with_sessions ss.new.sessions r) journal.new.events) (exchange_answer result s.0 (world_seen (P.state plant.new) config.now (with_sessions ss.new.sessions r) journal.new.events).control) }
+        (world_seen (P.state plant.new) config.now (exchange_rest result s.0 server.0 ss.new.sessions r) journal.new.events) (exchange_answer result s.0 (world_seen (P.state plant.new) config.now (exchange_rest result s.0 server.0 ss.new.sessions r) journal.new.events).control) }
     ensures refused { (r : Rest) (why : Refusal) → refusal_in (world_seen (P.state plant.old) config.now (with_sessions ss.old.sessions r) journal.old.events).control (model.mirror_in (model.session_in ss.old.sessions s.0)) server.0 (model.members_in (model.session_in ss.old.sessions s.0)) ≡ Some why
         → (refusal_of result ≡ Some why) × (P.state plant.new ≡ P.state plant.old) × (journal.new ≡ journal.old) × (ss.new ≡ ss.old) }
     ensures leaves { (r : Rest) (x : Session) (m : Member) → Sound (world_seen (P.state plant.old) config.now (with_sessions ss.old.sessions r) journal.old.events) → In x ss.old.sessions → In m x.members
         → is_secondary_of m.a.0 (fields_at (world_seen (P.state plant.old) config.now (with_sessions ss.old.sessions r) journal.old.events).control m.b.0) ≡ false
-        → IsLeft (world_seen (P.state plant.old) config.now (with_sessions ss.old.sessions r) journal.old.events) (world_seen (P.state plant.new) config.now (with_sessions ss.new.sessions r) journal.new.events) m }
+        → IsLeft (world_seen (P.state plant.old) config.now (with_sessions ss.old.sessions r) journal.old.events) (world_seen (P.state plant.new) config.now (exchange_rest result s.0 server.0 ss.new.sessions r) journal.new.events) m }
     ensures rest { IsAtRest (P.state plant.new) config.now }
     ensures fit { RelationsFit (P.state plant.new) config.now }
     ensures aside { AsideFits (P.state plant.new) config.now }

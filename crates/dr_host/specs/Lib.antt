@@ -1,3 +1,4 @@
 pub mod Writes
 pub mod Seen
 pub mod Hearing
+pub mod Here

@@ -11,6 +11,7 @@ pub enum Kind {
     Session,
     Track,
     Master,
+    Message,
 }
 
 /// The limit that was reached, or the size or server that doesn't fit.

@@ -16,29 +16,35 @@ use Rattle.dr_model.specs.Pairs.{held_for, is_secondary_of}
 use Rattle.dr_model.specs.Moves.{Move, Carried, target, next_fields}
 use Rattle.dr_model.specs.Entries.{fields_at, is_at}
 use Rattle.dr_model.specs.Sessions.{Session, Mirror, with_mirror, with_master, mirror_lost_since, mirrored_by, unmirrored, paused, raised, with_member, without_member, changed, begun, busy}
-use Rattle.dr_model.specs.Groups.{In, Groups, OpensAttempt}
+use Rattle.dr_model.specs.Groups.{In, Groups, Due, OpensAttempt}
 use Rattle.dr_model.specs.Attempts.{Role, Roles, role_of, roles, Seen, seen, all_seen, seen_in, All, Bars, Barred, NumbersAgree, InPhase, phase_of, owed_of, reports_of, IsAttempt, Attempts, AttemptsIn, FlashesMember, RevertsMember, InAttempt, IsLate, IsOver, OverIn}
 use Rattle.dr_laws_sessions.specs.Frames.{Moves}
-use Rattle.dr_facts.proofs.Tables.{IsOrNot, at_cases, at_part}
+use Rattle.dr_facts.proofs.Tables.{IsOrNot, at_part}
 use Rattle.dr_facts.proofs.Lists.{in-joined, from-filter, from-map, to-map}
 use Rattle.dr_laws_sessions.proofs.Changes.{same-session, changed-stays}
 use Rattle.dr_laws_sessions.proofs.Sound.{quiet-of}
+use Rattle.dr_laws_attempts.proofs.Turns.{HoldComes}
 use Rattle.dr_laws_attempts.proofs.TurnsKeep.{kept-barred}
 use Rattle.dr_laws_attempts.proofs.Places.{Turning, Stays, One, Steps}
 use Rattle.dr_laws_attempts.proofs.Moves.{roles-moved, keeps, is-secondary, flashable}
 use Rattle.dr_laws_attempts.proofs.Members.{quiet-raised}
-use Rattle.dr_laws_attempts.proofs.Tables.{with-begun, opened-steps, quiet-phase}
+use Rattle.dr_laws_attempts.proofs.Tables.{with-begun, opened-steps, quiet-phase, quiet-unrecorded}
 use Rattle.dr_laws_sessions.proofs.Members.{quiet-members}
 use Rattle.dr_logic.proofs.Truth.{false_true}
 
 -- ---- a session's members change
 
-over-turns : (p : PhaseName) (n : ℕ) (owed : List ℕ) (reports : List Shown) (vs us : List Seen) → IsAttempt p n owed reports vs → Turning p n vs us → IsOver p n vs → IsOver p n us
+-- no hold comes any more
+late-unheld : (p : PhaseName) → IsLate p → HoldComes p → ⊥
+late-unheld phase.Coordinating late hold = late
+late-unheld p late hold = hold
+
+over-turns : (p : PhaseName) (n : ℕ) (owed : List ℕ) (reports : List Shown) (vs us : List Seen) → IsAttempt p n owed reports vs → Turning p n owed reports vs us → IsOver p n vs → IsOver p n us
 over-turns p n owed reports vs us law (Stays is) over = subst (IsOver p n) (sym is) over
 over-turns p n owed reports vs us law (One v k move may) over = record {
   late = over.late;
   positive = over.positive;
-  barred = kept-barred p n owed reports vs law v us k move may (λ e. subst IsLate e over.late) over.positive over.barred;
+  barred = kept-barred p n owed reports vs law v us k move may (λ low h. late-unheld p over.late h) over.positive over.barred;
 }
 
 over-steps : (ss : List Session) (T S : Roles) (x : Session) → In x ss → AttemptsIn ss T → Steps ss T S → OverIn T x → OverIn S x
@@ -54,18 +60,18 @@ over-moved k j m c x moves may groups law i over =
 pub over-opened : (k j : Control) (v s n : ℕ) (c : Carried) (x : Session) → Moves k j v (held_for n (fields_at k v)) c → OpensAttempt k v s n → Groups k → Attempts k → In x k.sessions → x.number ≢ s → OverIn (roles k) x → OverIn (roles j) x
 over-opened k j v s n c x moves opens groups law i other over =
     subst (λ S. OverIn S x) (sym (roles-moved k j v (held_for n (fields_at k v)) c moves))
-    (over-steps (changed s begun k.sessions) (roles k) (at (roles k) v (record (roles k v) { attempt = n })) x (changed-stays s begun k.sessions x i other) (with-begun k groups law v s n opens) (opened-steps k groups law v s n opens) over)
+    (over-steps (changed s begun k.sessions) (roles k) (at (roles k) v (record (roles k v) { attempt = n; recording = true; held = true })) x (changed-stays s begun k.sessions x i other) (with-begun k groups law v s n opens) (opened-steps k groups law v s n opens) over)
 
 -- ---- it begins
 
-free : (n : ℕ) (u : Seen) → u.paired ≡ false → Bars n u.revertible u.paired u.seal u.floor
+free : (n : ℕ) (u : Seen) → u.paired ≡ false → Bars n u.revertible u.paired u.recording u.seal u.floor
 free n u h = record { taken = λ r. h; spent = λ r q. false_true h q }
 
 -- a revertible target of a session that stands: an attempt from its first flash on
 late-by : (p : PhaseName) (n : ℕ) (owed : List ℕ) (reports : List Shown) (vs : List Seen) (v : Seen) → In v vs → v.revertible ≡ true → InPhase p n owed reports vs → IsLate p
 late-by phase.Coordinating n owed reports vs v here r h = false_true (h.before.unflashed v here) r
-late-by phase.Releasing n owed reports vs v here r h = false_true (h.unflashed v here) r
-late-by phase.Draining n owed reports vs v here r h = false_true (h.unflashed v here) r
+late-by phase.Releasing n owed reports vs v here r h = false_true (h.before.unflashed v here) r
+late-by phase.Draining n owed reports vs v here r h = false_true (h.before.unflashed v here) r
 late-by p n owed reports vs v here r h = tt
 
 -- where a target is reverted whose source isn't its primary's secondary any more, all secondaries of the session are taken
@@ -75,7 +81,7 @@ over-begins k j v a s n c x moves p groups law i number taken =
     subst (OverIn (roles j)) is (record {
       late = late-by (phase_of p.place.session.mirror) p.place.session.last (owed_of p.place.session.mirror) (reports_of p.place.session.mirror) (seen_in k p.place.session) (seen (roles k) p.place.member) here flag (law.sessions p.place.session p.place.listed).phase;
       positive = let low : (seen (roles k) p.place.member).floor < p.place.session.last = ((law.sessions p.place.session p.place.listed).numbers.each (seen (roles k) p.place.member) here).above flag in omega arith;
-      barred = λ u h. let o = from-map (seen (roles j)) p.place.session.members u h in subst (λ u. Bars p.place.session.last u.revertible u.paired u.seal u.floor) (sym o.is) (free p.place.session.last (seen (roles j) o.from) (apart o.from o.here));
+      barred = λ u h. let o = from-map (seen (roles j)) p.place.session.members u h in subst (λ u. Bars p.place.session.last u.revertible u.paired u.recording u.seal u.floor) (sym o.is) (free p.place.session.last (seen (roles j) o.from) (apart o.from o.here));
     })
   where
     is : p.place.session ≡ x
@@ -90,7 +96,7 @@ over-begins k j v a s n c x moves p groups law i number taken =
     all : All (λ u. u.paired ≡ false) (seen_in k p.place.session)
     all = by p.way
       where
-        by : ((phase_of p.place.session.mirror ≡ phase.Reverting) × (is_secondary_of a (fields_at k p.place.member.b.0) ≡ true)) ⊎ All (λ u. u.paired ≡ false) (seen_in k p.place.session) → All (λ u. u.paired ≡ false) (seen_in k p.place.session)
+        by : (Due p.place.session p.place.member.server.0 phases.Revert n × (is_secondary_of a (fields_at k p.place.member.b.0) ≡ true)) ⊎ All (λ u. u.paired ≡ false) (seen_in k p.place.session) → All (λ u. u.paired ≡ false) (seen_in k p.place.session)
         by (inl e) = false_true (taken p.place.member (subst (λ (z : Session). In p.place.member z.members) is p.place.here) p.place.is) e.1
         by (inr h) = h
 
@@ -104,14 +110,14 @@ over-begins k j v a s n c x moves p groups law i number taken =
 
 pub over-unflashed : (k : Control) (x : Session) (v u a n : ℕ) → Groups k → In x k.sessions → OverIn (roles k) x → FlashesMember k v u a x.number n → ⊥
 over-unflashed k x v u a n groups i over p =
-    (over.barred (seen (roles k) p.place.member) (to-map (seen (roles k)) x.members p.place.member here)).spent
+    ((over.barred (seen (roles k) p.place.member) (to-map (seen (roles k)) x.members p.place.member here)).spent
     (ap (λ c. (roles k c).revertible) p.target ∙ (flashable u (fields_at k v) p.free).plain)
     (ap (λ b. is_at (roles k b).primary p.place.member.a.0) p.secondary ∙ (ap (λ a. is_at (roles k u).primary a) p.place.is ∙ (sym (is-secondary a (fields_at k u)) ∙ p.paired)))
-    (ap (λ b. (roles k b).seal) p.secondary ∙ (p.sealed ∙ (p.last ∙ ap (λ (z : Session). z.last) is)))
     (let low : (fields_at k v).floor < n = p.low in
     let same : (roles k p.place.member.c.0).floor ≡ (fields_at k v).floor = ap (λ c. (roles k c).floor) p.target in
     let last : n ≡ x.last = p.last ∙ ap (λ (z : Session). z.last) is in
-    omega arith)
+    omega arith)).0
+    (ap (λ b. (roles k b).seal) p.secondary ∙ (p.sealed ∙ (p.last ∙ ap (λ (z : Session). z.last) is)))
   where
     is : p.place.session ≡ x
     is = same-session k.sessions p.place.session x groups.once p.place.listed i p.place.number
@@ -192,18 +198,21 @@ over-unmirrored T x over = record { late = tt; positive = over.positive; barred 
 -- ---- members
 
 -- a later number is none of those for which they are sealed
-over-later : (n q : ℕ) (vs : List Seen) → NumbersAgree n vs → n ≤ q → Barred n vs → Barred q vs
-over-later n q vs numbers up bar = by (eqb_tells n q)
+over-later : (n q : ℕ) (vs : List Seen) → NumbersAgree n vs → All (λ u. u.recording ≡ false) vs → n ≤ q → Barred n vs → Barred q vs
+over-later n q vs numbers silent up bar = by (eqb_tells n q)
   where
     by : IsOrNot n q → Barred q vs
     by (inl is) = subst (λ q. Barred q vs) is.1 bar
-    by (inr other) = λ u h. record { taken = (bar u h).taken; spent = λ r p z less. let seal : u.seal ≤ n = (numbers.each u h).seal in let d : n ≢ q = other.1 in absurd (omega arith) }
+    by (inr other) = λ u h. record {
+      taken = (bar u h).taken;
+      spent = λ r p less. (λ z. let same : u.seal ≡ q = z in let seal : u.seal ≤ n = (numbers.each u h).seal in let d : n ≢ q = other.1 in absurd (omega arith), silent u h);
+    }
 
-pub over-raised : (k : Control) (x : Session) (n : ℕ) → Attempts k → In x k.sessions → busy x.mirror ≡ None → OverIn (roles k) x → OverIn (roles k) (raised n x)
-over-raised k x n law i idle over = record {
+pub over-raised : (k : Control) (x : Session) (n : ℕ) → Groups k → Attempts k → In x k.sessions → busy x.mirror ≡ None → OverIn (roles k) x → OverIn (roles k) (raised n x)
+over-raised k x n groups law i idle over = record {
   late = subst IsLate (sym (quiet-phase (raised n x) (quiet-raised n x (quiet-of x idle)))) tt;
   positive = let above : 0 < x.last = over.positive in omega arith;
-  barred = over-later x.last (max x.last n) (seen_in k x) (law.sessions x i).numbers (omega arith) over.barred;
+  barred = over-later x.last (max x.last n) (seen_in k x) (law.sessions x i).numbers (quiet-unrecorded k groups law x i (quiet-of x idle)) (omega arith) over.barred;
 }
 
 -- one that comes has a floor that forbids the last number, and doesn't count
@@ -211,20 +220,20 @@ pub over-added : (T : Roles) (x : Session) (m : Member) → busy x.mirror ≡ No
 over-added T x m idle high plain over = record {
   late = subst IsLate (sym (quiet-phase (with_member m x) (quiet-members (x.members ++ m ∷ []) x (quiet-of x idle)))) tt;
   positive = over.positive;
-  barred = λ u h. let o = from-map (seen T) (x.members ++ m ∷ []) u h in subst (λ u. Bars x.last u.revertible u.paired u.seal u.floor) (sym o.is) (by o.from (in-joined x.members (m ∷ []) o.from o.here));
+  barred = λ u h. let o = from-map (seen T) (x.members ++ m ∷ []) u h in subst (λ u. Bars x.last u.revertible u.paired u.recording u.seal u.floor) (sym o.is) (by o.from (in-joined x.members (m ∷ []) o.from o.here));
 }
   where
-    new : Bars x.last (seen T m).revertible (seen T m).paired (seen T m).seal (seen T m).floor
-    new = record { taken = λ r. false_true plain r; spent = λ r p z less. absurd (omega arith) }
+    new : Bars x.last (seen T m).revertible (seen T m).paired (seen T m).recording (seen T m).seal (seen T m).floor
+    new = record { taken = λ r. false_true plain r; spent = λ r p less. absurd (omega arith) }
 
-    by : (q : Member) → In q x.members ⊎ In q (m ∷ []) → Bars x.last (seen T q).revertible (seen T q).paired (seen T q).seal (seen T q).floor
+    by : (q : Member) → In q x.members ⊎ In q (m ∷ []) → Bars x.last (seen T q).revertible (seen T q).paired (seen T q).recording (seen T q).seal (seen T q).floor
     by q (inl here) = over.barred (seen T q) (to-map (seen T) x.members q here)
-    by q (inr (inl is)) = subst (λ q. Bars x.last (seen T q).revertible (seen T q).paired (seen T q).seal (seen T q).floor) (sym is) new
+    by q (inr (inl is)) = subst (λ q. Bars x.last (seen T q).revertible (seen T q).paired (seen T q).recording (seen T q).seal (seen T q).floor) (sym is) new
     by q (inr (inr never)) = absurd never
 
 pub over-removed : (T : Roles) (x : Session) (a : ℕ) → busy x.mirror ≡ None → OverIn T x → OverIn T (without_member a x)
 over-removed T x a idle over = record {
   late = subst IsLate (sym (quiet-phase (without_member a x) (quiet-members (filter (λ (m : Member). not (m.a.0 == a)) x.members) x (quiet-of x idle)))) tt;
   positive = over.positive;
-  barred = λ u h. let o = from-map (seen T) (filter (λ (m : Member). not (m.a.0 == a)) x.members) u h in subst (λ u. Bars x.last u.revertible u.paired u.seal u.floor) (sym o.is) (over.barred (seen T o.from) (to-map (seen T) x.members o.from (from-filter (λ (m : Member). not (m.a.0 == a)) x.members o.from o.here).0));
+  barred = λ u h. let o = from-map (seen T) (filter (λ (m : Member). not (m.a.0 == a)) x.members) u h in subst (λ u. Bars x.last u.revertible u.paired u.recording u.seal u.floor) (sym o.is) (over.barred (seen T o.from) (to-map (seen T) x.members o.from (from-filter (λ (m : Member). not (m.a.0 == a)) x.members o.from o.here).0));
 }

@@ -1,10 +1,8 @@
 -- What checks of plans on single volumes give for the laws of attempts.
-use Rattle.std.proofs.Common.{ℕ, ◌≡◌, ◌⊎◌, inl, inr, refl, ap, sym, ◌∙◌, subst, Bool, true, false, cond, ◌&&◌, ◌||◌, nat_eq, None, Some}
+use Rattle.std.proofs.Common.{ℕ, ◌≡◌, ◌⊎◌, inl, inr, refl, ap, sym, ◌∙◌, subst, true, false, ◌&&◌, ◌||◌, Some}
 use Rattle.std.specs.List.{list_any}
-use Rattle.std.proofs.lemmas.Bool.{and_from, eq-eqb, or_right, or_parts}
-use Rattle.std.proofs.lemmas.Option.{same_Some}
+use Rattle.std.proofs.lemmas.Bool.{or_right, or_parts}
 use Rattle.dr_ids.specs.declared.names.Member.{Member}
-use Rattle.dr_model.specs.Layout.{Fields}
 use Rattle.dr_model.specs.Views.{source_of}
 use Rattle.dr_model.specs.Control.{Control}
 use Rattle.dr_model.specs.Entries.{fields_at, copies_from, targets_of, stands_in, is_revertible}

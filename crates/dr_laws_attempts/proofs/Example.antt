@@ -1,5 +1,5 @@
 -- The example goes through all phases, and its laws hold all the way.
-use Rattle.std.proofs.Common.{ℕ, ◌≡◌, ◌⊎◌, ◌<◌, inl, inr, refl, ap, sym, subst, ◌∙◌, arith, Bool, true, false, [], ◌∷◌, Some, None}
+use Rattle.std.proofs.Common.{ℕ, ◌≡◌, ◌⊎◌, ◌<◌, ◌≤◌, inl, inr, refl, ap, sym, subst, ◌∙◌, arith, Bool, true, false, [], ◌∷◌, Some, None}
 use Rattle.std.proofs.lemmas.Option.{same_Some}
 use Rattle.dr_ids.specs.declared.names.Member.{Member}
 use Rattle.dr_ids.specs.declared.refusal.PhaseName.TheVariants as phase
@@ -8,22 +8,22 @@ use Rattle.dr_model.specs.Decisions.{decision, decided}
 use Rattle.dr_model.specs.Control.{Control}
 use Rattle.dr_model.specs.Phases as phases
 use Rattle.dr_model.specs.Moves.{Move, Hold, Free, Seal, Flash, Commit, Revert, Finish, TakeOver}
-use Rattle.dr_model.specs.Pairs.{held_for}
+use Rattle.dr_model.specs.Pairs.{held_for, records}
 use Rattle.dr_model.specs.Entries.{fields_at}
 use Rattle.dr_model.specs.PairEntries.{send_refusal}
 use Rattle.dr_model.specs.Sessions.{Session, Mirror, session_in, changed, begun, has_subsystem, subsystem_of}
 use Rattle.dr_model.specs.SessionEntries.{flash_refusal, commit_refusal, is_flashed, is_committed, shown_by_members}
-use Rattle.dr_model.specs.Groups.{In, IsAt, PlacesDiffer, MemberStands, MasterStands, OwesServers, SessionFits, Groups, HoldsMember, OpensAttempt}
-use Rattle.dr_model.specs.Attempts.{Seen, seen, all_seen, roles, committed, number_shown, Numbered, phase_of, AttemptOf, Attempts, InAttempt, ServerDone}
+use Rattle.dr_model.specs.Groups.{In, IsAt, PlacesDiffer, MemberStands, MasterStands, OwesServers, SessionFits, Groups, Due, HoldsMember, OpensAttempt}
+use Rattle.dr_model.specs.Attempts.{Seen, seen, all_seen, roles, committed, number_shown, AllHeld, AllFlashed, Numbered, phase_of, AttemptOf, Attempts, InAttempt, WorkDone, ServerDone}
 use Rattle.dr_laws_sessions.specs.Frames.{Suits, ServerSilent}
 use Rattle.dr_laws_sessions.proofs.Owed.{owes-idle}
 use Rattle.dr_laws_sessions.proofs.Quieting.{groups-move, moved-opened}
 use Rattle.dr_laws_sessions.proofs.Tables.{groups-taken}
 use Rattle.dr_laws_attempts.specs.Orders.{LeavesTargetsAlone}
-use Rattle.dr_laws_attempts.specs.Example.{first, second, session, start, move, told, reply, report, now, in_phase, held, freed, sealed, flashing, one_flashed, flashed, one_committed, all_committed, over, both, lost, aborted, reported, taken_back}
+use Rattle.dr_laws_attempts.specs.Example.{first, second, session, start, move, told, reply, report, now, master_now, in_phase, held, freed, sealed, flashing, one_flashed, flashed, one_committed, all_committed, over, both, lost, aborted, reported, taken_back}
 use Rattle.dr_laws_attempts.proofs.Moves.{attempts-move}
 use Rattle.dr_laws_attempts.proofs.Tables.{attempts-opened, with-done}
-use Rattle.dr_laws_attempts.proofs.Orders.{done-calm, order-frees, order-seals, order-flashes, order-commits, order-finishes}
+use Rattle.dr_laws_attempts.proofs.Orders.{done-calm, done-asked, order-frees, order-seals, order-flashes, order-commits, order-finishes}
 
 -- ---- the first state is lawful
 
@@ -103,6 +103,12 @@ start-attempts = record {
       some = inl (by-seen (λ v. committed 0 v ≡ false) refl refl);
       none = inr (record { number = 1; apart = λ e. cc; same = by-seen (λ v. v.member ≡ true → number_shown v ≡ 1) (λ h. absurd cc) (λ h. absurd cc) });
     };
+    follows = record {
+      free = by-seen (λ v. v.recording ≡ true → v.held ≡ false → AllHeld 0 (all_seen (roles start) session.members)) (λ r. absurd cc) (λ r. absurd cc);
+      turned = by-seen (λ v. v.revertible ≡ true → AllHeld 0 (all_seen (roles start) session.members)) (λ r. absurd cc) (λ r. absurd cc);
+      settled = by-seen (λ v. committed 0 v ≡ true → AllHeld 0 (all_seen (roles start) session.members) × AllFlashed 0 (all_seen (roles start) session.members)) (λ c. absurd cc) (λ c. absurd cc);
+      sealed = by-seen (λ v. v.paired ≡ true → v.seal ≡ 0 → 0 ≤ v.attempt) (λ to is. omega arith) (λ to is. omega arith);
+    };
     phase = by-seen (λ v. v.revertible ≡ false) refl refl;
     owes = tt;
   });
@@ -115,7 +121,7 @@ start-attempts = record {
     by-seen P a b v (inr (inl is)) = subst P (sym is) b
     by-seen P a b v (inr (inr none)) = absurd none
 
-    numbered : {server : ℕ} {x : Bool} → Numbered 0 (record { server = server; attempt = 0; paired = x; seal = 0; sequence = 0; previous = 0; revertible = false; member = false; floor = 0 })
+    numbered : {server : ℕ} {x : Bool} → Numbered 0 (record { server = server; attempt = 0; recording = false; held = false; paired = x; seal = 0; sequence = 0; previous = 0; revertible = false; member = false; floor = 0 })
     numbered = record { attempt = omega arith; seal = omega arith; floor = omega arith; sequence = λ h. omega arith; last = λ h. absurd cc; above = λ h. absurd cc; reached = λ h. absurd cc }
 
 start-both : Both start
@@ -211,31 +217,38 @@ opened-both = record {
 
 holds : HoldsMember opened 4 7 1
 unfolding changed
-holds = record { place = record { session = now opened; listed = inl refl; number = refl; mirror = record { server = 0; paused = false; master = phases.begun (phases.idle (0 ∷ 1 ∷ []) 0) }; has_master = refl; member = second; here = inr (inl refl); is = refl }; coordinates = refl; last = refl; to = refl }
+holds = record { place = record { session = now opened; listed = inl refl; number = refl; mirror = record { server = 0; paused = false; master = phases.begun (phases.idle (0 ∷ 1 ∷ []) 0) }; has_master = refl; member = second; here = inr (inl refl); is = refl }; due = record { mirror = record { server = 0; paused = false; master = phases.begun (phases.idle (0 ∷ 1 ∷ []) 0) }; has_master = refl; owed = refl; works = refl; number = refl }; last = refl; to = refl }
 
 held-both : Both held
 held-both = moves opened opened-both (Hold 4 7 1 false) (holds, omega arith) holds
 
 module _ (k : Control) (b : Both k) (found : session_in k.sessions 7 ≡ Some (now k)) where
-  -- replies where targets are left alone, and where each member of the server is done
-  calmly : (server : ℕ) → LeavesTargetsAlone (in_phase k) → (in_phase k ≡ phase.Finishing → ⊥) → Both (reply server k)
-  calmly server calm ne = answers k b server (now k) found (done-calm k (now k) server calm) (λ r has ends. absurd (ne (ap phase_of has ∙ ends)))
+  -- replies where the server has done its work, and where that asks nothing of members
+  doing : (server : ℕ) (work : phases.Work) → phases.work_in (in_phase k) ≡ Some work → (in_phase k ≡ phase.Finishing → ⊥) → WorkDone k (now k).members server work (now k).last → Both (reply server k)
+  doing server work asks ne done = answers k b server (now k) found (done-asked k (now k) server work (now k).last asks refl done) (λ r has ends. absurd (ne (ap phase_of has ∙ ends)))
 
-  doing : (server : ℕ) → (in_phase k ≡ phase.Finishing → ⊥) → ServerDone k (now k) server → Both (reply server k)
-  doing server ne done = answers k b server (now k) found done (λ r has ends. absurd (ne (ap phase_of has ∙ ends)))
+  calmly : (server : ℕ) (work : phases.Work) → phases.work_in (in_phase k) ≡ Some work → LeavesTargetsAlone work → (in_phase k ≡ phase.Finishing → ⊥) → Both (reply server k)
+  calmly server work asks calm ne = doing server work asks ne (done-calm k (now k).members server work (now k).last calm)
 
   module _ (m : Member) (here : In m (now k).members) where
-    frees : in_phase k ≡ phase.Releasing → Both (move (Free m.a.0) k)
-    frees e = moves k b (Free m.a.0) (order-frees k b.groups b.attempts 7 (now k) found m here e) tt
+    -- its server is owed this work by the master
+    abbrev Owes : phases.Work → Type 0
+    Owes work = ((now k).mirror ≡ Some (master_now k)) × ((phases.is_among m.server.0 (master_now k).master.owed ≡ true) × (phases.work_in (master_now k).master.phase ≡ Some work))
 
-    seals : (now k).last ≡ 1 → in_phase k ≡ phase.Draining → Both (move (Seal m.b.0 m.a.0 7 1) k)
-    seals last e = moves k b (Seal m.b.0 m.a.0 7 1) (order-seals k b.groups b.attempts 7 (now k) found m here 1 last e) tt
+    due : (work : phases.Work) (n : ℕ) → Owes work → n ≡ (now k).last → Due (now k) m.server.0 work n
+    due work n owes last = record { mirror = master_now k; has_master = owes.0; owed = owes.1.0; works = owes.1.1; number = last }
 
-    flash-moves : (now k).last ≡ 1 → in_phase k ≡ phase.Flashing → send_refusal m.a.0 m.b.0 k ≡ None → flash_refusal m.b.0 m.c.0 1 k ≡ None → is_flashed 1 (fields_at k m.c.0) ≡ false → Both (move (Flash m.c.0 m.b.0 m.a.0 7 1) k)
-    flash-moves last e sends passes new = moves k b (Flash m.c.0 m.b.0 m.a.0 7 1) (order-flashes k b.groups b.attempts 7 (now k) found m here 1 last e sends passes new) tt
+    frees : Owes phases.Release → Both (move (Free m.a.0) k)
+    frees e = moves k b (Free m.a.0) (order-frees k b.groups b.attempts 7 (now k) found m here (due phases.Release (now k).last e refl)) tt
 
-    commit-moves : (now k).last ≡ 1 → in_phase k ≡ phase.Committing → send_refusal m.a.0 m.b.0 k ≡ None → commit_refusal m.c.0 1 k ≡ None → is_committed 1 (fields_at k m.c.0) ≡ false → Both (move (Commit m.c.0 m.a.0 7 1) k)
-    commit-moves last e sends passes new = moves k b (Commit m.c.0 m.a.0 7 1) (order-commits k b.groups b.attempts 7 (now k) found m here 1 last e sends passes new) tt
+    seals : (now k).last ≡ 1 → Owes phases.Seal → records 1 (fields_at k m.a.0) ≡ true → Both (move (Seal m.b.0 m.a.0 7 1) k)
+    seals last e rec = moves k b (Seal m.b.0 m.a.0 7 1) (order-seals k b.groups b.attempts 7 (now k) found m here 1 last (due phases.Seal 1 e (sym last)) rec) tt
+
+    flash-moves : (now k).last ≡ 1 → Owes phases.Flash → send_refusal m.a.0 m.b.0 k ≡ None → flash_refusal m.b.0 m.c.0 1 k ≡ None → is_flashed 1 (fields_at k m.c.0) ≡ false → Both (move (Flash m.c.0 m.b.0 m.a.0 7 1) k)
+    flash-moves last e sends passes new = moves k b (Flash m.c.0 m.b.0 m.a.0 7 1) (order-flashes k b.groups b.attempts 7 (now k) found m here 1 last (due phases.Flash 1 e (sym last)) sends passes new) tt
+
+    commit-moves : (now k).last ≡ 1 → Owes phases.Commit → send_refusal m.a.0 m.b.0 k ≡ None → commit_refusal m.c.0 1 k ≡ None → is_committed 1 (fields_at k m.c.0) ≡ false → Both (move (Commit m.c.0 m.a.0 7 1) k)
+    commit-moves last e sends passes new = moves k b (Commit m.c.0 m.a.0 7 1) (order-commits k b.groups b.attempts 7 (now k) found m here 1 last (due phases.Commit 1 e (sym last)) sends passes new) tt
 
     finish-moves : (now k).last ≡ 1 → Both (move (Finish m.a.0 1) k)
     finish-moves last = moves k b (Finish m.a.0 1) (order-finishes k b.groups b.attempts 7 (now k) found m here 1 last) tt
@@ -256,39 +269,39 @@ on-second P a m (inr (inr none)) at = absurd none
 
 released-both : Both (both held)
 unfolding changed
-released-both = calmly (reply 0 held) (calmly held held-both refl 0 tt (λ e. cc)) refl 1 tt (λ e. cc)
+released-both = doing (reply 0 held) (doing held held-both refl 0 phases.Hold refl (λ e. cc) (on-first (λ m. 1 ≤ (seen (roles held) m).attempt) (omega arith))) refl 1 phases.Hold refl (λ e. cc) (on-second (λ m. 1 ≤ (seen (roles held) m).attempt) (omega arith))
 
 freed-both : Both freed
 unfolding changed
-freed-both = frees (move (Free 1) (both held)) (frees (both held) released-both refl first (inl refl) refl) refl second (inr (inl refl)) refl
+freed-both = frees (move (Free 1) (both held)) (frees (both held) released-both refl first (inl refl) (refl, (refl, refl))) refl second (inr (inl refl)) (refl, (refl, refl))
 
 draining-both : Both (both freed)
 unfolding changed
-draining-both = calmly (reply 0 freed) (calmly freed freed-both refl 0 tt (λ e. cc)) refl 1 tt (λ e. cc)
+draining-both = calmly (reply 0 freed) (calmly freed freed-both refl 0 phases.Release refl tt (λ e. cc)) refl 1 phases.Release refl tt (λ e. cc)
 
 sealed-both : Both sealed
 unfolding changed
-sealed-both = seals (move (Seal 2 1 7 1) (both freed)) (seals (both freed) draining-both refl first (inl refl) refl refl) refl second (inr (inl refl)) refl refl
+sealed-both = seals (move (Seal 2 1 7 1) (both freed)) (seals (both freed) draining-both refl first (inl refl) refl (refl, (refl, refl)) refl) refl second (inr (inl refl)) refl (refl, (refl, refl)) refl
 
 flashing-both : Both flashing
 unfolding changed
-flashing-both = calmly (reply 0 sealed) (calmly sealed sealed-both refl 0 tt (λ e. cc)) refl 1 tt (λ e. cc)
+flashing-both = calmly (reply 0 sealed) (calmly sealed sealed-both refl 0 phases.Seal refl tt (λ e. cc)) refl 1 phases.Seal refl tt (λ e. cc)
 
 one-flashed-both : Both one_flashed
 unfolding changed
-one-flashed-both = doing (move (Flash 3 2 1 7 1) flashing) (flash-moves flashing flashing-both refl first (inl refl) refl refl refl refl refl) refl 0 (λ e. cc) (on-first (λ m. (seen (roles (move (Flash 3 2 1 7 1) flashing)) m).revertible ≡ true) refl)
+one-flashed-both = doing (move (Flash 3 2 1 7 1) flashing) (flash-moves flashing flashing-both refl first (inl refl) refl (refl, (refl, refl)) refl refl refl) refl 0 phases.Flash refl (λ e. cc) (on-first (λ m. (seen (roles (move (Flash 3 2 1 7 1) flashing)) m).revertible ≡ true) refl)
 
 flashed-both : Both flashed
 unfolding changed
-flashed-both = doing (move (Flash 6 5 4 7 1) one_flashed) (flash-moves one_flashed one-flashed-both refl second (inr (inl refl)) refl refl refl refl refl) refl 1 (λ e. cc) (on-second (λ m. (seen (roles (move (Flash 6 5 4 7 1) one_flashed)) m).revertible ≡ true) refl)
+flashed-both = doing (move (Flash 6 5 4 7 1) one_flashed) (flash-moves one_flashed one-flashed-both refl second (inr (inl refl)) refl (refl, (refl, refl)) refl refl refl) refl 1 phases.Flash refl (λ e. cc) (on-second (λ m. (seen (roles (move (Flash 6 5 4 7 1) one_flashed)) m).revertible ≡ true) refl)
 
 one-committed-both : Both one_committed
 unfolding changed
-one-committed-both = doing (move (Commit 3 1 7 1) flashed) (commit-moves flashed flashed-both refl first (inl refl) refl refl refl refl refl) refl 0 (λ e. cc) (on-first (λ m. (seen (roles (move (Commit 3 1 7 1) flashed)) m).revertible ≡ false) refl)
+one-committed-both = doing (move (Commit 3 1 7 1) flashed) (commit-moves flashed flashed-both refl first (inl refl) refl (refl, (refl, refl)) refl refl refl) refl 0 phases.Commit refl (λ e. cc) (on-first (λ m. (seen (roles (move (Commit 3 1 7 1) flashed)) m).revertible ≡ false) refl)
 
 all-committed-both : Both all_committed
 unfolding changed
-all-committed-both = doing (move (Commit 6 4 7 1) one_committed) (commit-moves one_committed one-committed-both refl second (inr (inl refl)) refl refl refl refl refl) refl 1 (λ e. cc) (on-second (λ m. (seen (roles (move (Commit 6 4 7 1) one_committed)) m).revertible ≡ false) refl)
+all-committed-both = doing (move (Commit 6 4 7 1) one_committed) (commit-moves one_committed one-committed-both refl second (inr (inl refl)) refl (refl, (refl, refl)) refl refl refl) refl 1 phases.Commit refl (λ e. cc) (on-second (λ m. (seen (roles (move (Commit 6 4 7 1) one_committed)) m).revertible ≡ false) refl)
 
 abbrev finished : Control
 finished = move (Finish 4 1) (move (Finish 1 1) all_committed)
@@ -300,8 +313,8 @@ finished-both = finish-moves (move (Finish 1 1) all_committed) (finish-moves all
 over-both : Both over
 unfolding changed
 over-both = answers (reply 0 finished)
-    (answers finished finished-both 0 (now finished) refl (λ m here is. tt) (λ r has ends. on-first (λ m. (fields_at finished m.a.0).recording ≡ false) refl))
-    1 (now (reply 0 finished)) refl (λ m here is. tt) (λ r has ends. on-second (λ m. (fields_at finished m.a.0).recording ≡ false) refl)
+    (answers finished finished-both 0 (now finished) refl (done-asked finished (now finished) 0 phases.Finish 1 refl refl (on-first (λ m. 1 ≤ (seen (roles finished) m).attempt) (omega arith))) (λ r has ends. on-first (λ m. (fields_at finished m.a.0).recording ≡ false) refl))
+    1 (now (reply 0 finished)) refl (done-asked (reply 0 finished) (now (reply 0 finished)) 1 phases.Finish 1 refl refl (on-second (λ m. 1 ≤ (seen (roles finished) m).attempt) (omega arith))) (λ r has ends. on-second (λ m. (fields_at finished m.a.0).recording ≡ false) refl)
 
 -- a recovery where the first is flashed
 taken-back-both : Both (taken_back one_flashed)

@@ -9,6 +9,11 @@ pub bool_cases : (b : Bool) → (b ≡ true) ⊎ (b ≡ false)
 bool_cases true = inl refl
 bool_cases false = inr refl
 
+-- what still is where something was taken away was there before, and isn't that
+pub stood : (b y : Bool) → cond b false y ≡ true → (b ≡ false) × (y ≡ true)
+stood true y h = absurd cc
+stood false y h = (refl, h)
+
 -- vs with w in place of v
 pub record Update (vs : List Seen) (v w : Seen) (us : List Seen) : Type 0 where
   pub here : In v vs

@@ -1,5 +1,5 @@
 -- What plans of lines on sessions make of the tables keeps the laws of attempts.
-use Rattle.std.proofs.Common.{ℕ, ◌≡◌, ◌≢◌, ◌≤◌, ap, ◌∙◌, refl, Bool, true, false, Option, None, Some}
+use Rattle.std.proofs.Common.{ℕ, max, ◌≡◌, ◌≢◌, ◌≤◌, ap, ◌∙◌, refl, Bool, true, false, [], Option, None, Some}
 use Rattle.std.specs.List.{find}
 use Rattle.std.specs.Option.{option_or}
 use Rattle.dr_ids.specs.declared.names.Member.{Member}
@@ -8,16 +8,18 @@ use Rattle.dr_ids.specs.declared.refusal.Refusal.{Refusal}
 use Rattle.dr_model.specs.declared.step.Name.{Name}
 use Rattle.dr_model.specs.Phases as phases
 use Rattle.dr_model.specs.Control.{Control}
-use Rattle.dr_model.specs.PlanParts.{Plan, unless, on_owner, on_session, owner_of}
+use Rattle.dr_model.specs.declared.said.Said.TheVariants.{Done}
+use Rattle.dr_model.specs.declared.said.Addition.TheVariants.{Alone}
+use Rattle.dr_model.specs.PlanParts.{Plan, tables_plan, unless, on_owner, on_session, owner_of}
 use Rattle.dr_model.specs.Entries.{fields_at}
 use Rattle.dr_model.specs.SessionEntries.{first_number, members_on}
-use Rattle.dr_model.specs.Sessions.{Session, Mirror, session_in, has_place_of, has_subsystem, subsystem_of, changed, in_session, busy, leave_refusal, make_refusal, drop_refusal, abort_refusal, join_refusal, joined, paused, with_master}
-use Rattle.dr_model.specs.SessionPlans.{table_plan, says_phase, name_refusal, off_refusal, outside_refusal, master_refusal, join_plan, leave_plan, mirror_plan, pause_mirror_plan, unmirror_plan, abort_plan, add_done, expel_done, exchange_done}
+use Rattle.dr_model.specs.Sessions.{Session, Mirror, session_in, has_place_of, has_subsystem, subsystem_of, changed, in_session, busy, leave_refusal, make_refusal, drop_refusal, abort_refusal, join_refusal, joined, paused}
+use Rattle.dr_model.specs.SessionPlans.{table_plan, says_phase, name_refusal, off_refusal, outside_refusal, master_refusal, join_plan, leave_plan, mirror_plan, pause_mirror_plan, unmirror_plan, abort_plan, aborting, add_done, expel_done, exchange_done}
 use Rattle.dr_model.specs.Groups.{In, Groups}
 use Rattle.dr_model.specs.Attempts.{Attempts, ServerDone}
 use Rattle.dr_laws_sessions.proofs.PlanTables.{no-maker}
 use Rattle.dr_laws_attempts.proofs.Tables.{with-joined, with-left, with-mirrored, with-paused, with-unmirrored, with-aborted, with-answered}
-use Rattle.dr_laws_attempts.proofs.Members.{attempts-added, attempts-removed}
+use Rattle.dr_laws_attempts.proofs.Members.{raised-low, attempts-added, attempts-removed}
 use Rattle.dr_facts.proofs.Refusals.{none-both}
 use Rattle.dr_facts.proofs.Sessions.{in-none}
 
@@ -60,7 +62,7 @@ module _ (k : Control) (groups : Groups k) (law : Attempts k) where
 
   pub aborts-first : (s : ℕ) → Attempts ((abort_plan k s).first k)
   aborts-first s = session-first k (session_in k.sessions s) _ law (λ x found.
-      unless-first k (option_or (abort_refusal x.mirror) (master_refusal k x.mirror)) (record (table_plan (changed s (with_master phases.aborted))) { says = says_phase s }) law (λ none. with-aborted k groups law s))
+      unless-first k (option_or (abort_refusal x.mirror) (master_refusal k x.mirror)) (record (tables_plan (aborting s x.mirror) [] (Done Alone)) { says = says_phase s }) law (λ none. with-aborted k groups law s))
 
 -- ---- as it ends
 
@@ -69,9 +71,13 @@ unless-last j None p law go = go refl
 unless-last j (Some r) p law go = law
 
 pub adds-last : (k j : Control) (s : ℕ) (x : Session) (m : Member) → j.sessions ≡ k.sessions → session_in k.sessions s ≡ Some x → busy x.mirror ≡ None → has_subsystem (subsystem_of m.a.0) x ≡ true
-    → (fields_at j m.a.0).attempt ≤ first_number k x.last m → (fields_at j m.b.0).seal ≤ first_number k x.last m → (fields_at j m.c.0).floor ≤ first_number k x.last m → Groups j → Attempts j → Attempts ((add_done k s x m).last j)
-adds-last k j s x m same found idle lies attempt seal floor groups law = unless-last j (in_session (find (has_place_of m) k.sessions)) _ law (λ none.
-    attempts-added j s (first_number k x.last m) x m groups law (ap (λ ss. session_in ss s) same ∙ found) idle (ap (λ ss. find (has_place_of m) ss) same ∙ in-none (find (has_place_of m) k.sessions) none) lies attempt seal floor)
+    → (fields_at j m.a.0).attempt ≤ first_number k x.last m → (fields_at j m.b.0).seal ≤ first_number k x.last m → (fields_at j m.c.0).floor ≤ first_number k x.last m → first_number k x.last m ≤ (fields_at j m.a.0).attempt → first_number k x.last m ≤ (fields_at j m.c.0).floor → Groups j → Attempts j → Attempts ((add_done k s x m).last j)
+adds-last k j s x m same found idle lies attempt seal floor held past groups law = unless-last j (in_session (find (has_place_of m) k.sessions)) _ law (λ none.
+    attempts-added j s (first_number k x.last m) x m groups law (ap (λ ss. session_in ss s) same ∙ found) idle (ap (λ ss. find (has_place_of m) ss) same ∙ in-none (find (has_place_of m) k.sessions) none) lies attempt seal floor (above (fields_at j m.a.0).attempt held) (above (fields_at j m.c.0).floor past))
+  where
+    -- the last number isn't above the first one of the new member
+    above : (q : ℕ) → first_number k x.last m ≤ q → max x.last (first_number k x.last m) ≤ q
+    above q low = raised-low x.last _ q low
 
 pub expels-last : (k j : Control) (s : ℕ) (x : Session) (m : Member) → j.sessions ≡ k.sessions → session_in k.sessions s ≡ Some x → busy x.mirror ≡ None → ((q : Member) → In q x.members → q.a.0 ≡ m.a.0 → (fields_at j q.c.0).member ≡ false) → Groups j → Attempts j → Attempts ((expel_done k s m).last j)
 expels-last k j s x m same found idle gone groups law = unless-last j (off_refusal k (k.volume m.c.0).server) _ law (λ none. attempts-removed j s m.a.0 x groups law (ap (λ ss. session_in ss s) same ∙ found) idle gone)

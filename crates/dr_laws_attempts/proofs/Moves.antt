@@ -1,29 +1,30 @@
 -- Each kind of move keeps the laws of attempts.
 use Rattle.std.proofs.Common.{ℕ, ◌≡◌, ◌≤◌, ◌<◌, ◌⊎◌, inl, inr, refl, ap, sym, ◌∙◌, max, Bool, true, false, cond, not, ◌&&◌, ◌||◌, nat_eq, arith, List, subst, Option, Some, None}
 use Rattle.std.proofs.Math.Path.{fun_ext}
-use Rattle.std.proofs.lemmas.Bool.{and_parts, not-true, or_parts, or_from}
+use Rattle.std.proofs.lemmas.Bool.{and_parts, eqb-true, not-true, or_parts, or_from}
 use Rattle.std.proofs.Math.Bool.{or-true}
 use Rattle.dr_logic.specs.Tables.{at}
 use Rattle.dr_ids.specs.declared.names.Member.{Member}
-use Rattle.dr_ids.specs.declared.refusal.PhaseName.TheVariants as phase
 use Rattle.dr_model.specs.Layout.{Fields, is_part}
 use Rattle.dr_model.specs.Control.{Control, Volume}
 use Rattle.dr_model.specs.Views.{source_of}
 use Rattle.dr_model.specs.Relations.{is_whole, is_bare, parted_if, turned, given_up, fetched, noted, rewritten}
 use Rattle.dr_model.specs.Pairs.{primary_of, is_secondary_of}
-use Rattle.dr_model.specs.Moves.{Move, Overwrite, Keep, Relate, Withdraw, Fetch, Resync, Reverse, Release, Store, MakeSecondary, Yield, DropSecondary, TakeOver, Hold, Seal, Finish, RaiseAttempt, RaiseFloor, Leave, Flash, Commit, Revert, Carried, moved_keeping, target, next_fields}
+use Rattle.dr_model.specs.Phases as phases
+use Rattle.dr_model.specs.Moves.{Move, Overwrite, Keep, Relate, Withdraw, Fetch, Resync, Reverse, Release, Store, Suspend, MakeSecondary, MakePrimary, DropPrimary, Yield, DropSecondary, TakeOver, FallBack, Lift, Restart, Hold, Free, Seal, Finish, RaiseAttempt, RaiseFloor, Leave, Flash, Commit, Revert, Carried, moved_keeping, target, next_fields}
 use Rattle.dr_model.specs.Entries.{fields_at, is_at, copies_from}
 use Rattle.dr_model.specs.SessionEntries.{may_flash}
 use Rattle.dr_model.specs.Sessions.{Session}
-use Rattle.dr_model.specs.Groups.{In, IsAt, Groups, IsMember}
-use Rattle.dr_model.specs.Attempts.{Role, Roles, role_of, roles, seen_of, seen, all_seen, counts, All, NoneRevertible, NoneCommitted, SomeCommitted, phase_of, IsTarget, AttemptsIn, Attempts, Persists, DoesNotCount, MayGo, SealsMember, FlashesMember, CommitsMember, RevertsMember, InAttempt}
+use Rattle.dr_model.specs.Groups.{In, IsAt, Groups, IsMember, Due}
+use Rattle.dr_model.specs.Attempts.{Role, Roles, role_of, roles, seen_of, seen, all_seen, counts, All, NoneRevertible, NoneCommitted, SomeCommitted, AllHeld, phase_of, owed_of, reports_of, is_owed, IsTarget, AttemptsIn, Attempts, Persists, DoesNotCount, MayGo, MayFree, MayFollow, IsSilent, SealsMember, FlashesMember, CommitsMember, RevertsMember, InAttempt}
 use Rattle.dr_laws_sessions.specs.Frames.{Moves}
 use Rattle.dr_facts.proofs.Lists.{to-map}
 use Rattle.dr_laws_sessions.proofs.Changes.{same-session}
-use Rattle.dr_laws_attempts.proofs.Facts.{bool_cases}
-use Rattle.dr_laws_attempts.proofs.Turns.{Kind, Raise, Go, MayTurn, MayPair}
+use Rattle.dr_laws_attempts.proofs.Facts.{bool_cases, stood}
+use Rattle.dr_laws_attempts.proofs.Turns.{Kind, Raise, Go, RevertComes, Ordered, MayTurn, MayTry, MaySeal, MayPair}
 use Rattle.dr_laws_attempts.proofs.Turns as turn
-use Rattle.dr_laws_attempts.proofs.Places.{Stays, Steps, steps-keep, TurnsTo, tries, pairs, targets}
+use Rattle.dr_laws_attempts.proofs.Dues.{hold-comes, seal-comes, flash-comes, commit-comes, revert-comes, release-held, flash-held, commit-flashed}
+use Rattle.dr_laws_attempts.proofs.Places.{Stays, Steps, steps-keep, TurnsTo, as_part, tries, pairs, parts, targets}
 use Rattle.dr_facts.proofs.Tables.{at_id}
 use Rattle.dr_facts.proofs.Relations.{copies-from}
 use Rattle.dr_logic.proofs.Truth.{false_true}
@@ -54,6 +55,11 @@ is-secondary a f = by (is_part f.secondary)
     by : (b : Bool) → (b && nat_eq f.secondary_partner a) ≡ is_at (cond b (Some f.secondary_partner) None) a
     by true = refl
     by false = refl
+
+-- whose secondary a volume is that has a part of some kind
+pub secondary-is : (b : Bool) (u a : ℕ) → is_at (cond b (Some u) None) a ≡ true → u ≡ a
+secondary-is true u a h = eqb-true u a h
+secondary-is false u a h = absurd cc
 
 pub record Flashable (b : ℕ) (f : Fields) : Type 0 where
   pub source : source_of f ≡ Some b
@@ -104,34 +110,78 @@ module _ (k : Control) (groups : Groups k) (law : Attempts k) where
       let one = groups.lone.one v x z q m j i there is at_q at_m in
       subst (λ m. P z m) one.1 (subst (λ z. P z q) (same-session ss x z groups.once j i one.0) here)
 
-  tried : (v q : ℕ) → ((z : Session) (m : Member) → In z ss → In m z.members → m.a.0 ≡ v → q ≤ z.last) → After v (record (T v) { attempt = q })
-  tried v q low = tries ss groups.lone T law v q low
+  own-seen : (z : Session) (m : Member) → In z ss → In m z.members → In (seen T m) (all_seen T z.members)
+  own-seen z m i here = to-map (seen T) z.members m here
+
+  attempt-low : (z : Session) (m : Member) → In z ss → In m z.members → (T m.a.0).attempt ≤ z.last
+  attempt-low z m i here = ((law.sessions z i).numbers.each (seen T m) (own-seen z m i here)).attempt
+
+  tried : (v q : ℕ) (records held : Bool) → ((z : Session) (m : Member) → In z ss → In m z.members → m.a.0 ≡ v → MayTry (phase_of z.mirror) z.last (all_seen T z.members) (seen T m) q records held)
+      → After v (record (T v) { attempt = q; recording = records; held = held })
+  tried v q records held may = tries ss groups.lone T law v q records held may
+
+  -- a primary that doesn't record from then on
+  ending : (v q : ℕ) → (T v).attempt ≤ q → ((z : Session) (m : Member) → In z ss → In m z.members → m.a.0 ≡ v → q ≤ z.last) → (z : Session) (m : Member) → In z ss → In m z.members → m.a.0 ≡ v → MayTry (phase_of z.mirror) z.last (all_seen T z.members) (seen T m) q false false
+  ending v q up low z m i here e = record { up = subst (λ u. (T u).attempt ≤ q) (sym e) up; low = low z m i here e; begun = λ r. absurd cc; free = λ r h. absurd cc }
+
+  ending-now : (v : ℕ) → (z : Session) (m : Member) → In z ss → In m z.members → m.a.0 ≡ v → MayTry (phase_of z.mirror) z.last (all_seen T z.members) (seen T m) (T v).attempt false false
+  ending-now v = ending v (T v).attempt (omega arith) (λ z m i here e. subst (λ u. (T u).attempt ≤ z.last) e (attempt-low z m i here))
+
+  silenced : (v : ℕ) → After v (record (T v) { recording = false; held = false })
+  silenced v = tried v (T v).attempt false false (ending-now v)
+
+  -- one whose holds have ended
+  lifted : (v : ℕ) → After v (record (T v) { recording = cond (T v).held false (T v).recording; held = false })
+  lifted v = tried v (T v).attempt (cond (T v).held false (T v).recording) false (λ z m i here e. record {
+    up = subst (λ u. (T u).attempt ≤ (T v).attempt) (sym e) (omega arith);
+    low = subst (λ u. (T u).attempt ≤ z.last) e (attempt-low z m i here);
+    begun = λ r. inl (ap (λ u. (T u).recording) e ∙ (stood (T v).held (T v).recording r).1);
+    free = λ r h. let s = stood (T v).held (T v).recording r in inl (ap (λ u. (T u).recording) e ∙ s.1, ap (λ u. (T u).held) e ∙ s.0);
+  })
+
+  -- one that is let go, where all were held
+  freed-by : (v : ℕ) → MayFree k v → After v (record (T v) { held = false })
+  freed-by v a = tried v (T v).attempt (T v).recording false (λ z m i here e. record {
+    up = subst (λ u. (T u).attempt ≤ (T v).attempt) (sym e) (omega arith);
+    low = subst (λ u. (T u).attempt ≤ z.last) e (attempt-low z m i here);
+    begun = λ r. inl (ap (λ u. (T u).recording) e ∙ r);
+    free = λ r h. inr (at-place (λ z m. AllHeld z.last (all_seen T z.members)) v a.place.session a.place.member a.place.listed a.place.here (inl (sym a.place.is))
+        (release-held T a.place.session (law.sessions a.place.session a.place.listed) a.place.member.server.0 a.place.session.last a.due) z m i here (inl (sym e)));
+  })
 
   paired : (v : ℕ) (primary : Option ℕ) (q : ℕ) → ((z : Session) (m : Member) → In z ss → In m z.members → m.b.0 ≡ v → MayPair (phase_of z.mirror) z.last (seen T m) (is_at primary m.a.0) q) → After v (record (T v) { primary = primary; seal = q })
   paired v primary q may = pairs ss groups.lone T law v primary q may
 
   -- a secondary without a seal, which is whose it was
-  resealed : (v q : ℕ) → ((z : Session) (m : Member) → In z ss → In m z.members → m.b.0 ≡ v → (q ≡ 0) ⊎ ((q ≡ z.last) × (phase_of z.mirror ≡ phase.Draining))) → After v (record (T v) { seal = q })
+  resealed : (v q : ℕ) → ((z : Session) (m : Member) → In z ss → In m z.members → m.b.0 ≡ v → (q ≡ 0) ⊎ ((q ≡ z.last) × MaySeal (phase_of z.mirror) z.last (seen T m))) → After v (record (T v) { seal = q })
   resealed v q sealed = paired v (T v).primary q (λ z m i here e. record { sealed = sealed z m i here e; free = λ h. inl (ap (λ u. is_at (T u).primary m.a.0) e ∙ h) })
 
   -- one that is nobody's any more
   freed : (v : ℕ) → After v (record (T v) { primary = None; seal = 0 })
   freed v = paired v None 0 (λ z m i here e. record { sealed = inl refl; free = λ h. absurd cc })
 
+  -- and one that is a primary then
+  taken : (v : ℕ) → After v (record (T v) { recording = false; held = false; primary = None; seal = 0 })
+  taken v = parts ss groups.lone T law v (T v).attempt false false None 0 (ending-now v) (λ z m i here e. record { sealed = inl refl; free = λ h. absurd cc })
+
+  -- a secondary is made of a primary that doesn't record, where no target of it is revertible
+  follows : (v u : ℕ) (b : Bool) → MayFollow k v × IsSilent k u → (z : Session) (m : Member) → In z ss → In m z.members → m.b.0 ≡ v → MayPair (phase_of z.mirror) z.last (seen T m) (is_at (cond b (Some u) None) m.a.0) 0
+  follows v u b a z m i here e = record { sealed = inl refl; free = λ h. inr (a.0 z m i here e, ap (λ u. (T u).recording) (sym (secondary-is b u m.a.0 h)) ∙ a.1) }
+
   -- ---- targets
 
   -- a target that doesn't count from then on
-  gone : (v : ℕ) (y : Role) → y.attempt ≡ (T v).attempt → y.primary ≡ (T v).primary → y.seal ≡ (T v).seal → y.floor ≡ (T v).floor → y.member ≡ false → y.revertible ≡ false → y.session ≡ 0 → y.previous ≡ 0
+  gone : (v : ℕ) (y : Role) → as_part y ≡ as_part (T v) → y.floor ≡ (T v).floor → y.member ≡ false → y.revertible ≡ false → y.session ≡ 0 → y.previous ≡ 0
       → ((z : Session) (m : Member) → In z ss → In m z.members → m.c.0 ≡ v → (counts (seen T m) ≡ false) ⊎ NoneRevertible (all_seen T z.members)) → After v y
-  gone v y attempt primary seal floor member revertible session previous may = targets ss groups.lone T law v y attempt primary seal (λ z m i here e. record {
+  gone v y own floor member revertible session previous may = targets ss groups.lone T law v y own (λ z m i here e. record {
     kind = Go y.sequence y.previous;
     may = may z m i here e;
     is = λ i. record (seen T m) { sequence = y.sequence; previous = y.previous; revertible = revertible i; member = member i; floor = (floor ∙ ap (λ u. (T u).floor) (sym e)) i };
   }) (record { counted = λ h. false_true (or_from y.member y.revertible member revertible) h; uncounted = λ h. session; previous = λ h. previous })
 
   -- one that didn't count
-  gone-uncounted : (v : ℕ) (y : Role) → ((T v).member || (T v).revertible) ≡ false → y.attempt ≡ (T v).attempt → y.primary ≡ (T v).primary → y.seal ≡ (T v).seal → y.floor ≡ (T v).floor → y.member ≡ false → y.revertible ≡ false → y.session ≡ 0 → y.previous ≡ 0 → After v y
-  gone-uncounted v y none attempt primary seal floor member revertible session previous = gone v y attempt primary seal floor member revertible session previous (λ z m i here e. inl (ap (λ u. (T u).member || (T u).revertible) e ∙ none))
+  gone-uncounted : (v : ℕ) (y : Role) → ((T v).member || (T v).revertible) ≡ false → as_part y ≡ as_part (T v) → y.floor ≡ (T v).floor → y.member ≡ false → y.revertible ≡ false → y.session ≡ 0 → y.previous ≡ 0 → After v y
+  gone-uncounted v y none own floor member revertible session previous = gone v y own floor member revertible session previous (λ z m i here e. inl (ap (λ u. (T u).member || (T u).revertible) e ∙ none))
 
   going : (v : ℕ) → MayGo k v → (z : Session) (m : Member) → In z ss → In m z.members → m.c.0 ≡ v → (counts (seen T m) ≡ false) ⊎ NoneRevertible (all_seen T z.members)
   going v a z m i here e = by (bool_cases (T v).member)
@@ -143,7 +193,7 @@ module _ (k : Control) (groups : Groups k) (law : Attempts k) where
   -- a relationship that may end, and whose target then didn't count
   closed-or : (v : ℕ) (f : Fields) (b : Bool) → role_of f ≡ T v → (b ≡ true → DoesNotCount (fields_at k v)) → After v (role_of (parted_if b f))
   closed-or v f false is none = subst (After v) (sym is) (same v)
-  closed-or v f true is none = gone-uncounted v (role_of (parted_if true f)) (none refl) (ap (λ r. r.attempt) is) (ap (λ r. r.primary) is) (ap (λ r. r.seal) is) (ap (λ r. r.floor) is) refl refl refl refl
+  closed-or v f true is none = gone-uncounted v (role_of (parted_if true f)) (none refl) (ap as_part is) (ap (λ r. r.floor) is) refl refl refl refl
 
   unpersistent : (v : ℕ) → Persists (fields_at k v) → (fields_at k v).persistent ≡ false → DoesNotCount (fields_at k v)
   unpersistent v keeps h = uncounted-by k law v (λ t. false_true h (keeps t.records))
@@ -153,19 +203,19 @@ module _ (k : Control) (groups : Groups k) (law : Attempts k) where
 
   -- a target that is to be restored onto its source, and may be at once
   reversed : (v : ℕ) → MayGo k v → (b : Bool) → After v (role_of (parted_if b (turned (fields_at k v))))
-  reversed v a true = gone v (role_of (parted_if true (turned (fields_at k v)))) refl refl refl refl refl refl refl refl (going v a)
-  reversed v a false = gone v (role_of (turned (fields_at k v))) refl refl refl refl refl a.plain refl ((law.volumes v).previous a.plain) (going v a)
+  reversed v a true = gone v (role_of (parted_if true (turned (fields_at k v)))) refl refl refl refl refl refl (going v a)
+  reversed v a false = gone v (role_of (turned (fields_at k v))) refl refl refl a.plain refl ((law.volumes v).previous a.plain) (going v a)
 
   left : (v : ℕ) → MayGo k v → After v (record (T v) { member = false; session = 0 })
-  left v a = gone v (record (T v) { member = false; session = 0 }) refl refl refl refl refl a.plain refl ((law.volumes v).previous a.plain) (going v a)
+  left v a = gone v (record (T v) { member = false; session = 0 }) refl refl refl a.plain refl ((law.volumes v).previous a.plain) (going v a)
 
   resynced : (v q : ℕ) → DoesNotCount (fields_at k v) → After v (record (T v) { sequence = q })
   resynced v q none =
       let p = or_parts (T v).member (T v).revertible none in
-      gone-uncounted v (record (T v) { sequence = q }) none refl refl refl refl p.0 p.1 ((law.volumes v).uncounted none) ((law.volumes v).previous p.1)
+      gone-uncounted v (record (T v) { sequence = q }) none refl refl p.0 p.1 ((law.volumes v).uncounted none) ((law.volumes v).previous p.1)
 
   raised : (v q : ℕ) → InAttempt k (RaiseFloor v q) → After v (record (T v) { floor = q })
-  raised v q a = targets ss groups.lone T law v (record (T v) { floor = q }) refl refl refl (λ z m i here e. let r = a z m i here e in record {
+  raised v q a = targets ss groups.lone T law v (record (T v) { floor = q }) refl (λ z m i here e. let r = a z m i here e in record {
     kind = Raise q;
     may = record { plain = ap (λ u. (T u).revertible) e ∙ r.plain; higher = subst (λ x. x ≤ q) (ap (λ u. (T u).floor) (sym e)) r.higher; low = r.low };
     is = ap (λ u. seen_of m.server.0 m.a.0 (T m.a.0) (T m.b.0) (record (T u) { floor = q })) (sym e);
@@ -174,7 +224,12 @@ module _ (k : Control) (groups : Groups k) (law : Attempts k) where
   -- ---- sealed, flashed, committed, reverted
 
   seals : (v u s n : ℕ) → SealsMember k v u s n → After v (record (T v) { seal = n })
-  seals v u s n a = resealed v n (λ z m i here e. at-place (λ z m. (n ≡ 0) ⊎ ((n ≡ z.last) × (phase_of z.mirror ≡ phase.Draining))) v a.place.session a.place.member a.place.listed a.place.here (inr (inl (sym a.secondary))) (inr (a.last, a.phase)) z m i here (inr (inl (sym e))))
+  seals v u s n a = resealed v n (λ z m i here e. at-place (λ z m. (n ≡ 0) ⊎ ((n ≡ z.last) × MaySeal (phase_of z.mirror) z.last (seen T m))) v a.place.session a.place.member a.place.listed a.place.here (inr (inl (sym a.secondary)))
+      (inr (a.last, record { comes = seal-comes a.place.session a.place.member.server.0 n a.due; records = ap (λ u. (T u).recording) a.place.is ∙ rec.0; held = subst (λ u. a.place.session.last ≤ (T u).attempt) (sym a.place.is) (let is : (T u).attempt ≡ n = eqb-true (T u).attempt n rec.1 in let last : n ≡ a.place.session.last = a.last in omega arith) }))
+      z m i here (inr (inl (sym e))))
+    where
+      rec : ((T u).recording ≡ true) × (nat_eq (T u).attempt n ≡ true)
+      rec = and_parts (T u).recording (nat_eq (T u).attempt n) a.records
 
   abbrev flashed_role : ℕ → ℕ → Role → Role
   flashed_role s n r = record r { sequence = n; previous = r.sequence; revertible = true; session = s }
@@ -185,11 +240,12 @@ module _ (k : Control) (groups : Groups k) (law : Attempts k) where
   flashes : (v u a s n : ℕ) → FlashesMember k v u a s n → After v (flashed_role s n (T v))
   flashes v u a s n p =
       let f = flashable u (fields_at k v) p.free in
-      targets ss groups.lone T law v (flashed_role s n (T v)) refl refl refl
+      targets ss groups.lone T law v (flashed_role s n (T v)) refl
       (λ z m i here e. at-place (To (flashed_role s n (T v)) v) v p.place.session p.place.member p.place.listed p.place.here (inr (inr (sym p.target))) (λ e. record {
         kind = turn.Flash;
         may = record {
-          flashes = p.phase;
+          comes = flash-comes p.place.session p.place.member.server.0 n (is_owed (owed_of p.place.session.mirror) (seen T p.place.member)) p.due;
+          held = flash-held T p.place.session (law.sessions p.place.session p.place.listed) p.place.member.server.0 n p.due;
           paired = ap (λ b. is_at (T b).primary p.place.member.a.0) p.secondary ∙ (ap (λ a. is_at (T u).primary a) p.place.is ∙ (sym (is-secondary a (fields_at k u)) ∙ p.paired));
           sealed = ap (λ b. (T b).seal) p.secondary ∙ (p.sealed ∙ p.last);
           plain = ap (λ c. (T c).revertible) e ∙ f.plain;
@@ -208,7 +264,7 @@ module _ (k : Control) (groups : Groups k) (law : Attempts k) where
 
   commits : (v a s n : ℕ) → CommitsMember k v a s n → After v (committed_role n (T v))
   commits v a s n p =
-      targets ss groups.lone T law v (committed_role n (T v)) refl refl refl
+      targets ss groups.lone T law v (committed_role n (T v)) refl
       (λ z m i here e. at-place (To (committed_role n (T v)) v) v p.place.session p.place.member p.place.listed p.place.here (inr (inr (sym p.target))) (λ e. record {
         kind = turn.Commit;
         may = record {
@@ -220,8 +276,12 @@ module _ (k : Control) (groups : Groups k) (law : Attempts k) where
       }) z m i here (inr (inr (sym e))) e)
       (record { counted = λ h. (law.volumes v).counted (ap (λ b. (T v).member || b) p.revertible ∙ or-true (T v).member); uncounted = λ h. absurd cc; previous = λ h. refl })
     where
-      by : (phase_of p.place.session.mirror ≡ phase.Committing) ⊎ SomeCommitted n (all_seen T p.place.session.members) → (phase_of p.place.session.mirror ≡ phase.Committing) ⊎ SomeCommitted p.place.session.last (all_seen T p.place.session.members)
-      by (inl e) = inl e
+      by : (Due p.place.session p.place.member.server.0 phases.Commit n × (is_secondary_of a (fields_at k p.place.member.b.0) ≡ true)) ⊎ SomeCommitted n (all_seen T p.place.session.members)
+          → Ordered (phase_of p.place.session.mirror) p.place.session.last (owed_of p.place.session.mirror) (reports_of p.place.session.mirror) (all_seen T p.place.session.members) (seen T p.place.member) ⊎ SomeCommitted p.place.session.last (all_seen T p.place.session.members)
+      by (inl due) = inl (record {
+        comes = commit-comes p.place.session p.place.member.server.0 n (is_owed (owed_of p.place.session.mirror) (seen T p.place.member)) p.place.session.last (reports_of p.place.session.mirror) due.0;
+        flashed = (commit-flashed T p.place.session (law.sessions p.place.session p.place.listed) p.place.member.server.0 n due.0).0;
+      })
       by (inr had) = inr (subst (λ q. SomeCommitted q (all_seen T p.place.session.members)) p.last had)
 
   abbrev reverted_role : ℕ → Role → Role
@@ -229,7 +289,7 @@ module _ (k : Control) (groups : Groups k) (law : Attempts k) where
 
   reverts : (v a s n : ℕ) → RevertsMember k v a s n → After v (reverted_role n (T v))
   reverts v a s n p =
-      targets ss groups.lone T law v (reverted_role n (T v)) refl refl refl
+      targets ss groups.lone T law v (reverted_role n (T v)) refl
       (λ z m i here e. at-place (To (reverted_role n (T v)) v) v p.place.session p.place.member p.place.listed p.place.here (inr (inr (sym p.target))) (λ e. record {
         kind = turn.Revert;
         may = record {
@@ -241,9 +301,9 @@ module _ (k : Control) (groups : Groups k) (law : Attempts k) where
       }) z m i here (inr (inr (sym e))) e)
       (record { counted = λ h. still (T v).member refl h; uncounted = λ h. over (T v).member h; previous = λ h. refl })
     where
-      by : ((phase_of p.place.session.mirror ≡ phase.Reverting) × (is_secondary_of a (fields_at k p.place.member.b.0) ≡ true)) ⊎ All (λ u. u.paired ≡ false) (all_seen T p.place.session.members)
-          → ((phase_of p.place.session.mirror ≡ phase.Reverting) × (is_at (T p.place.member.b.0).primary p.place.member.a.0 ≡ true)) ⊎ All (λ u. u.paired ≡ false) (all_seen T p.place.session.members)
-      by (inl e) = inl (e.0, ap (λ a. is_at (T p.place.member.b.0).primary a) p.place.is ∙ (sym (is-secondary a (fields_at k p.place.member.b.0)) ∙ e.1))
+      by : (Due p.place.session p.place.member.server.0 phases.Revert n × (is_secondary_of a (fields_at k p.place.member.b.0) ≡ true)) ⊎ All (λ u. u.paired ≡ false) (all_seen T p.place.session.members)
+          → (RevertComes (phase_of p.place.session.mirror) × (is_at (T p.place.member.b.0).primary p.place.member.a.0 ≡ true)) ⊎ All (λ u. u.paired ≡ false) (all_seen T p.place.session.members)
+      by (inl e) = inl (revert-comes p.place.session p.place.member.server.0 n e.0, ap (λ a. is_at (T p.place.member.b.0).primary a) p.place.is ∙ (sym (is-secondary a (fields_at k p.place.member.b.0)) ∙ e.1))
       by (inr all) = inr all
 
       still : (b : Bool) → (T v).member ≡ b → (b || false) ≡ true → IsTarget ss v (cond b (T v).session 0) (T v).source (T v).recorded (T v).inhibited (T v).reversing
@@ -260,27 +320,42 @@ module _ (k : Control) (groups : Groups k) (law : Attempts k) where
   keeps (Overwrite w v t) a = closed v (rewritten (fetched (fields_at k v) t) t) (is_whole (k.volume v).tracks (fetched (fields_at k v) t).own) refl a.0
   keeps (Keep v t) a = closed v (noted (fetched (fields_at k v) t) t) (is_whole (k.volume v).tracks (fetched (fields_at k v) t).own) refl a
   keeps (Fetch v t) a = closed v (fetched (fields_at k v) t) (is_whole (k.volume v).tracks (fetched (fields_at k v) t).own) refl a
-  keeps (Relate v s choices) a = gone-uncounted v (role_of (next_fields (Relate v s choices) k.volume)) a refl refl refl refl refl refl refl refl
-  keeps (Withdraw v) a = gone-uncounted v (role_of (next_fields (Withdraw v) k.volume)) a refl refl refl refl refl refl refl refl
+  keeps (Relate v s choices) a = gone-uncounted v (role_of (next_fields (Relate v s choices) k.volume)) a refl refl refl refl refl refl
+  keeps (Withdraw v) a = gone-uncounted v (role_of (next_fields (Withdraw v) k.volume)) a refl refl refl refl refl refl
   keeps (Resync v sequence) a = resynced v (role_of (next_fields (Resync v sequence) k.volume)).sequence a
   keeps (Reverse v left) a = reversed v a.0 (is_bare (turned (fields_at k v)).own)
   keeps (Release v t) a = closed-or v (given_up (fields_at k v) t) (is_bare (given_up (fields_at k v) t).own) refl (λ e. reversing-uncounted k law v a)
   keeps (Store v t u last) a = resealed v 0 (λ z m i here e. inl refl)
-  keeps (MakeSecondary v u kind state) a = paired v (primary_of (next_fields (MakeSecondary v u kind state) k.volume)) 0 (λ z m i here e. record { sealed = inl refl; free = λ h. inr (a z m i here e) })
-  keeps (Yield v u kind state) a = paired v (primary_of (next_fields (Yield v u kind state) k.volume)) 0 (λ z m i here e. record { sealed = inl refl; free = λ h. inr (a z m i here e) })
+  keeps (Suspend v busy) a = silenced v
+  keeps (MakeSecondary v u kind state) a = paired v (primary_of (next_fields (MakeSecondary v u kind state) k.volume)) 0 (follows v u (is_part kind) a)
+  keeps (MakePrimary v u kind state full) a = silenced v
+  keeps (DropPrimary v) a = silenced v
+  keeps (FallBack v more state) a = silenced v
+  keeps (Yield v u kind state) a = parts ss groups.lone T law v (T v).attempt false false (primary_of (next_fields (Yield v u kind state) k.volume)) 0 (ending-now v) (follows v u (is_part kind) a)
+  keeps (Lift v) a = lifted v
+  keeps (Restart v) a = silenced v
   keeps (DropSecondary v) a = freed v
-  keeps (TakeOver v) a = freed v
+  keeps (TakeOver v) a = taken v
   keeps (Hold v s n first) a = let p : IsMember k v s = a.0.place in
-      tried v n (λ z m i here e. at-place (λ z m. n ≤ z.last) v p.session p.member p.listed p.here (inl (sym p.is)) (let is : n ≡ p.session.last = a.0.last in omega arith) z m i here (inl (sym e)))
+      tried v n true true (λ z m i here e. at-place (λ z m. m.a.0 ≡ v → MayTry (phase_of z.mirror) z.last (all_seen T z.members) (seen T m) n true true) v p.session p.member p.listed p.here (inl (sym p.is))
+      (λ e. record {
+        up = subst (λ u. (T u).attempt ≤ n) (sym e) (let low : (T v).attempt < n = a.1 in omega arith);
+        low = let is : n ≡ p.session.last = a.0.last in omega arith;
+        begun = λ r. inr (subst (λ u. (T u).attempt < p.session.last) (sym e) (let low : (T v).attempt < n = a.1 in let is : n ≡ p.session.last = a.0.last in omega arith), hold-comes p.session p.member.server.0 n a.0.due);
+        free = λ r h. absurd cc;
+      }) z m i here (inl (sym e)) e)
+  keeps (Free v) a = freed-by v a
   keeps (Seal v u s n) a = seals v u s n a
-  keeps (Finish v n) a = tried v (max (T v).attempt n) (λ z m i here e.
+  keeps (Finish v n) a = tried v (max (T v).attempt n) false false (ending v (max (T v).attempt n) (omega arith) (λ z m i here e.
       let low : n ≤ z.last = a z m i here e in
       let own : (T v).attempt ≤ z.last = subst (λ u. (T u).attempt ≤ z.last) e (attempt-low z m i here) in
-      omega arith)
-    where
-      attempt-low : (z : Session) (m : Member) → In z ss → In m z.members → (T m.a.0).attempt ≤ z.last
-      attempt-low z m i here = ((law.sessions z i).numbers.each (seen T m) (to-map (seen T) z.members m here)).attempt
-  keeps (RaiseAttempt v n) a = tried v n a
+      omega arith))
+  keeps (RaiseAttempt v n) a = tried v n (T v).recording (T v).held (λ z m i here e. let r = a z m i here e in record {
+    up = subst (λ u. (T u).attempt ≤ n) (sym e) r.higher;
+    low = r.low;
+    begun = λ h. inl (ap (λ u. (T u).recording) e ∙ h);
+    free = λ h f. inl (ap (λ u. (T u).recording) e ∙ h, ap (λ u. (T u).held) e ∙ f);
+  })
   keeps (RaiseFloor v n) a = raised v n a
   keeps (Leave v u s) a = left v a.0
   keeps (Flash v u a s n) p = flashes v u a s n p

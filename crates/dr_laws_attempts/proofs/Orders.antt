@@ -1,27 +1,25 @@
 -- Each move of an order may come where its checks have passed, and at the end the order is done with each member of the server.
-use Rattle.std.proofs.Common.{ℕ, ◌+◌, ◌≡◌, ◌≢◌, ◌<◌, ◌≤◌, ◌⊎◌, inl, inr, refl, ap, sym, ◌∙◌, subst, Bool, true, false, cond, not, ◌&&◌, ◌||◌, nat_eq, nat_lt, arith, List, [], ◌∷◌, Option, None, Some, option_map}
+use Rattle.std.proofs.Common.{ℕ, ◌+◌, ◌≡◌, ◌≢◌, ◌<◌, ◌≤◌, ◌⊎◌, inl, inr, refl, ap, sym, ◌∙◌, subst, Bool, true, false, cond, not, ◌&&◌, ◌||◌, nat_eq, nat_lt, arith, List, [], ◌∷◌, None, Some}
 use Rattle.std.specs.List.{find}
-use Rattle.std.specs.Option.{option_or}
-use Rattle.std.proofs.lemmas.Bool.{and_parts, or_cases, eqb-true, eq-eqb, ltb-true, not-true}
+use Rattle.std.proofs.lemmas.Bool.{and_parts, or_cases, eqb-true, eq-eqb, ltb-true, ltb-false, not-true}
 use Rattle.std.proofs.lemmas.Option.{same_Some}
 use Rattle.dr_logic.specs.Tables.{at}
 use Rattle.dr_ids.specs.declared.names.Member.{Member}
 use Rattle.dr_ids.specs.declared.refusal.PhaseName.{PhaseName}
 use Rattle.dr_ids.specs.declared.refusal.PhaseName.TheVariants as phase
-use Rattle.dr_ids.specs.declared.refusal.Refusal.{Refusal}
 use Rattle.dr_ids.specs.declared.refusal.Refusal.TheVariants.{Stale}
 use Rattle.dr_model.specs.Layout.{Fields}
 use Rattle.dr_model.specs.Control.{Control}
 use Rattle.dr_model.specs.Relations.{flashed, committed, reverted}
-use Rattle.dr_model.specs.Pairs.{records, is_secondary_of, with_floor}
+use Rattle.dr_model.specs.Pairs.{records, is_secondary_of, held_for, past_attempt, with_floor}
 use Rattle.dr_model.specs.Moves.{Free, Seal, Finish, RaiseAttempt, RaiseFloor, Leave, Flash, Commit, Revert, Carried}
 use Rattle.dr_model.specs.Entries.{fields_at, relation_state, pair_state}
 use Rattle.dr_model.specs.PairEntries.{reach_refusal, belongs_to, send_refusal}
-use Rattle.dr_model.specs.SessionEntries.{stale_refusal, is_flashed, is_committed, may_flash, unflashed_refusal, flash_refusal, commit_refusal, members_on}
+use Rattle.dr_model.specs.SessionEntries.{stale_refusal, is_flashed, is_committed, may_flash, unflashed_refusal, flash_refusal, commit_refusal, is_past, members_on}
 use Rattle.dr_model.specs.Phases as phases
-use Rattle.dr_model.specs.Sessions.{Session, Mirror, session_in, has_place_of, begun, busy}
-use Rattle.dr_model.specs.Groups.{In, IsAt, Groups}
-use Rattle.dr_model.specs.Attempts.{Roles, role_of, roles, Seen, seen_of, seen, all_seen, seen_in, NoneRevertible, NoneCommitted, AllAt, Blocked, InPhase, phase_of, owed_of, reports_of, Attempts, MemberOf, InAttempt, IsDone, ServerDone}
+use Rattle.dr_model.specs.Sessions.{Session, Mirror, session_in, has_place_of, busy}
+use Rattle.dr_model.specs.Groups.{In, IsAt, Groups, Due}
+use Rattle.dr_model.specs.Attempts.{Roles, role_of, roles, Seen, seen_of, seen, all_seen, seen_in, NoneRevertible, NoneCommitted, AllAt, Blocked, phase_of, Attempts, MemberOf, InAttempt, IsDone, WorkDone, ServerDone}
 use Rattle.dr_laws_sessions.specs.Frames.{Moves}
 use Rattle.dr_model.specs.SessionPlans.{is_idle, order_of}
 use Rattle.dr_facts.proofs.Lists.{to-map}
@@ -31,7 +29,8 @@ use Rattle.dr_laws_sessions.proofs.Sound.{quiet-of}
 use Rattle.dr_laws_sessions.proofs.Members.{no-place}
 use Rattle.dr_laws_attempts.specs.Orders.{DoneBut, LeavesTargetsAlone, TakenBut}
 use Rattle.dr_laws_attempts.proofs.Facts.{bool_cases, Update}
-use Rattle.dr_laws_attempts.proofs.Places.{is-placed, seen-apart, seen-b, seen-c, update}
+use Rattle.dr_laws_attempts.proofs.Dues.{commit-flashed, revert-way}
+use Rattle.dr_laws_attempts.proofs.Places.{is-placed, seen-apart, seen-a, seen-b, seen-c, update}
 use Rattle.dr_laws_attempts.proofs.Moves.{roles-moved, is-secondary, at-place}
 use Rattle.dr_laws_attempts.proofs.Tables.{quiet-unflashed}
 use Rattle.dr_laws_sessions.proofs.Orders.{some-order}
@@ -98,25 +97,22 @@ module _ (k : Control) (groups : Groups k) (law : Attempts k) (s : ℕ) (x : Ses
   seen-here : In v (seen_in k x)
   seen-here = to-map (seen (roles k)) x.members m here
 
-  in-phase : (q : PhaseName) → phase_of x.mirror ≡ q → InPhase q x.last (owed_of x.mirror) (reports_of x.mirror) (seen_in k x)
-  in-phase q e = subst (λ q. InPhase q x.last (owed_of x.mirror) (reports_of x.mirror) (seen_in k x)) e (law.sessions x there.0).phase
-
   -- what is so of x and m is so of whichever session and member are there
   only : (P : Session → Member → Type 0) (w : ℕ) → IsAt w m → P x m → (z : Session) (q : Member) → In z k.sessions → In q z.members → IsAt w q → P z q
   only P w at_m is z q i there_q at_q = at-place k groups law P w x m there.0 here at_m is z q i there_q at_q
 
-  pub order-frees : phase_of x.mirror ≡ phase.Releasing → InAttempt k (Free m.a.0)
-  order-frees e = record { session = s; place = place; phase = e }
+  pub order-frees : Due x m.server.0 phases.Release x.last → InAttempt k (Free m.a.0)
+  order-frees due = record { session = s; place = place; due = due }
 
-  pub order-seals : (n : ℕ) → x.last ≡ n → phase_of x.mirror ≡ phase.Draining → InAttempt k (Seal m.b.0 m.a.0 s n)
-  order-seals n last e = record { place = place; secondary = refl; phase = e; last = sym last }
+  pub order-seals : (n : ℕ) → x.last ≡ n → Due x m.server.0 phases.Seal n → records n (fields_at k m.a.0) ≡ true → InAttempt k (Seal m.b.0 m.a.0 s n)
+  order-seals n last due rec = record { place = place; secondary = refl; due = due; last = sym last; records = rec }
 
-  pub order-flashes : (n : ℕ) → x.last ≡ n → phase_of x.mirror ≡ phase.Flashing → send_refusal m.a.0 m.b.0 k ≡ None → flash_refusal m.b.0 m.c.0 n k ≡ None → is_flashed n (fields_at k m.c.0) ≡ false → InAttempt k (Flash m.c.0 m.b.0 m.a.0 s n)
-  order-flashes n last e sends passes none = let f = flash-passed m.b.0 m.c.0 n k passes none in
-      record { place = place; secondary = refl; target = refl; phase = e; last = sym last; paired = sends-to m.a.0 m.b.0 k sends; sealed = f.sealed; free = f.free; low = f.low }
+  pub order-flashes : (n : ℕ) → x.last ≡ n → Due x m.server.0 phases.Flash n → send_refusal m.a.0 m.b.0 k ≡ None → flash_refusal m.b.0 m.c.0 n k ≡ None → is_flashed n (fields_at k m.c.0) ≡ false → InAttempt k (Flash m.c.0 m.b.0 m.a.0 s n)
+  order-flashes n last due sends passes none = let f = flash-passed m.b.0 m.c.0 n k passes none in
+      record { place = place; secondary = refl; target = refl; due = due; last = sym last; paired = sends-to m.a.0 m.b.0 k sends; sealed = f.sealed; free = f.free; low = f.low }
 
-  pub order-commits : (n : ℕ) → x.last ≡ n → phase_of x.mirror ≡ phase.Committing → send_refusal m.a.0 m.b.0 k ≡ None → commit_refusal m.c.0 n k ≡ None → is_committed n (fields_at k m.c.0) ≡ false → InAttempt k (Commit m.c.0 m.a.0 s n)
-  order-commits n last e sends passes none = record { place = place; target = refl; last = sym last; revertible = flag; all = by (in-phase phase.Committing e).way; way = inl e }
+  pub order-commits : (n : ℕ) → x.last ≡ n → Due x m.server.0 phases.Commit n → send_refusal m.a.0 m.b.0 k ≡ None → commit_refusal m.c.0 n k ≡ None → is_committed n (fields_at k m.c.0) ≡ false → InAttempt k (Commit m.c.0 m.a.0 s n)
+  order-commits n last due sends passes none = record { place = place; target = refl; last = sym last; revertible = flag; all = by (commit-flashed (roles k) x (law.sessions x there.0) m.server.0 n due).1; way = inl (due, sends-to m.a.0 m.b.0 k sends) }
     where
       flag : (fields_at k m.c.0).revertible ≡ true
       flag = (and_parts (fields_at k m.c.0).revertible (nat_eq (fields_at k m.c.0).sequence n) (commit-passed m.c.0 n k passes none)).0
@@ -125,8 +121,8 @@ module _ (k : Control) (groups : Groups k) (law : Attempts k) (s : ℕ) (x : Ses
       by (inl all) = subst (λ n. AllAt n (seen_in k x)) last all
       by (inr bar) = false_true (bar v seen-here flag) (sends-paired m k sends)
 
-  pub order-reverts : (n : ℕ) → x.last ≡ n → phase_of x.mirror ≡ phase.Reverting → send_refusal m.a.0 m.b.0 k ≡ None → is_flashed n (fields_at k m.c.0) ≡ true → InAttempt k (Revert m.c.0 m.a.0 s n)
-  order-reverts n last e sends flashes = record { place = place; target = refl; last = sym last; revertible = flag; none = by (in-phase phase.Reverting e).way; way = inl (e, sends-to m.a.0 m.b.0 k sends) }
+  pub order-reverts : (n : ℕ) → x.last ≡ n → Due x m.server.0 phases.Revert n → send_refusal m.a.0 m.b.0 k ≡ None → is_flashed n (fields_at k m.c.0) ≡ true → InAttempt k (Revert m.c.0 m.a.0 s n)
+  order-reverts n last due sends flashes = record { place = place; target = refl; last = sym last; revertible = flag; none = by (revert-way (roles k) x (law.sessions x there.0) m.server.0 n due); way = inl (due, sends-to m.a.0 m.b.0 k sends) }
     where
       flag : (fields_at k m.c.0).revertible ≡ true
       flag = (and_parts (fields_at k m.c.0).revertible (nat_eq (fields_at k m.c.0).sequence n) flashes).0
@@ -166,37 +162,36 @@ added-raises k m n none = (λ z q i here e. absurd (no-place k.sessions m none m
 
 -- ---- one member after another
 
-pub done-begins : (k : Control) (x : Session) (server : ℕ) → DoneBut k x server (members_on server x.members)
-done-begins k x server m here is = inl (members-there server x.members m here is)
+pub done-begins : (k : Control) (ms : List Member) (server : ℕ) (work : phases.Work) (n : ℕ) → DoneBut k ms server work n (members_on server ms)
+done-begins k ms server work n m here is = inl (members-there server ms m here is)
 
-pub done-passes : (k : Control) (x : Session) (server : ℕ) (q : Member) (rest : List Member) → DoneBut k x server (q ∷ rest) → IsDone (phase_of x.mirror) (seen (roles k) q) → DoneBut k x server rest
-done-passes k x server q rest left done m here is = by (left m here is)
+pub done-passes : (k : Control) (ms : List Member) (server : ℕ) (work : phases.Work) (n : ℕ) (q : Member) (rest : List Member) → DoneBut k ms server work n (q ∷ rest) → IsDone work n (seen (roles k) q) → DoneBut k ms server work n rest
+done-passes k ms server work n q rest left done m here is = by (left m here is)
   where
-    by : In m (q ∷ rest) ⊎ IsDone (phase_of x.mirror) (seen (roles k) m) → In m rest ⊎ IsDone (phase_of x.mirror) (seen (roles k) m)
-    by (inl (inl same)) = inr (subst (λ q. IsDone (phase_of x.mirror) (seen (roles k) q)) (sym same) done)
+    by : In m (q ∷ rest) ⊎ IsDone work n (seen (roles k) m) → In m rest ⊎ IsDone work n (seen (roles k) m)
+    by (inl (inl same)) = inr (subst (λ q. IsDone work n (seen (roles k) q)) (sym same) done)
     by (inl (inr more)) = inl more
     by (inr h) = inr h
 
-pub done-ends : (k : Control) (x : Session) (server : ℕ) → DoneBut k x server [] → ServerDone k x server
-done-ends k x server left m here is = by (left m here is)
+pub done-ends : (k : Control) (ms : List Member) (server : ℕ) (work : phases.Work) (n : ℕ) → DoneBut k ms server work n [] → WorkDone k ms server work n
+done-ends k ms server work n left m here is = by (left m here is)
   where
-    by : In m [] ⊎ IsDone (phase_of x.mirror) (seen (roles k) m) → IsDone (phase_of x.mirror) (seen (roles k) m)
+    by : In m [] ⊎ IsDone work n (seen (roles k) m) → IsDone work n (seen (roles k) m)
     by (inl none) = absurd none
     by (inr h) = h
 
-pub done-calm : (k : Control) (x : Session) (server : ℕ) → LeavesTargetsAlone (phase_of x.mirror) → ServerDone k x server
-done-calm k x server calm m here is = by (phase_of x.mirror) calm
+pub done-calm : (k : Control) (ms : List Member) (server : ℕ) (work : phases.Work) (n : ℕ) → LeavesTargetsAlone work → WorkDone k ms server work n
+done-calm k ms server work n calm m here is = by work calm
   where
-    by : (p : PhaseName) → LeavesTargetsAlone p → IsDone p (seen (roles k) m)
-    by phase.Flashing h = absurd h
-    by phase.Committing h = absurd h
-    by phase.Reverting h = absurd h
-    by phase.Lost h = absurd h
-    by p h = tt
+    by : (work : phases.Work) → LeavesTargetsAlone work → IsDone work n (seen (roles k) m)
+    by phases.Release h = tt
+    by phases.Seal h = tt
+    by w h = absurd h
 
--- an attempt that has begun leaves targets alone
-pub done-begun : (k : Control) (x : Session) (r : Mirror) (server : ℕ) → x.mirror ≡ Some r → ServerDone k (begun x) server
-done-begun k x r server has = done-calm k (begun x) server (subst (λ o. LeavesTargetsAlone (phase_of (option_map (λ (r : Mirror). record r { master = phases.begun r.master }) o))) (sym has) tt)
+-- where a server has done the work that its session's phase asks, it has done what it asks
+pub done-asked : (k : Control) (x : Session) (server : ℕ) (work : phases.Work) (n : ℕ) → phases.work_in (phase_of x.mirror) ≡ Some work → x.last ≡ n → WorkDone k x.members server work n → ServerDone k x server
+done-asked k x server work n asks last done other also m here is =
+    subst (λ w. IsDone w x.last (seen (roles k) m)) (same_Some _ _ (sym asks ∙ also)) (subst (λ n. IsDone work n (seen (roles k) m)) (sym last) (done m here is))
 
 -- a volume's record changes, at a place of one member
 module _ (k j : Control) (w : ℕ) (f : Fields) (c : Carried) (x : Session) (q : Member) (moves : Moves k j w f c) (groups : Groups k) (listed : In x k.sessions) (here : In q x.members) (at_q : IsAt w q) where
@@ -208,14 +203,14 @@ module _ (k j : Control) (w : ℕ) (f : Fields) (c : Carried) (x : Session) (q :
       by (inl is) = inl (groups.lone.one w x x m q listed listed there here is at_q).1
       by (inr apart) = inr (ap (λ (S : Roles). seen S m) (roles-moved k j w f c moves) ∙ seen-apart (roles k) w (role_of f) m apart)
 
-  pub done-moves : (server : ℕ) (rest : List Member) → DoneBut k x server (q ∷ rest) → IsDone (phase_of x.mirror) (seen (roles j) q) → DoneBut j x server rest
-  done-moves server rest left done m there is = by (others m there) (left m there is)
+  pub done-moves : (server : ℕ) (work : phases.Work) (n : ℕ) (rest : List Member) → DoneBut k x.members server work n (q ∷ rest) → IsDone work n (seen (roles j) q) → DoneBut j x.members server work n rest
+  done-moves server work n rest left done m there is = by (others m there) (left m there is)
     where
-      by : (m ≡ q) ⊎ (seen (roles j) m ≡ seen (roles k) m) → In m (q ∷ rest) ⊎ IsDone (phase_of x.mirror) (seen (roles k) m) → In m rest ⊎ IsDone (phase_of x.mirror) (seen (roles j) m)
-      by (inl same) d = inr (subst (λ q. IsDone (phase_of x.mirror) (seen (roles j) q)) (sym same) done)
-      by (inr still) (inl (inl same)) = inr (subst (λ q. IsDone (phase_of x.mirror) (seen (roles j) q)) (sym same) done)
+      by : (m ≡ q) ⊎ (seen (roles j) m ≡ seen (roles k) m) → In m (q ∷ rest) ⊎ IsDone work n (seen (roles k) m) → In m rest ⊎ IsDone work n (seen (roles j) m)
+      by (inl same) d = inr (subst (λ q. IsDone work n (seen (roles j) q)) (sym same) done)
+      by (inr still) (inl (inl same)) = inr (subst (λ q. IsDone work n (seen (roles j) q)) (sym same) done)
       by (inr still) (inl (inr more)) = inl more
-      by (inr still) (inr h) = inr (subst (IsDone (phase_of x.mirror)) (sym still) h)
+      by (inr still) (inr h) = inr (subst (IsDone work n) (sym still) h)
 
   pub taken-moves : (rest : List Member) → TakenBut k x (q ∷ rest) → (seen (roles j) q).paired ≡ false → TakenBut j x rest
   taken-moves rest left taken m there = by (others m there) (left m there)
@@ -231,7 +226,10 @@ module _ (k j : Control) (w : ℕ) (f : Fields) (c : Carried) (x : Session) (q :
   seen-moves = subst (λ (S : Roles). Update (seen_in k x) (seen (roles k) q) (seen S q) (all_seen S x.members)) (sym (roles-moved k j w f c moves))
       (update (roles k) w (role_of f) x.members q (seen (at (roles k) w (role_of f)) q) here (λ m there is. (groups.lone.one w x x q m listed listed here there at_q is).1) refl)
 
-  -- a target, and a secondary
+  -- a primary, a target, and a secondary
+  pub seen-primary : w ≡ q.a.0 → seen (roles j) q ≡ seen_of q.server.0 q.a.0 (role_of f) (roles k q.b.0) (roles k q.c.0)
+  seen-primary e = ap (λ (S : Roles). seen S q) (roles-moved k j w f c moves) ∙ seen-a (roles k) w (role_of f) q (groups.lone.differ x q listed here) e
+
   pub seen-target : w ≡ q.c.0 → seen (roles j) q ≡ seen_of q.server.0 q.a.0 (roles k q.a.0) (roles k q.b.0) (role_of f)
   seen-target e = ap (λ (S : Roles). seen S q) (roles-moved k j w f c moves) ∙ seen-c (roles k) w (role_of f) q (groups.lone.differ x q listed here) e
 
@@ -239,34 +237,57 @@ module _ (k j : Control) (w : ℕ) (f : Fields) (c : Carried) (x : Session) (q :
   seen-secondary e = ap (λ (S : Roles). seen S q) (roles-moved k j w f c moves) ∙ seen-b (roles k) w (role_of f) q (groups.lone.differ x q listed here) e
 
 -- what a move of the order has done with its member
-module _ (k j : Control) (c : Carried) (x : Session) (q : Member) (server : ℕ) (rest : List Member) (groups : Groups k) (listed : In x k.sessions) (here : In q x.members) (left : DoneBut k x server (q ∷ rest)) where
-  does-as : (f : Fields) → Moves k j q.c.0 f c → IsDone (phase_of x.mirror) (seen_of q.server.0 q.a.0 (roles k q.a.0) (roles k q.b.0) (role_of f)) → DoneBut j x server rest
-  does-as f moves done = done-moves k j q.c.0 f c x q moves groups listed here (inr (inr refl)) server rest left (subst (IsDone (phase_of x.mirror)) (sym (seen-target k j q.c.0 f c x q moves groups listed here (inr (inr refl)) refl)) done)
+module _ (k j : Control) (c : Carried) (x : Session) (q : Member) (server n : ℕ) (rest : List Member) (groups : Groups k) (listed : In x k.sessions) (here : In q x.members) where
+  -- the member of which that is so is done, and each other is as before
+  abbrev Next : phases.Work → Type 0
+  Next work = DoneBut k x.members server work n (q ∷ rest) → DoneBut j x.members server work n rest
 
-  pub done-flashes : (s n : ℕ) → phase_of x.mirror ≡ phase.Flashing → Moves k j q.c.0 (flashed s n (fields_at k q.c.0)) c → DoneBut j x server rest
-  done-flashes s n e moves = does-as (flashed s n (fields_at k q.c.0)) moves (subst (λ p. IsDone p (seen_of q.server.0 q.a.0 (roles k q.a.0) (roles k q.b.0) (role_of (flashed s n (fields_at k q.c.0))))) (sym e) refl)
+  does-target : (work : phases.Work) (f : Fields) → Moves k j q.c.0 f c → IsDone work n (seen_of q.server.0 q.a.0 (roles k q.a.0) (roles k q.b.0) (role_of f)) → Next work
+  does-target work f moves done left = done-moves k j q.c.0 f c x q moves groups listed here (inr (inr refl)) server work n rest left (subst (IsDone work n) (sym (seen-target k j q.c.0 f c x q moves groups listed here (inr (inr refl)) refl)) done)
 
-  pub done-commits : (n : ℕ) → phase_of x.mirror ≡ phase.Committing → Moves k j q.c.0 (committed n (fields_at k q.c.0)) c → DoneBut j x server rest
-  done-commits n e moves = does-as (committed n (fields_at k q.c.0)) moves (subst (λ p. IsDone p (seen_of q.server.0 q.a.0 (roles k q.a.0) (roles k q.b.0) (role_of (committed n (fields_at k q.c.0))))) (sym e) refl)
+  does-primary : (work : phases.Work) (f : Fields) → Moves k j q.a.0 f c → IsDone work n (seen_of q.server.0 q.a.0 (role_of f) (roles k q.b.0) (roles k q.c.0)) → Next work
+  does-primary work f moves done left = done-moves k j q.a.0 f c x q moves groups listed here (inl refl) server work n rest left (subst (IsDone work n) (sym (seen-primary k j q.a.0 f c x q moves groups listed here (inl refl) refl)) done)
 
-  pub done-reverts : (n : ℕ) → phase_of x.mirror ≡ phase.Reverting → Moves k j q.c.0 (reverted n (fields_at k q.c.0)) c → DoneBut j x server rest
-  done-reverts n e moves = does-as (reverted n (fields_at k q.c.0)) moves (subst (λ p. IsDone p (seen_of q.server.0 q.a.0 (roles k q.a.0) (roles k q.b.0) (role_of (reverted n (fields_at k q.c.0))))) (sym e) refl)
+  pub done-holds : Moves k j q.a.0 (held_for n (fields_at k q.a.0)) c → Next phases.Hold
+  done-holds moves = does-primary phases.Hold (held_for n (fields_at k q.a.0)) moves (omega arith)
 
-  pub done-raises : (n : ℕ) → phase_of x.mirror ≡ phase.Reverting → (fields_at k q.c.0).revertible ≡ false → Moves k j q.c.0 (with_floor n (fields_at k q.c.0)) c → DoneBut j x server rest
-  done-raises n e plain moves = does-as (with_floor n (fields_at k q.c.0)) moves (subst (λ p. IsDone p (seen_of q.server.0 q.a.0 (roles k q.a.0) (roles k q.b.0) (role_of (with_floor n (fields_at k q.c.0))))) (sym e) plain)
+  pub done-finishes : Moves k j q.a.0 (past_attempt n (fields_at k q.a.0)) c → Next phases.Finish
+  done-finishes moves = does-primary phases.Finish (past_attempt n (fields_at k q.a.0)) moves (omega arith)
+
+  pub done-flashes : (s : ℕ) → Moves k j q.c.0 (flashed s n (fields_at k q.c.0)) c → Next phases.Flash
+  done-flashes s moves = does-target phases.Flash (flashed s n (fields_at k q.c.0)) moves refl
+
+  pub done-commits : Moves k j q.c.0 (committed n (fields_at k q.c.0)) c → Next phases.Commit
+  done-commits moves = does-target phases.Commit (committed n (fields_at k q.c.0)) moves refl
+
+  pub done-reverts : Moves k j q.c.0 (reverted n (fields_at k q.c.0)) c → Next phases.Revert
+  done-reverts moves = does-target phases.Revert (reverted n (fields_at k q.c.0)) moves (refl, omega arith)
+
+  pub done-raises : (fields_at k q.c.0).revertible ≡ false → Moves k j q.c.0 (with_floor n (fields_at k q.c.0)) c → Next phases.Revert
+  done-raises plain moves = does-target phases.Revert (with_floor n (fields_at k q.c.0)) moves (plain, omega arith)
 
 -- a member that is done already is passed over
-pub done-flashed : (k : Control) (x : Session) (m : Member) (n : ℕ) → phase_of x.mirror ≡ phase.Flashing → is_flashed n (fields_at k m.c.0) ≡ true → IsDone (phase_of x.mirror) (seen (roles k) m)
-done-flashed k x m n e h = subst (λ p. IsDone p (seen (roles k) m)) (sym e) (and_parts (fields_at k m.c.0).revertible (nat_eq (fields_at k m.c.0).sequence n) h).0
+pub done-held : (k : Control) (m : Member) (n : ℕ) → records n (fields_at k m.a.0) ≡ true → IsDone phases.Hold n (seen (roles k) m)
+done-held k m n h = let same : (fields_at k m.a.0).attempt ≡ n = eqb-true (fields_at k m.a.0).attempt n (and_parts (fields_at k m.a.0).recording (nat_eq (fields_at k m.a.0).attempt n) h).1 in omega arith
 
-pub done-committed : (k : Control) (x : Session) (m : Member) (n : ℕ) → phase_of x.mirror ≡ phase.Committing → is_committed n (fields_at k m.c.0) ≡ true → IsDone (phase_of x.mirror) (seen (roles k) m)
-done-committed k x m n e h =
+pub done-past : (k : Control) (m : Member) (n : ℕ) → is_past n (fields_at k m.a.0) ≡ true → IsDone phases.Finish n (seen (roles k) m)
+done-past k m n h = by (or_cases (nat_lt n (fields_at k m.a.0).attempt) (nat_eq (fields_at k m.a.0).attempt n && not (fields_at k m.a.0).recording) h)
+  where
+    by : (nat_lt n (fields_at k m.a.0).attempt ≡ true) ⊎ ((nat_eq (fields_at k m.a.0).attempt n && not (fields_at k m.a.0).recording) ≡ true) → n ≤ (fields_at k m.a.0).attempt
+    by (inl above) = let up : n < (fields_at k m.a.0).attempt = ltb-true n (fields_at k m.a.0).attempt above in omega arith
+    by (inr over) = let same : (fields_at k m.a.0).attempt ≡ n = eqb-true (fields_at k m.a.0).attempt n (and_parts (nat_eq (fields_at k m.a.0).attempt n) (not (fields_at k m.a.0).recording) over).0 in omega arith
+
+pub done-flashed : (k : Control) (m : Member) (n : ℕ) → is_flashed n (fields_at k m.c.0) ≡ true → IsDone phases.Flash n (seen (roles k) m)
+done-flashed k m n h = (and_parts (fields_at k m.c.0).revertible (nat_eq (fields_at k m.c.0).sequence n) h).0
+
+pub done-committed : (k : Control) (m : Member) (n : ℕ) → is_committed n (fields_at k m.c.0) ≡ true → IsDone phases.Commit n (seen (roles k) m)
+done-committed k m n h =
     let p = and_parts (fields_at k m.c.0).member (nat_eq (fields_at k m.c.0).sequence n && not (fields_at k m.c.0).revertible) h in
     let q = and_parts (nat_eq (fields_at k m.c.0).sequence n) (not (fields_at k m.c.0).revertible) p.1 in
-    subst (λ p. IsDone p (seen (roles k) m)) (sym e) (not-true (fields_at k m.c.0).revertible q.1)
+    not-true (fields_at k m.c.0).revertible q.1
 
-pub done-reverted : (k : Control) (s : ℕ) (x : Session) (m : Member) (n : ℕ) → Groups k → Attempts k → session_in k.sessions s ≡ Some x → In m x.members → x.last ≡ n → phase_of x.mirror ≡ phase.Reverting → is_flashed n (fields_at k m.c.0) ≡ false → IsDone (phase_of x.mirror) (seen (roles k) m)
-done-reverted k s x m n groups law found here last e h = subst (λ p. IsDone p (seen (roles k) m)) (sym e) (unflashed-plain k groups law s x found m here n last h)
+pub done-reverted : (k : Control) (s : ℕ) (x : Session) (m : Member) (n : ℕ) → Groups k → Attempts k → session_in k.sessions s ≡ Some x → In m x.members → x.last ≡ n → is_flashed n (fields_at k m.c.0) ≡ false → nat_lt (fields_at k m.c.0).floor n ≡ false → IsDone phases.Revert n (seen (roles k) m)
+done-reverted k s x m n groups law found here last h high = (unflashed-plain k groups law s x found m here n last h, ltb-false (fields_at k m.c.0).floor n high)
 
 -- ---- the order of a phase
 

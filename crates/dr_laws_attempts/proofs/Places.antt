@@ -1,5 +1,5 @@
 -- A volume has one place, so where its record says something else, one session sees one member otherwise.
-use Rattle.std.proofs.Common.{ℕ, ◌≡◌, ◌≤◌, ◌⊎◌, inl, inr, refl, ap, sym, ◌∙◌, List, [], ◌∷◌, subst, Option}
+use Rattle.std.proofs.Common.{ℕ, Bool, ◌≡◌, ◌⊎◌, inl, inr, refl, ap, sym, ◌∙◌, List, [], ◌∷◌, subst, Option, arith}
 use Rattle.std.proofs.lemmas.Bool.Decides.{eqb_tells}
 use Rattle.dr_logic.specs.Tables.{at}
 use Rattle.dr_ids.specs.declared.names.Member.{Member}
@@ -12,7 +12,7 @@ use Rattle.dr_model.specs.Attempts.{Role, Roles, Seen, seen_of, seen, all_seen, 
 use Rattle.dr_facts.proofs.Lists.{Image, from-map, to-map}
 use Rattle.dr_facts.proofs.Tables.{IsOrNot, at_cases, at_is}
 use Rattle.dr_laws_attempts.proofs.Facts.{Update}
-use Rattle.dr_laws_attempts.proofs.Turns.{Kind, Try, Pair, next_seen, MayTurn, MayPair}
+use Rattle.dr_laws_attempts.proofs.Turns.{Kind, Try, Pair, next_seen, MayTurn, MayTry, MayPair}
 use Rattle.dr_laws_attempts.proofs.TurnsKeep.{kept}
 use Rattle.dr_logic.proofs.Tables.{at_other}
 
@@ -98,26 +98,48 @@ module _ (T : Roles) (x : ℕ) (y : Role) where
         ∙ ap (λ r. seen_of m.server.0 m.a.0 (T m.a.0) r (at T x y m.c.0)) (at_other T x y m.b.0 (λ f. differ.b_c (f ∙ e)))
         ∙ ap (λ r. seen_of m.server.0 m.a.0 (T m.a.0) (T m.b.0) r) (at_is T x y m.c.0 e)
 
+-- what a volume says as a primary and as a secondary
+pub record AsPart : Type 0 where
+  pub attempt : ℕ
+  pub recording : Bool
+  pub held : Bool
+  pub primary : Option ℕ
+  pub seal : ℕ
+
+abbrev pub as_part : Role → AsPart
+as_part r = record { attempt = r.attempt; recording = r.recording; held = r.held; primary = r.primary; seal = r.seal }
+
+-- it says another last attempt as a primary, and whether it records and is held; and also another primary and seal as a secondary
+abbrev pub tried_as : Role → ℕ → Bool → Bool → Role
+tried_as r q records held = record r { attempt = q; recording = records; held = held }
+
+abbrev pub parted_as : Role → ℕ → Bool → Bool → Option ℕ → ℕ → Role
+parted_as r q records held primary k = record r { attempt = q; recording = records; held = held; primary = primary; seal = k }
+
 -- what a member of a session turns into, where volumes say S in place of T
 pub record Turned (T S : Roles) (z : Session) (m : Member) : Type 0 where
   pub kind : Kind
-  pub may : MayTurn kind (phase_of z.mirror) z.last (all_seen T z.members) (seen T m)
+  pub may : MayTurn kind (phase_of z.mirror) z.last (owed_of z.mirror) (reports_of z.mirror) (all_seen T z.members) (seen T m)
   pub is : seen S m ≡ next_seen kind z.last (seen T m)
 
 pub turned-same : (T S : Roles) (z : Session) (m : Member) → AttemptOf T z → In m z.members → seen S m ≡ seen T m → Turned T S z m
-turned-same T S z m law here is = record { kind = Try (seen T m).attempt; may = (law.numbers.each (seen T m) (to-map (seen T) z.members m here)).attempt; is = is }
+turned-same T S z m law here is = record {
+  kind = Try (seen T m).attempt (seen T m).recording (seen T m).held;
+  may = record { up = omega arith; low = (law.numbers.each (seen T m) (to-map (seen T) z.members m here)).attempt; begun = λ r. inl r; free = λ r h. inl (r, h) };
+  is = is;
+}
 
 -- what a session's members turn into: they stay, or one changes as it may
-pub data Turning (p : PhaseName) (n : ℕ) (vs us : List Seen) : Type 0 where
-  Stays : us ≡ vs → Turning p n vs us
-  One : (v : Seen) (k : Kind) → Update vs v (next_seen k n v) us → MayTurn k p n vs v → Turning p n vs us
+pub data Turning (p : PhaseName) (n : ℕ) (owed : List ℕ) (reports : List Shown) (vs us : List Seen) : Type 0 where
+  Stays : us ≡ vs → Turning p n owed reports vs us
+  One : (v : Seen) (k : Kind) → Update vs v (next_seen k n v) us → MayTurn k p n owed reports vs v → Turning p n owed reports vs us
 
 -- and so of each session, where volumes say S in place of T
 pub record Steps (ss : List Session) (T S : Roles) : Type 0 where
-  pub turns : (z : Session) → In z ss → Turning (phase_of z.mirror) z.last (all_seen T z.members) (all_seen S z.members)
+  pub turns : (z : Session) → In z ss → Turning (phase_of z.mirror) z.last (owed_of z.mirror) (reports_of z.mirror) (all_seen T z.members) (all_seen S z.members)
   pub claims : (v : ℕ) → Claim ss v (S v)
 
-turning-keeps : (p : PhaseName) (n : ℕ) (owed : List ℕ) (reports : List Shown) (vs us : List Seen) → IsAttempt p n owed reports vs → Turning p n vs us → IsAttempt p n owed reports us
+turning-keeps : (p : PhaseName) (n : ℕ) (owed : List ℕ) (reports : List Shown) (vs us : List Seen) → IsAttempt p n owed reports vs → Turning p n owed reports vs us → IsAttempt p n owed reports us
 turning-keeps p n owed reports vs us law (Stays is) = subst (λ vs. IsAttempt p n owed reports vs) (sym is) law
 turning-keeps p n owed reports vs us law (One v k move may) = kept p n owed reports vs law v us k move may
 
@@ -130,10 +152,10 @@ steps-keep ss T S law steps = record {
 
 module _ (ss : List Session) (lone : Lone ss) (T : Roles) (law : AttemptsIn ss T) where
   module _ (x : ℕ) (y : Role) where
-    session-turns : (z : Session) → In z ss → ((m : Member) → In m z.members → IsAt x m → Turned T (at T x y) z m) → Turning (phase_of z.mirror) z.last (all_seen T z.members) (all_seen (at T x y) z.members)
+    session-turns : (z : Session) → In z ss → ((m : Member) → In m z.members → IsAt x m → Turned T (at T x y) z m) → Turning (phase_of z.mirror) z.last (owed_of z.mirror) (reports_of z.mirror) (all_seen T z.members) (all_seen (at T x y) z.members)
     session-turns z i turns = by (find-place x z.members)
       where
-        by : PlaceIn x z.members ⊎ ((q : Member) → In q z.members → IsAt x q → ⊥) → Turning (phase_of z.mirror) z.last (all_seen T z.members) (all_seen (at T x y) z.members)
+        by : PlaceIn x z.members ⊎ ((q : Member) → In q z.members → IsAt x q → ⊥) → Turning (phase_of z.mirror) z.last (owed_of z.mirror) (reports_of z.mirror) (all_seen T z.members) (all_seen (at T x y) z.members)
         by (inl p) =
             let t = turns p.member p.here p.is in
             One (seen T p.member) t.kind (update T x y z.members p.member (next_seen t.kind z.last (seen T p.member)) p.here (λ q there at_q. (lone.one x z z p.member q i i p.here there p.is at_q).1) t.is) t.may
@@ -146,14 +168,26 @@ module _ (ss : List Session) (lone : Lone ss) (T : Roles) (law : AttemptsIn ss T
   claim : (x : ℕ) → Claim ss x (T x)
   claim x = law.volumes x
 
-  -- another last attempt of a primary
-  pub tries : (x q : ℕ) → ((z : Session) (m : Member) → In z ss → In m z.members → m.a.0 ≡ x → q ≤ z.last) → Steps ss T (at T x (record (T x) { attempt = q }))
-  tries x q low = steps-at x (record (T x) { attempt = q }) turns (record { counted = (claim x).counted; uncounted = (claim x).uncounted; previous = (claim x).previous })
+  -- another last attempt of a primary, or whether it records and is held
+  pub tries : (x q : ℕ) (records held : Bool) → ((z : Session) (m : Member) → In z ss → In m z.members → m.a.0 ≡ x → MayTry (phase_of z.mirror) z.last (all_seen T z.members) (seen T m) q records held)
+      → Steps ss T (at T x (record (T x) { attempt = q; recording = records; held = held }))
+  tries x q records held may = steps-at x (record (T x) { attempt = q; recording = records; held = held }) turns (record { counted = (claim x).counted; uncounted = (claim x).uncounted; previous = (claim x).previous })
     where
-      turns : (z : Session) (m : Member) → In z ss → In m z.members → IsAt x m → Turned T (at T x (record (T x) { attempt = q })) z m
-      turns z m i here (inl e) = record { kind = Try q; may = low z m i here (sym e); is = seen-a T x (record (T x) { attempt = q }) m (lone.differ z m i here) e ∙ ap (λ u. seen_of m.server.0 m.a.0 (record (T u) { attempt = q }) (T m.b.0) (T m.c.0)) e }
-      turns z m i here (inr (inl e)) = turned-same T (at T x (record (T x) { attempt = q })) z m (law.sessions z i) here (seen-b T x (record (T x) { attempt = q }) m (lone.differ z m i here) e ∙ ap (λ u. seen_of m.server.0 m.a.0 (T m.a.0) (record (T u) { attempt = q }) (T m.c.0)) e)
-      turns z m i here (inr (inr e)) = turned-same T (at T x (record (T x) { attempt = q })) z m (law.sessions z i) here (seen-c T x (record (T x) { attempt = q }) m (lone.differ z m i here) e ∙ ap (λ u. seen_of m.server.0 m.a.0 (T m.a.0) (T m.b.0) (record (T u) { attempt = q })) e)
+      turns : (z : Session) (m : Member) → In z ss → In m z.members → IsAt x m → Turned T (at T x (tried_as (T x) q records held)) z m
+      turns z m i here (inl e) = record { kind = Try q records held; may = may z m i here (sym e); is = seen-a T x (tried_as (T x) q records held) m (lone.differ z m i here) e ∙ ap (λ u. seen_of m.server.0 m.a.0 (tried_as (T u) q records held) (T m.b.0) (T m.c.0)) e }
+      turns z m i here (inr (inl e)) = turned-same T (at T x (tried_as (T x) q records held)) z m (law.sessions z i) here (seen-b T x (tried_as (T x) q records held) m (lone.differ z m i here) e ∙ ap (λ u. seen_of m.server.0 m.a.0 (T m.a.0) (tried_as (T u) q records held) (T m.c.0)) e)
+      turns z m i here (inr (inr e)) = turned-same T (at T x (tried_as (T x) q records held)) z m (law.sessions z i) here (seen-c T x (tried_as (T x) q records held) m (lone.differ z m i here) e ∙ ap (λ u. seen_of m.server.0 m.a.0 (T m.a.0) (T m.b.0) (tried_as (T u) q records held)) e)
+
+  -- and beside it another primary and seal, as a secondary
+  pub parts : (x q : ℕ) (records held : Bool) (primary : Option ℕ) (k : ℕ) → ((z : Session) (m : Member) → In z ss → In m z.members → m.a.0 ≡ x → MayTry (phase_of z.mirror) z.last (all_seen T z.members) (seen T m) q records held)
+      → ((z : Session) (m : Member) → In z ss → In m z.members → m.b.0 ≡ x → MayPair (phase_of z.mirror) z.last (seen T m) (is_at primary m.a.0) k)
+      → Steps ss T (at T x (record (T x) { attempt = q; recording = records; held = held; primary = primary; seal = k }))
+  parts x q records held primary k may also = steps-at x (record (T x) { attempt = q; recording = records; held = held; primary = primary; seal = k }) turns (record { counted = (claim x).counted; uncounted = (claim x).uncounted; previous = (claim x).previous })
+    where
+      turns : (z : Session) (m : Member) → In z ss → In m z.members → IsAt x m → Turned T (at T x (parted_as (T x) q records held primary k)) z m
+      turns z m i here (inl e) = record { kind = Try q records held; may = may z m i here (sym e); is = seen-a T x (parted_as (T x) q records held primary k) m (lone.differ z m i here) e ∙ ap (λ u. seen_of m.server.0 m.a.0 (parted_as (T u) q records held primary k) (T m.b.0) (T m.c.0)) e }
+      turns z m i here (inr (inl e)) = record { kind = Pair (is_at primary m.a.0) k; may = also z m i here (sym e); is = seen-b T x (parted_as (T x) q records held primary k) m (lone.differ z m i here) e ∙ ap (λ u. seen_of m.server.0 m.a.0 (T m.a.0) (parted_as (T u) q records held primary k) (T m.c.0)) e }
+      turns z m i here (inr (inr e)) = turned-same T (at T x (parted_as (T x) q records held primary k)) z m (law.sessions z i) here (seen-c T x (parted_as (T x) q records held primary k) m (lone.differ z m i here) e ∙ ap (λ u. seen_of m.server.0 m.a.0 (T m.a.0) (T m.b.0) (parted_as (T u) q records held primary k)) e)
 
   -- another primary and seal of a secondary
   pub pairs : (x : ℕ) (primary : Option ℕ) (q : ℕ) → ((z : Session) (m : Member) → In z ss → In m z.members → m.b.0 ≡ x → MayPair (phase_of z.mirror) z.last (seen T m) (is_at primary m.a.0) q)
@@ -168,15 +202,15 @@ module _ (ss : List Session) (lone : Lone ss) (T : Roles) (law : AttemptsIn ss T
   -- other numbers and flags of a target
   pub record TurnsTo (z : Session) (m : Member) (y : Role) : Type 0 where
     pub kind : Kind
-    pub may : MayTurn kind (phase_of z.mirror) z.last (all_seen T z.members) (seen T m)
+    pub may : MayTurn kind (phase_of z.mirror) z.last (owed_of z.mirror) (reports_of z.mirror) (all_seen T z.members) (seen T m)
     pub is : seen_of m.server.0 m.a.0 (T m.a.0) (T m.b.0) y ≡ next_seen kind z.last (seen T m)
 
-  pub targets : (x : ℕ) (y : Role) → y.attempt ≡ (T x).attempt → y.primary ≡ (T x).primary → y.seal ≡ (T x).seal → ((z : Session) (m : Member) → In z ss → In m z.members → m.c.0 ≡ x → TurnsTo z m y) → Claim ss x y → Steps ss T (at T x y)
-  targets x y attempt primary seal to new = steps-at x y turns new
+  pub targets : (x : ℕ) (y : Role) → as_part y ≡ as_part (T x) → ((z : Session) (m : Member) → In z ss → In m z.members → m.c.0 ≡ x → TurnsTo z m y) → Claim ss x y → Steps ss T (at T x y)
+  targets x y same to new = steps-at x y turns new
     where
       turns : (z : Session) (m : Member) → In z ss → In m z.members → IsAt x m → Turned T (at T x y) z m
       turns z m i here (inl e) = turned-same T (at T x y) z m (law.sessions z i) here
-          (seen-a T x y m (lone.differ z m i here) e ∙ ap (λ n. record (seen T m) { attempt = n }) (attempt ∙ ap (λ u. (T u).attempt) e))
+          (seen-a T x y m (lone.differ z m i here) e ∙ ap (λ p. record (seen T m) { attempt = p.attempt; recording = p.recording; held = p.held }) (same ∙ ap (λ u. as_part (T u)) e))
       turns z m i here (inr (inl e)) = turned-same T (at T x y) z m (law.sessions z i) here
-          (seen-b T x y m (lone.differ z m i here) e ∙ (ap (λ o. record (seen T m) { paired = is_at o m.a.0; seal = y.seal }) (primary ∙ ap (λ u. (T u).primary) e) ∙ ap (λ n. record (seen T m) { seal = n }) (seal ∙ ap (λ u. (T u).seal) e)))
+          (seen-b T x y m (lone.differ z m i here) e ∙ ap (λ p. record (seen T m) { paired = is_at p.primary m.a.0; seal = p.seal }) (same ∙ ap (λ u. as_part (T u)) e))
       turns z m i here (inr (inr e)) = let t = to z m i here (sym e) in record { kind = t.kind; may = t.may; is = seen-c T x y m (lone.differ z m i here) e ∙ t.is }

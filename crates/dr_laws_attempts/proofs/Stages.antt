@@ -9,11 +9,11 @@ use Rattle.dr_ids.specs.declared.refusal.Decision.TheVariants.{CommitRest}
 use Rattle.dr_model.specs.Decisions.{Shown, decision}
 use Rattle.dr_model.specs.Phases as phases
 use Rattle.dr_model.specs.Groups.{In}
-use Rattle.dr_model.specs.Attempts.{Seen, All, Any, counts, committed, number_shown, NoneRevertible, NoneCommitted, SomeCommitted, AllAt, Blocked, Barred, Numbered, OneShown, NumbersAgree, is_owed, Answered, IsReported, AgreesOnLast, AgreesOnOther, Known, InLost, InPhase, Waits, Owes, IsAttempt, IsDone}
+use Rattle.dr_model.specs.Attempts.{Seen, All, Any, counts, committed, number_shown, NoneRevertible, NoneCommitted, SomeCommitted, AllAt, Blocked, Barred, AllHeld, WasFlashed, AllFlashed, Follows, Numbered, OneShown, NumbersAgree, is_owed, Answered, IsReported, AgreesOnLast, AgreesOnOther, Known, InLost, InPhase, Waits, Owes, IsAttempt, IsDone}
 use Rattle.dr_facts.proofs.Tables.{IsOrNot}
 use Rattle.dr_facts.proofs.Lists.{in-first, in-second, in-joined, from-filter, any-some}
 use Rattle.dr_laws_sessions.proofs.Sound.{among-without}
-use Rattle.dr_laws_attempts.proofs.Facts.{all_by, any_all, apart-none, committed-parts, not-committed, counts-member, member-counts, rev-counts, shown-plain, none-some}
+use Rattle.dr_laws_attempts.proofs.Facts.{all_by, any_all, apart-none, committed-parts, is-committed, not-committed, counts-member, member-counts, rev-counts, shown-plain, none-some}
 use Rattle.dr_laws_attempts.proofs.Reports.{as-reported, commit-tells, commit-holds}
 use Rattle.dr_logic.proofs.Truth.{false_true}
 
@@ -31,16 +31,17 @@ pub record Serves (servers : List ℕ) (vs : List Seen) : Type 0 where
 pub idle-none : (p : PhaseName) (n : ℕ) (owed : List ℕ) (reports : List Shown) (vs : List Seen) → p ≡ phase.Idle → IsAttempt p n owed reports vs → NoneRevertible vs
 idle-none p n owed reports vs e law = subst (λ q. InPhase q n owed reports vs) e law.phase
 
-pub idle-attempt : (p : PhaseName) (n : ℕ) (owed : List ℕ) (reports : List Shown) (vs : List Seen) → p ≡ phase.Idle → NumbersAgree n vs → NoneRevertible vs → IsAttempt p n owed reports vs
-idle-attempt p n owed reports vs e numbers none = record {
+pub idle-attempt : (p : PhaseName) (n : ℕ) (owed : List ℕ) (reports : List Shown) (vs : List Seen) → p ≡ phase.Idle → NumbersAgree n vs → Follows n vs → NoneRevertible vs → IsAttempt p n owed reports vs
+idle-attempt p n owed reports vs e numbers follows none = record {
   numbers = numbers;
+  follows = follows;
   phase = subst (λ q. InPhase q n owed reports vs) (sym e) none;
   owes = subst (λ q. Owes q owed vs) (sym e) tt;
 }
 
 -- ---- a phase begins
 
-module _ (n : ℕ) (vs : List Seen) (numbers : NumbersAgree n vs) (servers : List ℕ) (serves : Serves servers vs) where
+module _ (n : ℕ) (vs : List Seen) (numbers : NumbersAgree n vs) (follows : Follows n vs) (servers : List ℕ) (serves : Serves servers vs) where
   -- of what nobody has answered
   fresh : (P : Seen → Type 0) → Answered servers P vs
   fresh P u h o = false_true o (serves.each u h)
@@ -64,6 +65,7 @@ module _ (n : ℕ) (vs : List Seen) (numbers : NumbersAgree n vs) (servers : Lis
     agrees = by numbers.none numbers.some;
     known = λ u h c. inr (inr (record { one = u; here = h; is = (c, serves.each u h) }));
     told = λ u h o r. fresh (λ u. IsReported n true []) u h o;
+    after = λ h. absurd h;
   }
     where
       by : SomeCommitted n vs ⊎ OneShown n vs → NoneCommitted n vs ⊎ AllAt n vs → AgreesOnLast n [] vs ⊎ AgreesOnOther n [] vs
@@ -77,6 +79,7 @@ module _ (n : ℕ) (vs : List Seen) (numbers : NumbersAgree n vs) (servers : Lis
   pub enters : (q : PhaseName) (m : phases.Master) → m.servers ≡ servers → Begins q → (v : Seen) → In v vs → AttemptBy n vs (phases.enters q m)
   enters q m is law v here = record {
     numbers = numbers;
+    follows = follows;
     phase = subst (λ ks. InPhase q n (phases.owed_first q ks) [] vs) (sym is) law;
     owes = subst (λ ks. Owes q (phases.owed_first q ks) vs) (sym is) (owes-first q v here);
   }
@@ -84,9 +87,9 @@ module _ (n : ℕ) (vs : List Seen) (numbers : NumbersAgree n vs) (servers : Lis
   -- ---- aborted
 
   aborts-to : (p q : PhaseName) (owed : List ℕ) (reports : List Shown) → phases.aborted_phase p ≡ Some q → InPhase p n owed reports vs → Begins q
-  aborts-to phase.Coordinating phase.Finishing owed reports e h = h.before.unflashed
-  aborts-to phase.Releasing phase.Finishing owed reports e h = h.unflashed
-  aborts-to phase.Draining phase.Finishing owed reports e h = h.unflashed
+  aborts-to phase.Coordinating phase.Finishing owed reports e h = record { unflashed = h.before.unflashed; done = fresh _ }
+  aborts-to phase.Releasing phase.Finishing owed reports e h = record { unflashed = h.before.unflashed; done = fresh _ }
+  aborts-to phase.Draining phase.Finishing owed reports e h = record { unflashed = h.before.unflashed; done = fresh _ }
   aborts-to phase.Flashing phase.Reverting owed reports e h = record { way = inl h.uncommitted; done = fresh _ }
   aborts-to phase.Committing phase.Lost owed reports e h = lost-begins
   aborts-to p q owed reports e h = absurd cc
@@ -113,9 +116,10 @@ module _ (n : ℕ) (vs : List Seen) (numbers : NumbersAgree n vs) (servers : Lis
   loses m is = by m.servers is
     where
       by : (ks : List ℕ) → ks ≡ servers → IsAttempt (phases.phase_lost ks) n (phases.owed_first (phases.phase_lost ks) ks) [] vs
-      by [] e = record { numbers = numbers; phase = λ u h. let none : false ≡ true = subst (λ ks. is_owed ks u ≡ true) (sym e) (serves.each u h) in absurd cc; owes = tt }
+      by [] e = record { numbers = numbers; follows = follows; phase = λ u h. let none : false ≡ true = subst (λ ks. is_owed ks u ≡ true) (sym e) (serves.each u h) in absurd cc; owes = tt }
       by (k ∷ ks) e = record {
         numbers = numbers;
+        follows = follows;
         phase = subst (λ ks. InLost n ks [] vs) (sym e) lost-begins;
         owes = record { some = λ f. cc; members = λ s i. serves.members s (subst (In s) e i) };
       }
@@ -130,13 +134,13 @@ module _ (n : ℕ) (vs : List Seen) (numbers : NumbersAgree n vs) (servers : Lis
   next : (p : PhaseName) (reports : List Shown) → InPhase p n [] reports vs → Begins (phases.next_phase p)
   next phase.None reports h = h
   next phase.Idle reports h = h
-  next phase.Coordinating reports h = h.before
+  next phase.Coordinating reports h = record { before = h.before; held = λ u i. h.held u i refl }
   next phase.Releasing reports h = h
-  next phase.Draining reports h = record { positive = h.positive; uncommitted = h.uncommitted; done = inr (fresh _) }
-  next phase.Flashing reports h = record { way = flash-settles h.done; done = fresh _ }
-  next phase.Committing reports h = λ u i. h.done u i refl
-  next phase.Reverting reports h = λ u i. h.done u i refl
-  next phase.Finishing reports h = h
+  next phase.Draining reports h = record { positive = h.before.positive; uncommitted = h.before.uncommitted; held = h.held; done = inr (fresh _); flashed = fresh _ }
+  next phase.Flashing reports h = record { way = flash-settles h.done; held = h.held; flashed = λ u i. h.flashed u i refl; done = fresh _ }
+  next phase.Committing reports h = record { unflashed = λ u i. h.done u i refl; done = fresh _ }
+  next phase.Reverting reports h = record { unflashed = λ u i. (h.done u i refl).0; done = fresh _ }
+  next phase.Finishing reports h = h.unflashed
   next phase.Lost reports h = lost-begins
 
   owes-next : (p : PhaseName) (owed : List ℕ) → Owes p owed vs → Owes (phases.next_phase p) (phases.owed_first (phases.next_phase p) servers) vs
@@ -154,28 +158,28 @@ module _ (n : ℕ) (vs : List Seen) (numbers : NumbersAgree n vs) (servers : Lis
         by (inr other) = old u h (sym (among-without u.server server owed other.1) ∙ o)
 
     abbrev DoneBy : PhaseName → Type 0
-    DoneBy p = All (λ u. u.server ≡ server → IsDone p u) vs
+    DoneBy p = (work : phases.Work) → phases.work_in p ≡ Some work → All (λ u. u.server ≡ server → IsDone work n u) vs
 
     stays : (p : PhaseName) (owed : List ℕ) (reports : List Shown) → DoneBy p → InPhase p n owed reports vs → InPhase p n (phases.without server owed) reports vs
     stays phase.None owed reports done h = h
     stays phase.Idle owed reports done h = h
-    stays phase.Coordinating owed reports done h = h
+    stays phase.Coordinating owed reports done h = record { before = h.before; unsealed = h.unsealed; held = on-now owed _ (λ u i s. done phases.Hold refl u i s) h.held }
     stays phase.Releasing owed reports done h = h
     stays phase.Draining owed reports done h = h
-    stays phase.Flashing owed reports done h = record { positive = h.positive; uncommitted = h.uncommitted; done = by h.done }
+    stays phase.Flashing owed reports done h = record { positive = h.positive; uncommitted = h.uncommitted; held = h.held; done = by h.done; flashed = on-now owed (WasFlashed n) (λ u i s. inl (done phases.Flash refl u i s)) h.flashed }
       where
         by : Barred n vs ⊎ Answered owed (λ u. u.revertible ≡ true) vs → Barred n vs ⊎ Answered (phases.without server owed) (λ u. u.revertible ≡ true) vs
         by (inl bar) = inl bar
-        by (inr rev) = inr (on-now owed _ (λ u i s. done u i s) rev)
-    stays phase.Committing owed reports done h = record { way = h.way; done = on-now owed _ (λ u i s. done u i s) h.done }
-    stays phase.Reverting owed reports done h = record { way = h.way; done = on-now owed _ (λ u i s. done u i s) h.done }
-    stays phase.Finishing owed reports done h = h
-    stays phase.Lost owed reports done h = record { last = h.last; agrees = h.agrees; known = λ u i c. by (h.known u i c); told = on-now owed _ (λ u i s. absurd (done u i s)) h.told }
+        by (inr rev) = inr (on-now owed _ (λ u i s. done phases.Flash refl u i s) rev)
+    stays phase.Committing owed reports done h = record { way = h.way; held = h.held; flashed = h.flashed; done = on-now owed _ (λ u i s. done phases.Commit refl u i s) h.done }
+    stays phase.Reverting owed reports done h = record { way = h.way; done = on-now owed _ (λ u i s. done phases.Revert refl u i s) h.done }
+    stays phase.Finishing owed reports done h = record { unflashed = h.unflashed; done = on-now owed _ (λ u i s. done phases.Finish refl u i s) h.done }
+    stays phase.Lost owed reports done h = record { last = h.last; agrees = h.agrees; known = λ u i c. by (h.known u i c); told = on-now owed _ (λ u i s. absurd (done phases.Report refl u i s)) h.told; after = h.after }
       where
         by : Known n owed reports vs → Known n (phases.without server owed) reports vs
         by (inl none) = inl none
         by (inr (inl told)) = inr (inl told)
-        by (inr (inr w)) = inr (inr (record { one = w.one; here = w.here; is = (w.is.0, among-without w.one.server server owed (λ e. done w.one w.here e) ∙ w.is.1) }))
+        by (inr (inr w)) = inr (inr (record { one = w.one; here = w.here; is = (w.is.0, among-without w.one.server server owed (λ e. done phases.Report refl w.one w.here e) ∙ w.is.1) }))
 
     waits-still : (owed rest : List ℕ) → phases.without server owed ≡ rest → (rest ≡ [] → ⊥) → Waits owed vs → Waits rest vs
     waits-still owed rest e some w = record { some = some; members = λ s i. w.members s (from-filter _ owed s (subst (In s) (sym e) i)).0 }
@@ -191,12 +195,14 @@ module _ (n : ℕ) (vs : List Seen) (numbers : NumbersAgree n vs) (servers : Lis
         by : (rest : List ℕ) → phases.without server m.owed ≡ rest → AttemptBy n vs (phases.left_with m rest)
         by [] e = record {
           numbers = numbers;
+          follows = follows;
           phase = subst (λ ks. InPhase (phases.next_phase m.phase) n (phases.owed_first (phases.next_phase m.phase) ks) [] vs) (sym is)
               (next m.phase m.reports (subst (λ ks. InPhase m.phase n ks m.reports vs) e (stays m.phase m.owed m.reports does law.phase)));
           owes = subst (λ ks. Owes (phases.next_phase m.phase) (phases.owed_first (phases.next_phase m.phase) ks) vs) (sym is) (owes-next m.phase m.owed law.owes);
         }
         by (k ∷ ks) e = record {
           numbers = numbers;
+          follows = follows;
           phase = subst (λ ks. InPhase m.phase n ks m.reports vs) e (stays m.phase m.owed m.reports does law.phase);
           owes = owes-still m.phase m.owed (k ∷ ks) e (λ f. cc) law.owes;
         }
@@ -247,12 +253,24 @@ module _ (n : ℕ) (vs : List Seen) (numbers : NumbersAgree n vs) (servers : Lis
               inr (inl (in-second reports xs _ (as-reported xs (record { sequence = w.one.sequence; revertible = w.one.revertible }) n false (tells.all w.one w.here is.1 (member-counts w.one c.member)) c.numbered c.plain)))
           by (inr other) = inr (inr (record { one = w.one; here = w.here; is = (w.is.0, among-without w.one.server server owed other.1 ∙ w.is.1) }))
 
+      -- what isn't revertible and is reported with n is committed
+      told-after : IsReported n false xs → AllHeld n vs × AllFlashed n vs
+      told-after new =
+          let t = tells.from (record { sequence = n; revertible = false }) new in
+          let plain : t.seen.revertible ≡ false = sym (ap (λ (r : Shown). r.revertible) t.is) in
+          follows.settled t.seen t.here (is-committed n t.seen (counts-member t.seen t.counted plain) plain (sym (ap (λ (r : Shown). r.sequence) t.is)))
+
+      after-by : IsReported n false reports ⊎ IsReported n false xs → AllHeld n vs × AllFlashed n vs
+      after-by (inl old) = h.after old
+      after-by (inr new) = told-after new
+
       tells-on : InLost n (phases.without server owed) now vs
       tells-on = record {
         last = λ k i. last-by k (in-joined reports xs _ i);
         agrees = agrees-by h.agrees;
         known = λ u i c. known-by (h.known u i c);
         told = on-now owed _ (λ u i s r. in-second reports xs _ (as-reported xs (record { sequence = u.sequence; revertible = u.revertible }) n true (tells.all u i s (rev-counts u r)) ((numbers.each u i).last r) r)) (λ u i o r. in-first reports xs _ (h.told u i o r));
+        after = λ i. after-by (in-joined reports xs _ i);
       }
 
     -- after the last report the master settles
@@ -279,7 +297,10 @@ module _ (n : ℕ) (vs : List Seen) (numbers : NumbersAgree n vs) (servers : Lis
           by (inr none) = inr none
 
       settles : (d : Decision) → decision reports ≡ d → Begins (phases.phase_by d)
-      settles (CommitRest k) e = record { way = commit-way k e h.agrees; done = fresh _ }
+      settles (CommitRest k) e =
+          let both = commit-tells reports k e in
+          let a = h.after (subst (λ k. IsReported k false reports) (h.last k both.0) both.1) in
+          record { way = commit-way k e h.agrees; held = a.0; flashed = a.1; done = fresh _ }
       settles d e = record { way = revert-way (λ k f. let g = sym e ∙ f in absurd cc) h.agrees; done = fresh _ }
 
     pub reported : (m : phases.Master) (xs : List Shown) → m.servers ≡ servers → m.phase ≡ phase.Lost → Tells xs → AttemptBy n vs m → AttemptBy n vs (phases.taken m server (phases.Reported xs))
@@ -299,13 +320,14 @@ module _ (n : ℕ) (vs : List Seen) (numbers : NumbersAgree n vs) (servers : Lis
             enters (phases.phase_by (decision (m.reports ++ xs))) (phases.replied m server (phases.Reported xs)) is (settles (m.reports ++ xs) (subst (λ ks. InLost n ks (m.reports ++ xs) vs) e now-lost) (decision (m.reports ++ xs)) refl) a.one a.here
         by (k ∷ ks) e = record {
           numbers = numbers;
+          follows = follows;
           phase = subst (λ q. InPhase q n (phases.without server m.owed) (m.reports ++ xs) vs) (sym lost) now-lost;
           owes = subst (λ q. Owes q (phases.without server m.owed) vs) (sym lost) (waits-still m.owed (phases.without server m.owed) refl (λ f. let g = sym e ∙ f in cc) waited);
         }
 
 -- ---- an attempt begins, the last number is raised
 
-module _ (n : ℕ) (vs : List Seen) (numbers : NumbersAgree n vs) (plain : NoneRevertible vs) where
+module _ (n : ℕ) (vs : List Seen) (numbers : NumbersAgree n vs) (plain : NoneRevertible vs) (silent : All (λ u. u.recording ≡ false) vs) where
   module _ (q : ℕ) (later : n < q) where
     later-each : All (Numbered q) vs
     later-each u h = let r = numbers.each u h in record {
@@ -343,6 +365,14 @@ module _ (n : ℕ) (vs : List Seen) (numbers : NumbersAgree n vs) (plain : NoneR
     pub later-numbers : NumbersAgree q vs
     later-numbers = record { each = later-each; some = inl later-none; none = inr (later-one numbers.none numbers.some) }
 
+    pub later-follows : Follows q vs
+    later-follows = record {
+      free = λ u h r. false_true (silent u h) r;
+      turned = λ u h r. false_true (plain u h) r;
+      settled = λ u h c. false_true (later-none u h) c;
+      sealed = λ u h to is. let low : u.seal ≤ n = (numbers.each u h).seal in let same : u.seal ≡ q = is in absurd (omega arith);
+    }
+
   pub raised-numbers : (q : ℕ) → n ≤ q → NumbersAgree q vs
   raised-numbers q up = by (eqb_tells n q)
     where
@@ -350,20 +380,32 @@ module _ (n : ℕ) (vs : List Seen) (numbers : NumbersAgree n vs) (plain : NoneR
       by (inl is) = subst (λ q. NumbersAgree q vs) is.1 numbers
       by (inr other) = later-numbers q (let d : n ≢ q = other.1 in omega arith)
 
+  pub raised-follows : Follows n vs → (q : ℕ) → n ≤ q → Follows q vs
+  raised-follows follows q up = by (eqb_tells n q)
+    where
+      by : IsOrNot n q → Follows q vs
+      by (inl is) = subst (λ q. Follows q vs) is.1 follows
+      by (inr other) = later-follows q (let d : n ≢ q = other.1 in omega arith)
+
   pub opens : (servers : List ℕ) → Serves servers vs → (v : Seen) → In v vs → IsAttempt phase.Coordinating (n + 1) servers [] vs
   opens servers serves v here = record {
     numbers = later-numbers (n + 1) (omega arith);
+    follows = later-follows (n + 1) (omega arith);
     phase = record {
       before = record { positive = omega arith; unflashed = plain; uncommitted = later-none (n + 1) (omega arith) };
       unsealed = λ u h e. let low : u.seal ≤ n = (numbers.each u h).seal in omega arith;
+      held = λ u h o. false_true o (serves.each u h);
     };
-    owes = waits (n + 1) vs (later-numbers (n + 1) (omega arith)) servers serves v here;
+    owes = waits (n + 1) vs (later-numbers (n + 1) (omega arith)) (later-follows (n + 1) (omega arith)) servers serves v here;
   }
 
 -- ---- a member more, or less
 
 pub record Comes (n : ℕ) (w : Seen) : Type 0 where
   pub plain : counts w ≡ false
+  pub silent : w.recording ≡ false
+  pub held : n ≤ w.attempt
+  pub past : n ≤ w.floor
   pub attempt : w.attempt ≤ n
   pub seal : w.seal ≤ n
   pub floor : w.floor ≤ n
@@ -386,6 +428,29 @@ module _ (n : ℕ) (vs : List Seen) (numbers : NumbersAgree n vs) (us : List See
       none-by : SomeCommitted n vs ⊎ OneShown n vs → SomeCommitted n us ⊎ OneShown n us
       none-by (inl had) = inl (record { one = had.one; here = onto had.one had.here; is = had.is })
       none-by (inr one) = inr (record { number = one.number; apart = one.apart; same = λ u h. all_by (λ u. u.member ≡ true → number_shown u ≡ one.number) vs w u (back u h) (λ m. false_true c.plain (member-counts w m)) one.same })
+
+  -- a member that comes has been held for n, and its target is past n
+  pub more-follows : (w : Seen) → ((u : Seen) → In u us → (u ≡ w) ⊎ In u vs) → Comes n w → Follows n vs → Follows n us
+  more-follows w back c follows = record {
+    free = λ u h. all_by (λ u. u.recording ≡ true → u.held ≡ false → AllHeld n us) vs w u (back u h) (λ r. false_true c.silent r) (λ u i r f. held (follows.free u i r f));
+    turned = λ u h. all_by (λ u. u.revertible ≡ true → AllHeld n us) vs w u (back u h) (λ r. false_true c.plain (rev-counts w r)) (λ u i r. held (follows.turned u i r));
+    settled = λ u h. all_by (λ u. committed n u ≡ true → AllHeld n us × AllFlashed n us) vs w u (back u h) (λ k. false_true c.plain (member-counts w (committed-parts n w k).member)) (λ u i k. let s = follows.settled u i k in (held s.0, flashed s.1));
+    sealed = λ u h. all_by (λ u. u.paired ≡ true → u.seal ≡ n → n ≤ u.attempt) vs w u (back u h) (λ to is. c.held) follows.sealed;
+  }
+    where
+      held : AllHeld n vs → AllHeld n us
+      held all u h = all_by (λ u. n ≤ u.attempt) vs w u (back u h) c.held all
+
+      flashed : AllFlashed n vs → AllFlashed n us
+      flashed all u h = all_by (WasFlashed n) vs w u (back u h) (inr c.past) all
+
+  pub fewer-follows : ((u : Seen) → In u us → In u vs) → Follows n vs → Follows n us
+  fewer-follows sub follows = record {
+    free = λ u h r f x i. follows.free u (sub u h) r f x (sub x i);
+    turned = λ u h r x i. follows.turned u (sub u h) r x (sub x i);
+    settled = λ u h k. let s = follows.settled u (sub u h) k in (λ x i. s.0 x (sub x i), λ x i. s.1 x (sub x i));
+    sealed = λ u h. follows.sealed u (sub u h);
+  }
 
   pub fewer-numbers : ((u : Seen) → In u us → In u vs) → ((u : Seen) → In u vs → counts u ≡ true → In u us) → NumbersAgree n us
   fewer-numbers sub keep = record { each = λ u h. numbers.each u (sub u h); some = some-by numbers.some; none = none-by numbers.none }

@@ -1,5 +1,5 @@
 -- The laws of attempts stay where the table of sessions changes.
-use Rattle.std.proofs.Common.{ℕ, ◌≡◌, ◌≢◌, ◌⊎◌, ◌+◌, inl, inr, refl, ap, sym, ◌∙◌, subst, Bool, true, false, cond, not, ◌&&◌, ◌||◌, arith, nat_eq, List, [], ◌∷◌, ◌++◌, filter, Option, None, Some, option_map, ◌==◌}
+use Rattle.std.proofs.Common.{ℕ, ◌≡◌, ◌≢◌, ◌<◌, ◌≤◌, ◌⊎◌, ◌+◌, inl, inr, refl, ap, sym, ◌∙◌, subst, Bool, true, false, cond, not, ◌&&◌, ◌||◌, arith, nat_eq, List, [], ◌∷◌, ◌++◌, filter, Option, None, Some, option_map, ◌==◌}
 use Rattle.std.specs.List.{list_any, range_with_len}
 use Rattle.std.proofs.lemmas.Bool.{cases_Bool, and_parts, and_from, eq-eqb, eqb-true, ne_eqb, or_cases}
 use Rattle.std.proofs.lemmas.Bool.Decides.{eqb_tells}
@@ -17,17 +17,18 @@ use Rattle.dr_model.specs.SessionEntries.{counts_at, shown_at, shown_by_members,
 use Rattle.dr_model.specs.SessionPlans.{answered_by}
 use Rattle.dr_model.specs.Sessions.{Session, Mirror, session_in, servers_of, has_subsystem, has_member_in, is_only, subsystem_of, with_mirror, with_master, mirrored_by, unmirrored, paused, mirror_lost_since, lost_since, joined_by, left_by, new_session, changed, without_session, joins, joined, leaves, left, begun, leave_refusal, last_refusal, not_in_session, in_session, drop_refusal}
 use Rattle.dr_model.specs.Groups.{In, SessionFits, Groups, OpensAttempt, IsMember}
-use Rattle.dr_model.specs.Attempts.{Roles, roles, Seen, seen, all_seen, All, counts, NoneRevertible, NoneCommitted, SomeCommitted, AllAt, OneShown, NumbersAgree, is_owed, IsReported, AgreesOnLast, AgreesOnOther, InLost, InPhase, IsAttempt, phase_of, owed_of, reports_of, AttemptOf, AttemptsIn, Attempts, IsDone, ServerDone}
+use Rattle.dr_model.specs.Attempts.{Roles, roles, Seen, seen, all_seen, All, counts, NoneRevertible, NoneCommitted, SomeCommitted, AllAt, OneShown, NumbersAgree, Follows, is_owed, IsReported, AgreesOnLast, AgreesOnOther, InLost, InPhase, IsAttempt, phase_of, owed_of, reports_of, AttemptOf, AttemptsIn, Attempts, IsDone, ServerDone}
 use Rattle.dr_laws_sessions.specs.Frames.{Became, Moves, Quiet}
 use Rattle.dr_facts.proofs.Tables.{IsOrNot}
 use Rattle.dr_facts.proofs.Lists.{in-joined, in-first, from-filter, to-filter, from-map, to-map, any-some, all-each}
 use Rattle.dr_laws_sessions.proofs.Changes.{session-found, same-session, changed-in, changed-stays, changed-becomes, without-in, without-stays}
 use Rattle.dr_laws_sessions.proofs.Sound.{among-servers, quiet-drop, quiet-none}
-use Rattle.dr_laws_sessions.proofs.Silent.{on-members, members-there}
+use Rattle.dr_laws_sessions.proofs.Silent.{on-members, members-there, quiet-silent}
 use Rattle.dr_laws_sessions.proofs.Volumes.{idle-quiet, fit-begun}
 use Rattle.dr_laws_attempts.proofs.Facts.{counts-member, none-some, shown-plain, apart-none}
 use Rattle.dr_laws_attempts.proofs.Reports.{never-impossible}
 use Rattle.dr_laws_attempts.proofs.Stages.{AttemptBy, Serves, idle-none, idle-attempt, aborts, loses, done, Tells, reported, opens}
+use Rattle.dr_laws_attempts.proofs.Turns.{HoldComes}
 use Rattle.dr_laws_attempts.proofs.Places.{Steps, steps-keep, tries}
 use Rattle.dr_laws_attempts.proofs.Moves.{roles-moved}
 use Rattle.dr_logic.proofs.Truth.{false_true}
@@ -68,8 +69,8 @@ quiet-phase x quiet = by x.mirror refl
 pub quiet-unflashed : (T : Roles) (x : Session) → Quiet x → AttemptOf T x → NoneRevertible (all_seen T x.members)
 quiet-unflashed T x quiet law = idle-none (phase_of x.mirror) x.last (owed_of x.mirror) (reports_of x.mirror) (all_seen T x.members) (quiet-phase x quiet) law
 
-pub quiet-attempt : (T : Roles) (y : Session) → Quiet y → NumbersAgree y.last (all_seen T y.members) → NoneRevertible (all_seen T y.members) → AttemptOf T y
-quiet-attempt T y quiet n none = idle-attempt (phase_of y.mirror) y.last (owed_of y.mirror) (reports_of y.mirror) (all_seen T y.members) (quiet-phase y quiet) n none
+pub quiet-attempt : (T : Roles) (y : Session) → Quiet y → NumbersAgree y.last (all_seen T y.members) → Follows y.last (all_seen T y.members) → NoneRevertible (all_seen T y.members) → AttemptOf T y
+quiet-attempt T y quiet n f none = idle-attempt (phase_of y.mirror) y.last (owed_of y.mirror) (reports_of y.mirror) (all_seen T y.members) (quiet-phase y quiet) n f none
 
 pub attempt-by : (T : Roles) (x : Session) (r : Mirror) → x.mirror ≡ Some r → AttemptOf T x → AttemptBy x.last (all_seen T x.members) r.master
 attempt-by T x r has law = subst (λ o. IsAttempt (phase_of o) x.last (owed_of o) (reports_of o) (all_seen T x.members)) has law
@@ -161,12 +162,12 @@ module _ (k : Control) (groups : Groups k) (law : Attempts k) where
   pub with-mirrored : (s server : ℕ) (x : Session) → session_in ss s ≡ Some x → x.mirror ≡ None → With (changed s (mirrored_by server) ss)
   with-mirrored s server x found none = let there = session-found ss s x found in let own = law.sessions x there.0 in
       with-one s (mirrored_by server) x found (λ x. refl)
-      (record { attempt = record { numbers = own.numbers; phase = quiet-unflashed T x (quiet-none x none) own; owes = tt }; keeps = λ m here c. here; inside = inside x there.0 })
+      (record { attempt = record { numbers = own.numbers; follows = own.follows; phase = quiet-unflashed T x (quiet-none x none) own; owes = tt }; keeps = λ m here c. here; inside = inside x there.0 })
 
   pub with-unmirrored : (s : ℕ) (x : Session) → session_in ss s ≡ Some x → drop_refusal x.mirror ≡ None → With (changed s unmirrored ss)
   with-unmirrored s x found idle = let there = session-found ss s x found in let own = law.sessions x there.0 in
       with-one s unmirrored x found (λ x. refl)
-      (record { attempt = record { numbers = own.numbers; phase = quiet-unflashed T x (quiet-drop x idle) own; owes = tt }; keeps = λ m here c. here; inside = inside x there.0 })
+      (record { attempt = record { numbers = own.numbers; follows = own.follows; phase = quiet-unflashed T x (quiet-drop x idle) own; owes = tt }; keeps = λ m here c. here; inside = inside x there.0 })
 
   -- the servers of a session's master
   master-servers : (x : Session) (r : Mirror) → In x ss → x.mirror ≡ Some r → r.master.servers ≡ servers_of x.members
@@ -177,13 +178,13 @@ module _ (k : Control) (groups : Groups k) (law : Attempts k) where
 
   pub with-aborted : (s : ℕ) → With (changed s (with_master phases.aborted) ss)
   with-aborted s = with-changed s (with_master phases.aborted) (λ x. refl) (λ x i e. goes-mirror T x (λ r. record r { master = phases.aborted r.master }) (inside x i) (law.sessions x i)
-      (λ r has own. aborts x.last (all_seen T x.members) own.numbers (servers_of x.members) (serves T k x (groups.each x i)) r.master (master-servers x r i has) own))
+      (λ r has own. aborts x.last (all_seen T x.members) own.numbers own.follows (servers_of x.members) (serves T k x (groups.each x i)) r.master (master-servers x r i has) own))
 
   goes-lost : (before now : ℕ → Bool) (x : Session) → In x ss → Goes T x (with_mirror (mirror_lost_since before now) x)
   goes-lost before now x i = goes-mirror T x (mirror_lost_since before now) (inside x i) (law.sessions x i) (λ r has own. by r has own (before r.server && not (now r.server)))
     where
       by : (r : Mirror) → x.mirror ≡ Some r → AttemptBy x.last (all_seen T x.members) r.master → (b : Bool) → AttemptBy x.last (all_seen T x.members) (cond b (record r { master = phases.lost r.master }) r).master
-      by r has own true = loses x.last (all_seen T x.members) own.numbers (servers_of x.members) (serves T k x (groups.each x i)) r.master (master-servers x r i has)
+      by r has own true = loses x.last (all_seen T x.members) own.numbers own.follows (servers_of x.members) (serves T k x (groups.each x i)) r.master (master-servers x r i has)
       by r has own false = own
 
   pub with-lost : (before now : ℕ → Bool) → With (lost_since before now ss)
@@ -194,15 +195,15 @@ module _ (k : Control) (groups : Groups k) (law : Attempts k) where
   -- ---- replies
 
   -- what each member of a server has done is seen of it
-  does : (x : Session) (server : ℕ) (r : Mirror) → x.mirror ≡ Some r → ServerDone k x server → (u : Seen) → In u (all_seen T x.members) → u.server ≡ server → IsDone r.master.phase u
-  does x server r has all u h s = let o = from-map (seen T) x.members u h in
-      subst (λ o. IsDone (phase_of o) u) has (subst (IsDone (phase_of x.mirror)) (sym o.is) (all o.from o.here (ap (λ (u : Seen). u.server) (sym o.is) ∙ s)))
+  does : (x : Session) (server : ℕ) (r : Mirror) → x.mirror ≡ Some r → ServerDone k x server → (work : phases.Work) → phases.work_in r.master.phase ≡ Some work → (u : Seen) → In u (all_seen T x.members) → u.server ≡ server → IsDone work x.last u
+  does x server r has all work asks u h s = let o = from-map (seen T) x.members u h in
+      subst (IsDone work x.last) (sym o.is) (all work (ap (λ o. phases.work_in (phase_of o)) has ∙ asks) o.from o.here (ap (λ (u : Seen). u.server) (sym o.is) ∙ s))
 
   pub with-done : (s server : ℕ) (x : Session) → session_in ss s ≡ Some x → ServerDone k x server → With (changed s (with_master (λ m. phases.replied m server phases.Done)) ss)
   with-done s server x found all = let there = session-found ss s x found in
       with-one s (with_master (λ m. phases.replied m server phases.Done)) x found (λ x. refl)
       (goes-mirror T x (λ r. record r { master = phases.replied r.master server phases.Done }) (inside x there.0) (law.sessions x there.0)
-      (λ r has own. done x.last (all_seen T x.members) own.numbers (servers_of x.members) (serves T k x (groups.each x there.0)) server r.master (master-servers x r there.0 has) (does x server r has all) own))
+      (λ r has own. done x.last (all_seen T x.members) own.numbers own.follows (servers_of x.members) (serves T k x (groups.each x there.0)) server r.master (master-servers x r there.0 has) (does x server r has all) own))
 
   pub with-waits : (s server : ℕ) → With (changed s (with_master (λ m. phases.replied m server phases.NotYet)) ss)
   with-waits s server = with-changed s (with_master (λ m. phases.replied m server phases.NotYet)) (λ x. refl) (λ x i e. goes-mirror T x (λ r. record r { master = phases.replied r.master server phases.NotYet }) (inside x i) (law.sessions x i) (λ r has own. own))
@@ -214,9 +215,9 @@ module _ (k : Control) (groups : Groups k) (law : Attempts k) where
       let one = groups.lone.one m.c.0 t.session x t.member m t.listed i t.here here (inr (inr (sym t.is))) (inr (inr refl)) in
       and_from (nat_eq (fields_at k m.c.0).session x.number) ((fields_at k m.c.0).member || (fields_at k m.c.0).revertible) (eq-eqb (fields_at k m.c.0).session x.number (sym t.number ∙ one.0)) c
 
-  tells : (x : Session) (server : ℕ) (i : In x ss) (own : NumbersAgree x.last (all_seen T x.members))
-      → Tells x.last (all_seen T x.members) own (servers_of x.members) (serves T k x (groups.each x i)) server (shown_by_members x.number (members_on server x.members) k)
-  tells x server i own = record {
+  tells : (x : Session) (server : ℕ) (i : In x ss) (own : NumbersAgree x.last (all_seen T x.members)) (follows : Follows x.last (all_seen T x.members))
+      → Tells x.last (all_seen T x.members) own follows (servers_of x.members) (serves T k x (groups.each x i)) server (shown_by_members x.number (members_on server x.members) k)
+  tells x server i own follows = record {
     from = λ r h.
         let o = from-map (shown_at k) (filter (counts_at x.number k) (members_on server x.members)) r h in
         let f = from-filter (counts_at x.number k) (members_on server x.members) o.from o.here in
@@ -235,8 +236,8 @@ module _ (k : Control) (groups : Groups k) (law : Attempts k) where
   with-reported s server xs x found lost is = let there = session-found ss s x found in
       with-one s (with_master (λ m. phases.taken m server (phases.Reported xs))) x found (λ x. refl)
       (goes-mirror T x (λ r. record r { master = phases.taken r.master server (phases.Reported xs) }) (inside x there.0) (law.sessions x there.0)
-      (λ r has own. reported x.last (all_seen T x.members) own.numbers (servers_of x.members) (serves T k x (groups.each x there.0)) server r.master xs (master-servers x r there.0 has) (lost r has)
-      (subst (Tells x.last (all_seen T x.members) own.numbers (servers_of x.members) (serves T k x (groups.each x there.0)) server) (sym (is ∙ ap (λ s. shown_by_members s (members_on server x.members) k) (sym there.1))) (tells x server there.0 own.numbers)) own))
+      (λ r has own. reported x.last (all_seen T x.members) own.numbers own.follows (servers_of x.members) (serves T k x (groups.each x there.0)) server r.master xs (master-servers x r there.0 has) (lost r has)
+      (subst (Tells x.last (all_seen T x.members) own.numbers own.follows (servers_of x.members) (serves T k x (groups.each x there.0)) server) (sym (is ∙ ap (λ s. shown_by_members s (members_on server x.members) k) (sym there.1))) (tells x server there.0 own.numbers own.follows)) own))
 
   -- ---- logical subsystems
 
@@ -249,6 +250,7 @@ module _ (k : Control) (groups : Groups k) (law : Attempts k) where
   new-attempt : (s l : ℕ) → AttemptOf T (new_session s l)
   new-attempt s l = record {
     numbers = record { each = λ u h. absurd h; some = inl (λ u h. absurd h); none = inr (record { number = 1; apart = λ e. cc; same = λ u h. absurd h }) };
+    follows = record { free = λ u h. absurd h; turned = λ u h. absurd h; settled = λ u h. absurd h; sealed = λ u h. absurd h };
     phase = λ u h. absurd h;
     owes = tt;
   }
@@ -318,11 +320,15 @@ module _ (k : Control) (groups : Groups k) (law : Attempts k) where
 
   -- ---- an attempt begins
 
+  -- nobody records where there is none
+  pub quiet-unrecorded : (x : Session) → In x ss → Quiet x → All (λ (u : Seen). u.recording ≡ false) (all_seen T x.members)
+  quiet-unrecorded x i quiet u h = let o = from-map (seen T) x.members u h in ap (λ (u : Seen). u.recording) o.is ∙ quiet-silent k x o.from groups i quiet o.here
+
   attempt-begun : (x : Session) (r : Mirror) (m : Member) → In x ss → x.mirror ≡ Some r → r.master.phase ≡ phase.Idle → In m x.members → AttemptOf T (begun x)
   attempt-begun x r m i has idle here = let own = law.sessions x i in
       subst (λ o. IsAttempt (phase_of (option_map (λ (r : Mirror). record r { master = phases.begun r.master }) o)) (x.last + 1) (owed_of (option_map (λ (r : Mirror). record r { master = phases.begun r.master }) o)) (reports_of (option_map (λ (r : Mirror). record r { master = phases.begun r.master }) o)) (all_seen T x.members)) (sym has)
       (subst (λ ks. IsAttempt phase.Coordinating (x.last + 1) ks [] (all_seen T x.members)) (sym (master-servers x r i has))
-      (opens x.last (all_seen T x.members) own.numbers (quiet-unflashed T x (idle-quiet x r has idle) own) (servers_of x.members) (serves T k x (groups.each x i)) (seen T m) (to-map (seen T) x.members m here)))
+      (opens x.last (all_seen T x.members) own.numbers (quiet-unflashed T x (idle-quiet x r has idle) own) (quiet-unrecorded x i (idle-quiet x r has idle)) (servers_of x.members) (serves T k x (groups.each x i)) (seen T m) (to-map (seen T) x.members m here)))
 
   pub with-begun : (v s n : ℕ) → OpensAttempt k v s n → With (changed s begun ss)
   with-begun v s n opens = let p : IsMember k v s = opens.place in
@@ -330,22 +336,29 @@ module _ (k : Control) (groups : Groups k) (law : Attempts k) where
       (record { attempt = attempt-begun p.session p.mirror p.member p.listed p.has_master opens.idle p.here; keeps = λ m here c. here; inside = inside p.session p.listed }))
 
   -- and then its first hold
-  pub opened-steps : (v s n : ℕ) → OpensAttempt k v s n → Steps (changed s begun ss) T (at T v (record (T v) { attempt = n }))
+  pub opened-steps : (v s n : ℕ) → OpensAttempt k v s n → Steps (changed s begun ss) T (at T v (record (T v) { attempt = n; recording = true; held = true }))
   opened-steps v s n opens = let p : IsMember k v s = opens.place in let fit = fit-begun k v s n opens groups in
-      tries (changed s begun ss) fit.lone T (with-begun v s n opens) v n (λ z m i here e.
+      tries (changed s begun ss) fit.lone T (with-begun v s n opens) v n true true (λ z m i here e.
       let listed : In (begun p.session) (changed s begun ss) = changed-becomes s begun ss p.session groups.once p.listed p.number in
       let one = fit.lone.one v (begun p.session) z p.member m listed i p.here here (inl (sym p.is)) (inl (sym e)) in
       let is : begun p.session ≡ z = same-session (changed s begun ss) (begun p.session) z fit.once listed i one.0 in
       let last : n ≡ z.last = opens.next ∙ ap (λ (z : Session). z.last) is in
-      omega arith)
+      let low : (T p.member.a.0).attempt ≤ p.session.last = ((law.sessions p.session p.listed).numbers.each (seen T p.member) (to-map (seen T) p.session.members p.member p.here)).attempt in
+      let next : n ≡ p.session.last + 1 = opens.next in
+      record {
+        up = subst (λ (q : Member). (T q.a.0).attempt ≤ n) one.1 (omega arith);
+        low = omega arith;
+        begun = λ r. inr (subst (λ (q : Member). (T q.a.0).attempt < z.last) one.1 (omega arith), subst (λ (z : Session). HoldComes (phase_of z.mirror)) is (subst (λ o. HoldComes (phase_of (option_map (λ (r : Mirror). record r { master = phases.begun r.master }) o))) (sym p.has_master) tt));
+        free = λ r h. absurd cc;
+      })
 
-  pub with-opened : (v s n : ℕ) → OpensAttempt k v s n → AttemptsIn (changed s begun ss) (at T v (record (T v) { attempt = n }))
-  with-opened v s n opens = steps-keep (changed s begun ss) T (at T v (record (T v) { attempt = n })) (with-begun v s n opens) (opened-steps v s n opens)
+  pub with-opened : (v s n : ℕ) → OpensAttempt k v s n → AttemptsIn (changed s begun ss) (at T v (record (T v) { attempt = n; recording = true; held = true }))
+  with-opened v s n opens = steps-keep (changed s begun ss) T (at T v (record (T v) { attempt = n; recording = true; held = true })) (with-begun v s n opens) (opened-steps v s n opens)
 
 pub attempts-opened : (k j : Control) (v s n : ℕ) (c : Carried) → j.sessions ≡ k.sessions → Moves k j v (held_for n (fields_at k v)) c → OpensAttempt k v s n → Groups k → Attempts k → Attempts (record j { sessions = changed s begun j.sessions })
 attempts-opened k j v s n c same moves opens groups law =
     subst (λ S. AttemptsIn (changed s begun j.sessions) S) (sym (roles-moved k j v (held_for n (fields_at k v)) c moves))
-    (subst (λ qs. AttemptsIn (changed s begun qs) (at (roles k) v (record (roles k v) { attempt = n }))) (sym same) (with-opened k groups law v s n opens))
+    (subst (λ qs. AttemptsIn (changed s begun qs) (at (roles k) v (record (roles k v) { attempt = n; recording = true; held = true }))) (sym same) (with-opened k groups law v s n opens))
 
 -- ---- what members show is never impossible to decide
 

@@ -2,11 +2,12 @@
 use Rattle.std.specs.Prelude.{ℕ, Bool, ◌≡◌, ◌⊎◌, ◌<◌, ◌≤◌, max, true, false, List}
 use Rattle.dr_ids.specs.declared.refusal.PhaseName.{PhaseName}
 use Rattle.dr_ids.specs.declared.refusal.PhaseName.TheVariants as phase
-use Rattle.dr_model.specs.Attempts.{Seen, All, counts, NoneRevertible, NoneCommitted, SomeCommitted, AllAt}
+use Rattle.dr_model.specs.Decisions.{Shown}
+use Rattle.dr_model.specs.Attempts.{Seen, All, counts, NoneRevertible, NoneCommitted, SomeCommitted, AllAt, AllHeld, AllFlashed, IsReported, is_owed}
 
 pub data Kind : Type 0 where
-  -- its primary's last attempt
-  Try : (q : ℕ) → Kind
+  -- its primary's last attempt, and whether it records and is held
+  Try : (q : ℕ) (records held : Bool) → Kind
   -- whether its secondary is its primary's, and the seal
   Pair : (paired : Bool) (z : ℕ) → Kind
   Flash : Kind
@@ -17,7 +18,7 @@ pub data Kind : Type 0 where
   Go : (q before : ℕ) → Kind
 
 abbrev pub next_seen : Kind → ℕ → Seen → Seen
-next_seen (Try q) n v = record v { attempt = q }
+next_seen (Try q records held) n v = record v { attempt = q; recording = records; held = held }
 next_seen (Pair paired z) n v = record v { paired = paired; seal = z }
 next_seen Flash n v = record v { previous = v.sequence; sequence = n; revertible = true }
 next_seen Commit n v = record v { previous = 0; revertible = false; member = true; floor = n }
@@ -25,37 +26,88 @@ next_seen Revert n v = record v { sequence = v.previous; previous = 0; revertibl
 next_seen (Raise q) n v = record v { floor = q }
 next_seen (Go q before) n v = record v { sequence = q; previous = before; revertible = false; member = false }
 
-pub record MayPair (p : PhaseName) (n : ℕ) (v : Seen) (pairs : Bool) (z : ℕ) : Type 0 where
-  pub sealed : (z ≡ 0) ⊎ ((z ≡ n) × (p ≡ phase.Draining))
-  pub free : pairs ≡ true → (v.paired ≡ true) ⊎ (v.revertible ≡ false)
+-- In which phases an order of the last attempt may come: a hold, a seal, a flash, a commit and a revert. Of a lost master it may to
+-- a server that is still to report.
+abbrev pub HoldComes : PhaseName → Type 0
+HoldComes phase.Coordinating = Unit {0}
+HoldComes p = ⊥
 
-pub record MayFlash (p : PhaseName) (n : ℕ) (v : Seen) : Type 0 where
-  pub flashes : p ≡ phase.Flashing
+abbrev pub SealComes : PhaseName → Type 0
+SealComes phase.Coordinating = ⊥
+SealComes p = Unit {0}
+
+abbrev pub FlashComes : PhaseName → Bool → Type 0
+FlashComes phase.Flashing o = Unit {0}
+FlashComes phase.Committing o = Unit {0}
+FlashComes phase.Reverting o = Unit {0}
+FlashComes phase.Lost o = o ≡ true
+FlashComes p o = ⊥
+
+-- where others were reported, they were so with the same number
+abbrev pub CommitComes : PhaseName → Bool → ℕ → List Shown → Type 0
+CommitComes phase.Coordinating o n reports = ⊥
+CommitComes phase.Releasing o n reports = ⊥
+CommitComes phase.Draining o n reports = ⊥
+CommitComes phase.Flashing o n reports = ⊥
+CommitComes phase.Reverting o n reports = ⊥
+CommitComes phase.Lost o n reports = (o ≡ true) × ((k : ℕ) → IsReported k false reports → k ≡ n)
+CommitComes p o n reports = Unit {0}
+
+abbrev pub RevertComes : PhaseName → Type 0
+RevertComes phase.Flashing = ⊥
+RevertComes phase.Committing = ⊥
+RevertComes p = Unit {0}
+
+-- where its primary records, it did before, or it is held now, which it wasn't for the last number; and where it isn't held, it wasn't,
+-- or all were held for that number
+pub record MayTry (p : PhaseName) (n : ℕ) (vs : List Seen) (v : Seen) (q : ℕ) (records held : Bool) : Type 0 where
+  pub up : v.attempt ≤ q
+  pub low : q ≤ n
+  pub begun : records ≡ true → (v.recording ≡ true) ⊎ ((v.attempt < n) × HoldComes p)
+  pub free : records ≡ true → held ≡ false → ((v.recording ≡ true) × (v.held ≡ false)) ⊎ AllHeld n vs
+
+pub record MaySeal (p : PhaseName) (n : ℕ) (v : Seen) : Type 0 where
+  pub comes : SealComes p
+  pub records : v.recording ≡ true
+  pub held : n ≤ v.attempt
+
+pub record MayPair (p : PhaseName) (n : ℕ) (v : Seen) (pairs : Bool) (z : ℕ) : Type 0 where
+  pub sealed : (z ≡ 0) ⊎ ((z ≡ n) × MaySeal p n v)
+  pub free : pairs ≡ true → (v.paired ≡ true) ⊎ ((v.revertible ≡ false) × (v.recording ≡ false))
+
+pub record MayFlash (p : PhaseName) (n : ℕ) (owed : List ℕ) (vs : List Seen) (v : Seen) : Type 0 where
+  pub comes : FlashComes p (is_owed owed v)
+  pub held : AllHeld n vs
   pub paired : v.paired ≡ true
   pub sealed : v.seal ≡ n
   pub plain : v.revertible ≡ false
   pub low : v.floor < n
 
-pub record MayCommit (p : PhaseName) (n : ℕ) (vs : List Seen) (v : Seen) : Type 0 where
+-- a commit is ordered, or another one is committed
+pub record Ordered (p : PhaseName) (n : ℕ) (owed : List ℕ) (reports : List Shown) (vs : List Seen) (v : Seen) : Type 0 where
+  pub comes : CommitComes p (is_owed owed v) n reports
+  pub flashed : AllFlashed n vs
+
+pub record MayCommit (p : PhaseName) (n : ℕ) (owed : List ℕ) (reports : List Shown) (vs : List Seen) (v : Seen) : Type 0 where
   pub revertible : v.revertible ≡ true
   pub all : AllAt n vs
-  pub way : (p ≡ phase.Committing) ⊎ SomeCommitted n vs
+  pub way : Ordered p n owed reports vs v ⊎ SomeCommitted n vs
 
 pub record MayRevert (p : PhaseName) (n : ℕ) (vs : List Seen) (v : Seen) : Type 0 where
   pub revertible : v.revertible ≡ true
   pub none : NoneCommitted n vs
-  pub way : ((p ≡ phase.Reverting) × (v.paired ≡ true)) ⊎ All (λ u. u.paired ≡ false) vs
+  pub way : (RevertComes p × (v.paired ≡ true)) ⊎ All (λ u. u.paired ≡ false) vs
 
 pub record MayRaise (n : ℕ) (v : Seen) (q : ℕ) : Type 0 where
   pub plain : v.revertible ≡ false
   pub higher : v.floor ≤ q
   pub low : q ≤ n
 
-abbrev pub MayTurn : Kind → PhaseName → ℕ → List Seen → Seen → Type 0
-MayTurn (Try q) p n vs v = q ≤ n
-MayTurn (Pair paired z) p n vs v = MayPair p n v paired z
-MayTurn Flash p n vs v = MayFlash p n v
-MayTurn Commit p n vs v = MayCommit p n vs v
-MayTurn Revert p n vs v = MayRevert p n vs v
-MayTurn (Raise q) p n vs v = MayRaise n v q
-MayTurn (Go q before) p n vs v = (counts v ≡ false) ⊎ NoneRevertible vs
+abbrev pub MayTurn : Kind → PhaseName → ℕ → List ℕ → List Shown → List Seen → Seen → Type 0
+MayTurn (Try q records held) p n owed reports vs v = MayTry p n vs v q records held
+MayTurn (Pair paired z) p n owed reports vs v = MayPair p n v paired z
+MayTurn Flash p n owed reports vs v = MayFlash p n owed vs v
+MayTurn Commit p n owed reports vs v = MayCommit p n owed reports vs v
+MayTurn Revert p n owed reports vs v = MayRevert p n vs v
+MayTurn (Raise q) p n owed reports vs v = MayRaise n v q
+MayTurn (Go q before) p n owed reports vs v = (counts v ≡ false) ⊎ NoneRevertible vs

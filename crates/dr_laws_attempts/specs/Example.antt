@@ -1,5 +1,5 @@
 -- An example: a session with two members, whose primaries are 1 and 4, their secondaries 2 and 5, and the targets of those 3 and 6.
-use Rattle.std.specs.Prelude.{ℕ, Bool, true, false, ◌||◌, List, [], ◌∷◌, Some, None, nat_eq, if◌then◌else◌}
+use Rattle.std.specs.Prelude.{ℕ, Bool, true, false, ◌||◌, List, [], ◌∷◌, Option, Some, None, nat_eq, if◌then◌else◌}
 use Rattle.dr_logic.specs.Tables.{at}
 use Rattle.dr_ids.specs.declared.names.Member.{Member}
 use Rattle.dr_ids.specs.declared.refusal.PhaseName.{PhaseName}
@@ -8,7 +8,7 @@ use Rattle.dr_model.specs.Layout.{Fields, no_fields}
 use Rattle.dr_model.specs.Control.{Control, no_control, new_volume}
 use Rattle.dr_model.specs.Phases as phases
 use Rattle.dr_model.specs.Moves.{Move, Hold, Free, Seal, Flash, Commit, Revert, Finish, TakeOver, target, next_fields, moved}
-use Rattle.dr_model.specs.Sessions.{Session, changed, begun, with_master}
+use Rattle.dr_model.specs.Sessions.{Session, Mirror, changed, begun, with_master}
 use Rattle.dr_model.specs.SessionEntries.{shown_by_members}
 use Rattle.dr_model.specs.Attempts.{phase_of}
 
@@ -88,6 +88,15 @@ the_session (x ∷ xs) = x
 -- as it is now
 abbrev pub now : Control → Session
 now k = the_session k.sessions
+
+-- its master
+abbrev pub the_master : Option Mirror → Mirror
+the_master None = record { server = 0; paused = false; master = phases.idle (0 ∷ 1 ∷ []) 0 }
+the_master (Some r) = r
+
+-- as it is now
+abbrev pub master_now : Control → Mirror
+master_now k = the_master (now k).mirror
 
 -- the phase that it is in
 abbrev pub in_phase : Control → PhaseName

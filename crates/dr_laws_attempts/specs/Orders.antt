@@ -1,24 +1,21 @@
 -- What holds while a server carries out an order over its members, and while a recovery goes over those of its session.
 use Rattle.std.specs.Prelude.{◌≡◌, ◌⊎◌, ℕ, false, List}
 use Rattle.dr_ids.specs.declared.names.Member.{Member}
-use Rattle.dr_ids.specs.declared.refusal.PhaseName.{PhaseName}
-use Rattle.dr_ids.specs.declared.refusal.PhaseName.TheVariants as phase
+use Rattle.dr_model.specs.Phases as phases
 use Rattle.dr_model.specs.Control.{Control}
 use Rattle.dr_model.specs.Sessions.{Session}
 use Rattle.dr_model.specs.Groups.{In}
-use Rattle.dr_model.specs.Attempts.{All, NoneRevertible, NoneCommitted, SomeCommitted, AllAt, roles, seen, seen_in, phase_of, IsDone}
+use Rattle.dr_model.specs.Attempts.{All, NoneRevertible, NoneCommitted, SomeCommitted, AllAt, roles, seen, seen_in, IsDone}
 
--- each member of the session on that server is left to do, or the order is done with it
-abbrev pub DoneBut : Control → Session → ℕ → List Member → Type 0
-DoneBut k x server rest = (m : Member) → In m x.members → m.server.0 ≡ server → In m rest ⊎ IsDone (phase_of x.mirror) (seen (roles k) m)
+-- each of these members on that server is left to do, or the work is done with it for attempt n
+abbrev pub DoneBut : Control → List Member → ℕ → phases.Work → ℕ → List Member → Type 0
+DoneBut k ms server work n rest = (m : Member) → In m ms → m.server.0 ≡ server → In m rest ⊎ IsDone work n (seen (roles k) m)
 
--- a phase whose order leaves targets alone
-abbrev pub LeavesTargetsAlone : PhaseName → Type 0
-LeavesTargetsAlone phase.Flashing = ⊥
-LeavesTargetsAlone phase.Committing = ⊥
-LeavesTargetsAlone phase.Reverting = ⊥
-LeavesTargetsAlone phase.Lost = ⊥
-LeavesTargetsAlone p = Unit {0}
+-- work after which members needn't show anything
+abbrev pub LeavesTargetsAlone : phases.Work → Type 0
+LeavesTargetsAlone phases.Release = Unit {0}
+LeavesTargetsAlone phases.Seal = Unit {0}
+LeavesTargetsAlone work = ⊥
 
 -- each member of the session is left to do, or its secondary is taken
 abbrev pub TakenBut : Control → Session → List Member → Type 0

@@ -3,7 +3,7 @@
 //! nothing: each names a law by its contract.
 #![tactic(auto)]
 
-ghost use Rattle.std.specs.Prelude.{◌≡◌, ◌≢◌, ◌⊎◌, ◌≤◌, ◌+◌, ◌++◌, ◌∷◌, [], ℕ, Bool, true, false, nat_lt, Option, None, Some, List};
+ghost use Rattle.std.specs.Prelude.{◌≡◌, ◌≢◌, ◌⊎◌, ◌≤◌, ◌+◌, ◌++◌, ◌∷◌, [], ℕ, max, Bool, true, false, nat_lt, Option, None, Some, List};
 ghost use Rattle.std.specs.List.{find};
 ghost use Rattle.dr_logic.specs.Tables.{at};
 ghost use Rattle.dr_ids.specs.declared.names.Member.{Member};
@@ -13,16 +13,16 @@ ghost use Rattle.dr_model.specs.Decisions.{Shown, decision};
 ghost use Rattle.dr_model.specs.Phases as phases;
 ghost use Rattle.dr_model.specs.Control.{Control, no_control, is_volume, new_volume};
 ghost use Rattle.dr_model.specs.Relations.{flashed, committed, reverted};
-ghost use Rattle.dr_model.specs.Pairs.{held_for, records, is_secondary_of, taken_over, with_floor};
+ghost use Rattle.dr_model.specs.Pairs.{held_for, records, is_secondary_of, taken_over, past_attempt, with_floor};
 ghost use Rattle.dr_model.specs.Moves.{Move, Hold, Free, Seal, Finish, RaiseAttempt, RaiseFloor, Leave, Flash, Commit, Revert, Carried, target, next_fields};
 ghost use Rattle.dr_model.specs.Entries.{fields_at, stands_in, is_revertible};
-ghost use Rattle.dr_model.specs.SessionEntries.{first_number, stale_refusal, flash_refusal, commit_refusal, is_flashed, is_committed, shown_by_members, members_on};
+ghost use Rattle.dr_model.specs.SessionEntries.{first_number, stale_refusal, flash_refusal, commit_refusal, is_flashed, is_committed, is_past, shown_by_members, members_on};
 ghost use Rattle.dr_model.specs.PairEntries.{send_refusal};
 ghost use Rattle.dr_model.specs.SessionPlans.{order_of, answered_by, join_plan, leave_plan, mirror_plan, pause_mirror_plan, unmirror_plan, abort_plan, add_done, expel_done, exchange_done};
 ghost use Rattle.dr_model.specs.declared.step.Name.{Name};
 ghost use Rattle.dr_model.specs.Sessions.{Session, Mirror, session_in, has_place_of, has_subsystem, subsystem_of, changed, joined, left, lost_since, begun, raised, mirrored_by, unmirrored, paused, with_mirror, with_master, mirror_lost_since, with_member, without_member, busy, leave_refusal, drop_refusal};
-ghost use Rattle.dr_model.specs.Groups.{In, Groups, HoldsMember, OpensAttempt};
-ghost use Rattle.dr_model.specs.Attempts.{Roles, roles, phase_of, DoesNotCount, MayGo, MayFollow, Claim, Attempts, InAttempt, IsDone, ServerDone, Seen, seen, seen_in, All, NoneRevertible, NoneCommitted, SomeCommitted, IsReported, InLost, FlashesMember, RevertsMember, OverIn};
+ghost use Rattle.dr_model.specs.Groups.{In, Groups, Due, HoldsMember, OpensAttempt};
+ghost use Rattle.dr_model.specs.Attempts.{Roles, roles, phase_of, DoesNotCount, MayGo, MayFollow, Claim, Attempts, InAttempt, IsDone, WorkDone, ServerDone, Seen, seen, seen_in, All, NoneRevertible, NoneCommitted, SomeCommitted, IsReported, InLost, FlashesMember, RevertsMember, OverIn};
 ghost use Rattle.dr_laws_sessions.specs.Frames.{Moves, Quiet};
 ghost use Rattle.dr_laws_attempts.specs.Example.{first, second, start, report, now, in_phase, held, freed, flashing, one_flashed, flashed as all_flashed, one_committed, all_committed, over, both, lost, aborted, reported, taken_back};
 ghost use Rattle.dr_laws_attempts.specs.Orders.{DoneBut, LeavesTargetsAlone, TakenBut, RestCommits, RestReverts};
@@ -75,7 +75,7 @@ pub fn replies_keep_the_laws_of_attempts()
 /// They stay where a session without an attempt has its last number raised, and a member more or less.
 pub fn members_keep_the_laws_of_attempts()
     ensures raised { (k : Control) (s n : ℕ) (x : Session) → Groups k → Attempts k → session_in k.sessions s ≡ Some x → busy x.mirror ≡ None → Attempts (record k { sessions = changed s (raised n) k.sessions }) }
-    ensures added { (k : Control) (s n : ℕ) (x : Session) (m : Member) → Groups k → Attempts k → session_in k.sessions s ≡ Some x → busy x.mirror ≡ None → find (has_place_of m) k.sessions ≡ None → has_subsystem (subsystem_of m.a.0) x ≡ true → (fields_at k m.a.0).attempt ≤ n → (fields_at k m.b.0).seal ≤ n → (fields_at k m.c.0).floor ≤ n → Attempts (record k { sessions = changed s (with_member m) (changed s (raised n) k.sessions) }) }
+    ensures added { (k : Control) (s n : ℕ) (x : Session) (m : Member) → Groups k → Attempts k → session_in k.sessions s ≡ Some x → busy x.mirror ≡ None → find (has_place_of m) k.sessions ≡ None → has_subsystem (subsystem_of m.a.0) x ≡ true → (fields_at k m.a.0).attempt ≤ n → (fields_at k m.b.0).seal ≤ n → (fields_at k m.c.0).floor ≤ n → max x.last n ≤ (fields_at k m.a.0).attempt → max x.last n ≤ (fields_at k m.c.0).floor → Attempts (record k { sessions = changed s (with_member m) (changed s (raised n) k.sessions) }) }
     ensures removed { (k : Control) (s a : ℕ) (x : Session) → Groups k → Attempts k → session_in k.sessions s ≡ Some x → busy x.mirror ≡ None → ((m : Member) → In m x.members → m.a.0 ≡ a → (fields_at k m.c.0).member ≡ false) → Attempts (record k { sessions = changed s (without_member a) k.sessions }) }
 {}
 
@@ -88,7 +88,7 @@ pub fn lines_on_sessions_keep_the_laws_of_attempts()
     ensures pauses { (k : Control) (dev : Option Name) (l s : ℕ) (on : Bool) → Groups k → Attempts k → Attempts ((pause_mirror_plan k dev l s on).first k) }
     ensures unmirrors { (k : Control) (dev : Option Name) (l s : ℕ) → Groups k → Attempts k → Attempts ((unmirror_plan k dev l s).first k) }
     ensures aborts { (k : Control) (s : ℕ) → Groups k → Attempts k → Attempts ((abort_plan k s).first k) }
-    ensures adds { (k j : Control) (s : ℕ) (x : Session) (m : Member) → j.sessions ≡ k.sessions → session_in k.sessions s ≡ Some x → busy x.mirror ≡ None → has_subsystem (subsystem_of m.a.0) x ≡ true → (fields_at j m.a.0).attempt ≤ first_number k x.last m → (fields_at j m.b.0).seal ≤ first_number k x.last m → (fields_at j m.c.0).floor ≤ first_number k x.last m → Groups j → Attempts j → Attempts ((add_done k s x m).last j) }
+    ensures adds { (k j : Control) (s : ℕ) (x : Session) (m : Member) → j.sessions ≡ k.sessions → session_in k.sessions s ≡ Some x → busy x.mirror ≡ None → has_subsystem (subsystem_of m.a.0) x ≡ true → (fields_at j m.a.0).attempt ≤ first_number k x.last m → (fields_at j m.b.0).seal ≤ first_number k x.last m → (fields_at j m.c.0).floor ≤ first_number k x.last m → first_number k x.last m ≤ (fields_at j m.a.0).attempt → first_number k x.last m ≤ (fields_at j m.c.0).floor → Groups j → Attempts j → Attempts ((add_done k s x m).last j) }
     ensures expels { (k j : Control) (s : ℕ) (x : Session) (m : Member) → j.sessions ≡ k.sessions → session_in k.sessions s ≡ Some x → busy x.mirror ≡ None → ((q : Member) → In q x.members → q.a.0 ≡ m.a.0 → (fields_at j q.c.0).member ≡ false) → Groups j → Attempts j → Attempts ((expel_done k s m).last j) }
     ensures exchanges { (j : Control) (s server : ℕ) (reply : Bool) (o : Option phases.Order) (x : Session) → session_in j.sessions s ≡ Some x → ((w : phases.Order) → o ≡ Some w → w.work ≡ phases.Report → (r : Mirror) → x.mirror ≡ Some r → r.master.phase ≡ phase.Lost) → ((w : phases.Order) → o ≡ Some w → w.work ≢ phases.Report → ServerDone j x server) → Groups j → Attempts j → Attempts ((exchange_done s server reply (members_on server x.members) o).last j) }
 {}
@@ -117,7 +117,7 @@ pub fn what_was_recovered_stays_barred()
     ensures paused { (T : Roles) (x : Session) (on : Bool) → OverIn T x → OverIn T (paused on x) }
     ensures mirrored { (T : Roles) (x : Session) (server : ℕ) → OverIn T x → OverIn T (mirrored_by server x) }
     ensures unmirrored { (T : Roles) (x : Session) → OverIn T x → OverIn T (unmirrored x) }
-    ensures raised { (k : Control) (x : Session) (n : ℕ) → Attempts k → In x k.sessions → busy x.mirror ≡ None → OverIn (roles k) x → OverIn (roles k) (raised n x) }
+    ensures raised { (k : Control) (x : Session) (n : ℕ) → Groups k → Attempts k → In x k.sessions → busy x.mirror ≡ None → OverIn (roles k) x → OverIn (roles k) (raised n x) }
     ensures added { (T : Roles) (x : Session) (m : Member) → busy x.mirror ≡ None → x.last ≤ (T m.c.0).floor → (T m.c.0).revertible ≡ false → OverIn T x → OverIn T (with_member m x) }
     ensures removed { (T : Roles) (x : Session) (a : ℕ) → busy x.mirror ≡ None → OverIn T x → OverIn T (without_member a x) }
 {}
@@ -128,11 +128,11 @@ pub fn orders_move_members()
     ensures works { (r : Mirror) (server : ℕ) (o : phases.Order) → r.master.phase ≢ phase.Idle → order_of r server ≡ Some o → (phases.work_in r.master.phase ≡ Some o.work) × (r.master.phase ≢ phase.Lost → o.number ≡ r.master.number) }
     ensures reports { (r : Mirror) (server : ℕ) (o : phases.Order) → order_of r server ≡ Some o → o.work ≡ phases.Report → r.master.phase ≡ phase.Lost }
     ensures holds { (k : Control) (s n : ℕ) (m : Member) → HoldsMember k m.a.0 s n → stale_refusal m.a.0 n k ≡ None → records n (fields_at k m.a.0) ≡ false → InAttempt k (Hold m.a.0 s n false) }
-    ensures frees { (k : Control) (s : ℕ) (x : Session) (m : Member) → Groups k → Attempts k → session_in k.sessions s ≡ Some x → In m x.members → phase_of x.mirror ≡ phase.Releasing → InAttempt k (Free m.a.0) }
-    ensures seals { (k : Control) (s : ℕ) (x : Session) (m : Member) (n : ℕ) → Groups k → Attempts k → session_in k.sessions s ≡ Some x → In m x.members → x.last ≡ n → phase_of x.mirror ≡ phase.Draining → InAttempt k (Seal m.b.0 m.a.0 s n) }
-    ensures flashes { (k : Control) (s : ℕ) (x : Session) (m : Member) (n : ℕ) → Groups k → Attempts k → session_in k.sessions s ≡ Some x → In m x.members → x.last ≡ n → phase_of x.mirror ≡ phase.Flashing → send_refusal m.a.0 m.b.0 k ≡ None → flash_refusal m.b.0 m.c.0 n k ≡ None → is_flashed n (fields_at k m.c.0) ≡ false → InAttempt k (Flash m.c.0 m.b.0 m.a.0 s n) }
-    ensures commits { (k : Control) (s : ℕ) (x : Session) (m : Member) (n : ℕ) → Groups k → Attempts k → session_in k.sessions s ≡ Some x → In m x.members → x.last ≡ n → phase_of x.mirror ≡ phase.Committing → send_refusal m.a.0 m.b.0 k ≡ None → commit_refusal m.c.0 n k ≡ None → is_committed n (fields_at k m.c.0) ≡ false → InAttempt k (Commit m.c.0 m.a.0 s n) }
-    ensures reverts { (k : Control) (s : ℕ) (x : Session) (m : Member) (n : ℕ) → Groups k → Attempts k → session_in k.sessions s ≡ Some x → In m x.members → x.last ≡ n → phase_of x.mirror ≡ phase.Reverting → send_refusal m.a.0 m.b.0 k ≡ None → is_flashed n (fields_at k m.c.0) ≡ true → InAttempt k (Revert m.c.0 m.a.0 s n) }
+    ensures frees { (k : Control) (s : ℕ) (x : Session) (m : Member) → Groups k → Attempts k → session_in k.sessions s ≡ Some x → In m x.members → Due x m.server.0 phases.Release x.last → InAttempt k (Free m.a.0) }
+    ensures seals { (k : Control) (s : ℕ) (x : Session) (m : Member) (n : ℕ) → Groups k → Attempts k → session_in k.sessions s ≡ Some x → In m x.members → x.last ≡ n → Due x m.server.0 phases.Seal n → records n (fields_at k m.a.0) ≡ true → InAttempt k (Seal m.b.0 m.a.0 s n) }
+    ensures flashes { (k : Control) (s : ℕ) (x : Session) (m : Member) (n : ℕ) → Groups k → Attempts k → session_in k.sessions s ≡ Some x → In m x.members → x.last ≡ n → Due x m.server.0 phases.Flash n → send_refusal m.a.0 m.b.0 k ≡ None → flash_refusal m.b.0 m.c.0 n k ≡ None → is_flashed n (fields_at k m.c.0) ≡ false → InAttempt k (Flash m.c.0 m.b.0 m.a.0 s n) }
+    ensures commits { (k : Control) (s : ℕ) (x : Session) (m : Member) (n : ℕ) → Groups k → Attempts k → session_in k.sessions s ≡ Some x → In m x.members → x.last ≡ n → Due x m.server.0 phases.Commit n → send_refusal m.a.0 m.b.0 k ≡ None → commit_refusal m.c.0 n k ≡ None → is_committed n (fields_at k m.c.0) ≡ false → InAttempt k (Commit m.c.0 m.a.0 s n) }
+    ensures reverts { (k : Control) (s : ℕ) (x : Session) (m : Member) (n : ℕ) → Groups k → Attempts k → session_in k.sessions s ≡ Some x → In m x.members → x.last ≡ n → Due x m.server.0 phases.Revert n → send_refusal m.a.0 m.b.0 k ≡ None → is_flashed n (fields_at k m.c.0) ≡ true → InAttempt k (Revert m.c.0 m.a.0 s n) }
     ensures raises { (k : Control) (s : ℕ) (x : Session) (m : Member) (n : ℕ) → Groups k → Attempts k → session_in k.sessions s ≡ Some x → In m x.members → x.last ≡ n → is_flashed n (fields_at k m.c.0) ≡ false → nat_lt (fields_at k m.c.0).floor n ≡ true → InAttempt k (RaiseFloor m.c.0 n) }
     ensures finishes { (k : Control) (s : ℕ) (x : Session) (m : Member) (n : ℕ) → Groups k → Attempts k → session_in k.sessions s ≡ Some x → In m x.members → x.last ≡ n → InAttempt k (Finish m.a.0 n) }
     ensures leaves { (k : Control) (s : ℕ) (x : Session) (m : Member) → Groups k → Attempts k → session_in k.sessions s ≡ Some x → In m x.members → busy x.mirror ≡ None → InAttempt k (Leave m.c.0 m.a.0 s) }
@@ -147,20 +147,25 @@ pub fn what_stands_free_may_change()
     ensures follows { (k : Control) (b : ℕ) → Groups k → Attempts k → stands_in is_revertible k b ≡ false → MayFollow k b }
 {}
 
-/// A server does its order with one member after another, and at last it has done it.
+/// A server does its work with one member after another, in whatever phase, and at last it has done it; and so it has what a phase asks
+/// that has that work.
 pub fn a_server_does_its_order()
-    ensures begins { (k : Control) (x : Session) (server : ℕ) → DoneBut k x server (members_on server x.members) }
-    ensures calm { (k : Control) (x : Session) (server : ℕ) → LeavesTargetsAlone (phase_of x.mirror) → ServerDone k x server }
-    ensures begun { (k : Control) (x : Session) (r : Mirror) (server : ℕ) → x.mirror ≡ Some r → ServerDone k (begun x) server }
-    ensures flashed { (k : Control) (x : Session) (m : Member) (n : ℕ) → phase_of x.mirror ≡ phase.Flashing → is_flashed n (fields_at k m.c.0) ≡ true → IsDone (phase_of x.mirror) (seen (roles k) m) }
-    ensures committed { (k : Control) (x : Session) (m : Member) (n : ℕ) → phase_of x.mirror ≡ phase.Committing → is_committed n (fields_at k m.c.0) ≡ true → IsDone (phase_of x.mirror) (seen (roles k) m) }
-    ensures reverted { (k : Control) (s : ℕ) (x : Session) (m : Member) (n : ℕ) → Groups k → Attempts k → session_in k.sessions s ≡ Some x → In m x.members → x.last ≡ n → phase_of x.mirror ≡ phase.Reverting → is_flashed n (fields_at k m.c.0) ≡ false → IsDone (phase_of x.mirror) (seen (roles k) m) }
-    ensures passes { (k : Control) (x : Session) (server : ℕ) (q : Member) (rest : List Member) → DoneBut k x server (q ∷ rest) → IsDone (phase_of x.mirror) (seen (roles k) q) → DoneBut k x server rest }
-    ensures flashes { (k j : Control) (c : Carried) (x : Session) (q : Member) (server : ℕ) (rest : List Member) → Groups k → In x k.sessions → In q x.members → DoneBut k x server (q ∷ rest) → (s n : ℕ) → phase_of x.mirror ≡ phase.Flashing → Moves k j q.c.0 (flashed s n (fields_at k q.c.0)) c → DoneBut j x server rest }
-    ensures commits { (k j : Control) (c : Carried) (x : Session) (q : Member) (server : ℕ) (rest : List Member) → Groups k → In x k.sessions → In q x.members → DoneBut k x server (q ∷ rest) → (n : ℕ) → phase_of x.mirror ≡ phase.Committing → Moves k j q.c.0 (committed n (fields_at k q.c.0)) c → DoneBut j x server rest }
-    ensures reverts { (k j : Control) (c : Carried) (x : Session) (q : Member) (server : ℕ) (rest : List Member) → Groups k → In x k.sessions → In q x.members → DoneBut k x server (q ∷ rest) → (n : ℕ) → phase_of x.mirror ≡ phase.Reverting → Moves k j q.c.0 (reverted n (fields_at k q.c.0)) c → DoneBut j x server rest }
-    ensures raises { (k j : Control) (c : Carried) (x : Session) (q : Member) (server : ℕ) (rest : List Member) → Groups k → In x k.sessions → In q x.members → DoneBut k x server (q ∷ rest) → (n : ℕ) → phase_of x.mirror ≡ phase.Reverting → (fields_at k q.c.0).revertible ≡ false → Moves k j q.c.0 (with_floor n (fields_at k q.c.0)) c → DoneBut j x server rest }
-    ensures ends { (k : Control) (x : Session) (server : ℕ) → DoneBut k x server [] → ServerDone k x server }
+    ensures begins { (k : Control) (ms : List Member) (server : ℕ) (work : phases.Work) (n : ℕ) → DoneBut k ms server work n (members_on server ms) }
+    ensures calm { (k : Control) (ms : List Member) (server : ℕ) (work : phases.Work) (n : ℕ) → LeavesTargetsAlone work → WorkDone k ms server work n }
+    ensures held { (k : Control) (m : Member) (n : ℕ) → records n (fields_at k m.a.0) ≡ true → IsDone phases.Hold n (seen (roles k) m) }
+    ensures past { (k : Control) (m : Member) (n : ℕ) → is_past n (fields_at k m.a.0) ≡ true → IsDone phases.Finish n (seen (roles k) m) }
+    ensures flashed { (k : Control) (m : Member) (n : ℕ) → is_flashed n (fields_at k m.c.0) ≡ true → IsDone phases.Flash n (seen (roles k) m) }
+    ensures committed { (k : Control) (m : Member) (n : ℕ) → is_committed n (fields_at k m.c.0) ≡ true → IsDone phases.Commit n (seen (roles k) m) }
+    ensures reverted { (k : Control) (s : ℕ) (x : Session) (m : Member) (n : ℕ) → Groups k → Attempts k → session_in k.sessions s ≡ Some x → In m x.members → x.last ≡ n → is_flashed n (fields_at k m.c.0) ≡ false → nat_lt (fields_at k m.c.0).floor n ≡ false → IsDone phases.Revert n (seen (roles k) m) }
+    ensures passes { (k : Control) (ms : List Member) (server : ℕ) (work : phases.Work) (n : ℕ) (q : Member) (rest : List Member) → DoneBut k ms server work n (q ∷ rest) → IsDone work n (seen (roles k) q) → DoneBut k ms server work n rest }
+    ensures holds { (k j : Control) (c : Carried) (x : Session) (q : Member) (server n : ℕ) (rest : List Member) → Groups k → In x k.sessions → In q x.members → Moves k j q.a.0 (held_for n (fields_at k q.a.0)) c → DoneBut k x.members server phases.Hold n (q ∷ rest) → DoneBut j x.members server phases.Hold n rest }
+    ensures finishes { (k j : Control) (c : Carried) (x : Session) (q : Member) (server n : ℕ) (rest : List Member) → Groups k → In x k.sessions → In q x.members → Moves k j q.a.0 (past_attempt n (fields_at k q.a.0)) c → DoneBut k x.members server phases.Finish n (q ∷ rest) → DoneBut j x.members server phases.Finish n rest }
+    ensures flashes { (k j : Control) (c : Carried) (x : Session) (q : Member) (server n : ℕ) (rest : List Member) → Groups k → In x k.sessions → In q x.members → (s : ℕ) → Moves k j q.c.0 (flashed s n (fields_at k q.c.0)) c → DoneBut k x.members server phases.Flash n (q ∷ rest) → DoneBut j x.members server phases.Flash n rest }
+    ensures commits { (k j : Control) (c : Carried) (x : Session) (q : Member) (server n : ℕ) (rest : List Member) → Groups k → In x k.sessions → In q x.members → Moves k j q.c.0 (committed n (fields_at k q.c.0)) c → DoneBut k x.members server phases.Commit n (q ∷ rest) → DoneBut j x.members server phases.Commit n rest }
+    ensures reverts { (k j : Control) (c : Carried) (x : Session) (q : Member) (server n : ℕ) (rest : List Member) → Groups k → In x k.sessions → In q x.members → Moves k j q.c.0 (reverted n (fields_at k q.c.0)) c → DoneBut k x.members server phases.Revert n (q ∷ rest) → DoneBut j x.members server phases.Revert n rest }
+    ensures raises { (k j : Control) (c : Carried) (x : Session) (q : Member) (server n : ℕ) (rest : List Member) → Groups k → In x k.sessions → In q x.members → (fields_at k q.c.0).revertible ≡ false → Moves k j q.c.0 (with_floor n (fields_at k q.c.0)) c → DoneBut k x.members server phases.Revert n (q ∷ rest) → DoneBut j x.members server phases.Revert n rest }
+    ensures ends { (k : Control) (ms : List Member) (server : ℕ) (work : phases.Work) (n : ℕ) → DoneBut k ms server work n [] → WorkDone k ms server work n }
+    ensures asked { (k : Control) (x : Session) (server : ℕ) (work : phases.Work) (n : ℕ) → phases.work_in (phase_of x.mirror) ≡ Some work → x.last ≡ n → WorkDone k x.members server work n → ServerDone k x server }
 {}
 
 /// No member of a session is revertible where there is no attempt, or the decision says that there is nothing to do. Where the rest

@@ -18,7 +18,8 @@ use Rattle.dr_facts.proofs.Tables.{at_cases}
 use Rattle.dr_laws_closed.specs.Closing.{AllFields, number_kept, CountsFor, MemberCounts, StandsAsMember}
 use Rattle.dr_laws_closed.specs.Moments.{Standing, is_one}
 use Rattle.dr_laws_closed.specs.Next.{next_standing}
-use Rattle.dr_laws_closed.proofs.Standings.{added, stood, is-same, is-same-two}
+use Rattle.dr_laws_closed.proofs.Standings.{added, is-same, is-same-two}
+use Rattle.dr_laws_attempts.proofs.Facts.{stood}
 use Rattle.dr_logic.proofs.Truth.{false_true}
 
 -- what counts for a number counts

@@ -1,11 +1,11 @@
 -- What each kind of move leaves of the fields that say who records, who is held, and who is sealed.
-use Rattle.std.proofs.Common.{ℕ, ◌≡◌, ◌≢◌, refl, sym, Bool, true, false, cond, Some}
+use Rattle.std.proofs.Common.{ℕ, ◌≡◌, ◌≢◌, refl, sym, true, false, Some}
 use Rattle.dr_model.specs.Layout.{Fields}
 use Rattle.dr_model.specs.Control.{Volume}
 use Rattle.dr_model.specs.Pairs.{primary_of}
 use Rattle.dr_model.specs.Moves.{Move, Overwrite, Keep, Relate, Withdraw, Fetch, Reverse, Release, Flash, Commit, Revert, Store, Suspend, MakeSecondary, MakePrimary, DropPrimary, DropSecondary, TakeOver, FallBack, Yield, Lift, Restart, Hold, Free, Seal, Finish, RaiseAttempt, fields_left}
 use Rattle.dr_laws_cuts.proofs.Told.{IsNoHold}
-use Rattle.dr_laws_closed.proofs.Standings.{stood}
+use Rattle.dr_laws_attempts.proofs.Facts.{stood}
 use Rattle.dr_logic.proofs.Truth.{false_true}
 
 -- what records has recorded before, for the same attempt; and what is held was held before
@@ -50,29 +50,6 @@ was-revertible (Release v t) u other h = (stood _ u.fields.revertible h).1
 was-revertible (Commit v a s n) u other h = absurd cc
 was-revertible (Revert v a s n) u other h = absurd cc
 was-revertible m u other h = h
-
--- and where what records was held, it is held still, but where it is let go
-abbrev pub IsNoFree : Move → Type 0
-IsNoFree (Free v) = ⊥
-IsNoFree m = Unit {0}
-
-lifted-held : {P : Type 0} (b rec : Bool) → cond b false rec ≡ true → b ≡ true → P
-lifted-held true rec h held = absurd cc
-lifted-held false rec h held = absurd cc
-
-pub stays-held : (m : Move) (u : Volume) → IsNoFree m → (fields_left m u).recording ≡ true → u.fields.coordination ≡ true → (fields_left m u).coordination ≡ true
-stays-held (Free v) u other h held = absurd other
-stays-held (Hold v s n first) u other h held = refl
-stays-held (Suspend v busy) u other h held = absurd cc
-stays-held (MakePrimary v a kind state full) u other h held = absurd cc
-stays-held (DropPrimary v) u other h held = absurd cc
-stays-held (TakeOver v) u other h held = absurd cc
-stays-held (FallBack v more state) u other h held = absurd cc
-stays-held (Yield v a kind state) u other h held = absurd cc
-stays-held (Lift v) u other h held = lifted-held u.fields.coordination u.fields.recording h held
-stays-held (Restart v) u other h held = absurd cc
-stays-held (Finish v n) u other h held = absurd cc
-stays-held m u other h held = held
 
 -- a sealed secondary was sealed for the same number and primary, but where it is sealed
 abbrev pub IsNoSeal : Move → Type 0

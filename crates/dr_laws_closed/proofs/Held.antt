@@ -1,9 +1,10 @@
--- Where a hold may come: as the first of an attempt, or while the master coordinates.
-use Rattle.std.proofs.Common.{ℕ, ◌≡◌, ◌≢◌, ◌≤◌, ◌+◌, ◌⊎◌, inl, inr, refl, ap, sym, ◌∙◌, arith, Bool, true, false, not, ◌&&◌, nat_eq, List, Option, Some, None, subst}
-use Rattle.std.proofs.lemmas.Bool.{eq-eqb}
+-- Where a hold may come: as the first of an attempt, or for the last one, for which its primary wasn't held yet.
+use Rattle.std.proofs.Common.{ℕ, ◌≡◌, ◌≢◌, ◌≤◌, ◌<◌, ◌+◌, ◌⊎◌, inl, inr, refl, ap, sym, ◌∙◌, arith, Bool, true, false, not, ◌&&◌, nat_eq, List, Option, Some, None, subst}
+use Rattle.std.proofs.lemmas.Bool.{eq-eqb, false_from_ne_true, true_from_ne_false}
 use Rattle.std.proofs.lemmas.Bool.Decides.{eqb_tells}
 use Rattle.dr_logic.specs.Tables.{at, at2}
 use Rattle.dr_ids.specs.declared.names.Member.{Member}
+use Rattle.dr_ids.specs.declared.refusal.PhaseName.{PhaseName}
 use Rattle.dr_ids.specs.declared.refusal.PhaseName.TheVariants as phase
 use Rattle.dr_model.specs.Histories.{Lists, histories, lists}
 use Rattle.dr_model.specs.Control.{Control, Pending, World}
@@ -13,7 +14,7 @@ use Rattle.dr_model.specs.Entries.{fields_at}
 use Rattle.dr_model.specs.Sessions.{Session, changed, begun}
 use Rattle.dr_model.specs.Table.{table}
 use Rattle.dr_model.specs.Groups.{In, IsMember, HoldsMember, OpensAttempt}
-use Rattle.dr_model.specs.Attempts.{Seen, InCoordinating, InPhase, phase_of, owed_of, reports_of, all_seen, seen, roles, committed}
+use Rattle.dr_model.specs.Attempts.{Seen, AllHeld, AttemptOf, InPhase, phase_of, owed_of, reports_of, all_seen, seen, roles, committed}
 use Rattle.dr_model.specs.Laws.{SoundBut, AllPending, servers}
 use Rattle.dr_model.specs.Allowed.{MayHold}
 use Rattle.dr_model.specs.Cuts.{Cuts, cuts, cut_for}
@@ -27,7 +28,7 @@ use Rattle.dr_laws_cuts.specs.Sound.{SoundCuts}
 use Rattle.dr_facts.proofs.Tables.{IsOrNot}
 use Rattle.dr_laws_cuts.proofs.KeepsCut.{fresh}
 use Rattle.dr_laws_closed.specs.Moments.{Moments, Standing, moments, standing}
-use Rattle.dr_laws_closed.specs.Closing.{AllFields, CountsFor, number_kept, MemberCounts, ClosingIn, Closing}
+use Rattle.dr_laws_closed.specs.Closing.{AllFields, IsEarly, CountsFor, number_kept, MemberCounts, ClosingIn, Closing}
 use Rattle.dr_laws_closed.proofs.Told.{ToldOf}
 use Rattle.dr_laws_closed.proofs.Landed.{free-held}
 use Rattle.dr_laws_closed.proofs.Counts.{numbered, does-count, shown-plain}
@@ -109,7 +110,7 @@ module _ (starts : Option ℕ) (w : World) (sound : SoundBut starts w) (kept : S
         same = same-as;
         place = at-session;
         under = λ q here rec. false_true (quiet-silent k p.session q sound.groups p.listed (idle-quiet p.session p.mirror p.has_master idle) here) rec;
-        unsealed = low-seal;
+        unsealed = λ early q here. low-seal q here;
         unflashed = λ q here. quiet-unflashed (roles k) p.session (idle-quiet p.session p.mirror p.has_master idle) (sound.attempts.sessions p.session p.listed) (seen (roles k) q) (to-map (seen (roles k)) p.session.members q here);
         unstood = never-stood;
         fresh = newest a;
@@ -117,24 +118,47 @@ module _ (starts : Option ℕ) (w : World) (sound : SoundBut starts w) (kept : S
 
     -- ---- a later hold
 
-    module _ (coordinates : p.mirror.master.phase ≡ phase.Coordinating) (last : n ≡ p.session.last) (a : MayHold (table w) v n) where
-      in-phase : phase_of p.session.mirror ≡ phase.Coordinating
-      in-phase = ap phase_of p.has_master ∙ coordinates
+    module _ (newer : (fields_at k v).attempt < n) (last : n ≡ p.session.last) (a : MayHold (table w) v n) where
+      abbrev vs : List Seen
+      vs = all_seen (roles k) p.session.members
 
-      forming : InCoordinating p.session.last (all_seen (roles k) p.session.members)
-      forming = subst (λ q. InPhase q p.session.last (owed_of p.session.mirror) (reports_of p.session.mirror) (all_seen (roles k) p.session.members)) in-phase (sound.attempts.sessions p.session p.listed).phase
+      own : AttemptOf (roles k) p.session
+      own = sound.attempts.sessions p.session p.listed
 
-      see : (q : Member) → In q p.session.members → In (seen (roles k) q) (all_seen (roles k) p.session.members)
+      see : (q : Member) → In q p.session.members → In (seen (roles k) q) vs
       see q here = to-map (seen (roles k)) p.session.members q here
 
+      -- this one wasn't held yet, so nothing that comes after all holds is there
+      unheld : AllHeld p.session.last vs → ⊥
+      unheld all =
+          let was : p.session.last ≤ (fields_at k p.member.a.0).attempt = all (seen (roles k) p.member) (see p.member p.here) in
+          let low : (fields_at k p.member.a.0).attempt < n = subst (λ u. (fields_at k u).attempt < n) (sym p.is) newer in
+          absurd (omega arith)
+
+      unflashed : (u : Seen) → In u vs → u.revertible ≡ false
+      unflashed u h = false_from_ne_true u.revertible (λ r. unheld (own.follows.turned u h r))
+
+      uncommitted : (u : Seen) → In u vs → committed p.session.last u ≡ false
+      uncommitted u h = false_from_ne_true (committed p.session.last u) (λ c. unheld (own.follows.settled u h c).0)
+
+      recorder-held : (u : Seen) → In u vs → u.recording ≡ true → u.held ≡ true
+      recorder-held u h rec = true_from_ne_false u.held (λ f. unheld (own.follows.free u h rec f))
+
+      unsealed-in : (q : PhaseName) → IsEarly q → InPhase q p.session.last (owed_of p.session.mirror) (reports_of p.session.mirror) vs → (u : Seen) → In u vs → u.seal ≢ p.session.last
+      unsealed-in phase.Coordinating early h = h.unsealed
+      unsealed-in phase.Releasing early h = λ u i. absurd (unheld h.held)
+      unsealed-in phase.Draining early h = λ u i. absurd (unheld h.held)
+      unsealed-in phase.Flashing early h = λ u i. absurd (unheld h.held)
+      unsealed-in q early h = absurd early
+
       none-by : (q : Member) → In q p.session.members → CountsFor n (fields_at k q.c.0) → n ≤ p.session.last → ⊥
-      none-by q here (inl o) low = false_true (forming.before.unflashed (seen (roles k) q) (see q here)) o.0
+      none-by q here (inl o) low = false_true (unflashed (seen (roles k) q) (see q here)) o.0
       none-by q here (inr o) low =
-          let plain : (fields_at k q.c.0).revertible ≡ false = forming.before.unflashed (seen (roles k) q) (see q here) in
+          let plain : (fields_at k q.c.0).revertible ≡ false = unflashed (seen (roles k) q) (see q here) in
           let top : (fields_at k q.c.0).sequence ≤ p.session.last = (numbered k sound.groups sound.attempts p.session q p.listed here).sequence (does-count n (fields_at k q.c.0) (inr o)) in
           let up : n ≤ (fields_at k q.c.0).sequence = subst (λ j. n ≤ j) (shown-plain (fields_at k q.c.0) plain) o.1 in
           let is : (fields_at k q.c.0).sequence ≡ p.session.last = omega arith in
-          not-committed (seen (roles k) q) p.session.last o.0 is plain (forming.before.uncommitted (seen (roles k) q) (see q here))
+          not-committed (seen (roles k) q) p.session.last o.0 is plain (uncommitted (seen (roles k) q) (see q here))
 
       none-stands : (x : ℕ) → g s n x ≡ true → ⊥
       none-stands x h =
@@ -144,7 +168,7 @@ module _ (starts : Option ℕ) (w : World) (sound : SoundBut starts w) (kept : S
 
       under : (q : Member) → In q p.session.members → (fields_at k q.a.0).recording ≡ true → Under (fields_at k q.a.0) c s n q.a.0
       under q here rec = record {
-        held = old.forming p.session q p.listed here in-phase rec;
+        held = recorder-held (seen (roles k) q) (see q here) rec;
         attempt = (member-records k p.session q sound.groups p.listed here rec).last ∙ sym last;
         cut = subst (λ j. c.by j q.a.0 ≡ Some s) (sym last) ((old.records p.session q p.listed here rec).by ∙ ap Some p.number);
       }
@@ -167,8 +191,8 @@ module _ (starts : Option ℕ) (w : World) (sound : SoundBut starts w) (kept : S
         same = same-as;
         place = at-session;
         under = under;
-        unflashed = λ q here. forming.before.unflashed (seen (roles k) q) (see q here);
-        unsealed = λ q here e. forming.unsealed (seen (roles k) q) (see q here) (e ∙ last);
+        unflashed = λ q here. unflashed (seen (roles k) q) (see q here);
+        unsealed = λ early q here e. unsealed-in (phase_of p.session.mirror) early own.phase (seen (roles k) q) (see q here) (e ∙ last);
         unstood = none-stands;
         fresh = newest a;
       }
@@ -200,6 +224,6 @@ module _ (starts : Option ℕ) (w : World) (sound : SoundBut starts w) (kept : S
       → (x : World) → ToldOf w.events x.events (Hold v s n true) (k.volume v) → x.control.sessions ≡ changed s begun k.sessions → fields_at x.control ≡ at (fields_at k) v (held_for n (fields_at k v)) → x.control.pending ≡ k.pending → Closing x
   opened o a idle = leads (changed s begun k.sessions) (opens o.place o.idle o.next a) true idle
 
-  pub held : (first : Bool) (o : HoldsMember k v s n) → MayHold (table w) v n → AllPending (λ p. p.landed ≡ true → servers k p.volume ≡ servers k v → ⊥) k.pending
+  pub held : (first : Bool) (o : HoldsMember k v s n) → (fields_at k v).attempt < n → MayHold (table w) v n → AllPending (λ p. p.landed ≡ true → servers k p.volume ≡ servers k v → ⊥) k.pending
       → (x : World) → ToldOf w.events x.events (Hold v s n first) (k.volume v) → x.control.sessions ≡ k.sessions → fields_at x.control ≡ at (fields_at k) v (held_for n (fields_at k v)) → x.control.pending ≡ k.pending → Closing x
-  held first o a idle = leads k.sessions (holds o.place o.coordinates o.last a) first idle
+  held first o newer a idle = leads k.sessions (holds o.place newer o.last a) first idle

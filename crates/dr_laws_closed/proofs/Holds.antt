@@ -10,10 +10,11 @@ use Rattle.dr_model.specs.Control.{Pending}
 use Rattle.dr_model.specs.Pairs.{primary_of, held_for}
 use Rattle.dr_model.specs.Sessions.{Session}
 use Rattle.dr_model.specs.Groups.{In}
+use Rattle.dr_model.specs.Attempts.{phase_of}
 use Rattle.dr_model.specs.Cuts.{Cuts, cut_for}
 use Rattle.dr_facts.proofs.Tables.{IsOrNot, at_cases, at2_other}
 use Rattle.dr_laws_closed.specs.Moments.{Moments, Standing}
-use Rattle.dr_laws_closed.specs.Closing.{Whole, AllFields, HeldAsCut, LandedFree, HeldWhileForming, RecordsWhole, SealedWhole, RevertibleWhole, StandsWhole, CountsFor, MemberCounts, StandsAsMember, Members, ClosingIn}
+use Rattle.dr_laws_closed.specs.Closing.{Whole, AllFields, HeldAsCut, LandedFree, RecordsWhole, IsEarly, SealedWhole, RevertibleWhole, StandsWhole, CountsFor, MemberCounts, StandsAsMember, Members, ClosingIn}
 use Rattle.dr_logic.proofs.Truth.{false_true}
 use Rattle.dr_logic.proofs.Options.{none_some}
 use Rattle.dr_logic.proofs.Tables.{at2_same}
@@ -42,7 +43,7 @@ pub record Held (ss us : List Session) (f : AllFields) (c : Cuts) (g : Standing)
   pub same : (z : Session) → In z ss → z.number ≡ s → z ≡ from
   pub place : (z : Session) (q : Member) → In z ss → In q z.members → q.a.0 ≡ v → z.number ≡ s
   pub under : (q : Member) → In q from.members → (f q.a.0).recording ≡ true → Under (f q.a.0) c s n q.a.0
-  pub unsealed : (q : Member) → In q from.members → (f q.b.0).seal ≢ n
+  pub unsealed : IsEarly (phase_of to.mirror) → (q : Member) → In q from.members → (f q.b.0).seal ≢ n
   pub unflashed : (q : Member) → In q from.members → (f q.c.0).revertible ≡ false
   pub unstood : (a : ℕ) → g s n a ≡ true → ⊥
   pub fresh : c.by n v ≡ None
@@ -90,16 +91,6 @@ module _ (ss us : List Session) (f : AllFields) (ps qs : List Pending) (now then
   in-from : (z : Session) (q : Member) → z ≡ h.to → In q z.members → In q h.from.members
   in-from z q is here = subst (λ ms. In q ms) (ap (λ (z : Session). z.members) is ∙ h.to_members) here
 
-  forming-then : Members us (HeldWhileForming F)
-  forming-then z q i here e = at_cases (λ u y. q.a.0 ≡ u → y.recording ≡ true → y.coordination ≡ true) f v (held_for n (f v))
-      (λ is rec. refl)
-      (λ u ne is rec. subst (λ u. (f u).coordination ≡ true) is (by (subst (λ u. (f u).recording ≡ true) (sym is) rec) (h.back z i)))
-      q.a.0 refl
-    where
-      by : (f q.a.0).recording ≡ true → (z ≡ h.to) ⊎ (In z ss × (z.number ≢ s)) → (f q.a.0).coordination ≡ true
-      by rec (inl is) = (h.under q (in-from z q is here) rec).held
-      by rec (inr o) = old.forming z q o.0 here e rec
-
   records-then : Members us (RecordsWhole F C N)
   records-then z q i here = at_cases (λ u y. q.a.0 ≡ u → y.recording ≡ true → Whole C N z.number z.last q.a.0) f v (held_for n (f v))
       (λ e rec. mine e (h.back z i))
@@ -124,7 +115,7 @@ module _ (ss us : List Session) (f : AllFields) (ps qs : List Pending) (now then
       q.b.0 refl
     where
       by : (z ≡ h.to) ⊎ (In z ss × (z.number ≢ s)) → primary_of (f q.b.0) ≡ Some q.a.0 → (f q.b.0).seal ≡ z.last → Whole C N z.number z.last q.a.0
-      by (inl same) to is = absurd (h.unsealed q (in-from z q same here) (is ∙ (ap (λ (z : Session). z.last) same ∙ h.to_last)))
+      by (inl same) to is = absurd (h.unsealed (subst (λ (z : Session). IsEarly (phase_of z.mirror)) same early) q (in-from z q same here) (is ∙ (ap (λ (z : Session). z.last) same ∙ h.to_last)))
       by (inr o) to is = still z.number z.last q.a.0 (λ e j. o.1 e) (old.sealed z q o.0 here early to is)
 
   revertible-then : Members us (RevertibleWhole F C N)
@@ -164,4 +155,4 @@ module _ (ss us : List Session) (f : AllFields) (ps qs : List Pending) (now then
       by c = which c (eqb_tells c.session.number s)
 
   pub closing-held : LandedFree F qs → ClosingIn us F qs then C N g
-  closing-held free = record { held = held-then; free = free; forming = forming-then; records = records-then; sealed = sealed-then; revertible = revertible-then; whole = whole-then; members = members-then }
+  closing-held free = record { held = held-then; free = free; records = records-then; sealed = sealed-then; revertible = revertible-then; whole = whole-then; members = members-then }

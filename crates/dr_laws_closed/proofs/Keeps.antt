@@ -10,34 +10,45 @@ use Rattle.dr_model.specs.Layout.{Fields, is_part}
 use Rattle.dr_model.specs.Histories.{Lists, histories, lists}
 use Rattle.dr_model.specs.Control.{Control, Pending, World}
 use Rattle.dr_model.specs.Pairs.{primary_of, is_secondary_of}
-use Rattle.dr_model.specs.Moves.{Move, Hold, Free, Seal, RaiseAttempt, Flash, Revert, Leave, Reverse, target, fields_left}
+use Rattle.dr_model.specs.Moves.{Move, Hold, Seal, RaiseAttempt, Flash, Revert, Leave, Reverse, target, fields_left}
 use Rattle.dr_model.specs.Entries.{fields_at}
 use Rattle.dr_model.specs.Sessions.{Session}
-use Rattle.dr_model.specs.Groups.{In}
-use Rattle.dr_model.specs.Attempts.{Seen, InPhase, InAttempt, phase_of, owed_of, reports_of, all_seen, roles, MayFree}
+use Rattle.dr_model.specs.Groups.{In, Due}
+use Rattle.dr_model.specs.Phases as phases
+use Rattle.dr_model.specs.Attempts.{Seen, InPhase, InAttempt, phase_of, owed_of, reports_of, all_seen, roles}
 use Rattle.dr_model.specs.Laws.{SoundBut}
 use Rattle.dr_model.specs.Allowed.{May}
 use Rattle.dr_model.specs.Cuts.{Cuts, cuts, next_cuts}
+use Rattle.dr_laws_attempts.proofs.Dues.{due-works}
 use Rattle.dr_laws_attempts.proofs.Moves.{at-place}
 use Rattle.dr_facts.proofs.Tables.{at_cases}
 use Rattle.dr_laws_cuts.proofs.Told.{IsNoHold}
 use Rattle.dr_laws_closed.specs.Moments.{Moments, Standing, moments, standing}
-use Rattle.dr_laws_closed.specs.Closing.{Whole, AllFields, HeldAsCut, LandedFree, HeldWhileForming, RecordsWhole, IsEarly, SealedWhole, RevertibleWhole, StandsWhole, Members, ClosingIn, Closing}
+use Rattle.dr_laws_closed.specs.Closing.{Whole, AllFields, HeldAsCut, LandedFree, RecordsWhole, IsEarly, SealedWhole, RevertibleWhole, StandsWhole, Members, ClosingIn, Closing}
 use Rattle.dr_laws_closed.specs.Next.{next_moments, next_standing, Untouched}
 use Rattle.dr_laws_closed.proofs.Told.{ToldOf}
-use Rattle.dr_laws_closed.proofs.Fields.{Goes, Idles, goes, stays-held, was-sealed, was-revertible}
+use Rattle.dr_laws_closed.proofs.Fields.{Goes, Idles, goes, was-sealed, was-revertible}
 use Rattle.dr_laws_closed.proofs.Lists.{untouched}
 use Rattle.dr_laws_closed.proofs.Landed.{free-goes}
-use Rattle.dr_laws_closed.proofs.Standings.{stood, added}
+use Rattle.dr_laws_closed.proofs.Standings.{added}
+use Rattle.dr_laws_attempts.proofs.Facts.{stood}
 use Rattle.dr_laws_closed.proofs.Counts.{stands-then}
 
 -- an early phase has an attempt, so its number isn't 0
 pub early-positive : (p : PhaseName) (n : ℕ) (owed : List ℕ) (reports : List Shown) (vs : List Seen) → IsEarly p → InPhase p n owed reports vs → n ≢ 0
 early-positive phase.Coordinating n owed reports vs early h = λ e. let lt = h.before.positive in absurd (omega arith)
-early-positive phase.Releasing n owed reports vs early h = λ e. let lt = h.positive in absurd (omega arith)
-early-positive phase.Draining n owed reports vs early h = λ e. let lt = h.positive in absurd (omega arith)
+early-positive phase.Releasing n owed reports vs early h = λ e. let lt = h.before.positive in absurd (omega arith)
+early-positive phase.Draining n owed reports vs early h = λ e. let lt = h.before.positive in absurd (omega arith)
 early-positive phase.Flashing n owed reports vs early h = λ e. let lt = h.positive in absurd (omega arith)
 early-positive p n owed reports vs early h = absurd early
+
+early-in : (p : PhaseName) → phases.work_in p ≡ Some phases.Flash → IsEarly p
+early-in phase.Flashing e = tt
+early-in p e = absurd cc
+
+-- where a flash is due, the attempt is early
+pub flash-early : (x : Session) (server n : ℕ) → Due x server phases.Flash n → IsEarly (phase_of x.mirror)
+flash-early x server n due = early-in (phase_of x.mirror) (due-works x server phases.Flash n due)
 
 pub no-other-cut : (now : Lists) (m : Move) (c : Cuts) → IsNoHold m → next_cuts now m c ≡ c
 no-other-cut now (Hold v s n first) c other = absurd other
@@ -82,22 +93,6 @@ module _ (starts : Option ℕ) (w : World) (sound : SoundBut starts w) (old : Cl
       same (target m) t (untouched w sound.rows m may.allowed may.ready (target m) r h) ∙ (old.held (target m) r h t ∙ ap (λ n. c.held n (target m) t) (sym (step.attempt rec))))
       (λ v ne rec held t. same v t (untouched w sound.rows m may.allowed may.ready v rec held) ∙ old.held v rec held t)
 
-  -- what is let go is of a session whose master doesn't coordinate
-  freed-late : (v : ℕ) → MayFree k v → (x : Session) (q : Member) → In x k.sessions → In q x.members → q.a.0 ≡ v → phase_of x.mirror ≡ phase.Coordinating → ⊥
-  freed-late v a x q i here e h =
-      let late : phase_of x.mirror ≡ phase.Releasing = at-place k sound.groups sound.attempts (λ z p. phase_of z.mirror ≡ phase.Releasing) v a.place.session a.place.member a.place.listed a.place.here (inl (sym a.place.is)) a.phase x q i here (inl (sym e)) in
-      let both : phase.Coordinating ≡ phase.Releasing = sym h ∙ late in absurd cc
-
-  stays-then : (m : Move) → InAttempt k m → (x : Session) (q : Member) → In x k.sessions → In q x.members → q.a.0 ≡ target m → phase_of x.mirror ≡ phase.Coordinating → (fields_left m (k.volume (target m))).recording ≡ true → (fields_at k (target m)).coordination ≡ true → (fields_left m (k.volume (target m))).coordination ≡ true
-  stays-then (Free v) a x q i here e h rec held = absurd (freed-late v a x q i here e h)
-  stays-then m a x q i here e h rec held = stays-held m (k.volume (target m)) tt rec held
-
-  forming-then : Members k.sessions (HeldWhileForming then_at)
-  forming-then x q i here h = at_cases (λ v y. q.a.0 ≡ v → y.recording ≡ true → y.coordination ≡ true) (fields_at k) (target m) new
-      (λ e rec. stays-then m may.group x q i here e h rec (subst (λ v. (fields_at k v).recording ≡ true → (fields_at k v).coordination ≡ true) e (old.forming x q i here h) (step.recorded rec)))
-      (λ v ne e rec. subst (λ v. (fields_at k v).recording ≡ true → (fields_at k v).coordination ≡ true) e (old.forming x q i here h) rec)
-      q.a.0 refl
-
   records-then : Members k.sessions (RecordsWhole then_at c M)
   records-then x q i here = at_cases (λ v y. q.a.0 ≡ v → y.recording ≡ true → Whole c M x.number x.last q.a.0) (fields_at k) (target m) new
       (λ e rec. old.records x q i here (subst (λ v. (fields_at k v).recording ≡ true) (sym e) (step.recorded rec)))
@@ -126,7 +121,7 @@ module _ (starts : Option ℕ) (w : World) (sound : SoundBut starts w) (old : Cl
 
   -- one that is flashed was sealed
   flashed-whole : (v u p s j : ℕ) (a : InAttempt k (Flash v u p s j)) → Whole c M a.place.session.number a.place.session.last a.place.member.a.0
-  flashed-whole v u p s j a = old.sealed a.place.session a.place.member a.place.listed a.place.here (subst IsEarly (sym a.phase) tt)
+  flashed-whole v u p s j a = old.sealed a.place.session a.place.member a.place.listed a.place.here (flash-early a.place.session a.place.member.server.0 j a.due)
       (ap (λ j. primary_of (fields_at k j)) a.secondary ∙ (its-primary (fields_at k u) p a.paired ∙ ap Some (sym a.place.is))) (ap (λ j. (fields_at k j).seal) a.secondary ∙ (a.sealed ∙ a.last))
 
   revertible-by : (m : Move) → InAttempt k m → (x : Session) (q : Member) → In x k.sessions → In q x.members → q.c.0 ≡ target m → (fields_left m (k.volume (target m))).revertible ≡ true → Whole c M x.number x.last q.a.0
@@ -168,7 +163,6 @@ module _ (starts : Option ℕ) (w : World) (sound : SoundBut starts w) (old : Cl
       (subst (λ G. ClosingIn k.sessions then_at ps now c M G) (sym told.stand) (record {
         held = held-then now told.list;
         free = free-goes (fields_at k) (target m) new ps step.held free;
-        forming = forming-then;
         records = records-then;
         sealed = sealed-then;
         revertible = revertible-then;

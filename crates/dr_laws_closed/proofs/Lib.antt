@@ -3,7 +3,7 @@
 -- `Held.antt`: the first hold and a later one; `Keeps.antt`: the other kinds; `Counts.antt`: who stands in a group;
 -- `Places.antt`: tables are those of places; `Regroups.antt`, `Regrouped.antt`: tables of sessions.
 -- - Who has which cut is said beside it (`Closing` of `dr_laws_closed`), of sessions and members and not of `Seen`: no law of
---   cuts needs a count over members, since in Coordinating each member that records is held.
+--   cuts needs a count over members, since each member that records is held as long as one is left to be held (`Follows`).
 pub mod Standings
 pub mod Pendings
 pub mod Places

@@ -26,7 +26,6 @@ unfolding past memory standing
 closing-nothing = record {
   held = λ v rec. absurd cc;
   free = tt;
-  forming = λ x m i. absurd i;
   records = λ x m i. absurd i;
   sealed = λ x m i. absurd i;
   revertible = λ x m i. absurd i;
@@ -53,7 +52,6 @@ module _ (w x : World) (old : Closing w) (more : List Event) (cut : NoCuts more)
   closing-told same fields free = with-tables (fields_at w.control) fields (record {
     held = λ v rec held t. same v rec held t ∙ old.held v rec held t;
     free = free;
-    forming = old.forming;
     records = old.records;
     sealed = old.sealed;
     revertible = old.revertible;
@@ -67,8 +65,6 @@ module _ (w x : World) (old : Closing w) (more : List Event) (cut : NoCuts more)
     held = at_cases (λ u y. HeldAsCut (lists x.events) c u y) (fields_at w.control) v no_fields (λ rec. absurd cc) (λ u ne rec held t. same u t ne ∙ old.held u rec held t);
     free = subst (λ (ps : List Pending). LandedFree (at (fields_at w.control) v no_fields) ps) (sym pending)
         (each-on (λ p free l. at_cases (λ u (y : Fields). (fields_at w.control u).coordination ≡ false → y.coordination ≡ false) (fields_at w.control) v no_fields (λ off. refl) (λ u ne off. off) p.volume (free l)) w.control.pending old.free);
-    forming = λ z m i here h. at_cases (λ u (y : Fields). m.a.0 ≡ u → y.recording ≡ true → y.coordination ≡ true) (fields_at w.control) v no_fields (λ e rec. absurd cc)
-        (λ u ne e rec. subst (λ u. (fields_at w.control u).recording ≡ true → (fields_at w.control u).coordination ≡ true) e (old.forming z m i here h) rec) m.a.0 refl;
     records = λ z m i here. at_cases (λ u (y : Fields). m.a.0 ≡ u → y.recording ≡ true → Whole c (moments w.events) z.number z.last m.a.0) (fields_at w.control) v no_fields (λ e rec. absurd cc)
         (λ u ne e rec. old.records z m i here (subst (λ u. (fields_at w.control u).recording ≡ true) (sym e) rec)) m.a.0 refl;
     sealed = λ z m i here early. at_cases (λ u (y : Fields). m.b.0 ≡ u → primary_of y ≡ Some m.a.0 → y.seal ≡ z.last → Whole c (moments w.events) z.number z.last m.a.0) (fields_at w.control) v no_fields (λ e to. absurd cc)

@@ -15,7 +15,7 @@ use Rattle.dr_laws_sessions.proofs.Silent.{quiet-silent}
 use Rattle.dr_facts.proofs.Lists.{to-map}
 use Rattle.dr_laws_attempts.proofs.Tables.{quiet-unflashed}
 use Rattle.dr_laws_closed.specs.Moments.{Moments, Standing}
-use Rattle.dr_laws_closed.specs.Closing.{Whole, HeldWhileForming, RecordsWhole, IsEarly, SealedWhole, RevertibleWhole, MemberCounts, StandsAsMember, Members, ClosingIn}
+use Rattle.dr_laws_closed.specs.Closing.{Whole, RecordsWhole, IsEarly, SealedWhole, RevertibleWhole, MemberCounts, StandsAsMember, Members, ClosingIn}
 use Rattle.dr_laws_closed.specs.Regroups.{WasIn, Stays, Rests, Regroups}
 use Rattle.dr_laws_closed.proofs.Counts.{does-count}
 use Rattle.dr_logic.proofs.Truth.{false_true}
@@ -30,13 +30,6 @@ module _ (k : Control) (us : List Session) (groups : Groups k) (law : Attempts k
 
   late : {P : Type 0} (p : PhaseName) → p ≡ phase.Idle → IsEarly p → P
   late p idle early = absurd (subst IsEarly idle early)
-
-  forming-then : Members us (HeldWhileForming (fields_at k))
-  forming-then y m i here h rec = by (turn y m i here)
-    where
-      by : Stays k.sessions y m ⊎ Rests k.sessions y m → (fields_at k m.a.0).coordination ≡ true
-      by (inl s) = old.forming s.was.session m s.was.listed s.was.here (s.phase.coordinating h) rec
-      by (inr r) = silent y m i here r.idle rec
 
   whole-on : (y : Session) (m : Member) (s : Stays k.sessions y m) → Whole c M s.was.session.number s.was.session.last m.a.0 → Whole c M y.number y.last m.a.0
   whole-on y m s w = subst (λ j. Whole c M j y.last m.a.0) (sym s.number) (subst (λ j. Whole c M s.was.session.number j m.a.0) (sym s.last) w)
@@ -92,4 +85,4 @@ module _ (k : Control) (us : List Session) (groups : Groups k) (law : Attempts k
       ]
 
   pub closing-regrouped : ClosingIn us (fields_at k) ps now c M g
-  closing-regrouped = record { held = old.held; free = old.free; forming = forming-then; records = records-then; sealed = sealed-then; revertible = revertible-then; whole = old.whole; members = members-then }
+  closing-regrouped = record { held = old.held; free = old.free; records = records-then; sealed = sealed-then; revertible = revertible-then; whole = old.whole; members = members-then }

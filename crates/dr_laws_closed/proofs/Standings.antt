@@ -12,11 +12,7 @@ pub stays-with : (b y : Bool) → y ≡ true → cond b true y ≡ true
 stays-with true y h = refl
 stays-with false y h = h
 
--- whoever stands after one left isn't that one, and stood; and the other way round
-pub stood : (b y : Bool) → cond b false y ≡ true → (b ≡ false) × (y ≡ true)
-stood true y h = absurd cc
-stood false y h = (refl, h)
-
+-- who stood and isn't the one that left stands; the other way round it is `stood` of `dr_laws_attempts`
 pub stays-without : (b y : Bool) → (b ≡ true → ⊥) → y ≡ true → cond b false y ≡ true
 stays-without true y ne h = absurd (ne refl)
 stays-without false y ne h = h

@@ -36,10 +36,6 @@ HeldAsCut now c v f = f.recording ≡ true → f.coordination ≡ true → (t : 
 abbrev pub LandedFree : AllFields → List Pending → Type 0
 LandedFree f = AllPending (λ p. p.landed ≡ true → (f p.volume).coordination ≡ false)
 
--- while the master coordinates, each member that records is held
-abbrev pub HeldWhileForming : AllFields → Session → Member → Type 0
-HeldWhileForming f x m = phase_of x.mirror ≡ phase.Coordinating → (f m.a.0).recording ≡ true → (f m.a.0).coordination ≡ true
-
 -- the cut of a member that records is of the moment of its session's last attempt
 abbrev pub RecordsWhole : AllFields → Cuts → Moments → Session → Member → Type 0
 RecordsWhole f c M x m = (f m.a.0).recording ≡ true → Whole c M x.number x.last m.a.0
@@ -90,7 +86,6 @@ StandsAsMember ss f g = (s n a : ℕ) → g s n a ≡ true → MemberCounts ss f
 pub record ClosingIn (ss : List Session) (f : AllFields) (ps : List Pending) (now : Lists) (c : Cuts) (M : Moments) (g : Standing) : Type 0 where
   pub held : (v : ℕ) → HeldAsCut now c v (f v)
   pub free : LandedFree f ps
-  pub forming : Members ss (HeldWhileForming f)
   pub records : Members ss (RecordsWhole f c M)
   pub sealed : Members ss (SealedWhole f c M)
   pub revertible : Members ss (RevertibleWhole f c M)

@@ -8,6 +8,7 @@ use Rattle.dr_model.specs.declared.event.Event.TheVariants.{Stopped, Frozen, Tha
 use Rattle.dr_model.specs.declared.said.Said.{Said}
 use Rattle.dr_model.specs.Answers.{answer}
 use Rattle.dr_model.specs.Histories.{Histories, histories, lists}
+use Rattle.dr_model.specs.Messages.{Flight}
 use Rattle.dr_model.specs.Sessions.{Session}
 use Rattle.dr_model.specs.Control.{Control, Fuse, World, Volume}
 use Rattle.dr_model.specs.Moves.{Move, Hold, is_write}
@@ -157,26 +158,35 @@ module _ (Fin : Option ℕ → World → Option Refusal → Type 0) where
 pub good-none : (w : World) → SoundRows (table w) → Good None w
 good-none w rows = record { rows = rows; low = λ n is. absurd cc; out = λ n is. absurd cc }
 
--- a plan ends: it may have left other sessions, masters whose servers went off are lost, and its step may be answered
-abbrev pub Closes : World → (World → Option Refusal → World) → Type 0
-Closes first over = (w : World) (k : Control) (ss : List Session) (r : Option Refusal) → k ≡ record w.control { sessions = ss } → (told : List Event) × Unchanged w (over (record w { control = k }) r) told
+-- a control state that differs in the sessions and messages alone
+pub record Retabled (j k : Control) : Type 0 where
+  pub sessions : List Session
+  pub flight : Flight
+  pub is : k ≡ record j { sessions = sessions; flight = flight }
 
-close : (w u : World) (k : Control) (ss : List Session) (told : List Event) → k ≡ record w.control { sessions = ss } → AllPassing told → histories (w.events ++ told) ≡ histories w.events
+pub retabled-none : (k : Control) → Retabled k k
+retabled-none k = record { sessions = k.sessions; flight = k.flight; is = refl }
+
+-- a plan ends: it may have left other sessions and messages, masters whose servers went off are lost, and its step may be answered
+abbrev pub Closes : World → (World → Option Refusal → World) → Type 0
+Closes first over = (w : World) (k : Control) (r : Option Refusal) → Retabled w.control k → (told : List Event) × Unchanged w (over (record w { control = k }) r) told
+
+close : (w u : World) (k : Control) (told : List Event) → Retabled w.control k → AllPassing told → histories (w.events ++ told) ≡ histories w.events
     → u.events ≡ w.events ++ told → u.control.volume ≡ k.volume → u.contents ≡ w.contents → u.control.issued ≡ k.issued → u.control.volumes ≡ k.volumes → u.control.pending ≡ k.pending → Unchanged w u told
-close w u k ss told same silent lists events volume contents issued volumes pending =
-    told-unchanged w u told events silent lists (volume ∙ ap (λ (k : Control). k.volume) same) contents (issued ∙ ap (λ (k : Control). k.issued) same) (volumes ∙ ap (λ (k : Control). k.volumes) same)
-    (λ v t. ap (λ ps. waiting ps v t) pending ∙ ap (λ (k : Control). waiting k.pending v t) same)
+close w u k told other silent lists events volume contents issued volumes pending =
+    told-unchanged w u told events silent lists (volume ∙ ap (λ (k : Control). k.volume) other.is) contents (issued ∙ ap (λ (k : Control). k.issued) other.is) (volumes ∙ ap (λ (k : Control). k.volumes) other.is)
+    (λ v t. ap (λ ps. waiting ps v t) pending ∙ ap (λ (k : Control). waiting k.pending v t) other.is)
 
 abbrev pub ended : World → World → ℕ → Said → World
 ended first w line a = masters_lost first (said w line a)
 
 said-closes : (first : World) (line : ℕ) (p : Plan) → Closes first (λ w r. ended first w line (answered p w.control r))
-said-closes first line p w k ss r same =
+said-closes first line p w k r other =
     let a : Said = answered p k r in
-    (answer line a ∷ [], close w (ended first (record w { control = k }) line a) k ss (answer line a ∷ []) same (tt, tt) (histories-append w.events (answer line a ∷ [])) refl refl refl refl refl refl)
+    (answer line a ∷ [], close w (ended first (record w { control = k }) line a) k (answer line a ∷ []) other (tt, tt) (histories-append w.events (answer line a ∷ [])) refl refl refl refl refl refl)
 
 lost-closes : (first : World) → Closes first (λ w r. masters_lost first w)
-lost-closes first w k ss r same = ([], close w (masters_lost first (record w { control = k })) k ss [] same tt (ap histories (append-nil w.events)) (sym (append-nil w.events)) refl refl refl refl refl)
+lost-closes first w k r other = ([], close w (masters_lost first (record w { control = k })) k [] other tt (ap histories (append-nil w.events)) (sym (append-nil w.events)) refl refl refl refl refl)
 
 -- K holds between steps
 module _ (K : World → Type 0) (rows : (w : World) → K w → SoundRows (table w)) (answers : (first w : World) (line : ℕ) (a : Said) → K w → K (ended first w line a)) where
@@ -189,9 +199,9 @@ module _ (K : World → Type 0) (rows : (w : World) → K w → SoundRows (table
   PlanFin p tag w (Some (StoppedIn s)) = Fairly EndFin tag w (p.follows s.0)
   PlanFin p tag w (Some r) = K w
 
-  -- the tables as a plan ends differ in the sessions alone
+  -- the tables as a plan ends differ in the sessions and messages alone
   abbrev pub Leaves : Plan → Type 0
-  Leaves p = (k : Control) → (ss : List Session) × (p.last k ≡ record k { sessions = ss })
+  Leaves p = (k : Control) → Retabled k (p.last k)
 
   -- what is to be shown of a plan
   pub record PlanFair (w : World) (p : Plan) : Type 0 where
@@ -210,28 +220,28 @@ module _ (K : World → Type 0) (rows : (w : World) → K w → SoundRows (table
 
   good-plan : (p : Plan) → Leaves p → (w : World) (r : Option Refusal) → PlanFin p None w r → Good None w
   good-plan p last w None k =
-      let same : table (record w { control = p.last w.control }) ≡ table w = ap (λ (k : Control). table (record w { control = k })) (last w.control).1 in
+      let same : table (record w { control = p.last w.control }) ≡ table w = ap (λ (k : Control). table (record w { control = k })) (last w.control).is in
       good-none w (subst SoundRows same (rows (record w { control = p.last w.control }) k))
   good-plan p last w (Some (StoppedIn s)) a = good-fairly EndFin None w (p.follows s.0) a
   good-plan p last w (Some r) k = good-none w (rows w k)
 
   module _ (first : World) (p : Plan) (last : Leaves p) (over : World → Option Refusal → World) (closes : Closes first over) (kept : (w : World) (r : Option Refusal) → K w → K (over w r))
       (more : World → List World) (goes_on : (w : World) → K w → Chain None w (more w)) where
-    close-chain : (tag : Option ℕ) (w : World) (k : Control) (ss : List Session) (r : Option Refusal) → k ≡ record w.control { sessions = ss } → Good tag w → K (record w { control = k }) → let u : World = record w { control = k } in Chain tag w (over u r ∷ more (over u r))
-    close-chain tag w k ss r same good y =
+    close-chain : (tag : Option ℕ) (w : World) (k : Control) (r : Option Refusal) → Retabled w.control k → Good tag w → K (record w { control = k }) → let u : World = record w { control = k } in Chain tag w (over u r ∷ more (over u r))
+    close-chain tag w k r other good y =
         let u : World = record w { control = k } in
-        let c = closes w k ss r same in
+        let c = closes w k r other in
         Then tag None w (over u r) (more (over u r)) good (Passes None (over u r) c.0 c.1 (λ n h. absurd cc)) (goes_on (over u r) (kept u r y))
 
     abbrev rest : Outcome → List World
     rest o = worlds_after o.0 o.1 p.follows ++ over (finish p o.0 o.1) o.1 ∷ more (over (finish p o.0 o.1) o.1)
 
     ends : (tag : Option ℕ) (w : World) (r : Option Refusal) → Good tag w → PlanFin p tag w r → Chain tag w (rest (w, r))
-    ends tag w None good k = close-chain tag w (p.last w.control) (last w.control).0 None (last w.control).1 good k
+    ends tag w None good k = close-chain tag w (p.last w.control) None (last w.control) good k
     ends tag w (Some (StoppedIn s)) good a =
         let r : Option Refusal = Some (StoppedIn s) in
-        entries-chain EndFin (λ o. over o.0 r ∷ more (over o.0 r)) (λ tag u x good k. close-chain tag u u.control u.control.sessions r refl good k) good-end (p.follows s.0) tag w a
-    ends tag w (Some r) good k = close-chain tag w w.control w.control.sessions (Some r) refl good k
+        entries-chain EndFin (λ o. over o.0 r ∷ more (over o.0 r)) (λ tag u x good k. close-chain tag u u.control r (retabled-none u.control) good k) good-end (p.follows s.0) tag w a
+    ends tag w (Some r) good k = close-chain tag w w.control (Some r) (retabled-none w.control) good k
 
     pub plan-chain : K first → PlanFair first p → Chain None first (begun first p ∷ (worlds (begun first p) p.entries ++ rest (carry (begun first p) p.entries)))
     plan-chain k fair =

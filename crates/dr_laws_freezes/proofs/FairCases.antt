@@ -29,7 +29,7 @@ use Rattle.dr_laws_sound.proofs.FitsSessions.{sound-lost}
 use Rattle.dr_laws_sound.proofs.FitsHolds.{freezes, thaws, lifts, releases}
 use Rattle.dr_laws_sound.proofs.Steps.{sound-said}
 use Rattle.dr_laws_freezes.proofs.Tidy.{tidy-same, fresh-told}
-use Rattle.dr_laws_freezes.proofs.Chains.{ended, Fairly, fairly-nil, EndFin, PlanFin, PlanFair, good-none, told-unchanged}
+use Rattle.dr_laws_freezes.proofs.Chains.{ended, Fairly, fairly-nil, EndFin, PlanFin, PlanFair, good-none, told-unchanged, retabled-none}
 use Rattle.dr_laws_freezes.proofs.FairPlans.{EasyNext, AllEasy, easy-nil, easy-cons, easy-append, easy-map, Between, easy-fairly, easy-check}
 
 pub rows-between : (w : World) → Between w → SoundRows (table w)
@@ -73,7 +73,7 @@ module _ (w : World) (k : Between w) (entries : List Entry) (a : Said) where
     told = [];
     begins = told-unchanged w (as_begun w) [] refl tt (ap histories (append-nil w.events)) refl refl refl refl (λ v t. refl);
     entries = fairly;
-    last = λ k. (k.sessions, refl);
+    last = retabled-none;
   }
 
   pub easy-plan : AllEasy entries → Along (as_begun w) entries → Fair w p

@@ -28,7 +28,7 @@ use Rattle.dr_laws_freezes.proofs.Fair.{is_locked}
 use Rattle.dr_laws_freezes.proofs.Tidy.{is_synced}
 use Rattle.dr_model.specs.Histories.{histories}
 use Rattle.std.proofs.lemmas.List.{append-nil}
-use Rattle.dr_laws_freezes.proofs.Chains.{Fairly, fairly_next, fairly-entry, fairly-nil, good-none, EndFin, PlanFin, told-unchanged}
+use Rattle.dr_laws_freezes.proofs.Chains.{Fairly, fairly_next, fairly-entry, fairly-nil, good-none, EndFin, PlanFin, told-unchanged, retabled-none}
 use Rattle.dr_laws_freezes.proofs.FairPlans.{EasyNext, AllEasy, Between, easy-fairly}
 use Rattle.dr_laws_freezes.proofs.FairCases.{rows-between, answers-between, begun-between, Fair}
 use Rattle.dr_laws_freezes.proofs.FairCopy.{fairly-check}
@@ -216,5 +216,5 @@ module _ (w : World) (k : Between w) (a : ℕ) (most : Option ℕ) where
             let both = and_parts (is_part (fields_at w.control a).primary) _ copying in
             sends-all Fins fins w.control.volumes a (fields_at w.control a).primary_partner (tracks_to_send most (w.control.volume a).tracks (fields_at w.control a).out_of_sync) u b
             (record { on = on; there = there; to = choose_some (is_part (fields_at w.control a).primary) (fields_at w.control a).primary_partner both.0; going = pending-going (fields_at w.control a).primary_state both.1 }) al)));
-        last = λ k. (k.sessions, refl);
+        last = retabled-none;
       }

@@ -6,14 +6,16 @@ use Rattle.dr_ids.specs.declared.refusal.Decision.{Decision}
 use Rattle.dr_ids.specs.declared.refusal.Refusal.{Refusal}
 use Rattle.dr_ids.specs.declared.refusal.Refusal.TheVariants.{Stopped as StoppedIn}
 use Rattle.dr_model.specs.declared.said.Said.{Said}
+use Rattle.dr_model.specs.declared.said.Said.TheVariants.{Done}
+use Rattle.dr_model.specs.declared.said.Addition.TheVariants.{Alone}
 use Rattle.dr_model.specs.Histories.{histories}
 use Rattle.dr_model.specs.Control.{Control, World}
+use Rattle.dr_model.specs.Messages.{Flight}
 use Rattle.dr_model.specs.Sessions.{Session}
 use Rattle.dr_model.specs.Phases.{Work, Hold, Release, Seal, Flash, Commit, Revert, Finish, Report}
 use Rattle.dr_model.specs.Carry.{Make, OpenAttempt, Pass, Do, Entry, carry}
 use Rattle.dr_model.specs.SessionEntries.{last_of, is_drained, is_past, hold_refusal, stale_refusal, void_refusal, seal_refusal, is_flashed, is_committed, flash_refusal, commit_refusal, member_entries, order_entries, add_entries, expel_entries}
-use Rattle.dr_model.specs.SessionPlans.{table_plan}
-use Rattle.dr_model.specs.Plans.{Plan, same, none_follow}
+use Rattle.dr_model.specs.Plans.{Plan, same, none_follow, tables_plan}
 use Rattle.dr_model.specs.Runs.{begun}
 use Rattle.dr_model.specs.Laws.{Sound, AllPending}
 use Rattle.dr_laws_freezes.proofs.Fair.{Unacked}
@@ -27,7 +29,7 @@ use Rattle.dr_laws_sound.proofs.RecoveryEntries.{settle-cases}
 use Rattle.dr_laws_sound.proofs.KeepsSound.{StepHolds, RowsAt, MayDo, keeps-sound}
 use Rattle.dr_laws_sound.proofs.FitsSessions.{Orders}
 use Rattle.dr_laws_freezes.proofs.Tidy.{tidy-same, fresh-told}
-use Rattle.dr_laws_freezes.proofs.Chains.{fairly-nil, PlanFin, EndFin, Leaves, good-none, told-unchanged}
+use Rattle.dr_laws_freezes.proofs.Chains.{fairly-nil, PlanFin, EndFin, Leaves, good-none, told-unchanged, retabled-none}
 use Rattle.dr_laws_freezes.proofs.FairPlans.{EasyNext, AllEasy, easy-nil, easy-cons, easy-append, Between, easy-ended}
 use Rattle.dr_laws_freezes.proofs.FairCases.{rows-between, answers-between, begun-between, easy-refuse, Fair, pass-or}
 use Rattle.dr_laws_sound.proofs.Along as along
@@ -35,15 +37,15 @@ use Rattle.dr_laws_sound.proofs.Along as along
 abbrev Leaving : Plan → Type 0
 Leaving = Leaves Between rows-between answers-between
 
--- a plan of easy entries that leaves other sessions
+-- a plan of easy entries that leaves other sessions and messages
 abbrev pub leaving : List Entry → (Control → Control) → (Control → Said) → Plan
 leaving entries last says = record { first = same; told = []; entries = entries; follows = none_follow; last = last; says = says }
 
 module _ (w : World) (k : Between w) where
-  -- a plan that changes sessions, and does nothing else
-  module _ (f : List Session → List Session) (says : Control → Said) where
+  -- a plan that changes sessions and messages, and does nothing else
+  module _ (f : List Session → List Session) (g : Control → Flight) (says : Control → Said) where
     abbrev p : Plan
-    p = record (table_plan f) { says = says }
+    p = record (tables_plan (λ k. record k { sessions = f k.sessions; flight = g k }) [] (Done Alone)) { says = says }
 
     begins-sound : StepHolds w p → Sound (begun w p)
     unfolding carry
@@ -57,7 +59,7 @@ module _ (w : World) (k : Between w) where
           told = [];
           begins = told-unchanged w u [] refl tt (ap histories (append-nil w.events)) refl refl refl refl (λ v t. refl);
           entries = fairly-nil (PlanFin Between rows-between answers-between p) None u (good-none u b.sound.rows) b;
-          last = λ k. (k.sessions, refl);
+          last = retabled-none;
         }
 
   module _ (entries : List Entry) (last : Control → Control) (says : Control → Said) (leaves : Leaving (leaving entries last says)) (orders : Orders w (leaving entries last says)) where
@@ -74,7 +76,7 @@ module _ (w : World) (k : Between w) where
     ends : (u : World) → Between u → orders.ends u → Fins None u None
     ends u b e =
         let v : World = record u { control = last u.control } in
-        let same_control : (last u.control ≡ record u.control { sessions = (leaves u.control).0 }) = (leaves u.control).1 in
+        let same_control : (last u.control ≡ record u.control { sessions = (leaves u.control).sessions; flight = (leaves u.control).flight }) = (leaves u.control).is in
         record {
           sound = orders.last u e;
           tidy = tidy-same u v (ap (λ (k : Control). k.volume) same_control) (ap (λ (k : Control). k.volumes) same_control) (λ j h. sym (ap (λ (k : Control). k.on j) same_control) ∙ h)

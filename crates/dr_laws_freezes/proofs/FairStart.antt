@@ -30,7 +30,7 @@ use Rattle.dr_laws_sound.proofs.FitsPairs.{row}
 use Rattle.dr_laws_sound.proofs.Starts as starts
 use Rattle.dr_laws_freezes.proofs.Fair.{Unacked, come}
 use Rattle.dr_laws_freezes.proofs.Tidy.{Clean, Free, free-left, clean-left, Fresh, Tidy, fresh-by, fresh-told, fresh-done, fresh-stop, all-other, above}
-use Rattle.dr_laws_freezes.proofs.Chains.{Fairly, fairly_next, fairly-entry, fairly-nil, PlanFin, EndFin, good-none, told-unchanged}
+use Rattle.dr_laws_freezes.proofs.Chains.{Fairly, fairly_next, fairly-entry, fairly-nil, PlanFin, EndFin, good-none, told-unchanged, retabled-none}
 use Rattle.dr_laws_freezes.proofs.FairPlans.{Between}
 use Rattle.dr_laws_freezes.proofs.FairCases.{rows-between, answers-between, Fair}
 use Rattle.dr_facts.proofs.Tracks.{bare-has}
@@ -203,5 +203,5 @@ module _ (s : ℕ) where
             free = k.tidy.free;
             fresh = fresh-told w0 u (Started s ∷ []) refl refl k.tidy.fresh.unacked (λ n. refl) k.tidy.fresh;
           });
-          last = λ k. (k.sessions, refl);
+          last = retabled-none;
         }

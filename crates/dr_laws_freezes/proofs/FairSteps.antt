@@ -1,10 +1,11 @@
 -- Each step's plan is fair, and so the law of freeze windows holds of every run.
-use Rattle.std.proofs.Common.{ℕ, ◌≡◌, refl, Bool, true, false, cond, List, [], ◌∷◌, None}
+use Rattle.std.proofs.Common.{ℕ, refl, Bool, true, false, List, [], ◌∷◌, None}
 use Rattle.dr_ids.specs.declared.names.Member.{Member}
 use Rattle.dr_model.specs.Phases as phases
-use Rattle.dr_model.specs.Sessions.{Session, joined, left, changed, mirrored_by, paused, unmirrored, with_master}
+use Rattle.dr_model.specs.Messages as messages
+use Rattle.dr_model.specs.Sessions.{joined, left, changed, mirrored_by, paused, unmirrored, with_master}
 use Rattle.dr_model.specs.SessionEntries.{first_number, add_entries, expel_entries, order_entries, members_on}
-use Rattle.dr_model.specs.SessionPlans.{table_plan, member_with, answered_by}
+use Rattle.dr_model.specs.SessionPlans.{member_with, exchanged, says_phase}
 use Rattle.dr_model.specs.Control.{Control, World, nothing}
 use Rattle.dr_model.specs.Plans.{Plan, same, always}
 use Rattle.dr_model.specs.RecoveryPlans.{decided_in, settle_on, recover_entries, says_recovered}
@@ -18,7 +19,7 @@ use Rattle.dr_model.specs.Runs.{Task}
 use Rattle.dr_laws_freezes.specs.Moments.{moments_from}
 use Rattle.dr_laws_freezes.specs.Windows.{FreezeCut}
 use Rattle.dr_laws_closed.proofs.Regroups.{regroups-same}
-use Rattle.dr_laws_sound.proofs.Cases.{Case, Says, DefinesServer, DefinesVolume, SetsLink, Issues, Writes, Applies, Lists, Shows, Stops, Arms, Starts, MakesFlash, RemovesFlash, ResyncsFlash, ReversesFlash, Copies, Destages, MakesPath, RemovesPath, MakesPair, RemovesPair, PausesPair, ResumesPair, FailsOver, FailsBack, Compares, Drains, Expires, Freezes, Unfreezes, MakesSession, RemovesSession, MakesMirror, PausesMirror, RemovesMirror, Aborts, AddsMember, RemovesMember, Exchanges, Recovers, Settles, added, expelled, aborted, ordered, Releases}
+use Rattle.dr_laws_sound.proofs.Cases.{Case, Says, DefinesServer, DefinesVolume, SetsLink, Issues, Writes, Applies, Lists, Shows, Stops, Arms, Starts, MakesFlash, RemovesFlash, ResyncsFlash, ReversesFlash, Copies, Destages, MakesPath, RemovesPath, MakesPair, RemovesPair, PausesPair, ResumesPair, FailsOver, FailsBack, Compares, Drains, Expires, Freezes, Unfreezes, MakesSession, RemovesSession, MakesMirror, PausesMirror, RemovesMirror, Aborts, AddsMember, RemovesMember, Exchanges, Loses, Recovers, Settles, added, expelled, aborted, ordered, Releases}
 use Rattle.dr_laws_sound.proofs.Steps.{sound-nothing, case-holds, ending-holds}
 use Rattle.dr_laws_sound.proofs.FitsMembers.{orders-added, orders-expelled}
 use Rattle.dr_laws_sound.proofs.FitsOrders.{orders-ordered}
@@ -28,7 +29,7 @@ use Rattle.dr_laws_sound.proofs.FitsFlash.{as_begun, sound-begun}
 use Rattle.dr_laws_sound.proofs.KeepsSound.{Along, over}
 use Rattle.dr_laws_freezes.proofs.FairSessions.{leaving, fair-sessions, fair-leaving, easy-add, easy-expel, easy-order, easy-recover, easy-settle}
 use Rattle.dr_laws_freezes.proofs.Windows.{Chain, freeze-cut}
-use Rattle.dr_laws_freezes.proofs.Chains.{run-chain}
+use Rattle.dr_laws_freezes.proofs.Chains.{run-chain, Retabled, retabled-none}
 use Rattle.dr_laws_freezes.proofs.FairPlans.{Between}
 use Rattle.dr_laws_freezes.proofs.FairCases.{rows-between, answers-between, loses-between, Fair, fair-flash, fair-withdraw, fair-resync, fair-reverse, fair-freeze, fair-thaw, fair-expire, fair-pause, fair-resume, fair-failover, fair-failback, fair-compare, fair-remove, fair-release, fair-destage}
 use Rattle.dr_laws_freezes.proofs.FairTables.{fair-says, fair-defines, fair-links, fair-shows, fair-stops, fair-arms, fair-paths, fair-unpaths, fair-adds, fair-issues, fair-lists}
@@ -89,30 +90,31 @@ fair-case w k line _ (Expires x on) = fair-expire w k x on
 fair-case w k line _ (Freezes l m) = fair-freeze w k l m
 fair-case w k line _ (Unfreezes l m) = fair-thaw w k l m
 fair-case w k line _ (Releases l) = fair-release w k l
-fair-case w k line _ (MakesSession l i free) = fair-sessions w k (joined i l) (table_plan (joined i l)).says (case-holds w k.sound line _ (MakesSession l i free))
-fair-case w k line _ (RemovesSession l i x found free) = fair-sessions w k (left i l) (table_plan (left i l)).says (case-holds w k.sound line _ (RemovesSession l i x found free))
-fair-case w k line _ (MakesMirror owner i x found free l owned) = fair-sessions w k (changed i (mirrored_by owner)) (table_plan (changed i (mirrored_by owner))).says (case-holds w k.sound line _ (MakesMirror owner i x found free l owned))
-fair-case w k line _ (PausesMirror i on) = fair-sessions w k (changed i (paused on)) (table_plan (changed i (paused on))).says (case-holds w k.sound line _ (PausesMirror i on))
-fair-case w k line _ (RemovesMirror i x found free) = fair-sessions w k (changed i unmirrored) (table_plan (changed i unmirrored)).says (case-holds w k.sound line _ (RemovesMirror i x found free))
-fair-case w k line _ (Aborts i x found free) = fair-sessions w k (changed i (with_master phases.aborted)) (aborted i).says (case-holds w k.sound line _ (Aborts i x found free))
+fair-case w k line _ (MakesSession l i free) = fair-sessions w k (joined i l) (λ k. k.flight) (always (Done Alone)) (case-holds w k.sound line _ (MakesSession l i free))
+fair-case w k line _ (RemovesSession l i x found free) = fair-sessions w k (left i l) (λ k. messages.left i l x k.flight) (always (Done Alone)) (case-holds w k.sound line _ (RemovesSession l i x found free))
+fair-case w k line _ (MakesMirror owner i x found free l owned) = fair-sessions w k (changed i (mirrored_by owner)) (λ k. messages.raised i k.flight) (always (Done Alone)) (case-holds w k.sound line _ (MakesMirror owner i x found free l owned))
+fair-case w k line _ (PausesMirror i on) = fair-sessions w k (changed i (paused on)) (λ k. k.flight) (always (Done Alone)) (case-holds w k.sound line _ (PausesMirror i on))
+fair-case w k line _ (RemovesMirror i x found free) = fair-sessions w k (changed i unmirrored) (λ k. k.flight) (always (Done Alone)) (case-holds w k.sound line _ (RemovesMirror i x found free))
+fair-case w k line _ (Aborts i x found free) = fair-sessions w k (changed i (with_master phases.aborted)) (λ k. messages.aborted i x.mirror k.flight) (says_phase i) (case-holds w k.sound line _ (Aborts i x found free))
+fair-case w k line _ (Loses n) = fair-sessions w k (λ ss. ss) (λ k. messages.lost n k.flight) (always (Done Alone)) (case-holds w k.sound line _ (Loses n))
 fair-case w k line _ (AddsMember i a c x joins) =
     let m : Member = member_with w.control a c in
     let n : ℕ = first_number w.control x.last m in
-    fair-leaving w k (add_entries m n) (added w.control i x m).last (added w.control i x m).says (λ k. (_, refl)) (orders-added w k.sound i a c x joins) (easy-add m n)
-fair-case w k line _ (RemovesMember i a x m found is idle on) = fair-leaving w k (expel_entries i m) (expelled i m).last (expelled i m).says (λ k. (_, refl)) (orders-expelled w k.sound i a x m found is idle on) (easy-expel i m)
+    fair-leaving w k (add_entries m n) (added w.control i x m).last (added w.control i x m).says (λ k. record { sessions = _; flight = k.flight; is = refl }) (orders-added w k.sound i a c x joins) (easy-add m n)
+fair-case w k line _ (RemovesMember i a x m found is idle on) = fair-leaving w k (expel_entries i m) (expelled i m).last (expelled i m).says (λ k. record { sessions = _; flight = k.flight; is = refl }) (orders-expelled w k.sound i a x m found is idle on) (easy-expel i m)
 fair-case w k line _ (Recovers i x found on) =
     let d : Decision = decided_in i w.control in
-    fair-leaving w k (recover_entries i d x.members) same (says_recovered i d) (λ k. (k.sessions, refl)) (alone w k.sound (recover_entries i d x.members) (says_recovered i d) (along-recover w k.sound i x found on)) (easy-recover i d x.members)
+    fair-leaving w k (recover_entries i d x.members) same (says_recovered i d) retabled-none (alone w k.sound (recover_entries i d x.members) (says_recovered i d) (along-recover w k.sound i x found on)) (easy-recover i d x.members)
 fair-case w k line _ (Settles i x m found here on free) =
     let d : Decision = decided_in i w.control in
-    fair-leaving w k (settle_on i d m ∷ []) same (always (Done Alone)) (λ k. (k.sessions, refl)) (alone w k.sound (settle_on i d m ∷ []) (always (Done Alone)) (along-settle w k.sound i x found on free m here)) (easy-settle i d m)
+    fair-leaving w k (settle_on i d m ∷ []) same (always (Done Alone)) retabled-none (alone w k.sound (settle_on i d m ∷ []) (always (Done Alone)) (along-settle w k.sound i x found on free m here)) (easy-settle i d m)
 fair-case w k line _ (Exchanges i server reply x r o allowed) =
     let ms : List Member = members_on server x.members in
     fair-leaving w k (order_entries o.work i o.number ms) (ordered i server reply ms o).last (ordered i server reply ms o).says (by reply) (orders-ordered w k.sound i server x r o allowed reply) (easy-order o.work i o.number ms)
   where
-    by : (b : Bool) (k : Control) → (ss : List Session) × (cond b (answered_by i server o.work (members_on server x.members)) same k ≡ record k { sessions = ss })
-    by true k = (_, refl)
-    by false k = (_, refl)
+    by : (b : Bool) (k : Control) → Retabled k (exchanged i server b o.work (members_on server x.members) k)
+    by true k = record { sessions = _; flight = _; is = refl }
+    by false k = record { sessions = _; flight = _; is = refl }
 
 pub fair-ending : (w : World) (k : Between w) (line : ℕ) (p : Plan) → Ending w.control w.events line p → Fair w p
 fair-ending w k line _ (OnePlan p c) = fair-case w k line p c

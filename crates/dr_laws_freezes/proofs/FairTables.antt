@@ -32,7 +32,7 @@ use Rattle.dr_laws_sound.proofs.Listed.{IsLine, AllLines, each-line, all-lines, 
 use Rattle.dr_laws_freezes.proofs.KeepsStep.{Unchanged}
 use Rattle.dr_laws_freezes.proofs.KeepsMirror.{still-unacked}
 use Rattle.dr_laws_freezes.proofs.Tidy.{Clean, Free, Fresh, Tidy, tidy-same, fresh-told}
-use Rattle.dr_laws_freezes.proofs.Chains.{fairly-nil, PlanFin, good-none, told-unchanged}
+use Rattle.dr_laws_freezes.proofs.Chains.{fairly-nil, PlanFin, good-none, told-unchanged, retabled-none}
 use Rattle.dr_laws_freezes.proofs.FairPlans.{Between}
 use Rattle.dr_laws_freezes.proofs.FairCases.{rows-between, answers-between, Fair}
 use Rattle.dr_laws_sound.proofs.Along as along
@@ -50,7 +50,7 @@ pub fair-tables : (w : World) (first : Control → Control) (told : List Event) 
 fair-tables w first told a holds unchanged tidy =
     let p : Plan = tables_plan first told a in
     let k : Between (begun w p) = record { sound = sound-tables w first told a holds; tidy = tidy } in
-    record { told = told; begins = unchanged; entries = fairly-nil (PlanFin Between rows-between answers-between p) None (begun w p) (good-none (begun w p) k.sound.rows) k; last = λ k. (k.sessions, refl) }
+    record { told = told; begins = unchanged; entries = fairly-nil (PlanFin Between rows-between answers-between p) None (begun w p) (good-none (begun w p) k.sound.rows) k; last = retabled-none }
 
 -- a volume that was defined before
 not-new : (vs : List ℕ) (x v : ℕ) → x ≢ v → list_any (nat_eq x) (vs ++ v ∷ []) ≡ true → list_any (nat_eq x) vs ≡ true

@@ -35,7 +35,7 @@ use Rattle.dr_laws_sound.proofs.FitsWrites.{lands}
 use Rattle.dr_laws_freezes.proofs.Fair.{is_locked, Unacked, Fair as FairMove, tag_after}
 use Rattle.dr_laws_freezes.proofs.Tidy.{is_synced, Clean, Gentle}
 use Rattle.dr_laws_freezes.proofs.Windows.{Good}
-use Rattle.dr_laws_freezes.proofs.Chains.{Fairly, fairly-entry, fairly-nil, StopFin, EndFin, PlanFin, good-none, told-unchanged}
+use Rattle.dr_laws_freezes.proofs.Chains.{Fairly, fairly-entry, fairly-nil, StopFin, EndFin, PlanFin, good-none, told-unchanged, retabled-none}
 use Rattle.dr_laws_freezes.proofs.FairPlans.{Between}
 use Rattle.dr_laws_freezes.proofs.FairCases.{rows-between, answers-between, begun-between, Fair}
 use Rattle.dr_laws_freezes.proofs.FairTables.{issued-unchanged, issued-tidy}
@@ -398,7 +398,7 @@ module _ (w : World) (k : Between w) where
         begins = issued-unchanged w k.tidy v t offset len bytes;
         entries = carried-fair (write_done w.control v t offset len bytes) new w.control refl refl (issued w k.sound v t offset len bytes there.defined there.low)
             (record { sound = sound-issued w k.sound v t offset len bytes there.defined there.low; tidy = issued-tidy w k.tidy v t offset len bytes }) (one-new w k.sound v t offset len bytes there.defined there.low);
-        last = λ k. (k.sessions, refl);
+        last = retabled-none;
       }
 
   pub fair-applies : (n : ℕ) (p : Pending) → find (is_write n) w.control.pending ≡ Some p → Fair w (apply_done w.control p)
@@ -406,5 +406,5 @@ module _ (w : World) (k : Between w) where
     told = [];
     begins = told-unchanged w (as_begun w) [] refl tt (ap histories (append-nil w.events)) refl refl refl refl (λ v t. refl);
     entries = carried-fair (apply_done w.control p) p w.control refl refl (as_begun w) (begun-between w k) (found-alone n p w.control.pending found k.sound.queue.apart);
-    last = λ k. (k.sessions, refl);
+    last = retabled-none;
   }

@@ -22,9 +22,9 @@ use Rattle.dr_model.specs.declared.state.PairState.TheVariants.{Suspended as Sus
 use Rattle.dr_model.specs.declared.step.Devs.{Devs}
 use Rattle.dr_model.specs.declared.step.Name.{Name}
 use Rattle.dr_model.specs.declared.step.Step.{Step}
-use Rattle.dr_model.specs.declared.step.Step.TheVariants.{Server, Volume, Link, Stop, StopAfter, Start, Issue, Write, Apply, Show, MakeFlash, RemoveFlash, ResyncFlash, ReverseFlash, Copy, Destage, MakePath, RemovePath, MakePair, RemovePair, PausePair, ResumePair, Failover, Failback, Drain, Expire, Freeze, Unfreeze, MakeSession, RemoveSession, AddMember, RemoveMember, MakeMirror, PauseMirror, ResumeMirror, RemoveMirror, Abort, Exchange, Compare, Recover, CommitFlash, RevertFlash, Image, ListPairs, ListFlashes, ListSession, ShowMirror, UnfreezeFlash}
+use Rattle.dr_model.specs.declared.step.Step.TheVariants.{Server, Volume, Link, Stop, StopAfter, Start, Issue, Write, Apply, Show, MakeFlash, RemoveFlash, ResyncFlash, ReverseFlash, Copy, Destage, MakePath, RemovePath, MakePair, RemovePair, PausePair, ResumePair, Failover, Failback, Drain, Expire, Freeze, Unfreeze, MakeSession, RemoveSession, AddMember, RemoveMember, MakeMirror, PauseMirror, ResumeMirror, RemoveMirror, Abort, Exchange, Lose, Compare, Recover, CommitFlash, RevertFlash, Image, ListPairs, ListFlashes, ListSession, ShowMirror, UnfreezeFlash}
 use Rattle.dr_model.specs.Refusals.{unknown, server_off, duplicate}
-use Rattle.dr_ids.specs.declared.refusal.Kind.TheVariants.{Write as OfWrite}
+use Rattle.dr_ids.specs.declared.refusal.Kind.TheVariants.{Message as OfMessage, Write as OfWrite}
 use Rattle.dr_model.specs.Control.{Control}
 use Rattle.dr_model.specs.Layout.{is_part, kind_of}
 use Rattle.dr_model.specs.Pairs.{first_state, held}
@@ -32,11 +32,14 @@ use Rattle.dr_model.specs.Entries.{is_at, fields_at, is_running, relation_state,
 use Rattle.dr_model.specs.PairEntries.{first_differing, are_linked, reach_refusal, refuse_if, differs_at, two_servers, stands_free, may_follow, make_entries, leads_to, belongs_to, let_go, remove_both, may_pause, tell_paused, may_resume, may_take_over, leads_as, fall_back_on, yield_on, follow_on, resume_on, tracks_to_send, is_copying}
 use Rattle.dr_model.specs.WriteEntries.{is_between, freeze_on, end_freeze, thaw_on, end_thaw, belongs, lift_on, flash_hold_on, flash_free_on, is_held_in}
 use Rattle.dr_model.specs.Phases as phases
+use Rattle.dr_model.specs.Messages.{Flight, Message, message_in}
+use Rattle.dr_model.specs.MessagePlans.{with_flight, on_message}
+use Rattle.dr_model.specs.Messages as messages
 use Rattle.dr_model.specs.Sessions.{Session, Mirror, session_in, members_in, has_place_of, joined, left, changed, mirrored_by, paused, unmirrored, not_in_session, in_session, busy, leave_refusal, join_refusal, make_refusal, drop_refusal, abort_refusal}
 use Rattle.dr_model.specs.SessionEntries.{first_number, members_on, raise_attempt_on, raise_floor_on}
 use Rattle.dr_model.specs.RecoveryPlans.{decided_in, take_over_on, settle_on, end_recovery, recover_done, recover_plan, secondary_refusal, lets_commit, lets_revert, settle_member, settle_target, settle_plan, settle_refusal, member_of_target, revertible_target}
 use Rattle.dr_model.specs.SessionPlans.{table_plan, name_refusal, off_refusal, on_both, add_plan, add_to, add_target, member_target, expel_plan, expel_done, expel_found, outside_refusal, master_refusal, place_refusal, taken_refusal, copy_refusal, member_with, exchange_refusal, exchange_done, exchange_on, order_of}
-use Rattle.dr_model.specs.Plans.{Plan, plan_of, same, entries_plan, only_says, refuses, unless, on_named, on_owner, on_session, is_defined, is_owner, server_named, name_bytes, counted_refusal, restore_refusal, left_by, member_refusal, found_volumes, found_pair, differ, is_no_source, has_few_targets, is_plain_target, is_recorded_target, is_lone_restore, may_return, may_give_back, may_copy, at_most, left_to_copy, drain_plan, stop_on, stop_done, arm_on, expire_on, link_between, link_done, on_server, owner_of, server_refusal, server_done, volume_refusal, volume_done, issue_refusal, issue_done, show_refusal, show_done, expire_plan, path_refusal, make_path_done, unpath_refusal, remove_path_done, freeze_refusal, freeze_done, thaw_refusal, unfreeze_done, hold_first, release_refusal, release_done, redo_now, destage_entries}
+use Rattle.dr_model.specs.Plans.{Plan, plan_of, same, entries_plan, tables_plan, only_says, refuses, unless, on_named, on_owner, on_session, is_defined, is_owner, server_named, name_bytes, counted_refusal, restore_refusal, left_by, member_refusal, found_volumes, found_pair, differ, is_no_source, has_few_targets, is_plain_target, is_recorded_target, is_lone_restore, may_return, may_give_back, may_copy, at_most, left_to_copy, drain_plan, stop_on, stop_done, arm_on, expire_on, link_between, link_done, on_server, owner_of, server_refusal, server_done, volume_refusal, volume_done, issue_refusal, issue_done, show_refusal, show_done, expire_plan, path_refusal, make_path_done, unpath_refusal, remove_path_done, freeze_refusal, freeze_done, thaw_refusal, unfreeze_done, hold_first, release_refusal, release_done, redo_now, destage_entries}
 use Rattle.dr_ids.specs.declared.refusal.Refusal.TheVariants.{JournalFull, Syntax}
 use Rattle.dr_logic.specs.Tables.{at}
 use Rattle.dr_model.specs.declared.event.Event.{Event}
@@ -221,12 +224,22 @@ module _ (v b s : ℕ) (base : List Event) (w : World) (k : Frozen v b s none ba
   ruled : (o : Option Session) (p : Session → Plan) → ((x : Session) → P (p x)) → P (on_session o p)
   ruled = session-plan P refused
 
-  table-kept : (f : List Session → List Session) → P (table_plan f)
-  table-kept f = tells (table_plan f) (stays _ refl refl) refl refl (with-told w [] refl) refl empty (λ q. empty) (λ u j. j)
+  tables-kept : (f : List Session → List Session) (g : Control → Flight) → P (tables_plan (λ k. record k { sessions = f k.sessions; flight = g k }) [] (Done Alone))
+  tables-kept f g = tells (tables_plan (λ k. record k { sessions = f k.sessions; flight = g k }) [] (Done Alone)) (stays _ refl refl) refl refl (with-told w [] refl) refl empty (λ q. empty) (λ u j. j)
 
-  owned-by : (dev : Option Name) (l i : ℕ) (f : List Session → List Session) (why : ℕ → Session → Option Refusal) → P (on_both c l i (λ owner x. unless (option_or (name_refusal c dev owner) (why owner x)) (table_plan f)))
-  owned-by dev l i f why = owned l (λ owner. on_session (session_in c.sessions i) (λ x. unless (option_or (name_refusal c dev owner) (why owner x)) (table_plan f)))
-      (λ owner. ruled (session_in c.sessions i) (λ x. unless (option_or (name_refusal c dev owner) (why owner x)) (table_plan f)) (λ x. one (option_or (name_refusal c dev owner) (why owner x)) (table_plan f) (table-kept f)))
+  loses : (n : ℕ) (o : Option Message) → P (on_message o (λ m. tables_plan (with_flight (messages.lost n)) [] (Done Alone)))
+  loses n None = refused (unknown OfMessage)
+  loses n (Some m) = tables-kept (λ ss. ss) (λ k. messages.lost n k.flight)
+
+  table-kept : (f : List Session → List Session) → P (table_plan f)
+  table-kept f = tables-kept f (λ k. k.flight)
+
+  owned-by : (dev : Option Name) (l i : ℕ) (f : ℕ → List Session → List Session) (g : ℕ → Session → Control → Flight) (why : ℕ → Session → Option Refusal)
+      → P (on_both c l i (λ owner x. unless (option_or (name_refusal c dev owner) (why owner x)) (tables_plan (λ k. record k { sessions = f owner k.sessions; flight = g owner x k }) [] (Done Alone))))
+  owned-by dev l i f g why =
+      let plan : ℕ → Session → Plan = (λ owner x. tables_plan (λ k. record k { sessions = f owner k.sessions; flight = g owner x k }) [] (Done Alone)) in
+      owned l (λ owner. on_session (session_in c.sessions i) (λ x. unless (option_or (name_refusal c dev owner) (why owner x)) (plan owner x)))
+      (λ owner. ruled (session_in c.sessions i) (λ x. unless (option_or (name_refusal c dev owner) (why owner x)) (plan owner x)) (λ x. one (option_or (name_refusal c dev owner) (why owner x)) (plan owner x) (tables-kept (f owner) (g owner x))))
 
   -- a volume that is defined is another one
   volume-kept : (x q tracks : ℕ) → P (unless (volume_refusal c x q tracks) (volume_done x q tracks))
@@ -364,15 +377,15 @@ module _ (v b s : ℕ) (base : List Event) (w : World) (k : Frozen v b s none ba
       calm-then v b s none base (raise_attempt_on m.a.0 n) _ (λ u j. choice u (nat_lt (fields_at u.control m.a.0).attempt n) (Do (Make (RaiseAttempt m.a.0 n))) Pass tt tt)
       (one-entry (raise_floor_on m.c.0 n) (λ u j. choice u (nat_lt (fields_at u.control m.c.0).floor n) (Do (Make (RaiseFloor m.c.0 n))) Pass tt tt))
 
-  sessions-last : (u : World) (ss : List Session) → K u → K (record u { control = record u.control { sessions = ss } })
-  sessions-last u ss j = record { rooted = record { there = j.rooted.there; busy = j.rooted.busy; server = j.rooted.server }; silent = record { waits = j.silent.waits; issued = j.silent.issued; old = j.silent.old; acked = j.silent.acked; elsewhere = j.silent.elsewhere } }
+  tables-last : (u : World) (ss : List Session) (f : Flight) → K u → K (record u { control = record u.control { sessions = ss; flight = f } })
+  tables-last u ss f j = record { rooted = record { there = j.rooted.there; busy = j.rooted.busy; server = j.rooted.server }; silent = record { waits = j.silent.waits; issued = j.silent.issued; old = j.silent.old; acked = j.silent.acked; elsewhere = j.silent.elsewhere } }
 
   target-kept : (i a y : ℕ) (x : Session) (o : Option ℕ) → P (add_target c i x a y o)
   target-kept i a y x None = refused (relation_state c y)
   target-kept i a y x (Some t) =
       let m : Member = member_with c a t in
       one (in_session (find (has_place_of m) c.sessions)) (added c i x m)
-      (tells (added c i x m) k.rooted refl refl (with-told w [] refl) refl (add-kept m (first_number c x.last m)) (λ q. empty) (λ u j. sessions-last u _ j))
+      (tells (added c i x m) k.rooted refl refl (with-told w [] refl) refl (add-kept m (first_number c x.last m)) (λ q. empty) (λ u j. tables-last u _ u.control.flight j))
 
   adds : (dev : Option Name) (l a i : ℕ) → P (add_plan c dev l a i)
   adds dev l a i = owned l _ (λ owner. volume-plan P refused c a (on_session (session_in c.sessions i) (λ x. unless (place_refusal c dev owner l a) (add_to c i x l a)))
@@ -383,7 +396,7 @@ module _ (v b s : ℕ) (base : List Event) (w : World) (k : Frozen v b s none ba
   found-kept : (i : ℕ) (x : Session) (o : Option Member) → P (expel_found c i x o)
   found-kept i x None = one (not_in_session i) (table_plan (λ ss. ss)) (table-kept (λ ss. ss))
   found-kept i x (Some m) = one (busy x.mirror) (expel_done c i m) (one (off_refusal c (c.volume m.c.0).server) (expelled i m)
-      (tells (expelled i m) k.rooted refl refl (with-told w [] refl) refl (moving (Leave m.c.0 m.a.0 i) [] tt empty) (λ q. empty) (λ u j. sessions-last u _ j)))
+      (tells (expelled i m) k.rooted refl refl (with-told w [] refl) refl (moving (Leave m.c.0 m.a.0 i) [] tt empty) (λ q. empty) (λ u j. tables-last u _ u.control.flight j)))
 
   expels : (dev : Option Name) (l a i : ℕ) → P (expel_plan c dev l a i)
   expels dev l a i = owned l _ (λ owner. volume-plan P refused c a (on_session (session_in c.sessions i) (λ x. unless (name_refusal c dev owner) (expel_found c i x (find (λ m. m.a.0 == a) x.members))))
@@ -396,8 +409,8 @@ module _ (v b s : ℕ) (base : List Event) (w : World) (k : Frozen v b s none ba
       tells (exchange_done i server reply ms (Some o)) k.rooted refl refl (with-told w [] refl) refl (calm-order v b s none base i o.number o.work ms) (λ q. empty) (by reply)
     where
       by : (reply : Bool) (u : World) → K u → K (record u { control = (exchange_done i server reply ms (Some o)).last u.control })
-      by true u j = sessions-last u ((exchange_done i server true ms (Some o)).last u.control).sessions j
-      by false u j = j
+      by true u j = tables-last u ((exchange_done i server true ms (Some o)).last u.control).sessions ((exchange_done i server true ms (Some o)).last u.control).flight j
+      by false u j = tables-last u u.control.sessions ((exchange_done i server false ms (Some o)).last u.control).flight j
 
   exchange-kept : (i server : ℕ) (m : Option Mirror) (reply : Bool) (ms : List Member) → P (exchange_on c i m server reply ms)
   exchange-kept i server None reply ms = refused (OutOfOrder phase.None)
@@ -550,19 +563,19 @@ module _ (v b s : ℕ) (base : List Event) (w : World) (k : Frozen v b s none ba
         (entries-kept _ (Done Alone) (calm-map v b s none base (flash_free_on l) (λ a u j. chosen u (is_held_in u.control l a) (Do (Make (FlashFree a))) Pass (λ h. tt) tt) c.volumes)))
     step-kept (MakeSession devs l i) stay = owned l (λ owner. unless (option_or (name_refusal c devs.dev owner) (option_or (off_refusal c owner) (join_refusal (session_in c.sessions i) l c.sessions))) (table_plan (joined i l)))
         (λ owner. one (option_or (name_refusal c devs.dev owner) (option_or (off_refusal c owner) (join_refusal (session_in c.sessions i) l c.sessions))) (table_plan (joined i l)) (table-kept (joined i l)))
-    step-kept (RemoveSession devs l i) stay = owned-by devs.dev l i (left i l) (λ owner x. leave_refusal (Some x) i l)
+    step-kept (RemoveSession devs l i) stay = owned-by devs.dev l i (λ owner. left i l) (λ owner x k. messages.left i l x k.flight) (λ owner x. leave_refusal (Some x) i l)
     step-kept (AddMember devs l a i) stay = adds devs.dev l a i
     step-kept (RemoveMember devs l a i) stay = expels devs.dev l a i
-    step-kept (MakeMirror devs l i cginterval coordinate drain) stay = owned l (λ owner. on_session (session_in c.sessions i) (λ x. unless (option_or (name_refusal c devs.dev owner) (option_or (outside_refusal x l) (option_or (off_refusal c owner) (make_refusal x.mirror)))) (table_plan (changed i (mirrored_by owner)))))
-        (λ owner. ruled (session_in c.sessions i) (λ x. unless (option_or (name_refusal c devs.dev owner) (option_or (outside_refusal x l) (option_or (off_refusal c owner) (make_refusal x.mirror)))) (table_plan (changed i (mirrored_by owner))))
-        (λ x. one (option_or (name_refusal c devs.dev owner) (option_or (outside_refusal x l) (option_or (off_refusal c owner) (make_refusal x.mirror)))) (table_plan (changed i (mirrored_by owner))) (table-kept (changed i (mirrored_by owner)))))
-    step-kept (PauseMirror devs l i) stay = owned-by devs.dev l i (changed i (paused true)) (λ owner x. option_or (outside_refusal x l) (master_refusal c x.mirror))
-    step-kept (ResumeMirror devs l i cginterval coordinate drain) stay = owned-by devs.dev l i (changed i (paused false)) (λ owner x. option_or (outside_refusal x l) (master_refusal c x.mirror))
-    step-kept (RemoveMirror devs l i) stay = owned-by devs.dev l i (changed i unmirrored) (λ owner x. option_or (outside_refusal x l) (option_or (master_refusal c x.mirror) (drop_refusal x.mirror)))
-    step-kept (Abort i) stay = ruled (session_in c.sessions i) (λ x. unless (option_or (abort_refusal x.mirror) (master_refusal c x.mirror)) (aborted i))
-        (λ x. one (option_or (abort_refusal x.mirror) (master_refusal c x.mirror)) (aborted i) (tells (aborted i) (stays _ refl refl) refl refl (with-told w [] refl) refl empty (λ q. empty) (λ u j. j)))
+    step-kept (MakeMirror devs l i cginterval coordinate drain) stay =
+        owned-by devs.dev l i (λ owner. changed i (mirrored_by owner)) (λ owner x k. messages.raised i k.flight) (λ owner x. option_or (outside_refusal x l) (option_or (off_refusal c owner) (make_refusal x.mirror)))
+    step-kept (PauseMirror devs l i) stay = owned-by devs.dev l i (λ owner. changed i (paused true)) (λ owner x k. k.flight) (λ owner x. option_or (outside_refusal x l) (master_refusal c x.mirror))
+    step-kept (ResumeMirror devs l i cginterval coordinate drain) stay = owned-by devs.dev l i (λ owner. changed i (paused false)) (λ owner x k. k.flight) (λ owner x. option_or (outside_refusal x l) (master_refusal c x.mirror))
+    step-kept (RemoveMirror devs l i) stay = owned-by devs.dev l i (λ owner. changed i unmirrored) (λ owner x k. k.flight) (λ owner x. option_or (outside_refusal x l) (option_or (master_refusal c x.mirror) (drop_refusal x.mirror)))
+    step-kept (Abort i) stay = ruled (session_in c.sessions i) (λ x. unless (option_or (abort_refusal x.mirror) (master_refusal c x.mirror)) (aborted i x.mirror))
+        (λ x. one (option_or (abort_refusal x.mirror) (master_refusal c x.mirror)) (aborted i x.mirror) (tells (aborted i x.mirror) (stays _ refl refl) refl refl (with-told w [] refl) refl empty (λ q. empty) (λ u j. j)))
     step-kept (Exchange i name reply) stay = ruled (session_in c.sessions i) (λ x. on_server c name (λ server. exchange_on c i x.mirror server reply x.members))
         (λ x. named (server_named c (name_bytes name)) (λ server. exchange_on c i x.mirror server reply x.members) (λ server. exchange-kept i server x.mirror reply x.members))
+    step-kept (Lose n) stay = loses n (message_in c.flight n)
     step-kept (Recover i) stay = recovers i
     step-kept (CommitFlash devs source sequence) stay = by-hand devs.dev lets_commit source
     step-kept (RevertFlash devs source sequence) stay = by-hand devs.dev lets_revert source

@@ -1,5 +1,5 @@
 -- No step says that it isn't built: no plan's answer does, none of its entries, and none that ends a line of groups.
-use Rattle.std.proofs.Common.{ℕ, ◌≡◌, refl, Bool, true, false, cond, not, ◌&&◌, ◌||◌, nat_eq, nat_lt, nat_le, List, Option, Some, None, Result, Ok, Err}
+use Rattle.std.proofs.Common.{ℕ, ◌≡◌, refl, Bool, true, false, cond, not, ◌&&◌, ◌||◌, nat_eq, nat_lt, nat_le, List, [], Option, Some, None, Result, Ok, Err}
 use Rattle.std.specs.Prelude.{length, is_some, option_map, ◌+◌, ◌==◌}
 use Rattle.std.specs.List.{find, list_any}
 use Rattle.std.specs.Option.{option_or}
@@ -13,12 +13,13 @@ use Rattle.dr_ids.specs.declared.refusal.Refusal.TheVariants.{OutOfOrder}
 use Rattle.dr_model.specs.declared.event.Event.{Event}
 use Rattle.dr_model.specs.declared.said.Said.{Said}
 use Rattle.dr_model.specs.declared.said.Said.TheVariants.{Done, Refused, Held}
+use Rattle.dr_model.specs.declared.said.Addition.TheVariants.{Alone}
 use Rattle.dr_model.specs.declared.said.Addition.TheVariants.{Wrote}
 use Rattle.dr_model.specs.declared.state.Part.TheVariants.{Global}
 use Rattle.dr_model.specs.declared.step.Name.{Name}
 use Rattle.dr_model.specs.declared.step.Devs.{Devs}
 use Rattle.dr_model.specs.declared.step.Step.{Step}
-use Rattle.dr_model.specs.declared.step.Step.TheVariants.{Server, Volume, Link, Stop, StopAfter, Start, Issue, Write, Apply, Show, MakeFlash, RemoveFlash, ResyncFlash, ReverseFlash, Copy, Destage, MakePath, RemovePath, MakePair, RemovePair, PausePair, ResumePair, Failover, Failback, Drain, Expire, Freeze, Unfreeze, MakeSession, RemoveSession, AddMember, RemoveMember, MakeMirror, PauseMirror, ResumeMirror, RemoveMirror, Abort, Exchange, Recover, CommitFlash, RevertFlash, ListPairs, ListFlashes, ListSession, ShowMirror, UnfreezeFlash}
+use Rattle.dr_model.specs.declared.step.Step.TheVariants.{Server, Volume, Link, Stop, StopAfter, Start, Issue, Write, Apply, Show, MakeFlash, RemoveFlash, ResyncFlash, ReverseFlash, Copy, Destage, MakePath, RemovePath, MakePair, RemovePair, PausePair, ResumePair, Failover, Failback, Drain, Expire, Freeze, Unfreeze, MakeSession, RemoveSession, AddMember, RemoveMember, MakeMirror, PauseMirror, ResumeMirror, RemoveMirror, Abort, Exchange, Lose, Recover, CommitFlash, RevertFlash, ListPairs, ListFlashes, ListSession, ShowMirror, UnfreezeFlash}
 use Rattle.dr_model.specs.Layout.{is_part}
 use Rattle.dr_model.specs.Limits.{most_servers, most_volumes, most_tracks, most_pending}
 use Rattle.dr_model.specs.Refusals.{server_off, unknown}
@@ -29,13 +30,15 @@ use Rattle.dr_model.specs.Moves.{is_write}
 use Rattle.dr_model.specs.PairEntries.{link_down, first_active}
 use Rattle.dr_model.specs.Pairs.{is_kind}
 use Rattle.dr_model.specs.Phases as phases
-use Rattle.dr_model.specs.Sessions.{Session, Mirror, members_in, changed, mirrored_by, paused, unmirrored, session_in, in_session, is_member, has_subsystem, has_member_in, is_only, has_place_of, formation, unless_idle, busy, join_refusal, leave_refusal, last_refusal, make_refusal, drop_refusal, abort_refusal}
+use Rattle.dr_model.specs.Sessions.{Session, Mirror, members_in, changed, paused, unmirrored, session_in, in_session, is_member, has_subsystem, has_member_in, is_only, has_place_of, formation, unless_idle, busy, join_refusal, leave_refusal, last_refusal, make_refusal, drop_refusal, abort_refusal}
 use Rattle.dr_model.specs.SessionEntries.{members_on}
-use Rattle.dr_model.specs.SessionPlans.{table_plan, on_both, join_plan, leave_plan, mirror_plan, pause_mirror_plan, unmirror_plan, abort_plan, add_plan, expel_plan, exchange_plan, member_target, member_with, name_refusal, off_refusal, outside_refusal, master_refusal, place_refusal, taken_refusal, copy_refusal, add_target, add_to, expel_found, exchange_refusal, phase_refusal, is_idle, exchange_done, exchange_on, order_of, mirror_phase, session_phase}
+use Rattle.dr_model.specs.Messages.{Message, message_in, lost}
+use Rattle.dr_model.specs.MessagePlans.{with_flight, on_message}
+use Rattle.dr_model.specs.SessionPlans.{with_sessions, appointed, on_both, join_plan, leave_plan, mirror_plan, pause_mirror_plan, unmirror_plan, abort_plan, add_plan, expel_plan, exchange_plan, member_target, member_with, name_refusal, off_refusal, outside_refusal, master_refusal, place_refusal, taken_refusal, copy_refusal, add_target, add_to, expel_found, exchange_refusal, phase_refusal, is_idle, exchange_done, exchange_on, order_of, mirror_phase, session_phase}
 use Rattle.dr_model.specs.RecoveryPlans.{recover_plan, settle_plan, secondary_refusal, untaken_refusal, settle_refusal, lets_commit, lets_revert, settle_member, settle_target, decided_in, group_of, says_group, member_of_target, revertible_target}
 use Rattle.dr_model.specs.WriteEntries.{says_written, waits}
 use Rattle.dr_model.specs.Listings.{listing_refusal}
-use Rattle.dr_model.specs.Plans.{Plan, plan, plan_of, has_room, unless, on_named, on_owner, on_session, server_named, server_refusal, volume_refusal, is_foreign, track_refusal, issue_refusal, show_refusal, apply_on, stop_on, start_on, expire_on, says_acked, landed_on, path_refusal, unpath_refusal, freeze_refusal, thaw_refusal, is_named, is_owner, name_bytes, owner_of, release_refusal, release_done}
+use Rattle.dr_model.specs.Plans.{Plan, tables_plan, plan, plan_of, has_room, unless, on_named, on_owner, on_session, server_named, server_refusal, volume_refusal, is_foreign, track_refusal, issue_refusal, show_refusal, apply_on, stop_on, start_on, expire_on, says_acked, landed_on, path_refusal, unpath_refusal, freeze_refusal, thaw_refusal, is_named, is_owner, name_bytes, owner_of, release_refusal, release_done}
 use Rattle.dr_laws_sound.proofs.StopsTold.{is_calm}
 use Rattle.dr_laws_sound.proofs.CalmPlans.{Mild, mild-none, mild-some, mild-choice, mild-or, session-mild, send-mild, secondary-mild, forbidden-mild}
 
@@ -75,6 +78,10 @@ owner-answers (Some s) p go = go s
 session-answers : (o : Option Session) (p : Session → Plan) → ((x : Session) → Answers (p x)) → Answers (on_session o p)
 session-answers None p go = λ k. refl
 session-answers (Some x) p go = go x
+
+lose-answers : (n : ℕ) (o : Option Message) → Answers (on_message o (λ m. tables_plan (with_flight (lost n)) [] (Done Alone)))
+lose-answers n None = λ k. refl
+lose-answers n (Some m) = λ k. refl
 
 -- ---- what is said as plans end
 
@@ -245,20 +252,20 @@ module _ (k : Control) where
   leave-answers dev l s = both-answers l s _ (λ owner x. unless-answers (option_or (name_refusal k dev owner) (leave_refusal (Some x) s l)) _ (mild-or (name_refusal k dev owner) _ (name-mild dev owner) (leave-mild x s l)) (λ j. refl))
 
   -- named, in its session, and then another test
-  master-answers : (dev : Option Name) (l s : ℕ) (f : ℕ → Session → List Session → List Session) (why : ℕ → Session → Option Refusal) → ((owner : ℕ) (x : Session) → Mild (why owner x))
-      → Answers (on_both k l s (λ owner x. unless (option_or (name_refusal k dev owner) (option_or (outside_refusal x l) (why owner x))) (table_plan (f owner x))))
-  master-answers dev l s f why mild = both-answers l s _ (λ owner x.
-      unless-answers (option_or (name_refusal k dev owner) (option_or (outside_refusal x l) (why owner x))) (table_plan (f owner x))
+  master-answers : (dev : Option Name) (l s : ℕ) (first : ℕ → Session → Control → Control) (why : ℕ → Session → Option Refusal) → ((owner : ℕ) (x : Session) → Mild (why owner x))
+      → Answers (on_both k l s (λ owner x. unless (option_or (name_refusal k dev owner) (option_or (outside_refusal x l) (why owner x))) (tables_plan (first owner x) [] (Done Alone))))
+  master-answers dev l s first why mild = both-answers l s _ (λ owner x.
+      unless-answers (option_or (name_refusal k dev owner) (option_or (outside_refusal x l) (why owner x))) (tables_plan (first owner x) [] (Done Alone))
       (mild-or (name_refusal k dev owner) _ (name-mild dev owner) (mild-or (outside_refusal x l) _ (outside-mild x l) (mild owner x))) (λ j. refl))
 
   mirror-answers : (dev : Option Name) (l s : ℕ) → Answers (mirror_plan k dev l s)
-  mirror-answers dev l s = master-answers dev l s (λ owner x. changed s (mirrored_by owner)) (λ owner x. option_or (off_refusal k owner) (make_refusal x.mirror)) (λ owner x. mild-or (off_refusal k owner) _ (off-mild owner) (make-mild x.mirror))
+  mirror-answers dev l s = master-answers dev l s (λ owner x. appointed s owner) (λ owner x. option_or (off_refusal k owner) (make_refusal x.mirror)) (λ owner x. mild-or (off_refusal k owner) _ (off-mild owner) (make-mild x.mirror))
 
   pause-answers : (dev : Option Name) (l s : ℕ) (on : Bool) → Answers (pause_mirror_plan k dev l s on)
-  pause-answers dev l s on = master-answers dev l s (λ owner x. changed s (paused on)) (λ owner x. master_refusal k x.mirror) (λ owner x. master-mild x.mirror)
+  pause-answers dev l s on = master-answers dev l s (λ owner x. with_sessions (changed s (paused on))) (λ owner x. master_refusal k x.mirror) (λ owner x. master-mild x.mirror)
 
   unmirror-answers : (dev : Option Name) (l s : ℕ) → Answers (unmirror_plan k dev l s)
-  unmirror-answers dev l s = master-answers dev l s (λ owner x. changed s unmirrored) (λ owner x. option_or (master_refusal k x.mirror) (drop_refusal x.mirror)) (λ owner x. mild-or (master_refusal k x.mirror) _ (master-mild x.mirror) (drop-mild x.mirror))
+  unmirror-answers dev l s = master-answers dev l s (λ owner x. with_sessions (changed s unmirrored)) (λ owner x. option_or (master_refusal k x.mirror) (drop_refusal x.mirror)) (λ owner x. mild-or (master_refusal k x.mirror) _ (master-mild x.mirror) (drop-mild x.mirror))
 
   abort-answers : (s : ℕ) → Answers (abort_plan k s)
   abort-answers s = session-answers (session_in k.sessions s) _ (λ x. unless-answers (option_or (abort_refusal x.mirror) (master_refusal k x.mirror)) _ (mild-or (abort_refusal x.mirror) _ (abort-mild x.mirror) (master-mild x.mirror)) (λ j. phase-calm (session_in j.sessions s)))
@@ -350,6 +357,7 @@ module _ (k : Control) where
     of-answers (RemoveMirror devs l s) = unmirror-answers devs.dev l s
     of-answers (Abort s) = abort-answers s
     of-answers (Exchange s name reply) = exchange-said s name reply
+    of-answers (Lose n) = lose-answers n (message_in k.flight n)
     of-answers (Recover s) = recover-answers s
     of-answers (CommitFlash devs source sequence) = settle-answers devs.dev lets_commit source
     of-answers (RevertFlash devs source sequence) = settle-answers devs.dev lets_revert source

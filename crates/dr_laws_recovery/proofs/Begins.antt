@@ -18,6 +18,7 @@ use Rattle.dr_model.specs.Runs.{Task, run}
 use Rattle.dr_facts.proofs.Lists.{in-first, in-second}
 use Rattle.dr_laws_sessions.specs.Frames.{Became}
 use Rattle.dr_laws_sessions.proofs.Changes.{same-session, changed-in}
+use Rattle.dr_laws_attempts.proofs.Dues.{hold-phase}
 use Rattle.dr_laws_cuts.specs.Once.{NoCuts}
 use Rattle.dr_laws_cuts.proofs.Told.{told-quiet, stop-quiet}
 use Rattle.dr_laws_closed.proofs.Begun.{begun-quiet, begun-cut, begun-opened, none-cut}
@@ -72,7 +73,7 @@ begun-not w x f k = begun-told w (not_done w x f) (Stopped x 0 ∷ []) refl refl
 hold-begun : (w : World) (m : Move) → May w m → Begun w → HoldBegun w.events m
 hold-begun w (Hold v s n first) may k =
     let h : HoldsMember w.control v s n = may.group.0 in
-    let there : In (Begin h.place.session.number h.place.session.last) w.events = k.forming h.place.session h.place.member h.place.listed h.place.here (ap phase_of h.place.has_master ∙ h.coordinates) in
+    let there : In (Begin h.place.session.number h.place.session.last) w.events = k.forming h.place.session h.place.member h.place.listed h.place.here (hold-phase h.place.session h.place.member.server.0 n h.due) in
     subst (λ i. In (Begin i n) w.events) h.place.number (subst (λ i. In (Begin h.place.session.number i) w.events) (sym h.last) there)
 hold-begun w m may k = tt
 

@@ -17,8 +17,9 @@ use Rattle.dr_model.specs.Carry.{Act, Make, OpenAttempt, Next, Pass, Do, End, En
 use Rattle.dr_model.specs.Entries.{fields_at}
 use Rattle.dr_model.specs.PairEntries.{send_refusal, reach_refusal, end_if, refuse_if}
 use Rattle.dr_model.specs.SessionEntries.{last_of, hold_refusal, stale_refusal, hold_on, void_refusal, free_on, is_drained, seal_refusal, seal_on, is_flashed, flash_refusal, flash_on, is_committed, commit_refusal, commit_on, revert_on, is_past, finish_on, member_entries, members_on, order_entries}
-use Rattle.dr_model.specs.SessionPlans.{answered_by, exchange_refusal, order_of, exchange_done, exchange_on, asking, exchange_plan}
-use Rattle.dr_model.specs.PlanParts.{Plan, same, refuses, on_session, on_named, server_named, name_bytes}
+use Rattle.dr_model.specs.Messages.{Flight}
+use Rattle.dr_model.specs.SessionPlans.{exchanged, exchange_refusal, order_of, exchange_done, exchange_on, asking, exchange_plan}
+use Rattle.dr_model.specs.PlanParts.{Plan, refuses, on_session, on_named, server_named, name_bytes}
 use Rattle.dr_model.specs.Groups.{In}
 use Rattle.dr_model.specs.Laws.{Sound}
 use Rattle.dr_laws_sessions.proofs.Silent.{on-members}
@@ -45,8 +46,8 @@ pub record FitsMember (Holds : World → Type 0) (Fit : Act → Type 0) (s : ℕ
   pub reverts : (u : World) → Holds u → send_refusal q.a.0 q.b.0 u.control ≡ None → (n : ℕ) → Fit (Make (Revert q.c.0 q.a.0 s n))
   pub raises : (u : World) → Holds u → send_refusal q.a.0 q.b.0 u.control ≡ None → (n : ℕ) → Fit (Make (RaiseFloor q.c.0 n))
 
--- What is to be shown of a law, so that it holds along each exchange: acts that fit keep it, and it says nothing of the table of
--- sessions where W is read off it.
+-- What is to be shown of a law, so that it holds along each exchange: acts that fit keep it, and it says nothing of the tables of
+-- sessions and messages where W is read off it.
 pub record Exchanging (w : World) (W : World → Type 0) : Type 1 where
   pub law : World → Type 0
   pub fit : Act → Type 0
@@ -55,7 +56,7 @@ pub record Exchanging (w : World) (W : World → Type 0) : Type 1 where
   pub members : (s : ℕ) (y : Session) → session_in w.control.sessions s ≡ Some y → (q : Member) → In q y.members → FitsMember law fit s q
   pub gives : (v : World) → law v → W v
   pub told : (v : World) (on : ℕ → Bool) (es : List Event) → W v → W (record v { control = record v.control { on = on }; events = es })
-  pub regroups : (v : World) (ss : List Session) → W v → W (record v { control = record v.control { sessions = ss } })
+  pub regroups : (v : World) (ss : List Session) (f : Flight) → W v → W (record v { control = record v.control { sessions = ss; flight = f } })
 
 module _ (w : World) (sound : Sound w) (W : World → Type 0) (x : Exchanging w W) where
   abbrev I : World → Type 0
@@ -175,9 +176,9 @@ module _ (w : World) (sound : Sound w) (W : World → Type 0) (x : Exchanging w 
   refuse : (r : Refusal) → GoesOn (refuses r)
   refuse = refused-goes w W keeping
 
-  reply-last : (reply : Bool) (s server : ℕ) (work : phases.Work) (ms : List Member) (v : World) → W v → W (record v { control = (cond reply (answered_by s server work ms) same) v.control })
-  reply-last true s server work ms v h = x.regroups v _ h
-  reply-last false s server work ms v h = h
+  reply-last : (reply : Bool) (s server : ℕ) (work : phases.Work) (ms : List Member) (v : World) → W v → W (record v { control = exchanged s server reply work ms v.control })
+  reply-last true s server work ms v h = x.regroups v _ _ h
+  reply-last false s server work ms v h = x.regroups v v.control.sessions _ h
 
   module _ (s server : ℕ) (reply : Bool) (y : Session) (found : session_in w.control.sessions s ≡ Some y) where
     ordered-goes : (r : Mirror) (o : phases.Order) → Ordered w.control s server y r o → GoesOn (ordered s server reply (members_on server y.members) o)

@@ -12,6 +12,7 @@ use Rattle.dr_model.specs.declared.event.Event.{Event}
 use Rattle.dr_model.specs.Histories.{histories}
 use Rattle.dr_model.specs.Layout.{Fields}
 use Rattle.dr_model.specs.Decisions.{Shown, decision}
+use Rattle.dr_model.specs.Messages.{Flight}
 use Rattle.dr_model.specs.Control.{Fuse, Pending, Volume, World}
 use Rattle.dr_model.specs.Relations.{committed, reverted}
 use Rattle.dr_model.specs.Pairs.{taken_over}
@@ -77,9 +78,9 @@ module _ (w : World) (s : ℕ) where
   pub keeps-recovery : (u : World) → Keeps u → SameRecovery (sizes w.control) (recovered_in w s) (recovered_in u s)
   keeps-recovery u k = recovery-same s (reverts u) (reverts w) w u k.volumes k.decides k.alike
 
-  -- whatever servers are on, writes wait and the journal is told
-  pub keeps-told : (u : World) (on : ℕ → Bool) (fuse : ℕ → Option Fuse) (pending : List Pending) (events : List Event) → Keeps u → Keeps (record u { control = record u.control { on = on; fuse = fuse; pending = pending }; events = events })
-  keeps-told u on fuse pending events k = record {
+  -- whatever servers are on, writes wait, messages are in flight and the journal is told
+  pub keeps-told : (u : World) (on : ℕ → Bool) (fuse : ℕ → Option Fuse) (pending : List Pending) (flight : Flight) (events : List Event) → Keeps u → Keeps (record u { control = record u.control { on = on; fuse = fuse; pending = pending; flight = flight }; events = events })
+  keeps-told u on fuse pending flight events k = record {
     volumes = k.volumes;
     sessions = k.sessions;
     plain = k.plain;
@@ -205,7 +206,7 @@ module _ (w : World) (s : ℕ) where
   -- ---- the acts
 
   acts : Rides Sound Keeps MayRecover
-  acts = record { does = does; counts = counts; opens = λ u v i n f j k may. absurd may.1; fails = λ u a f d j k may. keeps-told u _ _ _ _ k }
+  acts = record { does = does; counts = counts; opens = λ u v i n f j k may. absurd may.1; fails = λ u a f d j k may. keeps-told u _ _ _ _ _ k }
     where
       does : (u : World) (a : Act) (f : Option Fuse) → Sound u → Keeps u → MayRecover u a → Keeps (after_act u a f)
       does u (Make m) f j k may = keeps-moved u (done u m f) j (sound-done None u m f j may.0) refl k m may.0 may.1 (table-done u j.rows.structure m f j.rows.images.blank may.0.allowed may.0.ready) (record { volumes = refl; keeps = keeps_staged m; volume = refl })
@@ -215,7 +216,7 @@ module _ (w : World) (s : ℕ) where
       does u (Drop n) f j k may = absurd may.1
       does u (EndFreeze l m) f j k may = absurd may.1
       does u (EndThaw l m) f j k may = absurd may.1
-      does u (EndRecovery i n) f j k may = keeps-told u _ _ _ _ k
+      does u (EndRecovery i n) f j k may = keeps-told u _ _ _ _ _ k
 
       counts : (u : World) (m : Move) (f : Option Fuse) → Sound u → Keeps u → MayRecover u (Make m) → Keeps (done_in_stop u m f)
       counts u m f j k may = keeps-moved u (done_in_stop u m f) j (sound-stop None u m f j may.0) refl k m may.0 may.1 (table-stop u j.rows.structure m f j.rows.images.blank may.0.allowed may.0.ready) (record { volumes = refl; keeps = keeps_staged m; volume = refl })
@@ -247,7 +248,7 @@ module _ (w : World) (sound : Sound w) (s : ℕ) where
   each-act = keeps-fit (Keeps w s) (λ u. Fit w s) (acts w s)
 
   pub begins : Inner (as_begun w)
-  begins = (sound-begun w sound, keeps-told w s w w.control.on w.control.fuse w.control.pending (w.events ++ []) (keeps-begin w s))
+  begins = (sound-begun w sound, keeps-told w s w w.control.on w.control.fuse w.control.pending w.control.flight (w.events ++ []) (keeps-begin w s))
 
   -- wherever a plan comes to, another recovery makes the same, where its entries do what was decided
   abbrev pub Same : World → Type 0

@@ -33,14 +33,14 @@ module _ (w : World) (sound : Sound w) (x s : ℕ) where
       j.sound.rows j.sound.attempts m.allowed refl refl refl refl (λ n. n) (λ t. refl)
 
   start-acts : Rides (starts.Inner x) (Keeps w s) (starts.MayStart x)
-  start-acts = record { does = does; counts = counts; opens = λ u v i n f j k may. absurd may; fails = λ u a f d j k may. keeps-told w s u _ _ _ _ k }
+  start-acts = record { does = does; counts = counts; opens = λ u v i n f j k may. absurd may; fails = λ u a f d j k may. keeps-told w s u _ _ _ _ _ k }
     where
       does : (u : World) (a : Act) (f : Option Fuse) → starts.Inner x u → Keeps w s u → starts.MayStart x u a → Keeps w s (after_act u a f)
       does u (Make (Restart v)) f j k may = restart-done u v f j k may
       does u (Make m) f j k may = absurd may
       does u (OpenAttempt v i n) f j k may = absurd may
-      does u (Redo v) f j k may = keeps-told w s u _ _ _ _ k
-      does u (Acknowledge n) f j k may = keeps-told w s u _ _ _ _ k
+      does u (Redo v) f j k may = keeps-told w s u _ _ _ _ _ k
+      does u (Acknowledge n) f j k may = keeps-told w s u _ _ _ _ _ k
       does u (Drop n) f j k may = absurd may
       does u (EndFreeze l m) f j k may = absurd may
       does u (EndThaw l m) f j k may = absurd may
@@ -54,7 +54,7 @@ module _ (w : World) (sound : Sound w) (x s : ℕ) where
   first = begun w (start_plan w.control x)
 
   begins : Both (starts.Inner x) (Keeps w s) first
-  begins = (starts.begins x w sound, keeps-told w s w (starting x w.control).on (starting x w.control).fuse w.control.pending (w.events ++ Started x ∷ []) (keeps-begin w s))
+  begins = (starts.begins x w sound, keeps-told w s w (starting x w.control).on (starting x w.control).fuse w.control.pending (starting x w.control).flight (w.events ++ Started x ∷ []) (keeps-begin w s))
 
   abbrev I : World → Type 0
   I = Both Sound (Keeps w s)
@@ -85,6 +85,6 @@ module _ (w : World) (sound : Sound w) (x s : ℕ) where
   start-keeps = record {
     moments = moment;
     reads = λ armed u r e. keeps-recovery w s u (along.ends-weaker (Both (starts.Inner x) (Keeps w s)) I I (Keeps w s) (starts.MayStart x) (λ v j. j.1) (λ v j. j.1) (λ v j. j.1) acts armed
-        (λ v q j on is. keeps-told w s v _ _ _ _ j.1) u r first (start_plan w.control x).entries begins goes e);
+        (λ v q j on is. keeps-told w s v _ _ _ _ _ j.1) u r first (start_plan w.control x).entries begins goes e);
     after = after;
   }

@@ -28,7 +28,7 @@ use Rattle.dr_model.specs.Entries.{fields_at, is_running}
 use Rattle.dr_model.specs.PairEntries.{has_path, reach_refusal, send_refusal, end_if, refuse_if}
 use Rattle.dr_model.specs.Sessions.{Session, Mirror, session_in, mirror_in, members_in, servers_of, no_master, with_master}
 use Rattle.dr_model.specs.SessionEntries.{is_flashed, is_committed, is_past, commit_refusal, commit_on, finish_on, member_entries, members_on, order_entries, reply_after}
-use Rattle.dr_model.specs.SessionPlans.{is_idle, exchange_refusal, order_of, answered_by, exchange_done, exchange_on, asking, says_phase, session_phase, mirror_phase}
+use Rattle.dr_model.specs.SessionPlans.{is_idle, exchange_refusal, order_of, exchanged, exchange_done, exchange_on, asking, says_phase, session_phase, mirror_phase}
 use Rattle.dr_model.specs.PlanParts.{Plan, none_follow, unless, only_says}
 use Rattle.dr_model.specs.Plans.{has_room}
 use Rattle.dr_model.specs.Carried.{masters_lost, after_plan}
@@ -58,7 +58,8 @@ use Rattle.dr_laws_sound.proofs.Steps.{sound-run, sound-task}
 use Rattle.dr_laws_sound.proofs.Riders.{rides-task}
 use Rattle.dr_laws_recovery.specs.Formed.{SaysNewest, RunForms, FormedIsFound}
 use Rattle.dr_laws_recovery.proofs.CountedAlong.{Counts, counts-ride, counts-run}
-use Rattle.dr_laws_recovery.proofs.Went.{Fine, AllFine, fine-none, fine-then, fine-append, fine-choice, carry-keeps, Split, carry-split, lost-none, Went, part-went, goes-onward}
+use Rattle.dr_facts.proofs.Sessions.{lost-none}
+use Rattle.dr_laws_recovery.proofs.Went.{Fine, AllFine, fine-none, fine-then, fine-append, fine-choice, carry-keeps, Split, carry-split, Went, part-went, goes-onward}
 use Rattle.dr_laws_recovery.proofs.TurnsEnd.{refused-part, Exchanged, Asks, asks-by, turn-done}
 use Rattle.dr_model.proofs.CarryLemmas.{carry-none, carry-first}
 use Rattle.dr_logic.proofs.Truth.{false_true}
@@ -184,7 +185,7 @@ module _ (i n : ℕ) (m : Member) (ms : List Member) (w v : World) (together : (
 record Worked (w : World) (i server : ℕ) (x : Session) (r : Mirror) (work : phases.Work) (u : World) : Type 0 where
   v : World
   leads : carry (as_begun w) (order_entries work i r.master.number (members_on server x.members)) ≡ (v, None)
-  is : u ≡ record v { control = answered_by i server work (members_on server x.members) v.control }
+  is : u ≡ record v { control = exchanged i server true work (members_on server x.members) v.control }
   owed : phases.is_among server r.master.owed ≡ true
 
 -- the order of a phase
@@ -206,12 +207,12 @@ module _ (w : World) (i server : ℕ) (x : Session) (r : Mirror) (found : sessio
   worked-by None None ordered none = refused-part w (OutOfOrder phase.None) none
   worked-by None (Some o) ordered none =
       let e = order-in work r.master.phase (phases.is_among server r.master.owed) r.master.number busy does plain o ordered in
-      let here : Went w (order_entries o.work i o.number ms) none_follow (answered_by i server o.work ms) (says_phase i) (λ k. refl) (part w (exchange_done i server true ms (Some o))).world =
-      part-went w (order_entries o.work i o.number ms) none_follow (answered_by i server o.work ms) (says_phase i) (λ k. refl) none in
+      let here : Went w (order_entries o.work i o.number ms) none_follow (exchanged i server true o.work ms) (says_phase i) (λ k. refl) (part w (exchange_done i server true ms (Some o))).world =
+      part-went w (order_entries o.work i o.number ms) none_follow (exchanged i server true o.work ms) (says_phase i) (λ k. refl) none in
       record {
         v = here.led;
         leads = ap (λ (o : phases.Order). carry (as_begun w) (order_entries o.work i o.number ms)) e.0 ∙ here.leads;
-        is = here.is ∙ ap (λ (o : phases.Order). record here.led { control = answered_by i server o.work ms here.led.control }) (sym e.0);
+        is = here.is ∙ ap (λ (o : phases.Order). record here.led { control = exchanged i server true o.work ms here.led.control }) (sym e.0);
         owed = e.1;
       }
 

@@ -20,7 +20,7 @@ use Rattle.dr_model.specs.declared.step.Name.{Name}
 use Rattle.dr_model.specs.declared.step.Devs.{Devs}
 use Rattle.dr_model.specs.declared.step.PairChoices.{PairChoices}
 use Rattle.dr_model.specs.declared.step.Step.{Step}
-use Rattle.dr_model.specs.declared.step.Step.TheVariants.{Server, Volume, Link, Stop, StopAfter, Start, Issue, Write, Apply, Show, MakeFlash, RemoveFlash, ResyncFlash, ReverseFlash, Copy, Destage, MakePath, RemovePath, MakePair, RemovePair, PausePair, ResumePair, Failover, Failback, Compare, Drain, Expire, Freeze, Unfreeze, MakeSession, RemoveSession, AddMember, RemoveMember, MakeMirror, PauseMirror, ResumeMirror, RemoveMirror, Abort, Exchange, Recover, CommitFlash, RevertFlash, Image, ListPairs, ListFlashes, ListSession, ShowMirror, UnfreezeFlash}
+use Rattle.dr_model.specs.declared.step.Step.TheVariants.{Server, Volume, Link, Stop, StopAfter, Start, Issue, Write, Apply, Show, MakeFlash, RemoveFlash, ResyncFlash, ReverseFlash, Copy, Destage, MakePath, RemovePath, MakePair, RemovePair, PausePair, ResumePair, Failover, Failback, Compare, Drain, Expire, Freeze, Unfreeze, MakeSession, RemoveSession, AddMember, RemoveMember, MakeMirror, PauseMirror, ResumeMirror, RemoveMirror, Abort, Exchange, Lose, Recover, CommitFlash, RevertFlash, Image, ListPairs, ListFlashes, ListSession, ShowMirror, UnfreezeFlash}
 use Rattle.dr_model.specs.Layout.{Fields, is_part, kind_of}
 use Rattle.dr_model.specs.Control.{Control, Pending, World}
 use Rattle.dr_model.specs.Contents.{image_at}
@@ -33,15 +33,17 @@ use Rattle.dr_model.specs.Entries.{fields_at, is_at, copy_first, is_running, low
 use Rattle.dr_model.specs.PairEntries.{reach_refusal, two_servers, stands_free, may_follow, differs_at, first_differing, leads_to, belongs_to, are_linked, let_go, remove_both, may_pause, tell_paused, may_resume, follow_on, resume_on, send_refusal, suspend_where, store_on, strike_on, is_copying, tracks_to_send, suspend_running, suspend_after, may_take_over, leads_as, fall_back_on, yield_on}
 use Rattle.dr_model.specs.WriteEntries.{partner_of, is_grouped, land_mirrored, land_parted, is_parted, land_over, sends_first, where_sent, send_first, land_collided, land_entries, landing, part_running, part_after, after_write, is_between, freeze_on, end_freeze, thaw_on, end_thaw, belongs, lift_on, redo_on, restart_on, start_entries, flash_hold_on, flash_free_on, is_held_in}
 use Rattle.dr_model.specs.Phases as phases
-use Rattle.dr_model.specs.Sessions.{Session, Mirror as SessionMirror, session_in, members_in, has_place_of, in_session, not_in_session, busy, joined, left, changed, mirrored_by, paused, unmirrored, with_master}
+use Rattle.dr_model.specs.Sessions.{Session, Mirror as SessionMirror, session_in, members_in, has_place_of, in_session, not_in_session, busy, joined, changed, paused, unmirrored}
 use Rattle.dr_model.specs.SessionEntries.{members_on, is_on, raise_attempt_on, raise_floor_on, is_flashed, first_number}
-use Rattle.dr_model.specs.SessionPlans.{with_sessions, table_plan, name_refusal, off_refusal, place_refusal, exchange_refusal, order_of, exchange_done, exchange_on, exchange_plan, on_volume, add_done, add_target, add_to, add_plan, expel_done, expel_found, expel_plan, member_target, member_with, says_phase}
+use Rattle.dr_model.specs.Messages.{Message, message_in, lost}
+use Rattle.dr_model.specs.MessagePlans.{with_flight, on_message}
+use Rattle.dr_model.specs.SessionPlans.{with_sessions, table_plan, leaving, appointed, aborting, name_refusal, off_refusal, place_refusal, exchange_refusal, order_of, exchange_done, exchange_on, exchange_plan, on_volume, add_done, add_target, add_to, add_plan, expel_done, expel_found, expel_plan, member_target, member_with, says_phase}
 use Rattle.dr_model.specs.RecoveryPlans.{decided_in, secondary_refusal, forbidden_unless, lets_commit, lets_revert, take_over_on, settle_on, end_recovery, recover_done, recover_plan, member_of_target, revertible_target, settle_refusal, settle_member, settle_target, settle_plan, untaken_refusal}
 use Rattle.dr_ids.specs.declared.refusal.Refusal.TheVariants.{OutOfOrder}
 use Rattle.dr_ids.specs.declared.refusal.PhaseName.TheVariants as phase
-use Rattle.dr_ids.specs.declared.refusal.Kind.TheVariants.{Server as OfServer, Volume as OfVolume, Lss as OfLss, Session as OfSession}
+use Rattle.dr_ids.specs.declared.refusal.Kind.TheVariants.{Message as OfMessage, Server as OfServer, Volume as OfVolume, Lss as OfLss, Session as OfSession}
 use Rattle.dr_model.specs.Refusals.{unknown, duplicate, server_off}
-use Rattle.dr_model.specs.Plans.{Plan, same, none_follow, always, entries_plan, only_says, refuses, unless, on_named, on_server, name_bytes, server_named, on_owner, owner_of, on_session, server_refusal, server_done, volume_refusal, volume_done, link_between, link_done, issue_refusal, issue_done, write_done, apply_on, show_refusal, show_done, stop_on, stop_done, arm_on, start_on, start_plan, acknowledge_on, acknowledge_if, landed_on, expire_on, expire_plan, copy_plan, found_pair, found_volumes, is_defined, is_owner, differ, is_no_source, has_few_targets, is_plain_target, is_recorded_target, is_lone_restore, may_return, may_copy, may_give_back, at_most, left_to_copy, counted_refusal, restore_refusal, left_by, path_refusal, make_path_done, unpath_refusal, remove_path_done, freeze_refusal, freeze_done, thaw_refusal, unfreeze_done, make_pair_plan, remove_pair_plan, pause_pair_plan, resume_pair_plan, failover_plan, yield_refusal, failback_plan, member_refusal, drain_plan, plan_of, step_plan, has_room_for, has_room, compare_plan, hold_first, release_refusal, release_done, redo_now, destage_entries}
+use Rattle.dr_model.specs.Plans.{Plan, same, none_follow, always, entries_plan, tables_plan, only_says, refuses, unless, on_named, on_server, name_bytes, server_named, on_owner, owner_of, on_session, server_refusal, server_done, volume_refusal, volume_done, link_between, link_done, issue_refusal, issue_done, write_done, apply_on, show_refusal, show_done, stop_on, stop_done, arm_on, start_on, start_plan, acknowledge_on, acknowledge_if, landed_on, expire_on, expire_plan, copy_plan, found_pair, found_volumes, is_defined, is_owner, differ, is_no_source, has_few_targets, is_plain_target, is_recorded_target, is_lone_restore, may_return, may_copy, may_give_back, at_most, left_to_copy, counted_refusal, restore_refusal, left_by, path_refusal, make_path_done, unpath_refusal, remove_path_done, freeze_refusal, freeze_done, thaw_refusal, unfreeze_done, make_pair_plan, remove_pair_plan, pause_pair_plan, resume_pair_plan, failover_plan, yield_refusal, failback_plan, member_refusal, drain_plan, plan_of, step_plan, has_room_for, has_room, compare_plan, hold_first, release_refusal, release_done, redo_now, destage_entries}
 use Rattle.dr_model.specs.TakenWrites.{takes_from, sends_write, sends_pending, is_target_in}
 use Rattle.dr_facts.proofs.Lists.{found, from-filter, any-some}
 use Rattle.dr_facts.proofs.Parts.{global-part, metro-part}
@@ -255,6 +257,10 @@ module _ (w : World) (Q : ℕ → Type 0) where
   where-session : (o : Option Session) (p : Session → Plan) → ((x : Session) → o ≡ Some x → Tells (p x)) → Tells (on_session o p)
   where-session None p go = says-told (Refused (unknown OfSession))
   where-session (Some x) p go = go x refl
+
+  where-message : (n : ℕ) (o : Option Message) → Tells (on_message o (λ m. tables_plan (with_flight (lost n)) [] (Done Alone)))
+  where-message n None = says-told (Refused (unknown OfMessage))
+  where-message n (Some m) = tables-told _ _ _ tt
 
   where-volume : (v : ℕ) (p : Plan) → Tells p → Tells (on_volume k v p)
   where-volume v p go = if (is_defined v k) p (refuses (unknown OfVolume)) (λ h. go) (λ h. says-told (Refused (unknown OfVolume)))
@@ -529,15 +535,16 @@ module _ (w : World) (line : ℕ) where
   of-step (UnfreezeFlash devs l) = where-owned w _ (owner_of j l) (λ s. unless (release_refusal j devs.dev s) (release_done j l)) (λ s. where-none w _ (release_refusal j devs.dev s) (release_done j l) (λ free.
       entries-told w (MayTake j (UnfreezeFlash devs l)) _ _ (fair-map _ (flash_free_on l) (λ v k. choice _ k (is_held_in k l v) (Do (Make (FlashFree v))) Pass tt tt) j.volumes)))
   of-step (MakeSession devs l s) = where-owned w _ (owner_of j l) _ (λ owner. where-none w _ _ (table_plan (joined s l)) (λ free. table-told w _ (joined s l)))
-  of-step (RemoveSession devs l s) = where-owned w _ (owner_of j l) _ (λ owner. where-session w _ (session_in j.sessions s) _ (λ x is. where-none w _ _ (table_plan (left s l)) (λ free. table-told w _ (left s l))))
+  of-step (RemoveSession devs l s) = where-owned w _ (owner_of j l) _ (λ owner. where-session w _ (session_in j.sessions s) _ (λ x is. where-none w _ _ (tables_plan (leaving s l x) [] (Done Alone)) (λ free. tables-told w _ _ _ _ tt)))
   of-step (AddMember devs l a s) = add-fits (AddMember devs l a s) devs.dev l a s
   of-step (RemoveMember devs l a s) = expel-fits (RemoveMember devs l a s) devs.dev l a s
-  of-step (MakeMirror devs l s cginterval coordinate drain) = where-owned w _ (owner_of j l) _ (λ owner. where-session w _ (session_in j.sessions s) _ (λ x is. where-none w _ _ (table_plan (changed s (mirrored_by owner))) (λ free. table-told w _ _)))
+  of-step (MakeMirror devs l s cginterval coordinate drain) = where-owned w _ (owner_of j l) _ (λ owner. where-session w _ (session_in j.sessions s) _ (λ x is. where-none w _ _ (tables_plan (appointed s owner) [] (Done Alone)) (λ free. tables-told w _ _ _ _ tt)))
   of-step (PauseMirror devs l s) = where-owned w _ (owner_of j l) _ (λ owner. where-session w _ (session_in j.sessions s) _ (λ x is. where-none w _ _ (table_plan (changed s (paused true))) (λ free. table-told w _ _)))
   of-step (ResumeMirror devs l s cginterval coordinate drain) = where-owned w _ (owner_of j l) _ (λ owner. where-session w _ (session_in j.sessions s) _ (λ x is. where-none w _ _ (table_plan (changed s (paused false))) (λ free. table-told w _ _)))
   of-step (RemoveMirror devs l s) = where-owned w _ (owner_of j l) _ (λ owner. where-session w _ (session_in j.sessions s) _ (λ x is. where-none w _ _ (table_plan (changed s unmirrored)) (λ free. table-told w _ _)))
-  of-step (Abort s) = where-session w _ (session_in j.sessions s) _ (λ x is. where-none w _ _ (record (table_plan (changed s (with_master phases.aborted))) { says = says_phase s }) (λ free. tables-told w _ _ _ _ tt))
+  of-step (Abort s) = where-session w _ (session_in j.sessions s) _ (λ x is. where-none w _ _ (record (tables_plan (aborting s x.mirror) [] (Done Alone)) { says = says_phase s }) (λ free. tables-told w _ _ _ _ tt))
   of-step (Exchange s name reply) = exchange-fits (Exchange s name reply) s name reply (λ m here. (session-target j s m here))
+  of-step (Lose n) = where-message w _ n (message_in j.flight n)
   of-step (Recover s) = recover-fits (Recover s) s (λ m here. (session-target j s m here))
   of-step (CommitFlash devs source sequence) = settle-fits (CommitFlash devs source sequence) devs.dev lets_commit source (λ t d is yes no. absurd (false_true no yes))
   of-step (RevertFlash devs source sequence) = settle-fits (RevertFlash devs source sequence) devs.dev lets_revert source (λ t d is yes no. (subst (λ o. is_at o t ≡ true) (sym is) ((eq-eqb t t refl))))

@@ -210,7 +210,7 @@ module _ (w : World) (sound : Sound w) (x : Session) (listed : In x w.control.se
     members = fits-member;
     gives = stays-same w x;
     told = λ v on es h. h;
-    regroups = λ v ss h. h;
+    regroups = λ v ss f h. h;
   }
 
   pub exchange-keeps : (s : ℕ) (name : Name) (reply : Bool) → KeepsRecovery w (exchange_plan w.control s name reply) x.number

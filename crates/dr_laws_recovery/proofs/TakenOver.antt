@@ -108,7 +108,7 @@ module _ (w : World) (sound : Sound w) (x : Session) (m : Member) (listed : In x
     members = λ s y found q has. fits-member y (session-found w.control.sessions s y found).0 q has s;
     gives = λ v h. h.0;
     told = λ v on es h. h;
-    regroups = λ v ss h. h;
+    regroups = λ v ss f h. h;
   }
 
   leaves : (p : Plan) → Goes w LeftAt (keeping w sound LeftAt law) p → LeavesTarget w p m

@@ -18,6 +18,7 @@ use Rattle.dr_model.specs.Pairs.{records}
 use Rattle.dr_model.specs.Entries.{fields_at}
 use Rattle.dr_model.specs.PairEntries.{reach_refusal, send_refusal, end_if, refuse_if}
 use Rattle.dr_model.specs.SessionEntries.{last_of, hold_refusal, stale_refusal, hold_on, void_refusal, free_on, is_drained, seal_refusal, seal_on, is_past, finish_on, member_entries, members_on, order_entries, reply_after, is_flashed, is_committed, flash_refusal, flash_on, commit_refusal, commit_on, revert_on}
+use Rattle.dr_model.specs.SessionPlans as plans
 use Rattle.dr_model.specs.SessionPlans.{exchange_refusal, order_of, answered_by, exchange_done, exchange_on, asking, says_phase}
 use Rattle.dr_model.specs.PlanParts.{Plan, none_follow, unless, refuses}
 use Rattle.dr_model.specs.Plans.{has_room}
@@ -208,8 +209,8 @@ module _ (w : World) (s : Sound w) (i server : ℕ) (x : Session) (r : Mirror) (
     exchanged : (part w p).refusal ≡ None → Exchanged w i server r (part w p).world
     exchanged none = by (order-stands i o.number x (exchange-next first begins i server x r o found mirror allowed order) o.work ms first v leads found)
       where
-        here : Went w entries none_follow (answered_by i server o.work ms) (says_phase i) (λ k. refl) (part w p).world
-        here = part-went w entries none_follow (answered_by i server o.work ms) (says_phase i) (λ k. refl) none
+        here : Went w entries none_follow (plans.exchanged i server true o.work ms) (says_phase i) (λ k. refl) (part w p).world
+        here = part-went w entries none_follow (plans.exchanged i server true o.work ms) (says_phase i) (λ k. refl) none
 
         v : World
         v = here.led

@@ -4,7 +4,6 @@ use Rattle.dr_ids.specs.declared.refusal.Refusal.{Refusal}
 use Rattle.dr_ids.specs.declared.refusal.Refusal.TheVariants.{JournalFull}
 use Rattle.dr_model.specs.declared.said.Said.{Said}
 use Rattle.dr_model.specs.Control.{Control, World, Fuse}
-use Rattle.dr_model.specs.Sessions.{lost_since}
 use Rattle.dr_model.specs.Carry.{Act, Make, OpenAttempt, Redo, Acknowledge, Drop, EndFreeze, EndThaw, EndRecovery, Next, Pass, Do, End, Entry, Outcome, continue, go, carry}
 use Rattle.dr_model.specs.Plans.{Plan, same, has_room}
 use Rattle.dr_model.specs.Carried.{finish, carried_out, answered, masters_lost}
@@ -13,9 +12,9 @@ use Rattle.dr_model.proofs.CarryLemmas.{onward, carry-append}
 use Rattle.dr_laws_sound.proofs.Awaits.{none-refused}
 use Rattle.dr_laws_sound.proofs.FitsFlash.{as_begun}
 use Rattle.dr_laws_sound.proofs.ChecksFirst.{on-stays}
+use Rattle.dr_laws_sound.proofs.RefusedSteps.{lost-stays}
 use Rattle.dr_laws_sound.proofs.Turns.{Counts, after_act, act-cases}
 use Rattle.dr_logic.proofs.Options.{none_some}
-pub use Rattle.dr_facts.proofs.Sessions.{lost-none}
 
 -- ---- what each act keeps
 
@@ -117,8 +116,7 @@ module _ (w : World) (ds : List Entry) (follows : ℕ → List Entry) (last : Co
     leads = leads;
     is =
         let u : World = record v { control = last v.control } in
-        ap (λ (on : ℕ → Bool). record u { control = record u.control { sessions = lost_since on u.control.on u.control.sessions } }) (sym (steady v.control ∙ on-stays (as_begun w) v ds leads))
-        ∙ ap (λ ss. record u { control = record u.control { sessions = ss } }) (lost-none u.control.on u.control.sessions);
+        lost-stays w u (steady v.control ∙ on-stays (as_begun w) v ds leads);
     after = ap (λ (o : Outcome). masters_lost w (finish p o.0 o.1)) (sym leads);
     room = room;
   }

@@ -5,6 +5,7 @@ use Rattle.dr_ids.specs.declared.names.Member.{Member}
 use Rattle.dr_ids.specs.declared.refusal.PhaseName.TheVariants as phase
 use Rattle.dr_model.specs.Tables.{Once}
 use Rattle.dr_model.specs.Control.{Control}
+use Rattle.dr_model.specs.Messages.{Flight}
 use Rattle.dr_model.specs.Entries.{fields_at}
 use Rattle.dr_model.specs.Sessions.{Session, Mirror}
 use Rattle.dr_model.specs.Groups.{In, MemberStands, MasterStands, SessionFits, Lone, IsRecorder, Groups}
@@ -71,6 +72,10 @@ groups-of k j grows quieter fit = record {
   lone = fit.lone;
   recorders = λ v h. recorder-is j.sessions v (quieter.attempt v h) (quieter.partner v h) (fit.recorders v (quieter.recorded v h));
 }
+
+-- the laws say nothing of messages
+pub groups-flight : (k : Control) (f : Flight) → Groups k → Groups (record k { flight = f })
+groups-flight k f groups = groups-of k (record k { flight = f }) (record { defined = λ v d. d; server = λ v d. refl; tracks = λ v d. refl }) (record { recorded = λ v h. h; attempt = λ v h. refl; partner = λ v h. refl }) (fit-of k groups)
 
 -- ---- for other sessions
 

@@ -13,9 +13,10 @@ use Rattle.dr_model.specs.Entries.{fields_at}
 use Rattle.dr_model.specs.SessionEntries.{is_past, last_of}
 use Rattle.dr_model.specs.SessionPlans.{is_idle, order_of}
 use Rattle.dr_model.specs.Sessions.{Session, Mirror, session_in, changed, begun}
-use Rattle.dr_model.specs.Groups.{In, HoldsMember, OpensAttempt, Groups}
+use Rattle.dr_model.specs.Groups.{In, SessionFits, HoldsMember, OpensAttempt, Groups}
 use Rattle.dr_laws_sessions.specs.Frames.{RecordedBefore, Moves, SilentBut, BeginsOrHolds, Holding}
 use Rattle.dr_laws_sessions.proofs.Changes.{session-found, changed-found}
+use Rattle.dr_laws_sessions.proofs.Sound.{among-servers}
 use Rattle.dr_laws_sessions.proofs.Quieting.{moved-silent, moved-itself}
 use Rattle.dr_laws_sessions.proofs.Silent.{member-of, last-is, past-silent, silent-next}
 use Rattle.dr_logic.proofs.Truth.{false_true}
@@ -41,6 +42,11 @@ held-by phase.Lost b n o h holds = let e : o.work ≡ phases.Report = ap (λ (o 
 held-by phase.None true n o h holds = absurd cc
 held-by phase.None false n o h holds = absurd cc
 
+owed-by : (p : PhaseName) (b : Bool) (n : ℕ) (o : phases.Order) → p ≡ phase.Coordinating → cond (is_idle p) (Some (record { work = phases.Hold; number = n + 1 })) (phases.order_if b (phases.work_in p) n) ≡ Some o → b ≡ true
+owed-by phase.Coordinating true n o e h = refl
+owed-by phase.Coordinating false n o e h = absurd cc
+owed-by p b n o e h = absurd cc
+
 pub order-holds : (r : Mirror) (server : ℕ) (o : phases.Order) → order_of r server ≡ Some o → o.work ≡ phases.Hold → ((r.master.phase ≡ phase.Idle) × (o.number ≡ r.master.number + 1)) ⊎ ((r.master.phase ≡ phase.Coordinating) × (o.number ≡ r.master.number))
 order-holds r server o is holds = held-by r.master.phase (phases.is_among server r.master.owed) r.master.number o is holds
 
@@ -61,9 +67,21 @@ order-reports r server o lost is = by (phases.is_among server r.master.owed) (sy
 
 -- ---- holds, one after another
 
-pub holding-begins : (k : Control) (s server : ℕ) (x : Session) (r : Mirror) (o : phases.Order) → Groups k → session_in k.sessions s ≡ Some x → x.mirror ≡ Some r → order_of r server ≡ Some o → o.work ≡ phases.Hold → Holding k s o.number x.members
-holding-begins k s server x r o groups found has is holds = record { session = x; found = found; mirror = r; has_master = has; members = refl; stage = by (order-holds r server o is holds) }
+pub holding-begins : (k : Control) (s server : ℕ) (x : Session) (r : Mirror) (o : phases.Order) → Groups k → session_in k.sessions s ≡ Some x → x.mirror ≡ Some r → order_of r server ≡ Some o → o.work ≡ phases.Hold → Holding k s server o.number x.members
+holding-begins k s server x r o groups found has is holds = record {
+  session = x;
+  found = found;
+  mirror = r;
+  has_master = has;
+  members = refl;
+  stage = by (order-holds r server o is holds);
+  owed = λ p m here on. subst (λ server. phases.is_among server r.master.owed ≡ true) (sym on) (owed-by r.master.phase (phases.is_among server r.master.owed) r.master.number o p is);
+  among = λ m here. subst (λ ks. phases.is_among m.server.0 ks ≡ true) (sym (fits.sound.servers r has)) (among-servers x m fits.sound here);
+}
   where
+    fits : SessionFits k x
+    fits = groups.each x (session-found k.sessions s x found).0
+
     number : r.master.number ≡ x.last
     number = (groups.each x (session-found k.sessions s x found).0).sound.number r has
 
@@ -72,9 +90,9 @@ holding-begins k s server x r o groups found has is holds = record { session = x
     by (inr h) = inr (h.0, h.1 ∙ number)
 
 -- the first hold begins the attempt, and each other is one of it
-pub holding-opens : (k : Control) (s n : ℕ) (ms : List Member) (m : Member) → Holding k s n ms → In m ms → (fields_at k m.a.0).primary_partner ≡ m.b.0 → nat_lt (last_of k s) n ≡ true → OpensAttempt k m.a.0 s n
+pub holding-opens : (k : Control) (s server n : ℕ) (ms : List Member) (m : Member) → Holding k s server n ms → In m ms → (fields_at k m.a.0).primary_partner ≡ m.b.0 → nat_lt (last_of k s) n ≡ true → OpensAttempt k m.a.0 s n
 unfolding member-of
-holding-opens k s n ms m holding here to newer = by holding.stage
+holding-opens k s server n ms m holding here to newer = by holding.stage
   where
     above : holding.session.last < n
     above = ltb-true holding.session.last n (ap (λ i. nat_lt i n) (sym (last-is k s holding.session holding.found)) ∙ newer)
@@ -83,29 +101,31 @@ holding-opens k s n ms m holding here to newer = by holding.stage
     by (inl h) = record { place = member-of k s holding.session holding.mirror m holding.found holding.has_master (subst (In m) (sym holding.members) here); idle = h.0; next = h.1; to = to }
     by (inr h) = let lt : holding.session.last < n = above in let e : n ≡ holding.session.last = h.1 in absurd (omega arith)
 
-pub holding-holds : (k : Control) (s n : ℕ) (ms : List Member) (m : Member) → Holding k s n ms → In m ms → (fields_at k m.a.0).primary_partner ≡ m.b.0 → nat_lt (last_of k s) n ≡ false → HoldsMember k m.a.0 s n
+pub holding-holds : (k : Control) (s server n : ℕ) (ms : List Member) (m : Member) → Holding k s server n ms → In m ms → m.server.0 ≡ server → (fields_at k m.a.0).primary_partner ≡ m.b.0 → nat_lt (last_of k s) n ≡ false → HoldsMember k m.a.0 s n
 unfolding member-of
-holding-holds k s n ms m holding here to not_newer = by holding.stage
+holding-holds k s server n ms m holding here is to not_newer = by holding.stage
   where
     below : (holding.session.last < n) → ⊥
     below lt = false_true not_newer (ap (λ i. nat_lt i n) (last-is k s holding.session holding.found) ∙ lt-ltb holding.session.last n lt)
 
     by : BeginsOrHolds holding.session holding.mirror n → HoldsMember k m.a.0 s n
     by (inl h) = let e : n ≡ holding.session.last + 1 = h.1 in absurd (below (omega arith))
-    by (inr h) = record { place = member-of k s holding.session holding.mirror m holding.found holding.has_master (subst (In m) (sym holding.members) here); coordinates = h.0; last = h.1; to = to }
+    by (inr h) = record { place = member-of k s holding.session holding.mirror m holding.found holding.has_master (subst (In m) (sym holding.members) here); due = record { mirror = holding.mirror; has_master = holding.has_master; owed = holding.owed h.0 m here is; works = ap phases.work_in h.0; number = h.1 }; last = h.1; to = to }
 
 -- it stays so where the sessions do, and where the attempt has begun
-pub holding-stays : (k j : Control) (s n : ℕ) (ms : List Member) → j.sessions ≡ k.sessions → Holding k s n ms → Holding j s n ms
-holding-stays k j s n ms same holding = record { session = holding.session; found = ap (λ ss. session_in ss s) same ∙ holding.found; mirror = holding.mirror; has_master = holding.has_master; members = holding.members; stage = holding.stage }
+pub holding-stays : (k j : Control) (s server n : ℕ) (ms : List Member) → j.sessions ≡ k.sessions → Holding k s server n ms → Holding j s server n ms
+holding-stays k j s server n ms same holding = record { session = holding.session; found = ap (λ ss. session_in ss s) same ∙ holding.found; mirror = holding.mirror; has_master = holding.has_master; members = holding.members; stage = holding.stage; owed = holding.owed; among = holding.among }
 
-pub holding-begun : (k j : Control) (v s n : ℕ) (ms : List Member) → j.sessions ≡ changed s begun k.sessions → nat_lt (last_of k s) n ≡ true → Holding k s n ms → Holding j s n ms
-holding-begun k j v s n ms same newer holding = record {
+pub holding-begun : (k j : Control) (v s server n : ℕ) (ms : List Member) → j.sessions ≡ changed s begun k.sessions → nat_lt (last_of k s) n ≡ true → Holding k s server n ms → Holding j s server n ms
+holding-begun k j v s server n ms same newer holding = record {
   session = begun holding.session;
   found = ap (λ ss. session_in ss s) same ∙ changed-found s begun k.sessions holding.session (λ x. refl) holding.found;
   mirror = record holding.mirror { master = phases.begun holding.mirror.master };
   has_master = ap (option_map (λ (r : Mirror). record r { master = phases.begun r.master })) holding.has_master;
   members = holding.members;
   stage = inr (refl, by holding.stage);
+  owed = λ p m here on. holding.among m here;
+  among = holding.among;
 }
   where
     above : holding.session.last < n

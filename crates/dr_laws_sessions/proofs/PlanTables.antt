@@ -1,5 +1,5 @@
 -- What plans of lines on sessions make of the tables keeps the laws of sessions.
-use Rattle.std.proofs.Common.{ℕ, ◌≡◌, refl, ap, ◌∙◌, Bool, nat_eq, option_map, true, false, cond, nat_lt, Option, None, Some}
+use Rattle.std.proofs.Common.{ℕ, ◌≡◌, refl, ap, ◌∙◌, Bool, nat_eq, option_map, true, false, cond, nat_lt, [], Option, None, Some}
 use Rattle.std.specs.List.{find}
 use Rattle.std.specs.Option.{option_or}
 use Rattle.dr_ids.specs.declared.names.Member.{Member}
@@ -10,16 +10,19 @@ use Rattle.dr_ids.specs.declared.refusal.Kind.TheVariants.{Volume as OfVolume}
 use Rattle.dr_model.specs.declared.step.Name.{Name}
 use Rattle.dr_model.specs.Phases as phases
 use Rattle.dr_model.specs.Control.{Control, is_volume}
-use Rattle.dr_model.specs.PlanParts.{Plan, unless, on_owner, on_session, owner_of}
+use Rattle.dr_model.specs.declared.said.Said.TheVariants.{Done}
+use Rattle.dr_model.specs.declared.said.Addition.TheVariants.{Alone}
+use Rattle.dr_model.specs.PlanParts.{Plan, tables_plan, unless, on_owner, on_session, owner_of}
 use Rattle.dr_model.specs.SessionEntries.{first_number, members_on}
-use Rattle.dr_model.specs.Sessions.{Session, Mirror, session_in, is_member, has_place_of, changed, in_session, busy, leave_refusal, make_refusal, drop_refusal, abort_refusal, join_refusal, joined, paused, with_master}
-use Rattle.dr_model.specs.SessionPlans.{table_plan, says_phase, name_refusal, off_refusal, outside_refusal, master_refusal, join_plan, leave_plan, mirror_plan, pause_mirror_plan, unmirror_plan, abort_plan, taken_refusal, add_done, expel_done, exchange_done}
+use Rattle.dr_model.specs.Sessions.{Session, Mirror, session_in, is_member, has_place_of, changed, in_session, busy, leave_refusal, make_refusal, drop_refusal, abort_refusal, join_refusal, joined, left, mirrored_by, paused, with_master}
+use Rattle.dr_model.specs.SessionPlans.{table_plan, says_phase, name_refusal, off_refusal, outside_refusal, master_refusal, join_plan, leave_plan, mirror_plan, pause_mirror_plan, unmirror_plan, abort_plan, aborting, answered_by, taken_refusal, add_done, expel_done, exchange_done}
 use Rattle.dr_model.specs.Groups.{MemberStands, PlacesDiffer, Groups}
 use Rattle.dr_model.specs.Entries.{subsystem, first_of}
 use Rattle.dr_laws_sessions.specs.Frames.{ServerSilent}
 use Rattle.std.proofs.lemmas.Bool.{eq-eqb}
 use Rattle.std.proofs.lemmas.Option.{same_Some}
 use Rattle.dr_facts.proofs.Lists.{found, any-some}
+use Rattle.dr_laws_sessions.proofs.Frames.{groups-flight}
 use Rattle.dr_laws_sessions.proofs.Tables.{groups-joined, groups-left, groups-mirrored, groups-paused, groups-unmirrored, groups-aborted, groups-answered}
 use Rattle.dr_laws_sessions.proofs.Members.{groups-added, groups-removed}
 use Rattle.dr_facts.proofs.Refusals.{none-both}
@@ -64,13 +67,13 @@ joins-first k dev l s groups = owner-first k (owner_of k l) _ groups (λ owner.
 
 pub leaves-first : (k : Control) (dev : Option Name) (l s : ℕ) → Groups k → Groups ((leave_plan k dev l s).first k)
 leaves-first k dev l s groups = owner-first k (owner_of k l) _ groups (λ owner. session-first k (session_in k.sessions s) _ groups (λ x found. unless-first k _ _ groups (λ none.
-    groups-left k s l x groups found (none-both (name_refusal k dev owner) (leave_refusal (Some x) s l) none).1)))
+    groups-flight (record k { sessions = left s l k.sessions }) _ (groups-left k s l x groups found (none-both (name_refusal k dev owner) (leave_refusal (Some x) s l) none).1))))
 
 pub mirrors-first : (k : Control) (dev : Option Name) (l s : ℕ) → Groups k → Groups ((mirror_plan k dev l s).first k)
 mirrors-first k dev l s groups = owner-found k (owner_of k l) _ groups (λ owner owned. session-first k (session_in k.sessions s) _ groups (λ x found. unless-first k _ _ groups (λ none.
     let at = owned-volume k l owner owned in
-    groups-mirrored k s owner x groups found (no-maker x.mirror
-    (none-both (off_refusal k owner) (make_refusal x.mirror) (none-both (outside_refusal x l) _ (none-both (name_refusal k dev owner) _ none).1).1).1) at.volume at.defined at.server)))
+    groups-flight (record k { sessions = changed s (mirrored_by owner) k.sessions }) _ (groups-mirrored k s owner x groups found (no-maker x.mirror
+    (none-both (off_refusal k owner) (make_refusal x.mirror) (none-both (outside_refusal x l) _ (none-both (name_refusal k dev owner) _ none).1).1).1) at.volume at.defined at.server))))
 
 pub pauses-first : (k : Control) (dev : Option Name) (l s : ℕ) (on : Bool) → Groups k → Groups ((pause_mirror_plan k dev l s on).first k)
 pauses-first k dev l s on groups = owner-first k (owner_of k l) _ groups (λ owner. session-first k (session_in k.sessions s) _ groups (λ x found.
@@ -83,7 +86,8 @@ unmirrors-first k dev l s groups = owner-found k (owner_of k l) _ groups (λ own
 
 pub aborts-first : (k : Control) (s : ℕ) → Groups k → Groups ((abort_plan k s).first k)
 aborts-first k s groups = session-first k (session_in k.sessions s) _ groups (λ x found.
-    unless-first k (option_or (abort_refusal x.mirror) (master_refusal k x.mirror)) (record (table_plan (changed s (with_master phases.aborted))) { says = says_phase s }) groups (λ none. groups-aborted k s groups))
+    unless-first k (option_or (abort_refusal x.mirror) (master_refusal k x.mirror)) (record (tables_plan (aborting s x.mirror) [] (Done Alone)) { says = says_phase s }) groups (λ none.
+    groups-flight (record k { sessions = changed s (with_master phases.aborted) k.sessions }) _ (groups-aborted k s groups)))
 
 -- ---- as a step ends, whose acts left the sessions
 
@@ -110,5 +114,5 @@ pub exchanges-last : (j : Control) (s server : ℕ) (reply : Bool) (o : Option p
     → ((q : phases.Order) → o ≡ Some q → q.work ≡ phases.Report → (r : Mirror) → x.mirror ≡ Some r → phases.is_among server r.master.owed ≡ true)
     → Groups j → Groups ((exchange_done s server reply (members_on server x.members) o).last j)
 exchanges-last j s server reply None x found silent owes groups = groups
-exchanges-last j s server true (Some o) x found silent owes groups = groups-answered j s server o.work x groups found silent (owes o refl)
-exchanges-last j s server false (Some o) x found silent owes groups = groups
+exchanges-last j s server true (Some o) x found silent owes groups = groups-flight (answered_by s server o.work (members_on server x.members) j) _ (groups-answered j s server o.work x groups found silent (owes o refl))
+exchanges-last j s server false (Some o) x found silent owes groups = groups-flight j _ groups

@@ -6,6 +6,7 @@ use Rattle.dr_ids.specs.declared.names.Member.{Member}
 use Rattle.dr_ids.specs.declared.refusal.PhaseName.TheVariants as phase
 use Rattle.dr_model.specs.Layout.{Fields}
 use Rattle.dr_model.specs.Control.{Control}
+use Rattle.dr_model.specs.Phases as phases
 use Rattle.dr_model.specs.Pairs.{records}
 use Rattle.dr_model.specs.Entries.{fields_at}
 use Rattle.dr_model.specs.SessionEntries.{is_past, last_of, members_on, is_on}
@@ -102,11 +103,11 @@ pub last-is : (k : Control) (s : ℕ) (x : Session) → session_in k.sessions s 
 last-is k s x is = ap (λ o. unwrap_or (option_map (λ (x : Session). x.last) o) 0) is
 
 -- what an order holds, or begins with, by the master's number
-pub holds-of : (k : Control) (s : ℕ) (x : Session) (r : Mirror) (m : Member) → Groups k → session_in k.sessions s ≡ Some x → x.mirror ≡ Some r → In m x.members → (fields_at k m.a.0).primary_partner ≡ m.b.0 → r.master.phase ≡ phase.Coordinating → HoldsMember k m.a.0 s r.master.number
+pub holds-of : (k : Control) (s : ℕ) (x : Session) (r : Mirror) (m : Member) → Groups k → session_in k.sessions s ≡ Some x → x.mirror ≡ Some r → In m x.members → (fields_at k m.a.0).primary_partner ≡ m.b.0 → r.master.phase ≡ phase.Coordinating → phases.is_among m.server.0 r.master.owed ≡ true → HoldsMember k m.a.0 s r.master.number
 unfolding member-of
-holds-of k s x r m groups is has here to phase_is = record {
+holds-of k s x r m groups is has here to phase_is owes = record {
   place = member-of k s x r m is has here;
-  coordinates = phase_is;
+  due = record { mirror = r; has_master = has; owed = owes; works = ap phases.work_in phase_is; number = (groups.each x (session-found k.sessions s x is).0).sound.number r has };
   last = (groups.each x (session-found k.sessions s x is).0).sound.number r has;
   to = to;
 }

@@ -1,5 +1,5 @@
 -- The laws of sessions stay where volumes change: before the first step, where a volume is defined, and in a move.
-use Rattle.std.proofs.Common.{ℕ, ◌≡◌, ◌≢◌, ◌⊎◌, inl, inr, refl, ap, sym, ◌∙◌, subst, true, false, ◌||◌, ◌+◌, nat_eq, List, [], ◌∷◌, ◌++◌, Some, option_map}
+use Rattle.std.proofs.Common.{ℕ, ◌≡◌, ◌≢◌, ◌⊎◌, inl, inr, refl, ap, sym, ◌∙◌, subst, true, false, ◌||◌, ◌+◌, nat_eq, List, [], ◌∷◌, ◌++◌, None, Some, option_map}
 use Rattle.std.specs.List.{list_any}
 use Rattle.std.proofs.lemmas.Bool.{cases_Bool}
 use Rattle.std.proofs.lemmas.List.Folds.{list_any-append}
@@ -76,38 +76,43 @@ groups-same j k frame stays old = groups-still j k frame.sessions (grows-framed 
 
 -- ---- a hold
 
--- v is the primary of a member of a session whose master coordinates, n is its last number, and the partner is the member's secondary
+-- v is the primary of a member of a session whose master isn't Idle, nor Finishing without its server; n is its last number, and the
+-- partner is the member's secondary
 pub record HoldsIn (ss : List Session) (v n partner : ℕ) : Type 0 where
   pub session : Session
   pub listed : In session ss
   pub mirror : Mirror
   pub has_master : session.mirror ≡ Some mirror
-  pub coordinates : mirror.master.phase ≡ phase.Coordinating
+  pub busy : mirror.master.phase ≢ phase.Idle
   pub member : Member
   pub here : In member session.members
+  pub unfinished : mirror.master.phase ≡ phase.Finishing → phases.is_among member.server.0 mirror.master.owed ≡ true
   pub is : member.a.0 ≡ v
   pub last : n ≡ session.last
   pub to : partner ≡ member.b.0
 
-holding-busy : (r : Mirror) → r.master.phase ≡ phase.Coordinating → r.master.phase ≢ phase.Idle
-holding-busy r e idle = absurd cc
+hold-busy : (p : PhaseName) → phases.work_in p ≡ Some phases.Hold → p ≢ phase.Idle
+hold-busy p works idle = let none : None ≡ Some phases.Hold = sym (ap phases.work_in idle) ∙ works in absurd cc
 
-holding-unfinished : (r q : Mirror) → r ≡ q → r.master.phase ≡ phase.Coordinating → q.master.phase ≡ phase.Finishing → ⊥
-holding-unfinished r q is e ends = let f : r.master.phase ≡ phase.Finishing = ap (λ (q : Mirror). q.master.phase) is ∙ ends in absurd cc
+hold-unfinished : {P : Type 0} (p : PhaseName) → phases.work_in p ≡ Some phases.Hold → p ≡ phase.Finishing → P
+hold-unfinished p works ends = let other : Some phases.Finish ≡ Some phases.Hold = sym (ap phases.work_in ends) ∙ works in absurd cc
+
+still-unfinished : (r q : Mirror) (p m : Member) → r ≡ q → p ≡ m → (r.master.phase ≡ phase.Finishing → phases.is_among p.server.0 r.master.owed ≡ true) → q.master.phase ≡ phase.Finishing → phases.is_among m.server.0 q.master.owed ≡ true
+still-unfinished r q p m is also owes ends = sym (λ i. phases.is_among (also i).server.0 (is i).master.owed) ∙ owes (ap (λ (q : Mirror). q.master.phase) is ∙ ends)
 
 module _ (j k : Control) (ss : List Session) (v n : ℕ) (grows : Grows j k) (stays : (u : ℕ) → (fields_at k u).recording ≡ true → RecordedOr j k v n u) (fit : Fit j ss) (hold : HoldsIn ss v n (fields_at j v).primary_partner) where
-  -- a session whose master is Finishing isn't that of the hold
-  elsewhere : (y : Session) (r : Mirror) (m : Member) → In y ss → y.mirror ≡ Some r → r.master.phase ≡ phase.Finishing → In m y.members → m.a.0 ≢ v
-  elsewhere y r m i has ends here e =
+  -- a member whose server has finished isn't the one that is held
+  elsewhere : (y : Session) (r : Mirror) (m : Member) → In y ss → y.mirror ≡ Some r → r.master.phase ≡ phase.Finishing → In m y.members → phases.is_among m.server.0 r.master.owed ≡ false → m.a.0 ≢ v
+  elsewhere y r m i has ends here out e =
       let one = fit.lone.one v hold.session y hold.member m hold.listed i hold.here here (inl (sym hold.is)) (inl (sym e)) in
       let is : hold.session ≡ y = same-session ss hold.session y fit.once hold.listed i one.0 in
-      holding-unfinished hold.mirror r ((same_Some _ _ (sym hold.has_master ∙ (ap (λ (z : Session). z.mirror) is ∙ has)))) hold.coordinates ends
+      false_true out (still-unfinished hold.mirror r hold.member m ((same_Some _ _ (sym hold.has_master ∙ (ap (λ (z : Session). z.mirror) is ∙ has)))) one.1 hold.unfinished ends)
 
   finished : (y : Session) → In y ss → (r : Mirror) → y.mirror ≡ Some r → r.master.phase ≡ phase.Finishing → (m : Member) → In m y.members → Finished k r m
   finished y i r has ends m here out = by (cases_Bool (fields_at k m.a.0).recording)
     where
       never : RecordedOr j k v n m.a.0 → ⊥
-      never (inl itself) = elsewhere y r m i has ends here itself.0
+      never (inl itself) = elsewhere y r m i has ends here out itself.0
       never (inr recorded) = false_true ((fit.each y i).finished r has ends m here out) recorded.0
 
       by : ((fields_at k m.a.0).recording ≡ true) ⊎ ((fields_at k m.a.0).recording ≡ false) → (fields_at k m.a.0).recording ≡ false
@@ -120,7 +125,7 @@ module _ (j k : Control) (ss : List Session) (v n : ℕ) (grows : Grows j k) (st
     listed = hold.listed;
     mirror = hold.mirror;
     has_master = hold.has_master;
-    busy = holding-busy hold.mirror hold.coordinates;
+    busy = hold.busy;
     member = hold.member;
     here = hold.here;
     is = hold.is ∙ sym itself.0;
@@ -148,8 +153,9 @@ module _ (j k : Control) (ss : List Session) (v n : ℕ) (grows : Grows j k) (st
 pub groups-held : (j k : Control) (v s n : ℕ) → Framed j k → ((u : ℕ) → (fields_at k u).recording ≡ true → RecordedOr j k v n u) → HoldsMember j v s n → Groups j → Groups k
 groups-held j k v s n frame stays holds old =
     let p : IsMember j v s = holds.place in
+    let works : phases.work_in p.mirror.master.phase ≡ Some phases.Hold = ap (λ (r : Mirror). phases.work_in r.master.phase) (same_Some _ _ (sym p.has_master ∙ holds.due.has_master)) ∙ holds.due.works in
     groups-fit k (subst (Fit k) (sym frame.sessions) (fit-holds j k j.sessions v n (grows-framed j k frame) stays (fit-of j old)
-    (record { session = p.session; listed = p.listed; mirror = p.mirror; has_master = p.has_master; coordinates = holds.coordinates; member = p.member; here = p.here; is = p.is; last = holds.last; to = holds.to })))
+    (record { session = p.session; listed = p.listed; mirror = p.mirror; has_master = p.has_master; busy = hold-busy p.mirror.master.phase works; unfinished = λ ends. hold-unfinished p.mirror.master.phase works ends; member = p.member; here = p.here; is = p.is; last = holds.last; to = holds.to })))
 
 -- ---- the first hold of an attempt
 
@@ -185,7 +191,8 @@ groups-opened j k v s n frame stays opens old =
       listed = changed-becomes s begun j.sessions p.session old.once p.listed p.number;
       mirror = record p.mirror { master = phases.begun p.mirror.master };
       has_master = ap (option_map (λ (r : Mirror). record r { master = phases.begun r.master })) p.has_master;
-      coordinates = refl;
+      busy = λ e. cc;
+      unfinished = λ e. absurd cc;
       member = p.member;
       here = p.here;
       is = p.is;

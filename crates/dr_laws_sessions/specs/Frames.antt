@@ -89,11 +89,13 @@ pub record Became (s : ℕ) (f : Session → Session) (ss : List Session) (y : S
 abbrev pub BeginsOrHolds : Session → Mirror → ℕ → Type 0
 BeginsOrHolds x r n = ((r.master.phase ≡ phase.Idle) × (n ≡ x.last + 1)) ⊎ ((r.master.phase ≡ phase.Coordinating) × (n ≡ x.last))
 
--- Session s has a master and these members, and attempt n begins in it or goes on with holds.
-pub record Holding (k : Control) (s n : ℕ) (ms : List Member) : Type 0 where
+-- Session s has a master and these members, and attempt n begins in it or goes on with holds, which are owed to that server.
+pub record Holding (k : Control) (s server n : ℕ) (ms : List Member) : Type 0 where
   pub session : Session
   pub found : session_in k.sessions s ≡ Some session
   pub mirror : Mirror
   pub has_master : session.mirror ≡ Some mirror
   pub members : session.members ≡ ms
   pub stage : BeginsOrHolds session mirror n
+  pub owed : mirror.master.phase ≡ phase.Coordinating → (m : Member) → In m ms → m.server.0 ≡ server → phases.is_among m.server.0 mirror.master.owed ≡ true
+  pub among : (m : Member) → In m ms → phases.is_among m.server.0 mirror.master.servers ≡ true

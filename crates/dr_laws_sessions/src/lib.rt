@@ -129,18 +129,18 @@ pub fn only_members_record()
 
 /// What a master's order begins with or holds is one of its session, with the number that it is to have.
 pub fn orders_hold_members()
-    ensures holds { (k : Control) (s : ℕ) (x : Session) (r : Mirror) (m : Member) → Groups k → session_in k.sessions s ≡ Some x → x.mirror ≡ Some r → In m x.members → (fields_at k m.a.0).primary_partner ≡ m.b.0 → r.master.phase ≡ phase.Coordinating → HoldsMember k m.a.0 s r.master.number }
+    ensures holds { (k : Control) (s : ℕ) (x : Session) (r : Mirror) (m : Member) → Groups k → session_in k.sessions s ≡ Some x → x.mirror ≡ Some r → In m x.members → (fields_at k m.a.0).primary_partner ≡ m.b.0 → r.master.phase ≡ phase.Coordinating → phases.is_among m.server.0 r.master.owed ≡ true → HoldsMember k m.a.0 s r.master.number }
     ensures opens { (k : Control) (s : ℕ) (x : Session) (r : Mirror) (m : Member) → Groups k → session_in k.sessions s ≡ Some x → x.mirror ≡ Some r → In m x.members → (fields_at k m.a.0).primary_partner ≡ m.b.0 → r.master.phase ≡ phase.Idle → OpensAttempt k m.a.0 s (r.master.number + 1) }
 {}
 
 /// While a server carries out a hold, the first member that isn't held yet begins the attempt where none has begun, and each other is
 /// held for the one that has.
 pub fn one_member_after_another_is_held()
-    ensures begins { (k : Control) (s server : ℕ) (x : Session) (r : Mirror) (o : phases.Order) → Groups k → session_in k.sessions s ≡ Some x → x.mirror ≡ Some r → order_of r server ≡ Some o → o.work ≡ phases.Hold → Holding k s o.number x.members }
-    ensures opens { (k : Control) (s n : ℕ) (ms : List Member) (m : Member) → Holding k s n ms → In m ms → (fields_at k m.a.0).primary_partner ≡ m.b.0 → nat_lt (last_of k s) n ≡ true → OpensAttempt k m.a.0 s n }
-    ensures holds { (k : Control) (s n : ℕ) (ms : List Member) (m : Member) → Holding k s n ms → In m ms → (fields_at k m.a.0).primary_partner ≡ m.b.0 → nat_lt (last_of k s) n ≡ false → HoldsMember k m.a.0 s n }
-    ensures stays { (k j : Control) (s n : ℕ) (ms : List Member) → j.sessions ≡ k.sessions → Holding k s n ms → Holding j s n ms }
-    ensures begun { (k j : Control) (v s n : ℕ) (ms : List Member) → j.sessions ≡ changed s begun k.sessions → nat_lt (last_of k s) n ≡ true → Holding k s n ms → Holding j s n ms }
+    ensures begins { (k : Control) (s server : ℕ) (x : Session) (r : Mirror) (o : phases.Order) → Groups k → session_in k.sessions s ≡ Some x → x.mirror ≡ Some r → order_of r server ≡ Some o → o.work ≡ phases.Hold → Holding k s server o.number x.members }
+    ensures opens { (k : Control) (s server n : ℕ) (ms : List Member) (m : Member) → Holding k s server n ms → In m ms → (fields_at k m.a.0).primary_partner ≡ m.b.0 → nat_lt (last_of k s) n ≡ true → OpensAttempt k m.a.0 s n }
+    ensures holds { (k : Control) (s server n : ℕ) (ms : List Member) (m : Member) → Holding k s server n ms → In m ms → m.server.0 ≡ server → (fields_at k m.a.0).primary_partner ≡ m.b.0 → nat_lt (last_of k s) n ≡ false → HoldsMember k m.a.0 s n }
+    ensures stays { (k j : Control) (s server n : ℕ) (ms : List Member) → j.sessions ≡ k.sessions → Holding k s server n ms → Holding j s server n ms }
+    ensures begun { (k j : Control) (v s server n : ℕ) (ms : List Member) → j.sessions ≡ changed s begun k.sessions → nat_lt (last_of k s) n ≡ true → Holding k s server n ms → Holding j s server n ms }
 {}
 
 /// One member after another on a server stops to record, and at last none records.

@@ -1,6 +1,6 @@
 -- What each step comes to, by cases: an answer, or one of the plans of the step table behind its tests.
 use Rattle.std.proofs.Common.{ℕ, ◌≡◌, ◌<◌, ◌≤◌, refl, ap, ◌∙◌, Bool, true, false, cond, not, ◌||◌, List, [], ◌∷◌, Option, Some, None, Result, Ok, Err, nat_eq, nat_lt, nat_le, arith}
-use Rattle.std.specs.Prelude.{length, is_some, if◌then◌else◌, ◌==◌}
+use Rattle.std.specs.Prelude.{length, is_some, ◌==◌}
 use Rattle.std.specs.List.{find, flat_map}
 use Rattle.std.specs.Option.{option_or}
 use Rattle.std.specs.Str.{bytes_eq}
@@ -22,7 +22,7 @@ use Rattle.dr_model.specs.declared.step.Devs.{Devs}
 use Rattle.dr_model.specs.declared.step.PairChoices.{PairChoices}
 use Rattle.dr_model.specs.declared.step.TornWord.{TornWord}
 use Rattle.dr_model.specs.declared.step.Step.{Step}
-use Rattle.dr_model.specs.declared.step.Step.TheVariants.{Server, Volume, Link, Stop, StopAfter, Start, Issue, Write, Apply, Show, MakeFlash, RemoveFlash, ResyncFlash, ReverseFlash, Copy, Destage, MakePath, RemovePath, MakePair, RemovePair, PausePair, ResumePair, Failover, Failback, Drain, Expire, Freeze, Unfreeze, MakeSession, RemoveSession, AddMember, RemoveMember, MakeMirror, PauseMirror, ResumeMirror, RemoveMirror, Abort, Exchange, Recover, CommitFlash, RevertFlash, ListPairs, ListFlashes, ListSession, ShowMirror, UnfreezeFlash}
+use Rattle.dr_model.specs.declared.step.Step.TheVariants.{Server, Volume, Link, Stop, StopAfter, Start, Issue, Write, Apply, Show, MakeFlash, RemoveFlash, ResyncFlash, ReverseFlash, Copy, Destage, MakePath, RemovePath, MakePair, RemovePair, PausePair, ResumePair, Failover, Failback, Drain, Expire, Freeze, Unfreeze, MakeSession, RemoveSession, AddMember, RemoveMember, MakeMirror, PauseMirror, ResumeMirror, RemoveMirror, Abort, Exchange, Lose, Recover, CommitFlash, RevertFlash, ListPairs, ListFlashes, ListSession, ShowMirror, UnfreezeFlash}
 use Rattle.dr_model.specs.Layout.{is_part, kind_of}
 use Rattle.dr_model.specs.Limits.{most_servers, most_volumes, most_tracks, most_pending}
 use Rattle.dr_model.specs.Refusals.{server_off, unknown, duplicate, over}
@@ -31,17 +31,19 @@ use Rattle.dr_model.specs.Relations.{Choices}
 use Rattle.dr_model.specs.Moves.{is_write}
 use Rattle.dr_ids.specs.declared.names.Member.{Member}
 use Rattle.dr_model.specs.Phases as phases
-use Rattle.dr_model.specs.Sessions.{Session, Mirror, has_subsystem, subsystem_of, session_in, members_in, has_place_of, joined, left, changed, mirrored_by, paused, unmirrored, with_master, with_member, without_member, raised, busy, in_session, leave_refusal, join_refusal, make_refusal, drop_refusal, abort_refusal}
+use Rattle.dr_model.specs.Sessions.{Session, Mirror, has_subsystem, subsystem_of, session_in, members_in, has_place_of, joined, changed, paused, unmirrored, with_member, without_member, raised, busy, in_session, leave_refusal, join_refusal, make_refusal, drop_refusal, abort_refusal}
 use Rattle.dr_model.specs.SessionEntries.{order_entries, members_on, first_number, add_entries, expel_entries}
 use Rattle.dr_model.specs.Entries.{fields_at, first_of, subsystem}
-use Rattle.dr_model.specs.SessionPlans.{with_sessions, table_plan, says_phase, name_refusal, off_refusal, outside_refusal, master_refusal, place_refusal, taken_refusal, copy_refusal, member_target, member_with, add_target, add_to, expel_done, expel_found, exchange_refusal, order_of, answered_by, exchange_done, exchange_on, on_volume, join_plan, leave_plan, mirror_plan, pause_mirror_plan, unmirror_plan, abort_plan, add_plan, expel_plan, exchange_plan}
+use Rattle.dr_model.specs.Messages.{Message, message_in, lost}
+use Rattle.dr_model.specs.MessagePlans.{with_flight, on_message}
+use Rattle.dr_model.specs.SessionPlans.{with_sessions, table_plan, leaving, appointed, aborting, exchanged, says_phase, name_refusal, off_refusal, outside_refusal, master_refusal, place_refusal, taken_refusal, copy_refusal, member_target, member_with, add_target, add_to, expel_done, expel_found, exchange_refusal, order_of, exchange_done, exchange_on, on_volume, join_plan, leave_plan, mirror_plan, pause_mirror_plan, unmirror_plan, abort_plan, add_plan, expel_plan, exchange_plan}
 use Rattle.dr_ids.specs.declared.refusal.Decision.{Decision}
 use Rattle.dr_model.specs.RecoveryPlans.{decided_in, secondary_refusal, untaken_refusal, forbidden_unless, lets_commit, lets_revert, settle_on, recover_done, recover_plan, member_of_target, revertible_target, settle_refusal, settle_member, settle_target, settle_plan}
 use Rattle.dr_facts.proofs.Lists.{found}
 use Rattle.dr_model.specs.Groups.{In, Groups}
 use Rattle.dr_model.specs.Listings.{pair_lines, flash_lines, member_lines, mirror_lines, sessions_of, lists, listing_refusal}
 use Rattle.dr_laws_sound.proofs.Listed.{AllLines, pair-lines, flash-lines, session-lines, mirrors-lines, pair-few, flash-few, session-few, mirrors-few}
-use Rattle.dr_model.specs.Plans.{Plan, entries_plan, plan, step_plan, plan_of, has_room, same, none_follow, always, on_session, is_defined, only_says, refuses, unless, on_named, on_server, name_bytes, server_named, server_refusal, server_done, volume_refusal, volume_done, link_between, link_done, track_refusal, issue_refusal, issue_done, write_done, apply_on, apply_done, show_refusal, show_done, is_foreign, stop_on, stop_done, arm_on, start_on, start_plan, make_flash_plan, remove_flash_plan, resync_flash_plan, reverse_flash_plan, copy_plan, destage_plan, on_owner, owner_of, path_refusal, make_path_done, unpath_refusal, remove_path_done, make_pair_plan, remove_pair_plan, pause_pair_plan, resume_pair_plan, failover_plan, failback_plan, compare_plan, drain_plan, expire_on, expire_plan, freeze_refusal, freeze_done, thaw_refusal, unfreeze_done, release_refusal, release_done}
+use Rattle.dr_model.specs.Plans.{Plan, entries_plan, tables_plan, plan, step_plan, plan_of, has_room, same, none_follow, always, on_session, is_defined, only_says, refuses, unless, on_named, on_server, name_bytes, server_named, server_refusal, server_done, volume_refusal, volume_done, link_between, link_done, track_refusal, issue_refusal, issue_done, write_done, apply_on, apply_done, show_refusal, show_done, is_foreign, stop_on, stop_done, arm_on, start_on, start_plan, make_flash_plan, remove_flash_plan, resync_flash_plan, reverse_flash_plan, copy_plan, destage_plan, on_owner, owner_of, path_refusal, make_path_done, unpath_refusal, remove_path_done, make_pair_plan, remove_pair_plan, pause_pair_plan, resume_pair_plan, failover_plan, failback_plan, compare_plan, drain_plan, expire_on, expire_plan, freeze_refusal, freeze_done, thaw_refusal, unfreeze_done, release_refusal, release_done}
 use Rattle.dr_facts.proofs.Refusals.{none-both, met}
 
 -- a member is added, and removed; a master is aborted, and an order is carried out
@@ -65,8 +67,8 @@ expelled s m = record {
   says = always (Done Alone);
 }
 
-abbrev pub aborted : ℕ → Plan
-aborted s = record (table_plan (changed s (with_master phases.aborted))) { says = says_phase s }
+abbrev pub aborted : ℕ → Option Mirror → Plan
+aborted s r = record (tables_plan (aborting s r) [] (Done Alone)) { says = says_phase s }
 
 abbrev pub ordered : ℕ → ℕ → Bool → List Member → phases.Order → Plan
 ordered s server reply ms o = record {
@@ -74,7 +76,7 @@ ordered s server reply ms o = record {
   told = [];
   entries = order_entries o.work s o.number ms;
   follows = none_follow;
-  last = if reply then answered_by s server o.work ms else same;
+  last = exchanged s server reply o.work ms;
   says = says_phase s;
 }
 
@@ -130,13 +132,14 @@ pub data Case (k : Control) (events : List Event) (line : ℕ) : Plan → Type 0
   Unfreezes : (l m : ℕ) → Case k events line (unfreeze_done k l m)
   Releases : (l : ℕ) → Case k events line (release_done k l)
   MakesSession : (l s : ℕ) → join_refusal (session_in k.sessions s) l k.sessions ≡ None → Case k events line (table_plan (joined s l))
-  RemovesSession : (l s : ℕ) → (x : Session) → session_in k.sessions s ≡ Some x → leave_refusal (Some x) s l ≡ None → Case k events line (table_plan (left s l))
-  MakesMirror : (owner s : ℕ) → (x : Session) → session_in k.sessions s ≡ Some x → make_refusal x.mirror ≡ None → (l : ℕ) → owner_of k l ≡ Some owner → Case k events line (table_plan (changed s (mirrored_by owner)))
+  RemovesSession : (l s : ℕ) → (x : Session) → session_in k.sessions s ≡ Some x → leave_refusal (Some x) s l ≡ None → Case k events line (tables_plan (leaving s l x) [] (Done Alone))
+  MakesMirror : (owner s : ℕ) → (x : Session) → session_in k.sessions s ≡ Some x → make_refusal x.mirror ≡ None → (l : ℕ) → owner_of k l ≡ Some owner → Case k events line (tables_plan (appointed s owner) [] (Done Alone))
   PausesMirror : (s : ℕ) → (on : Bool) → Case k events line (table_plan (changed s (paused on)))
   RemovesMirror : (s : ℕ) → (x : Session) → session_in k.sessions s ≡ Some x → drop_refusal x.mirror ≡ None → Case k events line (table_plan (changed s unmirrored))
-  Aborts : (s : ℕ) → (x : Session) → session_in k.sessions s ≡ Some x → abort_refusal x.mirror ≡ None → Case k events line (aborted s)
+  Aborts : (s : ℕ) → (x : Session) → session_in k.sessions s ≡ Some x → abort_refusal x.mirror ≡ None → Case k events line (aborted s x.mirror)
   AddsMember : (s a c : ℕ) → (x : Session) → Joins k s a c x → Case k events line (added k s x (member_with k a c))
   RemovesMember : (s a : ℕ) → (x : Session) → (m : Member) → session_in k.sessions s ≡ Some x → find (λ m. m.a.0 == a) x.members ≡ Some m → busy x.mirror ≡ None → off_refusal k (k.volume m.c.0).server ≡ None → Case k events line (expelled s m)
+  Loses : (n : ℕ) → Case k events line (tables_plan (with_flight (lost n)) [] (Done Alone))
   Exchanges : (s server : ℕ) → (reply : Bool) → (x : Session) → (r : Mirror) → (o : phases.Order) → Ordered k s server x r o → Case k events line (ordered s server reply (members_on server x.members) o)
   Recovers : (s : ℕ) → (x : Session) → session_in k.sessions s ≡ Some x → secondary_refusal x.members k ≡ None → Case k events line (recover_done s (decided_in s k) x.members)
   Settles : (s : ℕ) → (x : Session) → (m : Member) → session_in k.sessions s ≡ Some x → In m x.members → secondary_refusal x.members k ≡ None → untaken_refusal x.members k ≡ None → Case k events line (entries_plan (settle_on s (decided_in s k) m ∷ []) (Done Alone))
@@ -213,12 +216,12 @@ module _ (k : Control) (events : List Event) (line : ℕ) where
 
   leave-case : (dev : Option Name) (l s : ℕ) → Is (leave_plan k dev l s)
   leave-case dev l s = where-owned (owner_of k l) _ (λ owner. where-session (session_in k.sessions s) _ (λ x is.
-      where-none (option_or (name_refusal k dev owner) (leave_refusal (Some x) s l)) (table_plan (left s l)) (λ free. RemovesSession l s x is (none-both (name_refusal k dev owner) _ free).1)))
+      where-none (option_or (name_refusal k dev owner) (leave_refusal (Some x) s l)) (tables_plan (leaving s l x) [] (Done Alone)) (λ free. RemovesSession l s x is (none-both (name_refusal k dev owner) _ free).1)))
 
   mirror-case : (dev : Option Name) (l s : ℕ) → Is (mirror_plan k dev l s)
   mirror-case dev l s = where-owner (owner_of k l) _ (λ owner owned. where-session (session_in k.sessions s) _ (λ x is.
       let why : Option Refusal = option_or (name_refusal k dev owner) (option_or (outside_refusal x l) (option_or (off_refusal k owner) (make_refusal x.mirror))) in
-      where-none why (table_plan (changed s (mirrored_by owner)))
+      where-none why (tables_plan (appointed s owner) [] (Done Alone))
       (λ free. MakesMirror owner s x is (none-both (off_refusal k owner) _ (none-both (outside_refusal x l) _ (none-both (name_refusal k dev owner) _ free).1).1).1 l owned)))
 
   pause-case : (dev : Option Name) (l s : ℕ) (on : Bool) → Is (pause_mirror_plan k dev l s on)
@@ -233,7 +236,7 @@ module _ (k : Control) (events : List Event) (line : ℕ) where
 
   abort-case : (s : ℕ) → Is (abort_plan k s)
   abort-case s = where-session (session_in k.sessions s) _ (λ x is.
-      where-none (option_or (abort_refusal x.mirror) (master_refusal k x.mirror)) (aborted s) (λ free. Aborts s x is (none-both (abort_refusal x.mirror) _ free).0))
+      where-none (option_or (abort_refusal x.mirror) (master_refusal k x.mirror)) (aborted s x.mirror) (λ free. Aborts s x is (none-both (abort_refusal x.mirror) _ free).0))
 
   target-case : (s a : ℕ) (x : Session) (o : Option ℕ) → ((c : ℕ) → o ≡ Some c → in_session (find (has_place_of (member_with k a c)) k.sessions) ≡ None → Joins k s a c x) → Is (add_target k s x a (fields_at k a).primary_partner o)
   target-case s a x None go = Says _
@@ -271,6 +274,10 @@ module _ (k : Control) (events : List Event) (line : ℕ) where
   exchange-case : (s : ℕ) (name : Name) (reply : Bool) → Is (exchange_plan k s name reply)
   exchange-case s name reply = where-session (session_in k.sessions s) _ (λ x is.
       where-named (server_named k (name_bytes name)) (λ server. exchange_on k s x.mirror server reply x.members) (λ server. on-case s server reply x x.mirror is refl))
+
+  lose-case : (n : ℕ) (o : Option Message) → Is (on_message o (λ m. tables_plan (with_flight (lost n)) [] (Done Alone)))
+  lose-case n None = Says _
+  lose-case n (Some m) = Loses n
 
   recover-case : (s : ℕ) → Is (recover_plan k s)
   recover-case s = where-session (session_in k.sessions s) _ (λ x is. where-none (secondary_refusal x.members k) (recover_done s (decided_in s k) x.members) (λ on. Recovers s x is on))
@@ -347,6 +354,7 @@ module _ (k : Control) (events : List Event) (line : ℕ) where
   of-case (RemoveMirror devs l s) = unmirror-case devs.dev l s
   of-case (Abort s) = abort-case s
   of-case (Exchange s name reply) = exchange-case s name reply
+  of-case (Lose n) = lose-case n (message_in k.flight n)
   of-case (Recover s) = recover-case s
   of-case (CommitFlash devs source sequence) = settle-case devs.dev lets_commit source
   of-case (RevertFlash devs source sequence) = settle-case devs.dev lets_revert source

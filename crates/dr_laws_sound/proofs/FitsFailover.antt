@@ -120,7 +120,7 @@ module _ (w : World) (s : Sound w) where
         let k : World = half f in
         let on : Runs k y = runs-done first falls f y p.on_y in
         decides k (yield_on y x) [] (Do (Make (Yield y x (fields_at k.control x).primary (fields_at k.control x).primary_state))) refl
-        (record { runs = on; allowed = may-yield f z; fits = tt; group = may-follow k z y (none-revertible f); ready = idle k y z.queue on }, λ g u. over _ u)
+        (record { runs = on; allowed = may-yield f z; fits = tt; group = (may-follow k z y (none-revertible f), (may-yield f z).idle); ready = idle k y z.queue on }, λ g u. over _ u)
 
     turns : Along first (fall_back_on x y ∷ yield_on y x ∷ [])
     turns = decides first (fall_back_on x y) _ (Do (Make falls)) refl (record { runs = p.on_x; allowed = may-fall; fits = tt; group = tt; ready = idle first x (sound-begun w s).queue p.on_x }, yields)

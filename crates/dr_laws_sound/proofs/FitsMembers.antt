@@ -2,7 +2,7 @@
 use Rattle.std.proofs.Common.{ℕ, ◌≡◌, ◌≢◌, ◌≤◌, inl, inr, refl, ap, sym, ◌∙◌, subst, Bool, true, false, cond, not, ◌||◌, nat_lt, List, [], ◌∷◌, Option, Some, None, arith}
 use Rattle.std.specs.Prelude.{◌==◌}
 use Rattle.std.specs.List.{find}
-use Rattle.std.proofs.lemmas.Bool.{and_parts, ltb-true, not-false}
+use Rattle.std.proofs.lemmas.Bool.{and_parts, ltb-true, ltb-false, not-false}
 use Rattle.std.proofs.lemmas.Option.{same_Some}
 use Rattle.dr_ids.specs.declared.names.Member.{Member}
 use Rattle.dr_model.specs.declared.state.Part.TheVariants.{Global}
@@ -26,7 +26,7 @@ use Rattle.dr_facts.proofs.Lists.{from-filter, to-map}
 use Rattle.dr_laws_sessions.proofs.Changes.{session-found, same-session}
 use Rattle.dr_laws_sessions.proofs.Sound.{quiet-of}
 use Rattle.dr_laws_attempts.proofs.Tables.{quiet-unflashed}
-use Rattle.dr_laws_attempts.proofs.Members.{attempts-added, attempts-removed}
+use Rattle.dr_laws_attempts.proofs.Members.{raised-low, attempts-added, attempts-removed}
 use Rattle.dr_laws_sessions.proofs.Frames.{stands-grows}
 use Rattle.dr_laws_sessions.proofs.Volumes.{grows-framed}
 use Rattle.dr_laws_sessions.proofs.Members.{groups-added, groups-removed, places-differ, no-place}
@@ -156,32 +156,51 @@ module _ (w : World) (s : Sound w) where
       seal : (fields_at v.control b).seal ≤ n
       floor : (fields_at v.control c).floor ≤ n
 
+    -- and its primary and target have come to the number
+    record Risen (v : World) : Type 0 where
+      raised : Raised v
+      held : n ≤ (fields_at v.control a).attempt
+      past : n ≤ (fields_at v.control c).floor
+
     raised : Raised (as_begun w)
     raised = record { kept = begins; attempt = omega arith; seal = omega arith; floor = omega arith }
 
     abbrev To : World → List Entry → Type 0
-    To = along.Along Sound Sound Raised MayDo
+    To = along.Along Sound Sound Risen MayDo
 
     -- no attempt up to n is flashed on the target
-    floors : (v : World) → Raised v → Runs v c → To v (raise_floor_on c n ∷ [])
-    floors v h on = along.along-entry Sound Sound Raised MayDo v (raise_floor_on c n) [] _ refl (by (nat_lt (fields_at v.control c).floor n))
+    floors : (v : World) → Raised v → n ≤ (fields_at v.control a).attempt → Runs v c → To v (raise_floor_on c n ∷ [])
+    floors v h held on = along.along-entry Sound Sound Risen MayDo v (raise_floor_on c n) [] _ refl (by (nat_lt (fields_at v.control c).floor n) refl)
       where
-        by : (b : Bool) → Then v (cond b (Do (Make (RaiseFloor c n))) Pass) (λ u. To u [])
-        by true = (
+        raised-floor : (f : Option Fuse) → (fields_at (done v (RaiseFloor c n) f).control c).floor ≡ n
+        raised-floor f = ap (λ (x : Volume). x.fields.floor) (at_same v.control.volume c (row v (RaiseFloor c n) f))
+
+        attempt-stays : (f : Option Fuse) → (fields_at (done v (RaiseFloor c n) f).control a).attempt ≡ (fields_at v.control a).attempt
+        attempt-stays f = at_part (λ (x : Volume). x.fields.attempt) v.control.volume c (row v (RaiseFloor c n) f) refl a
+
+        by : (b : Bool) → nat_lt (fields_at v.control c).floor n ≡ b → Then v (cond b (Do (Make (RaiseFloor c n))) Pass) (λ u. To u [])
+        by true lt = (
           record { runs = on; allowed = tt; fits = tt; group = λ y q listed here is. absurd (apart c y q (subst (In y) h.kept.frame.sessions listed) here (inr (inr refl)) (inr (inr (sym is)))); ready = idle v c h.kept.sound.queue on },
-          λ f y. along.along-nil Sound Sound Raised MayDo _ (record {
-            kept = kept-done w v (RaiseFloor c n) f h.kept y;
-            attempt = subst (λ i. i ≤ n) (sym (at_part (λ (x : Volume). x.fields.attempt) v.control.volume c (row v (RaiseFloor c n) f) refl a)) h.attempt;
-            seal = subst (λ i. i ≤ n) (sym (at_part (λ (x : Volume). x.fields.seal) v.control.volume c (row v (RaiseFloor c n) f) refl b)) h.seal;
-            floor = let e : (fields_at (done v (RaiseFloor c n) f).control c).floor ≡ n = ap (λ (x : Volume). x.fields.floor) (at_same v.control.volume c (row v (RaiseFloor c n) f)) in omega (arith, e);
+          λ f y. along.along-nil Sound Sound Risen MayDo _ (record {
+            raised = record {
+              kept = kept-done w v (RaiseFloor c n) f h.kept y;
+              attempt = subst (λ i. i ≤ n) (sym (attempt-stays f)) h.attempt;
+              seal = subst (λ i. i ≤ n) (sym (at_part (λ (x : Volume). x.fields.seal) v.control.volume c (row v (RaiseFloor c n) f) refl b)) h.seal;
+              floor = let e = raised-floor f in omega (arith, e);
+            };
+            held = subst (λ i. n ≤ i) (sym (attempt-stays f)) held;
+            past = let e = raised-floor f in omega (arith, e);
           }),
         )
-        by false = along.along-nil Sound Sound Raised MayDo v h
+        by false lt = along.along-nil Sound Sound Risen MayDo v (record { raised = h; held = held; past = ltb-false (fields_at v.control c).floor n lt })
 
     -- nor made with the primary
     raises : To (as_begun w) (raise_attempt_on a n ∷ raise_floor_on c n ∷ [])
-    raises = along.along-entry Sound Sound Raised MayDo (as_begun w) (raise_attempt_on a n) _ _ refl (by (nat_lt (fields_at w.control a).attempt n) refl)
+    raises = along.along-entry Sound Sound Risen MayDo (as_begun w) (raise_attempt_on a n) _ _ refl (by (nat_lt (fields_at w.control a).attempt n) refl)
       where
+        raised-attempt : (f : Option Fuse) → (fields_at (done (as_begun w) (RaiseAttempt a n) f).control a).attempt ≡ n
+        raised-attempt f = ap (λ (x : Volume). x.fields.attempt) (at_same w.control.volume a (row (as_begun w) (RaiseAttempt a n) f))
+
         by : (b : Bool) → nat_lt (fields_at w.control a).attempt n ≡ b → Then (as_begun w) (cond b (Do (Make (RaiseAttempt a n))) Pass) (λ u. To u (raise_floor_on c n ∷ []))
         by true lt = (
           record {
@@ -193,32 +212,33 @@ module _ (w : World) (s : Sound w) where
           },
           λ f y. floors _ (record {
             kept = kept-done w (as_begun w) (RaiseAttempt a n) f begins y;
-            attempt = let e : (fields_at (done (as_begun w) (RaiseAttempt a n) f).control a).attempt ≡ n = ap (λ (x : Volume). x.fields.attempt) (at_same w.control.volume a (row (as_begun w) (RaiseAttempt a n) f)) in omega (arith, e);
+            attempt = let e = raised-attempt f in omega (arith, e);
             seal = subst (λ i. i ≤ n) (sym (at_part (λ (x : Volume). x.fields.seal) w.control.volume a (row (as_begun w) (RaiseAttempt a n) f) refl b)) raised.seal;
             floor = subst (λ i. i ≤ n) (sym (at_part (λ (x : Volume). x.fields.floor) w.control.volume a (row (as_begun w) (RaiseAttempt a n) f) refl c)) raised.floor;
-          }) (runs-done (as_begun w) (RaiseAttempt a n) f c on_c),
+          }) (let e = raised-attempt f in omega (arith, e)) (runs-done (as_begun w) (RaiseAttempt a n) f c on_c),
         )
-        by false lt = floors (as_begun w) raised on_c
+        by false lt = floors (as_begun w) raised (ltb-false (fields_at w.control a).attempt n lt) on_c
 
     -- it is a member as the step ends
-    joined : (v : World) → Raised v → Sound (record v { control = (added w.control i x m).last v.control })
-    joined v h =
+    joined : (v : World) → Risen v → Sound (record v { control = (added w.control i x m).last v.control })
+    joined v e =
+        let h : Raised v = e.raised in
         let kept : Kept w v = h.kept in
         let there : MemberStands v.control m = stands-grows w.control v.control m (grows-framed w.control v.control kept.frame) stands in
         let found : session_in v.control.sessions i ≡ Some x = ap (λ ss. session_in ss i) kept.frame.sessions ∙ joins.found in
         let free : find (has_place_of m) v.control.sessions ≡ None = ap (λ ss. find (has_place_of m) ss) kept.frame.sessions ∙ none in
         sound-sessions v _ (groups-added v.control i n x m kept.sound.groups found (taken-quiet w.control x a joins.free) (housed-low v.control m kept.sound.housed there) there (places-differ v.control m there other) free)
-        (attempts-added v.control i n x m kept.sound.groups kept.sound.attempts found (taken-quiet w.control x a joins.free) free joins.inside h.attempt h.seal h.floor) kept.sound
+        (attempts-added v.control i n x m kept.sound.groups kept.sound.attempts found (taken-quiet w.control x a joins.free) free joins.inside h.attempt h.seal h.floor (raised-low x.last _ (fields_at v.control a).attempt e.held) (raised-low x.last _ (fields_at v.control c).floor e.past)) kept.sound
 
     pub orders-added : Orders w (added w.control i x m)
     orders-added = record {
-      ends = Raised;
-      complete = λ v e. e.kept.sound;
+      ends = Risen;
+      complete = λ v e. e.raised.kept.sound;
       begins = sound-begun w s;
       entries = raises;
       follows = λ q v y. over v y;
       last = joined;
-      turns = λ v e. regroups-added v.control.sessions e.kept.sound.groups.once i n x m (ap (λ ss. session_in ss i) e.kept.frame.sessions ∙ joins.found) (quiet-of x (taken-quiet w.control x a joins.free)) (ap (λ ss. find (has_place_of m) ss) e.kept.frame.sessions ∙ none);
+      turns = λ v e. let kept : Kept w v = e.raised.kept in regroups-added v.control.sessions kept.sound.groups.once i n x m (ap (λ ss. session_in ss i) kept.frame.sessions ∙ joins.found) (quiet-of x (taken-quiet w.control x a joins.free)) (ap (λ ss. find (has_place_of m) ss) kept.frame.sessions ∙ none);
     }
 
   -- ---- a member less

@@ -1,7 +1,7 @@
 -- The plan of an exchange: a server carries out an order over its members, one after another.
-use Rattle.std.proofs.Common.{ℕ, ◌≡◌, ◌≢◌, ◌+◌, ◌⊎◌, inl, inr, refl, ap, sym, ◌∙◌, subst, Bool, true, false, cond, not, ◌&&◌, nat_eq, nat_lt, arith, List, [], ◌∷◌, ◌++◌, Option, Some, None}
+use Rattle.std.proofs.Common.{ℕ, ◌≡◌, ◌≢◌, ◌<◌, ◌≤◌, ◌+◌, ◌⊎◌, inl, inr, refl, ap, sym, ◌∙◌, subst, Bool, true, false, cond, not, ◌&&◌, nat_eq, nat_lt, arith, List, [], ◌∷◌, ◌++◌, Option, Some, None}
 use Rattle.std.specs.List.{flat_map}
-use Rattle.std.proofs.lemmas.Bool.{and_parts, eqb-true, or_right}
+use Rattle.std.proofs.lemmas.Bool.{and_parts, eq-eqb, eqb-true, or_right}
 use Rattle.std.proofs.lemmas.Option.{same_Some}
 use Rattle.dr_ids.specs.declared.names.Member.{Member}
 use Rattle.dr_ids.specs.declared.refusal.PhaseName.{PhaseName}
@@ -14,20 +14,19 @@ use Rattle.dr_model.specs.Layout.{Fields, is_part}
 use Rattle.dr_model.specs.Phases as phases
 use Rattle.dr_model.specs.Sessions.{Session, Mirror, session_in}
 use Rattle.dr_model.specs.Control.{Control, Fuse, World}
-use Rattle.dr_model.specs.Pairs.{is_kind, is_primary_of, records}
+use Rattle.dr_model.specs.Pairs.{is_kind, is_primary_of, primary_of, records, held_for}
 use Rattle.dr_model.specs.Moves.{Move, Hold, Free, Seal, Flash, Commit, Revert, RaiseFloor, Finish}
 use Rattle.dr_model.specs.Carry.{Make, OpenAttempt, Pass, Do, Entry}
-use Rattle.dr_model.specs.Entries.{fields_at, pair_state}
+use Rattle.dr_model.specs.Entries.{fields_at, is_at, pair_state}
 use Rattle.dr_model.specs.PairEntries.{reach_refusal, send_refusal, belongs_to, end_if, refuse_if}
 use Rattle.dr_model.specs.SessionEntries.{last_of, may_hold, hold_refusal, stale_refusal, hold_on, void_refusal, free_on, is_drained, seal_refusal, seal_on, is_flashed, flash_refusal, flash_on, is_committed, commit_refusal, commit_on, revert_on, is_past, finish_on, member_entries, members_on, order_entries, reply_after}
-use Rattle.dr_model.specs.SessionPlans.{is_idle, off_refusal, phase_refusal, apart_refusal, answered_by}
-use Rattle.dr_model.specs.PlanParts.{same}
-use Rattle.dr_model.specs.Groups.{In, Groups, SessionFits, MemberStands, IsRecorder}
-use Rattle.dr_model.specs.Attempts.{roles, seen, seen_in, phase_of, InPhase, InCoordinating, NoneRevertible, AttemptOf, ServerDone, Attempts, IsDone, FlashesMember, owed_of, reports_of}
+use Rattle.dr_model.specs.SessionPlans.{is_idle, off_refusal, phase_refusal, apart_refusal, answered_by, exchanged}
+use Rattle.dr_model.specs.Groups.{In, Groups, SessionFits, MemberStands, IsRecorder, Due}
+use Rattle.dr_model.specs.Attempts.{roles, seen, seen_in, phase_of, AllHeld, AttemptOf, WorkDone, ServerDone, Attempts, IsDone, FlashesMember}
 use Rattle.dr_model.specs.Table.{table}
 use Rattle.dr_model.specs.Laws.{Sound, fields, source, its_secondary}
 use Rattle.dr_model.specs.Allowed.{Runs, May, MayHold, MayFlash, MayTurn}
-use Rattle.dr_laws_sessions.specs.Frames.{ServerSilent, SilentBut, BeginsOrHolds, Holding}
+use Rattle.dr_laws_sessions.specs.Frames.{Moves, ServerSilent, SilentBut, BeginsOrHolds, Holding}
 use Rattle.dr_facts.proofs.Lists.{to-map}
 use Rattle.dr_laws_sessions.proofs.Changes.{session-found, same-session}
 use Rattle.dr_laws_sessions.proofs.Tables.{groups-answered}
@@ -37,7 +36,7 @@ use Rattle.dr_laws_sessions.proofs.Orders.{order-finishes, order-reports, holdin
 use Rattle.dr_laws_attempts.specs.Orders.{DoneBut, LeavesTargetsAlone}
 use Rattle.dr_laws_attempts.proofs.Tables.{quiet-unflashed, with-answered}
 use Rattle.dr_laws_attempts.proofs.Moves.{flashable}
-use Rattle.dr_laws_attempts.proofs.Orders.{newer, order-frees, order-seals, order-flashes, order-commits, order-reverts, order-raises, order-finishes as member-finishes, unflashed-plain, done-begins, done-passes, done-ends, done-calm, done-flashes, done-commits, done-reverts, done-raises, done-flashed, done-committed, done-reverted}
+use Rattle.dr_laws_attempts.proofs.Orders.{newer, order-frees, order-seals, order-flashes, order-commits, order-reverts, order-raises, order-finishes as member-finishes, unflashed-plain, done-begins, done-passes, done-ends, done-calm, done-asked, done-held, done-holds, done-past, done-finishes, done-flashes, done-commits, done-reverts, done-raises, done-flashed, done-committed, done-reverted}
 use Rattle.dr_laws_sound.proofs.Turns.{carried_in, done, after_act}
 use Rattle.dr_laws_sound.proofs.RowsAfter.{idle}
 use Rattle.dr_laws_sound.proofs.KeepsSound.{MayDo, Then, over}
@@ -47,7 +46,7 @@ use Rattle.dr_laws_sound.proofs.Cases.{Ordered, ordered}
 use Rattle.dr_laws_sound.proofs.FitsFlash.{as_begun, sound-begun}
 use Rattle.dr_laws_sound.proofs.FitsPairs.{reached, its-first, its-second}
 use Rattle.dr_laws_sound.proofs.CopyFirst.{unturned}
-use Rattle.dr_laws_sound.proofs.FitsSessions.{sound-sessions, Orders}
+use Rattle.dr_laws_sound.proofs.FitsSessions.{sound-tables, sound-flight, Orders}
 use Rattle.dr_laws_sound.proofs.Along as along
 use Rattle.dr_logic.proofs.Choices.{choose_some}
 use Rattle.dr_facts.proofs.Tracks.{bare-has}
@@ -100,6 +99,12 @@ works phase.Finishing b n o h = works-by phase.Finishing n o (phases.numbered ph
 works phase.Lost b n o h = works-by phase.Lost n o (phases.numbered phases.Report n) (some-order b phases.Report n o h) (refl, tt)
 works phase.None true n o h = absurd cc
 works phase.None false n o h = absurd cc
+
+-- an order that isn't the first hold of an attempt is owed
+owed-of : (p : PhaseName) (b : Bool) (n : ℕ) (o : phases.Order) → (p ≡ phase.Idle → ⊥) → cond (is_idle p) (Some (record { work = phases.Hold; number = n + 1 })) (phases.order_if b (phases.work_in p) n) ≡ Some o → b ≡ true
+owed-of phase.Idle b n o busy h = absurd (busy refl)
+owed-of p true n o busy h = refl
+owed-of p false n o busy h = absurd cc
 
 module _ (w : World) (s : Sound w) (i server : ℕ) (x : Session) (r : Mirror) (o : phases.Order) (allowed : Ordered w.control i server x r o) where
   abbrev n : ℕ
@@ -193,20 +198,34 @@ module _ (w : World) (s : Sound w) (i server : ℕ) (x : Session) (r : Mirror) (
   stands-by : (work : phases.Work) → o.work ≡ work → WorkPhase work r.master.phase × IsLast work n r.master.number
   stands-by work is = subst (λ (work : phases.Work). WorkPhase work r.master.phase × IsLast work n r.master.number) is stands
 
+  -- what the phase asks is due
+  due-of : (p : PhaseName) (work : phases.Work) (k : ℕ) → r.master.phase ≡ p → (p ≡ phase.Idle → ⊥) → phases.work_in p ≡ Some work → k ≡ x.last → (m : Member) → m.server.0 ≡ server → Due x m.server.0 work k
+  due-of p work k is busy works last m on = record {
+    mirror = r;
+    has_master = allowed.mirror;
+    owed = subst (λ q. phases.is_among q r.master.owed ≡ true) (sym on) (owed-of r.master.phase (phases.is_among server r.master.owed) r.master.number o (λ e. busy (sym is ∙ e)) allowed.order);
+    works = ap phases.work_in is ∙ works;
+    number = last;
+  }
+
+  -- an order of that work is due for all members of the server
+  abbrev Dues : phases.Work → Type 0
+  Dues work = (m : Member) → m.server.0 ≡ server → Due x m.server.0 work n
+
   -- where the phase isn't Finishing, nothing is asked of who records
   unending : (p : PhaseName) → r.master.phase ≡ p → p ≢ phase.Finishing → (q : Mirror) → x.mirror ≡ Some q → q.master.phase ≡ phase.Finishing → ⊥
   unending p is unfinished q has ends = unfinished (sym is ∙ (ap (λ (q : Mirror). q.master.phase) ((same_Some _ _ (sym allowed.mirror ∙ has))) ∙ ends))
 
   -- an order that leaves targets alone
-  calm : (p : PhaseName) → r.master.phase ≡ p → p ≢ phase.Finishing → LeavesTargetsAlone p → o.work ≢ phases.Report → (v : World) → Stage v [] → Answers v
-  calm p is unfinished still other v st = record {
+  calm : (p : PhaseName) (work : phases.Work) → r.master.phase ≡ p → p ≢ phase.Finishing → phases.work_in p ≡ Some work → LeavesTargetsAlone work → n ≡ x.last → o.work ≢ phases.Report → (v : World) → Stage v [] → Answers v
+  calm p work is unfinished asks still last other v st = record {
     sound = st.sound;
     session = x;
     found = found-in v [] st;
     silent = λ q has ends. absurd (unending p is unfinished q has ends);
     lost = λ e. absurd (other e);
     owes = λ e. absurd (other e);
-    does = λ e. done-calm v.control x server (subst LeavesTargetsAlone (sym (phase-is p is)) still);
+    does = λ e. done-asked v.control x server work n (ap phases.work_in (phase-is p is) ∙ asks) (sym last) (done-calm v.control x.members server work n still);
     among = refl;
   }
 
@@ -216,17 +235,17 @@ module _ (w : World) (s : Sound w) (i server : ℕ) (x : Session) (r : Mirror) (
 
   -- ---- Release
 
-  frees : r.master.phase ≡ phase.Releasing → (v : World) (m : Member) (rest : List Member) (ds : List Entry) → Stage v (m ∷ rest) → ((u : World) → Stage u rest → To u ds) → To v (member_entries phases.Release i n m ++ ds)
-  frees releasing v m rest ds st go = refused v (void_refusal m.a.0 n) (free_on m.a.0 ∷ ds) st.sound (λ none. along.along-entry Sound Sound Answers MayDo v (free_on m.a.0) ds _ refl (by (fields_at v.control m.a.0).coordination))
+  frees : Dues phases.Release → n ≡ x.last → (v : World) (m : Member) (rest : List Member) (ds : List Entry) → Stage v (m ∷ rest) → ((u : World) → Stage u rest → To u ds) → To v (member_entries phases.Release i n m ++ ds)
+  frees due last v m rest ds st go = refused v (void_refusal m.a.0 n) (free_on m.a.0 ∷ ds) st.sound (λ none. along.along-entry Sound Sound Answers MayDo v (free_on m.a.0) ds _ refl (by (fields_at v.control m.a.0).coordination))
     where
       by : (b : Bool) → Then v (cond b (Do (Make (Free m.a.0))) Pass) (λ u. To u ds)
-      by true = let on = runs-in v m rest st in (record { runs = on; allowed = tt; fits = tt; group = order-frees v.control st.sound.groups st.sound.attempts i x (found-in v (m ∷ rest) st) m (member-of v m rest st) (phase-is phase.Releasing releasing); ready = idle v m.a.0 st.sound.queue on }, λ f y. go _ (moved v m rest (Free m.a.0) f st y))
+      by true = let on = runs-in v m rest st in (record { runs = on; allowed = tt; fits = tt; group = order-frees v.control st.sound.groups st.sound.attempts i x (found-in v (m ∷ rest) st) m (member-of v m rest st) (subst (λ k. Due x m.server.0 phases.Release k) last (due m (st.left m (inl refl)).1)); ready = idle v m.a.0 st.sound.queue on }, λ f y. go _ (moved v m rest (Free m.a.0) f st y))
       by false = go v (further v m rest st)
 
   -- ---- Seal
 
-  may-seal : r.master.phase ≡ phase.Draining → n ≡ x.last → (v : World) (m : Member) (rest : List Member) → Stage v (m ∷ rest) → void_refusal m.a.0 n v.control ≡ None → send_refusal m.a.0 m.b.0 v.control ≡ None → is_drained m.a.0 v.control ≡ true → May v (Seal m.b.0 m.a.0 i n)
-  may-seal draining last v m rest st void send drained =
+  may-seal : Dues phases.Seal → n ≡ x.last → (v : World) (m : Member) (rest : List Member) → Stage v (m ∷ rest) → void_refusal m.a.0 n v.control ≡ None → send_refusal m.a.0 m.b.0 v.control ≡ None → is_drained m.a.0 v.control ≡ true → May v (Seal m.b.0 m.a.0 i n)
+  may-seal due last v m rest st void send drained =
       let f : Fields = fields_at v.control m.a.0 in
       let rec : records n f ≡ true = met (records n f) (Void n) void in
       let recording : f.recording ≡ true = (and_parts f.recording (nat_eq f.attempt n) rec).0 in
@@ -242,12 +261,12 @@ module _ (w : World) (s : Sound w) (i server : ℕ) (x : Session) (r : Mirror) (
           drained = λ t. bare-has f.out_of_sync t drained;
         };
         fits = tt;
-        group = order-seals v.control st.sound.groups st.sound.attempts i x (found-in v (m ∷ rest) st) m (member-of v m rest st) n (sym last) (phase-is phase.Draining draining);
+        group = order-seals v.control st.sound.groups st.sound.attempts i x (found-in v (m ∷ rest) st) m (member-of v m rest st) n (sym last) (due m (st.left m (inl refl)).1) rec;
         ready = idle v m.b.0 st.sound.queue on;
       }
 
-  seals : r.master.phase ≡ phase.Draining → n ≡ x.last → (v : World) (m : Member) (rest : List Member) (ds : List Entry) → Stage v (m ∷ rest) → ((u : World) → Stage u rest → To u ds) → To v (member_entries phases.Seal i n m ++ ds)
-  seals draining last v m rest ds st go =
+  seals : Dues phases.Seal → n ≡ x.last → (v : World) (m : Member) (rest : List Member) (ds : List Entry) → Stage v (m ∷ rest) → ((u : World) → Stage u rest → To u ds) → To v (member_entries phases.Seal i n m ++ ds)
+  seals due last v m rest ds st go =
       refused v (void_refusal m.a.0 n) (refuse_if (seal_refusal m.a.0 m.b.0) ∷ seal_on i m.a.0 m.b.0 n ∷ ds) st.sound (λ void.
       refused v (seal_refusal m.a.0 m.b.0) (seal_on i m.a.0 m.b.0 n ∷ ds) st.sound (λ free.
       along.along-entry Sound Sound Answers MayDo v (seal_on i m.a.0 m.b.0 n) ds _ refl (by void free (is_drained m.a.0 v.control && not (nat_eq (fields_at v.control m.b.0).seal n)) refl)))
@@ -255,7 +274,7 @@ module _ (w : World) (s : Sound w) (i server : ℕ) (x : Session) (r : Mirror) (
       by : void_refusal m.a.0 n v.control ≡ None → seal_refusal m.a.0 m.b.0 v.control ≡ None → (b : Bool) → (is_drained m.a.0 v.control && not (nat_eq (fields_at v.control m.b.0).seal n)) ≡ b → Then v (cond b (Do (Make (Seal m.b.0 m.a.0 i n))) Pass) (λ u. To u ds)
       by void free true is =
           let drained = (and_parts (is_drained m.a.0 v.control) _ is).0 in
-          (may-seal draining last v m rest st void (chosen (is_drained m.a.0 v.control) (send_refusal m.a.0 m.b.0 v.control) None drained free) drained, λ f y. go _ (moved v m rest (Seal m.b.0 m.a.0 i n) f st y))
+          (may-seal due last v m rest st void (chosen (is_drained m.a.0 v.control) (send_refusal m.a.0 m.b.0 v.control) None drained free) drained, λ f y. go _ (moved v m rest (Seal m.b.0 m.a.0 i n) f st y))
       by void free false is = go v (further v m rest st)
 
   -- ---- Finish
@@ -263,6 +282,7 @@ module _ (w : World) (s : Sound w) (i server : ℕ) (x : Session) (r : Mirror) (
   record Finishes (v : World) (rest : List Member) : Type 0 where
     stage : Stage v rest
     silent : (q : Mirror) → x.mirror ≡ Some q → q.master.phase ≡ phase.Finishing → SilentBut v.control x server rest
+    done : DoneBut v.control x.members server phases.Finish n rest
 
   last-is : (q : Mirror) → x.mirror ≡ Some q → q.master.phase ≡ phase.Finishing → x.last ≡ n
   last-is q has ends = sym ((ends-order q has ends).1 ∙ (s.groups.each x (session-found w.control.sessions i x allowed.found).0).sound.number r allowed.mirror)
@@ -274,6 +294,7 @@ module _ (w : World) (s : Sound w) (i server : ℕ) (x : Session) (r : Mirror) (
       by true past = go v (record {
         stage = further v m rest st.stage;
         silent = λ q has ends. silent-passes v.control x server n m rest st.stage.sound.groups (listed-in v (m ∷ rest) st.stage) (st.stage.left m (inl refl)).0 (last-is q has ends) past (st.silent q has ends);
+        done = done-passes v.control x.members server phases.Finish n m rest st.done (done-past v.control m n past);
       })
       by false past =
           let on = runs-in v m rest st.stage in (
@@ -281,43 +302,44 @@ module _ (w : World) (s : Sound w) (i server : ℕ) (x : Session) (r : Mirror) (
             λ f y. go _ (record {
               stage = moved v m rest (Finish m.a.0 n) f st.stage y;
               silent = λ q has ends. silent-finishes v.control (done v (Finish m.a.0 n) f).control x server n m rest None refl (record { volumes = refl; keeps = true; volume = refl }) (st.silent q has ends);
+              done = done-finishes v.control (done v (Finish m.a.0 n) f).control None x m server n rest st.stage.sound.groups (listed-in v (m ∷ rest) st.stage) (member-of v m rest st.stage) (record { volumes = refl; keeps = true; volume = refl }) st.done;
             }),
           )
 
-  finished : r.master.phase ≡ phase.Finishing → o.work ≢ phases.Report → (v : World) → Finishes v [] → Answers v
-  finished finishing other v st = record {
+  finished : r.master.phase ≡ phase.Finishing → n ≡ x.last → o.work ≢ phases.Report → (v : World) → Finishes v [] → Answers v
+  finished finishing last other v st = record {
     sound = st.stage.sound;
     session = x;
     found = found-in v [] st.stage;
     silent = λ q has ends. silent-ends v.control x server (st.silent q has ends);
     lost = λ e. absurd (other e);
     owes = λ e. absurd (other e);
-    does = λ e. done-calm v.control x server (subst LeavesTargetsAlone (sym (phase-is phase.Finishing finishing)) tt);
+    does = λ e. done-asked v.control x server phases.Finish n (ap phases.work_in (phase-is phase.Finishing finishing)) (sym last) (done-ends v.control x.members server phases.Finish n st.done);
     among = refl;
   }
 
   -- ---- orders that change targets
 
   -- the members of the server are done, or left to do
-  record Does (v : World) (rest : List Member) : Type 0 where
+  record Does (work : phases.Work) (v : World) (rest : List Member) : Type 0 where
     stage : Stage v rest
-    done : DoneBut v.control x server rest
+    done : DoneBut v.control x.members server work n rest
 
-  does-begin : Does first ms
-  does-begin = record { stage = start; done = done-begins w.control x server }
+  does-begin : (work : phases.Work) → Does work first ms
+  does-begin work = record { stage = start; done = done-begins w.control x.members server work n }
 
-  does-pass : (v : World) (m : Member) (rest : List Member) → Does v (m ∷ rest) → IsDone (phase_of x.mirror) (seen (roles v.control) m) → Does v rest
-  does-pass v m rest st done = record { stage = further v m rest st.stage; done = done-passes v.control x server m rest st.done done }
+  does-pass : (work : phases.Work) (v : World) (m : Member) (rest : List Member) → Does work v (m ∷ rest) → IsDone work n (seen (roles v.control) m) → Does work v rest
+  does-pass work v m rest st done = record { stage = further v m rest st.stage; done = done-passes v.control x.members server work n m rest st.done done }
 
-  done-so : (p : PhaseName) → r.master.phase ≡ p → p ≢ phase.Finishing → o.work ≢ phases.Report → (v : World) → Does v [] → Answers v
-  done-so p is unfinished other v st = record {
+  done-so : (p : PhaseName) (work : phases.Work) → r.master.phase ≡ p → p ≢ phase.Finishing → phases.work_in p ≡ Some work → n ≡ x.last → o.work ≢ phases.Report → (v : World) → Does work v [] → Answers v
+  done-so p work is unfinished asks last other v st = record {
     sound = st.stage.sound;
     session = x;
     found = found-in v [] st.stage;
     silent = λ q has ends. absurd (unending p is unfinished q has ends);
     lost = λ e. absurd (other e);
     owes = λ e. absurd (other e);
-    does = λ e. done-ends v.control x server st.done;
+    does = λ e. done-asked v.control x server work n (ap phases.work_in (phase-is p is) ∙ asks) (sym last) (done-ends v.control x.members server work n st.done);
     among = refl;
   }
 
@@ -360,8 +382,8 @@ module _ (w : World) (s : Sound w) (i server : ℕ) (x : Session) (r : Mirror) (
         last = λ recording. records-last v m rest st recording ∙ sym last;
       }
 
-  flashes : r.master.phase ≡ phase.Flashing → n ≡ x.last → (v : World) (m : Member) (rest : List Member) (ds : List Entry) → Does v (m ∷ rest) → ((u : World) → Does u rest → To u ds) → To v (member_entries phases.Flash i n m ++ ds)
-  flashes flashing last v m rest ds st go =
+  flashes : Dues phases.Flash → n ≡ x.last → (v : World) (m : Member) (rest : List Member) (ds : List Entry) → Does phases.Flash v (m ∷ rest) → ((u : World) → Does phases.Flash u rest → To u ds) → To v (member_entries phases.Flash i n m ++ ds)
+  flashes due last v m rest ds st go =
       refused v (send_refusal m.a.0 m.b.0) (refuse_if (flash_refusal m.b.0 m.c.0 n) ∷ flash_on i m.a.0 m.b.0 m.c.0 n ∷ ds) st.stage.sound (λ send.
       refused v (flash_refusal m.b.0 m.c.0 n) (flash_on i m.a.0 m.b.0 m.c.0 n ∷ ds) st.stage.sound (λ free.
       along.along-entry Sound Sound Answers MayDo v (flash_on i m.a.0 m.b.0 m.c.0 n) ds _ refl (by send free (is_flashed n (fields_at v.control m.c.0)) refl)))
@@ -369,25 +391,22 @@ module _ (w : World) (s : Sound w) (i server : ℕ) (x : Session) (r : Mirror) (
       here : In m x.members
       here = member-of v m rest st.stage
 
-      is : phase_of x.mirror ≡ phase.Flashing
-      is = phase-is phase.Flashing flashing
-
       by : send_refusal m.a.0 m.b.0 v.control ≡ None → flash_refusal m.b.0 m.c.0 n v.control ≡ None → (b : Bool) → is_flashed n (fields_at v.control m.c.0) ≡ b → Then v (cond b Pass (Do (Make (Flash m.c.0 m.b.0 m.a.0 i n)))) (λ u. To u ds)
-      by send free true flashed = go v (does-pass v m rest st (done-flashed v.control x m n is flashed))
+      by send free true flashed = go v (does-pass phases.Flash v m rest st (done-flashed v.control m n flashed))
       by send free false none =
-          let group = order-flashes v.control st.stage.sound.groups st.stage.sound.attempts i x (found-in v (m ∷ rest) st.stage) m here n (sym last) is send free none in
+          let group = order-flashes v.control st.stage.sound.groups st.stage.sound.attempts i x (found-in v (m ∷ rest) st.stage) m here n (sym last) (due m (st.stage.left m (inl refl)).1) send free none in
           let on = runs-target v m rest st.stage send in (
             record { runs = on; allowed = flashes-allowed last v m rest st.stage group; fits = tt; group = group; ready = idle v m.c.0 st.stage.sound.queue on },
             λ f y. go _ (record {
               stage = moved v m rest (Flash m.c.0 m.b.0 m.a.0 i n) f st.stage y;
-              done = done-flashes v.control (done v (Flash m.c.0 m.b.0 m.a.0 i n) f).control (carried_in v (Flash m.c.0 m.b.0 m.a.0 i n)) x m server rest st.stage.sound.groups (listed-in v (m ∷ rest) st.stage) here st.done i n is (record { volumes = refl; keeps = true; volume = refl });
+              done = done-flashes v.control (done v (Flash m.c.0 m.b.0 m.a.0 i n) f).control (carried_in v (Flash m.c.0 m.b.0 m.a.0 i n)) x m server n rest st.stage.sound.groups (listed-in v (m ∷ rest) st.stage) here i (record { volumes = refl; keeps = true; volume = refl }) st.done;
             }),
           )
 
   -- ---- Commit
 
-  commits : r.master.phase ≡ phase.Committing → n ≡ x.last → (v : World) (m : Member) (rest : List Member) (ds : List Entry) → Does v (m ∷ rest) → ((u : World) → Does u rest → To u ds) → To v (member_entries phases.Commit i n m ++ ds)
-  commits committing last v m rest ds st go =
+  commits : Dues phases.Commit → n ≡ x.last → (v : World) (m : Member) (rest : List Member) (ds : List Entry) → Does phases.Commit v (m ∷ rest) → ((u : World) → Does phases.Commit u rest → To u ds) → To v (member_entries phases.Commit i n m ++ ds)
+  commits due last v m rest ds st go =
       refused v (send_refusal m.a.0 m.b.0) (refuse_if (commit_refusal m.c.0 n) ∷ commit_on i m.a.0 m.c.0 n ∷ ds) st.stage.sound (λ send.
       refused v (commit_refusal m.c.0 n) (commit_on i m.a.0 m.c.0 n ∷ ds) st.stage.sound (λ free.
       along.along-entry Sound Sound Answers MayDo v (commit_on i m.a.0 m.c.0 n) ds _ refl (by send free (is_committed n (fields_at v.control m.c.0)) refl)))
@@ -395,25 +414,22 @@ module _ (w : World) (s : Sound w) (i server : ℕ) (x : Session) (r : Mirror) (
       here : In m x.members
       here = member-of v m rest st.stage
 
-      is : phase_of x.mirror ≡ phase.Committing
-      is = phase-is phase.Committing committing
-
       by : send_refusal m.a.0 m.b.0 v.control ≡ None → commit_refusal m.c.0 n v.control ≡ None → (b : Bool) → is_committed n (fields_at v.control m.c.0) ≡ b → Then v (cond b Pass (Do (Make (Commit m.c.0 m.a.0 i n)))) (λ u. To u ds)
-      by send free true committed = go v (does-pass v m rest st (done-committed v.control x m n is committed))
+      by send free true committed = go v (does-pass phases.Commit v m rest st (done-committed v.control m n committed))
       by send free false none =
-          let group = order-commits v.control st.stage.sound.groups st.stage.sound.attempts i x (found-in v (m ∷ rest) st.stage) m here n (sym last) is send free none in
+          let group = order-commits v.control st.stage.sound.groups st.stage.sound.attempts i x (found-in v (m ∷ rest) st.stage) m here n (sym last) (due m (st.stage.left m (inl refl)).1) send free none in
           let on = runs-target v m rest st.stage send in (
             record { runs = on; allowed = may-turn last v m rest st.stage group.revertible; fits = tt; group = group; ready = idle v m.c.0 st.stage.sound.queue on },
             λ f y. go _ (record {
               stage = moved v m rest (Commit m.c.0 m.a.0 i n) f st.stage y;
-              done = done-commits v.control (done v (Commit m.c.0 m.a.0 i n) f).control (carried_in v (Commit m.c.0 m.a.0 i n)) x m server rest st.stage.sound.groups (listed-in v (m ∷ rest) st.stage) here st.done n is (record { volumes = refl; keeps = true; volume = refl });
+              done = done-commits v.control (done v (Commit m.c.0 m.a.0 i n) f).control (carried_in v (Commit m.c.0 m.a.0 i n)) x m server n rest st.stage.sound.groups (listed-in v (m ∷ rest) st.stage) here (record { volumes = refl; keeps = true; volume = refl }) st.done;
             }),
           )
 
   -- ---- Revert
 
-  reverts : r.master.phase ≡ phase.Reverting → n ≡ x.last → (v : World) (m : Member) (rest : List Member) (ds : List Entry) → Does v (m ∷ rest) → ((u : World) → Does u rest → To u ds) → To v (member_entries phases.Revert i n m ++ ds)
-  reverts reverting last v m rest ds st go =
+  reverts : Dues phases.Revert → n ≡ x.last → (v : World) (m : Member) (rest : List Member) (ds : List Entry) → Does phases.Revert v (m ∷ rest) → ((u : World) → Does phases.Revert u rest → To u ds) → To v (member_entries phases.Revert i n m ++ ds)
+  reverts due last v m rest ds st go =
       refused v (send_refusal m.a.0 m.b.0) (revert_on i m.a.0 m.c.0 n ∷ ds) st.stage.sound (λ send.
       along.along-entry Sound Sound Answers MayDo v (revert_on i m.a.0 m.c.0 n) ds _ refl (by send (is_flashed n (fields_at v.control m.c.0)) (nat_lt (fields_at v.control m.c.0).floor n) refl refl))
     where
@@ -423,18 +439,15 @@ module _ (w : World) (s : Sound w) (i server : ℕ) (x : Session) (r : Mirror) (
       here : In m x.members
       here = member-of v m rest st.stage
 
-      is : phase_of x.mirror ≡ phase.Reverting
-      is = phase-is phase.Reverting reverting
-
       by : send_refusal m.a.0 m.b.0 v.control ≡ None → (b low : Bool) → is_flashed n (fields_at v.control m.c.0) ≡ b → nat_lt (fields_at v.control m.c.0).floor n ≡ low
           → Then v (cond b (Do (Make (Revert m.c.0 m.a.0 i n))) (cond low (Do (Make (RaiseFloor m.c.0 n))) Pass)) (λ u. To u ds)
       by send true low flashed floor =
-          let group = order-reverts v.control st.stage.sound.groups st.stage.sound.attempts i x found m here n (sym last) is send flashed in
+          let group = order-reverts v.control st.stage.sound.groups st.stage.sound.attempts i x found m here n (sym last) (due m (st.stage.left m (inl refl)).1) send flashed in
           let on = runs-target v m rest st.stage send in (
             record { runs = on; allowed = may-turn last v m rest st.stage group.revertible; fits = tt; group = group; ready = idle v m.c.0 st.stage.sound.queue on },
             λ f y. go _ (record {
               stage = moved v m rest (Revert m.c.0 m.a.0 i n) f st.stage y;
-              done = done-reverts v.control (done v (Revert m.c.0 m.a.0 i n) f).control (carried_in v (Revert m.c.0 m.a.0 i n)) x m server rest st.stage.sound.groups (listed-in v (m ∷ rest) st.stage) here st.done n is (record { volumes = refl; keeps = true; volume = refl });
+              done = done-reverts v.control (done v (Revert m.c.0 m.a.0 i n) f).control (carried_in v (Revert m.c.0 m.a.0 i n)) x m server n rest st.stage.sound.groups (listed-in v (m ∷ rest) st.stage) here (record { volumes = refl; keeps = true; volume = refl }) st.done;
             }),
           )
       by send false true none floor =
@@ -442,11 +455,11 @@ module _ (w : World) (s : Sound w) (i server : ℕ) (x : Session) (r : Mirror) (
             record { runs = on; allowed = tt; fits = tt; group = order-raises v.control st.stage.sound.groups st.stage.sound.attempts i x found m here n (sym last) none floor; ready = idle v m.c.0 st.stage.sound.queue on },
             λ f y. go _ (record {
               stage = moved v m rest (RaiseFloor m.c.0 n) f st.stage y;
-              done = done-raises v.control (done v (RaiseFloor m.c.0 n) f).control (carried_in v (RaiseFloor m.c.0 n)) x m server rest st.stage.sound.groups (listed-in v (m ∷ rest) st.stage) here st.done n is
-                  (unflashed-plain v.control st.stage.sound.groups st.stage.sound.attempts i x found m here n (sym last) none) (record { volumes = refl; keeps = true; volume = refl });
+              done = done-raises v.control (done v (RaiseFloor m.c.0 n) f).control (carried_in v (RaiseFloor m.c.0 n)) x m server n rest st.stage.sound.groups (listed-in v (m ∷ rest) st.stage) here
+                  (unflashed-plain v.control st.stage.sound.groups st.stage.sound.attempts i x found m here n (sym last) none) (record { volumes = refl; keeps = true; volume = refl }) st.done;
             }),
           )
-      by send false false none floor = go v (does-pass v m rest st (done-reverted v.control i x m n st.stage.sound.groups st.stage.sound.attempts found here (sym last) is none))
+      by send false false none floor = go v (does-pass phases.Revert v m rest st (done-reverted v.control i x m n st.stage.sound.groups st.stage.sound.attempts found here (sym last) none floor))
 
   -- ---- Report
 
@@ -470,11 +483,16 @@ module _ (w : World) (s : Sound w) (i server : ℕ) (x : Session) (r : Mirror) (
   record Holds (v : World) (rest : List Member) : Type 0 where
     sound : Sound v
     on : v.control.on server ≡ true
-    holding : Holding v.control i n x.members
+    holding : Holding v.control i server n x.members
+    done : DoneBut v.control x.members server phases.Hold n rest
     left : (m : Member) → In m rest → In m x.members × (m.server.0 ≡ server)
 
-  passed : (v : World) (m : Member) (rest : List Member) → Holds v (m ∷ rest) → Holds v rest
-  passed v m rest st = record { sound = st.sound; on = st.on; holding = st.holding; left = λ q h. st.left q (inr h) }
+  listed-there : (v : World) (rest : List Member) → (st : Holds v rest) → In st.holding.session v.control.sessions
+  listed-there v rest st = (session-found v.control.sessions i st.holding.session st.holding.found).0
+
+  -- a member that records this attempt is passed over
+  passed : (v : World) (m : Member) (rest : List Member) → Holds v (m ∷ rest) → records n (fields_at v.control m.a.0) ≡ true → Holds v rest
+  passed v m rest st is = record { sound = st.sound; on = st.on; holding = st.holding; done = done-passes v.control x.members server phases.Hold n m rest st.done (done-held v.control m n is); left = λ q h. st.left q (inr h) }
 
   -- a member that doesn't record this attempt records none
   unrecorded : (v : World) (m : Member) (rest : List Member) → Holds v (m ∷ rest) → records n (fields_at v.control m.a.0) ≡ false → (fields_at v.control m.a.0).recording ≡ false
@@ -493,61 +511,69 @@ module _ (w : World) (s : Sound w) (i server : ℕ) (x : Session) (r : Mirror) (
       by (inl h) = quiet-silent v.control y m st.sound.groups listed (idle-quiet y st.holding.mirror st.holding.has_master h.0) here
       by (inr h) = member-silent v.control y m n st.sound.groups listed here (sym h.1) none
 
-  -- and nothing of that attempt is there yet: no seal, and no revertible target
-  record Fresh (v : World) (m : Member) : Type 0 where
-    unsealed : (fields_at v.control m.b.0).seal ≢ n
+  -- where it wasn't held for that attempt yet, nothing of it is there that comes later: no seal, and no revertible target
+  module _ (v : World) (m : Member) (rest : List Member) (st : Holds v (m ∷ rest)) (newer_than : (fields_at v.control m.a.0).attempt < n) where
+    abbrev y : Session
+    y = st.holding.session
+
+    in-y : In m y.members
+    in-y = subst (In m) (sym st.holding.members) (st.left m (inl refl)).0
+
+    y-listed : In y v.control.sessions
+    y-listed = (session-found v.control.sessions i y st.holding.found).0
+
+    seen-here : In (seen (roles v.control) m) (seen_in v.control y)
+    seen-here = to-map (seen (roles v.control)) y.members m in-y
+
+    own : AttemptOf (roles v.control) y
+    own = st.sound.attempts.sessions y y-listed
+
+    unheld : n ≡ y.last → AllHeld y.last (seen_in v.control y) → ⊥
+    unheld last all = let was : y.last ≤ (fields_at v.control m.a.0).attempt = all (seen (roles v.control) m) seen-here in let is : n ≡ y.last = last in absurd (omega arith)
+
+    unsealed : is_at (primary_of (fields_at v.control m.b.0)) m.a.0 ≡ true → (fields_at v.control m.b.0).seal ≢ n
+    unsealed to e = by st.holding.stage
+      where
+        by : BeginsOrHolds y st.holding.mirror n → ⊥
+        by (inl h) = let low = (own.numbers.each (seen (roles v.control) m) seen-here).seal in let next : n ≡ y.last + 1 = h.1 in let is : (fields_at v.control m.b.0).seal ≡ n = e in omega arith
+        by (inr h) = let was : y.last ≤ (fields_at v.control m.a.0).attempt = own.follows.sealed (seen (roles v.control) m) seen-here to (e ∙ h.1) in let is : n ≡ y.last = h.1 in absurd (omega arith)
+
+    plain : (fields_at v.control m.c.0).revertible ≡ false
+    plain = by st.holding.stage
+      where
+        by : BeginsOrHolds y st.holding.mirror n → (fields_at v.control m.c.0).revertible ≡ false
+        by (inl h) = quiet-unflashed (roles v.control) y (idle-quiet y st.holding.mirror st.holding.has_master h.0) own (seen (roles v.control) m) seen-here
+        by (inr h) = unturned (fields_at v.control m.c.0).revertible (λ flag. unheld h.1 (own.follows.turned (seen (roles v.control) m) seen-here flag))
+
     unflashed : (u : ℕ) → source (table v u) ≡ Some m.b.0 → (fields (table v) u).revertible ≡ false
-
-  fresh : (v : World) (m : Member) (rest : List Member) → Holds v (m ∷ rest) → Fresh v m
-  fresh v m rest st = record { unsealed = unsealed st.holding.stage; unflashed = unflashed }
-    where
-      y : Session
-      y = st.holding.session
-
-      here : In m y.members
-      here = subst (In m) (sym st.holding.members) (st.left m (inl refl)).0
-
-      listed : In y v.control.sessions
-      listed = (session-found v.control.sessions i y st.holding.found).0
-
-      seen-here : In (seen (roles v.control) m) (seen_in v.control y)
-      seen-here = to-map (seen (roles v.control)) y.members m here
-
-      own : AttemptOf (roles v.control) y
-      own = st.sound.attempts.sessions y listed
-
-      coordinates : st.holding.mirror.master.phase ≡ phase.Coordinating → InCoordinating y.last (seen_in v.control y)
-      coordinates is = subst (λ q. InPhase q y.last (owed_of y.mirror) (reports_of y.mirror) (seen_in v.control y)) (ap phase_of st.holding.has_master ∙ is) own.phase
-
-      unsealed : BeginsOrHolds y st.holding.mirror n → (fields_at v.control m.b.0).seal ≢ n
-      unsealed (inl h) e = let low = (own.numbers.each (seen (roles v.control) m) seen-here).seal in let next : n ≡ y.last + 1 = h.1 in omega arith
-      unsealed (inr h) e = (coordinates h.0).unsealed (seen (roles v.control) m) seen-here (e ∙ h.1)
-
-      plain-by : BeginsOrHolds y st.holding.mirror n → NoneRevertible (seen_in v.control y)
-      plain-by (inl h) = quiet-unflashed (roles v.control) y (idle-quiet y st.holding.mirror st.holding.has_master h.0) own
-      plain-by (inr h) = (coordinates h.0).before.unflashed
-
-      unflashed : (u : ℕ) → source (table v u) ≡ Some m.b.0 → (fields (table v) u).revertible ≡ false
-      unflashed u is = unturned (fields_at v.control u).revertible (λ flag.
-          let c = (st.sound.attempts.volumes u).counted (or_right (fields_at v.control u).member (fields_at v.control u).revertible flag) in
-          let one = st.sound.groups.lone.one m.b.0 c.session y c.member m c.listed listed c.here here (inr (inl ((same_Some _ _ (sym is ∙ c.source))))) (inr (inl refl)) in
-          false_true (plain-by st.holding.stage (seen (roles v.control) m) seen-here) (ap (λ q. (fields_at v.control q).revertible) (ap (λ (q : Member). q.c.0) (sym one.1) ∙ c.is) ∙ flag))
+    unflashed u is = unturned (fields_at v.control u).revertible (λ flag.
+        let c = (st.sound.attempts.volumes u).counted (or_right (fields_at v.control u).member (fields_at v.control u).revertible flag) in
+        let one = st.sound.groups.lone.one m.b.0 c.session y c.member m c.listed y-listed c.here in-y (inr (inl ((same_Some _ _ (sym is ∙ c.source))))) (inr (inl refl)) in
+        false_true plain (ap (λ q. (fields_at v.control q).revertible) (ap (λ (q : Member). q.c.0) (sym one.1) ∙ c.is) ∙ flag))
 
   may-hold : (v : World) (m : Member) (rest : List Member) → Holds v (m ∷ rest) → may_hold m.a.0 m.b.0 v.control ≡ true → stale_refusal m.a.0 n v.control ≡ None → records n (fields_at v.control m.a.0) ≡ false → MayHold (table v) m.a.0 n
   may-hold v m rest st may stale none =
       let f : Fields = fields_at v.control m.a.0 in
       let to = and_parts (is_primary_of m.b.0 f) _ may in
       let kinds = and_parts (is_kind Global f.primary) _ to.1 in
-      let own : Fresh v m = fresh v m rest st in
+      let up : f.attempt < n = newer m.a.0 n v.control stale none in
       let partner : its_secondary (table v m.a.0) ≡ Some m.b.0 = its-second m.b.0 f to.0 in
       record {
         global = kinds.0;
         pending = kinds.1;
         idle = unrecorded v m rest st none;
-        newer = newer m.a.0 n v.control stale none;
-        unsealed = λ u sends takes. subst (λ u. (fields_at v.control u).seal ≢ n) ((same_Some _ _ (sym partner ∙ sends))) own.unsealed;
-        unflashed = λ u q sends takes from. own.unflashed q (from ∙ sym sends ∙ partner);
+        newer = up;
+        unsealed = λ u sends takes. let is : m.b.0 ≡ u = same_Some _ _ (sym partner ∙ sends) in
+            subst (λ u. (fields_at v.control u).seal ≢ n) is (unsealed v m rest st up (ap (λ u. is_at (primary_of (fields_at v.control u)) m.a.0) is ∙ (ap (λ o. is_at o m.a.0) takes ∙ eq-eqb m.a.0 m.a.0 refl)));
+        unflashed = λ u q sends takes from. unflashed v m rest st up q (from ∙ sym sends ∙ partner);
       }
+
+  -- one that is held is done
+  held-done : (v : World) (m : Member) (rest : List Member) (st : Holds v (m ∷ rest)) (j : Control) → Moves v.control j m.a.0 (held_for n (fields_at v.control m.a.0)) None → DoneBut j x.members server phases.Hold n rest
+  held-done v m rest st j moves =
+      let here : In m st.holding.session.members = subst (In m) (sym st.holding.members) (st.left m (inl refl)).0 in
+      subst (λ qs. DoneBut j qs server phases.Hold n rest) st.holding.members
+      (done-holds v.control j None st.holding.session m server n rest st.sound.groups (listed-there v (m ∷ rest) st) here moves (subst (λ qs. DoneBut v.control qs server phases.Hold n (m ∷ rest)) (sym st.holding.members) st.done))
 
   holds : (v : World) (m : Member) (rest : List Member) (ds : List Entry) → Holds v (m ∷ rest) → ((u : World) → Holds u rest → To u ds) → To v (member_entries phases.Hold i n m ++ ds)
   holds v m rest ds st go =
@@ -565,15 +591,21 @@ module _ (w : World) (s : Sound w) (i server : ℕ) (x : Session) (r : Mirror) (
       to may = eqb-true (fields_at v.control m.a.0).primary_partner m.b.0 (and_parts (is_part (fields_at v.control m.a.0).primary) _ (and_parts (is_primary_of m.b.0 (fields_at v.control m.a.0)) _ may).0).1
 
       by : may_hold m.a.0 m.b.0 v.control ≡ true → stale_refusal m.a.0 n v.control ≡ None → (p q : Bool) → records n (fields_at v.control m.a.0) ≡ p → nat_lt (last_of v.control i) n ≡ q → Then v (cond p Pass (Do (cond q (OpenAttempt m.a.0 i n) (Make (Hold m.a.0 i n false))))) (λ u. To u ds)
-      by may stale true q is last = go v (passed v m rest st)
+      by may stale true q is last = go v (passed v m rest st is)
       by may stale false true is last = (
         record {
           runs = on;
           allowed = may-hold v m rest st may stale is;
           ready = idle v m.a.0 st.sound.queue on;
-          opens = holding-opens v.control i n x.members m st.holding here.0 (to may) last;
+          opens = holding-opens v.control i server n x.members m st.holding here.0 (to may) last;
         },
-        λ f y. go _ (record { sound = y; on = st.on; holding = holding-begun v.control (after_act v (OpenAttempt m.a.0 i n) f).control m.a.0 i n x.members refl last st.holding; left = λ q h. st.left q (inr h) }),
+        λ f y. go _ (record {
+          sound = y;
+          on = st.on;
+          holding = holding-begun v.control (after_act v (OpenAttempt m.a.0 i n) f).control m.a.0 i server n x.members refl last st.holding;
+          done = held-done v m rest st (after_act v (OpenAttempt m.a.0 i n) f).control (record { volumes = refl; keeps = true; volume = refl });
+          left = λ q h. st.left q (inr h);
+        }),
       )
       by may stale false false is last = (
         record {
@@ -581,9 +613,15 @@ module _ (w : World) (s : Sound w) (i server : ℕ) (x : Session) (r : Mirror) (
           allowed = may-hold v m rest st may stale is;
           fits = tt;
           ready = idle v m.a.0 st.sound.queue on;
-          group = (holding-holds v.control i n x.members m st.holding here.0 (to may) last, newer m.a.0 n v.control stale is);
+          group = (holding-holds v.control i server n x.members m st.holding here.0 here.1 (to may) last, newer m.a.0 n v.control stale is);
         },
-        λ f y. go _ (record { sound = y; on = st.on; holding = holding-stays v.control (done v (Hold m.a.0 i n false) f).control i n x.members refl st.holding; left = λ q h. st.left q (inr h) }),
+        λ f y. go _ (record {
+          sound = y;
+          on = st.on;
+          holding = holding-stays v.control (done v (Hold m.a.0 i n false) f).control i server n x.members refl st.holding;
+          done = held-done v m rest st (done v (Hold m.a.0 i n false) f).control (record { volumes = refl; keeps = true; volume = refl });
+          left = λ q h. st.left q (inr h);
+        }),
       )
 
   held : o.work ≡ phases.Hold → (v : World) → Holds v [] → Answers v
@@ -594,16 +632,20 @@ module _ (w : World) (s : Sound w) (i server : ℕ) (x : Session) (r : Mirror) (
     silent = λ q has ends. absurd (unfinished st.holding.mirror.master.phase stage (ap (λ (q : Mirror). q.master.phase) ((same_Some _ _ (sym st.holding.has_master ∙ has))) ∙ ends));
     lost = λ e. let no : phases.Hold ≡ phases.Report = sym work ∙ e in absurd cc;
     owes = λ e. let no : phases.Hold ≡ phases.Report = sym work ∙ e in absurd cc;
-    does = λ e. done-calm v.control st.holding.session server (subst LeavesTargetsAlone (sym (ap phase_of st.holding.has_master)) (calm-by st.holding.mirror.master.phase stage));
+    does = λ e. does st.holding.stage;
     among = st.holding.members;
   }
     where
       stage : (st.holding.mirror.master.phase ≡ phase.Idle) ⊎ (st.holding.mirror.master.phase ≡ phase.Coordinating)
       stage = which-stage st.holding.session st.holding.mirror n st.holding.stage
 
-      calm-by : (p : PhaseName) → (p ≡ phase.Idle) ⊎ (p ≡ phase.Coordinating) → LeavesTargetsAlone p
-      calm-by p (inl is) = subst LeavesTargetsAlone (sym is) tt
-      calm-by p (inr is) = subst LeavesTargetsAlone (sym is) tt
+      all-held : WorkDone v.control st.holding.session.members server phases.Hold n
+      all-held = subst (λ qs. WorkDone v.control qs server phases.Hold n) (sym st.holding.members) (done-ends v.control x.members server phases.Hold n st.done)
+
+      -- an Idle master asks nothing
+      does : BeginsOrHolds st.holding.session st.holding.mirror n → ServerDone v.control st.holding.session server
+      does (inl h) = λ work asks. let none : None ≡ Some work = sym (ap phases.work_in (ap phase_of st.holding.has_master ∙ h.0)) ∙ asks in absurd cc
+      does (inr h) = done-asked v.control st.holding.session server phases.Hold n (ap phases.work_in (ap phase_of st.holding.has_master ∙ h.0)) (sym h.1) all-held
 
   -- ---- each order
 
@@ -612,29 +654,35 @@ module _ (w : World) (s : Sound w) (i server : ℕ) (x : Session) (r : Mirror) (
   works-other work is other e = other (sym is ∙ e)
 
   entries-by : (work : phases.Work) → o.work ≡ work → To first (order_entries work i n ms)
-  entries-by phases.Hold is = loop Holds (member_entries phases.Hold i n) holds (held is) ms first (record { sound = start.sound; on = start.on; holding = holding-begins w.control i server x r o s.groups allowed.found allowed.mirror allowed.order is; left = start.left })
+  entries-by phases.Hold is = loop Holds (member_entries phases.Hold i n) holds (held is) ms first (record {
+    sound = start.sound;
+    on = start.on;
+    holding = holding-begins w.control i server x r o s.groups allowed.found allowed.mirror allowed.order is;
+    done = done-begins w.control x.members server phases.Hold n;
+    left = start.left;
+  })
   entries-by phases.Release is = let at = stands-by phases.Release is in
-      loop Stage (member_entries phases.Release i n) (frees at.0) (calm phase.Releasing at.0 (λ e. cc) tt (works-other phases.Release is (λ e. cc))) ms first start
+      loop Stage (member_entries phases.Release i n) (frees (due-of phase.Releasing phases.Release n at.0 (λ e. cc) refl (last-number at.1)) (last-number at.1)) (calm phase.Releasing phases.Release at.0 (λ e. cc) refl tt (last-number at.1) (works-other phases.Release is (λ e. cc))) ms first start
   entries-by phases.Seal is = let at = stands-by phases.Seal is in
-      loop Stage (member_entries phases.Seal i n) (seals at.0 (last-number at.1)) (calm phase.Draining at.0 (λ e. cc) tt (works-other phases.Seal is (λ e. cc))) ms first start
+      loop Stage (member_entries phases.Seal i n) (seals (due-of phase.Draining phases.Seal n at.0 (λ e. cc) refl (last-number at.1)) (last-number at.1)) (calm phase.Draining phases.Seal at.0 (λ e. cc) refl tt (last-number at.1) (works-other phases.Seal is (λ e. cc))) ms first start
   entries-by phases.Flash is = let at = stands-by phases.Flash is in
-      loop Does (member_entries phases.Flash i n) (flashes at.0 (last-number at.1)) (done-so phase.Flashing at.0 (λ e. cc) (works-other phases.Flash is (λ e. cc))) ms first does-begin
+      loop (Does phases.Flash) (member_entries phases.Flash i n) (flashes (due-of phase.Flashing phases.Flash n at.0 (λ e. cc) refl (last-number at.1)) (last-number at.1)) (done-so phase.Flashing phases.Flash at.0 (λ e. cc) refl (last-number at.1) (works-other phases.Flash is (λ e. cc))) ms first (does-begin phases.Flash)
   entries-by phases.Commit is = let at = stands-by phases.Commit is in
-      loop Does (member_entries phases.Commit i n) (commits at.0 (last-number at.1)) (done-so phase.Committing at.0 (λ e. cc) (works-other phases.Commit is (λ e. cc))) ms first does-begin
+      loop (Does phases.Commit) (member_entries phases.Commit i n) (commits (due-of phase.Committing phases.Commit n at.0 (λ e. cc) refl (last-number at.1)) (last-number at.1)) (done-so phase.Committing phases.Commit at.0 (λ e. cc) refl (last-number at.1) (works-other phases.Commit is (λ e. cc))) ms first (does-begin phases.Commit)
   entries-by phases.Revert is = let at = stands-by phases.Revert is in
-      loop Does (member_entries phases.Revert i n) (reverts at.0 (last-number at.1)) (done-so phase.Reverting at.0 (λ e. cc) (works-other phases.Revert is (λ e. cc))) ms first does-begin
+      loop (Does phases.Revert) (member_entries phases.Revert i n) (reverts (due-of phase.Reverting phases.Revert n at.0 (λ e. cc) refl (last-number at.1)) (last-number at.1)) (done-so phase.Reverting phases.Revert at.0 (λ e. cc) refl (last-number at.1) (works-other phases.Revert is (λ e. cc))) ms first (does-begin phases.Revert)
   entries-by phases.Finish is = let at = stands-by phases.Finish is in
-      loop Finishes (member_entries phases.Finish i n) (finishes (last-number at.1)) (finished at.0 (works-other phases.Finish is (λ e. cc))) ms first (record { stage = start; silent = λ q has ends. silent-begins w.control x server })
+      loop Finishes (member_entries phases.Finish i n) (finishes (last-number at.1)) (finished at.0 (last-number at.1) (works-other phases.Finish is (λ e. cc))) ms first (record { stage = start; silent = λ q has ends. silent-begins w.control x server; done = done-begins w.control x.members server phases.Finish n })
   entries-by phases.Report is = let at = stands-by phases.Report is in
       loop Stage (member_entries phases.Report i n) reports (reported at.0 is) ms first start
 
   -- the master may take the reply
-  answers : (reply : Bool) (v : World) → Answers v → Sound (record v { control = (cond reply (answered_by i server o.work ms) same) v.control })
-  answers true v e = sound-sessions v _ (subst (λ qs. Groups (answered_by i server o.work (members_on server qs) v.control)) e.among (groups-answered v.control i server o.work e.session e.sound.groups e.found e.silent e.owes))
+  answers : (reply : Bool) (v : World) → Answers v → Sound (record v { control = exchanged i server reply o.work ms v.control })
+  answers true v e = sound-tables v _ _ (subst (λ qs. Groups (answered_by i server o.work (members_on server qs) v.control)) e.among (groups-answered v.control i server o.work e.session e.sound.groups e.found e.silent e.owes))
       (subst (λ qs. Attempts (answered_by i server o.work (members_on server qs) v.control)) e.among (with-answered v.control i server o.work e.session e.sound.groups e.sound.attempts e.found e.lost e.does)) e.sound
-  answers false v e = e.sound
+  answers false v e = sound-flight v _ e.sound
 
-  turns : (reply : Bool) (v : World) → Answers v → Regroups v.control.sessions ((cond reply (answered_by i server o.work ms) same) v.control).sessions
+  turns : (reply : Bool) (v : World) → Answers v → Regroups v.control.sessions (exchanged i server reply o.work ms v.control).sessions
   turns true v e = regroups-taken v.control.sessions e.sound.groups.once i server (reply_after i o.work ms v.control)
   turns false v e = regroups-same v.control.sessions
 

@@ -36,6 +36,7 @@ use Rattle.dr_laws_sound.proofs.Counting.{may-follow}
 use Rattle.dr_laws_sound.proofs.Agree.{contents-image}
 use Rattle.dr_logic.proofs.Choices.{choose_some}
 use Rattle.dr_logic.proofs.Truth.{false_true}
+use Rattle.dr_facts.proofs.Parts.{global-part}
 use Rattle.dr_logic.proofs.Tables.{at_same, at_other}
 
 -- the volumes that a command names are there
@@ -160,7 +161,7 @@ module _ (w : World) (s : Sound w) where
         settled = λ x h. unturned (fields_at w.control x).revertible (unflashed first begins b p.settled x h);
       };
       fits = tt;
-      group = may-follow first begins b (unflashed first begins b p.settled);
+      group = (may-follow first begins b (unflashed first begins b p.settled), unturned (fields_at w.control a).recording (λ rec. false_true p.unpaired.0 (global-part (fields_at w.control a).primary ((begins.rows.recorders a).global rec))));
       ready = idle first b begins.queue p.on_b;
     }) second-half
 

@@ -20,7 +20,7 @@ use Rattle.dr_model.specs.declared.state.PairState.TheVariants.{Suspended as Sus
 use Rattle.dr_model.specs.declared.step.Devs.{Devs}
 use Rattle.dr_model.specs.declared.step.Name.{Name}
 use Rattle.dr_model.specs.declared.step.Step.{Step}
-use Rattle.dr_model.specs.declared.step.Step.TheVariants.{Server, Volume, Link, Stop, StopAfter, Start, Issue, Write, Apply, Show, MakeFlash, RemoveFlash, ResyncFlash, ReverseFlash, Copy, Destage, MakePath, RemovePath, MakePair, RemovePair, PausePair, ResumePair, Failover, Failback, Drain, Expire, Freeze, Unfreeze, MakeSession, RemoveSession, AddMember, RemoveMember, MakeMirror, PauseMirror, ResumeMirror, RemoveMirror, Abort, Exchange, Recover, CommitFlash, RevertFlash, ListPairs, ListFlashes, ListSession, ShowMirror, UnfreezeFlash}
+use Rattle.dr_model.specs.declared.step.Step.TheVariants.{Server, Volume, Link, Stop, StopAfter, Start, Issue, Write, Apply, Show, MakeFlash, RemoveFlash, ResyncFlash, ReverseFlash, Copy, Destage, MakePath, RemovePath, MakePair, RemovePair, PausePair, ResumePair, Failover, Failback, Drain, Expire, Freeze, Unfreeze, MakeSession, RemoveSession, AddMember, RemoveMember, MakeMirror, PauseMirror, ResumeMirror, RemoveMirror, Abort, Exchange, Lose, Recover, CommitFlash, RevertFlash, ListPairs, ListFlashes, ListSession, ShowMirror, UnfreezeFlash}
 use Rattle.dr_model.specs.Refusals.{unknown, server_off, duplicate}
 use Rattle.dr_model.specs.Control.{Control}
 use Rattle.dr_model.specs.Layout.{Fields, is_part, kind_of}
@@ -31,10 +31,12 @@ use Rattle.dr_model.specs.Entries.{fields_at, copies_from, is_running, relation_
 use Rattle.dr_model.specs.PairEntries.{are_linked, reach_refusal, end_if, refuse_if, differs_at, two_servers, stands_free, may_follow, make_entries, leads_to, belongs_to, let_go, remove_both, remove_entries, may_pause, tell_paused, pause_entries, may_resume, follow_on, resume_on, resume_entries, may_take_over, failover_entries, leads_as, fall_back_on, yield_on, failback_entries, send_refusal, suspend_where, flashed_refusal, store_on, strike_on, send_entries, sends, tracks_to_send, suspend_after, suspend_running, is_copying, first_differing}
 use Rattle.dr_model.specs.WriteEntries.{is_between, freeze_on, end_freeze, freeze_entries, thaw_on, end_thaw, thaw_entries, belongs, lift_on, flash_hold_on, flash_free_on, is_held_in}
 use Rattle.dr_model.specs.Phases as phases
-use Rattle.dr_model.specs.Sessions.{Session, Mirror, session_in, members_in, has_place_of, joined, left, changed, mirrored_by, paused, unmirrored, not_in_session, in_session, busy, leave_refusal, join_refusal, make_refusal, drop_refusal, abort_refusal}
+use Rattle.dr_model.specs.Sessions.{Session, Mirror, session_in, members_in, has_place_of, joined, changed, paused, unmirrored, not_in_session, in_session, busy, leave_refusal, join_refusal, make_refusal, drop_refusal, abort_refusal}
 use Rattle.dr_model.specs.SessionEntries.{first_number, last_of, hold_refusal, stale_refusal, hold_on, void_refusal, free_on, is_drained, seal_refusal, seal_on, is_flashed, flash_refusal, flash_on, is_committed, commit_refusal, commit_on, revert_on, is_past, finish_on, member_entries, members_on, order_entries, raise_attempt_on, raise_floor_on, add_entries}
 use Rattle.dr_model.specs.RecoveryPlans.{decided_in, take_over_on, settle_on, end_recovery, recover_entries, recover_done, recover_plan, group_of, says_group, secondary_refusal, lets_commit, lets_revert, settle_member, settle_target, settle_plan, settle_refusal, member_of_target, revertible_target}
-use Rattle.dr_model.specs.SessionPlans.{table_plan, mirror_phase, session_phase, says_phase, name_refusal, off_refusal, on_volume, on_both, add_plan, add_to, add_target, member_target, expel_plan, expel_done, expel_found, outside_refusal, master_refusal, place_refusal, taken_refusal, copy_refusal, member_with, exchange_refusal, exchange_done, exchange_on, order_of}
+use Rattle.dr_model.specs.Messages.{Message, message_in, lost}
+use Rattle.dr_model.specs.MessagePlans.{with_flight, on_message}
+use Rattle.dr_model.specs.SessionPlans.{with_sessions, table_plan, leaving, appointed, mirror_phase, session_phase, says_phase, name_refusal, off_refusal, on_volume, on_both, add_plan, add_to, add_target, member_target, expel_plan, expel_done, expel_found, outside_refusal, master_refusal, place_refusal, taken_refusal, copy_refusal, member_with, exchange_refusal, exchange_done, exchange_on, order_of}
 use Rattle.dr_model.specs.Plans.{Plan, plan_of, same, none_follow, always, tables_plan, entries_plan, only_says, refuses, unless, on_named, on_owner, on_session, is_defined, is_owner, server_named, name_bytes, counted_refusal, restore_refusal, yield_refusal, left_by, member_refusal, found_volumes, found_pair, differ, is_no_source, has_few_targets, is_plain_target, is_recorded_target, is_lone_restore, may_return, may_give_back, may_copy, at_most, left_to_copy, drain_plan, stop_on, stop_done, arm_on, expire_on, link_between, link_done, on_server, owner_of, server_refusal, server_done, volume_refusal, volume_done, issue_refusal, issue_done, show_refusal, show_done, expire_plan, path_refusal, make_path_done, unpath_refusal, remove_path_done, freeze_refusal, freeze_done, thaw_refusal, unfreeze_done, compare_plan, hold_first, release_refusal, release_done, redo_now, destage_entries}
 use Rattle.dr_laws_sound.specs.Acknowledged.{acknowledgements}
 use Rattle.dr_laws_sound.proofs.RecoveryEntries.{settle-cases}
@@ -292,8 +294,11 @@ refusal-hush r = says-hush (Refused r) (refused-not r)
 abbrev H : Plan → Type 0
 H = HushedPlan
 
+first-hush : (first : Control → Control) → H (tables_plan first [] (Done Alone))
+first-hush first = tables-hush first same [] _ (unheard-none false) (λ k. done-not _)
+
 table-hush : (f : List Session → List Session) → H (table_plan f)
-table-hush f = tables-hush _ same [] _ (unheard-none false) (λ k. done-not _)
+table-hush f = first-hush (with_sessions f)
 
 pub drain-hush : (k : Control) (a : ℕ) (most : Option ℕ) → H (drain_plan k a most)
 drain-hush k a most = record {
@@ -328,9 +333,13 @@ module _ (k : Control) (events : List Event) (line : ℕ) where
   owned : (l : ℕ) (p : ℕ → Plan) → ((s : ℕ) → H (p s)) → H (on_owner (owner_of k l) p)
   owned l = owner-plan H refusal-hush (owner_of k l)
 
-  owned-by : (dev : Option Name) (l s : ℕ) (f : List Session → List Session) (why : ℕ → Session → Option Refusal) → H (on_both k l s (λ owner x. unless (option_or (name_refusal k dev owner) (why owner x)) (table_plan f)))
-  owned-by dev l s f why = owned l (λ owner. on_session (session_in k.sessions s) (λ x. unless (option_or (name_refusal k dev owner) (why owner x)) (table_plan f)))
-      (λ owner. session-plan H refusal-hush (session_in k.sessions s) (λ x. unless (option_or (name_refusal k dev owner) (why owner x)) (table_plan f)) (λ x. one (option_or (name_refusal k dev owner) (why owner x)) (table_plan f) (table-hush f)))
+  owned-by : (dev : Option Name) (l s : ℕ) (first : ℕ → Session → Control → Control) (why : ℕ → Session → Option Refusal) → H (on_both k l s (λ owner x. unless (option_or (name_refusal k dev owner) (why owner x)) (tables_plan (first owner x) [] (Done Alone))))
+  owned-by dev l s first why = owned l (λ owner. on_session (session_in k.sessions s) (λ x. unless (option_or (name_refusal k dev owner) (why owner x)) (tables_plan (first owner x) [] (Done Alone))))
+      (λ owner. session-plan H refusal-hush (session_in k.sessions s) (λ x. unless (option_or (name_refusal k dev owner) (why owner x)) (tables_plan (first owner x) [] (Done Alone))) (λ x. one (option_or (name_refusal k dev owner) (why owner x)) (tables_plan (first owner x) [] (Done Alone)) (first-hush (first owner x))))
+
+  loses : (n : ℕ) (o : Option Message) → H (on_message o (λ m. tables_plan (with_flight (lost n)) [] (Done Alone)))
+  loses n None = refusal-hush _
+  loses n (Some m) = first-hush (with_flight (lost n))
 
   tables : (first : Control → Control) (told : List Event) (x : Addition) → acknowledgements told ≡ [] → mirrors told ≡ [] → H (tables_plan first told (Done x))
   tables first told x none plain = tables-hush first same told (always (Done x)) (record { none = none; plain = plain; uncut = λ h. absurd cc }) (λ j. done-not x)
@@ -427,19 +436,18 @@ module _ (k : Control) (events : List Event) (line : ℕ) where
       (λ s. one (release_refusal k devs.dev s) (release_done k l) (entries-hush (map (flash_free_on l) k.volumes) Alone (release-hush l k.volumes)))
   step-hush (MakeSession devs l s) other = owned l (λ owner. unless (option_or (name_refusal k devs.dev owner) (option_or (off_refusal k owner) (join_refusal (session_in k.sessions s) l k.sessions))) (table_plan (joined s l)))
       (λ owner. one (option_or (name_refusal k devs.dev owner) (option_or (off_refusal k owner) (join_refusal (session_in k.sessions s) l k.sessions))) (table_plan (joined s l)) (table-hush (joined s l)))
-  step-hush (RemoveSession devs l s) other = owned-by devs.dev l s (left s l) (λ owner x. leave_refusal (Some x) s l)
+  step-hush (RemoveSession devs l s) other = owned-by devs.dev l s (λ owner x. leaving s l x) (λ owner x. leave_refusal (Some x) s l)
   step-hush (AddMember devs l a s) other = adds devs.dev l a s
   step-hush (RemoveMember devs l a s) other = expels devs.dev l a s
-  step-hush (MakeMirror devs l s cginterval coordinate drain) other = owned l (λ owner. on_session (session_in k.sessions s) (λ x. unless (option_or (name_refusal k devs.dev owner) (option_or (outside_refusal x l) (option_or (off_refusal k owner) (make_refusal x.mirror)))) (table_plan (changed s (mirrored_by owner)))))
-      (λ owner. session-plan H refusal-hush (session_in k.sessions s) (λ x. unless (option_or (name_refusal k devs.dev owner) (option_or (outside_refusal x l) (option_or (off_refusal k owner) (make_refusal x.mirror)))) (table_plan (changed s (mirrored_by owner))))
-      (λ x. one (option_or (name_refusal k devs.dev owner) (option_or (outside_refusal x l) (option_or (off_refusal k owner) (make_refusal x.mirror)))) (table_plan (changed s (mirrored_by owner))) (table-hush (changed s (mirrored_by owner)))))
-  step-hush (PauseMirror devs l s) other = owned-by devs.dev l s (changed s (paused true)) (λ owner x. option_or (outside_refusal x l) (master_refusal k x.mirror))
-  step-hush (ResumeMirror devs l s cginterval coordinate drain) other = owned-by devs.dev l s (changed s (paused false)) (λ owner x. option_or (outside_refusal x l) (master_refusal k x.mirror))
-  step-hush (RemoveMirror devs l s) other = owned-by devs.dev l s (changed s unmirrored) (λ owner x. option_or (outside_refusal x l) (option_or (master_refusal k x.mirror) (drop_refusal x.mirror)))
-  step-hush (Abort s) other = session-plan H refusal-hush (session_in k.sessions s) (λ x. unless (option_or (abort_refusal x.mirror) (master_refusal k x.mirror)) (aborted s))
-      (λ x. one (option_or (abort_refusal x.mirror) (master_refusal k x.mirror)) (aborted s) (tables-hush _ same _ (says_phase s) (unheard-none false) (λ j. phase-not (session_in j.sessions s))))
+  step-hush (MakeMirror devs l s cginterval coordinate drain) other = owned-by devs.dev l s (λ owner x. appointed s owner) (λ owner x. option_or (outside_refusal x l) (option_or (off_refusal k owner) (make_refusal x.mirror)))
+  step-hush (PauseMirror devs l s) other = owned-by devs.dev l s (λ owner x. with_sessions (changed s (paused true))) (λ owner x. option_or (outside_refusal x l) (master_refusal k x.mirror))
+  step-hush (ResumeMirror devs l s cginterval coordinate drain) other = owned-by devs.dev l s (λ owner x. with_sessions (changed s (paused false))) (λ owner x. option_or (outside_refusal x l) (master_refusal k x.mirror))
+  step-hush (RemoveMirror devs l s) other = owned-by devs.dev l s (λ owner x. with_sessions (changed s unmirrored)) (λ owner x. option_or (outside_refusal x l) (option_or (master_refusal k x.mirror) (drop_refusal x.mirror)))
+  step-hush (Abort s) other = session-plan H refusal-hush (session_in k.sessions s) (λ x. unless (option_or (abort_refusal x.mirror) (master_refusal k x.mirror)) (aborted s x.mirror))
+      (λ x. one (option_or (abort_refusal x.mirror) (master_refusal k x.mirror)) (aborted s x.mirror) (tables-hush _ same _ (says_phase s) (unheard-none false) (λ j. phase-not (session_in j.sessions s))))
   step-hush (Exchange s name reply) other = session-plan H refusal-hush (session_in k.sessions s) (λ x. on_server k name (λ server. exchange_on k s x.mirror server reply x.members))
       (λ x. named (server_named k (name_bytes name)) (λ server. exchange_on k s x.mirror server reply x.members) (λ server. exchange-hush k s server x.mirror reply x.members))
+  step-hush (Lose n) other = loses n (message_in k.flight n)
   step-hush (Recover s) other = recovers s
   step-hush (CommitFlash devs source sequence) other = by-hand devs.dev lets_commit source
   step-hush (RevertFlash devs source sequence) other = by-hand devs.dev lets_revert source

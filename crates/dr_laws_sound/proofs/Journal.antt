@@ -28,11 +28,13 @@ use Rattle.dr_model.specs.Phases as phases
 use Rattle.dr_ids.specs.declared.names.Member.{Member}
 use Rattle.dr_model.specs.Sessions.{Session, joined, left, changed, begun as attempted, mirrored_by, paused, unmirrored, raised, with_master, with_member, without_member}
 use Rattle.dr_model.specs.SessionEntries.{members_on, first_number, reply_after}
-use Rattle.dr_model.specs.SessionPlans.{with_sessions, table_plan, says_phase, answered_by, member_with}
+use Rattle.dr_model.specs.Messages.{lost}
+use Rattle.dr_model.specs.MessagePlans.{with_flight}
+use Rattle.dr_model.specs.SessionPlans.{with_sessions, table_plan, appointed, leaving, aborting, exchanged, says_phase, member_with}
 use Rattle.dr_laws_sound.specs.Limits.{IsWithin}
 use Rattle.dr_facts.proofs.Sessions.{length-changed, changed-twice, length-left, joined-few}
 use Rattle.dr_model.specs.RecoveryPlans.{decided_in, recover_done}
-use Rattle.dr_laws_sound.proofs.Cases.{Case, Says, DefinesServer, DefinesVolume, SetsLink, Issues, Writes, Applies, Lists, Shows, Stops, Arms, Starts, MakesFlash, RemovesFlash, ResyncsFlash, ReversesFlash, Copies, Destages, MakesPath, RemovesPath, MakesPair, RemovesPair, PausesPair, ResumesPair, FailsOver, FailsBack, Compares, Drains, Expires, Freezes, Unfreezes, MakesSession, RemovesSession, MakesMirror, PausesMirror, RemovesMirror, Aborts, AddsMember, RemovesMember, Exchanges, Recovers, Settles, aborted, servers-left, is-new, may-issue, Releases}
+use Rattle.dr_laws_sound.proofs.Cases.{Case, Says, DefinesServer, DefinesVolume, SetsLink, Issues, Writes, Applies, Lists, Shows, Stops, Arms, Starts, MakesFlash, RemovesFlash, ResyncsFlash, ReversesFlash, Copies, Destages, MakesPath, RemovesPath, MakesPair, RemovesPair, PausesPair, ResumesPair, FailsOver, FailsBack, Compares, Drains, Expires, Freezes, Unfreezes, MakesSession, RemovesSession, MakesMirror, PausesMirror, RemovesMirror, Aborts, AddsMember, RemovesMember, Exchanges, Loses, Recovers, Settles, aborted, servers-left, is-new, may-issue, Releases}
 use Rattle.dr_laws_sound.proofs.Listed.{lines-plain, image-lines}
 use Rattle.dr_laws_sound.proofs.Parts.{Comes, Ending, OnePlan, Imaged, course-case, last-plan}
 use Rattle.dr_facts.proofs.Tables.{at_cases, at_part}
@@ -372,11 +374,11 @@ module _ (k : Control) where
   case-modest events line _ (Releases l) = entries-modest _ _
   case-modest events line _ (MakesSession l s free) = modest (table_plan (joined s l)).first [] [] (always (Done Alone)) (omega arith)
       (λ h. record { servers = h.servers; volumes = h.volumes; pending = h.pending; tracks = h.tracks; sessions = joined-few k.sessions s l h.sessions free }) refl
-  case-modest events line _ (RemovesSession l s x found free) = quiet (table_plan (left s l)).first [] [] (always (Done Alone)) refl (retabled (left s l) (length-left k.sessions s l)) refl
-  case-modest events line _ (MakesMirror owner s x found free l owned) = quiet (table_plan (changed s (mirrored_by owner))).first [] [] (always (Done Alone)) refl (retabled (changed s (mirrored_by owner)) (length-changed s (mirrored_by owner) k.sessions)) refl
+  case-modest events line _ (RemovesSession l s x found free) = quiet (leaving s l x) [] [] (always (Done Alone)) refl (retabled (left s l) (length-left k.sessions s l)) refl
+  case-modest events line _ (MakesMirror owner s x found free l owned) = quiet (appointed s owner) [] [] (always (Done Alone)) refl (retabled (changed s (mirrored_by owner)) (length-changed s (mirrored_by owner) k.sessions)) refl
   case-modest events line _ (PausesMirror s on) = quiet (table_plan (changed s (paused on))).first [] [] (always (Done Alone)) refl (retabled (changed s (paused on)) (length-changed s (paused on) k.sessions)) refl
   case-modest events line _ (RemovesMirror s x found free) = quiet (table_plan (changed s unmirrored)).first [] [] (always (Done Alone)) refl (retabled (changed s unmirrored) (length-changed s unmirrored k.sessions)) refl
-  case-modest events line _ (Aborts s x found free) = quiet (aborted s).first [] [] (says_phase s) refl (retabled (changed s (with_master phases.aborted)) (length-changed s (with_master phases.aborted) k.sessions)) refl
+  case-modest events line _ (Aborts s x found free) = quiet (aborting s x.mirror) [] [] (says_phase s) refl (retabled (changed s (with_master phases.aborted)) (length-changed s (with_master phases.aborted) k.sessions)) refl
   case-modest events line _ (AddsMember s a c x joins) =
       let m : Member = member_with k a c in
       let n : ℕ = first_number k x.last m in
@@ -384,11 +386,12 @@ module _ (k : Control) where
   case-modest events line _ (RemovesMember s a x m found is idle on) = record { one = omega arith; within = λ h. h; last = λ j. stays-sessions (changed s (without_member m.a.0)) j (length-changed s (without_member m.a.0) j.sessions); silent = refl }
   case-modest events line _ (Recovers s x found on) = quiet same [] (recover_done s (decided_in s k) x.members).entries (recover_done s (decided_in s k) x.members).says refl unmoved refl
   case-modest events line _ (Settles s x m found here on free) = entries-modest _ _
+  case-modest events line _ (Loses n) = quiet (with_flight (lost n)) [] [] (always (Done Alone)) refl unmoved refl
   case-modest events line _ (Exchanges s server reply x r o allowed) = record { one = omega arith; within = λ h. h; last = by reply; silent = refl }
     where
-      by : (b : Bool) (j : Control) → Stays j (cond b (answered_by s server o.work (members_on server x.members)) same j)
+      by : (b : Bool) (j : Control) → Stays j (exchanged s server b o.work (members_on server x.members) j)
       by true j = record { servers = refl; tracks = λ v. refl; volumes = refl; issued = refl; pending = omega arith; sessions = length-changed s (with_master (λ m. phases.taken m server (reply_after s o.work (members_on server x.members) j))) j.sessions }
-      by false j = stays-same j
+      by false j = record { servers = refl; tracks = λ v. refl; volumes = refl; issued = refl; pending = omega arith; sessions = omega arith }
 
 pub ending-modest : (k : Control) (events : List Event) (line : ℕ) (p : Plan) → Ending k events line p → Modest k p
 ending-modest k events line _ (OnePlan p c) = case-modest k events line p c

@@ -21,6 +21,8 @@
 --   one event each), `Spends.antt`)
 -- - a step adds to the journal, its answer last: `after_task-ends`, `after_tasks-grows` (`Journal.antt`)
 -- - no more writes are issued than there are steps: `issued-run` (`Journal.antt`)
+-- - no count of the flight is above the number of events: `counted-run`, and of a plan before masters are lost `counted-plan`
+--   (`FlightCounts.antt`): a plan raises a count by one at most, and tells its answer; a master is lost where a stop was told, too
 -- - the text of a journal comes piece by piece: `text-append`, `ends-reset` (`Texts.antt`)
 -- - E21 comes exactly where the acts told a stop: `carry-tells`, `case-calm` (`StopsTold.antt`, `CalmPlans.antt`)
 -- - a step with another refusal leaves what `Leaves` names: entries that end no plan are `Endless`; where checks come before them,
@@ -35,7 +37,7 @@
 --   allowed, and what rides along holds
 -- **A law that rides.** A law on the rows and the journal that needs `Sound` where acts come, and that `Sound` doesn't
 -- need, is no field of `Sound`. It is a `Rider` (`Riders.antt`): what its acts keep, those of a start, what no list
--- hears of, a write that is issued, a volume that is defined, and another table of sessions (`regroups`: members stay in
+-- hears of (other messages, too), a write that is issued, a volume that is defined, and another table of sessions (`regroups`: members stay in
 -- their attempt, or their session is Idle; what a plan makes of the table at its end is the field `turns` of its
 -- `Orders`). `rides-task` and `rides-tasks` then give it of every step; `cuts-ride` (`SealsAlong.antt`) and
 -- `closes-ride` (`ClosesAlong.antt`), which rides beside it, are such. `Rides.antt` puts a law beside those of any plan
@@ -56,8 +58,9 @@
 --   everything that may follow).
 -- - **A recovery** (`FitsRecovery.antt`) goes over the members twice: `TakenBut` says which secondaries are left to
 --   take, while what the members show stays; then `RestCommits` or `RestReverts` stays from member to member.
--- - The premises of an order's moves are its checks (`order-flashes` and its like). While it goes on, `DoneBut` says who
---   is left to do, and at the end `ServerDone` lets the reply be taken.
+-- - The premises of an order's moves are its checks, and that it is due (`order-flashes` and its like). While it goes on, `DoneBut`
+--   says who is left to do, and at the end `ServerDone` lets the reply be taken. In `FitsOrders.antt` the entries of each order ask
+--   only what is due (`Dues`); its phase is named where the order is chosen (`entries-by`) and where the reply is taken.
 -- - **An order's loop in `FitsOrders.antt`** has one state (`Stage`, with `Does`, `Finishes` or `Holds` around it), one
 --   step for each kind of order, and `Answers` at the end, which is all that the reply rests on. A new order is a step
 --   that gives `May` from the lemma of its checks, and hands `done-..` to the next member.
@@ -107,6 +110,7 @@ pub mod Starts
 pub mod Parts
 pub mod Steps
 pub mod Journal
+pub mod FlightCounts
 pub mod Costs
 pub mod CopyCosts
 pub mod PairCosts

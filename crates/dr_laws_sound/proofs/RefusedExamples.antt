@@ -11,19 +11,20 @@ use Rattle.dr_model.specs.Carry.{act, carry}
 use Rattle.dr_model.specs.Runs.{after_plan, after_task, said}
 use Rattle.dr_laws_sound.specs.RefusedSteps.{with_issued}
 use Rattle.dr_laws_sound.specs.RefusedExamples.{stopped, inhibited, writes, copies, recovers}
+use Rattle.dr_laws_sound.proofs.RefusedSteps.{lost-stays}
 
 pub write-waits : after_task stopped writes ≡ said (with_issued stopped 5 0 0 1 (7 ∷ [])) 9 (Refused (server_off 0))
 unfolding after_plan carry
-write-waits = refl
+write-waits = lost-stays stopped (said (with_issued stopped 5 0 0 1 (7 ∷ [])) 9 (Refused (server_off 0))) refl
 
 pub write-dropped : after_task inhibited writes ≡ said (record inhibited { control = record inhibited.control { issued = 1 }; events = Issue 1 5 0 0 1 (7 ∷ []) ∷ [] }) 9 (Refused (Inhibited (record { 0 = 5 })))
 unfolding after_plan carry act
-write-dropped = refl
+write-dropped = lost-stays inhibited (said (record inhibited { control = record inhibited.control { issued = 1 }; events = Issue 1 5 0 0 1 (7 ∷ []) ∷ [] }) 9 (Refused (Inhibited (record { 0 = 5 })))) refl
 
 pub copy-unknown : after_task inhibited copies ≡ said inhibited 9 (Refused (unknown OfVolume))
 unfolding after_plan carry
-copy-unknown = refl
+copy-unknown = lost-stays inhibited (said inhibited 9 (Refused (unknown OfVolume))) refl
 
 pub recovery-none : after_task inhibited recovers ≡ said (record inhibited { events = Recovered 1 0 ∷ [] }) 9 (Refused (NoGroup NoMember))
 unfolding after_plan carry act decided decision
-recovery-none = refl
+recovery-none = lost-stays inhibited (said (record inhibited { events = Recovered 1 0 ∷ [] }) 9 (Refused (NoGroup NoMember))) refl

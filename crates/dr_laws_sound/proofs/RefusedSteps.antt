@@ -1,5 +1,5 @@
 -- A step that is refused, but by the stop of a server, changes nothing but what `Leaves` names: by the plan of each step.
-use Rattle.std.proofs.Common.{ℕ, ◌+◌, ◌≡◌, inl, inr, refl, ap, sym, ◌∙◌, subst, ◌||◌, Bool, true, false, cond, List, [], Option, Some, None, Result, Ok, nat_eq}
+use Rattle.std.proofs.Common.{ℕ, ◌+◌, ◌≡◌, inl, inr, refl, ap, sym, ◌∙◌, subst, ◌||◌, Bool, true, false, cond, [], Option, Some, None, Result, Ok, nat_eq}
 use Rattle.std.specs.Prelude.{◌==◌}
 use Rattle.std.specs.List.{find}
 use Rattle.std.specs.Option.{option_or}
@@ -8,26 +8,29 @@ use Rattle.dr_ids.specs.declared.refusal.Decision.{Decision}
 use Rattle.dr_ids.specs.declared.refusal.Refusal.{Refusal}
 use Rattle.dr_ids.specs.declared.refusal.Refusal.TheVariants.{JournalFull, NoGroup}
 use Rattle.dr_model.specs.declared.said.Said.{Said}
-use Rattle.dr_model.specs.declared.said.Said.TheVariants.{Refused}
+use Rattle.dr_model.specs.declared.said.Said.TheVariants.{Done, Refused}
 use Rattle.dr_model.specs.declared.said.Addition.TheVariants.{Alone}
+use Rattle.dr_model.specs.Carried.{losing}
 use Rattle.dr_model.specs.declared.step.Name.{Name}
 use Rattle.dr_model.specs.declared.step.Step.{Step}
-use Rattle.dr_model.specs.declared.step.Step.TheVariants.{Server, Volume, Link, Stop, StopAfter, Start, Issue, Write, Apply, Show, MakeFlash, RemoveFlash, ResyncFlash, ReverseFlash, Copy, Destage, MakePath, RemovePath, MakePair, RemovePair, PausePair, ResumePair, Failover, Failback, Drain, Expire, Freeze, Unfreeze, MakeSession, RemoveSession, AddMember, RemoveMember, MakeMirror, PauseMirror, ResumeMirror, RemoveMirror, Abort, Exchange, Recover, CommitFlash, RevertFlash, Run, ListPairs, ListFlashes, ListSession, ShowMirror, UnfreezeFlash}
+use Rattle.dr_model.specs.declared.step.Step.TheVariants.{Server, Volume, Link, Stop, StopAfter, Start, Issue, Write, Apply, Show, MakeFlash, RemoveFlash, ResyncFlash, ReverseFlash, Copy, Destage, MakePath, RemovePath, MakePair, RemovePair, PausePair, ResumePair, Failover, Failback, Drain, Expire, Freeze, Unfreeze, MakeSession, RemoveSession, AddMember, RemoveMember, MakeMirror, PauseMirror, ResumeMirror, RemoveMirror, Abort, Exchange, Lose, Recover, CommitFlash, RevertFlash, Run, ListPairs, ListFlashes, ListSession, ShowMirror, UnfreezeFlash}
 use Rattle.dr_model.specs.Layout.{kind_of}
 use Rattle.dr_model.specs.Listings.{listing_refusal}
 use Rattle.dr_model.specs.Control.{Control, World}
-use Rattle.dr_model.specs.Sessions.{Session, session_in, lost_since, has_place_of, left, changed, paused, unmirrored, busy, in_session, not_in_session, join_refusal, make_refusal, abort_refusal}
+use Rattle.dr_model.specs.Sessions.{Session, session_in, has_place_of, changed, paused, unmirrored, busy, in_session, not_in_session, join_refusal, make_refusal, abort_refusal}
 use Rattle.dr_model.specs.Carry.{dropped}
 use Rattle.dr_model.specs.Entries.{fields_at}
 use Rattle.dr_model.specs.SessionEntries.{first_number}
-use Rattle.dr_model.specs.PlanParts.{Plan, refuses, unless, on_session, on_owner, owner_of, server_named, name_bytes, is_defined}
-use Rattle.dr_model.specs.SessionPlans.{table_plan, name_refusal, off_refusal, outside_refusal, master_refusal, place_refusal, taken_refusal, copy_refusal, member_target, member_with, add_target, expel_found, abort_plan, add_plan, expel_plan}
+use Rattle.dr_model.specs.PlanParts.{Plan, tables_plan, refuses, unless, on_session, on_owner, owner_of, server_named, name_bytes, is_defined}
+use Rattle.dr_model.specs.Messages.{Message, message_in, lost}
+use Rattle.dr_model.specs.MessagePlans.{with_flight, on_message}
+use Rattle.dr_model.specs.SessionPlans.{with_sessions, leaving, name_refusal, off_refusal, outside_refusal, master_refusal, place_refusal, taken_refusal, copy_refusal, member_target, member_with, add_target, expel_found, abort_plan, add_plan, expel_plan}
 use Rattle.dr_model.specs.RecoveryPlans.{decided_in, lets_commit, lets_revert, settle_on, member_of_target, revertible_target, settle_refusal, settle_member, settle_target, settle_plan}
 use Rattle.dr_model.specs.Plans.{plan_of, step_plan, has_room, server_refusal, volume_refusal, issue_refusal, show_refusal, start_plan, landed_on, says_acked, path_refusal, unpath_refusal, freeze_refusal, thaw_refusal, release_refusal}
 use Rattle.dr_model.specs.Carried.{carried_out, answered, said, masters_lost, after_plan}
 use Rattle.dr_model.specs.Forming.{refusal_said, part_refusal}
 use Rattle.dr_model.specs.Runs.{own_course}
-use Rattle.dr_facts.proofs.Sessions.{lost-none}
+use Rattle.dr_facts.proofs.Sessions.{losing-none}
 use Rattle.dr_laws_sound.specs.RefusedSteps.{is_by_volume, is_off, with_issued, Leaves}
 use Rattle.dr_laws_sound.proofs.Endless.{last-endless, settle-goes, start-endless, freeze-endless, thaw-endless, expire-endless, now-endless, add-endless, release-endless}
 use Rattle.dr_laws_sound.proofs.ChecksFirst.{first-done, never-leads, on-stays}
@@ -36,8 +39,12 @@ use Rattle.dr_laws_sound.proofs.RefusedWrites.{says-left, write-left, applied-le
 
 -- ---- plans that leave the world
 
-still-session-table : (o : Option ℕ) (q : ℕ → Option Session) (why : ℕ → Session → Option Refusal) (f : List Session → List Session) → Still (on_owner o (λ owner. on_session (q owner) (λ x. unless (why owner x) (table_plan f))))
-still-session-table o q why f = still-owner o _ (λ owner. still-session (q owner) _ (λ x. still-unless (why owner x) _ (still-tables _ _ _)))
+still-session-table : (o : Option ℕ) (q : ℕ → Option Session) (why : ℕ → Session → Option Refusal) (first : ℕ → Session → Control → Control) → Still (on_owner o (λ owner. on_session (q owner) (λ x. unless (why owner x) (tables_plan (first owner x) [] (Done Alone)))))
+still-session-table o q why first = still-owner o _ (λ owner. still-session (q owner) _ (λ x. still-unless (why owner x) _ (still-tables _ _ _)))
+
+still-lose : (n : ℕ) (o : Option Message) → Still (on_message o (λ m. tables_plan (with_flight (lost n)) [] (Done Alone)))
+still-lose n None = still-says _
+still-lose n (Some m) = still-tables _ _ _
 
 module _ (k : Control) where
   -- a start is never refused but by a stop
@@ -120,15 +127,16 @@ plan-left w line (UnfreezeFlash devs l) one = still-owner (owner_of w.control l)
 plan-left w line (Freeze devs l m) one = still-owner (owner_of w.control l) _ (λ s. still-owner (owner_of w.control m) _ (λ u. still-unless (freeze_refusal w.control devs l m s u) _ (still-entries _ _ (first-done _ (freeze-endless l m w.control.volumes))))) w
 plan-left w line (Unfreeze devs l m) one = still-owner (owner_of w.control l) _ (λ s. still-owner (owner_of w.control m) _ (λ u. still-unless (thaw_refusal w.control devs s u) _ (still-entries _ _ (first-done _ (thaw-endless l m w.control.volumes))))) w
 plan-left w line (MakeSession devs l s) one = still-owner (owner_of w.control l) _ (λ owner. still-unless (option_or (name_refusal w.control devs.dev owner) (option_or (off_refusal w.control owner) (join_refusal (session_in w.control.sessions s) l w.control.sessions))) _ (still-tables _ _ _)) w
-plan-left w line (RemoveSession devs l s) one = still-session-table (owner_of w.control l) (λ owner. session_in w.control.sessions s) _ (left s l) w
+plan-left w line (RemoveSession devs l s) one = still-session-table (owner_of w.control l) (λ owner. session_in w.control.sessions s) _ (λ owner x. leaving s l x) w
 plan-left w line (AddMember devs l a s) one = still-add w.control devs.dev l a s w
 plan-left w line (RemoveMember devs l a s) one = still-expel w.control devs.dev l a s w
 plan-left w line (MakeMirror devs l s cginterval coordinate drain) one = still-owner (owner_of w.control l) _ (λ owner. still-session (session_in w.control.sessions s) _ (λ x. still-unless (option_or (name_refusal w.control devs.dev owner) (option_or (outside_refusal x l) (option_or (off_refusal w.control owner) (make_refusal x.mirror)))) _ (still-tables _ _ _))) w
-plan-left w line (PauseMirror devs l s) one = still-session-table (owner_of w.control l) (λ owner. session_in w.control.sessions s) _ (changed s (paused true)) w
-plan-left w line (ResumeMirror devs l s cginterval coordinate drain) one = still-session-table (owner_of w.control l) (λ owner. session_in w.control.sessions s) _ (changed s (paused false)) w
-plan-left w line (RemoveMirror devs l s) one = still-session-table (owner_of w.control l) (λ owner. session_in w.control.sessions s) _ (changed s unmirrored) w
+plan-left w line (PauseMirror devs l s) one = still-session-table (owner_of w.control l) (λ owner. session_in w.control.sessions s) _ (λ owner x. with_sessions (changed s (paused true))) w
+plan-left w line (ResumeMirror devs l s cginterval coordinate drain) one = still-session-table (owner_of w.control l) (λ owner. session_in w.control.sessions s) _ (λ owner x. with_sessions (changed s (paused false))) w
+plan-left w line (RemoveMirror devs l s) one = still-session-table (owner_of w.control l) (λ owner. session_in w.control.sessions s) _ (λ owner x. with_sessions (changed s unmirrored)) w
 plan-left w line (Abort s) one = still-abort w.control s w
 plan-left w line (Exchange s name reply) one = λ r. exchange-left w s reply r name
+plan-left w line (Lose n) one = still-lose n (message_in w.control.flight n) w
 plan-left w line (Recover s) one = recover-left w s
 plan-left w line (CommitFlash devs source sequence) one = still-settle w.control devs.dev lets_commit source w
 plan-left w line (RevertFlash devs source sequence) one = still-settle w.control devs.dev lets_revert source w
@@ -196,8 +204,7 @@ refused-says a r e = absurd cc
 -- a world where no server went off loses no master
 pub lost-stays : (w u : World) → u.control.on ≡ w.control.on → masters_lost w u ≡ u
 lost-stays w u on =
-    ap (λ (on : ℕ → Bool). record u { control = record u.control { sessions = lost_since on u.control.on u.control.sessions } }) (sym on)
-    ∙ ap (λ ss. record u { control = record u.control { sessions = ss } }) (lost-none u.control.on u.control.sessions)
+    ap (λ (on : ℕ → Bool). record u { control = losing on u.control }) (sym on) ∙ ap (λ k. record u { control = k }) (losing-none u.control)
 
 pub after-refused : (w : World) (line : ℕ) (p : Plan) (r : Refusal) → part_refusal w p ≡ Some r → (carried_out w p).0.control.on ≡ w.control.on → masters_lost w (after_plan w line p) ≡ said (carried_out w p).0 line (Refused r)
 unfolding after_plan

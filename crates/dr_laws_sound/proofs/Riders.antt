@@ -1,5 +1,5 @@
 -- A law on the rows of volumes and on the journal that each act keeps rides along every step, and so along every run.
-use Rattle.std.proofs.Common.{ℕ, zero, suc, ◌≡◌, ◌⊎◌, ◌<◌, ◌+◌, inl, inr, refl, ap, ◌∙◌, Bool, true, false, List, [], ◌∷◌, ◌++◌, length, take, nat_eq, Some, None}
+use Rattle.std.proofs.Common.{ℕ, zero, suc, ◌≡◌, ◌⊎◌, ◌<◌, ◌+◌, inl, inr, refl, ap, sym, ◌∙◌, Bool, true, false, List, [], ◌∷◌, ◌++◌, length, take, nat_eq, Some, None}
 use Rattle.std.proofs.lemmas.List.{append-nil}
 use Rattle.std.specs.List.{list_any}
 use Rattle.dr_ids.specs.declared.refusal.Refusal.{Refusal}
@@ -16,11 +16,13 @@ use Rattle.dr_model.specs.Moves.{Move, Restart}
 use Rattle.dr_model.specs.Carry.{Entry, carry}
 use Rattle.dr_model.specs.ReadStops.{Ends}
 use Rattle.dr_model.specs.Phases as phases
+use Rattle.dr_model.specs.Messages.{Flight}
+use Rattle.dr_model.specs.Messages as messages
 use Rattle.dr_model.specs.Sessions.{Session, joined, left, changed, mirrored_by, paused, unmirrored, with_master, lost_since}
 use Rattle.dr_model.specs.Groups.{In, Groups}
 use Rattle.dr_model.specs.Attempts.{Attempts}
 use Rattle.dr_model.specs.SessionEntries.{members_on}
-use Rattle.dr_model.specs.SessionPlans.{with_sessions, member_with, answered_by}
+use Rattle.dr_model.specs.SessionPlans.{with_sessions, member_with, exchanged}
 use Rattle.dr_model.specs.Plans.{Plan, same, always, none_follow, entries_plan, write_done, apply_done, drain_plan, start_plan}
 use Rattle.dr_model.specs.Forming.{Part, after_part}
 use Rattle.dr_model.specs.Runs.{Task, course, plans_of, begun, carried_out, answered, said, after_plan, after_task, after_tasks, masters_lost, image_told}
@@ -38,7 +40,7 @@ use Rattle.dr_laws_closed.proofs.Regroups.{regroups-same, regroups-joined, regro
 use Rattle.dr_model.specs.Listings.{lists}
 use Rattle.dr_laws_sound.specs.Calm.{Carries, ComesTo}
 use Rattle.dr_laws_sound.proofs.Listed.{AllLines, Plain, lines-plain, lines-lists, image-lines}
-use Rattle.dr_laws_sound.proofs.Cases.{Case, Says, DefinesServer, DefinesVolume, SetsLink, Issues, Writes, Applies, Lists, Shows, Stops, Arms, Starts, MakesFlash, RemovesFlash, ResyncsFlash, ReversesFlash, Copies, Destages, MakesPath, RemovesPath, MakesPair, RemovesPair, PausesPair, ResumesPair, FailsOver, FailsBack, Compares, Drains, Expires, Freezes, Unfreezes, MakesSession, RemovesSession, MakesMirror, PausesMirror, RemovesMirror, Aborts, AddsMember, RemovesMember, Exchanges, Recovers, Settles, added, expelled, ordered, is-new, may-issue, Releases}
+use Rattle.dr_laws_sound.proofs.Cases.{Case, Says, DefinesServer, DefinesVolume, SetsLink, Issues, Writes, Applies, Lists, Shows, Stops, Arms, Starts, MakesFlash, RemovesFlash, ResyncsFlash, ReversesFlash, Copies, Destages, MakesPath, RemovesPath, MakesPair, RemovesPair, PausesPair, ResumesPair, FailsOver, FailsBack, Compares, Drains, Expires, Freezes, Unfreezes, MakesSession, RemovesSession, MakesMirror, PausesMirror, RemovesMirror, Aborts, AddsMember, RemovesMember, Exchanges, Loses, Recovers, Settles, added, expelled, ordered, is-new, may-issue, Releases}
 use Rattle.dr_laws_sound.proofs.KeepsSound.{Along, StepHolds, RowsAt, MayDo, keeps-sound, sound-gone, over}
 use Rattle.dr_laws_sound.proofs.Along as along
 use Rattle.dr_laws_sound.proofs.FitsFlash.{as_begun, sound-begun, along-flash, along-withdraw, along-resync, along-reverse}
@@ -49,7 +51,7 @@ use Rattle.dr_laws_sound.proofs.FitsFailover.{along-failover, along-failback, al
 use Rattle.dr_laws_sound.proofs.FitsDrain.{along-drain, suspends-after}
 use Rattle.dr_laws_sound.proofs.FitsWrites.{lands, writes-after}
 use Rattle.dr_laws_sound.proofs.FitsHolds.{freezes, thaws, lifts, releases}
-use Rattle.dr_laws_sound.proofs.FitsSessions.{Orders, sound-sessions, sound-lost}
+use Rattle.dr_laws_sound.proofs.FitsSessions.{Orders, sound-tables, sound-flight, sound-lost}
 use Rattle.dr_laws_sound.proofs.FitsMembers.{orders-added, orders-expelled}
 use Rattle.dr_laws_sound.proofs.FitsOrders.{orders-ordered}
 use Rattle.dr_laws_sound.proofs.FitsRecovery.{along-recover, along-settle}
@@ -153,10 +155,18 @@ module _ (K : World → Type 0) (rider : Rider K) where
   silently : (w u : World) → K w → u.events ≡ w.events ++ [] → u.contents ≡ w.contents → u.control.volume ≡ w.control.volume → u.control.volumes ≡ w.control.volumes → u.control.pending ≡ w.control.pending → u.control.issued ≡ w.control.issued → u.control.sessions ≡ w.control.sessions → K u
   silently w u k events contents volume volumes pending issued sessions = rider.unheard w u [] k (unheard w u [] events tt tt (none-told w) contents volume volumes pending issued sessions)
 
+  -- other messages
+  flies : (w : World) (f : Flight) → K w → K (record w { control = record w.control { flight = f } })
+  flies w f k = silently w (record w { control = record w.control { flight = f } }) k (sym (append-nil w.events)) refl refl refl refl refl refl
+
   -- one event that no list hears of
   event : (w u : World) (e : Event) → K w → u.events ≡ w.events ++ e ∷ [] → NoCuts (e ∷ []) → AllStill (e ∷ []) → histories (w.events ++ e ∷ []) ≡ histories w.events → u.contents ≡ w.contents → u.control.volume ≡ w.control.volume
       → u.control.volumes ≡ w.control.volumes → u.control.pending ≡ w.control.pending → u.control.issued ≡ w.control.issued → u.control.sessions ≡ w.control.sessions → K u
   event w u e k events quiet still lists contents volume volumes pending issued sessions = rider.unheard w u (e ∷ []) k (unheard w u (e ∷ []) events quiet still lists contents volume volumes pending issued sessions)
+
+  -- other sessions and messages
+  regrouped : (w : World) (ss : List Session) (f : Flight) → Sound w → Sound (record w { control = record w.control { sessions = ss; flight = f } }) → Regroups w.control.sessions ss → K w → K (record w { control = record w.control { sessions = ss; flight = f } })
+  regrouped w ss f s t turn k = flies (with_table w ss) f (rider.regroups w ss s (sound-flight (record w { control = record w.control { sessions = ss; flight = f } }) w.control.flight t) turn k)
 
   module _ (w : World) (s : Sound w) (k : K w) (line : ℕ) where
     -- What is known of a plan: K holds as it ends, and after each of its entries; the rows fit, and K holds, where its entries come to a
@@ -187,11 +197,11 @@ module _ (K : World → Type 0) (rider : Rider K) where
     entries : (ds : List Entry) (a : Said) → Along (as_begun w) ds → Carried (entries_plan ds a)
     entries ds a all = moves (entries_plan ds a) (record { ends = Sound; complete = λ v i. i; begins = sound-begun w s; entries = all; follows = λ q v i. over v i; last = λ v i. i; turns = λ v i. regroups-same v.control.sessions }) begins (λ v e k. k)
 
-    sessions : (f : List Session → List Session) (says : Control → Said) → Groups (with_sessions f w.control) → Attempts (with_sessions f w.control) → Regroups w.control.sessions (f w.control.sessions)
-        → Carried (record { first = with_sessions f; told = []; entries = []; follows = none_follow; last = same; says = says })
-    sessions f says groups attempts turn =
+    sessions : (f : List Session → List Session) (g : Control → Flight) (says : Control → Said) → Groups (with_sessions f w.control) → Attempts (with_sessions f w.control) → Regroups w.control.sessions (f w.control.sessions)
+        → Carried (record { first = λ k. record k { sessions = f k.sessions; flight = g k }; told = []; entries = []; follows = none_follow; last = same; says = says })
+    sessions f g says groups attempts turn =
         let first : World = as_begun w in
-        tables (with_sessions f) [] says (rider.regroups first (f w.control.sessions) (sound-begun w s) (sound-sessions first (f w.control.sessions) groups attempts (sound-begun w s)) turn begins)
+        tables (λ k. record k { sessions = f k.sessions; flight = g k }) [] says (regrouped first (f w.control.sessions) (g w.control) (sound-begun w s) (sound-tables first (f w.control.sessions) (g w.control) groups attempts (sound-begun w s)) turn begins)
 
     rides-lines : (told : List Event) → AllLines told → Carried (lists told)
     rides-lines told ls =
@@ -263,15 +273,15 @@ module _ (K : World → Type 0) (rider : Rider K) where
     case-rides _ (Freezes l m) = entries _ _ (freezes l m w.control.volumes (as_begun w) (sound-begun w s))
     case-rides _ (Unfreezes l m) = entries _ _ (thaws l m w.control.volumes (as_begun w) (sound-begun w s))
     case-rides _ (Releases l) = entries _ _ (releases l w.control.volumes (as_begun w) (sound-begun w s))
-    case-rides _ (MakesSession l i free) = sessions (joined i l) _ (groups-joined w.control i l s.groups) (with-joined w.control s.groups s.attempts i l) (regroups-joined w.control.sessions s.groups.once i l)
-    case-rides _ (RemovesSession l i x found free) = sessions (left i l) _ (groups-left w.control i l x s.groups found free) (with-left w.control s.groups s.attempts i l x found free) (regroups-left w.control.sessions s.groups.once i l)
+    case-rides _ (MakesSession l i free) = sessions (joined i l) (λ k. k.flight) _ (groups-joined w.control i l s.groups) (with-joined w.control s.groups s.attempts i l) (regroups-joined w.control.sessions s.groups.once i l)
+    case-rides _ (RemovesSession l i x found free) = sessions (left i l) (λ k. messages.left i l x k.flight) _ (groups-left w.control i l x s.groups found free) (with-left w.control s.groups s.attempts i l x found free) (regroups-left w.control.sessions s.groups.once i l)
     case-rides _ (MakesMirror owner i x found free l owned) =
         let at = owned-volume w.control l owner owned in
-        sessions (changed i (mirrored_by owner)) _ (groups-mirrored w.control i owner x s.groups found (no-maker x.mirror free) at.volume at.defined at.server)
+        sessions (changed i (mirrored_by owner)) (λ k. messages.raised i k.flight) _ (groups-mirrored w.control i owner x s.groups found (no-maker x.mirror free) at.volume at.defined at.server)
         (with-mirrored w.control s.groups s.attempts i owner x found (no-maker x.mirror free)) (regroups-mirrored w.control.sessions s.groups.once i owner)
-    case-rides _ (PausesMirror i on) = sessions (changed i (paused on)) _ (groups-paused w.control i on s.groups) (with-paused w.control s.groups s.attempts i on) (regroups-paused w.control.sessions s.groups.once i on)
-    case-rides _ (RemovesMirror i x found free) = sessions (changed i unmirrored) _ (groups-unmirrored w.control i x s.groups found free) (with-unmirrored w.control s.groups s.attempts i x found free) (regroups-unmirrored w.control.sessions s.groups.once i)
-    case-rides _ (Aborts i x found free) = sessions (changed i (with_master phases.aborted)) _ (groups-aborted w.control i s.groups) (with-aborted w.control s.groups s.attempts i) (regroups-aborted w.control.sessions s.groups.once i)
+    case-rides _ (PausesMirror i on) = sessions (changed i (paused on)) (λ k. k.flight) _ (groups-paused w.control i on s.groups) (with-paused w.control s.groups s.attempts i on) (regroups-paused w.control.sessions s.groups.once i on)
+    case-rides _ (RemovesMirror i x found free) = sessions (changed i unmirrored) (λ k. k.flight) _ (groups-unmirrored w.control i x s.groups found free) (with-unmirrored w.control s.groups s.attempts i x found free) (regroups-unmirrored w.control.sessions s.groups.once i)
+    case-rides _ (Aborts i x found free) = sessions (changed i (with_master phases.aborted)) (λ k. messages.aborted i x.mirror k.flight) _ (groups-aborted w.control i s.groups) (with-aborted w.control s.groups s.attempts i) (regroups-aborted w.control.sessions s.groups.once i)
     case-rides _ (AddsMember i a c x joins) =
         let o = orders-added w s i a c x joins in
         moves (added w.control i x (member_with w.control a c)) o begins (λ v e k. rider.regroups v ((added w.control i x (member_with w.control a c)).last v.control).sessions (o.complete v e) (o.last v e) (o.turns v e) k)
@@ -280,10 +290,11 @@ module _ (K : World → Type 0) (rider : Rider K) where
         moves (expelled i m) o begins (λ v e k. rider.regroups v ((expelled i m).last v.control).sessions (o.complete v e) (o.last v e) (o.turns v e) k)
     case-rides _ (Recovers i x found on) = moves _ (record { ends = Sound; complete = λ v y. y; begins = sound-begun w s; entries = along-recover w s i x found on; follows = λ q v y. over v y; last = λ v y. y; turns = λ v y. regroups-same v.control.sessions }) begins (λ v e k. k)
     case-rides _ (Settles i x m found here on free) = entries _ _ (along-settle w s i x found on free m here)
+    case-rides _ (Loses n) = tables _ _ _ (flies (as_begun w) (messages.lost n w.control.flight) begins)
     case-rides _ (Exchanges i server true x r o allowed) =
         let a = orders-ordered w s i server x r o allowed true in
-        moves (ordered i server true (members_on server x.members) o) a begins (λ v e k. rider.regroups v (answered_by i server o.work (members_on server x.members) v.control).sessions (a.complete v e) (a.last v e) (a.turns v e) k)
-    case-rides _ (Exchanges i server false x r o allowed) = moves (ordered i server false (members_on server x.members) o) (orders-ordered w s i server x r o allowed false) begins (λ v e k. k)
+        moves (ordered i server true (members_on server x.members) o) a begins (λ v e k. regrouped v (exchanged i server true o.work (members_on server x.members) v.control).sessions _ (a.complete v e) (a.last v e) (a.turns v e) k)
+    case-rides _ (Exchanges i server false x r o allowed) = moves (ordered i server false (members_on server x.members) o) (orders-ordered w s i server x r o allowed false) begins (λ v e k. flies v _ k)
 
     ending-rides : (p : Plan) → Ending w.control w.events line p → Carried p
     ending-rides _ (OnePlan p c) = case-rides p c
@@ -299,7 +310,7 @@ module _ (K : World → Type 0) (rider : Rider K) where
 
   -- masters are lost as a step ends
   lost : (w u : World) → Sound u → K u → K (masters_lost w u)
-  lost w u sound k = rider.regroups u (lost_since w.control.on u.control.on u.control.sessions) sound (sound-lost w u sound) (regroups-lost u.control.sessions w.control.on u.control.on) k
+  lost w u sound k = regrouped u (lost_since w.control.on u.control.on u.control.sessions) _ sound (sound-lost w u sound) (regroups-lost u.control.sessions w.control.on u.control.on) k
 
   -- a plan before the last one of its step
   rides-part : (w : World) (p : Plan) → Comes w p → Both Sound K w → Both Sound K (after_part w p)

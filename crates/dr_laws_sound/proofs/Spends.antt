@@ -23,7 +23,7 @@ use Rattle.dr_model.specs.Forming.{after_part}
 use Rattle.dr_model.specs.Runs.{begun, finish, after_plan}
 use Rattle.dr_model.specs.Laws.{Sound}
 use Rattle.dr_laws_sound.specs.Limits.{IsWithin}
-use Rattle.dr_laws_sound.proofs.Cases.{Case, Says, DefinesServer, DefinesVolume, SetsLink, Issues, Writes, Applies, Lists, Shows, Stops, Arms, Starts, MakesFlash, RemovesFlash, ResyncsFlash, ReversesFlash, Copies, Destages, MakesPath, RemovesPath, MakesPair, RemovesPair, PausesPair, ResumesPair, FailsOver, FailsBack, Compares, Drains, Expires, Freezes, Unfreezes, MakesSession, RemovesSession, MakesMirror, PausesMirror, RemovesMirror, Aborts, AddsMember, RemovesMember, Exchanges, Recovers, Settles, Releases}
+use Rattle.dr_laws_sound.proofs.Cases.{Case, Says, DefinesServer, DefinesVolume, SetsLink, Issues, Writes, Applies, Lists, Shows, Stops, Arms, Starts, MakesFlash, RemovesFlash, ResyncsFlash, ReversesFlash, Copies, Destages, MakesPath, RemovesPath, MakesPair, RemovesPair, PausesPair, ResumesPair, FailsOver, FailsBack, Compares, Drains, Expires, Freezes, Unfreezes, MakesSession, RemovesSession, MakesMirror, PausesMirror, RemovesMirror, Aborts, AddsMember, RemovesMember, Exchanges, Loses, Recovers, Settles, Releases}
 use Rattle.dr_facts.proofs.Sets.{not_removed, rest_low}
 use Rattle.dr_laws_sound.proofs.Costs.{Costs, costs-nil, costs-check, costs-last, carry-adds, Small, Light, AllLight, light-none, light-then, light-costs, small-pass, small-do}
 use Rattle.dr_laws_sound.proofs.CopyCosts.{rounds}
@@ -229,6 +229,7 @@ module _ (w : World) (x : Sound w) (h : IsWithin w.control) where
   case-spends line _ (MakesMirror owner s y found free l owned) = tables-spends _ _ _ (omega arith)
   case-spends line _ (PausesMirror s on) = tables-spends _ _ _ (omega arith)
   case-spends line _ (RemovesMirror s y found free) = tables-spends _ _ _ (omega arith)
+  case-spends line _ (Loses n) = tables-spends _ _ _ (omega arith)
   case-spends line _ (Aborts s y found free) = record { spends = 0; costs = costs-nil 0 _; after = 0; follows = none-adds; few = omega arith }
   case-spends line _ (AddsMember s a c y joins) = record { spends = 2; costs = add-costs (member_with w.control a c) _ _; after = 0; follows = none-adds; few = omega arith }
   case-spends line _ (RemovesMember s a y m found is idle on) = record { spends = 1; costs = costs-last 1 _ (Leave m.c.0 m.a.0 s) (omega arith); after = 0; follows = none-adds; few = omega arith }

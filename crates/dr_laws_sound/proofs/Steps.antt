@@ -19,6 +19,7 @@ use Rattle.dr_model.specs.Carry.{carry}
 use Rattle.dr_model.specs.Plans.{Plan, same, only_says, tables_plan, name_bytes, issue_done, write_done, apply_done, torn_bytes}
 use Rattle.dr_model.specs.Forming.{Part, after_part}
 use Rattle.dr_model.specs.Runs.{Task, course, plans_of, begun, carried_out, said, after_plan, after_task, after_tasks, run, image_told}
+use Rattle.dr_model.specs.Messages.{lost}
 use Rattle.dr_model.specs.Groups.{In, Housed}
 use Rattle.dr_model.specs.Table.{table}
 use Rattle.dr_model.specs.Laws.{SoundRows, Sound}
@@ -28,7 +29,7 @@ use Rattle.dr_laws_sessions.proofs.Housed.{housed-none, housed-server}
 use Rattle.dr_laws_attempts.proofs.Volumes.{attempts-none}
 use Rattle.dr_model.specs.Listings.{lists}
 use Rattle.dr_laws_sound.proofs.Listed.{AllLines, lines-plain, lines-lists, image-lines}
-use Rattle.dr_laws_sound.proofs.Cases.{Case, Says, DefinesServer, DefinesVolume, SetsLink, Issues, Writes, Applies, Lists, Shows, Stops, Arms, Starts, MakesFlash, RemovesFlash, ResyncsFlash, ReversesFlash, Copies, Destages, MakesPath, RemovesPath, MakesPair, RemovesPair, PausesPair, ResumesPair, FailsOver, FailsBack, Compares, Drains, Expires, Freezes, Unfreezes, MakesSession, RemovesSession, MakesMirror, PausesMirror, RemovesMirror, Aborts, AddsMember, RemovesMember, Exchanges, Recovers, Settles, IsTrack, servers-left, is-new, may-issue, Releases}
+use Rattle.dr_laws_sound.proofs.Cases.{Case, Says, DefinesServer, DefinesVolume, SetsLink, Issues, Writes, Applies, Lists, Shows, Stops, Arms, Starts, MakesFlash, RemovesFlash, ResyncsFlash, ReversesFlash, Copies, Destages, MakesPath, RemovesPath, MakesPair, RemovesPair, PausesPair, ResumesPair, FailsOver, FailsBack, Compares, Drains, Expires, Freezes, Unfreezes, MakesSession, RemovesSession, MakesMirror, PausesMirror, RemovesMirror, Aborts, AddsMember, RemovesMember, Exchanges, Loses, Recovers, Settles, IsTrack, servers-left, is-new, may-issue, Releases}
 use Rattle.dr_laws_sound.proofs.Parts.{Comes, Ending, OnePlan, Imaged, course-case, each-plan, last-plan}
 use Rattle.dr_laws_sound.proofs.KeepsQueue.{Quiet, AllQuiet, goes-off}
 use Rattle.dr_laws_sound.proofs.KeepsSound.{StepHolds, RowsAt, MayDo, holds-moves, keeps-sound, sound-told, over}
@@ -41,7 +42,7 @@ use Rattle.dr_laws_sound.proofs.FitsPairs.{holds-pair, holds-remove, holds-pause
 use Rattle.dr_laws_sound.proofs.FitsFailover.{holds-failover, holds-failback, holds-compare}
 use Rattle.dr_laws_sound.proofs.FitsDrain.{holds-drain}
 use Rattle.dr_laws_sound.proofs.FitsWrites.{lands, writes-after}
-use Rattle.dr_laws_sound.proofs.FitsSessions.{sound-lost, holds-joined, holds-left, holds-mirrored, holds-paused, holds-unmirrored, holds-aborted, holds-orders}
+use Rattle.dr_laws_sound.proofs.FitsSessions.{sound-lost, holds-joined, holds-left, holds-mirrored, holds-paused, holds-unmirrored, holds-aborted, holds-flight, holds-orders}
 use Rattle.dr_laws_sound.proofs.FitsMembers.{orders-added, orders-expelled}
 use Rattle.dr_laws_sound.proofs.FitsOrders.{orders-ordered}
 use Rattle.dr_laws_sound.proofs.FitsRecovery.{along-recover, along-settle}
@@ -161,6 +162,7 @@ module _ (w : World) (s : Sound w) (line : ℕ) where
   case-holds _ (Aborts i x found free) = holds-aborted w s i x found free
   case-holds _ (AddsMember i a c x joins) = holds-orders w _ (orders-added w s i a c x joins)
   case-holds _ (RemovesMember i a x m found is idle on) = holds-orders w _ (orders-expelled w s i a x m found is idle on)
+  case-holds _ (Loses n) = holds-flight w s (lost n)
   case-holds _ (Exchanges i server reply x r o allowed) = holds-orders w _ (orders-ordered w s i server x r o allowed reply)
   case-holds _ (Recovers i x found on) = holds-moves w _ (sound-begun w s) (along-recover w s i x found on) (λ q v y. over v y) (λ v y. y)
   case-holds _ (Settles i x m found here on free) = holds-entries w _ _ s (along-settle w s i x found on free m here)

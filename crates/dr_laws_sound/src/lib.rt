@@ -2,7 +2,7 @@
 //! by its contract.
 #![tactic(auto)]
 
-ghost use Rattle.std.specs.Prelude.{◌≡◌, ◌≢◌, ◌≤◌, ◌<◌, ℕ, Bool, true, List, [], ◌∷◌, Option, take, length};
+ghost use Rattle.std.specs.Prelude.{◌≡◌, ◌≢◌, ◌≤◌, ◌<◌, ◌+◌, ℕ, Bool, true, List, [], ◌∷◌, Option, take, length};
 ghost use Rattle.dr_ids.specs.declared.refusal.Refusal.{Refusal};
 ghost use Rattle.dr_ids.specs.declared.refusal.Refusal.TheVariants as refusal;
 ghost use Rattle.dr_ids.specs.declared.refusal.Kind.TheVariants as kind;
@@ -27,11 +27,11 @@ ghost use Rattle.dr_model.specs.Fits.{Fits};
 ghost use Rattle.dr_model.specs.Moves.{Move, Keep, Note, Fetch, target};
 ghost use Rattle.dr_model.specs.Carry.{carry};
 ghost use Rattle.dr_model.specs.Forming.{Part};
-ghost use Rattle.dr_model.specs.Runs.{Task, plans_of, begun, after_task, after_tasks, run, said};
+ghost use Rattle.dr_model.specs.Runs.{Task, plans_of, begun, carried_out, after_task, after_tasks, run, said};
 ghost use Rattle.dr_model.specs.ReadStops.{Ends};
 ghost use Rattle.dr_model.specs.Table.{Table, table};
 ghost use Rattle.dr_model.specs.Rows.{after};
-ghost use Rattle.dr_model.specs.Laws.{SoundRows, Sound, shown};
+ghost use Rattle.dr_model.specs.Laws.{SoundRows, Sound, IsCounted, FlightCounted, shown};
 ghost use Rattle.dr_model.specs.Allowed.{Allowed};
 ghost use Rattle.dr_model.specs.Groups.{In};
 ghost use Rattle.dr_model.specs.Limits.{most_events};
@@ -61,6 +61,15 @@ pub fn every_run_is_sound()
 /// Steps leave a sound world sound, wherever servers stop in them.
 pub fn every_step_keeps_soundness()
     ensures { (w : World) (tasks : List Task) → Sound w → Sound (after_tasks w tasks) }
+{}
+
+/// No more messages are made, no server is started and no epoch of a session begun more often than the journal has events, in every run;
+/// and so it is after a step that begins in such a world. Before the masters are lost whose servers went off in a plan, it is so with one
+/// event more than the journal had as the plan began.
+pub fn the_flight_is_counted()
+    ensures runs { (tasks : List Task) → FlightCounted (run tasks) }
+    ensures step { (w : World) (t : Task) → FlightCounted w → FlightCounted (after_task w t) }
+    ensures plan { (w : World) (t : Task) (x : Part) → FlightCounted w → In x (plans_of w t) → IsCounted (length x.world.events + 1) (carried_out x.world x.plan).0.control.flight }
 {}
 
 /// The table of volumes is as it should be after each entry of each plan of a step, too.

@@ -18,7 +18,8 @@ use Rattle.dr_laws_attempts.proofs.Moves.{flashable, reversing-uncounted}
 use Rattle.dr_facts.proofs.Tables.{at_cases}
 use Rattle.dr_laws_closed.specs.Moments.{Standing, is_one}
 use Rattle.dr_laws_closed.specs.Closing.{number_kept}
-use Rattle.dr_laws_closed.proofs.Standings.{stood, added}
+use Rattle.dr_laws_closed.proofs.Standings.{added}
+use Rattle.dr_laws_attempts.proofs.Facts.{stood}
 use Rattle.dr_laws_closed.proofs.Counts.{shown-plain, shown-before}
 use Rattle.dr_laws_targets.specs.Committeds.{next_committed}
 use Rattle.dr_laws_targets.specs.Counted.{MemberHas, CommittedAsMember}

@@ -7,7 +7,8 @@ use Rattle.dr_model.specs.Groups.{In}
 use Rattle.dr_model.specs.NewestGroup.{NewestGroup}
 use Rattle.dr_model.specs.HeldWrites.{WasAcknowledged, WasReplaced}
 use Rattle.dr_laws_closed.specs.Moments.{is_one}
-use Rattle.dr_laws_closed.proofs.Standings.{stood, added}
+use Rattle.dr_laws_closed.proofs.Standings.{added}
+use Rattle.dr_laws_attempts.proofs.Facts.{stood}
 use Rattle.dr_laws_targets.specs.Committeds.{committeds}
 use Rattle.dr_laws_targets.specs.Example.{finished, parted, restored}
 use Rattle.dr_laws_targets.proofs.Places.{committed-stands}

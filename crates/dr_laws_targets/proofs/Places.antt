@@ -10,7 +10,8 @@ use Rattle.dr_model.specs.NewestGroup.{StandsCommitted}
 use Rattle.dr_facts.proofs.Lists.{in-joined}
 use Rattle.dr_laws_cuts.proofs.Places.{snoc}
 use Rattle.dr_laws_closed.specs.Moments.{Standing, is_one, standing, standing_event}
-use Rattle.dr_laws_closed.proofs.Standings.{added, stood, stays-with, stays-without, is-same, is-same-two, same-two, same-three}
+use Rattle.dr_laws_closed.proofs.Standings.{added, stays-with, stays-without, is-same, is-same-two, same-two, same-three}
+use Rattle.dr_laws_attempts.proofs.Facts.{stood}
 use Rattle.dr_laws_closed.proofs.Places.{standing-append}
 use Rattle.dr_laws_targets.specs.Committeds.{committeds, committed_event}
 use Rattle.dr_laws_targets.proofs.Told.{committeds-append}

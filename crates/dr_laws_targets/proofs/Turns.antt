@@ -12,7 +12,7 @@ use Rattle.dr_model.specs.Sessions.{Session}
 use Rattle.dr_model.specs.Table.{Table, table}
 use Rattle.dr_model.specs.Rows.{next_row}
 use Rattle.dr_model.specs.Groups.{In, Groups}
-use Rattle.dr_model.specs.Attempts.{phase_of, owed_of, reports_of, all_seen, seen, roles, number_shown, Attempts, DoesNotCount, TargetOf, InAttempt}
+use Rattle.dr_model.specs.Attempts.{seen, roles, number_shown, Attempts, DoesNotCount, TargetOf, InAttempt}
 use Rattle.dr_model.specs.Laws.{SoundBut, source}
 use Rattle.dr_model.specs.Allowed.{Allowed, MayFlash}
 use Rattle.dr_model.specs.Cuts.{Cuts, HoldsCut, cuts, at_cut}
@@ -20,11 +20,9 @@ use Rattle.dr_laws_attempts.proofs.Moves.{flashable, uncounted-by, reversing-unc
 use Rattle.dr_laws_cuts.specs.Sound.{SoundCuts}
 use Rattle.dr_laws_cuts.proofs.Still.{plain-second}
 use Rattle.dr_laws_closed.specs.Moments.{Standing, is_one}
-use Rattle.dr_laws_closed.specs.Closing.{IsEarly}
 use Rattle.dr_laws_closed.specs.Next.{next_standing}
 use Rattle.dr_laws_closed.proofs.Standings.{stays-with, stays-without, is-same}
 use Rattle.dr_laws_closed.proofs.Counts.{numbered}
-use Rattle.dr_laws_closed.proofs.Keeps.{early-positive}
 use Rattle.dr_laws_targets.specs.Committeds.{next_committed}
 use Rattle.dr_laws_targets.proofs.Holds.{RowHolds, row-uncounted, parted}
 use Rattle.dr_logic.proofs.Options.{none_some}
@@ -95,7 +93,9 @@ module _ (starts : Option ℕ) (w : World) (sound : SoundBut starts w) (kept : S
   pub flashed-shows : (v u p s n : ℕ) → MayFlash T v u p n → InAttempt k (Flash v u p s n) → (t : ℕ) → t < (T v).volume.tracks → (T u).due t ≡ at_cut write c n p t
   flashed-shows v u p s n a b t lt =
       let x : Session = b.place.session in
-      let some : x.last ≢ 0 = early-positive (phase_of x.mirror) x.last (owed_of x.mirror) (reports_of x.mirror) (all_seen (roles k) x.members) (subst IsEarly (sym b.phase) tt) (sound.attempts.sessions x b.place.listed).phase in
+      let low : (fields_at k v).floor < n = b.low in
+      let last : n ≡ x.last = b.last in
+      let some : x.last ≢ 0 = λ e. omega arith in
       let holds : HoldsCut write c u (T u) p = kept.laws.sealed u p a.takes (λ e. some (sym b.last ∙ (sym a.sealed ∙ e))) in
       let same : (T v).volume.tracks ≡ (T u).volume.tracks = (sound.rows.structure.flash v a.resync.from a.resync.related).same_tracks ∙ ap (λ j. (T j).volume.tracks) a.from in
       holds.tracks t (subst (λ j. t < j) same lt) ∙ ap (λ j. at_cut write c j p t) a.sealed

@@ -55,6 +55,9 @@ column = refl
 unknown : said_text untold 2 6 0 0 ≡ codes "E02 unknown track"
 unknown = refl
 
+unknown_message : said_text untold 2 8 0 0 ≡ codes "E02 unknown message"
+unknown_message = refl
+
 links : said_text defined 6 1 0 0 ≡ codes "E06 link down A B"
 links = refl
 

@@ -16,6 +16,7 @@ pub(crate) fn kind_word(kind: u32) -> &'static [u8]
         5 => b"session",
         6 => b"track",
         7 => b"master",
+        8 => b"message",
         _ => b"",
     }
 }

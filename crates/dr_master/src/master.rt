@@ -1,6 +1,7 @@
-ghost use Rattle.std.specs.Prelude.{◌≡◌, ◌+◌, ◌<◌, ◌≤◌, ◌^◌, ◌↔◌, [], length, option_map, IsTrue, OnOk, OnErr, IfOk, IfSome};
+ghost use Rattle.std.specs.Prelude.{◌≡◌, ◌+◌, ◌<◌, ◌≤◌, ◌^◌, ◌↔◌, [], length, Some, option_map, IsTrue, OnOk, OnErr, IfOk, IfSome};
 ghost use Rattle.std.specs.Result.{result_err};
 ghost use Rattle.dr_ids.specs.declared.refusal.PhaseName.TheVariants as phase;
+ghost use Rattle.dr_model.specs.Messages.{is_lost};
 ghost use Rattle.dr_model.specs.Phases as model;
 ghost use Rattle.dr_master.specs.Seen.{servers_in, shown_in, reply_of, is_expected, order_of};
 
@@ -166,6 +167,13 @@ impl Master {
         } else {
             self.enter(PhaseName::Lost);
         }
+    }
+
+    /// Whether it is Lost where its server stops: without members it stays Idle.
+    pub fn can_be_lost(&self) -> bool
+        ensures { result ≡ is_lost (Some (model.phase_lost self.now.servers)) }
+    {
+        !self.servers.is_empty()
     }
 
     /// All have reported: the rest of the group is committed where that is the decision over what they

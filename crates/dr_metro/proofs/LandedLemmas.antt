@@ -24,10 +24,9 @@ use Rattle.dr_model.specs.Relations.{closed, fetched, rewritten}
 use Rattle.dr_model.specs.Carry.{Make, Do, Entry}
 use Rattle.dr_model.specs.ReadStops.{Ends, GoesOff}
 use Rattle.dr_model.specs.Refusals.{stopped}
-use Rattle.dr_model.specs.Sessions.{Session}
 use Rattle.dr_model.proofs.CarryLemmas.{act-move}
 use Rattle.dr_volume.specs.Update.{IsMoved}
-use Rattle.dr_volume.specs.View.{world, volume_seen, track_seen}
+use Rattle.dr_volume.specs.View.{Rest, world, volume_seen, track_seen}
 use Rattle.dr_flash.specs.Views.{view_seen}
 use Rattle.dr_moves.specs.Checks.{is_stop}
 use Rattle.dr_moves.specs.Heard.{refused_by}
@@ -36,34 +35,35 @@ use Rattle.dr_moves.specs.Made.{May, room_for, after_done, after_stop, Turned, C
 use Rattle.dr_moves.specs.declared.acts.Stop.{Stop}
 use Rattle.dr_moves.proofs.TurnLemmas.{ok-along}
 use Rattle.dr_facts.proofs.Ends.{ends-goes, ends-stops, ends-none, ends-off}
-use Rattle.dr_metro.specs.Here.{here, rest_of, IsTold}
+use Rattle.dr_host.specs.Here.{here, rest_of}
+use Rattle.dr_metro.specs.Here.{IsTold}
 use Rattle.dr_metro.specs.Landing.{landing_move, landed_on, writes_after}
 use Rattle.dr_metro.specs.Writing.{Wrote}
-use Rattle.dr_metro.proofs.ToldLemmas.{IsWrite, told-marked, told-through}
+use Rattle.dr_metro.proofs.ToldLemmas.{no_rest, IsWrite, told-marked, told-through}
 
 module _ (s u : PlantState) (c : ConfigTable) (h : Writes) (before after : List Event) (n : ℕ) (m : Move) (d : Entry)
     (settles : (ps : List control.Pending) → settled m ps ≡ filter (is_other n) ps) (settles_in_stop : (ps : List control.Pending) → settled_in_stop m ps ≡ marked n ps)
-    (comes : (xs : List Session) → d (here s c xs h before).control ≡ Do (Make m)) where
-  pub landing-ends : (res : Result (Unit {0}) Stop) → Turned s u c before after m res → (xs : List Session) → Ends (armed_in s) (here u c xs (writes_after h n res) after) (refusal_of (refused_by res)) (here s c xs h before) (d ∷ [])
-  landing-ends (Ok x) turned xs =
-      let w = here s c xs h before in
+    (comes : (rest : Rest) → d (here s c rest h before).control ≡ Do (Make m)) where
+  pub landing-ends : (res : Result (Unit {0}) Stop) → Turned s u c before after m res → (rest : Rest) → Ends (armed_in s) (here u c rest (writes_after h n res) after) (refusal_of (refused_by res)) (here s c rest h before) (d ∷ [])
+  landing-ends (Ok x) turned rest =
+      let w = here s c rest h before in
       let left = settles (map pending_seen h.pending) ∙ sym (seen-without n h.pending) in
-      ends-goes (armed_in s) _ None w (world_seen u c (after_done m (rest_of xs h before)) after) d [] (Make m) (comes xs) (act-move w m ∙ turned (rest_of xs h before))
-      (ends-none (armed_in s) _ None _ (record { world = λ i. world u c (record { issued = h.issued; pending = sym left i; sessions = xs; events = after }); refusal = refl }))
-  landing-ends (Err stop) turned xs =
-      let w = here s c xs h before in
-      elim (turned (rest_of xs h before)) as (λ _. Ends (armed_in s) (here u c xs (writes_after h n (Err stop)) after) (Some (stopped stop.server.0)) w (d ∷ [])) [
-        | inl off ↦ ends-off (armed_in s) _ (Some (stopped stop.server.0)) w (d ∷ []) (subst (λ b. GoesOff (armed_in s) (here u c xs (if b then with_marked h n else h) after) (Some (stopped stop.server.0)) w) (sym off.0) off.1)
-        | inr is ↦ ends-stops (armed_in s) _ (Some (stopped stop.server.0)) w d [] (Make m) stop.server.0 (comes xs)
+      ends-goes (armed_in s) _ None w (world_seen u c (after_done m (rest_of rest h before)) after) d [] (Make m) (comes rest) (act-move w m ∙ turned (rest_of rest h before))
+      (ends-none (armed_in s) _ None _ (record { world = λ i. world u c (record (rest_of rest h after) { pending = sym left i }); refusal = refl }))
+  landing-ends (Err stop) turned rest =
+      let w = here s c rest h before in
+      elim (turned (rest_of rest h before)) as (λ _. Ends (armed_in s) (here u c rest (writes_after h n (Err stop)) after) (Some (stopped stop.server.0)) w (d ∷ [])) [
+        | inl off ↦ ends-off (armed_in s) _ (Some (stopped stop.server.0)) w (d ∷ []) (subst (λ b. GoesOff (armed_in s) (here u c rest (if b then with_marked h n else h) after) (Some (stopped stop.server.0)) w) (sym off.0) off.1)
+        | inr is ↦ ends-stops (armed_in s) _ (Some (stopped stop.server.0)) w d [] (Make m) stop.server.0 (comes rest)
             (act-move w m ∙ is ∙ ap (λ (z : World). (z, Some stop.server.0)) (left stop.counts)) refl
       ]
     where
-      left : (b : Bool) → world_seen u c (after_stop m b (rest_of xs h before)) after ≡ here u c xs (if b then with_marked h n else h) after
-      left true = λ i. world u c (record { issued = h.issued; pending = (settles_in_stop (map pending_seen h.pending) ∙ sym (seen-marked n h.pending)) i; sessions = xs; events = after })
+      left : (b : Bool) → world_seen u c (after_stop m b (rest_of rest h before)) after ≡ here u c rest (if b then with_marked h n else h) after
+      left true = λ i. world u c (record (rest_of rest h after) { pending = (settles_in_stop (map pending_seen h.pending) ∙ sym (seen-marked n h.pending)) i })
       left false = refl
 
   pub landing-told : (res : Result (Unit {0}) Stop) → Turned s u c before after m res → IsTold h before → IsTold (writes_after h n res) after
-  landing-told res turned told = by res (told-through (armed_in s) h (here s c [] h before) (here u c [] (writes_after h n res) after) (d ∷ []) (refusal_of (refused_by res)) (landing-ends res turned []) told)
+  landing-told res turned told = by res (told-through (armed_in s) h (here s c no_rest h before) (here u c no_rest (writes_after h n res) after) (d ∷ []) (refusal_of (refused_by res)) (landing-ends res turned no_rest) told)
     where
       by : (res : Result (Unit {0}) Stop) → IsTold h after → IsTold (writes_after h n res) after
       by (Ok x) told = each-without (IsWrite (histories after).write) n h.pending told
@@ -88,7 +88,7 @@ module _ (res : Result (Unit {0}) Stop) (r : Result (Unit {0}) Refusal) (says : 
 -- what stays where it was made so
 module _ (s u : PlantState) (c : ConfigTable) (h g : Writes) (old new : Log) (n v : ℕ) (m : Move) (d : Entry) (t : Carried)
     (settles : (ps : List control.Pending) → settled m ps ≡ filter (is_other n) ps) (settles_in_stop : (ps : List control.Pending) → settled_in_stop m ps ≡ marked n ps)
-    (comes : (xs : List Session) → d (here s c xs h old.events).control ≡ Do (Make m)) (told : IsTold h old.events) (res : Result (Unit {0}) Stop) (writes : g ≡ writes_after h n res) where
+    (comes : (rest : Rest) → d (here s c rest h old.events).control ≡ Do (Make m)) (told : IsTold h old.events) (res : Result (Unit {0}) Stop) (writes : g ≡ writes_after h n res) where
   pub landing-wrote : (r : Result (Unit {0}) Refusal) → r ≡ refused_by res → Made s u c old new m v t res → Kept s u c old new 1 (is_err res) res → Wrote s u c h g old new (λ k. d ∷ []) 1 r
   landing-wrote r says made kept =
       subst (λ (z : Writes). Wrote s u c h z old new (λ k. d ∷ []) 1 r) (sym writes) (subst (λ (x : Result (Unit {0}) Refusal). Wrote s u c h (writes_after h n res) old new (λ k. d ∷ []) 1 x) (sym says) (record {
@@ -176,5 +176,5 @@ module _ (s u : PlantState) (c : ConfigTable) (n v t : ℕ) (old new : Log) (mad
 
   pub alone-wrote : (h g : Writes) → g ≡ writes_after h n res → IsTold h old.events → Kept s u c old new (room_for made_by (volume_seen s c (target made_by))) (is_err res) res → Wrote s u c h g old new (λ k. land_on n v t ∷ []) 1 r
   alone-wrote h g writes told kept =
-      landing-wrote s u c h g old new n v landing (land_on n v t) track (settles s c n v t (volume_seen s c v).fields.related) (settles_in_stop s c n v t (volume_seen s c v).fields.related) (λ xs. refl) told res writes r says made
+      landing-wrote s u c h g old new n v landing (land_on n v t) track (settles s c n v t (volume_seen s c v).fields.related) (settles_in_stop s c n v t (volume_seen s c v).fields.related) (λ rest. refl) told res writes r says made
       (subst (λ k. Kept s u c old new k (is_err res) res) (ap (λ z. room_for z (volume_seen s c (target z))) is ∙ alone-room s c n v t (volume_seen s c v).fields.related (volume_seen s c (target landing))) kept)

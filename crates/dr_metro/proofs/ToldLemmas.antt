@@ -8,13 +8,19 @@ use Rattle.dr_model.specs.declared.event.Event.{Event}
 use Rattle.dr_model.specs.declared.event.Event.TheVariants.{Ack}
 use Rattle.dr_model.specs.Histories.{Write, Histories, histories, after_event}
 use Rattle.dr_model.specs.Control.{World}
+use Rattle.dr_model.specs.Messages.{no_flight}
 use Rattle.dr_model.specs.Carry.{Entry}
 use Rattle.dr_model.specs.ReadStops.{Ends}
 use Rattle.dr_model.proofs.Images.{histories-push}
 use Rattle.dr_facts.proofs.Issued.{unissued}
 use Rattle.dr_plant.specs.State.{PlantState}
 use Rattle.dr_config.specs.Table.{ConfigTable}
+use Rattle.dr_volume.specs.View.{Rest}
 use Rattle.dr_metro.specs.Here.{IsTold, IsReady}
+
+-- nothing else that a run knows, where it doesn't matter
+abbrev pub no_rest : Rest
+no_rest = record { issued = 0; pending = []; sessions = []; flight = no_flight; events = [] }
 
 -- a pending write is the one with that number
 abbrev pub IsWrite : (ℕ → Write) → Pending → Type 0

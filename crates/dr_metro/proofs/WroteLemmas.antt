@@ -21,7 +21,6 @@ use Rattle.dr_model.specs.Entries.{copies_from}
 use Rattle.dr_model.specs.Layout.{is_part}
 use Rattle.dr_model.specs.ReadStops.{Ends, GoesOff}
 use Rattle.dr_model.specs.Refusals.{stopped}
-use Rattle.dr_model.specs.Sessions.{Session}
 use Rattle.dr_volume.specs.declared.fields.Fields.{Fields}
 use Rattle.dr_volume.specs.Update.{IsAsBefore}
 use Rattle.dr_volume.specs.View.{Rest, volume_seen, track_seen}
@@ -43,31 +42,32 @@ use Rattle.dr_flash.proofs.CopyLemmas.{no-own}
 use Rattle.dr_gcopy.specs.Both.{IsOn}
 use Rattle.dr_gcopy.specs.Ran.{Ran}
 use Rattle.dr_gcopy.proofs.SendLemmas.{other-server, same-server, same-tracks}
-use Rattle.dr_metro.specs.Here.{here, rest_of, IsTold}
+use Rattle.dr_host.specs.Here.{here, rest_of}
+use Rattle.dr_metro.specs.Here.{IsTold}
 use Rattle.dr_metro.specs.Mirroring.{MayPair, CanLand}
 use Rattle.dr_metro.specs.Syncing.{end_of}
 use Rattle.dr_metro.specs.Writing.{IsDue, Wrote, landed_so}
 use Rattle.dr_metro.specs.declared.sync.WriteEnd.{WriteEnd}
-use Rattle.dr_metro.proofs.ToldLemmas.{told-through}
+use Rattle.dr_metro.proofs.ToldLemmas.{no_rest, told-through}
 
 -- entries that led on have issued no write, and so the pending ones are those of the journal still
 module _ (s m : PlantState) (c : ConfigTable) (h : Writes) (old mid : Log) (es : List Entry) (P : ℕ → Type 0) (most least : ℕ) where
-  pub ran-ends : (res : Result (Unit {0}) Refusal) → Ran s m c old mid es P most least res → (xs : List Session) → Ends (armed_in s) (here m c xs h mid.events) (refusal_of res) (here s c xs h old.events) es
-  ran-ends (Ok x) ran xs = led (armed_in s) (here s c xs h old.events) (here m c xs h mid.events) es (ran.leads (rest_of xs h old.events))
-  ran-ends (Err e) ran xs = failed (armed_in s) (here s c xs h old.events) (here m c xs h mid.events) (Some e) es (ran.fails (rest_of xs h old.events))
+  pub ran-ends : (res : Result (Unit {0}) Refusal) → Ran s m c old mid es P most least res → (rest : Rest) → Ends (armed_in s) (here m c rest h mid.events) (refusal_of res) (here s c rest h old.events) es
+  ran-ends (Ok x) ran rest = led (armed_in s) (here s c rest h old.events) (here m c rest h mid.events) es (ran.leads (rest_of rest h old.events))
+  ran-ends (Err e) ran rest = failed (armed_in s) (here s c rest h old.events) (here m c rest h mid.events) (Some e) es (ran.fails (rest_of rest h old.events))
 
   pub ran-told : (res : Result (Unit {0}) Refusal) → Ran s m c old mid es P most least res → IsTold h old.events → IsTold h mid.events
-  ran-told res ran told = told-through (armed_in s) h (here s c [] h old.events) (here m c [] h mid.events) es (refusal_of res) (ran-ends res ran []) told
+  ran-told res ran told = told-through (armed_in s) h (here s c no_rest h old.events) (here m c no_rest h mid.events) es (refusal_of res) (ran-ends res ran no_rest) told
 
   pub ran-writes : Ran s m c old mid es P most least (Ok tt) → (histories mid.events).write ≡ (histories old.events).write
-  ran-writes ran = unissued (armed_in s) (here m c [] h mid.events) None (here s c [] h old.events) es (ran-ends (Ok tt) ran [])
+  ran-writes ran = unissued (armed_in s) (here m c no_rest h mid.events) None (here s c no_rest h old.events) es (ran-ends (Ok tt) ran no_rest)
 
   -- what comes behind them is part of the same
   pub wrote-then : (u : PlantState) (g : Writes) (new : Log) (fs : List Entry) (more n : ℕ) {T : Type 0} (res : Result T Refusal) → least + more ≤ n → Ran s m c old mid es P most least (Ok tt)
       → Wrote m u c h g mid new (λ k. fs) more res → Wrote s u c h g old new (λ k. es ++ fs) n res
   wrote-then u g new fs more n {T = T} res large first second = record {
-    carried = λ xs. first.leads (rest_of xs h old.events) (armed_in s) (here u c xs g new.events) (refusal_of res) fs
-        (ends-wider (armed_in m) (armed_in s) (wider-armed s m first.stays.unarmed) (here u c xs g new.events) (refusal_of res) (here m c xs h mid.events) fs (second.carried xs));
+    carried = λ rest. first.leads (rest_of rest h old.events) (armed_in s) (here u c rest g new.events) (refusal_of res) fs
+        (ends-wider (armed_in m) (armed_in s) (wider-armed s m first.stays.unarmed) (here u c rest g new.events) (refusal_of res) (here m c rest h mid.events) fs (second.carried rest));
     at = second.at;
     told = second.told;
     unarmed = λ q none. second.unarmed q (first.stays.unarmed q none);
@@ -82,7 +82,7 @@ module _ (s m : PlantState) (c : ConfigTable) (h : Writes) (old mid : Log) (es :
       → Ran s m c old mid es P most least (Err e) → Wrote s m c h h old mid (λ k. es ++ fs) n res
   wrote-failed fs n {T = T} res e failed is large told ran =
       subst (λ (x : Result T Refusal). Wrote s m c h h old mid (λ k. es ++ fs) n x) (sym (err-is res e failed is)) (record {
-        carried = λ xs. ran.fails (rest_of xs h old.events) fs;
+        carried = λ rest. ran.fails (rest_of rest h old.events) fs;
         at = ran.stays.at;
         told = ran-told (Err e) ran told;
         unarmed = ran.stays.unarmed;
@@ -93,7 +93,7 @@ module _ (s m : PlantState) (c : ConfigTable) (h : Writes) (old mid : Log) (es :
       })
 
 -- the same of other entries that end so
-pub wrote-carried : (s u : PlantState) (c : ConfigTable) (h g : Writes) (old new : Log) (es fs : Control → List Entry) (n : ℕ) {T : Type 0} (res : Result T Refusal) → ((xs : List Session) → Ends (armed_in s) (here u c xs g new.events) (refusal_of res) (here s c xs h old.events) (fs (here s c xs h old.events).control))
+pub wrote-carried : (s u : PlantState) (c : ConfigTable) (h g : Writes) (old new : Log) (es fs : Control → List Entry) (n : ℕ) {T : Type 0} (res : Result T Refusal) → ((rest : Rest) → Ends (armed_in s) (here u c rest g new.events) (refusal_of res) (here s c rest h old.events) (fs (here s c rest h old.events).control))
     → Wrote s u c h g old new es n res → Wrote s u c h g old new fs n res
 wrote-carried s u c h g old new es fs n res carried w = record {
   carried = carried;
@@ -107,15 +107,15 @@ wrote-carried s u c h g old new es fs n res carried w = record {
 }
 
 -- or that come to these
-pub wrote-alike : (s u : PlantState) (c : ConfigTable) (h g : Writes) (old new : Log) (es fs : Control → List Entry) (n : ℕ) {T : Type 0} (res : Result T Refusal) → ((xs : List Session) → es (here s c xs h old.events).control ≡ fs (here s c xs h old.events).control)
+pub wrote-alike : (s u : PlantState) (c : ConfigTable) (h g : Writes) (old new : Log) (es fs : Control → List Entry) (n : ℕ) {T : Type 0} (res : Result T Refusal) → ((rest : Rest) → es (here s c rest h old.events).control ≡ fs (here s c rest h old.events).control)
     → Wrote s u c h g old new es n res → Wrote s u c h g old new fs n res
 wrote-alike s u c h g old new es fs n res same w =
-    wrote-carried s u c h g old new es fs n res (λ xs. subst (Ends (armed_in s) (here u c xs g new.events) (refusal_of res) (here s c xs h old.events)) (same xs) (w.carried xs)) w
+    wrote-carried s u c h g old new es fs n res (λ rest. subst (Ends (armed_in s) (here u c rest g new.events) (refusal_of res) (here s c rest h old.events)) (same rest) (w.carried rest)) w
 
 -- there are none
-pub wrote-nothing : (s : PlantState) (c : ConfigTable) (h : Writes) (old : Log) (es : Control → List Entry) (n : ℕ) {T : Type 0} (x : T) → ((xs : List Session) → es (here s c xs h old.events).control ≡ []) → IsAt s c → IsTold h old.events → Wrote s s c h h old old es n (Ok x)
+pub wrote-nothing : (s : PlantState) (c : ConfigTable) (h : Writes) (old : Log) (es : Control → List Entry) (n : ℕ) {T : Type 0} (x : T) → ((rest : Rest) → es (here s c rest h old.events).control ≡ []) → IsAt s c → IsTold h old.events → Wrote s s c h h old old es n (Ok x)
 wrote-nothing s c h old es n x none at told = record {
-  carried = λ xs. subst (Ends (armed_in s) (here s c xs h old.events) None (here s c xs h old.events)) (sym (none xs)) (ends-none (armed_in s) (here s c xs h old.events) None (here s c xs h old.events) (record { world = refl; refusal = refl }));
+  carried = λ rest. subst (Ends (armed_in s) (here s c rest h old.events) None (here s c rest h old.events)) (sym (none rest)) (ends-none (armed_in s) (here s c rest h old.events) None (here s c rest h old.events) (record { world = refl; refusal = refl }));
   at = at;
   told = told;
   unarmed = λ q none. none;
@@ -140,7 +140,7 @@ wrote-within s u c h g old new es n k res large w = record {
 
 -- a call that fails by the stop of one server
 pub wrote-by : (s u : PlantState) (c : ConfigTable) (h g : Writes) (old new : Log) (es : List Entry) (n server : ℕ) (res : Result (Unit {0}) Refusal) → OnErr res (refusal_of res ≡ Some (stopped server))
-    → ((xs : List Session) → Ends (armed_in s) (here u c xs g new.events) (refusal_of res) (here s c xs h old.events) es) → IsAtRest u c → RelationsFit u c → IsTold g new.events → ((q : ℕ) → s.read_fuse q ≡ None → u.read_fuse q ≡ None)
+    → ((rest : Rest) → Ends (armed_in s) (here u c rest g new.events) (refusal_of res) (here s c rest h old.events) es) → IsAtRest u c → RelationsFit u c → IsTold g new.events → ((q : ℕ) → s.read_fuse q ≡ None → u.read_fuse q ≡ None)
     → Counted (is_err res) s.faults u.faults → g.issued ≡ h.issued → old.spare ≤ new.spare + n → length new.events + new.spare ≡ length old.events + old.spare → Wrote s u c h g old new (λ k. es) n res
 wrote-by s u c h g old new es n server res refused carried rest fit told unarmed faults issued room spare = record {
   carried = carried;
@@ -158,11 +158,11 @@ pub wrote-gone : (s u : PlantState) (c : ConfigTable) (h : Writes) (old new : Lo
     → ((q : ℕ) → IsAsBefore s u c q) → StandsFor c u → ((q : ℕ) → s.read_fuse q ≡ None → u.read_fuse q ≡ None) → Rose s.faults u.faults → old.spare ≤ new.spare + 1 → length new.events + new.spare ≡ length old.events + old.spare
     → Wrote s u c h h old new (λ k. es) 1 {T = Unit {0}} (Err (stopped server))
 wrote-gone s u c h old new es server at told gone same stands unarmed rose room spare =
-    let ends : (xs : List Session) → Ends (armed_in s) (here u c xs h new.events) (Some (stopped server)) (here s c xs h old.events) es = (λ xs. ends-off (armed_in s) (here u c xs h new.events) (Some (stopped server)) (here s c xs h old.events) es (gone (rest_of xs h old.events))) in
+    let ends : (rest : Rest) → Ends (armed_in s) (here u c rest h new.events) (Some (stopped server)) (here s c rest h old.events) es = (λ rest. ends-off (armed_in s) (here u c rest h new.events) (Some (stopped server)) (here s c rest h old.events) es (gone (rest_of rest h old.events))) in
     record {
       carried = ends;
       at = record { rest = rest-same c s u at.rest stands same; fit = fit-same s u c same at.fit };
-      told = told-through (armed_in s) h (here s c [] h old.events) (here u c [] h new.events) es (Some (stopped server)) (ends []) told;
+      told = told-through (armed_in s) h (here s c no_rest h old.events) (here u c no_rest h new.events) es (Some (stopped server)) (ends no_rest) told;
       unarmed = unarmed;
       faults = rose;
       issued = refl;

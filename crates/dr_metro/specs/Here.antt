@@ -1,24 +1,13 @@
--- The machine's state that plant, configuration, sessions, host and journal show.
-use Rattle.std.specs.Prelude.{◌≡◌, List, map}
+-- What holds of the host's pending writes, and of the devices, before a host write is carried out and behind it.
+use Rattle.std.specs.Prelude.{◌≡◌, List}
 use Rattle.dr_plant.specs.State.{PlantState}
 use Rattle.dr_config.specs.Table.{ConfigTable}
 use Rattle.dr_model.specs.declared.event.Event.{Event}
-use Rattle.dr_model.specs.Control.{World}
 use Rattle.dr_model.specs.Histories.{histories}
-use Rattle.dr_model.specs.Sessions.{Session}
-use Rattle.dr_volume.specs.View.{Rest, world, ReadsPass}
+use Rattle.dr_volume.specs.View.{ReadsPass}
 use Rattle.dr_moves.specs.Here.{IsAtRest}
 use Rattle.dr_host.specs.Writes.{Writes, EachPending, bytes_of}
-use Rattle.dr_host.specs.Seen.{pending_seen}
 use Rattle.dr_host.specs.declared.pending.Pending.{Pending}
-
--- what a run knows beside plant and configuration
-abbrev pub rest_of : List Session → Writes → List Event → Rest
-rest_of xs h events = record { issued = h.issued; pending = map pending_seen h.pending; sessions = xs; events = events }
-
--- the state that plant, configuration, sessions, writes and journal show
-abbrev pub here : PlantState → ConfigTable → List Session → Writes → List Event → World
-here s t xs h events = world s t (rest_of xs h events)
 
 -- each pending write is the one that the journal tells of
 abbrev pub IsTold : Writes → List Event → Type 0

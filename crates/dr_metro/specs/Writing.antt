@@ -12,16 +12,16 @@ use Rattle.dr_model.specs.Log.{Log}
 use Rattle.dr_model.specs.Carry.{Entry}
 use Rattle.dr_model.specs.Control.{Control}
 use Rattle.dr_model.specs.ReadStops.{Ends}
-use Rattle.dr_model.specs.Sessions.{Session}
 use Rattle.dr_volume.specs.declared.fields.Fields.{Fields}
-use Rattle.dr_volume.specs.View.{volume_seen}
+use Rattle.dr_volume.specs.View.{Rest, volume_seen}
 use Rattle.dr_volume.specs.Volume.{Says}
 use Rattle.dr_moves.specs.Checks.{is_stop}
 use Rattle.dr_moves.specs.Here.{refusal_of, armed_in}
 use Rattle.dr_moves.specs.Made.{IsAt, IsPrimary}
 use Rattle.dr_flash.specs.Standing.{HasNoTarget}
 use Rattle.dr_gcopy.specs.Both.{IsOn}
-use Rattle.dr_metro.specs.Here.{here, IsTold}
+use Rattle.dr_host.specs.Here.{here}
+use Rattle.dr_metro.specs.Here.{IsTold}
 use Rattle.dr_metro.specs.Mirroring.{MayPair}
 use Rattle.dr_metro.specs.declared.sync.WriteEnd.{WriteEnd}
 use Rattle.dr_metro.specs.declared.sync.WriteEnd.TheVariants.{Landed}
@@ -51,7 +51,7 @@ pub record CanCross (s : PlantState) (c : ConfigTable) (h : Writes) (events : Li
 -- plant agree, the pending writes are those of the journal, no read fuse is armed, a fault counts where a server stopped, no write is
 -- issued, and the journal is told so many events at most.
 pub record Wrote (s u : PlantState) (c : ConfigTable) (h g : Writes) (old new : Log) (es : Control → List Entry) (most : ℕ) {T : Type 0} (result : Result T Refusal) : Type 0 where
-  pub carried : (xs : List Session) → Ends (armed_in s) (here u c xs g new.events) (refusal_of result) (here s c xs h old.events) (es (here s c xs h old.events).control)
+  pub carried : (r : Rest) → Ends (armed_in s) (here u c r g new.events) (refusal_of result) (here s c r h old.events) (es (here s c r h old.events).control)
   pub at : IsAt u c
   pub told : IsTold g new.events
   pub unarmed : (q : ℕ) → s.read_fuse q ≡ None → u.read_fuse q ≡ None

@@ -13,12 +13,12 @@ ghost use Rattle.dr_model.specs.Moves.{LandBoth};
 ghost use Rattle.dr_model.specs.Pairs as pairs;
 ghost use Rattle.dr_model.specs.ReadStops.{Ends};
 ghost use Rattle.dr_model.specs.Refusals.{stopped};
-ghost use Rattle.dr_model.specs.Sessions.{Session};
 ghost use Rattle.dr_volume.specs.Update.{IsMoved, OthersStay};
-ghost use Rattle.dr_volume.specs.View.{volume_seen, track_seen};
+ghost use Rattle.dr_volume.specs.View.{Rest, volume_seen, track_seen};
 ghost use Rattle.dr_moves.specs.Fit.{RelationsFit};
 ghost use Rattle.dr_moves.specs.Here.{refusal_of, armed_in, IsAtRest};
-ghost use Rattle.dr_metro.specs.Here.{here, IsTold};
+ghost use Rattle.dr_host.specs.Here.{here};
+ghost use Rattle.dr_metro.specs.Here.{IsTold};
 ghost use Rattle.dr_metro.specs.Mirroring.{CanLand};
 ghost use Rattle.dr_metro.specs.Writing.{Wrote};
 
@@ -54,7 +54,7 @@ pub fn land_both<P: Plant>(
     requires bytes { bytes.now ≡ with_write (histories journal.old.events).write (track_seen (P.state plant.old) config.now v.0 t) w.0 }
     requires waits { IsSome (find (has_number w.0) h.old.pending) }
     requires room { 1 ≤ journal.old.spare }
-    ensures carried { (xs : List Session) → Ends (armed_in (P.state plant.old)) (here (P.state plant.new) config.now xs h.new journal.new.events) (refusal_of result) (here (P.state plant.old) config.now xs h.old journal.old.events) (now (LandBoth w.0 v.0 t) ∷ []) }
+    ensures carried { (r : Rest) → Ends (armed_in (P.state plant.old)) (here (P.state plant.new) config.now r h.new journal.new.events) (refusal_of result) (here (P.state plant.old) config.now r h.old journal.old.events) (now (LandBoth w.0 v.0 t) ∷ []) }
     ensures refused { OnErr result (refusal_of result ≡ Some (stopped (volume_seen (P.state plant.old) config.now v.0).server)) }
     ensures rest { IsAtRest (P.state plant.new) config.now }
     ensures fit { RelationsFit (P.state plant.new) config.now }

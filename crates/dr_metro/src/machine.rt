@@ -8,11 +8,11 @@ ghost use Rattle.dr_host.specs.Writes.{has_number, with_marked};
 ghost use Rattle.dr_model.specs.Entries.{land_on, land_alone};
 ghost use Rattle.dr_model.specs.ReadStops.{Ends};
 ghost use Rattle.dr_model.specs.Refusals.{stopped};
-ghost use Rattle.dr_model.specs.Sessions.{Session};
-ghost use Rattle.dr_volume.specs.View.{volume_seen, ids_of};
+ghost use Rattle.dr_volume.specs.View.{Rest, volume_seen, ids_of};
 ghost use Rattle.dr_volume.specs.Volume.{Shows};
 ghost use Rattle.dr_moves.specs.Fit.{RelationsFit};
-ghost use Rattle.dr_metro.specs.Here.{here, IsTold};
+ghost use Rattle.dr_host.specs.Here.{here};
+ghost use Rattle.dr_metro.specs.Here.{IsTold};
 ghost use Rattle.dr_metro.specs.Landing.{landed_on};
 ghost use Rattle.dr_moves.specs.Here.{refusal_of, armed_in, IsAtRest};
 ghost use Rattle.dr_metro.specs.Waiting.{IsIssuedAs};
@@ -58,8 +58,8 @@ pub fn land_kept<P: Plant>(
     requires fits { target.offset + length bytes.now ≤ 64 }
     requires room { length config.now.volumes + 2 ≤ journal.old.spare }
     requires pending { IsIssuedAs host.old journal.old.events w.0 target bytes.now }
-    ensures carried { (xs : List Session) → Ends (armed_in (P.state plant.old)) (here (P.state plant.new) config.now xs host.new journal.new.events) (refusal_of result)
-        (here (P.state plant.old) config.now xs host.old journal.old.events) (land_alone (ids_of config.now.volumes) w.0 target.volume.0 target.track) }
+    ensures carried { (r : Rest) → Ends (armed_in (P.state plant.old)) (here (P.state plant.new) config.now r host.new journal.new.events) (refusal_of result)
+        (here (P.state plant.old) config.now r host.old journal.old.events) (land_alone (ids_of config.now.volumes) w.0 target.volume.0 target.track) }
     ensures stopped { OnErr result (refusal_of result ≡ Some (stopped target.server.0)) }
     ensures left { OnOk result ((volume_seen (P.state plant.new) config.now target.volume.0).fields ≡ landed_on (volume_seen (P.state plant.old) config.now target.volume.0) target.track) }
     ensures rest { IsAtRest (P.state plant.new) config.now }

@@ -10,8 +10,7 @@ ghost use Rattle.dr_model.specs.Entries.{copies_from};
 ghost use Rattle.dr_model.specs.Layout.{is_part};
 ghost use Rattle.dr_model.specs.ReadStops.{Ends};
 ghost use Rattle.dr_model.specs.WriteEntries.{land_mirrored};
-ghost use Rattle.dr_model.specs.Sessions.{Session};
-ghost use Rattle.dr_volume.specs.View.{volume_seen, track_seen, ids_of};
+ghost use Rattle.dr_volume.specs.View.{Rest, volume_seen, track_seen, ids_of};
 ghost use Rattle.dr_moves.specs.Checks.{is_stop};
 ghost use Rattle.dr_moves.specs.Fit.{RelationsFit};
 ghost use Rattle.dr_moves.specs.Here.{refusal_of, armed_in, IsAtRest};
@@ -19,7 +18,8 @@ ghost use Rattle.dr_moves.specs.Made.{IsAt};
 ghost use Rattle.dr_flash.specs.Standing.{HasNoTarget};
 ghost use Rattle.dr_gcopy.specs.Both.{IsOn};
 ghost use Rattle.dr_gcopy.specs.Ran.{Ran};
-ghost use Rattle.dr_metro.specs.Here.{here, IsTold};
+ghost use Rattle.dr_host.specs.Here.{here};
+ghost use Rattle.dr_metro.specs.Here.{IsTold};
 ghost use Rattle.dr_metro.specs.Mirroring.{CanSettle, CanStore, settle_entries, store_entries, mirror_entries};
 ghost use Rattle.dr_metro.specs.Writing.{CanCross, Wrote};
 
@@ -182,7 +182,7 @@ pub fn write_both<P: Plant>(
     requires fits { w.now.offset + w.now.len ≤ 64 }
     requires found { find (has_number w.now.w.0) h.old.pending ≡ Some w.now }
     requires room { length config.now.volumes + (length config.now.volumes + 2) ≤ journal.old.spare }
-    ensures carried { (xs : List Session) → Ends (armed_in (P.state plant.old)) (here (P.state plant.new) config.now xs h.new journal.new.events) (refusal_of result) (here (P.state plant.old) config.now xs h.old journal.old.events) (land_mirrored (ids_of config.now.volumes) w.now.w.0 w.now.volume.0 w.now.track u.0) }
+    ensures carried { (r : Rest) → Ends (armed_in (P.state plant.old)) (here (P.state plant.new) config.now r h.new journal.new.events) (refusal_of result) (here (P.state plant.old) config.now r h.old journal.old.events) (land_mirrored (ids_of config.now.volumes) w.now.w.0 w.now.volume.0 w.now.track u.0) }
     ensures stops { OnErr result (is_stop (refusal_of result) ≡ true) }
     ensures equal { OnOk result (track_seen (P.state plant.new) config.now u.0 w.now.track ≡ track_seen (P.state plant.new) config.now w.now.volume.0 w.now.track) }
     ensures rest { IsAtRest (P.state plant.new) config.now }

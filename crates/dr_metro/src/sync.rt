@@ -11,7 +11,6 @@ ghost use Rattle.dr_model.specs.declared.event.Event.{Event};
 ghost use Rattle.dr_model.specs.Pairs.{is_metro, is_suspended};
 ghost use Rattle.dr_model.specs.WriteEntries as entries;
 ghost use Rattle.dr_model.specs.WriteEntries.{landing, waits, after_write};
-ghost use Rattle.dr_model.specs.Sessions.{Session};
 ghost use Rattle.dr_volume.specs.Plain.{plain};
 ghost use Rattle.dr_volume.specs.View.{Rest, volume_seen, ids_of};
 ghost use Rattle.dr_volume.specs.Volume.{Says, Shows};
@@ -22,7 +21,8 @@ ghost use Rattle.dr_moves.specs.Made.{IsPrimary};
 ghost use Rattle.dr_flash.specs.Standing.{HasNoTarget};
 ghost use Rattle.dr_gcopy.specs.Both.{IsOn};
 ghost use Rattle.dr_moves.specs.Followed.{EndsFollowed};
-ghost use Rattle.dr_metro.specs.Here.{here, IsTold};
+ghost use Rattle.dr_host.specs.Here.{here};
+ghost use Rattle.dr_metro.specs.Here.{IsTold};
 ghost use Rattle.dr_metro.specs.Mirroring.{Mirrors, MayPair};
 ghost use Rattle.dr_metro.specs.declared.sync.WriteEnd.TheVariants.{Landed};
 ghost use Rattle.dr_metro.specs.Syncing.{parted_entries, over_entries, end_of, parts, entries_by, waits_by};
@@ -121,7 +121,7 @@ fn write_over<P: Plant>(
     requires alone { found ≡ false → HasNoTarget (P.state plant.old) config.now w.now.volume.0 }
     requires room { length config.now.volumes + (length config.now.volumes + 4) ≤ journal.old.spare }
     ensures wrote { Wrote (P.state plant.old) (P.state plant.new) config.now h.old h.new journal.old journal.new (λ k. over_entries (ids_of config.now.volumes) (parts k w.now.volume.0 u.0) (entries.is_grouped k w.now.volume.0 u.0) w.now.w.0 w.now.volume.0 w.now.track u.0) (length config.now.volumes + (length config.now.volumes + 3)) result }
-    ensures end { (xs : List Session) → IfOk result (λ e. e ≡ end_of (parts (here (P.state plant.old) config.now xs h.old journal.old.events).control w.now.volume.0 u.0 && entries.is_grouped (here (P.state plant.old) config.now xs h.old journal.old.events).control w.now.volume.0 u.0)) }
+    ensures end { (r : Rest) → IfOk result (λ e. e ≡ end_of (parts (here (P.state plant.old) config.now r h.old journal.old.events).control w.now.volume.0 u.0 && entries.is_grouped (here (P.state plant.old) config.now r h.old journal.old.events).control w.now.volume.0 u.0)) }
     ensures mirrors { OnOk result (Mirrors (P.state plant.new) config.now w.now.volume.0 u.0 w.now.track) }
     ensures stops { OnErr result (is_stop (refusal_of result) ≡ true) }
 {
@@ -154,7 +154,7 @@ fn place_write<P: Plant>(
     requires alone { found ≡ false → HasNoTarget (P.state plant.old) config.now w.now.volume.0 }
     requires room { length config.now.volumes + (length config.now.volumes + 4) ≤ journal.old.spare }
     ensures wrote { Wrote (P.state plant.old) (P.state plant.new) config.now h.old h.new journal.old journal.new (λ k. entries_by k (plain fields.now) w.now.w.0 w.now.volume.0 w.now.track) (length config.now.volumes + (length config.now.volumes + 3)) result }
-    ensures end { (xs : List Session) → IfOk result (λ e. e ≡ end_of (waits_by (here (P.state plant.old) config.now xs h.old journal.old.events).control (plain fields.now) w.now.volume.0 w.now.track)) }
+    ensures end { (r : Rest) → IfOk result (λ e. e ≡ end_of (waits_by (here (P.state plant.old) config.now r h.old journal.old.events).control (plain fields.now) w.now.volume.0 w.now.track)) }
     ensures mirrors { is_metro fields.now.primary ≡ true → IfOk result (λ e. e ≡ Landed → Mirrors (P.state plant.new) config.now w.now.volume.0 fields.now.primary_partner.0 w.now.track) }
     ensures stops { OnErr result (is_stop (refusal_of result) ≡ true) }
 {
@@ -185,7 +185,7 @@ fn carry_write<P: Plant>(
     requires shows { Shows (P.state plant.old) config.now w.now.volume.0 fields.now }
     requires room { length config.now.volumes + (length config.now.volumes + 4) ≤ journal.old.spare }
     ensures wrote { Wrote (P.state plant.old) (P.state plant.new) config.now h.old h.new journal.old journal.new (λ k. landing k w.now.w.0 w.now.volume.0 w.now.track) (length config.now.volumes + (length config.now.volumes + 3)) result }
-    ensures end { (xs : List Session) → IfOk result (λ e. e ≡ end_of (waits (here (P.state plant.old) config.now xs h.old journal.old.events).control w.now.volume.0 w.now.track)) }
+    ensures end { (r : Rest) → IfOk result (λ e. e ≡ end_of (waits (here (P.state plant.old) config.now r h.old journal.old.events).control w.now.volume.0 w.now.track)) }
     ensures mirrors { is_metro fields.now.primary ≡ true → IfOk result (λ e. e ≡ Landed → Mirrors (P.state plant.new) config.now w.now.volume.0 fields.now.primary_partner.0 w.now.track) }
 {
     let server = server_of(config, w.volume);
@@ -235,8 +235,8 @@ pub fn sync_write<P: Plant>(
     requires fits { w.now.offset + w.now.len ≤ 64 }
     requires found { find (has_number w.now.w.0) h.old.pending ≡ Some w.now }
     requires room { length config.now.volumes + (length config.now.volumes + 7) ≤ journal.old.spare }
-    ensures carried { (xs : List Session) → EndsFollowed (armed_in (P.state plant.old)) (here (P.state plant.old) config.now xs h.old journal.old.events) (landing (here (P.state plant.old) config.now xs h.old journal.old.events).control w.now.w.0 w.now.volume.0 w.now.track) (after_write (here (P.state plant.old) config.now xs h.old journal.old.events).control w.now.volume.0 w.now.track) (here (P.state plant.new) config.now xs h.new journal.new.events) (refusal_of result) }
-    ensures end { (xs : List Session) → IfOk result (λ e. e ≡ end_of (waits (here (P.state plant.old) config.now xs h.old journal.old.events).control w.now.volume.0 w.now.track)) }
+    ensures carried { (r : Rest) → EndsFollowed (armed_in (P.state plant.old)) (here (P.state plant.old) config.now r h.old journal.old.events) (landing (here (P.state plant.old) config.now r h.old journal.old.events).control w.now.w.0 w.now.volume.0 w.now.track) (after_write (here (P.state plant.old) config.now r h.old journal.old.events).control w.now.volume.0 w.now.track) (here (P.state plant.new) config.now r h.new journal.new.events) (refusal_of result) }
+    ensures end { (r : Rest) → IfOk result (λ e. e ≡ end_of (waits (here (P.state plant.old) config.now r h.old journal.old.events).control w.now.volume.0 w.now.track)) }
     ensures mirrors { is_metro (volume_seen (P.state plant.old) config.now w.now.volume.0).fields.primary ≡ true → IfOk result (λ e. e ≡ Landed → Mirrors (P.state plant.new) config.now w.now.volume.0 (volume_seen (P.state plant.old) config.now w.now.volume.0).fields.primary_partner w.now.track) }
     ensures rest { IsAtRest (P.state plant.new) config.now }
     ensures fit { RelationsFit (P.state plant.new) config.now }

@@ -178,3 +178,15 @@ destaged_more = refl
 destaged_none : outcome (line_of (codes "@destage")) ≡ 9000
 unfolding outcome line_of words_from words_behind command_named commands command_word read_words read_on setting_named settings setting_word operands needed operand_value operand_items own_steps all_digits no_options no_operands spelled_bytes has flagged valued setting_items may_end may_end_with steps_of step_of paired ranges_items form
 destaged_none = refl
+
+lost : outcome (line_of (codes "@lose 7")) ≡ 1
+unfolding outcome line_of words_from words_behind command_named commands command_word read_words read_on setting_named settings setting_word operands needed operand_value operand_items own_steps all_digits no_options no_operands spelled_bytes has flagged valued setting_items may_end may_end_with steps_of step_of paired ranges_items form
+lost = refl
+
+lost_none : outcome (line_of (codes "@lose")) ≡ 6000
+unfolding outcome line_of words_from words_behind command_named commands command_word read_words read_on setting_named settings setting_word operands needed operand_value operand_items own_steps all_digits no_options no_operands spelled_bytes has flagged valued setting_items may_end may_end_with steps_of step_of paired ranges_items form
+lost_none = refl
+
+lost_more : outcome (line_of (codes "@lose 7 8")) ≡ 9000
+unfolding outcome line_of words_from words_behind command_named commands command_word read_words read_on setting_named settings setting_word operands needed operand_value operand_items own_steps all_digits no_options no_operands spelled_bytes has flagged valued setting_items may_end may_end_with steps_of step_of paired ranges_items form
+lost_more = refl

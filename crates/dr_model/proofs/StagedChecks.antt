@@ -1,5 +1,5 @@
 -- What is staged behind a move, which of its writes decides, and how a staged track goes to its place, at a few volumes.
-use Rattle.std.proofs.Common.{◌≡◌, refl, ap, cond, ℕ, Bool, true, false, List, [], ◌∷◌, Option, Some, None}
+use Rattle.std.proofs.Common.{◌≡◌, refl, ap, cond, ℕ, true, false, List, [], ◌∷◌, Option, Some, None}
 use Rattle.std.specs.FinSet.{contains}
 use Rattle.dr_logic.specs.Bytes.{zeros}
 use Rattle.dr_model.specs.Refusals.{stopped}

@@ -1,7 +1,7 @@
 -- How the journal keeps the answers of steps: a code and up to three numbers.
 use Rattle.std.specs.Prelude.{ℕ, ◌+◌, ◌*◌}
 use Rattle.dr_ids.specs.declared.refusal.Kind.{Kind}
-use Rattle.dr_ids.specs.declared.refusal.Kind.TheVariants.{Server as OfServer, Volume as OfVolume, Lss as OfLss, Path as OfPath, Write as OfWrite, Session as OfSession, Track as OfTrack, Master as OfMaster}
+use Rattle.dr_ids.specs.declared.refusal.Kind.TheVariants.{Server as OfServer, Volume as OfVolume, Lss as OfLss, Path as OfPath, Write as OfWrite, Session as OfSession, Track as OfTrack, Master as OfMaster, Message as OfMessage}
 use Rattle.dr_ids.specs.declared.refusal.Which.{Which}
 use Rattle.dr_ids.specs.declared.refusal.Which.TheVariants.{Servers, Volumes, Tracks, Sessions, Pending, Targets, Groups, Size, Server as OneServer}
 use Rattle.dr_ids.specs.declared.refusal.PhaseName.{PhaseName}
@@ -32,6 +32,7 @@ kind_place OfWrite = 4
 kind_place OfSession = 5
 kind_place OfTrack = 6
 kind_place OfMaster = 7
+kind_place OfMessage = 8
 
 -- the place of a limit in its list
 abbrev pub which_place : Which → ℕ

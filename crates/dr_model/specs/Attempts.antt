@@ -6,22 +6,25 @@ use Rattle.dr_ids.specs.declared.refusal.PhaseName.{PhaseName}
 use Rattle.dr_ids.specs.declared.refusal.PhaseName.TheVariants as phase
 use Rattle.dr_model.specs.Decisions.{Shown}
 use Rattle.dr_model.specs.Phases.{is_among}
+use Rattle.dr_model.specs.Phases as phases
 use Rattle.dr_model.specs.Layout.{Fields}
 use Rattle.dr_model.specs.Control.{Control}
 use Rattle.dr_model.specs.Views.{source_of}
-use Rattle.dr_model.specs.Pairs.{primary_of, is_secondary_of}
+use Rattle.dr_model.specs.Pairs.{primary_of, is_secondary_of, records}
 use Rattle.dr_model.specs.Moves.{Move, Overwrite, Keep, Relate, Withdraw, Fetch, Resync, Reverse, Release, MakeSecondary, Yield, Hold, Free, Seal, Finish, RaiseAttempt, RaiseFloor, Leave, Flash, Commit, Revert}
 use Rattle.dr_model.specs.Entries.{fields_at, is_at}
 use Rattle.dr_model.specs.Sessions.{Session, Mirror, has_subsystem, subsystem_of}
 use Rattle.dr_model.specs.SessionEntries.{may_flash}
-use Rattle.dr_model.specs.Groups.{In, HoldsMember}
+use Rattle.dr_model.specs.Groups.{In, Due, HoldsMember}
 
 -- ---- what is seen
 
--- what a volume's record says of attempts: its last one, which it has as a primary; the primary of a secondary, and its seal; the
--- source of a target, its numbers and flags, and the session in which it counts
+-- what a volume's record says of attempts: the last one that it has as a primary, and whether it records and is held; the primary of a
+-- secondary, and its seal; the source of a target, its numbers and flags, and the session in which it counts
 pub record Role : Type 0 where
   pub attempt : ℕ
+  pub recording : Bool
+  pub held : Bool
   pub primary : Option ℕ
   pub seal : ℕ
   pub source : Option ℕ
@@ -39,6 +42,8 @@ pub record Role : Type 0 where
 abbrev pub role_of : Fields → Role
 role_of f = record {
   attempt = f.attempt;
+  recording = f.recording;
+  held = f.coordination;
   primary = primary_of f;
   seal = f.seal;
   source = source_of f;
@@ -61,11 +66,13 @@ Roles = ℕ → Role
 abbrev pub roles : Control → Roles
 roles k v = role_of (fields_at k v)
 
--- A member as its session sees it: its server; of its primary the last attempt; of its secondary whether it is that primary's, and
--- the seal; of its target the numbers and flags.
+-- A member as its session sees it: its server; of its primary the last attempt, and whether it records and is held; of its secondary
+-- whether it is that primary's, and the seal; of its target the numbers and flags.
 pub record Seen : Type 0 where
   pub server : ℕ
   pub attempt : ℕ
+  pub recording : Bool
+  pub held : Bool
   pub paired : Bool
   pub seal : ℕ
   pub sequence : ℕ
@@ -79,6 +86,8 @@ abbrev pub seen_of : ℕ → ℕ → Role → Role → Role → Seen
 seen_of server a x y z = record {
   server = server;
   attempt = x.attempt;
+  recording = x.recording;
+  held = x.held;
   paired = is_at y.primary a;
   seal = y.seal;
   sequence = z.sequence;
@@ -145,14 +154,36 @@ AllAt n = All (λ v. counts v ≡ true → v.sequence ≡ n)
 abbrev pub Blocked : List Seen → Type 0
 Blocked = All (λ v. v.revertible ≡ true → v.paired ≡ false)
 
--- and no other can be flashed with n: not with its secondary taken, sealed for another number, or with a floor that isn't below n
-pub record Bars (n : ℕ) (revertible paired : Bool) (seal floor : ℕ) : Type 0 where
+-- And no other can be flashed with n: not with its secondary taken, nor with a floor that isn't below n; and else it isn't sealed for n,
+-- nor can it be, since its primary doesn't record.
+pub record Bars (n : ℕ) (revertible paired recording : Bool) (seal floor : ℕ) : Type 0 where
   pub taken : revertible ≡ true → paired ≡ false
-  pub spent : revertible ≡ false → paired ≡ true → seal ≡ n → floor < n → ⊥
+  pub spent : revertible ≡ false → paired ≡ true → floor < n → (seal ≢ n) × (recording ≡ false)
 
 -- no member can be flashed for number n any more
 abbrev pub Barred : ℕ → List Seen → Type 0
-Barred n = All (λ v. Bars n v.revertible v.paired v.seal v.floor)
+Barred n = All (λ v. Bars n v.revertible v.paired v.recording v.seal v.floor)
+
+-- each primary was held for n
+abbrev pub AllHeld : ℕ → List Seen → Type 0
+AllHeld n = All (λ v. n ≤ v.attempt)
+
+-- a target was flashed with n, and that may stand or be over: it can go back, or its floor has reached n
+abbrev pub WasFlashed : ℕ → Seen → Type 0
+WasFlashed n v = (v.revertible ≡ true) ⊎ (n ≤ v.floor)
+
+-- each was
+abbrev pub AllFlashed : ℕ → List Seen → Type 0
+AllFlashed n = All (WasFlashed n)
+
+-- What comes late in attempt n comes after all that comes before: where a primary records and isn't held, where a target can go back and
+-- where one is committed, all primaries were held; and where one is committed, all targets were flashed. A secondary is sealed for n
+-- after its own primary was held.
+pub record Follows (n : ℕ) (vs : List Seen) : Type 0 where
+  pub free : All (λ v. v.recording ≡ true → v.held ≡ false → AllHeld n vs) vs
+  pub turned : All (λ v. v.revertible ≡ true → AllHeld n vs) vs
+  pub settled : All (λ v. committed n v ≡ true → AllHeld n vs × AllFlashed n vs) vs
+  pub sealed : All (λ v. v.paired ≡ true → v.seal ≡ n → n ≤ v.attempt) vs
 
 -- ---- numbers
 
@@ -195,26 +226,41 @@ pub record Before (n : ℕ) (vs : List Seen) : Type 0 where
   pub unflashed : NoneRevertible vs
   pub uncommitted : NoneCommitted n vs
 
--- Coordinating: nothing of attempt n was sealed or flashed yet
-pub record InCoordinating (n : ℕ) (vs : List Seen) : Type 0 where
+-- Coordinating: nothing of attempt n was sealed or flashed yet; those that have answered were held
+pub record InCoordinating (n : ℕ) (owed : List ℕ) (vs : List Seen) : Type 0 where
   pub before : Before n vs
   pub unsealed : All (λ v. v.seal ≢ n) vs
+  pub held : Answered owed (λ v. n ≤ v.attempt) vs
 
--- those that have answered are flashed, unless none can be any more
+-- Releasing and Draining: all were held
+pub record InForming (n : ℕ) (vs : List Seen) : Type 0 where
+  pub before : Before n vs
+  pub held : AllHeld n vs
+
+-- those that have answered were flashed, and can go back unless none can be flashed any more
 pub record InFlashing (n : ℕ) (owed : List ℕ) (vs : List Seen) : Type 0 where
   pub positive : 0 < n
   pub uncommitted : NoneCommitted n vs
+  pub held : AllHeld n vs
   pub done : Barred n vs ⊎ Answered owed (λ v. v.revertible ≡ true) vs
+  pub flashed : Answered owed (WasFlashed n) vs
 
--- each can be committed, or no order can commit or revert one
+-- each was flashed, and each can be committed, or no order can commit or revert one
 pub record InCommitting (n : ℕ) (owed : List ℕ) (vs : List Seen) : Type 0 where
   pub way : AllAt n vs ⊎ Blocked vs
+  pub held : AllHeld n vs
+  pub flashed : AllFlashed n vs
   pub done : Answered owed (λ v. v.revertible ≡ false) vs
 
--- Reverting: none is committed with n, or none can go back any more; and of servers that have answered none can
+-- Reverting: none is committed with n, or none can go back any more; those that have answered can't, and their floors have reached n
 pub record InReverting (n : ℕ) (owed : List ℕ) (vs : List Seen) : Type 0 where
   pub way : NoneCommitted n vs ⊎ NoneRevertible vs
-  pub done : Answered owed (λ v. v.revertible ≡ false) vs
+  pub done : Answered owed (λ v. (v.revertible ≡ false) × (n ≤ v.floor)) vs
+
+-- Finishing: none can go back; those that have answered make nothing of attempt n any more
+pub record InFinishing (n : ℕ) (owed : List ℕ) (vs : List Seen) : Type 0 where
+  pub unflashed : NoneRevertible vs
+  pub done : Answered owed (λ v. n ≤ v.attempt) vs
 
 -- a member's number and flag have been reported
 abbrev pub IsReported : ℕ → Bool → List Shown → Type 0
@@ -238,24 +284,26 @@ abbrev pub Known : ℕ → List ℕ → List Shown → List Seen → Type 0
 Known n owed reports vs = NoneRevertible vs ⊎ (IsReported n false reports ⊎ Any (λ w. (committed n w ≡ true) × (is_owed owed w ≡ true)) vs)
 
 -- Recoveries may commit and revert members while reports come in, so what was reported needn't be what members show now. A revertible
--- one had number n; the others agree; and those revertible now whose servers have answered were reported so.
+-- one had number n; the others agree; those revertible now whose servers have answered were reported so; and where one that isn't was
+-- reported with n, all were held and flashed.
 pub record InLost (n : ℕ) (owed : List ℕ) (reports : List Shown) (vs : List Seen) : Type 0 where
   pub last : (k : ℕ) → IsReported k true reports → k ≡ n
   pub agrees : AgreesOnLast n reports vs ⊎ AgreesOnOther n reports vs
   pub known : All (λ v. committed n v ≡ true → Known n owed reports vs) vs
   pub told : Answered owed (λ v. v.revertible ≡ true → IsReported n true reports) vs
+  pub after : IsReported n false reports → AllHeld n vs × AllFlashed n vs
 
 -- what holds in each phase
 abbrev pub InPhase : PhaseName → ℕ → List ℕ → List Shown → List Seen → Type 0
 InPhase phase.None n owed reports vs = NoneRevertible vs
 InPhase phase.Idle n owed reports vs = NoneRevertible vs
-InPhase phase.Coordinating n owed reports vs = InCoordinating n vs
-InPhase phase.Releasing n owed reports vs = Before n vs
-InPhase phase.Draining n owed reports vs = Before n vs
+InPhase phase.Coordinating n owed reports vs = InCoordinating n owed vs
+InPhase phase.Releasing n owed reports vs = InForming n vs
+InPhase phase.Draining n owed reports vs = InForming n vs
 InPhase phase.Flashing n owed reports vs = InFlashing n owed vs
 InPhase phase.Committing n owed reports vs = InCommitting n owed vs
 InPhase phase.Reverting n owed reports vs = InReverting n owed vs
-InPhase phase.Finishing n owed reports vs = NoneRevertible vs
+InPhase phase.Finishing n owed reports vs = InFinishing n owed vs
 InPhase phase.Lost n owed reports vs = InLost n owed reports vs
 
 -- out of Idle some server is owed its order, and each that is has a member
@@ -287,6 +335,7 @@ reports_of (Some r) = r.master.reports
 -- a session, by its phase, its last number, who is owed, what was reported, and its members
 pub record IsAttempt (p : PhaseName) (n : ℕ) (owed : List ℕ) (reports : List Shown) (vs : List Seen) : Type 0 where
   pub numbers : NumbersAgree n vs
+  pub follows : Follows n vs
   pub phase : InPhase p n owed reports vs
   pub owes : Owes p owed vs
 
@@ -345,6 +394,15 @@ pub record MemberOf (k : Control) (s a : ℕ) : Type 0 where
 abbrev pub UpToLast : Control → ℕ → ℕ → Type 0
 UpToLast k v n = (x : Session) (m : Member) → In x k.sessions → In m x.members → m.a.0 ≡ v → n ≤ x.last
 
+-- and it isn't below v's last attempt
+pub record RaisesAttempt (attempt n last : ℕ) : Type 0 where
+  pub higher : attempt ≤ n
+  pub low : n ≤ last
+
+-- what raising an attempt asks, of whichever member has the primary
+abbrev pub MayRaiseAttempt : Control → ℕ → ℕ → Type 0
+MayRaiseAttempt k v n = (x : Session) (m : Member) → In x k.sessions → In m x.members → m.a.0 ≡ v → RaisesAttempt (fields_at k v).attempt n x.last
+
 -- a relationship whose changes are recorded is persistent
 abbrev pub Persists : Fields → Type 0
 Persists f = f.recorded ≡ true → f.persistent ≡ true
@@ -373,49 +431,54 @@ pub record GoesAs (k : Control) (v : ℕ) (a : Option ℕ) (s : ℕ) : Type 0 wh
 abbrev pub MayFollow : Control → ℕ → Type 0
 MayFollow k v = (x : Session) (m : Member) → In x k.sessions → In m x.members → m.b.0 ≡ v → (fields_at k m.c.0).revertible ≡ false
 
--- a member is let go while its master is Releasing
+-- a primary doesn't record
+abbrev pub IsSilent : Control → ℕ → Type 0
+IsSilent k v = (fields_at k v).recording ≡ false
+
+-- a member is let go where that is due
 pub record MayFree (k : Control) (v : ℕ) : Type 0 where
   pub session : ℕ
   pub place : MemberOf k session v
-  pub phase : phase_of place.session.mirror ≡ phase.Releasing
+  pub due : Due place.session place.member.server.0 phases.Release place.session.last
 
--- a secondary is sealed for the last number while its master is Draining
+-- so is a secondary sealed for the last number, for which its primary records
 pub record SealsMember (k : Control) (v u s n : ℕ) : Type 0 where
   pub place : MemberOf k s u
   pub secondary : place.member.b.0 ≡ v
-  pub phase : phase_of place.session.mirror ≡ phase.Draining
+  pub due : Due place.session place.member.server.0 phases.Seal n
   pub last : n ≡ place.session.last
+  pub records : records n (fields_at k u) ≡ true
 
--- a target is flashed that isn't revertible, and whose floor the last number is above, while its source is sealed for that
+-- and a target flashed that isn't revertible, and whose floor the last number is above, while its source is sealed for that
 pub record FlashesMember (k : Control) (v u a s n : ℕ) : Type 0 where
   pub place : MemberOf k s a
   pub secondary : place.member.b.0 ≡ u
   pub target : place.member.c.0 ≡ v
-  pub phase : phase_of place.session.mirror ≡ phase.Flashing
+  pub due : Due place.session place.member.server.0 phases.Flash n
   pub last : n ≡ place.session.last
   pub paired : is_secondary_of a (fields_at k u) ≡ true
   pub sealed : (fields_at k u).seal ≡ n
   pub free : may_flash u (fields_at k v) ≡ true
   pub low : (fields_at k v).floor < n
 
--- a revertible target is committed where all that count have its number, in Committing, or where another one is committed
+-- a revertible target is committed where all that count have its number, and that is due while its source is its primary's secondary, or
+-- another one is committed
 pub record CommitsMember (k : Control) (v a s n : ℕ) : Type 0 where
   pub place : MemberOf k s a
   pub target : place.member.c.0 ≡ v
   pub last : n ≡ place.session.last
   pub revertible : (fields_at k v).revertible ≡ true
   pub all : AllAt n (seen_in k place.session)
-  pub way : (phase_of place.session.mirror ≡ phase.Committing) ⊎ SomeCommitted n (seen_in k place.session)
+  pub way : (Due place.session place.member.server.0 phases.Commit n × (is_secondary_of a (fields_at k place.member.b.0) ≡ true)) ⊎ SomeCommitted n (seen_in k place.session)
 
--- one is reverted where none is committed, in Reverting while its source is its primary's secondary, or where all secondaries are
--- taken
+-- one is reverted where none is committed, and that is due while its source is its primary's secondary, or all secondaries are taken
 pub record RevertsMember (k : Control) (v a s n : ℕ) : Type 0 where
   pub place : MemberOf k s a
   pub target : place.member.c.0 ≡ v
   pub last : n ≡ place.session.last
   pub revertible : (fields_at k v).revertible ≡ true
   pub none : NoneCommitted n (seen_in k place.session)
-  pub way : ((phase_of place.session.mirror ≡ phase.Reverting) × (is_secondary_of a (fields_at k place.member.b.0) ≡ true)) ⊎ All (λ u. u.paired ≡ false) (seen_in k place.session)
+  pub way : (Due place.session place.member.server.0 phases.Revert n × (is_secondary_of a (fields_at k place.member.b.0) ≡ true)) ⊎ All (λ u. u.paired ≡ false) (seen_in k place.session)
 
 -- a floor is raised, but not past the last number of a session whose member has v as its target, and not while it is revertible
 pub record Raises (f : Fields) (n last : ℕ) : Type 0 where
@@ -437,13 +500,13 @@ InAttempt k (Withdraw v) = DoesNotCount (fields_at k v)
 InAttempt k (Resync v sequence) = DoesNotCount (fields_at k v)
 InAttempt k (Reverse v left) = MayGo k v × GoesAs k v left (fields_at k v).session
 InAttempt k (Release v t) = (fields_at k v).reversing ≡ true
-InAttempt k (MakeSecondary v u kind state) = MayFollow k v
-InAttempt k (Yield v u kind state) = MayFollow k v
+InAttempt k (MakeSecondary v u kind state) = MayFollow k v × IsSilent k u
+InAttempt k (Yield v u kind state) = MayFollow k v × IsSilent k u
 InAttempt k (Hold v s n first) = HoldsMember k v s n × ((fields_at k v).attempt < n)
 InAttempt k (Free v) = MayFree k v
 InAttempt k (Seal v u s n) = SealsMember k v u s n
 InAttempt k (Finish v n) = UpToLast k v n
-InAttempt k (RaiseAttempt v n) = UpToLast k v n
+InAttempt k (RaiseAttempt v n) = MayRaiseAttempt k v n
 InAttempt k (RaiseFloor v n) = MayRaiseFloor k v n
 InAttempt k (Leave v u s) = MayGo k v × GoesAs k v (Some u) s
 InAttempt k (Flash v u a s n) = FlashesMember k v u a s n
@@ -453,17 +516,23 @@ InAttempt k m = Unit {0}
 
 -- ---- what an order has done
 
--- a server that has done the order of a phase, member by member; in Lost it reports
-abbrev pub IsDone : PhaseName → Seen → Type 0
-IsDone phase.Flashing v = v.revertible ≡ true
-IsDone phase.Committing v = v.revertible ≡ false
-IsDone phase.Reverting v = v.revertible ≡ false
-IsDone phase.Lost v = ⊥
-IsDone p v = Unit {0}
+-- what a member shows with which a server has done its work for attempt n; a report isn't done, but given
+abbrev pub IsDone : phases.Work → ℕ → Seen → Type 0
+IsDone phases.Hold n v = n ≤ v.attempt
+IsDone phases.Flash n v = v.revertible ≡ true
+IsDone phases.Commit n v = v.revertible ≡ false
+IsDone phases.Revert n v = (v.revertible ≡ false) × (n ≤ v.floor)
+IsDone phases.Finish n v = n ≤ v.attempt
+IsDone phases.Report n v = ⊥
+IsDone work n v = Unit {0}
 
--- a server has done the phase's order with each of its members
+-- a server has done that work with each of its members
+abbrev pub WorkDone : Control → List Member → ℕ → phases.Work → ℕ → Type 0
+WorkDone k ms server work n = (m : Member) → In m ms → m.server.0 ≡ server → IsDone work n (seen (roles k) m)
+
+-- and what the phase asks of it
 abbrev pub ServerDone : Control → Session → ℕ → Type 0
-ServerDone k x server = (m : Member) → In m x.members → m.server.0 ≡ server → IsDone (phase_of x.mirror) (seen (roles k) m)
+ServerDone k x server = (work : phases.Work) → phases.work_in (phase_of x.mirror) ≡ Some work → WorkDone k x.members server work x.last
 
 -- ---- what a recovery leaves
 

@@ -1,11 +1,12 @@
 -- A plan carried out: the tables as it begins, its entries, and how it ends and is answered.
-use Rattle.std.specs.Prelude.{ℕ, [], ◌∷◌, ◌++◌, Option, Some, None}
+use Rattle.std.specs.Prelude.{ℕ, Bool, [], ◌∷◌, ◌++◌, Option, Some, None}
 use Rattle.dr_ids.specs.declared.refusal.Refusal.{Refusal}
 use Rattle.dr_model.specs.Control.{Control, World}
 use Rattle.dr_model.specs.Carry.{Outcome, carry, follow}
 use Rattle.dr_model.specs.declared.said.Said.{Said}
 use Rattle.dr_model.specs.declared.said.Said.TheVariants.{Refused}
 use Rattle.dr_model.specs.Sessions.{lost_since}
+use Rattle.dr_model.specs.Messages as messages
 use Rattle.dr_model.specs.Answers.{answer}
 use Rattle.dr_model.specs.PlanParts.{Plan}
 
@@ -35,6 +36,10 @@ said w line a = record w { events = w.events ++ answer line a ∷ [] }
 unfoldable pub after_plan : World → ℕ → Plan → World
 after_plan w line p = said (carried_out w p).0 line (answered p (carried_out w p).0.control (carried_out w p).1)
 
+-- the masters whose servers were on, by the first test, and are off now are lost, and for each of them an epoch begins
+abbrev pub losing : (ℕ → Bool) → Control → Control
+losing before k = record k { sessions = lost_since before k.on k.sessions; flight = messages.lost_since before k.on k.sessions k.flight }
+
 -- the masters whose servers went off in a step are lost as it ends
 abbrev pub masters_lost : World → World → World
-masters_lost w u = record u { control = record u.control { sessions = lost_since w.control.on u.control.on u.control.sessions } }
+masters_lost w u = record u { control = losing w.control.on u.control }

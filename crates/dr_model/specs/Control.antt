@@ -6,6 +6,7 @@ use Rattle.dr_ids.specs.Paths.{Path}
 use Rattle.dr_model.specs.declared.event.Event.{Event}
 use Rattle.dr_model.specs.Layout.{Fields, no_fields}
 use Rattle.dr_model.specs.Sessions.{Session}
+use Rattle.dr_model.specs.Messages.{Flight, no_flight}
 
 -- how many writes of a server still pass, and what the next one leaves in its block: None for what stood there
 pub record Fuse : Type 0 where
@@ -33,7 +34,7 @@ new_volume server tracks = record { server = server; tracks = tracks; slot = fal
 
 -- servers and volumes in order of definition (a server's number is its place), which servers are on, their
 -- fuses, which links between them are up, the paths between logical subsystems, each volume, how many writes were issued, and those that are pending, in
--- order of issue, and the sessions
+-- order of issue, the sessions, and the messages in flight
 pub record Control : Type 0 where
   pub servers : List (List ℕ)
   pub on : ℕ → Bool
@@ -45,6 +46,7 @@ pub record Control : Type 0 where
   pub issued : ℕ
   pub pending : List Pending
   pub sessions : List Session
+  pub flight : Flight
 
 -- nothing is defined, every server is on, no fuse is armed and every link is up
 abbrev pub no_control : Control
@@ -59,6 +61,7 @@ no_control = record {
   issued = 0;
   pending = [];
   sessions = [];
+  flight = no_flight;
 }
 
 -- the volume is defined

@@ -105,10 +105,18 @@ pub record IsMember (k : Control) (v s : ℕ) : Type 0 where
   pub here : In member session.members
   pub is : member.a.0 ≡ v
 
--- a hold is one of the session's last attempt, while its master coordinates; v's partner is the member's secondary
+-- an order of that work is due for attempt n: the session's master owes it to that server
+pub record Due (x : Session) (server : ℕ) (work : phases.Work) (n : ℕ) : Type 0 where
+  pub mirror : Mirror
+  pub has_master : x.mirror ≡ Some mirror
+  pub owed : phases.is_among server mirror.master.owed ≡ true
+  pub works : phases.work_in mirror.master.phase ≡ Some work
+  pub number : n ≡ x.last
+
+-- a hold of a session's last attempt is due; v's partner is the member's secondary
 pub record HoldsMember (k : Control) (v s n : ℕ) : Type 0 where
   pub place : IsMember k v s
-  pub coordinates : place.mirror.master.phase ≡ phase.Coordinating
+  pub due : Due place.session place.member.server.0 phases.Hold n
   pub last : n ≡ place.session.last
   pub to : (fields_at k v).primary_partner ≡ place.member.b.0
 

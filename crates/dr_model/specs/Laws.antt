@@ -1,5 +1,5 @@
 -- What holds of every world of a run, as parts with names.
-use Rattle.std.specs.Prelude.{◌≡◌, ◌≢◌, ◌⊎◌, ◌||◌, ℕ, ◌<◌, ◌≤◌, ◌+◌, Bool, true, false, List, [], ◌∷◌, length, Option, Some, None, if◌then◌else◌}
+use Rattle.std.specs.Prelude.{◌≡◌, ◌≢◌, ◌⊎◌, ◌||◌, ℕ, ◌<◌, ◌≤◌, ◌+◌, Bool, true, false, List, [], ◌∷◌, length, map, Option, Some, None, if◌then◌else◌}
 use Rattle.std.specs.FinSet.{contains}
 use Rattle.dr_logic.specs.Bytes.{zeros}
 use Rattle.dr_model.specs.Histories.{Write, Histories, histories}
@@ -16,7 +16,8 @@ use Rattle.dr_model.specs.Pairs.{primary_of, secondary_of, is_metro, is_kind, is
 use Rattle.dr_model.specs.Entries.{is_at, targets_of}
 use Rattle.dr_model.specs.Table.{Row, Table, table}
 pub use Rattle.dr_model.specs.Tables.{Once}
-use Rattle.dr_model.specs.Groups.{Groups, Housed}
+use Rattle.dr_model.specs.Messages.{Flight, Message}
+use Rattle.dr_model.specs.Groups.{In, Groups, Housed}
 use Rattle.dr_model.specs.Attempts.{Attempts}
 
 -- a law on each volume, and one on each volume and the one that it points to
@@ -368,6 +369,22 @@ pub record SoundBut (starts : Option ℕ) (w : World) : Type 0 where
 -- what holds of a world between steps
 abbrev pub Sound : World → Type 0
 Sound = SoundBut None
+
+-- Counts: how much was sent, started and begun.
+
+-- No more than n messages were made, no server was started and no epoch of a session begun more often, and no fence is above its
+-- session's epoch. The messages in flight are some of those that were made, each with a number of its own.
+pub record IsCounted (n : ℕ) (f : Flight) : Type 0 where
+  pub made : f.made ≤ n
+  pub starts : (server : ℕ) → f.starts server ≤ n
+  pub epochs : (s : ℕ) → f.epoch s ≤ n
+  pub fences : (s server : ℕ) → f.fence s server ≤ f.epoch s
+  pub numbers : (m : Message) → In m f.messages → (0 < m.number) × (m.number ≤ f.made)
+  pub once : Once (map (λ (m : Message). m.number) f.messages)
+
+-- none of these counts is above the number of events
+abbrev pub FlightCounted : World → Type 0
+FlightCounted w = IsCounted (length w.events) w.control.flight
 
 -- what a track of a volume shows
 abbrev pub shown : Table → ℕ → ℕ → List ℕ

@@ -21,6 +21,7 @@ pub mod WriteEntries
 pub mod PlanParts
 pub mod SessionEntries
 pub mod SessionPlans
+pub mod MessagePlans
 pub mod RecoveryPlans
 pub mod Listings
 pub mod Plans
@@ -53,4 +54,5 @@ pub mod LineText
 pub mod Decisions
 pub mod Phases
 pub mod Sessions
+pub mod Messages
 pub mod Offline

@@ -30,6 +30,10 @@ most_targets = 12
 abbrev pub most_pending : ℕ
 most_pending = 64
 
+-- the most messages that are in flight at a time
+abbrev pub most_messages : ℕ
+most_messages = 256
+
 -- the most groups that one `@run` forms
 abbrev pub most_groups : ℕ
 most_groups = 10000

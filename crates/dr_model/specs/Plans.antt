@@ -17,6 +17,7 @@ use Rattle.dr_model.specs.Contents.{image_at}
 use Rattle.dr_model.specs.Control.{Control, Fuse, Pending, new_volume, is_volume}
 use Rattle.dr_model.specs.Relations.{Choices, rest}
 use Rattle.dr_model.specs.Moves.{Relate, Withdraw, Resync, Reverse, Unstage, is_write}
+use Rattle.dr_model.specs.Messages.{started}
 use Rattle.dr_model.specs.Carry.{Entry, Next, Pass, Do, Redo, Acknowledge, redo_writes, now, check}
 use Rattle.dr_model.specs.Entries.{fields_at, is_running, running_check, subsystem, first_of, share_server, share_size, is_no_target, copies_from, targets_of, stands_in, is_any, relation_state, pair_state, is_no_secondary, takes_back, times, fetch_next, give_back}
 use Rattle.dr_model.specs.Sessions.{session_in, members_in, is_member, in_session}
@@ -26,6 +27,7 @@ pub use Rattle.dr_model.specs.PlanParts.{Plan, same, none_follow, always, tables
 pub use Rattle.dr_model.specs.RecoveryPlans.{decided_in, secondary_refusal, leaves_all, forbidden_unless}
 use Rattle.dr_model.specs.RecoveryPlans.{member_of_target, lets_commit, lets_revert, recover_plan, settle_plan}
 use Rattle.dr_model.specs.SessionPlans.{join_plan, leave_plan, add_plan, expel_plan, mirror_plan, pause_mirror_plan, unmirror_plan, abort_plan, exchange_plan}
+use Rattle.dr_model.specs.MessagePlans.{lose_plan}
 use Rattle.dr_model.specs.Listings.{list_pairs_plan, list_flashes_plan, list_session_plan, show_mirror_plan}
 use Rattle.dr_model.specs.declared.said.Addition.TheVariants.{Alone, Wrote, Acked, Counted, Showed}
 use Rattle.dr_model.specs.declared.said.Said.{Said}
@@ -40,7 +42,7 @@ use Rattle.dr_model.specs.declared.step.PairChoices.{PairChoices}
 use Rattle.dr_model.specs.declared.step.TornWord.{TornWord}
 use Rattle.dr_model.specs.declared.step.TornWord.TheVariants.{Same, Fill, Bytes}
 use Rattle.dr_model.specs.declared.step.Step.{Step}
-use Rattle.dr_model.specs.declared.step.Step.TheVariants.{Server, Volume, Link, Stop, StopAfter, Start, Issue as IssueWrite, Write, Apply, Show, MakeFlash, RemoveFlash, ResyncFlash, ReverseFlash, Copy, Destage, MakePath, RemovePath, MakePair, RemovePair, PausePair, ResumePair, Failover, Failback, Drain, Expire, Freeze, Unfreeze, MakeSession, RemoveSession, AddMember, RemoveMember, MakeMirror, PauseMirror, ResumeMirror, RemoveMirror, Abort, Exchange, Recover, CommitFlash, RevertFlash, UnfreezeFlash, ListPairs, ListFlashes, ListSession, ShowMirror}
+use Rattle.dr_model.specs.declared.step.Step.TheVariants.{Server, Volume, Link, Stop, StopAfter, Start, Issue as IssueWrite, Write, Apply, Show, MakeFlash, RemoveFlash, ResyncFlash, ReverseFlash, Copy, Destage, MakePath, RemovePath, MakePair, RemovePair, PausePair, ResumePair, Failover, Failback, Drain, Expire, Freeze, Unfreeze, MakeSession, RemoveSession, AddMember, RemoveMember, MakeMirror, PauseMirror, ResumeMirror, RemoveMirror, Abort, Exchange, Lose, Recover, CommitFlash, RevertFlash, UnfreezeFlash, ListPairs, ListFlashes, ListSession, ShowMirror}
 
 -- a server is defined; it is on
 abbrev pub server_done : Control → Name → Plan
@@ -188,9 +190,9 @@ abbrev pub fuse_at_start : Option Fuse → Option Fuse
 fuse_at_start None = None
 fuse_at_start (Some f) = if nat_eq f.after 0 then None else Some f
 
--- the server is on, and a fuse that stood at 0 is gone
+-- the server is on, a fuse that stood at 0 is gone, and it was started once more
 abbrev pub starting : ℕ → Control → Control
-starting s k = record k { on = at k.on s true; fuse = at k.fuse s (fuse_at_start (k.fuse s)) }
+starting s k = record k { on = at k.on s true; fuse = at k.fuse s (fuse_at_start (k.fuse s)); flight = started s k.flight }
 
 -- the first write that landed on a volume of the server in a stop
 abbrev pub has_landed : Control → ℕ → Pending → Bool
@@ -274,6 +276,10 @@ free_checks k s t =
     ∷ check (stands_free t) (pair_state k t)
     ∷ check (has_few_targets s) (over Targets) ∷ []
 
+-- the server of s is on, and s and t, which are there, can become source and target
+abbrev pub establish_checks : Control → ℕ → ℕ → List Entry
+establish_checks k s t = running_check k s ∷ alike_checks s t ++ free_checks k s t
+
 -- the source of a new relationship gets a flash hold first, where the line asks for that
 abbrev pub hold_first : Bool → ℕ → List Entry
 hold_first freeze s = if freeze then flash_hold_on s ∷ [] else []
@@ -281,7 +287,7 @@ hold_first freeze s = if freeze then flash_hold_on s ∷ [] else []
 -- A relationship between two volumes that are there is made. With a flash hold of its source, host writes on that wait from before its tracks
 -- are taken on. What refuses the relationship comes before both moves.
 abbrev pub establish_entries : Control → ℕ → ℕ → Bool → Choices → List Entry
-establish_entries k s t freeze choices = running_check k s ∷ alike_checks s t ++ free_checks k s t ++ hold_first freeze s ++ now (Relate t s choices) ∷ []
+establish_entries k s t freeze choices = establish_checks k s t ++ hold_first freeze s ++ now (Relate t s choices) ∷ []
 
 -- without a flash hold
 abbrev pub flash_entries : Control → ℕ → ℕ → Choices → List Entry
@@ -606,6 +612,7 @@ plan_of k events line (ResumeMirror devs l s cginterval coordinate drain) = paus
 plan_of k events line (RemoveMirror devs l s) = unmirror_plan k devs.dev l s
 plan_of k events line (Abort s) = abort_plan k s
 plan_of k events line (Exchange s name reply) = exchange_plan k s name reply
+plan_of k events line (Lose n) = lose_plan k n
 plan_of k events line (Recover s) = recover_plan k s
 plan_of k events line (CommitFlash devs source sequence) = settle_plan k devs.dev lets_commit source
 plan_of k events line (RevertFlash devs source sequence) = settle_plan k devs.dev lets_revert source

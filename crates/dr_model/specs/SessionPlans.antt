@@ -17,6 +17,7 @@ use Rattle.dr_model.specs.Layout.{Fields}
 use Rattle.dr_model.specs.Refusals.{server_off, unknown}
 use Rattle.dr_model.specs.Control.{Control}
 use Rattle.dr_model.specs.Phases as phases
+use Rattle.dr_model.specs.Messages as messages
 use Rattle.dr_model.specs.Sessions.{Session, Mirror, session_in, mirror_in, members_in, is_member, has_place_of, has_subsystem, changed, joined, left, raised, with_member, without_member, with_master, mirrored_by, unmirrored, paused, not_in_session, in_session, busy, no_master, join_refusal, leave_refusal, make_refusal, drop_refusal, abort_refusal}
 use Rattle.dr_model.specs.Pairs.{is_kind}
 use Rattle.dr_model.specs.Entries.{fields_at, is_running, subsystem, targets_of, relation_state, pair_state}
@@ -56,18 +57,26 @@ join_plan k dev l s = on_owner (owner_of k l) (λ owner.
     unless (option_or (name_refusal k dev owner) (option_or (off_refusal k owner) (join_refusal (session_in k.sessions s) l k.sessions)))
     (table_plan (joined s l)))
 
+-- one leaves session x of number s: with its last one the session is gone, and its messages
+abbrev pub leaving : ℕ → ℕ → Session → Control → Control
+leaving s l x k = record k { sessions = left s l k.sessions; flight = messages.left s l x k.flight }
+
 -- one leaves it; with its last one the session is gone
 abbrev pub leave_plan : Control → Option Name → ℕ → ℕ → Plan
 leave_plan k dev l s = on_both k l s (λ owner x.
-    unless (option_or (name_refusal k dev owner) (leave_refusal (Some x) s l)) (table_plan (left s l)))
+    unless (option_or (name_refusal k dev owner) (leave_refusal (Some x) s l)) (tables_plan (leaving s l x) [] (Done Alone)))
 
 -- ---- masters
+
+-- a server appoints the master of session s, with which an epoch begins
+abbrev pub appointed : ℕ → ℕ → Control → Control
+appointed s server k = record k { sessions = changed s (mirrored_by server) k.sessions; flight = messages.raised s k.flight }
 
 -- the owner of a logical subsystem becomes the session's master
 abbrev pub mirror_plan : Control → Option Name → ℕ → ℕ → Plan
 mirror_plan k dev l s = on_both k l s (λ owner x.
     unless (option_or (name_refusal k dev owner) (option_or (outside_refusal x l) (option_or (off_refusal k owner) (make_refusal x.mirror))))
-    (table_plan (changed s (mirrored_by owner))))
+    (tables_plan (appointed s owner) [] (Done Alone)))
 
 -- there is no master, or its server is off
 abbrev pub master_refusal : Control → Option Mirror → Option Refusal
@@ -100,11 +109,15 @@ session_phase (Some x) = mirror_phase x.mirror
 abbrev pub says_phase : ℕ → Control → Said
 says_phase s k = session_phase (session_in k.sessions s)
 
+-- the attempt of session s is given up; where its master is Lost then, an epoch begins
+abbrev pub aborting : ℕ → Option Mirror → Control → Control
+aborting s r k = record k { sessions = changed s (with_master phases.aborted) k.sessions; flight = messages.aborted s r k.flight }
+
 -- an attempt is aborted
 abbrev pub abort_plan : Control → ℕ → Plan
 abort_plan k s = on_session (session_in k.sessions s) (λ x.
     unless (option_or (abort_refusal x.mirror) (master_refusal k x.mirror))
-    (record (table_plan (changed s (with_master phases.aborted))) { says = says_phase s }))
+    (record (tables_plan (aborting s x.mirror) [] (Done Alone)) { says = says_phase s }))
 
 -- ---- members
 
@@ -239,6 +252,11 @@ order_of r server = if is_idle r.master.phase then Some (record { work = phases.
 abbrev pub answered_by : ℕ → ℕ → phases.Work → List Member → Control → Control
 answered_by s server work ms k = with_sessions (changed s (with_master (λ m. phases.taken m server (reply_after s work ms k)))) k
 
+-- as the order ends, the master takes the reply, unless it isn't to learn of it; a report raises the server's fence to the session's epoch
+abbrev pub exchanged : ℕ → ℕ → Bool → phases.Work → List Member → Control → Control
+exchanged s server reply work ms k =
+    record (if reply then answered_by s server work ms k else k) { flight = messages.heard s server (k.flight.epoch s) work k.flight }
+
 -- the order that is owed, over the members on the server; as it ends, the master takes the reply, unless it isn't to learn of it
 abbrev pub exchange_done : ℕ → ℕ → Bool → List Member → Option phases.Order → Plan
 exchange_done s server reply ms None = refuses (OutOfOrder phase.None)
@@ -247,7 +265,7 @@ exchange_done s server reply ms (Some o) = record {
   told = [];
   entries = order_entries o.work s o.number ms;
   follows = none_follow;
-  last = if reply then answered_by s server o.work ms else same;
+  last = exchanged s server reply o.work ms;
   says = says_phase s;
 }
 

@@ -62,7 +62,7 @@ abbrev pub kind_word : ℕ → List ℕ
 kind_word n =
     if nat_eq n 0 then codes "server" else if nat_eq n 1 then codes "volume" else if nat_eq n 2 then codes "lss"
     else if nat_eq n 3 then codes "path" else if nat_eq n 4 then codes "write" else if nat_eq n 5 then codes "session"
-    else if nat_eq n 6 then codes "track" else if nat_eq n 7 then codes "master" else []
+    else if nat_eq n 6 then codes "track" else if nat_eq n 7 then codes "master" else if nat_eq n 8 then codes "message" else []
 
 -- the word of a limit
 abbrev pub limit_word : ℕ → List ℕ

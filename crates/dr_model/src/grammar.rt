@@ -16,6 +16,7 @@ pub enum Command {
     AtCopy,
     AtDestage,
     AtExchange,
+    AtLose,
     AtRun,
     AtAbort,
     AtRecover,

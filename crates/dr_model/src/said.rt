@@ -155,6 +155,7 @@ fn kind_place(kind: Kind) -> u32
         Kind::Session => 5,
         Kind::Track => 6,
         Kind::Master => 7,
+        Kind::Message => 8,
     }
 }
 

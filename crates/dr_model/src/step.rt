@@ -93,6 +93,9 @@ pub enum Step {
         server: Name,
         reply: bool,
     },
+    Lose {
+        message: u32,
+    },
     Run {
         session: u8,
         groups: u32,

@@ -230,6 +230,13 @@ fn at_saying(step: &Step) -> Option<Saying>
                 ..no_operands()
             },
         ),
+        Step::Lose { message } => at_sign(
+            Command::AtLose,
+            Operands {
+                count: message,
+                ..no_operands()
+            },
+        ),
         Step::Run { session, groups } => at_sign(
             Command::AtRun,
             Operands {

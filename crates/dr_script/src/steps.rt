@@ -90,6 +90,9 @@ pub(crate) fn step_of(command: Command, options: &Options, operands: &Operands, 
             server: operands.server,
             reply: operands.reply,
         },
+        Command::AtLose => Step::Lose {
+            message: operands.count,
+        },
         Command::AtRun => Step::Run {
             session: operands.session,
             groups: operands.count,

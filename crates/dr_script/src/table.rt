@@ -25,6 +25,7 @@ pub(crate) fn commands() -> &'static [Command]
         Command::AtCopy,
         Command::AtDestage,
         Command::AtExchange,
+        Command::AtLose,
         Command::AtRun,
         Command::AtAbort,
         Command::AtRecover,
@@ -81,6 +82,7 @@ pub(crate) fn command_word(command: Command) -> &'static [u8]
         Command::AtCopy => b"@copy",
         Command::AtDestage => b"@destage",
         Command::AtExchange => b"@exchange",
+        Command::AtLose => b"@lose",
         Command::AtRun => b"@run",
         Command::AtAbort => b"@abort",
         Command::AtRecover => b"@recover",
@@ -278,6 +280,7 @@ pub(crate) fn settings(command: Command) -> &'static [Setting]
         | Command::AtCopy
         | Command::AtDestage
         | Command::AtExchange
+        | Command::AtLose
         | Command::AtRun
         | Command::AtAbort
         | Command::AtRecover
@@ -317,6 +320,7 @@ pub(crate) fn needed(command: Command) -> &'static [Setting]
         | Command::AtCopy
         | Command::AtDestage
         | Command::AtExchange
+        | Command::AtLose
         | Command::AtRun
         | Command::AtAbort
         | Command::AtRecover
@@ -363,7 +367,7 @@ pub(crate) fn operands(command: Command) -> &'static [Operand]
             Operand::Offset,
             Operand::WriteBytes,
         ],
-        Command::AtApply => &[Operand::Count],
+        Command::AtApply | Command::AtLose => &[Operand::Count],
         Command::AtDrain | Command::AtCopy => &[Operand::OneVolume, Operand::CountOrAll],
         Command::AtDestage => &[Operand::OneVolume],
         Command::AtExchange => &[

@@ -1,13 +1,12 @@
 -- The members of a session: their servers as a set, and what stays low.
-use Rattle.std.proofs.Common.{◌≡◌, ℕ, Bool, true, false, cond, ◌&&◌, ◌||◌, nat_lt, List, [], ◌∷◌, ◌++◌, filter, refl, sym, ◌∙◌, ap, ◌==◌}
+use Rattle.std.proofs.Common.{◌≡◌, ℕ, Bool, true, false, ◌||◌, List, [], ◌∷◌, ◌++◌, refl, sym, ◌∙◌, ap, ◌==◌}
 use Rattle.std.specs.List.{list_any}
 use Rattle.std.proofs.lemmas.List.Folds.{list_any-append}
-use Rattle.std.proofs.lemmas.Bool.{false≢true, and_parts}
 use Rattle.dr_ids.specs.declared.names.Member.{Member}
 use Rattle.dr_model.specs.Phases.{servers_where, is_among}
 use Rattle.dr_master.specs.Seen.{servers_in}
 use Rattle.dr_master.proofs.Sets.{servers_where-same, is_among-servers_where}
-use Rattle.dr_model.specs.Sessions.{servers_of, all_low}
+use Rattle.dr_model.specs.Sessions.{servers_of}
 
 or-comm : (a b : Bool) → (a || (b || false)) ≡ (b || a)
 or-comm true true = refl

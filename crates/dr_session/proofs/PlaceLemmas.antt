@@ -1,6 +1,6 @@
 -- What is found and changed at a place of the map is found and changed in the list of sessions.
-use Rattle.std.proofs.Common.{◌≡◌, ℕ, zero, suc, ◌+◌, ◌<◌, Bool, true, false, cond, ◌&&◌, List, [], ◌∷◌, ◌++◌, length, map, take, drop, get_or, slice_get, remove, option_map, Option, None, Some, IfSome, IfNone, Result, Ok, Err, OnOk, OnErr, IfOk, refl, sym, ◌∙◌, ap, arith, add-one, eqb, ◌==◌}
-use Rattle.std.specs.List.{find, position}
+use Rattle.std.proofs.Common.{◌≡◌, ℕ, zero, suc, ◌+◌, ◌<◌, Bool, true, false, cond, ◌&&◌, ◌||◌, List, [], ◌∷◌, ◌++◌, length, map, take, drop, get_or, slice_get, remove, option_map, Option, None, Some, IfSome, IfNone, Result, Ok, Err, OnOk, OnErr, IfOk, refl, sym, ◌∙◌, ap, subst, arith, add-one, eqb, ◌==◌}
+use Rattle.std.specs.List.{find, list_any, position, AllByRecursion, IsDistinct}
 use Rattle.std.specs.Option.{is_some}
 use Rattle.std.proofs.lemmas.List.{map-append, length-map}
 use Rattle.std.proofs.lemmas.Grind.{common_steps}
@@ -79,6 +79,35 @@ found-at s zero (e ∷ es) v place at =
 found-at s (suc i) (e ∷ es) v place at =
     ap (λ b. cond b (Some e.1.session) (session_in (sessions_in es) s)) place.0 ∙ found-at s i es v place.1 at
 
+-- the keys are apart, and so the session at a place is the first of its number
+all-at : (P : ℕ → Type 0) (i : ℕ) (es : Entries) (v : KeptSession) → is_keyed es ≡ true → AllByRecursion P (keys_of es) → slice_get (values_of es) i ≡ Some v → P v.session.number
+all-at P i [] v keyed all at = absurd (none-some at)
+all-at P zero (e ∷ es) v keyed all at =
+    let named : e.1.session.number ≡ e.0 = eqb-true e.1.session.number e.0 (and_parts (e.1.session.number == e.0) (is_keyed es) keyed).0 in
+    subst P (sym named ∙ ap (λ (k : KeptSession). k.session.number) (same_Some e.1 v at)) all.0
+all-at P (suc i) (e ∷ es) v keyed all at = all-at P i es v (and_parts (e.1.session.number == e.0) (is_keyed es) keyed).1 all.1 at
+
+own-place : (i : ℕ) (es : Entries) (v : KeptSession) → is_keyed es ≡ true → IsDistinct eqb (keys_of es) → slice_get (values_of es) i ≡ Some v → StandsAt v.session.number i es
+unfolding IsDistinct
+own-place i [] v keyed apart at = absurd (none-some at)
+own-place zero (e ∷ es) v keyed apart at = eq-eqb e.1.session.number v.session.number (ap (λ (k : KeptSession). k.session.number) (same_Some e.1 v at))
+own-place (suc i) (e ∷ es) v keyed apart at =
+    let parts = and_parts (e.1.session.number == e.0) (is_keyed es) keyed in (
+      ap (λ n. n == v.session.number) (eqb-true e.1.session.number e.0 parts.0) ∙ all-at (λ n. eqb e.0 n ≡ false) i es v parts.1 apart.0 at,
+      own-place i es v parts.1 apart.1 at,
+    )
+
+-- and none before it has that number
+first-at : (s i : ℕ) (es : Entries) → StandsAt s i es → list_any (λ (x : Session). x.number == s) (take i (sessions_in es)) ≡ false
+first-at s i [] place = absurd place
+first-at s zero (e ∷ es) place = refl
+first-at s (suc i) (e ∷ es) place = λ j. place.0 j || first-at s i es place.1 j
+
+session-at : (i : ℕ) (es : Entries) (v : KeptSession) → slice_get (values_of es) i ≡ Some v → slice_get (sessions_in es) i ≡ Some v.session
+session-at i [] v at = absurd (none-some at)
+session-at zero (e ∷ es) v at = ap (option_map (λ (k : KeptSession). k.session)) at
+session-at (suc i) (e ∷ es) v at = session-at i es v at
+
 -- a change at its place is one of the session
 pub changed-at : (s i : ℕ) (es : Entries) (v w : KeptSession) (f : Session → Session) → StandsAt s i es → slice_get (values_of es) i ≡ Some v → w.session ≡ f v.session → sessions_in (set_value_at es i w) ≡ changed s f (sessions_in es)
 unfolding changed
@@ -128,6 +157,16 @@ same-table es t i v w view at is = ap (λ k. table_of (set_value_at es i k)) is 
 
 pub stays-keyed : (es : Entries) (i : ℕ) (v w : KeptSession) → is_keyed es ≡ true → slice_get (values_of es) i ≡ Some v → w.session.number ≡ v.session.number → is_keyed (set_value_at es i w) ≡ true
 stays-keyed es i v w keyed at is = keyed-at i es v w at is ∙ keyed
+
+-- the session at a place, and that it is the one of its number
+pub seat-in : (es : Entries) (t : SessionTable) (i : ℕ) (v : KeptSession) → table_of es ≡ t → slice_get (values_of es) i ≡ Some v → slice_get t.sessions i ≡ Some v.session
+seat-in es t i v view at = sym (ap (λ (u : SessionTable). slice_get u.sessions i) view) ∙ session-at i es v at
+
+pub own-in : (es : Entries) (t : SessionTable) (i : ℕ) (v : KeptSession) → table_of es ≡ t → is_keyed es ≡ true → IsDistinct eqb (keys_of es) → slice_get (values_of es) i ≡ Some v → session_in t.sessions v.session.number ≡ slice_get t.sessions i
+own-in es t i v view keyed apart at = found-in es t v.session.number i v view (own-place i es v keyed apart at) at ∙ sym (seat-in es t i v view at)
+
+pub first-in : (es : Entries) (t : SessionTable) (i : ℕ) (v : KeptSession) → table_of es ≡ t → is_keyed es ≡ true → IsDistinct eqb (keys_of es) → slice_get (values_of es) i ≡ Some v → list_any (λ (x : Session). x.number == v.session.number) (take i t.sessions) ≡ false
+first-in es t i v view keyed apart at = ap (λ (u : SessionTable). list_any (λ (x : Session). x.number == v.session.number) (take i u.sessions)) (sym view) ∙ first-at v.session.number i es (own-place i es v keyed apart at)
 
 -- ---- where the session isn't there
 

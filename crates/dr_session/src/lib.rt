@@ -6,7 +6,7 @@
 //! `reserve` the next `add_member` can't fail for want of memory (`room`). `master` says that a master has the servers
 //! of its session's members and its last number (`servers`, `number`). The look-ups `member_at`, `session_of`, `last`,
 //! `master_server`, `is_paused`, `session_at`, `has_lss`, `is_defined`, `busy`, `session_with_place`, `expects`,
-//! `can_settle` read the table.
+//! `can_settle`, `can_lose_master` read the table.
 #![tactic(auto)]
 
 mod members;

@@ -1,8 +1,9 @@
-ghost use Rattle.std.specs.Prelude.{◌≡◌, ◌≢◌, ◌↔◌, ◌<◌, ◌≤◌, ◌+◌, ◌++◌, ◌∷◌, [], map, slice_get, length, true, None, Some, Err, IsTrue, IsOk, IsSome, IsSomeAnd, IfSome, IfOk, OnOk, OnErr, option_map, is_some};
-ghost use Rattle.std.specs.List.{find};
+ghost use Rattle.std.specs.Prelude.{◌≡◌, ◌≢◌, ◌↔◌, ◌<◌, ◌≤◌, ◌+◌, ◌^◌, ◌==◌, ◌++◌, ◌∷◌, [], map, take, slice_get, length, true, false, None, Some, Err, IsTrue, IsOk, IsSome, IsSomeAnd, IfSome, IfOk, OnOk, OnErr, option_map, is_some};
+ghost use Rattle.std.specs.List.{find, list_any};
 ghost use Rattle.std.specs.Result.{result_err};
 ghost use Rattle.dr_ids.specs.declared.refusal.PhaseName.TheVariants as phase;
 ghost use Rattle.dr_ids.specs.declared.refusal.Fault.TheVariants as fault;
+ghost use Rattle.dr_model.specs.Messages.{loses_master};
 ghost use Rattle.dr_model.specs.Phases as phases;
 ghost use Rattle.dr_model.specs.Sessions as model;
 ghost use Rattle.dr_master.specs.Seen.{reply_of};
@@ -71,20 +72,18 @@ impl Sessions {
         }
     }
 
-    /// A logical subsystem leaves the session, which is gone where it was its only one. Refused where it
-    /// isn't one of the session's, else where a member lies in it, else where it is the last one and the
-    /// session has a master; then nothing has changed.
-    pub fn leave_lss(&mut self, s: SessionId, l: Lss) -> Result<(), Refusal>
+    /// A logical subsystem leaves the session, which is gone where it was its only one; says whether it
+    /// is. Refused where it isn't one of the session's, else where a member lies in it, else where it is
+    /// the last one and the session has a master; then nothing has changed.
+    pub fn leave_lss(&mut self, s: SessionId, l: Lss) -> Result<bool, Refusal>
         ensures refused { result_err result ≡ model.leave_refusal (model.session_in self.old.sessions s.0) s.0 l.0 }
         ensures left { OnOk result (self.new.sessions ≡ model.left s.0 l.0 self.old.sessions) }
+        ensures gone { IfOk result (λ gone. (x : model.Session) → model.session_in self.old.sessions s.0 ≡ Some x → gone ≡ model.is_only l.0 x) }
         ensures same { OnErr result (self.new ≡ self.old) }
     {
         match self.leave_refusal(s, l) {
             Some(why) => Err(why),
-            None => {
-                self.leave(s, l);
-                Ok(())
-            }
+            None => Ok(self.leave(s, l)),
         }
     }
 
@@ -357,12 +356,28 @@ impl Sessions {
         }
     }
 
-    /// The session that was defined after `i` others of today's, if there are so many.
-    pub fn session_at(&self, i: usize) -> Option<SessionId>
-        ensures { option_map (λ k. k.0) result ≡ option_map (λ x. x.number) (slice_get self.now.sessions i) }
+    /// Whether the session's master is Lost where its server stops: without members it stays Idle.
+    pub fn can_lose_master(&self, s: SessionId) -> bool
+        ensures { result ≡ loses_master (λ k. true) (λ k. false) (model.mirror_in (model.session_in self.now.sessions s.0)) }
     {
-        let (_, session) = self.table.get_index(i)?;
-        Some(session.number())
+        match self.master(s) {
+            Some(master) => master.can_be_lost(),
+            None => false,
+        }
+    }
+
+    /// The session that was defined after `i` others of today's, if there are so many. No other one has its number. A place
+    /// is no last number of its type.
+    pub fn session_at(&self, i: usize) -> Option<SessionId>
+        ensures value { option_map (λ k. k.0) result ≡ option_map (λ x. x.number) (slice_get self.now.sessions i) }
+        ensures found { IfSome result (λ k. model.session_in self.now.sessions k.0 ≡ slice_get self.now.sessions i) }
+        ensures first { IfSome result (λ k. list_any (λ x. x.number == k.0) (take i self.now.sessions) ≡ false) }
+        ensures next { IfSome result (λ k. i + 1 < 2 ^ 64) }
+    {
+        if self.table.len() <= i {
+            return None;
+        }
+        Some(self.table[i].number())
     }
 
     /// Whether the logical subsystem is one of the session's.
@@ -471,17 +486,20 @@ impl Sessions {
         }
     }
 
-    // A logical subsystem leaves a session, which is gone where it was its only one.
-    fn leave(&mut self, s: SessionId, l: Lss)
-        ensures { self.new.sessions ≡ model.left s.0 l.0 self.old.sessions }
+    // A logical subsystem leaves a session, which is gone where it was its only one; says whether it is.
+    fn leave(&mut self, s: SessionId, l: Lss) -> bool
+        ensures left { self.new.sessions ≡ model.left s.0 l.0 self.old.sessions }
+        ensures gone { (x : model.Session) → model.session_in self.old.sessions s.0 ≡ Some x → result ≡ model.is_only l.0 x }
     {
         let Some(i) = place_of(&self.table, s) else {
-            return;
+            return false;
         };
         if self.table[i].is_only(l) {
             remove_at(&mut self.table, i);
+            true
         } else {
             self.table[i].leave(l);
+            false
         }
     }
 

@@ -23,23 +23,26 @@ use Rattle.dr_model.specs.Refusals.{unknown}
 use Rattle.dr_model.specs.Runs.{after_plan, begun, finish, said}
 use Rattle.dr_model.specs.Decisions.{Shown}
 use Rattle.dr_model.specs.SessionEntries.{members_on, order_entries, reply_after}
-use Rattle.dr_model.specs.SessionPlans.{asking, exchange_plan, exchange_on, exchange_done, exchange_refusal, order_of}
+use Rattle.dr_model.specs.Messages.{Flight, heard}
+use Rattle.dr_model.specs.SessionPlans.{says_phase, asking, exchange_plan, exchange_on, exchange_done, exchange_refusal, order_of}
 use Rattle.dr_model.specs.Sessions.{Session, Mirror, session_in, mirror_in, members_in}
 use Rattle.dr_model.proofs.CarryLemmas.{plan-refuses}
 use Rattle.dr_laws_sessions.proofs.Changes.{session-found}
 use Rattle.dr_laws_sessions.proofs.Members.{members-few}
 use Rattle.dr_laws_sound.proofs.Awaits.{exchange-begins, exchange-next, exchange-awaits}
 use Rattle.dr_laws_sound.proofs.ReadStops.{ends-exact}
-use Rattle.dr_volume.specs.View.{ReadsPass, ids_of}
-use Rattle.dr_moves.specs.Here.{armed_in, IsAtRest}
+use Rattle.dr_volume.specs.View.{Rest, with_flight, ReadsPass, ids_of}
+use Rattle.dr_session.specs.Kept.{SessionTable}
+use Rattle.dr_ctl.specs.Kept.{KeptFlight, flight_in}
+use Rattle.dr_moves.specs.Here.{armed_in, world_seen, IsAtRest}
 use Rattle.dr_moves.specs.Turns.{Leads}
 use Rattle.dr_facts.proofs.Ends.{ends-none}
 use Rattle.dr_moves.specs.Aside.{AsideFits}
 use Rattle.dr_gmirror.specs.Exchange.{PlanEnds, refusal_in, order_in, members_in_reply, is_awaited, IsNear, MayExchange}
-use Rattle.dr_gmirror.specs.Orders.{AreReady, MayBegin, MayOrder}
+use Rattle.dr_gmirror.specs.Orders.{with_sessions, AreReady, MayBegin, MayOrder}
 use Rattle.dr_gmirror.proofs.ExchangeLemmas.{follow-nothing}
 use Rattle.dr_listing.proofs.TakenLemmas.{in-at}
-use Rattle.dr_steps.specs.Here.{here, IsReady, IsTold, Carries}
+use Rattle.dr_steps.specs.Here.{here, rest_of, IsReady, IsTold, Carries}
 use Rattle.dr_steps.proofs.CarriesLemmas.{carries, carries-plan}
 use Rattle.dr_steps.specs.declared.tables.Tables.{Tables}
 use Rattle.dr_steps.proofs.LandLemmas.{exact, told-through, ready-after}
@@ -121,6 +124,21 @@ pub exchange-ready : (s u : PlantState) (t : ConfigTable) (h h' : Tables) (ev mi
 exchange-ready s u t h h' ev mid n server reply m ms a ends rest unarmed ready =
     ready-after t s u h mid ready.reads rest unarmed
     (told-by s h ready.reads (here s t h ev) (here u t h' mid) (exchange_on (here s t h ev).control n m server reply ms) a (plain-exchange (here s t h ev).control n m server reply ms) ends ready.told)
+
+-- an order that is carried out begins no epoch
+pub heard-epochs : (n server epoch : ℕ) (work : phases.Work) (f : Flight) → (heard n server epoch work f).epoch ≡ f.epoch
+heard-epochs n server epoch phases.Report f = refl
+heard-epochs n server epoch work f = refl
+
+-- the messages in flight hear of it, with the session's epoch
+pub heard-ends : (s u : PlantState) (t : ConfigTable) (h : Tables) (ev mid : List Event) (ys : SessionTable) (f : KeptFlight) (server epoch : ℕ) (work : phases.Work) (p : Plan) (n : ℕ)
+    → epoch ≡ (flight_in h.flight).epoch n → flight_in f ≡ heard n server epoch work (flight_in h.flight)
+    → (let r : Rest = with_flight (heard n server ((flight_in h.flight).epoch n) work (flight_in h.flight)) (with_sessions ys.sessions (rest_of h ev)) in
+    PlanEnds (armed_in s) (here s t h ev) p (world_seen u t r mid) (says_phase n (world_seen u t r mid).control))
+    → (let v : World = here u t (record h { sessions = ys; flight = f }) mid in PlanEnds (armed_in s) (here s t h ev) p v (says_phase n v.control))
+heard-ends s u t h ev mid ys f server epoch work p n of_session flies ends =
+    subst (λ (g : Flight). let r : Rest = with_flight g (with_sessions ys.sessions (rest_of h ev)) in PlanEnds (armed_in s) (here s t h ev) p (world_seen u t r mid) (says_phase n (world_seen u t r mid).control))
+    (sym (flies ∙ ap (λ e. heard n server e work (flight_in h.flight)) of_session)) ends
 
 -- ---- what an exchange needs
 

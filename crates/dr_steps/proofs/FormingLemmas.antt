@@ -13,7 +13,7 @@ use Rattle.dr_model.specs.Phases as phases
 use Rattle.dr_model.specs.SessionPlans.{is_idle, mirror_phase, session_phase}
 use Rattle.dr_laws_sessions.proofs.Changes.{session-found}
 use Rattle.dr_laws_sessions.proofs.Owed.{first-asked}
-use Rattle.dr_model.specs.Laws.{Sound}
+use Rattle.dr_model.specs.Laws.{FlightCounted, Sound}
 use Rattle.dr_model.specs.PairEntries.{is_copying}
 use Rattle.dr_model.specs.PlanParts.{only_says}
 use Rattle.dr_model.specs.Plans.{Plan, drain_plan, has_room}
@@ -25,9 +25,10 @@ use Rattle.dr_model.specs.declared.step.Step.TheVariants.{Run}
 use Rattle.dr_model.specs.Refusals.{unknown}
 use Rattle.dr_ids.specs.declared.refusal.Kind.TheVariants.{Session as OfSession}
 use Rattle.dr_model.proofs.CarryLemmas.{plan-says}
-use Rattle.dr_steps.proofs.LossLemmas.{masters-stay}
+use Rattle.dr_laws_sound.proofs.RefusedSteps.{lost-stays}
 use Rattle.dr_laws_sound.proofs.Parts.{Comes}
 use Rattle.dr_laws_sound.proofs.Steps.{sound-part}
+use Rattle.dr_laws_sound.proofs.FlightCounts.{counted-part}
 use Rattle.dr_moves.specs.Checks.{is_stop}
 use Rattle.dr_steps.specs.Faults.{is_stopped}
 use Rattle.dr_steps.specs.Formed.{Reaches, drain_next, to_drain}
@@ -83,7 +84,7 @@ part-full w p full = reaches-same (part w p) (ends w JournalFull) w (Some Journa
 
 -- it was carried out, and the masters that are lost by it
 module _ (s u : PlantState) (t : ConfigTable) (h h' : Tables) (ev mid : List Event) (p : Plan) (a : Said) (room : has_room ev ≡ true) (carried : Carries (here s t h ev) p (here u t h' mid) a)
-    (h'' : Tables) (lost : h'' ≡ record h' { sessions = record h'.sessions { sessions = lost_since (here s t h ev).control.on (here u t h' mid).control.on h'.sessions.sessions } }) where
+    (h'' : Tables) (lost : here u t h'' mid ≡ masters_lost (here s t h ev) (here u t h' mid)) where
   abbrev w : World
   w = here s t h ev
 
@@ -91,7 +92,7 @@ module _ (s u : PlantState) (t : ConfigTable) (h h' : Tables) (ev mid : List Eve
   v = here u t h'' mid
 
   led : after_part w p ≡ v
-  led = ap (masters_lost w) carried.world ∙ (λ i. here u t (sym lost i) mid)
+  led = ap (masters_lost w) carried.world ∙ sym lost
 
   pub part-done : Reaches (part w p) v (refusal_said a)
   part-done = reaches-same (part w p) (record { parts = record { world = w; plan = p } ∷ []; world = after_part w p; refusal = part_refusal w p }) v (refusal_said a)
@@ -100,6 +101,9 @@ module _ (s u : PlantState) (t : ConfigTable) (h h' : Tables) (ev mid : List Eve
 
   pub part-sound : Comes w p → Sound w → Sound v
   part-sound comes sound = subst Sound led (sound-part w p comes sound)
+
+  pub part-counted : Comes w p → FlightCounted w → FlightCounted v
+  part-counted comes counted = subst FlightCounted led (counted-part w p comes counted)
 
 -- a stop is said where it refuses a part
 pub stop-said : (a : Said) → is_stopped a ≡ is_stop (refusal_said a)
@@ -164,7 +168,7 @@ pub formed-task : (w u : World) (line s n : ℕ) (r : Option Refusal) → Reache
 formed-task w u line s n r a =
     (λ i. answered_part line (record { world = a.world i; plan = only_says (form_said s (a.world i).control (a.refusal i)) }))
     ∙ ap (masters_lost u) (plan-says u line (form_said s u.control r))
-    ∙ masters-stay u (said u line (form_said s u.control r)) refl
+    ∙ lost-stays u (said u line (form_said s u.control r)) refl
 
 pub formed-full : (w : World) (s n : ℕ) → has_room w.events ≡ false → Reaches (formed w s n) w (Some JournalFull)
 formed-full w s n full = reaches-same (formed w s n) (ends w JournalFull) w (Some JournalFull) (ap (λ b. cond b (form_in w s n (session_in w.control.sessions s)) (ends w JournalFull)) full) (record { world = refl; refusal = refl })

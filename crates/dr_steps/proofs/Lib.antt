@@ -2,6 +2,8 @@
 -- stopping and arming come to; `ComeLemmas.antt`: a plan that a call of `dr_admin` carried out; `ZeroDevice.antt`: what
 -- a device of zeros shows; `WellFormedLemmas.antt`: what a line says is well formed; `FlashLemmas.antt`,
 -- `BackgroundLemmas.antt`: steps on relationships, and so many rounds of entries.
+-- `LossLemmas.antt`, `EpochLemmas.antt`: masters that are lost, and the epochs that begin with it; `CountLemmas.antt`: that the counts of the
+-- messages in flight have room; `MessageLemmas.antt`: lines on control messages.
 -- - **Step lemmas over plain `here s t h events`**, with each state and list as an explicit argument
 --   (`StepLemmas.antt`). In the answer of a goal, name the parts by `let`, and then it is one line.
 -- - **A plan that names a server**: `unknown-server` and `known-server` (`StopLemmas.antt`) take the plan as a function
@@ -46,6 +48,9 @@ pub mod BackgroundLemmas
 pub mod LandLemmas
 pub mod LocatedLemmas
 pub mod LossLemmas
+pub mod EpochLemmas
+pub mod CountLemmas
+pub mod MessageLemmas
 pub mod StepLemmas
 pub mod StopLemmas
 pub mod StartLemmas

@@ -39,7 +39,7 @@ use Rattle.dr_listing.specs.Told.{AreSeated, members_of}
 use Rattle.dr_steps.specs.Faults.{is_stop, told_stop}
 use Rattle.dr_steps.specs.Here.{here, IsTold}
 use Rattle.dr_steps.specs.declared.tables.Tables.{Tables}
-use Rattle.dr_steps.proofs.LossLemmas.{masters-stay}
+use Rattle.dr_laws_sound.proofs.RefusedSteps.{lost-stays}
 use Rattle.dr_steps.proofs.RelationLemmas.{placed-here}
 use Rattle.dr_steps.proofs.StepTaskLemmas.{none-silent}
 
@@ -123,12 +123,12 @@ module _ (w : World) (device : ℕ → Blocks) (number : ℕ) where
   image-done room =
       (λ i. masters_lost w (after_plan w number (cond (room i) (image_plan (cond (room i) (listing w.control device) [])) (refuses JournalFull))))
       ∙ ap (masters_lost w) (plan-tables w number same (image_told (listing w.control device)) (Done Alone))
-      ∙ masters-stay w (said (record w { events = w.events ++ image_told (listing w.control device) }) number (Done Alone)) refl
+      ∙ lost-stays w (said (record w { events = w.events ++ image_told (listing w.control device) }) number (Done Alone)) refl
 
   pub image-full : has_room_for image_events w.events ≡ false → after_task w (task_on w device number (Ok Image)) ≡ said w number (Refused JournalFull)
   image-full full =
       (λ i. masters_lost w (after_plan w number (cond (full i) (image_plan (cond (full i) (listing w.control device) [])) (refuses JournalFull))))
-      ∙ ap (masters_lost w) (plan-refuses w number JournalFull) ∙ masters-stay w (said w number (Refused JournalFull)) refl
+      ∙ ap (masters_lost w) (plan-refuses w number JournalFull) ∙ lost-stays w (said w number (Refused JournalFull)) refl
 
   pub full-lists : has_room_for image_events w.events ≡ false → Lists w (task_on w device number (Ok Image))
   full-lists full = subst (λ b. ListsIf b w (cond b (listing w.control device) [])) (sym full) refl

@@ -4,12 +4,17 @@ use Rattle.std.specs.Option.{option_map}
 use Rattle.std.proofs.lemmas.Bool.Decides.{nat_tests, eqb_tells}
 use Rattle.std.proofs.lemmas.Grind.{common_steps}
 use Rattle.dr_model.specs.Phases as phases
-use Rattle.dr_model.specs.Control.{World}
-use Rattle.dr_model.specs.Runs.{masters_lost}
+use Rattle.dr_model.specs.declared.event.Event.{Event}
+use Rattle.dr_model.specs.Carried.{losing}
+use Rattle.dr_model.specs.Messages as messages
 use Rattle.dr_model.specs.Sessions.{Session, Mirror, with_mirror, mirror_lost, lost_with, lost_since}
 use Rattle.dr_plant.specs.State.{PlantState}
+use Rattle.dr_config.specs.Table.{ConfigTable}
+use Rattle.dr_session.specs.Kept.{SessionTable}
+use Rattle.dr_ctl.specs.Kept.{KeptFlight, flight_in}
 use Rattle.dr_volume.specs.View.{on_seen}
-use Rattle.dr_laws_recovery.proofs.Went.{lost-none as none-since}
+use Rattle.dr_steps.specs.Here.{here}
+use Rattle.dr_steps.specs.declared.tables.Tables.{Tables}
 
 -- the masters on servers of a set are lost
 abbrev mirror_lost_on : (ℕ → Bool) → Mirror → Mirror
@@ -100,11 +105,11 @@ lost-all s u before ss was = lost-same _ _ (λ k. by k (nat_lt k 8) refl) ss
     by k true lt = ap (λ t. t && not (u.on k)) (was k (grind (arith, nat_tests, lt)))
     by k false lt = refl
 
--- a step that leaves the servers and the sessions as they were loses none
-pub masters-stay : (w u : World) → u.control ≡ w.control → masters_lost w u ≡ u
-masters-stay w u same =
-    (λ i. masters_lost (record w { control = sym same i }) u)
-    ∙ (λ i. record u { control = record u.control { sessions = none-since u.control.on u.control.sessions i } })
+-- what the sessions and the messages in flight are then
+pub lost-here : (s u : PlantState) (t : ConfigTable) (h : Tables) (ev : List Event) (ys : SessionTable) (f : KeptFlight) → ys ≡ record h.sessions { sessions = lost_since (on_seen s) (on_seen u) h.sessions.sessions }
+    → flight_in f ≡ messages.lost_since (on_seen s) (on_seen u) h.sessions.sessions (flight_in h.flight)
+    → here u t (record h { sessions = ys; flight = f }) ev ≡ record (here u t h ev) { control = losing (on_seen s) (here u t h ev).control }
+lost-here s u t h ev ys f is flies = λ i. record (here u t h ev) { control = record (here u t h ev).control { sessions = (is i).sessions; flight = flies i } }
 
 -- which servers are on, one more
 pub on-next : (on : List Bool) (f : ℕ → Bool) (n : ℕ) (x : Bool) → n < length on → x ≡ f n → ((k : ℕ) → k < n → get_or on k false ≡ f k) → (k : ℕ) → k < n + 1 → get_or (set on n x) k false ≡ f k

@@ -1,22 +1,35 @@
 -- What the host's writes are after a start and after the end of holds, and what is counted where a server stopped.
-use Rattle.std.proofs.Common.{ℕ, ◌≡◌, List, [], ◌∷◌, ◌++◌, refl, sym, subst, Bool, true, false, cond, Option, Some, None}
+use Rattle.std.proofs.Common.{ℕ, ◌≡◌, ◌<◌, ap, ◌∙◌, List, [], ◌∷◌, ◌++◌, refl, sym, subst, Bool, true, false, cond, Option, Some, None}
 use Rattle.std.proofs.lemmas.List.{append-nil}
 use Rattle.dr_logic.specs.Counts.{Counted as Below, Counted}
 use Rattle.dr_ids.specs.declared.names.WriteId.{WriteId}
+use Rattle.dr_plant.specs.State.{PlantState}
+use Rattle.dr_config.specs.Table.{ConfigTable}
+use Rattle.dr_ctl.specs.Kept.{KeptFlight, flight_in}
+use Rattle.dr_host.specs.Here.{here as seen_here}
 use Rattle.dr_host.specs.Writes.{Writes}
 use Rattle.dr_host.proofs.Each.{each-without}
 use Rattle.dr_model.specs.declared.event.Event.{Event}
 use Rattle.dr_model.specs.declared.event.Event.TheVariants.{Started}
 use Rattle.dr_model.specs.declared.said.Addition.TheVariants.{Alone}
+use Rattle.dr_model.specs.declared.said.Said.{Said}
 use Rattle.dr_model.specs.declared.said.Said.TheVariants.{Done}
-use Rattle.dr_model.specs.Control.{Control}
+use Rattle.dr_model.specs.Control.{Control, World}
 use Rattle.dr_model.specs.Histories.{histories}
-use Rattle.dr_model.specs.Plans.{only_says, start_plan, start_on, expire_plan, expire_on, refuses}
+use Rattle.dr_model.specs.Messages.{started}
+use Rattle.dr_model.specs.Runs.{after_plan, said}
+use Rattle.dr_model.proofs.CarryLemmas.{plan-says}
+use Rattle.dr_model.specs.Plans.{Plan, only_says, start_plan, start_on, expire_plan, expire_on, refuses}
 use Rattle.dr_model.specs.Refusals.{server_off}
 use Rattle.dr_metro.specs.Here.{IsTold}
 use Rattle.dr_metro.proofs.ToldLemmas.{IsWrite, told-push}
-use Rattle.dr_admin.specs.Answering.{write_number}
+use Rattle.dr_volume.specs.View.{with_flight}
+use Rattle.dr_volume.proofs.WorldLaws.{on-seen}
+use Rattle.dr_moves.specs.Here.{armed_in}
+use Rattle.dr_admin.specs.Answering.{write_number, Comes}
 use Rattle.dr_admin.specs.Starting.{without_acked}
+use Rattle.dr_steps.specs.Here.{here, rest_of}
+use Rattle.dr_steps.specs.declared.tables.Tables.{Tables}
 
 module _ (h : Writes) (ev : List Event) (told : IsTold h ev) where
   silent : IsTold h (ev ++ [])
@@ -44,3 +57,16 @@ told-acked a h h' ev is told = told-without (write_number a) h h' ev is told
 pub counted-top : (b : Bool) (before now : ℕ) → Below b before now → Counted b before now
 counted-top true before now rose = rose
 counted-top false before now same = same
+
+-- where the server is on nothing happens
+pub started-already : (s : PlantState) (t : ConfigTable) (h : Tables) (ev : List Event) (line server : ℕ) → server < 8 → s.on server ≡ true
+    → after_plan (here s t h ev) line (start_on (here s t h ev).control server) ≡ said (here s t h ev) line (Done Alone)
+started-already s t h ev line server low is =
+    let w : World = here s t h ev in
+    ap (λ b. after_plan w line (cond b (only_says (Done Alone)) (start_plan w.control server))) (on-seen s server low ∙ is) ∙ plan-says w line (Done Alone)
+
+-- the start is counted among the messages in flight
+pub flown : (s v : PlantState) (t : ConfigTable) (h : Tables) (ev now : List Event) (host : Writes) (f : KeptFlight) (server : ℕ) (p : Plan) (a : Said) → flight_in f ≡ started server (flight_in h.flight)
+    → Comes (armed_in s) (here s t h ev) p (seen_here v t (with_flight (started server (flight_in h.flight)) (rest_of h ev)) host now) a
+    → Comes (armed_in s) (here s t h ev) p (here v t (record h { host = host; flight = f }) now) a
+flown s v t h ev now host f server p a is came = subst (λ g. Comes (armed_in s) (here s t h ev) p (seen_here v t (with_flight g (rest_of h ev)) host now) a) (sym is) came

@@ -18,7 +18,7 @@ use Rattle.dr_model.specs.declared.said.Said.{Said}
 use Rattle.dr_model.specs.declared.said.Said.TheVariants.{Done, Held, Refused}
 use Rattle.dr_model.specs.declared.step.Name.{Name}
 use Rattle.dr_model.specs.declared.step.Step.{Step}
-use Rattle.dr_model.specs.declared.step.Step.TheVariants.{Server, Volume, Link, Stop, StopAfter, Start, Issue, Write, Apply, Show, MakeFlash, RemoveFlash, ResyncFlash, ReverseFlash, UnfreezeFlash, Copy, Destage, MakePath, RemovePath, MakePair, RemovePair, PausePair, ResumePair, Failover, Failback, Drain, Expire, Freeze, Unfreeze, MakeSession, RemoveSession, AddMember, RemoveMember, MakeMirror, PauseMirror, ResumeMirror, RemoveMirror, Abort, Exchange, Run, Compare, Image, Recover, CommitFlash, RevertFlash, ListPairs, ListFlashes, ListSession, ShowMirror}
+use Rattle.dr_model.specs.declared.step.Step.TheVariants.{Server, Volume, Link, Stop, StopAfter, Start, Issue, Write, Apply, Show, MakeFlash, RemoveFlash, ResyncFlash, ReverseFlash, UnfreezeFlash, Copy, Destage, MakePath, RemovePath, MakePair, RemovePair, PausePair, ResumePair, Failover, Failback, Drain, Expire, Freeze, Unfreeze, MakeSession, RemoveSession, AddMember, RemoveMember, MakeMirror, PauseMirror, ResumeMirror, RemoveMirror, Abort, Exchange, Lose, Run, Compare, Image, Recover, CommitFlash, RevertFlash, ListPairs, ListFlashes, ListSession, ShowMirror}
 use Rattle.dr_model.specs.declared.step.TornWord.{TornWord}
 use Rattle.dr_model.specs.declared.step.Devs.{Devs}
 use Rattle.dr_model.specs.declared.step.PairChoices.{PairChoices}
@@ -36,7 +36,7 @@ use Rattle.dr_plant.specs.State.{PlantState}
 use Rattle.dr_config.specs.Table.{ConfigTable}
 use Rattle.dr_steps.specs.Faults.{is_stop, told_stop, is_stopped}
 use Rattle.dr_steps.specs.Here.{here, IsTold}
-use Rattle.dr_steps.proofs.LossLemmas.{masters-stay}
+use Rattle.dr_laws_sound.proofs.RefusedSteps.{lost-stays}
 use Rattle.dr_host.specs.Writes.{EachPending, bytes_of}
 use Rattle.dr_host.specs.declared.pending.Pending.{Pending}
 use Rattle.dr_model.specs.Histories.{Histories, histories}
@@ -117,18 +117,20 @@ pub none-session : (step : Step)
     → ((d : Devs) (l x : ℕ) → step ≡ RemoveMirror d l x → ⊥)
     → ((x : ℕ) → step ≡ Abort x → ⊥)
     → ((x : ℕ) (n : Name) (r : Bool) → step ≡ Exchange x n r → ⊥)
+    → ((n : ℕ) → step ≡ Lose n → ⊥)
     → is_session step ≡ false
-none-session (MakeSession d l x) make remove add expel mirror pause resume unmirror abort exchange = absurd (make d l x refl)
-none-session (RemoveSession d l x) make remove add expel mirror pause resume unmirror abort exchange = absurd (remove d l x refl)
-none-session (AddMember d l a x) make remove add expel mirror pause resume unmirror abort exchange = absurd (add d l a x refl)
-none-session (RemoveMember d l a x) make remove add expel mirror pause resume unmirror abort exchange = absurd (expel d l a x refl)
-none-session (MakeMirror d l x i c t) make remove add expel mirror pause resume unmirror abort exchange = absurd (mirror d l x i c t refl)
-none-session (PauseMirror d l x) make remove add expel mirror pause resume unmirror abort exchange = absurd (pause d l x refl)
-none-session (ResumeMirror d l x i c t) make remove add expel mirror pause resume unmirror abort exchange = absurd (resume d l x i c t refl)
-none-session (RemoveMirror d l x) make remove add expel mirror pause resume unmirror abort exchange = absurd (unmirror d l x refl)
-none-session (Abort x) make remove add expel mirror pause resume unmirror abort exchange = absurd (abort x refl)
-none-session (Exchange x n r) make remove add expel mirror pause resume unmirror abort exchange = absurd (exchange x n r refl)
-none-session _ make remove add expel mirror pause resume unmirror abort exchange = refl
+none-session (MakeSession d l x) make remove add expel mirror pause resume unmirror abort exchange lose = absurd (make d l x refl)
+none-session (RemoveSession d l x) make remove add expel mirror pause resume unmirror abort exchange lose = absurd (remove d l x refl)
+none-session (AddMember d l a x) make remove add expel mirror pause resume unmirror abort exchange lose = absurd (add d l a x refl)
+none-session (RemoveMember d l a x) make remove add expel mirror pause resume unmirror abort exchange lose = absurd (expel d l a x refl)
+none-session (MakeMirror d l x i c t) make remove add expel mirror pause resume unmirror abort exchange lose = absurd (mirror d l x i c t refl)
+none-session (PauseMirror d l x) make remove add expel mirror pause resume unmirror abort exchange lose = absurd (pause d l x refl)
+none-session (ResumeMirror d l x i c t) make remove add expel mirror pause resume unmirror abort exchange lose = absurd (resume d l x i c t refl)
+none-session (RemoveMirror d l x) make remove add expel mirror pause resume unmirror abort exchange lose = absurd (unmirror d l x refl)
+none-session (Abort x) make remove add expel mirror pause resume unmirror abort exchange lose = absurd (abort x refl)
+none-session (Exchange x n r) make remove add expel mirror pause resume unmirror abort exchange lose = absurd (exchange x n r refl)
+none-session (Lose n) make remove add expel mirror pause resume unmirror abort exchange lose = absurd (lose n refl)
+none-session _ make remove add expel mirror pause resume unmirror abort exchange lose = refl
 
 -- or no recovery, and no commit or revert by hand
 pub none-recovery : (step : Step) → ((x : ℕ) → step ≡ Recover x → ⊥) → ((d : Devs) (b : ℕ) (n : Option ℕ) → step ≡ CommitFlash d b n → ⊥) → ((d : Devs) (b : ℕ) (n : Option ℕ) → step ≡ RevertFlash d b n → ⊥) → is_recovery step ≡ false
@@ -246,7 +248,7 @@ module _ (w : World) (number : ℕ) (step : Step) where
 
   -- a step that is refused before it begins
   refused-first : (r : Refusal) → masters_lost w (after_plan w number (refuses r)) ≡ said w number (Refused r)
-  refused-first r = ap (masters_lost w) (plan-refuses w number r) ∙ masters-stay w (said w number (Refused r)) refl
+  refused-first r = ap (masters_lost w) (plan-refuses w number r) ∙ lost-stays w (said w number (Refused r)) refl
 
   pub task-full : own_course (Ok step) ≡ None → has_room w.events ≡ false → after_task w task ≡ said w number (Refused JournalFull)
   task-full alone full = by-room false alone full ∙ refused-first JournalFull

@@ -1,10 +1,12 @@
 -- The machine's state that a run of the program has reached, and how a call leads on from there.
-use Rattle.std.specs.Prelude.{◌≡◌, ℕ, List, Result, Ok, Err}
+use Rattle.std.specs.Prelude.{◌≡◌, ℕ, List, map, Result, Ok, Err}
 use Rattle.dr_ids.specs.declared.refusal.Fault.{Fault}
 use Rattle.dr_ids.specs.declared.refusal.Fault.TheVariants.{NoMemory, Refused as FaultRefused}
 use Rattle.dr_ids.specs.declared.refusal.Refusal.{Refusal}
 use Rattle.dr_plant.specs.State.{PlantState}
 use Rattle.dr_config.specs.Table.{ConfigTable}
+use Rattle.dr_ctl.specs.Kept.{flight_in}
+use Rattle.dr_host.specs.Seen.{pending_seen}
 use Rattle.dr_model.specs.declared.event.Event.{Event}
 use Rattle.dr_model.specs.declared.said.Addition.{Addition}
 use Rattle.dr_model.specs.declared.said.Said.{Said}
@@ -19,7 +21,13 @@ use Rattle.dr_steps.specs.declared.tables.Tables.{Tables}
 
 -- what the tables and the journal show
 abbrev pub rest_of : Tables → List Event → Rest
-rest_of h events = metro.rest_of h.sessions.sessions h.host events
+rest_of h events = record {
+  issued = h.host.issued;
+  pending = map pending_seen h.host.pending;
+  sessions = h.sessions.sessions;
+  flight = flight_in h.flight;
+  events = events;
+}
 
 -- the state that plant, configuration, tables and journal show
 abbrev pub here : PlantState → ConfigTable → Tables → List Event → World

@@ -2,7 +2,7 @@
 
 ghost use Rattle.std.specs.Prelude.{◌≡◌, ℕ, ◌+◌, ◌<◌, ◌≤◌, true, [], length, Ok, OnOk, OnErr};
 ghost use Rattle.dr_logic.specs.Counts.{Counted};
-ghost use Rattle.dr_model.specs.Laws.{Sound};
+ghost use Rattle.dr_model.specs.Laws.{FlightCounted, Sound};
 ghost use Rattle.dr_model.specs.Limits.{most_events, step_events};
 ghost use Rattle.dr_model.specs.Plans.{has_room};
 ghost use Rattle.dr_model.specs.Runs.{after_task};
@@ -43,6 +43,7 @@ fn compare_answered<P: Plant>(
 )
     requires ready { IsReady (P.state plant.old) config.now tables.old journal.old.events }
     requires sound { Sound (here (P.state plant.old) config.now tables.old journal.old.events) }
+    requires counted { FlightCounted (here (P.state plant.old) config.now tables.old journal.old.events) }
     requires room { step_events ≤ journal.old.spare }
     requires has_room { has_room journal.old.events ≡ true }
     ensures task { after_task (here (P.state plant.old) config.now tables.old journal.old.events) (record { line = number; asked = Ok (step.Compare v.0 u.0); listed = [] })
@@ -53,7 +54,7 @@ fn compare_answered<P: Plant>(
 {
     let before = servers_on(plant);
     let compared = compare(plant, config, tables, journal, v, u);
-    lose_masters(plant, &before, &mut tables.sessions);
+    lose_masters(plant, &before, &mut tables.sessions, &mut tables.flight);
     say(journal, number, answer_by(compared));
 }
 
@@ -70,6 +71,7 @@ pub fn carry_compare<P: Plant>(
 ) -> Result<(), AllocError>
     requires ready { IsReady (P.state plant.old) config.now tables.old journal.old.events }
     requires sound { Sound (here (P.state plant.old) config.now tables.old journal.old.events) }
+    requires counted { FlightCounted (here (P.state plant.old) config.now tables.old journal.old.events) }
     requires below { length journal.old.events < most_events }
     ensures task { OnOk result (after_task (here (P.state plant.old) config.now tables.old journal.old.events) (record { line = number; asked = Ok (step.Compare v.0 u.0); listed = [] })
         ≡ here (P.state plant.new) config.now tables.new journal.new.events) }

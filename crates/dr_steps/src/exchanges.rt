@@ -1,6 +1,7 @@
 //! The step in which a server carries out what the master of a session asks of it.
 
 ghost use Rattle.std.specs.Prelude.{◌≡◌, ℕ, ◌+◌, ◌<◌, ◌≤◌, false, length, IfSome};
+ghost use Rattle.dr_ctl.specs.Kept.{flight_in};
 ghost use Rattle.dr_model.specs.Laws.{Sound};
 ghost use Rattle.dr_model.specs.Limits.{step_events};
 ghost use Rattle.dr_model.specs.Runs.{after_plan, said};
@@ -10,6 +11,7 @@ ghost use Rattle.dr_steps.specs.Faults.{CountsStop};
 ghost use Rattle.dr_steps.specs.Here.{here, said_of, IsReady, Carries};
 
 use crate::locate::{bytes_of, unknown_server, unknown_session};
+use crate::messages::hear;
 use crate::sessions::phase_of;
 use crate::tables::Tables;
 use dr_config::Config;
@@ -27,7 +29,8 @@ fn tell_few(sessions: &Sessions, s: SessionId)
 }
 
 /// A server carries out the order that it is owed over its members, and the master may learn of it; the answer says the phase
-/// that the master is in then. Refused where the session has no master, or where the master and the server have no exchange.
+/// that the master is in then. A report raises the server's fence to the session's epoch. Refused where the session has no
+/// master, or where the master and the server have no exchange.
 pub fn ask_server<P: Plant>(
     plant: &mut P,
     config: &Config,
@@ -49,6 +52,7 @@ pub fn ask_server<P: Plant>(
     ensures faults { CountsStop (said_of result) (P.state plant.old) (P.state plant.new) }
     ensures ready { IsReady (P.state plant.new) config.now tables.new journal.new.events }
     ensures host { tables.new.host ≡ tables.old.host }
+    ensures epochs { (flight_in tables.new.flight).epoch ≡ (flight_in tables.old.flight).epoch }
     ensures room { 1 ≤ journal.new.spare }
     ensures spare { length journal.new.events + journal.new.spare ≡ length journal.old.events + journal.old.spare }
 {
@@ -62,7 +66,11 @@ pub fn ask_server<P: Plant>(
         server,
         reply,
     ) {
-        Ok(()) => Ok(phase_of(&tables.sessions, s)),
+        Ok(kind) => {
+            let epoch = tables.flight.epoch(s);
+            hear(&mut tables.flight, s, server, epoch, kind);
+            Ok(phase_of(&tables.sessions, s))
+        }
         Err(refusal) => Err(refusal),
     }
 }

@@ -5,7 +5,7 @@ ghost use Rattle.std.specs.Prelude.{◌≡◌, ℕ, ◌+◌, ◌<◌, ◌≤◌,
 ghost use Rattle.dr_logic.specs.Counts.{Counted};
 ghost use Rattle.dr_ids.specs.declared.refusal.Refusal.{Refusal};
 ghost use Rattle.dr_model.specs.Forming as plans;
-ghost use Rattle.dr_model.specs.Laws.{Sound};
+ghost use Rattle.dr_model.specs.Laws.{FlightCounted, Sound};
 ghost use Rattle.dr_model.specs.Limits.{most_events, most_groups};
 ghost use Rattle.dr_model.specs.Plans.{drain_plan};
 ghost use Rattle.dr_model.specs.Runs.{after_task};
@@ -68,6 +68,7 @@ fn drain_alone<P: Plant>(
 ) -> Result<(), Refusal>
     requires ready { IsReady (P.state plant.old) config.now tables.old journal.old.events }
     requires sound { Sound (here (P.state plant.old) config.now tables.old journal.old.events) }
+    requires counted { FlightCounted (here (P.state plant.old) config.now tables.old journal.old.events) }
     requires head { head.now ≡ head_of (volume_seen (P.state plant.old) config.now a.0).fields }
     requires few { length config.now.volumes ≤ 64 }
     requires room { most_events ≤ length journal.old.events + journal.old.spare }
@@ -75,6 +76,7 @@ fn drain_alone<P: Plant>(
     ensures way { Reaches (plans.part (here (P.state plant.old) config.now tables.old journal.old.events) (drain_plan (here (P.state plant.old) config.now tables.old journal.old.events).control a.0 None))
         (here (P.state plant.new) config.now tables.new journal.new.events) (refusal_of result) }
     ensures sound { Sound (here (P.state plant.new) config.now tables.new journal.new.events) }
+    ensures counted { FlightCounted (here (P.state plant.new) config.now tables.new journal.new.events) }
     ensures ready { IsReady (P.state plant.new) config.now tables.new journal.new.events }
     ensures members { (n : ℕ) → model.members_in (model.session_in tables.new.sessions.sessions n) ≡ model.members_in (model.session_in tables.old.sessions.sessions n) }
     ensures host { tables.new.host ≡ tables.old.host }
@@ -87,7 +89,7 @@ fn drain_alone<P: Plant>(
     }
     let before = servers_on(plant);
     let carried = drain_by(plant, config, tables, journal, a, None, head);
-    lose_masters(plant, &before, &mut tables.sessions);
+    lose_masters(plant, &before, &mut tables.sessions, &mut tables.flight);
     unsaid(carried)
 }
 
@@ -102,6 +104,7 @@ fn ask_alone<P: Plant>(
 ) -> Result<(), Refusal>
     requires ready { IsReady (P.state plant.old) config.now tables.old journal.old.events }
     requires sound { Sound (here (P.state plant.old) config.now tables.old journal.old.events) }
+    requires counted { FlightCounted (here (P.state plant.old) config.now tables.old journal.old.events) }
     requires low { server.0 < 8 }
     requires known { server.0 < length config.now.names }
     requires few { length config.now.volumes ≤ 64 }
@@ -110,6 +113,7 @@ fn ask_alone<P: Plant>(
     ensures way { Reaches (plans.part (here (P.state plant.old) config.now tables.old journal.old.events) (asking (here (P.state plant.old) config.now tables.old journal.old.events).control s.0 server.0 true))
         (here (P.state plant.new) config.now tables.new journal.new.events) (refusal_of result) }
     ensures sound { Sound (here (P.state plant.new) config.now tables.new journal.new.events) }
+    ensures counted { FlightCounted (here (P.state plant.new) config.now tables.new journal.new.events) }
     ensures ready { IsReady (P.state plant.new) config.now tables.new journal.new.events }
     ensures host { tables.new.host ≡ tables.old.host }
     ensures room { length journal.new.events + journal.new.spare ≡ length journal.old.events + journal.old.spare }
@@ -121,7 +125,7 @@ fn ask_alone<P: Plant>(
     }
     let before = servers_on(plant);
     let carried = ask_server(plant, config, tables, journal, s, server, true);
-    lose_masters(plant, &before, &mut tables.sessions);
+    lose_masters(plant, &before, &mut tables.sessions, &mut tables.flight);
     unsaid(carried)
 }
 
@@ -171,6 +175,7 @@ fn drain_place<P: Plant>(
 ) -> Result<(), Refusal>
     requires ready { IsReady (P.state plant.old) config.now tables.old journal.old.events }
     requires sound { Sound (here (P.state plant.old) config.now tables.old journal.old.events) }
+    requires counted { FlightCounted (here (P.state plant.old) config.now tables.old journal.old.events) }
     requires few { length config.now.volumes ≤ 64 }
     requires room { most_events ≤ length journal.old.events + journal.old.spare }
     requires spare { 1 ≤ journal.old.spare }
@@ -178,6 +183,7 @@ fn drain_place<P: Plant>(
         (to_drain (here (P.state plant.old) config.now tables.old journal.old.events).control server.0 (slice_get (model.members_in (model.session_in tables.old.sessions.sessions s.0)) place)) plans.stays)
         (here (P.state plant.new) config.now tables.new journal.new.events) (refusal_of result) }
     ensures sound { Sound (here (P.state plant.new) config.now tables.new journal.new.events) }
+    ensures counted { FlightCounted (here (P.state plant.new) config.now tables.new journal.new.events) }
     ensures ready { IsReady (P.state plant.new) config.now tables.new journal.new.events }
     ensures members { (n : ℕ) → model.members_in (model.session_in tables.new.sessions.sessions n) ≡ model.members_in (model.session_in tables.old.sessions.sessions n) }
     ensures host { tables.new.host ≡ tables.old.host }
@@ -202,12 +208,14 @@ fn drain_members<P: Plant>(
 ) -> Result<(), Refusal>
     requires ready { IsReady (P.state plant.old) config.now tables.old journal.old.events }
     requires sound { Sound (here (P.state plant.old) config.now tables.old journal.old.events) }
+    requires counted { FlightCounted (here (P.state plant.old) config.now tables.old journal.old.events) }
     requires few { length config.now.volumes ≤ 64 }
     requires room { most_events ≤ length journal.old.events + journal.old.spare }
     requires spare { 1 ≤ journal.old.spare }
     ensures way { Reaches (plans.drains (here (P.state plant.old) config.now tables.old journal.old.events) (members_on server.0 (model.members_in (model.session_in tables.old.sessions.sessions s.0))))
         (here (P.state plant.new) config.now tables.new journal.new.events) (refusal_of result) }
     ensures sound { Sound (here (P.state plant.new) config.now tables.new journal.new.events) }
+    ensures counted { FlightCounted (here (P.state plant.new) config.now tables.new journal.new.events) }
     ensures ready { IsReady (P.state plant.new) config.now tables.new journal.new.events }
     ensures host { tables.new.host ≡ tables.old.host }
     ensures room { length journal.new.events + journal.new.spare ≡ length journal.old.events + journal.old.spare }
@@ -232,6 +240,7 @@ fn ask<P: Plant>(
 ) -> Result<(), Refusal>
     requires ready { IsReady (P.state plant.old) config.now tables.old journal.old.events }
     requires sound { Sound (here (P.state plant.old) config.now tables.old journal.old.events) }
+    requires counted { FlightCounted (here (P.state plant.old) config.now tables.old journal.old.events) }
     requires low { server.0 < 8 }
     requires known { server.0 < length config.now.names }
     requires few { length config.now.volumes ≤ 64 }
@@ -240,6 +249,7 @@ fn ask<P: Plant>(
     ensures way { Reaches (plans.ask (here (P.state plant.old) config.now tables.old journal.old.events) s.0 phase (model.members_in (model.session_in tables.old.sessions.sessions s.0)) server.0)
         (here (P.state plant.new) config.now tables.new journal.new.events) (refusal_of result) }
     ensures sound { Sound (here (P.state plant.new) config.now tables.new journal.new.events) }
+    ensures counted { FlightCounted (here (P.state plant.new) config.now tables.new journal.new.events) }
     ensures ready { IsReady (P.state plant.new) config.now tables.new journal.new.events }
     ensures host { tables.new.host ≡ tables.old.host }
     ensures room { length journal.new.events + journal.new.spare ≡ length journal.old.events + journal.old.spare }
@@ -339,6 +349,7 @@ fn take_turns<P: Plant>(
 ) -> Result<(), Refusal>
     requires ready { IsReady (P.state plant.old) config.now tables.old journal.old.events }
     requires sound { Sound (here (P.state plant.old) config.now tables.old journal.old.events) }
+    requires counted { FlightCounted (here (P.state plant.old) config.now tables.old journal.old.events) }
     requires few { length config.now.volumes ≤ 64 }
     requires room { most_events ≤ length journal.old.events + journal.old.spare }
     requires spare { 1 ≤ journal.old.spare }
@@ -410,6 +421,7 @@ fn form_groups<P: Plant>(
 ) -> Result<(), Refusal>
     requires ready { IsReady (P.state plant.old) config.now tables.old journal.old.events }
     requires sound { Sound (here (P.state plant.old) config.now tables.old journal.old.events) }
+    requires counted { FlightCounted (here (P.state plant.old) config.now tables.old journal.old.events) }
     requires few { length config.now.volumes ≤ 64 }
     requires room { most_events ≤ length journal.old.events + journal.old.spare }
     requires spare { 1 ≤ journal.old.spare }
@@ -452,6 +464,7 @@ pub fn carry_run<P: Plant>(
 ) -> Result<(), AllocError>
     requires ready { IsReady (P.state plant.old) config.now tables.old journal.old.events }
     requires sound { Sound (here (P.state plant.old) config.now tables.old journal.old.events) }
+    requires counted { FlightCounted (here (P.state plant.old) config.now tables.old journal.old.events) }
     requires few { length config.now.volumes ≤ 64 }
     requires below { length journal.old.events < most_events }
     ensures task { OnOk result (after_task (here (P.state plant.old) config.now tables.old journal.old.events) (record { line = number; asked = Ok (step.Run s.0 groups); listed = [] })

@@ -2,9 +2,11 @@
 
 ghost use Rattle.std.specs.Prelude.{◌≡◌, ℕ, ◌<◌, ◌≤◌, true, false, length};
 ghost use Rattle.dr_ids.specs.declared.refusal.Refusal.{Refusal};
+ghost use Rattle.dr_ctl.specs.Kept.{flight_in};
 ghost use Rattle.dr_model.specs.Laws.{Sound};
 ghost use Rattle.dr_model.specs.Limits.{step_events};
 ghost use Rattle.dr_model.specs.declared.step.Step.{Step};
+ghost use Rattle.dr_steps.specs.Counts.{HasCounts};
 ghost use Rattle.dr_steps.specs.Faults.{CountsStop};
 ghost use Rattle.dr_steps.specs.Forms.{is_plain, is_relation, is_session, is_recovery};
 ghost use Rattle.dr_steps.specs.Here.{here, said_of, OnAnswer, OnNoMemory, StepLeads, IsReady};
@@ -16,6 +18,7 @@ use crate::background::{copy, destage_volume};
 use crate::exchanges::exchange;
 use crate::flash::{make_flash, remove_flash, resync_flash, reverse_flash, unfreeze_flash};
 use crate::members::{add_member, remove_member};
+use crate::messages::lose;
 use crate::pairs::{drain, make_pair, pause_pair, remove_pair, resume_pair};
 use crate::recovering::{commit_flash, recover_session, revert_flash};
 use crate::returning::carry_return;
@@ -262,7 +265,7 @@ fn carry_recovery<P: Plant>(
     }
 }
 
-/// Carries out a step on a session, its members or its master. Where there is no memory nothing has changed.
+/// Carries out a step on a session, its members, its master or its messages. Where there is no memory nothing has changed.
 pub fn carry_session<P: Plant>(
     plant: &mut P,
     config: &Config,
@@ -272,6 +275,7 @@ pub fn carry_session<P: Plant>(
 ) -> Result<Addition, Fault>
     requires ready { IsReady (P.state plant.old) config.now tables.old journal.old.events }
     requires sound { Sound (here (P.state plant.old) config.now tables.old journal.old.events) }
+    requires counts { HasCounts (flight_in tables.old.flight) }
     requires fits { IsWellFormed step.now }
     requires few { length config.now.volumes ≤ 64 }
     requires room { step_events ≤ journal.old.spare }
@@ -403,6 +407,7 @@ pub fn carry_session<P: Plant>(
             &server,
             reply,
         )),
+        Step::Lose { message } => refused(lose(plant, config, tables, journal, message)),
         _ => refused(carry_recovery(plant, config, tables, journal, step)),
     }
 }

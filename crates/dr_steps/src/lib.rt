@@ -8,7 +8,7 @@
 //! `define_volume`, `set_link`, `issue`, `write`, `apply`, `show`, `stop`, `arm`, `start`, `make_flash`,
 //! `remove_flash`, `resync_flash`, `reverse_flash`, `unfreeze_flash`, `copy`, `destage_volume`, `make_path`, `remove_path`, `make_pair`, `remove_pair`,
 //! `pause_pair`, `resume_pair`, `fail_over`, `fail_back`, `compare`, `drain`, `expire`, `freeze`, `thaw`, `make_session`, `remove_session`,
-//! `make_mirror`, `pause_mirror`, `remove_mirror`, `abort_attempt`, `add_member`, `remove_member`, `exchange`,
+//! `make_mirror`, `pause_mirror`, `remove_mirror`, `abort_attempt`, `add_member`, `remove_member`, `exchange`, `lose`,
 //! `recover_session`, `commit_flash`, `revert_flash`, `list_pairs`, `list_flashes`, `list_session` and `show_mirror` are
 //! their steps, each with its answer (`step`); `show` gives the bytes that the host writes of the journal say. `fetch_tracks` and `restore_tracks` are the background copy and
 //! the restore of several tracks (`carried`), also where reads may fail.
@@ -29,6 +29,7 @@ mod listing;
 mod locate;
 mod masters;
 mod members;
+mod messages;
 mod pairs;
 mod paths;
 mod recovering;

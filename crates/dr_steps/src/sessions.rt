@@ -1,12 +1,15 @@
 //! The steps on sessions and their masters.
 
-ghost use Rattle.std.specs.Prelude.{◌≡◌, ℕ, ◌<◌, false, List, Option, Some, IfSome, IfOk, IfErr, is_some};
+ghost use Rattle.std.specs.Prelude.{◌≡◌, ℕ, ◌<◌, false, List, Option, Some, IfSome, IfOk, IfErr, is_some, option_map, if◌then◌else◌};
 ghost use Rattle.dr_ids.specs.declared.refusal.Refusal.{Refusal};
 ghost use Rattle.dr_plant.specs.State.{PlantState};
 ghost use Rattle.dr_config.specs.Table.{ConfigTable};
+ghost use Rattle.dr_ctl.specs.Kept.{flight_in};
 ghost use Rattle.dr_model.specs.declared.event.Event.{Event};
 ghost use Rattle.dr_model.specs.declared.said.Said.TheVariants.{Done, Refused};
+ghost use Rattle.dr_model.specs.Control.{Control};
 ghost use Rattle.dr_model.specs.Laws.{Sound};
+ghost use Rattle.dr_model.specs.Messages as messages;
 ghost use Rattle.dr_model.specs.Phases.{aborted_phase};
 ghost use Rattle.dr_model.specs.Runs.{after_plan, said};
 ghost use Rattle.dr_model.specs.SessionPlans as plans;
@@ -18,11 +21,14 @@ ghost use Rattle.dr_steps.specs.Here.{here, said_of, OnAnswer, OnNoMemory, IsRea
 ghost use Rattle.dr_steps.specs.Wants.{WantsRow};
 ghost use Rattle.dr_steps.specs.WellFormed.{FitsOwner};
 ghost use Rattle.dr_model.specs.declared.step.Step.{Step};
+ghost use Rattle.dr_steps.specs.Counts.{HasCounts};
 ghost use Rattle.dr_steps.specs.declared.tables.Tables.{Tables};
 
 use crate::locate::{is_named, off_refusal, unknown_lss, unknown_server, unknown_session};
+use crate::messages::raise_if;
 use crate::tables::Tables;
 use dr_config::Config;
+use dr_ctl::Flight;
 use dr_ids::{Fault, Lss, PhaseName, Refusal, ServerId, SessionId};
 use dr_model::{Addition, Devs, Journal, Name};
 use dr_plant::Plant;
@@ -39,7 +45,7 @@ fn found(
 ) -> Result<ServerId, Refusal>
     requires short { FitsOwner dev.now }
     ensures found { IfOk result (λ o. IsFound config.now tables.now dev.now l.0 s.0 o.0) }
-    ensures refused { IfErr result (λ r. (x : PlantState) (events : List Event) (line : ℕ) (why : ℕ → model.Session → Option Refusal) (f : ℕ → List model.Session → List model.Session)
+    ensures refused { IfErr result (λ r. (x : PlantState) (events : List Event) (line : ℕ) (why : ℕ → model.Session → Option Refusal) (f : ℕ → model.Session → Control → Control)
         → after_plan (here x config.now tables.now events) line (found_plan (here x config.now tables.now events).control dev.now l.0 s.0 why f) ≡ said (here x config.now tables.now events) line (Refused r)) }
     ensures calm { IfErr result (λ r. is_stop (Some r) ≡ false) }
 {
@@ -146,7 +152,7 @@ pub fn make_session<P: Plant>(
         ≡ said (here (P.state plant.now) config.now tables.new journal.now.events) line a) }
     ensures faults { OnAnswer result (λ a. CountsStop a (P.state plant.now) (P.state plant.now)) }
     ensures wanted { OnNoMemory result (WantsRow (here (P.state plant.now) config.now tables.old journal.now.events) (Step.MakeSession devs.now l.0 s.0)) }
-    ensures same { OnNoMemory result (tables.new.sessions.sessions ≡ tables.old.sessions.sessions) }
+    ensures same { OnNoMemory result (here (P.state plant.now) config.now tables.new journal.now.events ≡ here (P.state plant.now) config.now tables.old journal.now.events) }
     ensures host { tables.new.host ≡ tables.old.host }
 {
     let Some(owner) = config.lss_owner(l) else {
@@ -164,9 +170,18 @@ pub fn make_session<P: Plant>(
     }
 }
 
-/// A logical subsystem leaves a session, which is gone where it was its only one. Refused where no volume lies in it, where
-/// the session isn't defined, where its server isn't the one that is named, where it isn't one of the session's, where a
-/// member lies in it, or where it is the last one and the session has a master.
+/// The session's messages are gone where it is gone.
+fn forget_if(flight: &mut Flight, s: SessionId, gone: bool)
+    ensures { flight_in flight.new ≡ (if gone then messages.forgotten s.0 (flight_in flight.old) else flight_in flight.old) }
+{
+    if gone {
+        flight.forget(s);
+    }
+}
+
+/// A logical subsystem leaves a session, which is gone where it was its only one, and with it its messages. Refused where no
+/// volume lies in it, where the session isn't defined, where its server isn't the one that is named, where it isn't one of the
+/// session's, where a member lies in it, or where it is the last one and the session has a master.
 pub fn remove_session<P: Plant>(
     plant: &P,
     config: &Config,
@@ -188,14 +203,17 @@ pub fn remove_session<P: Plant>(
         return Err(why);
     }
     match tables.sessions.leave_lss(s, l) {
-        Ok(()) => Ok(Addition::Alone),
+        Ok(gone) => {
+            forget_if(&mut tables.flight, s, gone);
+            Ok(Addition::Alone)
+        }
         Err(why) => Err(why),
     }
 }
 
-/// The server of a logical subsystem appoints an Idle master of the session, which isn't paused. Refused where no volume lies
-/// in the subsystem, where the session isn't defined, where the server isn't the one that is named, where the subsystem isn't
-/// one of the session's, where the server is off, or where the session has a master.
+/// The server of a logical subsystem appoints an Idle master of the session, which isn't paused, and an epoch begins. Refused
+/// where no volume lies in the subsystem, where the session isn't defined, where the server isn't the one that is named, where
+/// the subsystem isn't one of the session's, where the server is off, or where the session has a master.
 pub fn make_mirror<P: Plant>(
     plant: &P,
     config: &Config,
@@ -207,6 +225,7 @@ pub fn make_mirror<P: Plant>(
 ) -> Result<Addition, Refusal>
     requires ready { IsReady (P.state plant.now) config.now tables.old journal.now.events }
     requires short { FitsOwner devs.now.dev }
+    requires counts { HasCounts (flight_in tables.old.flight) }
     ensures step { (line : ℕ) → after_plan (here (P.state plant.now) config.now tables.old journal.now.events) line
         (plans.mirror_plan (here (P.state plant.now) config.now tables.old journal.now.events).control devs.now.dev l.0 s.0)
         ≡ said (here (P.state plant.now) config.now tables.new journal.now.events) line (said_of result) }
@@ -224,7 +243,10 @@ pub fn make_mirror<P: Plant>(
         return Err(why);
     }
     match tables.sessions.make_master(s, owner) {
-        Ok(()) => Ok(Addition::Alone),
+        Ok(()) => {
+            tables.flight.raise(s);
+            Ok(Addition::Alone)
+        }
         Err(why) => Err(why),
     }
 }
@@ -302,8 +324,19 @@ pub fn remove_mirror<P: Plant>(
     }
 }
 
-/// The session's attempt is given up, and the answer says the phase that its master is in then. Refused where the session
-/// isn't defined, where it has no master, where the phase can't be aborted, or where the master's server is off.
+/// Whether the session's master is Lost.
+fn is_lost(sessions: &Sessions, s: SessionId) -> bool
+    ensures { result ≡ messages.is_lost (option_map (λ r. r.master.phase) (model.mirror_in (model.session_in sessions.now.sessions s.0))) }
+{
+    match sessions.master(s) {
+        Some(master) => matches!(master.phase(), PhaseName::Lost),
+        None => false,
+    }
+}
+
+/// The session's attempt is given up, and the answer says the phase that its master is in then: where that is Lost, an epoch
+/// begins. Refused where the session isn't defined, where it has no master, where the phase can't be aborted, or where the
+/// master's server is off.
 pub fn abort_attempt<P: Plant>(
     plant: &P,
     config: &Config,
@@ -313,6 +346,7 @@ pub fn abort_attempt<P: Plant>(
 ) -> Result<Addition, Refusal>
     requires ready { IsReady (P.state plant.now) config.now tables.old journal.now.events }
     requires sound { Sound (here (P.state plant.now) config.now tables.old journal.now.events) }
+    requires counts { HasCounts (flight_in tables.old.flight) }
     ensures step { (line : ℕ) → after_plan (here (P.state plant.now) config.now tables.old journal.now.events) line
         (plans.abort_plan (here (P.state plant.now) config.now tables.old journal.now.events).control s.0)
         ≡ said (here (P.state plant.now) config.now tables.new journal.now.events) line (said_of result) }
@@ -329,7 +363,11 @@ pub fn abort_attempt<P: Plant>(
         return Err(why);
     }
     match tables.sessions.abort(s) {
-        Ok(()) => Ok(phase_of(&tables.sessions, s)),
+        Ok(()) => {
+            let lost = is_lost(&tables.sessions, s);
+            raise_if(&mut tables.flight, s, lost);
+            Ok(phase_of(&tables.sessions, s))
+        }
         Err(why) => Err(why),
     }
 }

@@ -1,11 +1,13 @@
 //! The steps that stop a server, arm its fuse, and start it.
 
 ghost use Rattle.std.specs.Prelude.{◌≡◌, ℕ, ◌+◌, ◌≤◌, length};
+ghost use Rattle.dr_ctl.specs.Kept.{flight_in};
 ghost use Rattle.dr_model.specs.Plans.{torn_bytes, says_acked};
 ghost use Rattle.dr_model.specs.declared.said.Said.TheVariants.{Done};
 ghost use Rattle.dr_model.specs.declared.step.Step.{Step};
 ghost use Rattle.dr_volume.specs.View.{torn_seen};
 ghost use Rattle.dr_admin.specs.Answering.{write_number};
+ghost use Rattle.dr_steps.specs.Counts.{HasCounts};
 ghost use Rattle.dr_steps.specs.Faults.{CountsStop};
 ghost use Rattle.dr_steps.specs.Here.{said_of, StepLeads, here, IsReady};
 
@@ -94,7 +96,7 @@ fn added(acked: Option<WriteId>) -> Addition
 }
 
 /// Turns a server on; where it is on, nothing happens. Its volumes write their staged tracks to their places and go on,
-/// and at the end the write that had landed in a stop is acknowledged.
+/// and at the end the write that had landed in a stop is acknowledged. However that ends, the server was started once more.
 pub fn start<P: Plant>(
     plant: &mut P,
     config: &Config,
@@ -105,6 +107,7 @@ pub fn start<P: Plant>(
     requires ready { IsReady (P.state plant.old) config.now tables.old journal.old.events }
     requires short { name.now.len ≤ 24 }
     requires room { length config.now.volumes + length config.now.volumes + 3 ≤ journal.old.spare }
+    requires counts { HasCounts (flight_in tables.old.flight) }
     ensures step { (line : ℕ) → StepLeads (here (P.state plant.old) config.now tables.old journal.old.events) line (Step.Start name.now)
         (here (P.state plant.new) config.now tables.new journal.new.events) (said_of result) }
     ensures faults { CountsStop (said_of result) (P.state plant.old) (P.state plant.new) }
@@ -115,6 +118,10 @@ pub fn start<P: Plant>(
     let Some(server) = config.server_named(bytes_of(name)) else {
         return Err(unknown_server());
     };
+    if plant.is_on(server.0) {
+        return Ok(Addition::Alone);
+    }
+    tables.flight.started(server);
     match turn_on(plant, config, journal, &mut tables.host, server) {
         Ok(acked) => Ok(added(acked)),
         Err(refusal) => Err(refusal),

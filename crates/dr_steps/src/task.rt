@@ -3,13 +3,15 @@
 ghost use Rattle.std.specs.Prelude.{◌≡◌, ℕ, ◌+◌, ◌<◌, ◌≤◌, ◌^◌, true, false, [], length, Some, None, Ok, OnOk, OnErr};
 ghost use Rattle.dr_logic.specs.Counts.{Counted};
 ghost use Rattle.dr_ids.specs.declared.refusal.Refusal.{Refusal};
-ghost use Rattle.dr_model.specs.Laws.{Sound};
+ghost use Rattle.dr_ctl.specs.Kept.{flight_in};
+ghost use Rattle.dr_model.specs.Laws.{FlightCounted, Sound};
 ghost use Rattle.dr_model.specs.Limits.{most_events, step_events};
 ghost use Rattle.dr_model.specs.LineText.{IsWritten};
 ghost use Rattle.dr_model.specs.Plans.{has_room, plan_of};
 ghost use Rattle.dr_model.specs.Listed.{Lists, task_on};
 ghost use Rattle.dr_model.specs.Runs.{Devices, own_course, after_plan, after_task};
 ghost use Rattle.dr_model.specs.declared.step.Step.{Step};
+ghost use Rattle.dr_steps.specs.Counts.{HasCounts};
 ghost use Rattle.dr_steps.specs.Faults.{CountsStop, told_stop};
 ghost use Rattle.dr_steps.specs.Forms.{is_defining, is_hosted};
 ghost use Rattle.dr_steps.specs.Here.{here, OnSaid, OnNoMemory, StepLeads, IsReady};
@@ -47,6 +49,7 @@ fn carry_listing<P: Plant>(
 ) -> Result<Said, Fault>
     requires ready { IsReady (P.state plant.old) config.now tables.old journal.old.events }
     requires sound { Sound (here (P.state plant.old) config.now tables.old journal.old.events) }
+    requires counts { HasCounts (flight_in tables.old.flight) }
     requires fits { IsWellFormed step.now }
     requires few { length config.now.volumes ≤ 64 }
     requires room { step_events ≤ journal.old.spare }
@@ -115,6 +118,7 @@ fn carry_host<P: Plant>(
 ) -> Result<Said, Fault>
     requires ready { IsReady (P.state plant.old) config.now tables.old journal.old.events }
     requires sound { Sound (here (P.state plant.old) config.now tables.old journal.old.events) }
+    requires counts { HasCounts (flight_in tables.old.flight) }
     requires fits { IsWellFormed step.now }
     requires few { length config.now.volumes ≤ 64 }
     requires room { step_events ≤ journal.old.spare }
@@ -184,6 +188,7 @@ fn carry_out<P: Plant>(
 ) -> Result<Said, Fault>
     requires ready { IsReady (P.state plant.old) config.old tables.old journal.old.events }
     requires sound { Sound (here (P.state plant.old) config.old tables.old journal.old.events) }
+    requires counts { HasCounts (flight_in tables.old.flight) }
     requires fits { IsWellFormed step.now }
     requires few { length config.old.volumes ≤ 64 }
     requires room { step_events ≤ journal.old.spare }
@@ -291,6 +296,7 @@ fn carry_answered<P: Plant>(
 ) -> Result<(), AllocError>
     requires ready { IsReady (P.state plant.old) config.old tables.old journal.old.events }
     requires sound { Sound (here (P.state plant.old) config.old tables.old journal.old.events) }
+    requires counts { HasCounts (flight_in tables.old.flight) }
     requires fits { IsWellFormed step.now }
     requires few { length config.old.volumes ≤ 64 }
     requires room { step_events ≤ journal.old.spare }
@@ -332,6 +338,7 @@ fn carry_planned<P: Plant>(
 ) -> Result<(), AllocError>
     requires ready { IsReady (P.state plant.old) config.old tables.old journal.old.events }
     requires sound { Sound (here (P.state plant.old) config.old tables.old journal.old.events) }
+    requires counted { FlightCounted (here (P.state plant.old) config.old tables.old journal.old.events) }
     requires fits { IsWellFormed step.now }
     requires few { length config.old.volumes ≤ 64 }
     requires room { step_events ≤ journal.old.spare }
@@ -350,7 +357,7 @@ fn carry_planned<P: Plant>(
     let before = servers_on(plant);
     match carry_answered(plant, config, tables, journal, number, step) {
         Ok(()) => {
-            lose_masters(plant, &before, &mut tables.sessions);
+            lose_masters(plant, &before, &mut tables.sessions, &mut tables.flight);
             Ok(())
         }
         Err(AllocError) => Err(AllocError),
@@ -368,6 +375,7 @@ fn carry_alone<P: Plant>(
 ) -> Result<(), AllocError>
     requires ready { IsReady (P.state plant.old) config.old tables.old journal.old.events }
     requires sound { Sound (here (P.state plant.old) config.old tables.old journal.old.events) }
+    requires counted { FlightCounted (here (P.state plant.old) config.old tables.old journal.old.events) }
     requires written { IsWritten step.now }
     requires few { length config.old.volumes ≤ 64 }
     requires count { tables.old.host.issued + 1 < 2 ^ 32 }
@@ -401,6 +409,7 @@ pub fn carry_task<P: Plant>(
 ) -> Result<(), AllocError>
     requires ready { IsReady (P.state plant.old) config.old tables.old journal.old.events }
     requires sound { Sound (here (P.state plant.old) config.old tables.old journal.old.events) }
+    requires counted { FlightCounted (here (P.state plant.old) config.old tables.old journal.old.events) }
     requires written { IsWritten step.now }
     requires few { length config.old.volumes ≤ 64 }
     requires count { tables.old.host.issued + 1 < 2 ^ 32 }

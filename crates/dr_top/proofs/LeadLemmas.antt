@@ -12,7 +12,7 @@ use Rattle.dr_model.specs.declared.event.Event.{Event}
 use Rattle.dr_model.specs.declared.said.Said.TheVariants.{Refused}
 use Rattle.dr_model.specs.Answers.{answer}
 use Rattle.dr_model.proofs.CarryLemmas.{plan-refuses}
-use Rattle.dr_steps.proofs.LossLemmas.{masters-stay}
+use Rattle.dr_laws_sound.proofs.RefusedSteps.{lost-stays}
 use Rattle.dr_top.specs.Carried.{Reached, StepsLead, EndsBy, GoesTo}
 use Rattle.dr_top.specs.declared.carry.Bar.{Bar}
 use Rattle.dr_top.proofs.ReachLemmas.{reached-more}
@@ -119,7 +119,7 @@ module _ (number column : ℕ) (device : ℕ → Blocks) where
     done = 1;
     within = omega arith;
     led = led-more w w (record w { events = events }) [] device device number (Err column) (led-none w w device refl)
-        (ap (masters_lost w) (plan-refuses w number (Syntax column)) ∙ masters-stay w (said w number (Refused (Syntax column))) refl ∙ ap (λ es. record w { events = es }) (sym told)) refl (λ own. refl);
+        (ap (masters_lost w) (plan-refuses w number (Syntax column)) ∙ lost-stays w (said w number (Refused (Syntax column))) refl ∙ ap (λ es. record w { events = es }) (sym told)) refl (λ own. refl);
     still = λ none. refl;
     ends = refl;
   }

@@ -17,9 +17,10 @@ use Rattle.dr_model.specs.Control.{World, nothing}
 use Rattle.dr_model.specs.Lines.{task, tasks_read, tasks_of}
 use Rattle.dr_model.specs.Listed.{Lists}
 use Rattle.dr_model.specs.Runs.{Task, after_task, after_tasks}
-use Rattle.dr_model.specs.Laws.{Sound}
+use Rattle.dr_model.specs.Laws.{FlightCounted, Sound}
 use Rattle.dr_model.specs.LineText.{IsWritten}
 use Rattle.dr_model.specs.Limits.{most_events}
+use Rattle.dr_laws_sound.proofs.FlightCounts.{counted-run}
 use Rattle.dr_laws_sound.proofs.Steps.{sound-run}
 use Rattle.dr_laws_sound.proofs.Journal.{issued-task, after_task-longer}
 use Rattle.dr_laws_sound.specs.Limits.{IsWithin}
@@ -64,6 +65,9 @@ issued-more w (t ∷ ts) few = issued-more (after_task w t) ts (let one = issued
 
 pub reached-issued : (w : World) → Reached w → w.control.issued ≤ length w.events
 reached-issued w r = subst (λ (x : World). x.control.issued ≤ length x.events) r.1 (issued-more nothing r.0 (omega arith))
+
+pub reached-counted : (w : World) → Reached w → FlightCounted w
+reached-counted w r = subst FlightCounted r.1 (counted-run r.0)
 
 pub reached-room : (w : World) (t : Task) → Reached w → Lists w t → length w.events < most_events → length (after_task w t).events ≤ most_events
 reached-room w t r lists below = journal-fits w t lists (reached-sound w r) (subst (λ (x : World). IsWithin x.control) r.1 (within-run r.0)) below

@@ -1,5 +1,5 @@
 -- How a run begins and ends.
-use Rattle.std.proofs.Common.{ℕ, ◌≡◌, ◌<◌, ◌≤◌, ◌+◌, List, [], length, refl, ap, sym, subst, inr, ◌∙◌, arith, Bool, true, false, not, cond, nat_lt, Option, Some, None}
+use Rattle.std.proofs.Common.{ℕ, ◌≡◌, ◌<◌, ◌≤◌, List, [], map, length, refl, ap, sym, subst, inr, ◌∙◌, arith, Bool, true, false, not, cond, nat_lt, Option, Some, None}
 use Rattle.std.specs.Prelude.{slice_get}
 use Rattle.std.specs.Option.{option_map}
 use Rattle.std.proofs.lemmas.Bool.Decides.{nat_tests}
@@ -16,6 +16,9 @@ use Rattle.dr_config.proofs.LinkLaws.{none-down}
 use Rattle.dr_config.proofs.Devices.{stands-empty}
 use Rattle.dr_config.proofs.Lookups.{entry-listed, place-of-entry}
 use Rattle.dr_model.specs.declared.event.Event.{Event}
+use Rattle.dr_ctl.specs.Kept.{flight_in}
+use Rattle.dr_host.specs.Seen.{pending_seen}
+use Rattle.dr_model.specs.Messages.{no_flight}
 use Rattle.dr_model.specs.Control.{Fuse, Volume, World, nothing, is_volume}
 use Rattle.dr_model.specs.Fits.{Fits, SaysVolume, device_of, on_device}
 use Rattle.dr_model.specs.Runs.{Task, run}
@@ -76,7 +79,11 @@ module _ (s : PlantState) (fresh : IsFresh s) where
   empty_table = record { names = []; volumes = []; down = none_down; paths = [] }
 
   abbrev pub idle : Tables
-  idle = record { host = record { issued = 0; pending = [] }; sessions = record { sessions = []; room = true } }
+  idle = record {
+    host = record { issued = 0; pending = [] };
+    sessions = record { sessions = []; room = true };
+    flight = record { messages = []; made = 0; starts = []; epochs = []; fences = []; room = true };
+  }
 
   on-fresh : (k : ℕ) (b : Bool) → nat_lt k 8 ≡ b → cond b (s.on k) true ≡ true
   on-fresh k true h = fresh.all_on k (grind (arith, nat_tests, h))
@@ -86,8 +93,18 @@ module _ (s : PlantState) (fresh : IsFresh s) where
   fuse-fresh k true h = ap fuse_seen (fresh.no_write_fuse k (grind (arith, nat_tests, h)))
   fuse-fresh k false h = refl
 
-  pub begins : here s empty_table idle [] ≡ nothing
-  begins i = record nothing { control = record nothing.control { on = λ k. on-fresh k (nat_lt k 8) refl i; fuse = λ k. fuse-fresh k (nat_lt k 8) refl i; link = λ x y. ap not (none-down x y) i } }
+  pub begins : (h : Tables) → h.host ≡ idle.host → h.sessions ≡ idle.sessions → flight_in h.flight ≡ no_flight → here s empty_table h [] ≡ nothing
+  begins h host sessions flight i = record nothing {
+    control = record nothing.control {
+      on = λ k. on-fresh k (nat_lt k 8) refl i;
+      fuse = λ k. fuse-fresh k (nat_lt k 8) refl i;
+      link = λ x y. ap not (none-down x y) i;
+      issued = (host i).issued;
+      pending = map pending_seen (host i).pending;
+      sessions = (sessions i).sessions;
+      flight = flight i;
+    };
+  }
 
   pub ready-fresh : IsReady s empty_table idle []
   ready-fresh = record {
@@ -223,7 +240,7 @@ module _ {S K : Type 0} (left : S → Option (List ℕ)) (written : K → Option
 -- before the first step
 pub stands-unbegun : (s : PlantState) (fresh : IsFresh s) → Stands [] (here s (empty_table s fresh) (idle s fresh) []) [] s s
 stands-unbegun s fresh =
-    stands-here s s (empty_table s fresh) (idle s fresh) [] sound-empty (ready-fresh s fresh) (omega arith) refl [] (tasks-none nothing ∙ sym (begins s fresh)) tt (λ before t is. absurd (none-last before t is))
+    stands-here s s (empty_table s fresh) (idle s fresh) [] sound-empty (ready-fresh s fresh) (omega arith) refl [] (tasks-none nothing ∙ sym (begins s fresh (idle s fresh) refl refl refl)) tt (λ before t is. absurd (none-last before t is))
 
 -- there was no memory to read the words
 module _ {S K : Type 0} (left : S → Option (List ℕ)) (written : K → Option (List ℕ)) (source : S) (sink : K) (read_faults : S → ℕ) (write_faults : K → ℕ) (s : PlantState) where

@@ -9,15 +9,22 @@ use Rattle.dr_config.specs.Table.{ConfigTable, place_of, link_up}
 use Rattle.dr_config.specs.declared.entries.VolumeEntry.{VolumeEntry}
 use Rattle.dr_model.specs.declared.event.Event.{Event}
 use Rattle.dr_model.specs.Sessions.{Session}
+use Rattle.dr_model.specs.Messages.{Flight}
 use Rattle.dr_model.specs.Layout.{Blocks, slot_chosen, fields, staged, physical}
 use Rattle.dr_model.specs.Control.{Control, Fuse, Pending, Volume, World, new_volume}
 
--- what a run knows beside the plant and the configuration: the writes issued and pending, the sessions, and the journal
+-- what a run knows beside the plant and the configuration: the writes issued and pending, the sessions, the messages in flight, and the
+-- journal
 pub record Rest : Type 0 where
   pub issued : ℕ
   pub pending : List Pending
   pub sessions : List Session
+  pub flight : Flight
   pub events : List Event
+
+-- the same with these messages in flight
+abbrev pub with_flight : Flight → Rest → Rest
+with_flight f r = record r { flight = f }
 
 -- what a write that is cut short leaves in its block: None for what stood there
 abbrev pub torn_seen : Torn → Option (List ℕ)
@@ -88,6 +95,7 @@ control_seen s t r = record {
   issued = r.issued;
   pending = r.pending;
   sessions = r.sessions;
+  flight = r.flight;
 }
 
 -- the world that plant, configuration and the rest of a run show

@@ -1,7 +1,7 @@
 use Rattle.std.proofs.Common.{[], None, refl, sym}
 use Rattle.dr_facts.proofs.Ends.{ends-none}
+use Rattle.dr_host.specs.Here.{here}
 use Rattle.dr_model.specs.Plans.{acknowledge_on}
-use Rattle.dr_admin.specs.Starting.{hosted}
 use Rattle.dr_admin.proofs.StartLemmas.{acked-none, acked-comes}
 use Rattle.dr_admin.proofs.starting.acknowledge.Goals as goal
 
@@ -12,6 +12,6 @@ pub returns-clause-carried : goal.returns-clause-carried
 returns-clause-carried c x r armed =
     let t = c.args.config.now in
     let s = c.args.s.0 in
-    let u = hosted x t r c.perform.new.beside c.perform.new.journal.events in
+    let u = here x t r c.perform.new.beside c.perform.new.journal.events in
     c.perform.ensures.advances x t r (acknowledge_on s) (acked-comes x t r c.args.h.now c.args.journal.now.events s c.in-Some.w.0 (sym c.in-Some.ensures.number)) armed u None []
     (ends-none armed u None u (record { world = refl; refusal = refl }))

@@ -3,6 +3,7 @@ use Rattle.std.specs.Prelude.{Ok, Err}
 use Rattle.dr_facts.proofs.Lawful.{lawful-restarted}
 use Rattle.dr_model.specs.Moves.{Restart}
 use Rattle.dr_model.specs.Refusals.{stopped}
+use Rattle.dr_model.specs.Messages.{no_flight}
 use Rattle.dr_volume.specs.View.{Rest, volume_seen}
 use Rattle.dr_moves.specs.Here.{world_seen}
 use Rattle.dr_moves.proofs.EnteredLemmas.{entered-by, calm-stop}
@@ -51,7 +52,7 @@ returns-in-Ok-clause-told g c =
     let t = c.args.config.now in
     let old = c.args.journal.now in
     let new = c.make_ready.new.journal in
-    let r : Rest = record { issued = 0; pending = []; sessions = []; events = [] } in
+    let r : Rest = record { issued = 0; pending = []; sessions = []; flight = no_flight; events = [] } in
     let events = quiet-done (world_seen s t r old.events) (world_seen u t r new.events) (Restart c.args.v.0) refl (c.in-Ok.ensures.made.turned r) in
     let left = c.in-Ok.ensures.room_left in
     (λ i. record { events = events i; spare = (let e : new.spare ≡ old.spare = omega (arith, left) in e) i })

@@ -2,6 +2,7 @@ use Rattle.std.proofs.Common.{◌∙◌, [], ap, refl, sym, nat_eq, Some}
 use Rattle.dr_ids.specs.declared.refusal.Which.TheVariants.{Size}
 use Rattle.dr_model.specs.Entries.{is_running, share_size}
 use Rattle.dr_model.specs.Refusals.{over, server_off}
+use Rattle.dr_model.specs.Messages.{no_flight}
 use Rattle.dr_moves.specs.Here.{world_seen}
 use Rattle.dr_facts.proofs.Ends.{ends-passed}
 use Rattle.dr_moves.proofs.EntryLemmas.{refuses}
@@ -32,12 +33,12 @@ returns-clause-checked g c r events armed u r' ds more =
 
 pub returns-in-Some-clause-other : goal.returns-in-Some-clause-other
 returns-in-Some-clause-other g c t is =
-    let w = world_seen (g.P.Plant.state c.args.plant.now) c.args.config.now (record { issued = 0; pending = []; sessions = []; events = [] }) [] in
-    let why = (checked-why w (is_running c.args.v.0) (server_off (w.control.volume c.args.v.0).server) c.in-Some.why (c.in-Some.ensures.checked (record { issued = 0; pending = []; sessions = []; events = [] }) [])).1 in
+    let w = world_seen (g.P.Plant.state c.args.plant.now) c.args.config.now (record { issued = 0; pending = []; sessions = []; flight = no_flight; events = [] }) [] in
+    let why = (checked-why w (is_running c.args.v.0) (server_off (w.control.volume c.args.v.0).server) c.in-Some.why (c.in-Some.ensures.checked (record { issued = 0; pending = []; sessions = []; flight = no_flight; events = [] }) [])).1 in
     absurd (let e = ap (λ x. Some x) (sym why) ∙ is in cc)
 
 pub returns-in-Some-running_refusal-clause-other : goal.returns-in-Some-running_refusal-clause-other
 returns-in-Some-running_refusal-clause-other g c t is =
-    let w = world_seen (g.P.Plant.state c.args.plant.now) c.args.config.now (record { issued = 0; pending = []; sessions = []; events = [] }) [] in
-    let why = (checked-why w (is_running c.args.u.0) (server_off (w.control.volume c.args.u.0).server) c.in-Some-running_refusal.why (c.in-Some-running_refusal.ensures.checked (record { issued = 0; pending = []; sessions = []; events = [] }) [])).1 in
+    let w = world_seen (g.P.Plant.state c.args.plant.now) c.args.config.now (record { issued = 0; pending = []; sessions = []; flight = no_flight; events = [] }) [] in
+    let why = (checked-why w (is_running c.args.u.0) (server_off (w.control.volume c.args.u.0).server) c.in-Some-running_refusal.why (c.in-Some-running_refusal.ensures.checked (record { issued = 0; pending = []; sessions = []; flight = no_flight; events = [] }) [])).1 in
     absurd (let e = ap (λ x. Some x) (sym why) ∙ is in cc)

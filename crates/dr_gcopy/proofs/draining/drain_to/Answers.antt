@@ -3,6 +3,7 @@ use Rattle.std.proofs.Math.Numerals.{suc-eq-add-one}
 use Rattle.dr_model.specs.Layout.{Fields, is_part}
 use Rattle.dr_model.specs.PairEntries.{send_entries, sends, suspend_after, tracks_to_send}
 use Rattle.dr_model.specs.Relations.{in_order}
+use Rattle.dr_model.specs.Messages.{no_flight}
 use Rattle.dr_volume.specs.View.{Rest, ids_of}
 use Rattle.dr_moves.specs.Here.{world_seen, armed_in}
 use Rattle.dr_moves.specs.Turns.{Leads}
@@ -50,7 +51,7 @@ returns-in_err-send_to-clause-fails g c =
 
 pub loop-sent-init : goal.loop-sent-init
 loop-sent-init g c =
-    let r : Rest = record { issued = 0; pending = []; sessions = []; events = [] } in
+    let r : Rest = record { issued = 0; pending = []; sessions = []; flight = no_flight; events = [] } in
     let h = c.requires.room 0 r (world_seen (g.P.Plant.state c.args.plant.now) c.args.config.now r c.args.journal.now.events) (λ armed u q ds ends. ends) in
     record {
       led = λ r armed u q ds ends. ends;
@@ -70,7 +71,7 @@ loop-sent-init g c =
 pub loop-sent-preserved : goal.loop-sent-preserved
 loop-sent-preserved g c =
     let led = λ (r : Rest). subst (λ ts. Leads (world_seen (g.P.Plant.state c.args.plant.now) c.args.config.now r c.args.journal.now.events) (sends (ids_of c.args.config.now.volumes) c.args.a.0 c.args.b.0 ts) (world_seen (g.P.Plant.state c.send_to.new.plant) c.args.config.now r c.send_to.new.journal.events)) (sym (take-next (in_order c.args.n c.args.out_of_sync.now) c.loop-sent.sent c.in-Some.t (drop 1 (in_order c.args.n c.loop-sent.left)) (c.loop-sent.invariant.left ∙ first-some (in_order c.args.n c.loop-sent.left) c.in-Some.t c.in-Some.ensures.lowest)) ∙ ap (λ k. take k (in_order c.args.n c.args.out_of_sync.now)) (suc-eq-add-one c.loop-sent.sent)) (sent-next (ids_of c.args.config.now.volumes) c.args.a.0 c.args.b.0 c.in-Some.t (take c.loop-sent.sent (in_order c.args.n c.args.out_of_sync.now)) (world_seen (g.P.Plant.state c.args.plant.now) c.args.config.now r c.args.journal.now.events) (world_seen (g.P.Plant.state c.loop-sent.plant) c.args.config.now r c.loop-sent.journal.events) (world_seen (g.P.Plant.state c.send_to.new.plant) c.args.config.now r c.send_to.new.journal.events) (c.loop-sent.invariant.led r) (c.in_ok-send_to.ensures.leads r)) in
-    let r : Rest = record { issued = 0; pending = []; sessions = []; events = [] } in
+    let r : Rest = record { issued = 0; pending = []; sessions = []; flight = no_flight; events = [] } in
     let h = c.requires.room (c.loop-sent.sent + 1) r (world_seen (g.P.Plant.state c.send_to.new.plant) c.args.config.now r c.send_to.new.journal.events) (led r) in
     let sum = c.in_ok-send_to.ensures.spare ∙ c.loop-sent.invariant.spare in
     record {

@@ -1,5 +1,6 @@
 use Rattle.std.proofs.Common.{[], Option, ap, sym, ◌∙◌}
 use Rattle.std.specs.Option.{option_or}
+use Rattle.dr_model.specs.Messages.{no_flight}
 use Rattle.dr_ids.specs.declared.refusal.Refusal.{Refusal}
 use Rattle.dr_volume.specs.View.{Rest, volume_seen}
 use Rattle.dr_moves.specs.Here.{world_seen}
@@ -19,5 +20,5 @@ returns-clause-refusal g c r events =
 
 pub returns-clause-reached : goal.returns-clause-reached
 returns-clause-reached g c =
-    let r : Rest = record { issued = 0; pending = []; sessions = []; events = [] } in
+    let r : Rest = record { issued = 0; pending = []; sessions = []; flight = no_flight; events = [] } in
     (on-none c.stranger_refusal.result _ (on-of-seen (g.P.Plant.state c.args.plant.now) (volume_seen (g.P.Plant.state c.args.plant.now) c.args.config.now c.args.b.0).server (server-low (g.P.Plant.state c.args.plant.now) c.args.config.now c.args.b.0 c.requires.stands c.requires.to) (reached-on c.args.a.0 c.args.b.0 (world_seen (g.P.Plant.state c.args.plant.now) c.args.config.now r []).control (sym (c.in_default.ensures.refusal r [])))))

@@ -8,8 +8,8 @@ use Rattle.dr_model.specs.Sessions.{Mirror, session_in, members_in, mirror_in}
 use Rattle.std.specs.Prelude.{Option}
 use Rattle.dr_moves.specs.Here.{world_seen, armed_in}
 use Rattle.dr_gmirror.specs.Orders.{with_sessions}
-use Rattle.dr_gmirror.specs.Exchange.{PlanEnds, order_in, refusal_in, exchange_answer, IsNear}
-use Rattle.dr_gmirror.proofs.ExchangeLemmas.{refused-plan, look-none, look-some, plan-none, plan-refused, plan-order, leaves-by}
+use Rattle.dr_gmirror.specs.Exchange.{PlanEnds, order_in, refusal_in, exchange_answer, exchange_rest, IsNear}
+use Rattle.dr_gmirror.proofs.ExchangeLemmas.{refused-plan, look-none, look-some, plan-none, plan-refused, plan-order, leaves-by, ok-alone}
 use Rattle.dr_gmirror.proofs.exchanging.exchange.Goals as goal
 use Rattle.dr_logic.proofs.Options.{if-some}
 
@@ -61,7 +61,7 @@ pub returns-clause-carried : goal.returns-clause-carried
 returns-clause-carried g c r =
     let s = g.P.Plant.state c.args.plant.now in
     let w = world_seen s c.args.config.now (with_sessions c.args.ss.now.sessions r) c.args.journal.now.events in
-    let u = world_seen (g.P.Plant.state c.exchange_order.new.plant) c.args.config.now (with_sessions c.exchange_order.new.ss.sessions r) c.exchange_order.new.journal.events in
+    let u = world_seen (g.P.Plant.state c.exchange_order.new.plant) c.args.config.now (exchange_rest c.exchange_order.result c.args.s.0 c.args.server.0 c.exchange_order.new.ss.sessions r) c.exchange_order.new.journal.events in
     let o = mirror_in (session_in c.args.ss.now.sessions c.args.s.0) in
     let l = look-some c.in-Some.x o c.args.server.0 c.in-Some.ensures in
     let near = if-some (IsNear (length c.args.config.now.names)) o l.0 l.1 c.requires.near in
@@ -107,3 +107,6 @@ returns-clause-leaves g c r x m sound listed here apart =
     let s = g.P.Plant.state c.args.plant.now in
     let w = world_seen s c.args.config.now (with_sessions c.args.ss.now.sessions r) c.args.journal.now.events in
     leaves-by (armed_in s) w _ c.args.s.0 c.args.server.0 c.args.reply _ x m sound listed here apart (returns-clause-carried g c r)
+
+pub returns-clause-on : goal.returns-clause-on
+returns-clause-on g c = ok-alone _ c.exchange_order.result c.exchange_order.ensures.kept.on

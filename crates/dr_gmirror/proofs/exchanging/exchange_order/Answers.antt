@@ -31,7 +31,7 @@ returns-in-Ok-clause-carried g c r =
       middle = v;
       refusal = None;
       ends = silent-ends (armed_in s) v (world_seen s t (with_sessions c.args.ss.now.sessions r) c.args.journal.now.events) None (order_entries (work_of c.args.order.kind) c.args.s.0 c.args.order.n ms) (c.in-Ok.ensures.carried r);
-      world = last-world c.args.reply u t c.carry_out.new.ss.sessions c.reply_if.new.ss.sessions r c.carry_out.new.journal.events c.args.s.0 c.args.server.0 (work_of c.args.order.kind) ms (reply_of c.in-Ok.y) c.reply_if.ensures
+      world = last-world c.args.reply u t c.carry_out.new.ss.sessions c.reply_if.new.ss.sessions r c.carry_out.new.journal.events c.args.s.0 c.args.server.0 c.args.order.kind ms (reply_of c.in-Ok.y) c.reply_if.ensures
           (c.in-Ok.ensures.reply (with_sessions c.carry_out.new.ss.sessions r) c.carry_out.new.journal.events);
       answers = refl;
     }

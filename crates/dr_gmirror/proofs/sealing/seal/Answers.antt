@@ -4,6 +4,7 @@ use Rattle.dr_model.specs.PairEntries.{refuse_if}
 use Rattle.dr_model.specs.Pairs.{records}
 use Rattle.dr_model.specs.Relations.{is_bare}
 use Rattle.dr_model.specs.SessionEntries.{void_refusal, seal_refusal, seal_on, seal_entries}
+use Rattle.dr_model.specs.Messages.{no_flight}
 use Rattle.dr_laws_cuts.proofs.SealEnds.{seal-ends}
 use Rattle.dr_volume.specs.View.{Rest, volume_seen}
 use Rattle.dr_moves.specs.Here.{world_seen, armed_in}
@@ -21,7 +22,7 @@ returns-in-Some-clause-carried g c r = returns-in-Some-clause-fails g c r []
 
 pub returns-in-Some-clause-waits : goal.returns-in-Some-clause-waits
 returns-in-Some-clause-waits g c =
-    let r : Rest = record { issued = 0; pending = []; sessions = []; events = [] } in
+    let r : Rest = record { issued = 0; pending = []; sessions = []; flight = no_flight; events = [] } in
     let f = (volume_seen (g.P.Plant.state c.args.plant.now) c.args.config.now c.args.m.now.a.0).fields in
     ((λ no. absurd cc), (λ both. absurd (let no : true ≡ false = sym both.0 ∙ unrecorded-by (records c.args.n f) c.args.n c.in-Some.why (c.in-Some.ensures.refusal r []) in cc)))
 
@@ -43,7 +44,7 @@ returns-then-not-is_drained-clause-carried g c r =
 
 pub returns-then-not-is_drained-clause-waits : goal.returns-then-not-is_drained-clause-waits
 returns-then-not-is_drained-clause-waits g c =
-    let r : Rest = record { issued = 0; pending = []; sessions = []; events = [] } in
+    let r : Rest = record { issued = 0; pending = []; sessions = []; flight = no_flight; events = [] } in
     let s = g.P.Plant.state c.args.plant.now in
     let f = (volume_seen s c.args.config.now c.args.m.now.a.0).fields in
     ((λ _. (recorded-by (records c.args.n f) c.args.n (c.in_default.ensures.refusal r []), ap (λ (f : Fields). is_bare f.out_of_sync) (sym c.peek_fields.ensures.fields) ∙ sym c.if-not-is_drained.ensures)), (λ _. refl))

@@ -12,14 +12,14 @@ overflow_add-at c = record { fits = let few = few-seats c.args.sessions.now.sess
 
 pub loop-s-smaller : goal.loop-s-smaller
 loop-s-smaller c =
-    let seat = seat-at c.args.sessions.now.sessions c.loop-s.at c.session_at.result c.in-Some.s c.session_at.ensures c.in-Some.is in
+    let seat = seat-at c.args.sessions.now.sessions c.loop-s.at c.session_at.result c.in-Some.s c.session_at.ensures.value c.in-Some.is in
     let low = seat.below in
     omega (arith, low)
 
 pub loop-s-preserved : goal.loop-s-preserved
 loop-s-preserved c =
     let ss = c.args.sessions.now.sessions in
-    let seat = seat-at ss c.loop-s.at c.session_at.result c.in-Some.s c.session_at.ensures c.in-Some.is in
+    let seat = seat-at ss c.loop-s.at c.session_at.result c.in-Some.s c.session_at.ensures.value c.in-Some.is in
     record {
       told = told-next c.args.journal.now.events _ _ _ c.loop-s.journal.events c.push.new.journal.events c.loop-s.invariant.told (c.push.ensures.told ∙ ap (λ es. c.loop-s.journal.events ++ es) (c.line_of.ensures.line seat.session (seat.found c.requires.apart) seat.number))
           (chosen-next (λ (x : Session). mirror_lines c.args.line x.number x.mirror) (has_subsystem c.args.lss.0) ss c.loop-s.at seat.session seat.there);
@@ -31,13 +31,13 @@ loop-s-preserved c =
 pub returns-clause-told : goal.returns-clause-told
 returns-clause-told c k same =
     let ss = c.args.sessions.now.sessions in
-    let all = no-seat ss c.loop-s.at c.session_at.result c.session_at.ensures c.in_default.not-Some in
+    let all = no-seat ss c.loop-s.at c.session_at.result c.session_at.ensures.value c.in_default.not-Some in
     c.loop-s.invariant.told ∙ ap (λ xs. c.args.journal.now.events ++ flat_map (λ (x : Session). mirror_lines c.args.line x.number x.mirror) (filter (has_subsystem c.args.lss.0) xs)) (take_all c.loop-s.at ss all ∙ sym same)
 
 pub push-requires : goal.push-requires
 push-requires c =
     let ss = c.args.sessions.now.sessions in
-    let seat = seat-at ss c.loop-s.at c.session_at.result c.in-Some.s c.session_at.ensures c.in-Some.is in
+    let seat = seat-at ss c.loop-s.at c.session_at.result c.in-Some.s c.session_at.ensures.value c.in-Some.is in
     let within : c.loop-s.at + 1 ≤ length ss = (let low = seat.below in omega (arith, low)) in
     let few = few-seats ss (c.loop-s.at + 1) c.requires.apart within (low-next ss c.loop-s.at seat.session seat.there c.loop-s.invariant.low (subst (λ n. n < 256) (sym seat.number) c.line_of.ensures.low)) in
     let left = c.loop-s.invariant.left in

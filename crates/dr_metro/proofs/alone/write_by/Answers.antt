@@ -5,7 +5,7 @@ use Rattle.dr_moves.specs.Checks.{is_stop}
 use Rattle.dr_moves.specs.Here.{armed_in, refusal_of}
 use Rattle.dr_moves.proofs.TurnLemmas.{err-along}
 use Rattle.dr_flash.proofs.KeepLemmas.{passes-all}
-use Rattle.dr_metro.specs.Here.{here, rest_of}
+use Rattle.dr_host.specs.Here.{here, rest_of}
 use Rattle.dr_metro.proofs.RouteLemmas.{pending-issue, some-found}
 use Rattle.dr_metro.proofs.WroteLemmas.{wrote-carried, wrote-within}
 use Rattle.dr_metro.proofs.alone.write_by.Goals as goal
@@ -36,7 +36,7 @@ returns-clause-wrote g c =
     let ev = c.args.journal.now.events in
     let new = c.land_by.new in
     wrote-carried s u t h new.host c.args.journal.now new.journal (λ k. land_on w.w.0 w.volume.0 w.track ∷ []) (λ k. land_alone (ids_of t.volumes) w.w.0 w.volume.0 w.track) (length t.volumes + 1) c.land_by.result
-    (λ xs. passes-all s t (rest_of xs h ev) ev w.volume.0 w.track (ids_of t.volumes) c.requires.alone (armed_in s) (here u t xs new.host new.journal.events) (refusal_of c.land_by.result) (land_on w.w.0 w.volume.0 w.track ∷ []) (c.land_by.ensures.wrote.carried xs))
+    (λ r. passes-all s t (rest_of r h ev) ev w.volume.0 w.track (ids_of t.volumes) c.requires.alone (armed_in s) (here u t r new.host new.journal.events) (refusal_of c.land_by.result) (land_on w.w.0 w.volume.0 w.track ∷ []) (c.land_by.ensures.wrote.carried r))
     (wrote-within s u t h new.host c.args.journal.now new.journal (λ k. land_on w.w.0 w.volume.0 w.track ∷ []) 1 (length t.volumes + 1) c.land_by.result (omega arith) c.land_by.ensures.wrote)
 
 pub returns-clause-stops : goal.returns-clause-stops

@@ -16,7 +16,7 @@ pub returns-clause-wrote : goal.returns-clause-wrote
 returns-clause-wrote g c =
     let m = LandBoth c.args.w.0 c.args.v.0 c.args.t in
     landing-wrote (g.P.Plant.state c.args.plant.now) (g.P.Plant.state c.make_by-done.new.plant) c.args.config.now c.args.h.now c.settle_write.new.h c.args.journal.now c.make_by-done.new.journal c.args.w.0 c.args.v.0 m (now m) (Some (c.args.t, c.args.bytes.now))
-    (λ ps. refl) (λ ps. refl) (λ xs. refl) c.requires.can.told c.make_by-done.result c.settle_write.ensures.writes c.settle_write.result c.settle_write.ensures.says c.make_by-done.ensures.made c.make_by-done.ensures.kept
+    (λ ps. refl) (λ ps. refl) (λ r. refl) c.requires.can.told c.make_by-done.result c.settle_write.ensures.writes c.settle_write.result c.settle_write.ensures.says c.make_by-done.ensures.made c.make_by-done.ensures.kept
 
 pub returns-clause-refused : goal.returns-clause-refused
 returns-clause-refused g c =

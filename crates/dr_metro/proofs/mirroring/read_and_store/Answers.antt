@@ -3,8 +3,7 @@ use Rattle.std.specs.Prelude.{Err}
 use Rattle.dr_plant.specs.State.{PlantState}
 use Rattle.dr_model.specs.Log.{Log}
 use Rattle.dr_model.specs.ReadStops.{Ends}
-use Rattle.dr_model.specs.Sessions.{Session}
-use Rattle.dr_volume.specs.View.{ids_of, volume_seen, track_seen}
+use Rattle.dr_volume.specs.View.{Rest, ids_of, volume_seen, track_seen}
 use Rattle.dr_moves.specs.Checks.{is_stop}
 use Rattle.dr_moves.specs.Here.{armed_in}
 use Rattle.dr_moves.proofs.ActedLemmas.{err-is}
@@ -12,11 +11,11 @@ use Rattle.dr_moves.proofs.FitLemmas.{fit-same}
 use Rattle.dr_moves.proofs.TurnLemmas.{refused-by}
 use Rattle.dr_facts.proofs.Ends.{ends-off}
 use Rattle.dr_logic.proofs.Results.{err-always}
-use Rattle.dr_metro.specs.Here.{here, rest_of}
+use Rattle.dr_host.specs.Here.{here, rest_of}
 use Rattle.dr_metro.specs.Mirroring.{CanSettle, CanStore, mirror_entries}
 use Rattle.dr_metro.specs.Writing.{Wrote}
 use Rattle.dr_metro.specs.declared.moves.Route.{Route}
-use Rattle.dr_metro.proofs.ToldLemmas.{told-through}
+use Rattle.dr_metro.proofs.ToldLemmas.{no_rest, told-through}
 use Rattle.dr_metro.proofs.RouteLemmas.{laid-bytes, some-found}
 use Rattle.dr_metro.proofs.WroteLemmas.{wrote-by, wrote-within}
 use Rattle.dr_metro.proofs.mirroring.read_and_store.Goals as goal
@@ -35,11 +34,11 @@ returns-in_err-read_told-clause-wrote g c =
     let e = c.in_err-read_told.field-0.0 in
     let r = c.in_err-read_told.ensures in
     let due = c.requires.can.due in
-    let ends : (xs : List Session) → Ends (armed_in s) (here m t xs h mid) (Some e) (here s t xs h ev) es = λ xs. ends-off (armed_in s) (here m t xs h mid) (Some e) (here s t xs h ev) es (r.gone (rest_of xs h ev)) in
+    let ends : (rest : Rest) → Ends (armed_in s) (here m t rest h mid) (Some e) (here s t rest h ev) es = λ rest. ends-off (armed_in s) (here m t rest h mid) (Some e) (here s t rest h ev) es (r.gone (rest_of rest h ev)) in
     subst (λ res. Wrote s m t h h c.args.journal.now c.read_told.new.journal (λ k. es) (n + (n + 2)) res) (sym (err-is c.from_residual.result e c.from_residual.ensures.0 c.from_residual.ensures.1))
     (wrote-within s m t h h c.args.journal.now c.read_told.new.journal (λ k. es) 1 (n + (n + 2)) (Err e) (omega arith)
     (wrote-by s m t h h c.args.journal.now c.read_told.new.journal es 1 (volume_seen s t w.volume.0).server (Err e) r.refused ends r.rest (fit-same s m t r.same due.at.fit)
-    (told-through (armed_in s) h (here s t [] h ev) (here m t [] h mid) es (Some e) (ends []) due.told) r.unarmed r.faults refl r.room r.spare))
+    (told-through (armed_in s) h (here s t no_rest h ev) (here m t no_rest h mid) es (Some e) (ends no_rest) due.told) r.unarmed r.faults refl r.room r.spare))
 
 pub returns-in_err-read_told-clause-stops : goal.returns-in_err-read_told-clause-stops
 returns-in_err-read_told-clause-stops g c = err-always c.from_residual.result (ap is_stop (refused-by c.from_residual.result c.in_err-read_told.field-0.0 c.from_residual.ensures.0 c.from_residual.ensures.1 ∙ c.in_err-read_told.ensures.refused))

@@ -33,7 +33,7 @@ returns-in_err-unsync_by-clause-wrote g c =
     let v = w.volume.0 in
     let n = length t.volumes in
     let ids = ids_of t.volumes in
-    wrote-alike s m t h h c.args.journal.now c.unsync_by.new.journal (λ k. now (Unsync v w.track) ∷ mirror_entries ids w.w.0 v w.track c.args.u.0) (λ k. land_mirrored ids w.w.0 v w.track c.args.u.0) (n + (n + 2)) c.from_residual.result (λ xs. sym (mirrored-is ids w.w.0 v w.track c.args.u.0))
+    wrote-alike s m t h h c.args.journal.now c.unsync_by.new.journal (λ k. now (Unsync v w.track) ∷ mirror_entries ids w.w.0 v w.track c.args.u.0) (λ k. land_mirrored ids w.w.0 v w.track c.args.u.0) (n + (n + 2)) c.from_residual.result (λ r. sym (mirrored-is ids w.w.0 v w.track c.args.u.0))
     (wrote-failed s m t h c.args.journal.now c.unsync_by.new.journal (now (Unsync v w.track) ∷ []) (λ q. q ≢ v) 1 0 (mirror_entries ids w.w.0 v w.track c.args.u.0) (n + (n + 2)) c.from_residual.result c.in_err-unsync_by.field-0.0 c.from_residual.ensures.0 c.from_residual.ensures.1
     (omega arith) c.requires.can.due.told c.in_err-unsync_by.ensures.ran)
 
@@ -77,6 +77,6 @@ returns-clause-wrote g c =
     let v = w.volume.0 in
     let n = length t.volumes in
     let ids = ids_of t.volumes in
-    wrote-alike s u t h c.read_and_store.new.h c.args.journal.now c.read_and_store.new.journal (λ k. now (Unsync v w.track) ∷ mirror_entries ids w.w.0 v w.track c.args.u.0) (λ k. land_mirrored ids w.w.0 v w.track c.args.u.0) (n + (n + 2)) c.read_and_store.result (λ xs. sym (mirrored-is ids w.w.0 v w.track c.args.u.0))
+    wrote-alike s u t h c.read_and_store.new.h c.args.journal.now c.read_and_store.new.journal (λ k. now (Unsync v w.track) ∷ mirror_entries ids w.w.0 v w.track c.args.u.0) (λ k. land_mirrored ids w.w.0 v w.track c.args.u.0) (n + (n + 2)) c.read_and_store.result (λ r. sym (mirrored-is ids w.w.0 v w.track c.args.u.0))
     (wrote-then s (g.P.Plant.state c.unsync_by.new.plant) t h c.args.journal.now c.unsync_by.new.journal (now (Unsync v w.track) ∷ []) (λ q. q ≢ v) 1 0 u c.read_and_store.new.h c.read_and_store.new.journal (mirror_entries ids w.w.0 v w.track c.args.u.0)
     (n + (n + 2)) (n + (n + 2)) c.read_and_store.result (omega arith) c.in_ok-unsync_by.ensures.ran c.read_and_store.ensures.wrote)

@@ -15,7 +15,8 @@ use Rattle.dr_volume.specs.View.{on_seen}
 use Rattle.dr_volume.proofs.WorldLaws.{on-seen}
 use Rattle.dr_moves.specs.Here.{armed_in, refusal_of}
 use Rattle.dr_metro.specs.declared.sync.WriteEnd.{WriteEnd}
-use Rattle.dr_metro.specs.Here.{here, rest_of, IsTold}
+use Rattle.dr_host.specs.Here.{here, rest_of}
+use Rattle.dr_metro.specs.Here.{IsTold}
 use Rattle.dr_metro.specs.Syncing.{entries_by, waits_by, end_of}
 use Rattle.dr_metro.proofs.RouteLemmas.{some-found}
 use Rattle.dr_metro.proofs.SyncLemmas.{write-off, write-passes, write-drops}
@@ -33,9 +34,9 @@ returns-then-not-is_on-clause-wrote g c =
     let v = w.volume.0 in
     let on = ap (on_seen s) (c.server_of-server.ensures.seen s) ∙ on-seen s c.server_of-server.result.0 c.server_of-server.ensures.known ∙ sym c.is_on.ensures in
     record {
-      carried = λ xs. let k = (here s t xs h ev).control in
-          subst (λ n. Ends (armed_in s) (here s t xs h ev) (Some (server_off n)) (here s t xs h ev) (landing k w.w.0 v w.track)) (c.server_of-server.ensures.seen s)
-          (write-off (armed_in s) (here s t xs h ev) w.w.0 v (land_entries k w.w.0 v w.track) (on ∙ c.if-not-is_on.true));
+      carried = λ rest. let k = (here s t rest h ev).control in
+          subst (λ n. Ends (armed_in s) (here s t rest h ev) (Some (server_off n)) (here s t rest h ev) (landing k w.w.0 v w.track)) (c.server_of-server.ensures.seen s)
+          (write-off (armed_in s) (here s t rest h ev) w.w.0 v (land_entries k w.w.0 v w.track) (on ∙ c.if-not-is_on.true));
       at = c.requires.due.at;
       told = c.requires.due.told;
       unarmed = λ q none. none;
@@ -57,10 +58,10 @@ returns-in-Err-clause-wrote g c =
     let why = c.in-Err.why in
     let gone = c.finish.ensures in
     record {
-      carried = λ xs. let k = (here s t xs h ev).control in
-          subst (λ x. Ends (armed_in s) x (Some why) (here s t xs h ev) (landing k w.w.0 v w.track))
-          (λ i. record (here s t xs h ev) { control = record k { issued = (sym (ap (λ (x : Writes). x.issued) gone) i); pending = (sym (seen-without w.w.0 h.pending) ∙ ap (λ (x : Writes). map pending_seen x.pending) (sym gone)) i } })
-          (write-drops (armed_in s) (here s t xs h ev) w.w.0 v why (land_entries k w.w.0 v w.track) (on ∙ c.if-not-is_on.false) (sym (c.in-Err.ensures.refusal (rest_of xs h ev) ev)));
+      carried = λ rest. let k = (here s t rest h ev).control in
+          subst (λ x. Ends (armed_in s) x (Some why) (here s t rest h ev) (landing k w.w.0 v w.track))
+          (λ i. record (here s t rest h ev) { control = record k { issued = (sym (ap (λ (x : Writes). x.issued) gone) i); pending = (sym (seen-without w.w.0 h.pending) ∙ ap (λ (x : Writes). map pending_seen x.pending) (sym gone)) i } })
+          (write-drops (armed_in s) (here s t rest h ev) w.w.0 v why (land_entries k w.w.0 v w.track) (on ∙ c.if-not-is_on.false) (sym (c.in-Err.ensures.refusal (rest_of rest h ev) ev)));
       at = c.requires.due.at;
       told = subst (λ (x : Writes). IsTold x ev) (sym gone) (each-without (IsWrite (histories ev).write) w.w.0 h.pending c.requires.due.told);
       unarmed = λ q none. none;
@@ -92,14 +93,14 @@ returns-in-Ok-clause-wrote g c =
     let r = refusal_of c.place_write.result in
     let on = ap (on_seen s) (c.server_of-server.ensures.seen s) ∙ on-seen s c.server_of-server.result.0 c.server_of-server.ensures.known ∙ sym c.is_on.ensures in
     wrote-carried s u t h new.h c.args.journal.now new.journal (λ k. entries_by k (plain c.args.fields.now) w.w.0 v w.track) (λ k. landing k w.w.0 v w.track) (n + (n + 3)) c.place_write.result
-    (λ xs. let k = (here s t xs h ev).control in
-    let x = here u t xs new.h new.journal.events in
-    write-passes (armed_in s) (here s t xs h ev) w.w.0 v x r (land_entries k w.w.0 v w.track) (on ∙ c.if-not-is_on.false) (sym (c.in-Ok.ensures.refusal (rest_of xs h ev) ev))
-    (subst (λ (f : Fields). Ends (armed_in s) x r (here s t xs h ev) (entries_by k f w.w.0 v w.track)) c.requires.shows.fields (c.place_write.ensures.wrote.carried xs)))
+    (λ rest. let k = (here s t rest h ev).control in
+    let x = here u t rest new.h new.journal.events in
+    write-passes (armed_in s) (here s t rest h ev) w.w.0 v x r (land_entries k w.w.0 v w.track) (on ∙ c.if-not-is_on.false) (sym (c.in-Ok.ensures.refusal (rest_of rest h ev) ev))
+    (subst (λ (f : Fields). Ends (armed_in s) x r (here s t rest h ev) (entries_by k f w.w.0 v w.track)) c.requires.shows.fields (c.place_write.ensures.wrote.carried rest)))
     c.place_write.ensures.wrote
 
 pub returns-in-Ok-clause-end : goal.returns-in-Ok-clause-end
-returns-in-Ok-clause-end g c xs =
+returns-in-Ok-clause-end g c rest =
     let w = c.args.w.now in
-    let k = (here (g.P.Plant.state c.args.plant.now) c.args.config.now xs c.args.h.now c.args.journal.now.events).control in
-    subst (λ (f : Fields). IfOk c.place_write.result (λ (e : WriteEnd). e ≡ end_of (waits_by k f w.volume.0 w.track))) c.requires.shows.fields (c.place_write.ensures.end xs)
+    let k = (here (g.P.Plant.state c.args.plant.now) c.args.config.now rest c.args.h.now c.args.journal.now.events).control in
+    subst (λ (f : Fields). IfOk c.place_write.result (λ (e : WriteEnd). e ≡ end_of (waits_by k f w.volume.0 w.track))) c.requires.shows.fields (c.place_write.ensures.end rest)

@@ -12,7 +12,7 @@ use Rattle.dr_volume.proofs.SaysLaws.{shows-says}
 use Rattle.dr_facts.proofs.Parts.{global-part, metro-part, global_metro}
 use Rattle.dr_metro.specs.declared.sync.WriteEnd.{WriteEnd}
 use Rattle.dr_metro.specs.declared.sync.WriteEnd.TheVariants.{Held}
-use Rattle.dr_metro.specs.Here.{here}
+use Rattle.dr_host.specs.Here.{here}
 use Rattle.dr_metro.specs.Syncing.{over_entries, collided_entries, parts, entries_by, waits_by, end_of}
 use Rattle.dr_metro.proofs.SyncLemmas.{held-entries, over-entries, collided-entries, alone-entries, held-waits, over-waits, here-waits, nothing-mirrored, collides-global, ok-given}
 use Rattle.dr_metro.proofs.WroteLemmas.{wrote-nothing, wrote-alike, wrote-within, landed-wrote, landed-stops, landed-ok, landed-end}
@@ -26,12 +26,12 @@ returns-then-is_held-clause-wrote g c =
     let w = c.args.w.now in
     let f = plain c.args.fields.now in
     wrote-nothing s t h c.args.journal.now (λ k. entries_by k f w.w.0 w.volume.0 w.track) (length t.volumes + (length t.volumes + 3)) Held
-    (λ xs. held-entries (here s t xs h c.args.journal.now.events).control f w.w.0 w.volume.0 w.track (sym c.is_held.ensures ∙ c.if-is_held.true)) c.requires.due.at c.requires.due.told
+    (λ r. held-entries (here s t r h c.args.journal.now.events).control f w.w.0 w.volume.0 w.track (sym c.is_held.ensures ∙ c.if-is_held.true)) c.requires.due.at c.requires.due.told
 
 pub returns-then-is_held-clause-end : goal.returns-then-is_held-clause-end
-returns-then-is_held-clause-end g c xs =
+returns-then-is_held-clause-end g c r =
     let w = c.args.w.now in
-    ap end_of (sym (held-waits (here (g.P.Plant.state c.args.plant.now) c.args.config.now xs c.args.h.now c.args.journal.now.events).control (plain c.args.fields.now) w.w.0 w.volume.0 w.track (sym c.is_held.ensures ∙ c.if-is_held.true)))
+    ap end_of (sym (held-waits (here (g.P.Plant.state c.args.plant.now) c.args.config.now r c.args.h.now c.args.journal.now.events).control (plain c.args.fields.now) w.w.0 w.volume.0 w.track (sym c.is_held.ensures ∙ c.if-is_held.true)))
 
 pub returns-then-is_held-clause-mirrors : goal.returns-then-is_held-clause-mirrors
 returns-then-is_held-clause-mirrors g c = λ metro never. absurd cc
@@ -61,13 +61,13 @@ returns-then-goes_over-clause-wrote g c =
     let f = plain c.args.fields.now in
     let n = length t.volumes in
     wrote-alike s x t h c.write_over.new.h c.args.journal.now c.write_over.new.journal (λ k. over_entries (ids_of t.volumes) (parts k w.volume.0 f.primary_partner) (is_grouped k w.volume.0 f.primary_partner) w.w.0 w.volume.0 w.track f.primary_partner) (λ k. entries_by k f w.w.0 w.volume.0 w.track) (n + (n + 3)) c.write_over.result
-    (λ xs. sym (over-entries (here s t xs h c.args.journal.now.events).control f w.w.0 w.volume.0 w.track (sym c.is_held.ensures ∙ c.if-is_held.false) (sym c.goes_over.ensures ∙ c.if-goes_over.true))) c.write_over.ensures.wrote
+    (λ r. sym (over-entries (here s t r h c.args.journal.now.events).control f w.w.0 w.volume.0 w.track (sym c.is_held.ensures ∙ c.if-is_held.false) (sym c.goes_over.ensures ∙ c.if-goes_over.true))) c.write_over.ensures.wrote
 
 pub returns-then-goes_over-clause-end : goal.returns-then-goes_over-clause-end
-returns-then-goes_over-clause-end g c xs =
+returns-then-goes_over-clause-end g c r =
     let w = c.args.w.now in
-    subst (λ b. IfOk c.write_over.result (λ (e : WriteEnd). e ≡ end_of b)) (sym (over-waits (here (g.P.Plant.state c.args.plant.now) c.args.config.now xs c.args.h.now c.args.journal.now.events).control (plain c.args.fields.now) w.w.0 w.volume.0 w.track (sym c.is_held.ensures ∙ c.if-is_held.false) (sym c.goes_over.ensures ∙ c.if-goes_over.true)))
-    (c.write_over.ensures.end xs)
+    subst (λ b. IfOk c.write_over.result (λ (e : WriteEnd). e ≡ end_of b)) (sym (over-waits (here (g.P.Plant.state c.args.plant.now) c.args.config.now r c.args.h.now c.args.journal.now.events).control (plain c.args.fields.now) w.w.0 w.volume.0 w.track (sym c.is_held.ensures ∙ c.if-is_held.false) (sym c.goes_over.ensures ∙ c.if-goes_over.true)))
+    (c.write_over.ensures.end r)
 
 pub returns-then-goes_over-clause-mirrors : goal.returns-then-goes_over-clause-mirrors
 returns-then-goes_over-clause-mirrors g c = λ metro. ok-given c.write_over.result c.write_over.ensures.mirrors (λ is e landed. is)
@@ -99,12 +99,12 @@ returns-then-collides-clause-wrote g c =
     let new = c.write_collided.new in
     landed-wrote c.write_collided.result c.landed.result c.landed.ensures s x t h new.h c.args.journal.now new.journal (λ k. entries_by k f w.w.0 w.volume.0 w.track) (n + (n + 3))
     (wrote-alike s x t h new.h c.args.journal.now new.journal (λ k. collided_entries (ids_of t.volumes) w.w.0 w.volume.0 w.track f.primary_partner) (λ k. entries_by k f w.w.0 w.volume.0 w.track) (n + (n + 3)) c.write_collided.result
-    (λ xs. sym (collided-entries (here s t xs h c.args.journal.now.events).control f w.w.0 w.volume.0 w.track (sym c.is_held.ensures ∙ c.if-is_held.false) (sym c.goes_over.ensures ∙ c.if-goes_over.false) (sym c.collides.ensures ∙ c.if-collides.true))) c.write_collided.ensures.wrote)
+    (λ r. sym (collided-entries (here s t r h c.args.journal.now.events).control f w.w.0 w.volume.0 w.track (sym c.is_held.ensures ∙ c.if-is_held.false) (sym c.goes_over.ensures ∙ c.if-goes_over.false) (sym c.collides.ensures ∙ c.if-collides.true))) c.write_collided.ensures.wrote)
 
 pub returns-then-collides-clause-end : goal.returns-then-collides-clause-end
-returns-then-collides-clause-end g c xs =
+returns-then-collides-clause-end g c r =
     let w = c.args.w.now in
-    let k = (here (g.P.Plant.state c.args.plant.now) c.args.config.now xs c.args.h.now c.args.journal.now.events).control in
+    let k = (here (g.P.Plant.state c.args.plant.now) c.args.config.now r c.args.h.now c.args.journal.now.events).control in
     landed-end c.write_collided.result c.landed.result c.landed.ensures (waits_by k (plain c.args.fields.now) w.volume.0 w.track) (here-waits k (plain c.args.fields.now) w.w.0 w.volume.0 w.track (sym c.is_held.ensures ∙ c.if-is_held.false) (sym c.goes_over.ensures ∙ c.if-goes_over.false))
 
 pub returns-then-collides-clause-mirrors : goal.returns-then-collides-clause-mirrors
@@ -129,12 +129,12 @@ returns-clause-wrote g c =
     landed-wrote c.write_here.result c.landed-2.result c.landed-2.ensures s x t h new.h c.args.journal.now new.journal (λ k. entries_by k f w.w.0 w.volume.0 w.track) (n + (n + 3))
     (wrote-within s x t h new.h c.args.journal.now new.journal (λ k. entries_by k f w.w.0 w.volume.0 w.track) (n + 1) (n + (n + 3)) c.write_here.result (omega arith)
     (wrote-alike s x t h new.h c.args.journal.now new.journal (λ k. land_alone (ids_of t.volumes) w.w.0 w.volume.0 w.track) (λ k. entries_by k f w.w.0 w.volume.0 w.track) (n + 1) c.write_here.result
-    (λ xs. sym (alone-entries (here s t xs h c.args.journal.now.events).control f w.w.0 w.volume.0 w.track (sym c.is_held.ensures ∙ c.if-is_held.false) (sym c.goes_over.ensures ∙ c.if-goes_over.false) (sym c.collides.ensures ∙ c.if-collides.false))) c.write_here.ensures.wrote))
+    (λ r. sym (alone-entries (here s t r h c.args.journal.now.events).control f w.w.0 w.volume.0 w.track (sym c.is_held.ensures ∙ c.if-is_held.false) (sym c.goes_over.ensures ∙ c.if-goes_over.false) (sym c.collides.ensures ∙ c.if-collides.false))) c.write_here.ensures.wrote))
 
 pub returns-clause-end : goal.returns-clause-end
-returns-clause-end g c xs =
+returns-clause-end g c r =
     let w = c.args.w.now in
-    let k = (here (g.P.Plant.state c.args.plant.now) c.args.config.now xs c.args.h.now c.args.journal.now.events).control in
+    let k = (here (g.P.Plant.state c.args.plant.now) c.args.config.now r c.args.h.now c.args.journal.now.events).control in
     landed-end c.write_here.result c.landed-2.result c.landed-2.ensures (waits_by k (plain c.args.fields.now) w.volume.0 w.track) (here-waits k (plain c.args.fields.now) w.w.0 w.volume.0 w.track (sym c.is_held.ensures ∙ c.if-is_held.false) (sym c.goes_over.ensures ∙ c.if-goes_over.false))
 
 pub returns-clause-mirrors : goal.returns-clause-mirrors

@@ -6,7 +6,7 @@ use Rattle.dr_volume.specs.View.{ids_of}
 use Rattle.dr_volume.proofs.SaysLaws.{shows-says}
 use Rattle.dr_moves.proofs.TurnLemmas.{ok-along}
 use Rattle.dr_metro.specs.declared.sync.WriteEnd.{WriteEnd}
-use Rattle.dr_metro.specs.Here.{here, rest_of}
+use Rattle.dr_host.specs.Here.{here, rest_of}
 use Rattle.dr_metro.specs.Syncing.{parted_entries, over_entries, end_of, parts}
 use Rattle.dr_metro.proofs.SyncLemmas.{not-sent, is-sent}
 use Rattle.dr_metro.proofs.WroteLemmas.{wrote-within, wrote-alike, landed-wrote, landed-stops, landed-ok, landed-end}
@@ -26,21 +26,21 @@ returns-then-not-can_send-clause-wrote g c =
     let ids = ids_of t.volumes in
     let new = c.write_parted.new in
     wrote-alike s x t h new.h c.args.journal.now new.journal (λ k. parted_entries ids c.is_grouped-busy.result w.w.0 v w.track) (λ k. over_entries ids (parts k v u) (is_grouped k v u) w.w.0 v w.track u) (n + (n + 3)) c.write_parted.result
-    (λ xs. let k = (here s t xs h ev).control in
+    (λ r. let k = (here s t r h ev).control in
     ap (λ b. parted_entries ids b w.w.0 v w.track) c.is_grouped-busy.ensures
-    ∙ ap (λ b. over_entries ids b (is_grouped k v u) w.w.0 v w.track u) (sym (not-sent c.can_send.result (parts k v u) (c.can_send.ensures.sends (rest_of xs h ev) ev) c.if-not-can_send.true)))
+    ∙ ap (λ b. over_entries ids b (is_grouped k v u) w.w.0 v w.track u) (sym (not-sent c.can_send.result (parts k v u) (c.can_send.ensures.sends (rest_of r h ev) ev) c.if-not-can_send.true)))
     (wrote-within s x t h new.h c.args.journal.now new.journal (λ k. parted_entries ids c.is_grouped-busy.result w.w.0 v w.track) (n + 3) (n + (n + 3)) c.write_parted.result (omega arith) c.write_parted.ensures.wrote)
 
 pub returns-then-not-can_send-clause-end : goal.returns-then-not-can_send-clause-end
-returns-then-not-can_send-clause-end g c xs =
+returns-then-not-can_send-clause-end g c r =
     let s = g.P.Plant.state c.args.plant.now in
     let t = c.args.config.now in
     let h = c.args.h.now in
     let ev = c.args.journal.now.events in
     let v = c.args.w.now.volume.0 in
     let u = c.args.u.0 in
-    let k = (here s t xs h ev).control in
-    subst (λ b. IfOk c.write_parted.result (λ (e : WriteEnd). e ≡ end_of (b && is_grouped k v u))) (sym (not-sent c.can_send.result (parts k v u) (c.can_send.ensures.sends (rest_of xs h ev) ev) c.if-not-can_send.true))
+    let k = (here s t r h ev).control in
+    subst (λ b. IfOk c.write_parted.result (λ (e : WriteEnd). e ≡ end_of (b && is_grouped k v u))) (sym (not-sent c.can_send.result (parts k v u) (c.can_send.ensures.sends (rest_of r h ev) ev) c.if-not-can_send.true))
     (subst (λ b. IfOk c.write_parted.result (λ (e : WriteEnd). e ≡ end_of b)) c.is_grouped-busy.ensures c.write_parted.ensures.end)
 
 pub returns-then-not-can_send-clause-mirrors : goal.returns-then-not-can_send-clause-mirrors
@@ -75,16 +75,16 @@ returns-clause-wrote g c =
     let new = c.write_both_by.new in
     landed-wrote c.write_both_by.result c.landed.result c.landed.ensures s x t h new.h c.args.journal.now new.journal (λ k. over_entries ids (parts k v u) (is_grouped k v u) w.w.0 v w.track u) (n + (n + 3))
     (wrote-alike s x t h new.h c.args.journal.now new.journal (λ k. land_mirrored ids w.w.0 v w.track u) (λ k. over_entries ids (parts k v u) (is_grouped k v u) w.w.0 v w.track u) (n + (n + 3)) c.write_both_by.result
-    (λ xs. let k = (here s t xs h ev).control in ap (λ b. over_entries ids b (is_grouped k v u) w.w.0 v w.track u) (sym (is-sent c.can_send.result (parts k v u) (c.can_send.ensures.sends (rest_of xs h ev) ev) c.if-not-can_send.false)))
+    (λ r. let k = (here s t r h ev).control in ap (λ b. over_entries ids b (is_grouped k v u) w.w.0 v w.track u) (sym (is-sent c.can_send.result (parts k v u) (c.can_send.ensures.sends (rest_of r h ev) ev) c.if-not-can_send.false)))
     (wrote-within s x t h new.h c.args.journal.now new.journal (λ k. land_mirrored ids w.w.0 v w.track u) (n + (n + 2)) (n + (n + 3)) c.write_both_by.result (omega arith) c.write_both_by.ensures.wrote))
 
 pub returns-clause-end : goal.returns-clause-end
-returns-clause-end g c xs =
-    let k = (here (g.P.Plant.state c.args.plant.now) c.args.config.now xs c.args.h.now c.args.journal.now.events).control in
+returns-clause-end g c r =
+    let k = (here (g.P.Plant.state c.args.plant.now) c.args.config.now r c.args.h.now c.args.journal.now.events).control in
     let v = c.args.w.now.volume.0 in
     let u = c.args.u.0 in
     landed-end c.write_both_by.result c.landed.result c.landed.ensures (parts k v u && is_grouped k v u)
-    (ap (λ b. b && is_grouped k v u) (is-sent c.can_send.result (parts k v u) (c.can_send.ensures.sends (rest_of xs c.args.h.now c.args.journal.now.events) c.args.journal.now.events) c.if-not-can_send.false))
+    (ap (λ b. b && is_grouped k v u) (is-sent c.can_send.result (parts k v u) (c.can_send.ensures.sends (rest_of r c.args.h.now c.args.journal.now.events) c.args.journal.now.events) c.if-not-can_send.false))
 
 pub returns-clause-mirrors : goal.returns-clause-mirrors
 returns-clause-mirrors g c = landed-ok c.write_both_by.result c.landed.result c.landed.ensures _ (ok-along c.write_both_by.result c.write_both_by.ensures.equal (λ is in_sync active. is))

@@ -51,7 +51,7 @@ returns-then-busy-clause-wrote g c =
     let alone = land_alone (ids_of t.volumes) w.w.0 v w.track in
     let ran = ran-made s m t j l (Suspend v c.args.busy) (now (Suspend v c.args.busy)) (λ q. q ≢ v) 3 2 (Ok tt) (λ r. refl) x.advances tt (stays-by s m t j l (λ q. q ≢ v) 3 2 (volume_seen s t v).server (Ok tt) tt h.rest h.fit h.unarmed x.faults h.others x.on h.room x.room_left h.spare) in
     wrote-then s m t c.args.h.now j l (now (Suspend v c.args.busy) ∷ []) (λ q. q ≢ v) 3 2 m c.args.h.now l (cond c.args.busy [] alone) 0 (n + 3) (Ok Held) (omega arith) ran
-    (wrote-nothing m t c.args.h.now l (λ k. cond c.args.busy [] alone) 0 Held (λ xs. ap (λ b. cond b [] alone) c.if-busy.true) ran.stays.at (ran-told s m t c.args.h.now j l (now (Suspend v c.args.busy) ∷ []) (λ q. q ≢ v) 3 2 (Ok tt) ran c.requires.due.told))
+    (wrote-nothing m t c.args.h.now l (λ k. cond c.args.busy [] alone) 0 Held (λ rest. ap (λ b. cond b [] alone) c.if-busy.true) ran.stays.at (ran-told s m t c.args.h.now j l (now (Suspend v c.args.busy) ∷ []) (λ q. q ≢ v) 3 2 (Ok tt) ran c.requires.due.told))
 
 pub returns-then-busy-clause-end : goal.returns-then-busy-clause-end
 returns-then-busy-clause-end g c = ap end_of (sym c.if-busy.true)
@@ -95,7 +95,7 @@ returns-clause-wrote g c =
     landed-wrote c.write_alone.result c.landed.result c.landed.ensures s u t c.args.h.now new.h j new.journal (λ k. parted_entries (ids_of t.volumes) c.args.busy w.w.0 v w.track) (n + 3)
     (wrote-then s m t c.args.h.now j l (now (Suspend v c.args.busy) ∷ []) (λ q. q ≢ v) 3 2 u new.h new.journal (cond c.args.busy [] alone) (n + 1) (n + 3) c.write_alone.result (omega arith)
     (ran-made s m t j l (Suspend v c.args.busy) (now (Suspend v c.args.busy)) (λ q. q ≢ v) 3 2 (Ok tt) (λ r. refl) x.advances tt (stays-by s m t j l (λ q. q ≢ v) 3 2 (volume_seen s t v).server (Ok tt) tt h.rest h.fit h.unarmed x.faults h.others x.on h.room x.room_left h.spare))
-    (wrote-alike m u t c.args.h.now new.h l new.journal (λ k. alone) (λ k. cond c.args.busy [] alone) (n + 1) c.write_alone.result (λ xs. sym (ap (λ b. cond b [] alone) c.if-busy.false)) c.write_alone.ensures.wrote))
+    (wrote-alike m u t c.args.h.now new.h l new.journal (λ k. alone) (λ k. cond c.args.busy [] alone) (n + 1) c.write_alone.result (λ rest. sym (ap (λ b. cond b [] alone) c.if-busy.false)) c.write_alone.ensures.wrote))
 
 pub returns-clause-end : goal.returns-clause-end
 returns-clause-end g c = landed-end c.write_alone.result c.landed.result c.landed.ensures c.args.busy c.if-busy.false

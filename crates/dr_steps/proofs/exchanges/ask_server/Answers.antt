@@ -1,10 +1,13 @@
-use Rattle.std.proofs.Common.{sym, subst, arith}
+use Rattle.std.proofs.Common.{ap, sym, subst, arith, ◌∙◌}
 use Rattle.dr_model.specs.declared.said.Said.TheVariants.{Refused}
 use Rattle.dr_model.specs.Sessions.{session_in, mirror_in, members_in}
 use Rattle.dr_model.specs.SessionPlans.{asking, says_phase}
+use Rattle.dr_model.specs.Messages.{Flight}
+use Rattle.dr_master.specs.Seen.{work_of}
+use Rattle.dr_ctl.specs.Kept.{flight_in}
 use Rattle.dr_steps.specs.Here.{here, rest_of, Carries}
 use Rattle.dr_steps.proofs.RelationLemmas.{relations-fit}
-use Rattle.dr_steps.proofs.ExchangeLemmas.{plan-exact, exchange-ready, members-ready, aside-fits, few-members, master-near, may-exchange}
+use Rattle.dr_steps.proofs.ExchangeLemmas.{heard-ends, heard-epochs, plan-exact, exchange-ready, members-ready, aside-fits, few-members, master-near, may-exchange}
 use Rattle.dr_steps.proofs.exchanges.ask_server.Goals as goal
 
 pub exchange-requires-clause-fit : goal.exchange-requires-clause-fit
@@ -35,15 +38,21 @@ exchange-requires-clause-room g c =
 pub returns-in-Ok-clause-step : goal.returns-in-Ok-clause-step
 returns-in-Ok-clause-step g c =
     let s = g.P.Plant.state c.args.plant.now in let t = c.args.config.now in let h = c.args.tables.now in let ev = c.args.journal.now.events in let n = c.args.s.0 in
-    let u = g.P.Plant.state c.exchange.new.plant in let h' = record h { sessions = c.exchange.new.ss } in let mid = c.exchange.new.journal.events in
+    let u = g.P.Plant.state c.exchange.new.plant in let h' = record h { sessions = c.exchange.new.ss; flight = c.hear.new.flight } in let mid = c.exchange.new.journal.events in
     subst (Carries (here s t h ev) (asking (here s t h ev).control n c.args.server.0 c.args.reply) (here u t h' mid)) (sym c.phase_of.ensures)
-    (plan-exact s c.requires.ready.reads (here s t h ev) (here u t h' mid) _ (says_phase n (here u t h' mid).control) (c.in-Ok.ensures.carried (rest_of h ev)))
+    (plan-exact s c.requires.ready.reads (here s t h ev) (here u t h' mid) _ (says_phase n (here u t h' mid).control)
+    (heard-ends s u t h ev mid c.exchange.new.ss c.hear.new.flight c.args.server.0 c.epoch-epoch.result (work_of c.in-Ok.kind) _ n c.epoch-epoch.ensures c.hear.ensures (c.in-Ok.ensures.carried (rest_of h ev))))
 
 pub returns-in-Ok-clause-ready : goal.returns-in-Ok-clause-ready
 returns-in-Ok-clause-ready g c =
     let s = g.P.Plant.state c.args.plant.now in let t = c.args.config.now in let h = c.args.tables.now in let ev = c.args.journal.now.events in let n = c.args.s.0 in
-    let u = g.P.Plant.state c.exchange.new.plant in let h' = record h { sessions = c.exchange.new.ss } in let mid = c.exchange.new.journal.events in
-    exchange-ready s u t h h' ev mid n c.args.server.0 c.args.reply (mirror_in (session_in h.sessions.sessions n)) (members_in (session_in h.sessions.sessions n)) (says_phase n (here u t h' mid).control) (c.in-Ok.ensures.carried (rest_of h ev)) c.in-Ok.ensures.rest c.in-Ok.ensures.unarmed c.requires.ready
+    let u = g.P.Plant.state c.exchange.new.plant in let h' = record h { sessions = c.exchange.new.ss; flight = c.hear.new.flight } in let mid = c.exchange.new.journal.events in
+    exchange-ready s u t h h' ev mid n c.args.server.0 c.args.reply (mirror_in (session_in h.sessions.sessions n)) (members_in (session_in h.sessions.sessions n)) (says_phase n (here u t h' mid).control)
+    (heard-ends s u t h ev mid c.exchange.new.ss c.hear.new.flight c.args.server.0 c.epoch-epoch.result (work_of c.in-Ok.kind) _ n c.epoch-epoch.ensures c.hear.ensures (c.in-Ok.ensures.carried (rest_of h ev))) c.in-Ok.ensures.rest c.in-Ok.ensures.unarmed c.requires.ready
+
+pub returns-in-Ok-clause-epochs : goal.returns-in-Ok-clause-epochs
+returns-in-Ok-clause-epochs g c =
+    ap (λ (f : Flight). f.epoch) c.hear.ensures ∙ heard-epochs c.args.s.0 c.args.server.0 c.epoch-epoch.result (work_of c.in-Ok.kind) (flight_in c.args.tables.now.flight)
 
 pub returns-in-Ok-clause-room : goal.returns-in-Ok-clause-room
 returns-in-Ok-clause-room g c =

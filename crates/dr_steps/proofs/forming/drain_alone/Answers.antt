@@ -6,7 +6,9 @@ use Rattle.dr_volume.specs.View.{on_seen}
 use Rattle.dr_laws_sound.proofs.Parts.{comes-drain}
 use Rattle.dr_steps.specs.Formed.{Reaches}
 use Rattle.dr_steps.specs.Here.{here}
-use Rattle.dr_steps.proofs.FormingLemmas.{part-full, part-done, part-sound, members-stay}
+use Rattle.dr_steps.proofs.CountLemmas.{before-step}
+use Rattle.dr_steps.proofs.LossLemmas.{lost-here}
+use Rattle.dr_steps.proofs.FormingLemmas.{part-full, part-done, part-sound, part-counted, members-stay}
 use Rattle.dr_steps.proofs.forming.drain_alone.Goals as goal
 
 pub returns-then-not-has_room-clause-way : goal.returns-then-not-has_room-clause-way
@@ -17,17 +19,28 @@ returns-then-not-has_room-clause-way g c =
 pub returns-clause-way : goal.returns-clause-way
 returns-clause-way g c =
     let s = g.P.Plant.state c.args.plant.now in let t = c.args.config.now in let h = c.args.tables.now in let ev = c.args.journal.now.events in
-    let u = g.P.Plant.state c.drain_by-carried.new.plant in let h' = h in let mid = c.drain_by-carried.new.journal.events in let h'' = record h' { sessions = c.lose_masters.new.sessions } in
+    let u = g.P.Plant.state c.drain_by-carried.new.plant in let h' = h in let mid = c.drain_by-carried.new.journal.events in let h'' = record h' { sessions = c.lose_masters.new.sessions; flight = c.lose_masters.new.flight } in
     subst (λ r. Reaches (part (here s t h ev) (drain_plan (here s t h ev).control c.args.a.0 None)) (here u t h'' mid) r) (sym c.unsaid.ensures)
-    (part-done s u t h h' ev mid _ _ (sym c.if-not-has_room.ensures) c.drain_by-carried.ensures.step h'' (λ i. record h' { sessions = c.lose_masters.ensures s c.servers_on-before.ensures i }))
+    (part-done s u t h h' ev mid _ _ (sym c.if-not-has_room.ensures) c.drain_by-carried.ensures.step h'' (lost-here s u t h' mid c.lose_masters.new.sessions c.lose_masters.new.flight (c.lose_masters.ensures.sessions s c.servers_on-before.ensures) (c.lose_masters.ensures.flight s c.servers_on-before.ensures)))
 
 pub returns-clause-sound : goal.returns-clause-sound
 returns-clause-sound g c =
     let s = g.P.Plant.state c.args.plant.now in let t = c.args.config.now in let h = c.args.tables.now in let ev = c.args.journal.now.events in
-    let u = g.P.Plant.state c.drain_by-carried.new.plant in let h' = h in let mid = c.drain_by-carried.new.journal.events in let h'' = record h' { sessions = c.lose_masters.new.sessions } in
-    part-sound s u t h h' ev mid _ _ (sym c.if-not-has_room.ensures) c.drain_by-carried.ensures.step h'' (λ i. record h' { sessions = c.lose_masters.ensures s c.servers_on-before.ensures i }) (comes-drain (here s t h ev) c.args.a.0 (sym c.if-not-has_room.ensures)) c.requires.sound
+    let u = g.P.Plant.state c.drain_by-carried.new.plant in let h' = h in let mid = c.drain_by-carried.new.journal.events in let h'' = record h' { sessions = c.lose_masters.new.sessions; flight = c.lose_masters.new.flight } in
+    part-sound s u t h h' ev mid _ _ (sym c.if-not-has_room.ensures) c.drain_by-carried.ensures.step h'' (lost-here s u t h' mid c.lose_masters.new.sessions c.lose_masters.new.flight (c.lose_masters.ensures.sessions s c.servers_on-before.ensures) (c.lose_masters.ensures.flight s c.servers_on-before.ensures)) (comes-drain (here s t h ev) c.args.a.0 (sym c.if-not-has_room.ensures)) c.requires.sound
 
 pub returns-clause-members : goal.returns-clause-members
 returns-clause-members g c n =
     let s = g.P.Plant.state c.args.plant.now in
-    ap (λ x. members_in (session_in x n)) (ap (λ x. x.sessions) (c.lose_masters.ensures s c.servers_on-before.ensures)) ∙ members-stay (on_seen s) (on_seen (g.P.Plant.state c.drain_by-carried.new.plant)) c.args.tables.now.sessions.sessions n
+    ap (λ x. members_in (session_in x n)) (ap (λ x. x.sessions) (c.lose_masters.ensures.sessions s c.servers_on-before.ensures)) ∙ members-stay (on_seen s) (on_seen (g.P.Plant.state c.drain_by-carried.new.plant)) c.args.tables.now.sessions.sessions n
+
+pub returns-clause-counted : goal.returns-clause-counted
+returns-clause-counted g c =
+    let s = g.P.Plant.state c.args.plant.now in let t = c.args.config.now in let h = c.args.tables.now in let ev = c.args.journal.now.events in
+    let u = g.P.Plant.state c.drain_by-carried.new.plant in let h' = h in let mid = c.drain_by-carried.new.journal.events in let h'' = record h' { sessions = c.lose_masters.new.sessions; flight = c.lose_masters.new.flight } in
+    part-counted s u t h h' ev mid _ _ (sym c.if-not-has_room.ensures) c.drain_by-carried.ensures.step h'' (lost-here s u t h' mid c.lose_masters.new.sessions c.lose_masters.new.flight (c.lose_masters.ensures.sessions s c.servers_on-before.ensures) (c.lose_masters.ensures.flight s c.servers_on-before.ensures)) (comes-drain (here s t h ev) c.args.a.0 (sym c.if-not-has_room.ensures)) c.requires.counted
+
+pub lose_masters-requires : goal.lose_masters-requires
+lose_masters-requires g c =
+    let w = here (g.P.Plant.state c.args.plant.now) c.args.config.now c.args.tables.now c.args.journal.now.events in
+    record { count = (before-step w (sym c.if-not-has_room.ensures) c.requires.counted).epochs }

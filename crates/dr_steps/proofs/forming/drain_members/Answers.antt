@@ -33,6 +33,7 @@ loop-place-preserved g c =
       members = c.in_ok-drain_place.ensures.members c.args.s.0 ∙ c.loop-place.invariant.members;
       ready = c.in_ok-drain_place.ensures.ready;
       sound = c.in_ok-drain_place.ensures.sound;
+      counted = c.in_ok-drain_place.ensures.counted;
       host = c.in_ok-drain_place.ensures.host ∙ c.loop-place.invariant.host;
       room = c.in_ok-drain_place.ensures.room ∙ c.loop-place.invariant.room;
       spare = c.in_ok-drain_place.ensures.spare;

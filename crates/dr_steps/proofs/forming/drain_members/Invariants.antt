@@ -2,7 +2,7 @@ use Rattle.std.proofs.Common.{◌≡◌, ◌≤◌, ◌+◌, length, drop, Optio
 use Rattle.dr_ids.specs.declared.refusal.Refusal.{Refusal}
 use Rattle.dr_model.specs.Control.{World}
 use Rattle.dr_model.specs.Forming.{drains}
-use Rattle.dr_model.specs.Laws.{Sound}
+use Rattle.dr_model.specs.Laws.{FlightCounted, Sound}
 use Rattle.dr_model.specs.SessionEntries.{members_on}
 use Rattle.dr_model.specs.Sessions.{session_in, members_in}
 use Rattle.dr_steps.specs.Formed.{Reaches}
@@ -17,6 +17,7 @@ invariant-loop-place g l = record {
   members : members_in (session_in l.tables.sessions.sessions l.s.0) ≡ members_in (session_in l.fn.tables.sessions.sessions l.s.0);
   ready : IsReady (g.P.Plant.state l.plant) l.config l.tables l.journal.events;
   sound : Sound (here (g.P.Plant.state l.plant) l.config l.tables l.journal.events);
+  counted : FlightCounted (here (g.P.Plant.state l.plant) l.config l.tables l.journal.events);
   host : l.tables.host ≡ l.fn.tables.host;
   room : length l.journal.events + l.journal.spare ≡ length l.fn.journal.events + l.fn.journal.spare;
   spare : 1 ≤ l.journal.spare;

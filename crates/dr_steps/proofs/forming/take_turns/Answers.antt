@@ -52,6 +52,7 @@ loop-preserved g c =
           (reaches-same (turns k v n (still_left c.loop.committed (phase_in v.control n) c.loop.left) (has_committed c.loop.committed (phase_in x.control n) (phase_in v.control n))) (turns k v n c.still_left-left.result c.has_committed-committed.result) u r (λ i. turns k v n (sym left i) (sym committed i)) more));
       ready = c.in_ok-ask.ensures.ready;
       sound = c.in_ok-ask.ensures.sound;
+      counted = c.in_ok-ask.ensures.counted;
       host = c.in_ok-ask.ensures.host ∙ c.loop.invariant.host;
       room = c.in_ok-ask.ensures.room ∙ c.loop.invariant.room;
       spare = c.in_ok-ask.ensures.spare;

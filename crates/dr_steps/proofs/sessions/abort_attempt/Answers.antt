@@ -31,9 +31,12 @@ pub returns-in-Ok-clause-step : goal.returns-in-Ok-clause-step
 returns-in-Ok-clause-step g c line =
     let s = g.P.Plant.state c.args.plant.now in let t = c.args.config.now in let h = c.args.tables.now in let ev = c.args.journal.now.events in
     let at = some-session _ (is-defined _ _ c.if-not-is_defined.false c.is_defined.ensures) in
-    abort-done s t h ev line c.args.s.0 at.0 at.1 c.abort.new.self c.phase_of.result (λ i. option_or (c.in_default.ensures.refusal i) (c.in_default-master_refusal.ensures.refusal t h ev i))
-    (ap (λ x. x.sessions) c.in-Ok.ensures.aborted) c.phase_of.ensures
+    abort-done s t h ev line c.args.s.0 at.0 at.1 c.abort.new.self c.raise_if.new.flight c.is_lost-lost.result c.phase_of.result (λ i. option_or (c.in_default.ensures.refusal i) (c.in_default-master_refusal.ensures.refusal t h ev i))
+    (ap (λ x. x.sessions) c.in-Ok.ensures.aborted) c.is_lost-lost.ensures c.raise_if.ensures c.phase_of.ensures
 
 pub master_refusal-requires : goal.master_refusal-requires
 master_refusal-requires g c =
     record { known = master-low (g.P.Plant.state c.args.plant.now) c.args.config.now c.args.tables.now c.args.journal.now.events c.args.s.0 c.requires.sound }
+
+pub raise_if-requires : goal.raise_if-requires
+raise_if-requires g c = record { count = c.requires.counts.epochs c.args.s.0 }

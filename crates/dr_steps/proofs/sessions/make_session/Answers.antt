@@ -43,3 +43,8 @@ returns-in-Err-clause-wanted g c =
     on-no-memory Addition c.in-Err.fault _ (λ is.
     session-wants s t h ev c.args.devs.now c.args.l.0 c.args.s.0 c.in-Some.owner.0 c.in-Some.ensures.sound (sym c.in-Some.ensures.value) (sym (c.is_named.ensures s h ev) ∙ c.if-not-is_named.false)
     (c.in_default-off_refusal.ensures.refusal t h ev) (ap (λ f. refusal_of {T = Unit {0}} (Err f)) (sym is) ∙ c.in-Err.ensures.refused))
+
+pub returns-in-Err-clause-same : goal.returns-in-Err-clause-same
+returns-in-Err-clause-same g c =
+    let w = here (g.P.Plant.state c.args.plant.now) c.args.config.now c.args.tables.now c.args.journal.now.events in
+    on-no-memory Addition c.in-Err.fault _ (λ is i. record w { control = record w.control { sessions = c.in-Err.ensures.same i } })

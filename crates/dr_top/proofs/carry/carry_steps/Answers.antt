@@ -4,7 +4,7 @@ use Rattle.dr_model.specs.Limits.{most_events}
 use Rattle.dr_model.specs.Lines.{tasks_read}
 use Rattle.dr_model.specs.Control.{World}
 use Rattle.dr_steps.specs.Here.{here}
-use Rattle.dr_top.proofs.ReachLemmas.{reached-sound, reached-issued, reached-room, reached-few, steps-next, tasks-count, step-at, some-step, below-full, at-full}
+use Rattle.dr_top.proofs.ReachLemmas.{reached-sound, reached-counted, reached-issued, reached-room, reached-few, steps-next, tasks-count, step-at, some-step, below-full, at-full}
 use Rattle.dr_plant.specs.State.{PlantState}
 use Rattle.dr_model.specs.Listed.{task_on}
 use Rattle.dr_top.specs.Carried.{StepsLead}
@@ -28,6 +28,10 @@ unwrap-step-requires g c = some-step c.args.line.now c.loop-i.i c.step.result (l
 pub carry_task-requires-clause-sound : goal.carry_task-requires-clause-sound
 carry_task-requires-clause-sound g c =
     reached-sound _ (reached-led _ _ _ _ c.requires.reached c.loop-i.invariant.led)
+
+pub carry_task-requires-clause-counted : goal.carry_task-requires-clause-counted
+carry_task-requires-clause-counted g c =
+    reached-counted _ (reached-led _ _ _ _ c.requires.reached c.loop-i.invariant.led)
 
 pub carry_task-requires-clause-count : goal.carry_task-requires-clause-count
 carry_task-requires-clause-count g c =

@@ -7,7 +7,7 @@ use Rattle.dr_top.proofs.TriedLemmas.{told, is-tried}
 use Rattle.dr_top.proofs.tried.try_script.Goals as goal
 
 pub run_lines-requires-clause-begins : goal.run_lines-requires-clause-begins
-run_lines-requires-clause-begins g c = rw (c.new-config.ensures.empty, c.new-tables.ensures, c.requires.empty) (begins (g.P.Plant.state c.args.plant.now) c.requires.fresh)
+run_lines-requires-clause-begins g c = rw (c.new-config.ensures.empty, c.requires.empty) (begins (g.P.Plant.state c.args.plant.now) c.requires.fresh c.new-tables.result c.new-tables.ensures.host c.new-tables.ensures.sessions c.new-tables.ensures.flight)
 
 pub returns : goal.returns
 returns g c =

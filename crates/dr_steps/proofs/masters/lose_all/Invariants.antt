@@ -2,7 +2,7 @@ use Rattle.std.proofs.Common.{◌≡◌}
 use Rattle.dr_model.specs.Sessions.{lost_since}
 use Rattle.dr_volume.specs.View.{on_seen}
 use Rattle.dr_steps.proofs.LossLemmas.{among}
-use Rattle.dr_steps.proofs.masters.lose_masters.Given as goal
+use Rattle.dr_steps.proofs.masters.lose_all.Given as goal
 
 abbrev pub invariant-loop-server : goal.invariant-loop-server
 invariant-loop-server g l = record {

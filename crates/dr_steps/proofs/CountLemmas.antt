@@ -1,0 +1,40 @@
+-- What is counted of the messages in flight has room for one more, where the journal has room for a step.
+use Rattle.std.proofs.Common.{ℕ, ◌≡◌, ◌≤◌, ◌+◌, subst, arith, Bool, true, cond, length, nat_le, Ok}
+use Rattle.std.proofs.lemmas.Bool.Decides.{nat_tests}
+use Rattle.dr_ids.specs.declared.refusal.Refusal.TheVariants.{JournalFull}
+use Rattle.dr_model.specs.declared.step.Step.{Step}
+use Rattle.dr_model.specs.Control.{World}
+use Rattle.dr_model.specs.Laws.{IsCounted, FlightCounted}
+use Rattle.dr_model.specs.Limits.{most_events, step_events}
+use Rattle.dr_model.specs.Messages.{Flight}
+use Rattle.dr_model.specs.PlanParts.{refuses}
+use Rattle.dr_model.specs.Plans.{Plan, plan_of, has_room}
+use Rattle.dr_model.specs.Runs.{after_plan}
+use Rattle.dr_laws_sound.proofs.Cases.{Case, plan-case}
+use Rattle.dr_laws_sound.proofs.FlightCounts.{counted-carried}
+use Rattle.dr_laws_sound.proofs.Parts.{OnePlan}
+use Rattle.dr_steps.specs.Counts.{HasCounts}
+
+with-room : (n room most : ℕ) → nat_le (n + room) most ≡ true → n ≤ most
+with-room n room most has = grind (arith, nat_tests, has)
+
+have : (n : ℕ) (f : Flight) → n ≤ most_events + 1 → IsCounted n f → HasCounts f
+have n f few counted = record {
+  starts = λ server. let a : f.starts server ≤ n = counted.starts server in omega (arith, few, a);
+  epochs = λ s. let a : f.epoch s ≤ n = counted.epochs s in omega (arith, few, a);
+}
+
+-- before a step
+pub before-step : (w : World) → has_room w.events ≡ true → FlightCounted w → HasCounts w.control.flight
+before-step w room counted =
+    let few = with-room (length w.events) step_events most_events room in
+    have (length w.events) w.control.flight (omega (arith, few)) counted
+
+-- and behind its plan, before masters are lost
+pub behind-plan : (w u : World) (line : ℕ) (step : Step) → has_room w.events ≡ true → FlightCounted w → after_plan w line (plan_of w.control w.events line step) ≡ u → HasCounts u.control.flight
+unfolding after_plan
+behind-plan w u line step room counted is =
+    let p : Plan = plan_of w.control w.events line step in
+    let case : Case w.control w.events line p = subst (λ (b : Bool). Case w.control w.events line (cond b p (refuses JournalFull))) room (plan-case w.control w.events line (Ok step)) in
+    let few = with-room (length w.events) step_events most_events room in
+    subst (λ (v : World). HasCounts v.control.flight) is (have (length w.events + 1) (after_plan w line p).control.flight (omega (arith, few)) (counted-carried w line p (OnePlan p case) counted))
