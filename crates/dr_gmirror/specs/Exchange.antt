@@ -1,5 +1,6 @@
 -- Exchanges between a session's master and a server.
 use Rattle.std.specs.Prelude.{◌≡◌, ◌≢◌, ℕ, ◌<◌, ◌+◌, Bool, true, false, ◌&&◌, List, [], ◌∷◌, length, nat_le, Option, Some, None, option_map, Result, Ok, Err}
+use Rattle.std.specs.Option.{option_or}
 use Rattle.dr_ids.specs.declared.names.Member.{Member}
 use Rattle.dr_ids.specs.declared.refusal.PhaseName.{PhaseName}
 use Rattle.dr_ids.specs.declared.refusal.PhaseName.TheVariants as phase
@@ -17,7 +18,7 @@ use Rattle.dr_model.specs.PlanParts.{Plan}
 use Rattle.dr_model.specs.Runs.{begun, finish, answered}
 use Rattle.dr_model.specs.ReadStops.{Ends}
 use Rattle.dr_model.specs.SessionEntries.{order_entries, members_on, reply_after}
-use Rattle.dr_model.specs.SessionPlans.{exchange_refusal, order_of, says_phase}
+use Rattle.dr_model.specs.SessionPlans.{exchange_refusal, off_refusal, phase_refusal, order_of, says_phase}
 use Rattle.dr_volume.specs.View.{Rest, with_flight}
 use Rattle.dr_moves.specs.Turns.{Leads}
 use Rattle.dr_gmirror.specs.declared.looks.Look.{Look}
@@ -44,6 +45,11 @@ exchange_flight (Err why) s server f = f
 -- what else a run knows behind it, with these sessions
 abbrev pub exchange_rest : Result OrderKind Refusal → ℕ → ℕ → List Session → Rest → Rest
 exchange_rest result s server ss r = with_flight (exchange_flight result s server r.flight) (with_sessions ss r)
+
+-- why the master has no order for the server: there is no master, or its server is off, or its phase says so
+abbrev pub asking_refusal_in : Control → Option Mirror → ℕ → List Member → Option Refusal
+asking_refusal_in k None server ms = Some (OutOfOrder phase.None)
+asking_refusal_in k (Some r) server ms = option_or (off_refusal k r.server) (phase_refusal r server ms)
 
 -- why there is no exchange: there is no master, or the master and the server say so
 abbrev pub refusal_in : Control → Option Mirror → ℕ → List Member → Option Refusal

@@ -1,6 +1,6 @@
 -- How much was sent, started and begun: no count of the flight is above the number of events, between any two plans. A plan begins at most
 -- one epoch of each session, and tells its answer; where masters are lost beside it, a server's stop was told, too.
-use Rattle.std.proofs.Common.{ℕ, max, ◌≡◌, ◌≤◌, ◌<◌, ◌+◌, refl, ap, sym, ◌∙◌, subst, arith, Bool, true, false, cond, not, ◌&&◌, ◌||◌, ◌==◌, List, [], ◌∷◌, ◌++◌, length, filter, Option, Some, None, Result}
+use Rattle.std.proofs.Common.{ℕ, max, ◌≡◌, ◌≤◌, ◌<◌, ◌+◌, ◌⊎◌, inl, inr, refl, ap, sym, ◌∙◌, subst, arith, Bool, true, false, cond, not, ◌&&◌, ◌||◌, ◌==◌, List, [], ◌∷◌, ◌++◌, length, filter, Option, Some, None, Result}
 use Rattle.std.proofs.lemmas.Bool.{and_parts, not-true}
 use Rattle.std.proofs.lemmas.List.{append-nil, length-append}
 use Rattle.std.proofs.Math.Nat.{max-le}
@@ -14,7 +14,7 @@ use Rattle.dr_model.specs.declared.said.Said.{Said}
 use Rattle.dr_model.specs.Answers.{answer}
 use Rattle.dr_model.specs.Phases as phases
 use Rattle.dr_model.specs.Sessions.{Session, Mirror, is_only}
-use Rattle.dr_model.specs.Messages.{Flight, Message, is_lost, loses_master, loses_in}
+use Rattle.dr_model.specs.Messages.{Flight, Message, Body, Asks, Replies, is_lost, loses_master, loses_in}
 use Rattle.dr_model.specs.Messages as messages
 use Rattle.dr_model.specs.declared.step.Step.{Step}
 use Rattle.dr_model.specs.Groups.{In}
@@ -25,14 +25,14 @@ use Rattle.dr_model.specs.Carry.{Act, Make, OpenAttempt, Redo, Acknowledge, Drop
 use Rattle.dr_model.specs.PlanParts.{Plan, unless, tables_plan}
 use Rattle.dr_model.specs.MessagePlans.{with_flight}
 use Rattle.dr_model.specs.SessionPlans.{leaving, appointed, order_of, exchanged, exchange_refusal, exchange_done, exchange_on}
-use Rattle.dr_model.specs.SessionEntries.{members_on}
+use Rattle.dr_model.specs.SessionEntries.{members_on, reply_after}
 use Rattle.dr_model.specs.Forming.{Part, after_part}
 use Rattle.dr_model.specs.Runs.{Task, course, plans_of, masters_lost, begun, finish, carried_out, answered, said, after_plan, after_task, after_tasks, run}
 use Rattle.dr_model.specs.Laws.{IsCounted, FlightCounted}
 use Rattle.dr_logic.proofs.Truth.{false_true}
-use Rattle.dr_facts.proofs.Lists.{from-filter, once-filter}
+use Rattle.dr_facts.proofs.Lists.{in-joined, found, from-filter, once-more, once-filter}
 use Rattle.dr_facts.proofs.Tables.{at_cases, at2_cases}
-use Rattle.dr_laws_sound.proofs.Cases.{Case, Says, DefinesServer, DefinesVolume, SetsLink, Issues, Writes, Applies, Lists, Shows, Stops, Arms, Starts, MakesFlash, RemovesFlash, ResyncsFlash, ReversesFlash, Copies, Destages, MakesPath, RemovesPath, MakesPair, RemovesPair, PausesPair, ResumesPair, FailsOver, FailsBack, Compares, Drains, Expires, Freezes, Unfreezes, MakesSession, RemovesSession, MakesMirror, PausesMirror, RemovesMirror, Aborts, AddsMember, RemovesMember, Exchanges, Loses, Recovers, Settles, Releases, ordered, plan-case}
+use Rattle.dr_laws_sound.proofs.Cases.{Case, Says, DefinesServer, DefinesVolume, SetsLink, Issues, Writes, Applies, Lists, Shows, Stops, Arms, Starts, MakesFlash, RemovesFlash, ResyncsFlash, ReversesFlash, Copies, Destages, MakesPath, RemovesPath, MakesPair, RemovesPair, PausesPair, ResumesPair, FailsOver, FailsBack, Compares, Drains, Expires, Freezes, Unfreezes, MakesSession, RemovesSession, MakesMirror, PausesMirror, RemovesMirror, Aborts, AddsMember, RemovesMember, Exchanges, Sends, Delivers, TakesReply, Loses, Recovers, Settles, Releases, ordered, plan-case}
 use Rattle.dr_laws_sound.proofs.Parts.{IsTurn, Drained, Asked, Comes, Ending, OnePlan, Imaged, course-case, each-plan, last-plan}
 use Rattle.dr_laws_sound.proofs.Turns.{act-cases, Counts, after_act, server_of}
 
@@ -46,13 +46,14 @@ counted-more m n f le h = record {
   fences = h.fences;
   numbers = h.numbers;
   once = h.once;
+  known = h.known;
 }
 
 counted-started : (n server : ℕ) (f : Flight) → IsCounted n f → IsCounted (n + 1) (messages.started server f)
 counted-started n server f h =
     let more : IsCounted (n + 1) f = counted-more n (n + 1) f (omega arith) h in
     let one : f.starts server + 1 ≤ n + 1 = (let a : f.starts server ≤ n = h.starts server in omega arith) in
-    record { made = more.made; starts = at_cases (λ q (c : ℕ). c ≤ n + 1) f.starts server (f.starts server + 1) one (λ q ne. more.starts q); epochs = more.epochs; fences = h.fences; numbers = h.numbers; once = h.once }
+    record { made = more.made; starts = at_cases (λ q (c : ℕ). c ≤ n + 1) f.starts server (f.starts server + 1) one (λ q ne. more.starts q); epochs = more.epochs; fences = h.fences; numbers = h.numbers; once = h.once; known = h.known }
 
 counted-raised : (n s : ℕ) (f : Flight) → IsCounted n f → IsCounted (n + 1) (messages.raised s f)
 counted-raised n s f h =
@@ -65,7 +66,13 @@ counted-raised n s f h =
       fences = λ q server. at_cases (λ q (c : ℕ). f.fence q server ≤ c) f.epoch s (f.epoch s + 1) (let a : f.fence s server ≤ f.epoch s = h.fences s server in omega arith) (λ q ne. h.fences q server) q;
       numbers = h.numbers;
       once = h.once;
+      known = λ m here.
+          let a : m.epoch ≤ f.epoch m.session = h.known m here in
+          let b : f.epoch m.session ≤ (messages.raised s f).epoch m.session = rises m.session in omega arith;
     }
+  where
+    rises : (q : ℕ) → f.epoch q ≤ (messages.raised s f).epoch q
+    rises = at_cases (λ q (c : ℕ). f.epoch q ≤ c) f.epoch s (f.epoch s + 1) (omega arith) (λ q ne. omega arith)
 
 counted-aborted : (n s : ℕ) (r : Option Mirror) (f : Flight) → IsCounted n f → IsCounted (n + 1) (messages.aborted s r f)
 counted-aborted n s None f h = counted-more n (n + 1) f (omega arith) h
@@ -84,6 +91,7 @@ counted-fewer n keeps f h = record {
   fences = h.fences;
   numbers = λ m here. h.numbers m (from-filter keeps f.messages m here).0;
   once = once-filter (λ (m : Message). m.number) keeps f.messages h.once;
+  known = λ m here. h.known m (from-filter keeps f.messages m here).0;
 }
 
 counted-left : (n s l : ℕ) (x : Session) (f : Flight) → IsCounted n f → IsCounted n (messages.left s l x f)
@@ -93,26 +101,59 @@ counted-left n s l x f h = by (is_only l x)
     by true = counted-fewer n (λ m. not (m.session == s)) f h
     by false = h
 
--- a fence rises to the session's epoch
-counted-fenced : (n s server : ℕ) (f : Flight) → IsCounted n f → IsCounted n (messages.fenced s server (f.epoch s) f)
-counted-fenced n s server f h = record {
+-- a fence rises, and not past the session's epoch
+counted-fenced : (n s server epoch : ℕ) (f : Flight) → epoch ≤ f.epoch s → IsCounted n f → IsCounted n (messages.fenced s server epoch f)
+counted-fenced n s server epoch f le h = record {
   made = h.made;
   starts = h.starts;
   epochs = h.epochs;
-  fences = at2_cases (λ q j (c : ℕ). c ≤ f.epoch q) f.fence s server (max (f.fence s server) (f.epoch s)) (max-le (h.fences s server) (omega arith)) (λ q j ne. h.fences q j);
+  fences = at2_cases (λ q j (c : ℕ). c ≤ f.epoch q) f.fence s server (max (f.fence s server) epoch) (max-le (h.fences s server) le) (λ q j ne. h.fences q j);
   numbers = h.numbers;
   once = h.once;
+  known = h.known;
 }
 
-counted-heard : (n s server : ℕ) (work : phases.Work) (f : Flight) → IsCounted n f → IsCounted n (messages.heard s server (f.epoch s) work f)
-counted-heard n s server phases.Report f h = counted-fenced n s server f h
-counted-heard n s server work f h = h
+counted-heard : (n s server epoch : ℕ) (work : phases.Work) (f : Flight) → epoch ≤ f.epoch s → IsCounted n f → IsCounted n (messages.heard s server epoch work f)
+counted-heard n s server epoch phases.Report f le h = counted-fenced n s server epoch f le h
+counted-heard n s server epoch work f le h = h
+
+heard-epoch : (s server epoch : ℕ) (work : phases.Work) (f : Flight) → (messages.heard s server epoch work f).epoch ≡ f.epoch
+heard-epoch s server epoch phases.Report f = refl
+heard-epoch s server epoch work f = refl
+
+-- a message more has the next number
+counted-made : (n s epoch server : ℕ) (o : phases.Order) (body : Body) (f : Flight) → epoch ≤ f.epoch s → IsCounted n f → IsCounted (n + 1) (messages.with_message s epoch server o body f)
+counted-made n s epoch server o body f le h = record {
+  made = let a : f.made ≤ n = h.made in omega arith;
+  starts = more.starts;
+  epochs = more.epochs;
+  fences = h.fences;
+  numbers = λ m here. by m (in-joined f.messages (new ∷ []) m here);
+  once = once-more (λ (m : Message). m.number) f.messages new h.once (λ m here is. let low : m.number ≤ f.made = (h.numbers m here).1 in let next : m.number ≡ f.made + 1 = is in absurd (omega arith));
+  known = λ m here. of m (in-joined f.messages (new ∷ []) m here);
+}
+  where
+    new : Message
+    new = record { number = f.made + 1; session = s; epoch = epoch; server = server; order = o; body = body }
+
+    more : IsCounted (n + 1) f
+    more = counted-more n (n + 1) f (omega arith) h
+
+    by : (m : Message) → In m f.messages ⊎ In m (new ∷ []) → (0 < m.number) × (m.number ≤ f.made + 1)
+    by m (inl old) = let a = h.numbers m old in let low : m.number ≤ f.made = a.1 in (a.0, omega arith)
+    by m (inr (inl is)) = let next : m.number ≡ f.made + 1 = ap (λ (m : Message). m.number) is in (omega arith, omega arith)
+    by m (inr (inr none)) = absurd none
+
+    of : (m : Message) → In m f.messages ⊎ In m (new ∷ []) → m.epoch ≤ f.epoch m.session
+    of m (inl old) = h.known m old
+    of m (inr (inl is)) = subst (λ (m : Message). m.epoch ≤ f.epoch m.session) (sym is) le
+    of m (inr (inr none)) = absurd none
 
 -- masters are lost, for each of which there is an event more
 counted-lost : (m n : ℕ) (before now : ℕ → Bool) (ss : List Session) (f : Flight) → m ≤ n → ((s : ℕ) → loses_in before now s ss ≡ true → m < n) → IsCounted m f → IsCounted n (messages.lost_since before now ss f)
 counted-lost m n before now ss f le more h =
     let up : IsCounted n f = counted-more m n f le h in
-    record { made = up.made; starts = up.starts; epochs = λ s. rises s (loses_in before now s ss) refl; fences = λ s server. stays s server (loses_in before now s ss); numbers = h.numbers; once = h.once }
+    record { made = up.made; starts = up.starts; epochs = λ s. rises s (loses_in before now s ss) refl; fences = λ s server. stays s server (loses_in before now s ss); numbers = h.numbers; once = h.once; known = λ m here. later m here (loses_in before now m.session ss) }
   where
     rises : (s : ℕ) (b : Bool) → loses_in before now s ss ≡ b → cond b (f.epoch s + 1) (f.epoch s) ≤ n
     rises s true is = let lt : m < n = more s is in let a : f.epoch s ≤ m = h.epochs s in omega arith
@@ -121,6 +162,10 @@ counted-lost m n before now ss f le more h =
     stays : (s server : ℕ) (b : Bool) → f.fence s server ≤ cond b (f.epoch s + 1) (f.epoch s)
     stays s server true = let a : f.fence s server ≤ f.epoch s = h.fences s server in omega arith
     stays s server false = h.fences s server
+
+    later : (m : Message) → In m f.messages → (b : Bool) → m.epoch ≤ cond b (f.epoch m.session + 1) (f.epoch m.session)
+    later m here true = let a : m.epoch ≤ f.epoch m.session = h.known m here in omega arith
+    later m here false = h.known m here
 
 -- ---- servers that go off are told
 
@@ -227,32 +272,36 @@ follow-flies w r follows = flies-same w
 
 -- ---- plans
 
--- a plan's tables as it ends: no count rises, and no server goes off
+-- no server goes off as a plan ends
+abbrev EndsSteady : Plan → Type 0
+EndsSteady p = (k : Control) (s : ℕ) → (p.last k).on s ≡ k.on s
+
+-- its tables as it ends: no count rises, and no server goes off
 record EndsCounted (p : Plan) : Type 0 where
   counted : (k : Control) (n : ℕ) → IsCounted n k.flight → IsCounted n (p.last k).flight
-  steady : (k : Control) (s : ℕ) → (p.last k).on s ≡ k.on s
+  steady : EndsSteady p
 
--- and as it begins: each count rises by one at most, and where a server goes off that is told
+-- From its begin to its end each count rises by one at most, and where a server goes off that is told.
 record Counting (k : Control) (p : Plan) : Type 0 where
   first : (n : ℕ) → IsCounted n k.flight → IsCounted (n + 1) (p.first k).flight
   gone : (s : ℕ) → k.on s ≡ true → (p.first k).on s ≡ false → 0 < length p.told
-  ends : EndsCounted p
+  last : (n : ℕ) (j : Control) → IsCounted n k.flight → j.flight ≡ (p.first k).flight → IsCounted (n + 1) (p.last j).flight
+  steady : EndsSteady p
 
-finish-counted : (p : Plan) → EndsCounted p → (n : ℕ) (w : World) (r : Option Refusal) → IsCounted n w.control.flight → IsCounted n (finish p w r).control.flight
-finish-counted p ends n w None h = ends.counted w.control n h
-finish-counted p ends n w (Some r) h = subst (IsCounted n) (sym (follow-flies w r p.follows).flight) h
-
-finish-tells : (p : Plan) → EndsCounted p → (w : World) (r : Option Refusal) → Tells w (finish p w r)
-finish-tells p ends w None = tells-on w _ [] (sym (append-nil w.events)) (ends.steady w.control)
-finish-tells p ends w (Some r) = (follow-flies w r p.follows).tells
+finish-tells : (p : Plan) → EndsSteady p → (w : World) (r : Option Refusal) → Tells w (finish p w r)
+finish-tells p steady w None = tells-on w _ [] (sym (append-nil w.events)) (steady w.control)
+finish-tells p steady w (Some r) = (follow-flies w r p.follows).tells
 
 -- from the tables with which it begins
-carried-counted : (w : World) (p : Plan) → EndsCounted p → (n : ℕ) → IsCounted n (p.first w.control).flight → IsCounted n (carried_out w p).0.control.flight
-carried-counted w p ends n h =
-    let o : Outcome = carry (begun w p) p.entries in finish-counted p ends n o.0 o.1 (subst (IsCounted n) (sym (carry-flies (begun w p) p.entries).flight) h)
+carried-counted : (w : World) (p : Plan) → (P : Flight → Type 0) → P (p.first w.control).flight → ((j : Control) → j.flight ≡ (p.first w.control).flight → P (p.last j).flight) → P (carried_out w p).0.control.flight
+carried-counted w p P h ends = let o : Outcome = carry (begun w p) p.entries in by o.0 o.1 (carry-flies (begun w p) p.entries).flight
+  where
+    by : (u : World) (r : Option Refusal) → u.control.flight ≡ (p.first w.control).flight → P (finish p u r).control.flight
+    by u None same = ends u.control same
+    by u (Some r) same = subst P (sym ((follow-flies u r p.follows).flight ∙ same)) h
 
-carried-tells : (w : World) (p : Plan) → EndsCounted p → Tells (begun w p) (carried_out w p).0
-carried-tells w p ends = let o : Outcome = carry (begun w p) p.entries in tells-then (begun w p) o.0 _ (carry-flies (begun w p) p.entries).tells (finish-tells p ends o.0 o.1)
+carried-tells : (w : World) (p : Plan) → EndsSteady p → Tells (begun w p) (carried_out w p).0
+carried-tells w p steady = let o : Outcome = carry (begun w p) p.entries in tells-then (begun w p) o.0 _ (carry-flies (begun w p) p.entries).tells (finish-tells p steady o.0 o.1)
 
 begun-tells : (w : World) (p : Plan) → Counting w.control p → Tells w (begun w p)
 begun-tells w p c =
@@ -261,7 +310,7 @@ begun-tells w p c =
 
 -- before its masters are lost, each count has risen by one at most
 counts-carried : (w : World) (p : Plan) → Counting w.control p → (n : ℕ) → IsCounted n w.control.flight → IsCounted (n + 1) (carried_out w p).0.control.flight
-counts-carried w p c n h = carried-counted w p c.ends (n + 1) (c.first n h)
+counts-carried w p c n h = carried-counted w p (IsCounted (n + 1)) (c.first n h) (λ j same. c.last n j h same)
 
 -- masters are lost from one world to another
 losing-counted : (m : ℕ) (w u : World) → m ≤ length u.events → ((s : ℕ) → w.control.on s ≡ true → u.control.on s ≡ false → m < length u.events) → IsCounted m u.control.flight → FlightCounted (masters_lost w u)
@@ -272,7 +321,7 @@ unfolding after_plan
 answered-counted w line p c h =
     let u : World = (carried_out w p).0 in
     let a : Said = answered p u.control (carried_out w p).1 in
-    let t : Tells w u = tells-then w (begun w p) u (begun-tells w p c) (carried-tells w p c.ends) in
+    let t : Tells w u = tells-then w (begun w p) u (begun-tells w p c) (carried-tells w p c.steady) in
     let one : length (said u line a).events ≡ length u.events + 1 = length-append u.events (answer line a ∷ []) in
     let more : length w.events ≤ length u.events = t.longer in
     losing-counted (length w.events + 1) w (said u line a) (omega arith) (λ s on off. let lt : length w.events < length u.events = t.gone s on off in omega arith) (counts-carried w p c (length w.events) h)
@@ -284,7 +333,8 @@ plain : (k : Control) (p : Plan) → (p.first k).flight ≡ k.flight → ((s : �
 plain k p flight on ends = record {
   first = λ n h. subst (IsCounted (n + 1)) (sym flight) (counted-more n (n + 1) k.flight (omega arith) h);
   gone = λ s is off. false_true (sym (on s) ∙ off) is;
-  ends = ends;
+  last = λ n j h same. ends.counted j (n + 1) (subst (IsCounted (n + 1)) (sym (same ∙ flight)) (counted-more n (n + 1) k.flight (omega arith) h));
+  steady = ends.steady;
 }
 
 -- nor as it ends
@@ -294,7 +344,7 @@ still p flight on = record { counted = λ k n h. subst (IsCounted n) (sym (fligh
 -- an order that is carried out
 exchanges-end : (s server : ℕ) (reply : Bool) (ms : List Member) (o : Option phases.Order) → EndsCounted (exchange_done s server reply ms o)
 exchanges-end s server reply ms None = still _ (λ k. refl) (λ k s. refl)
-exchanges-end s server reply ms (Some o) = record { counted = λ k n h. counted-heard n s server o.work k.flight h; steady = λ k j. by k reply j }
+exchanges-end s server reply ms (Some o) = record { counted = λ k n h. counted-heard n s server (k.flight.epoch s) o.work k.flight (omega arith) h; steady = λ k j. by k reply j }
   where
     by : (k : Control) (b : Bool) (j : ℕ) → (exchanged s server b o.work ms k).on j ≡ k.on j
     by k true j = refl
@@ -312,13 +362,22 @@ turn-ends : (k : Control) (p : Plan) → IsTurn k p → EndsCounted p
 turn-ends _ _ (Drained k a) = still _ (λ k. refl) (λ k s. refl)
 turn-ends _ _ (Asked k s server m ms) = asks-end k s server m ms
 
+-- its tables change as it begins, and not as it ends
+begins-counted : (k : Control) (p : Plan) → ((n : ℕ) → IsCounted n k.flight → IsCounted (n + 1) (p.first k).flight) → ((s : ℕ) → k.on s ≡ true → (p.first k).on s ≡ false → 0 < length p.told) → ((j : Control) → p.last j ≡ j) → Counting k p
+begins-counted k p first gone last = record {
+  first = first;
+  gone = gone;
+  last = λ n j h same. subst (IsCounted (n + 1)) (sym (ap (λ (j : Control). j.flight) (last j) ∙ same)) (first n h);
+  steady = λ j s. ap (λ (j : Control). j.on s) (last j);
+}
+
 module _ (k : Control) where
   calm : (p : Plan) → (p.first k).flight ≡ k.flight → ((s : ℕ) → (p.first k).on s ≡ k.on s) → ((j : Control) → (p.last j).flight ≡ j.flight) → ((j : Control) (s : ℕ) → (p.last j).on s ≡ j.on s) → Counting k p
   calm p flight on last last_on = plain k p flight on (still p last last_on)
 
   -- one that changes tables as it begins, and turns no server off
   tables : (first : Control → Control) (told : List Event) (says : Said) → ((n : ℕ) → IsCounted n k.flight → IsCounted (n + 1) (first k).flight) → ((s : ℕ) → (first k).on s ≡ k.on s) → Counting k (tables_plan first told says)
-  tables first told says counted on = record { first = counted; gone = λ s is off. false_true (sym (on s) ∙ off) is; ends = still _ (λ j. refl) (λ j s. refl) }
+  tables first told says counted on = begins-counted k (tables_plan first told says) counted (λ s is off. false_true (sym (on s) ∙ off) is) (λ j. refl)
 
   -- fewer messages
   fewer : (n : ℕ) (f : Flight) → IsCounted n f → IsCounted (n + 1) f
@@ -362,11 +421,26 @@ module _ (k : Control) where
   case-counts events line _ (RemovesMember i a x m found is idle on) = calm _ refl (λ s. refl) (λ j. refl) (λ j s. refl)
   case-counts events line _ (Recovers i x found on) = calm _ refl (λ s. refl) (λ j. refl) (λ j s. refl)
   case-counts events line _ (Settles i x m found here on free) = calm _ refl (λ s. refl) (λ j. refl) (λ j s. refl)
-  case-counts events line _ (Stops x on) = record { first = λ n h. fewer n k.flight h; gone = λ s is off. omega arith; ends = still _ (λ j. refl) (λ j s. refl) }
-  case-counts events line _ (Starts x off) = record { first = λ n h. counted-started n x k.flight h; gone = λ s is off. omega arith; ends = still _ (λ j. refl) (λ j s. refl) }
+  case-counts events line _ (Stops x on) = begins-counted k _ (λ n h. fewer n k.flight h) (λ s is off. omega arith) (λ j. refl)
+  case-counts events line _ (Starts x off) = begins-counted k _ (λ n h. counted-started n x k.flight h) (λ s is off. omega arith) (λ j. refl)
   case-counts events line _ (RemovesSession l i x found free) = tables (leaving i l x) [] _ (λ n h. fewer n _ (counted-left n i l x k.flight h)) (λ s. refl)
   case-counts events line _ (MakesMirror owner i x found free l owned) = tables (appointed i owner) [] _ (λ n h. counted-raised n i k.flight h) (λ s. refl)
-  case-counts events line _ (Aborts i x found free) = record { first = λ n h. counted-aborted n i x.mirror k.flight h; gone = λ s is off. false_true off is; ends = still _ (λ j. refl) (λ j s. refl) }
+  case-counts events line _ (Aborts i x found free) = begins-counted k _ (λ n h. counted-aborted n i x.mirror k.flight h) (λ s is off. false_true off is) (λ j. refl)
+  case-counts events line _ (Sends i server x r o posts) =
+      begins-counted k _ (λ n h. counted-made n i (k.flight.epoch i) server o (Asks (k.flight.starts server)) k.flight (omega arith) h) (λ s is off. false_true off is) (λ j. refl)
+  case-counts events line _ (TakesReply n m reply x r returns) = begins-counted k _ (λ n h. fewer n k.flight h) (λ s is off. false_true off is) (λ j. refl)
+  case-counts events line _ (Delivers q m starts x r reaches) = record {
+    first = λ n h. fewer n k.flight h;
+    gone = λ s is off. false_true off is;
+    last = λ n j h same.
+        let reply : phases.Reply = reply_after m.session m.order.work (members_on m.server x.members) j in
+        let known : m.epoch ≤ k.flight.epoch m.session = h.known m (found (λ (m : Message). m.number == q) k.flight.messages m reaches.arrives.there).0 in
+        let heard : Flight = messages.heard m.session m.server m.epoch m.order.work k.flight in
+        subst (λ f. IsCounted (n + 1) (messages.answered m reply (messages.heard m.session m.server m.epoch m.order.work f))) (sym same)
+        (counted-made n m.session m.epoch m.server m.order (Replies reply) heard (subst (λ (e : ℕ → ℕ). m.epoch ≤ e m.session) (sym (heard-epoch m.session m.server m.epoch m.order.work k.flight)) known)
+        (counted-heard n m.session m.server m.epoch m.order.work k.flight known h));
+    steady = λ j s. refl;
+  }
   case-counts events line _ (Loses n) = tables (with_flight (messages.lost n)) [] _ (λ m h. fewer m _ (counted-fewer m (λ (q : Message). not (q.number == n)) k.flight h)) (λ s. refl)
   case-counts events line _ (Exchanges i server reply x r o allowed) = plain k (ordered i server reply (members_on server x.members) o) refl (λ s. refl) (exchanges-end i server reply (members_on server x.members) (Some o))
 
@@ -390,13 +464,15 @@ counted-plan w line asked h = let p : Plan = plan w.control w.events line asked 
 
 -- a plan before the last one of its step begins no epoch of its own
 pub counted-turn : (w : World) (p : Plan) → Comes w p → FlightCounted w → IsCounted (length w.events) (carried_out w p).0.control.flight
-counted-turn w p comes h = carried-counted w p (turn-ends w.control p comes.turn) (length w.events) (subst (λ (k : Control). IsCounted (length w.events) k.flight) (sym (comes.first w.control)) h)
+counted-turn w p comes h =
+    let first : IsCounted (length w.events) (p.first w.control).flight = subst (λ (k : Control). IsCounted (length w.events) k.flight) (sym (comes.first w.control)) h in
+    carried-counted w p (IsCounted (length w.events)) first (λ j same. (turn-ends w.control p comes.turn).counted j (length w.events) (subst (IsCounted (length w.events)) (sym same) first))
 
 pub counted-part : (w : World) (p : Plan) → Comes w p → FlightCounted w → FlightCounted (after_part w p)
 counted-part w p comes h =
     let u : World = (carried_out w p).0 in
     let ends : EndsCounted p = turn-ends w.control p comes.turn in
-    let b : Tells (begun w p) u = carried-tells w p ends in
+    let b : Tells (begun w p) u = carried-tells w p ends.steady in
     let e : length (w.events ++ p.told) ≡ length w.events = ap (λ es. length (w.events ++ es)) comes.told ∙ ap length (append-nil w.events) in
     let more : length (w.events ++ p.told) ≤ length u.events = b.longer in
     losing-counted (length w.events) w u (omega arith)
@@ -420,7 +496,7 @@ counted-tasks w (t ∷ tasks) h = counted-tasks (after_task w t) tasks (counted-
 
 -- before the first step
 pub counted-nothing : FlightCounted nothing
-counted-nothing = record { made = omega arith; starts = λ server. omega arith; epochs = λ s. omega arith; fences = λ s server. omega arith; numbers = λ m here. absurd here; once = tt }
+counted-nothing = record { made = omega arith; starts = λ server. omega arith; epochs = λ s. omega arith; fences = λ s server. omega arith; numbers = λ m here. absurd here; once = tt; known = λ m here. absurd here }
 
 pub counted-run : (tasks : List Task) → FlightCounted (run tasks)
 counted-run tasks = counted-tasks nothing tasks counted-nothing

@@ -94,7 +94,8 @@ lone-rides = record {
   };
   unheard = λ w u more k same. subst AreLone (sym same.sessions) k;
   issues = λ w s v t offset len bytes defined low k. k;
-  regroups = λ w ss s sound turn k. are-lone _ sound.groups;
+  regroups = λ w ss f s sound turn adds k. are-lone _ sound.groups;
+  opens = λ w i n x r s sound found has idle next k. are-lone _ sound.groups;
   defines = λ w s v server tracks here undefined k. k;
 }
 
