@@ -10,7 +10,8 @@ use Rattle.dr_master.specs.Seen.{order_of as order_seen, work_of}
 use Rattle.dr_master.specs.declared.orders.OrderKind.{OrderKind}
 use Rattle.dr_model.specs.declared.said.Said.{Said}
 use Rattle.dr_model.specs.declared.said.Said.TheVariants.{Refused}
-use Rattle.dr_model.specs.Messages.{Flight, heard}
+use Rattle.dr_model.specs.Messages.{Message, Flight, heard}
+use Rattle.dr_model.specs.MessagePlans.{order_done, deliver_plan}
 use Rattle.dr_model.specs.Phases as phases
 use Rattle.dr_model.specs.Sessions.{Mirror, Session, session_in, mirror_in, members_in}
 use Rattle.dr_model.specs.Control.{Control, World}
@@ -55,6 +56,10 @@ asking_refusal_in k (Some r) server ms = option_or (off_refusal k r.server) (pha
 abbrev pub refusal_in : Control → Option Mirror → ℕ → List Member → Option Refusal
 refusal_in k None server ms = Some (OutOfOrder phase.None)
 refusal_in k (Some r) server ms = exchange_refusal k r server ms
+
+-- the message of number j is this order of session s, which its server carries out over its members as it is delivered
+abbrev pub Delivers : Control → ℕ → ℕ → ℕ → phases.Order → List Member → Type 0
+Delivers k j s server o ms = (m : Message) × (m.session ≡ s) × (m.order ≡ o) × (deliver_plan k j ≡ order_done m (members_on server ms))
 
 -- the order that is carried out
 abbrev pub order_in : Option Mirror → ℕ → Option phases.Order

@@ -18,8 +18,7 @@ ghost use Rattle.dr_model.specs.SessionPlans as plans;
 ghost use Rattle.dr_model.specs.Sessions as model;
 ghost use Rattle.dr_model.specs.Sessions.{Session};
 ghost use Rattle.dr_master.specs.Seen as master;
-ghost use Rattle.dr_master.specs.Seen.{reply_of};
-ghost use Rattle.dr_session.specs.Seen.{expects};
+ghost use Rattle.dr_master.specs.Seen.{reply_of, count_in};
 ghost use Rattle.dr_volume.specs.View.{Rest};
 ghost use Rattle.dr_moves.specs.Checks.{OnNone, is_stop};
 ghost use Rattle.dr_moves.specs.Fit.{RelationsFit};
@@ -28,7 +27,7 @@ ghost use Rattle.dr_moves.specs.Made.{IsAt, Kept};
 ghost use Rattle.dr_moves.specs.Aside.{AsideFits};
 ghost use Rattle.dr_laws_recovery.specs.TakenOver.{IsLeft};
 ghost use Rattle.dr_gmirror.specs.Orders.{with_sessions, AreReady};
-ghost use Rattle.dr_gmirror.specs.Exchange.{PlanEnds, exchange_answer, exchange_rest, asking_refusal_in, refusal_in, order_in, says_shown, can_settle, Looks, IsNear, MayExchange};
+ghost use Rattle.dr_gmirror.specs.Exchange.{PlanEnds, exchange_answer, exchange_rest, asking_refusal_in, refusal_in, order_in, says_shown, members_in_reply, is_awaited, can_settle, Looks, IsNear, MayExchange};
 
 use crate::looks::{Look, apart_refusal, has_member_on, idle_refusal, is_idle, off_refusal};
 use crate::orders::carry_out;
@@ -38,6 +37,9 @@ use dr_master::{Order, OrderKind, Reply};
 use dr_model::Journal;
 use dr_plant::Plant;
 use dr_session::Sessions;
+
+/// How many members a report has places for.
+const PLACES: u8 = 64;
 
 /// Why the server has no exchange with the master in its phase: where no attempt goes on, none begins with it; else it isn't
 /// owed an order.
@@ -167,21 +169,38 @@ fn settle_if(ss: &mut Sessions, s: SessionId, on: bool)
     }
 }
 
-/// The master learns of a reply, and goes on after the last report.
+/// The same reply, of which the count is that of the members it shows: a report has 64 places.
+fn counted(y: Reply) -> Reply
+    ensures says { reply_of result ≡ reply_of y }
+    ensures count { count_in result ≡ members_in_reply (reply_of result) }
+{
+    match y {
+        Reply::Report(shown) => {
+            let mut report = shown;
+            report.count = report.count.min(PLACES);
+            Reply::Report(report)
+        }
+        Reply::Done => Reply::Done,
+        Reply::NotYet => Reply::NotYet,
+    }
+}
+
+/// The session's master takes the reply of a server, which it awaits, and a lost one goes on after the last report. Nothing else
+/// of the sessions changes. All reports to the master speak of 64 members at most.
 pub fn take_reply(ss: &mut Sessions, s: SessionId, server: ServerId, y: Reply)
     requires server { server.0 < 8 }
-    requires expected { expects (model.mirror_in (model.session_in ss.old.sessions s.0)) server.0 y ≡ true }
+    requires awaited { is_awaited (model.mirror_in (model.session_in ss.old.sessions s.0)) server.0 (reply_of y) ≡ true }
     ensures { ss.new.sessions ≡ model.changed s.0 (model.with_master (λ m. phases.taken m server.0 (reply_of y))) ss.old.sessions }
 {
     let report = is_report(&y);
-    ss.reply(s, server, y);
+    ss.reply(s, server, counted(y));
     settle_if(ss, s, report);
 }
 
 /// The same, where it does.
 fn reply_if(ss: &mut Sessions, s: SessionId, server: ServerId, y: Reply, on: bool)
     requires server { server.0 < 8 }
-    requires expected { on ≡ true → expects (model.mirror_in (model.session_in ss.old.sessions s.0)) server.0 y ≡ true }
+    requires awaited { on ≡ true → is_awaited (model.mirror_in (model.session_in ss.old.sessions s.0)) server.0 (reply_of y) ≡ true }
     ensures { ss.new.sessions ≡ (if on then model.changed s.0 (model.with_master (λ m. phases.taken m server.0 (reply_of y))) ss.old.sessions else ss.old.sessions) }
 {
     if on {

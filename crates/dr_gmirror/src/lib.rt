@@ -10,8 +10,8 @@
 //! that a master has for a server (`order`), and `take_reply` what it makes of the reply; `decide_over` is the
 //! decision over what a session's members show; `restore_refusal` and `leaving` are what the sessions say of a restore
 //! of a member's target: why it can't be, and who leaves. `exchange` is an order behind its refusals in order, and the
-//! master takes the reply, and goes on after the last report; in a sound world it leaves the target of a member as it
-//! is whose secondary isn't its primary's, as after a takeover (`leaves`).
+//! master takes the reply, and goes on after the last report. In a sound world an exchange leaves the target of a member
+//! as it is whose secondary isn't its primary's, as after a takeover, and so does an order that is delivered (`leaves`).
 #![tactic(auto)]
 
 mod exchanging;

@@ -215,11 +215,11 @@ module _ (n : ℕ) (owed : List ℕ) (reports : List Shown) (vs : List Seen) whe
   flashes phase.Flashing e h = h.held
   flashes p e h = absurd cc
 
-  commits : (p : PhaseName) → phases.work_in p ≡ Some phases.Commit → InPhase p n owed reports vs → AllFlashed n vs × (AllAt n vs ⊎ Blocked vs)
+  pub commits : (p : PhaseName) → phases.work_in p ≡ Some phases.Commit → InPhase p n owed reports vs → AllFlashed n vs × (AllAt n vs ⊎ Blocked vs)
   commits phase.Committing e h = (h.flashed, h.way)
   commits p e h = absurd cc
 
-  reverts : (p : PhaseName) → phases.work_in p ≡ Some phases.Revert → InPhase p n owed reports vs → NoneCommitted n vs ⊎ NoneRevertible vs
+  pub reverts : (p : PhaseName) → phases.work_in p ≡ Some phases.Revert → InPhase p n owed reports vs → NoneCommitted n vs ⊎ NoneRevertible vs
   reverts phase.Reverting e h = h.way
   reverts p e h = absurd cc
 

@@ -259,7 +259,7 @@ unfolding changed
 holds = record { place = record { session = now opened; listed = inl refl; number = refl; mirror = record { server = 0; paused = false; master = phases.begun (phases.idle (0 ∷ 1 ∷ []) 0) }; has_master = refl; member = second; here = inr (inl refl); is = refl }; due = inl (record { mirror = record { server = 0; paused = false; master = phases.begun (phases.idle (0 ∷ 1 ∷ []) 0) }; has_master = refl; owed = refl; works = refl; number = refl }); last = refl; busy = λ e. cc; unfinished = λ ends. refl; to = refl }
 
 held-both : Both held
-held-both = moves opened opened-both (Hold 4 7 1 false) (holds, omega arith) holds
+held-both = moves opened opened-both (Hold 4 7 1 false) (holds, (omega arith, refl)) holds
 
 module _ (k : Control) (b : Both k) (found : session_in k.sessions 7 ≡ Some (now k)) where
   -- replies where the server has done its work, and where that asks nothing of members

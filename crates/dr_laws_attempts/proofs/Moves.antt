@@ -367,9 +367,9 @@ module _ (k : Control) (groups : Groups k) (law : Attempts k) where
   keeps flights (Hold v s n first) a = let p : IsMember k v s = a.0.place in
       tried v n true true (λ z m i here e. at-place (λ z m. m.a.0 ≡ v → MayTry k.flight z.number (phase_of z.mirror) z.last (all_seen T z.members) (seen T m) n true true) v p.session p.member p.listed p.here (inl (sym p.is))
       (λ e. record {
-        up = subst (λ u. (T u).attempt ≤ n) (sym e) (let low : (T v).attempt < n = a.1 in omega arith);
+        up = subst (λ u. (T u).attempt ≤ n) (sym e) (let low : (T v).attempt < n = a.1.0 in omega arith);
         low = let is : n ≡ p.session.last = a.0.last in omega arith;
-        begun = λ r. inr (subst (λ u. (T u).attempt < p.session.last) (sym e) (let low : (T v).attempt < n = a.1 in let is : n ≡ p.session.last = a.0.last in omega arith), hold-comes k.flight p.session p.member.server.0 (at-last p.session p.member.server.0 phases.Hold n a.0.last a.0.due));
+        begun = λ r. inr (subst (λ u. (T u).attempt < p.session.last) (sym e) (let low : (T v).attempt < n = a.1.0 in let is : n ≡ p.session.last = a.0.last in omega arith), hold-comes k.flight p.session p.member.server.0 (at-last p.session p.member.server.0 phases.Hold n a.0.last a.0.due));
         free = λ r h. absurd cc;
       }) z m i here (inl (sym e)) e)
   keeps flights (Free v) a = freed-by flights v a

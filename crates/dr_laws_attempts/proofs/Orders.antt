@@ -91,7 +91,7 @@ newer a n k h none = by (nat_lt (fields_at k a).attempt n) refl (sym (ap (λ t. 
 pub order-holds : (k : Control) (s server n : ℕ) (ms : List Member) (m : Member) → Groups k → Attempts k → Flights k → Holding k s server n ms → In m ms → m.server.0 ≡ server → (fields_at k m.a.0).primary_partner ≡ m.b.0
     → nat_lt (last_of k s) n ≡ false → stale_refusal m.a.0 n k ≡ None → records n (fields_at k m.a.0) ≡ false → InAttempt k (Hold m.a.0 s n false)
 unfolding member-of
-order-holds k s server n ms m groups law flights holding here is to not_newer passes none = (by x.mirror refl, low)
+order-holds k s server n ms m groups law flights holding here is to not_newer passes none = (by x.mirror refl, (low, refl))
   where
     x : Session
     x = holding.session
@@ -194,10 +194,11 @@ module _ (k : Control) (groups : Groups k) (law : Attempts k) (s : ℕ) (x : Ses
       by (inl is) = false_true (unflashed-plain n (sym is.1) none) flag
       by (inr other) = let apart : n ≢ x.last = other.1 in omega arith
 
-  pub order-raises : (n : ℕ) → n ≤ x.last → is_flashed n (fields_at k m.c.0) ≡ false → nat_lt (fields_at k m.c.0).floor n ≡ true → InAttempt k (RaiseFloor m.c.0 n)
-  order-raises n last none low = λ z q i there_q e.
+  pub order-raises : (n : ℕ) → n ≤ x.last → Due k.flight x m.server.0 phases.Revert n → is_flashed n (fields_at k m.c.0) ≡ false → nat_lt (fields_at k m.c.0).floor n ≡ true → InAttempt k (RaiseFloor m.c.0 n)
+  order-raises n last due none low = λ z q i there_q e.
       let up : (fields_at k m.c.0).floor < n = ltb-true (fields_at k m.c.0).floor n low in
       record {
+        due = only (λ z q. Due k.flight z q.server.0 phases.Revert n) m.c.0 (inr (inr refl)) due z q i there_q (inr (inr (sym e)));
         under = λ flag. only (λ z q. n < z.last) m.c.0 (inr (inr refl)) (raised-under n last none flag) z q i there_q (inr (inr (sym e)));
         higher = omega arith;
         low = only (λ z q. n ≤ z.last) m.c.0 (inr (inr refl)) last z q i there_q (inr (inr (sym e)));
@@ -378,7 +379,7 @@ pub order-is : (r : Mirror) (server : ℕ) (o : phases.Order) → r.master.phase
 order-is r server o ne is = let h = orders-by r.master.phase (phases.is_among server r.master.owed) r.master.number o ne is in (h.work, h.number)
 
 -- only a lost master asks for reports
-work-lost : (p : PhaseName) → phases.work_in p ≡ Some phases.Report → p ≡ phase.Lost
+pub work-lost : (p : PhaseName) → phases.work_in p ≡ Some phases.Report → p ≡ phase.Lost
 work-lost phase.Lost h = refl
 work-lost p h = absurd cc
 

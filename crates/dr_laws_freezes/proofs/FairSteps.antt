@@ -28,6 +28,7 @@ use Rattle.dr_laws_sound.proofs.FitsMessages.{orders-delivered}
 use Rattle.dr_laws_sound.proofs.FitsRecovery.{along-recover, along-settle}
 use Rattle.dr_laws_sound.proofs.FitsSessions.{Orders}
 use Rattle.dr_laws_sound.proofs.NewMessages.{adds-same}
+use Rattle.dr_laws_sound.proofs.GoesOn.{goes-same}
 use Rattle.dr_laws_sound.proofs.FitsFlash.{as_begun, sound-begun}
 use Rattle.dr_laws_sound.proofs.KeepsSound.{Along, over}
 use Rattle.dr_laws_freezes.proofs.FairSessions.{leaving, fair-sessions, fair-sent, fair-leaving, easy-add, easy-expel, easy-order, easy-recover, easy-settle}
@@ -58,7 +59,7 @@ between-nothing = record {
 
 -- a plan of entries that are allowed along
 alone : (w : World) → Sound w → (entries : List Entry) (says : Control → Said) → Along (as_begun w) entries → Orders w (leaving entries same says)
-alone w s entries says a = record { ends = Sound; complete = λ v y. y; begins = sound-begun w s; entries = a; follows = λ q v y. over v y; last = λ v y. y; turns = λ v y. regroups-same v.control.sessions; adds = λ v y. adds-same v.control.sessions v.control.flight v.control.flight refl }
+alone w s entries says a = record { ends = Sound; complete = λ v y. y; begins = sound-begun w s; entries = a; follows = λ q v y. over v y; last = λ v y. y; turns = λ v y. regroups-same v.control.sessions; adds = λ v y. adds-same v.control.sessions v.control.flight v.control.flight refl; goes = λ v y. goes-same v.control }
 
 pub fair-case : (w : World) (k : Between w) (line : ℕ) (p : Plan) → Case w.control w.events line p → Fair w p
 fair-case w k line _ (Says a) = fair-says w k line a

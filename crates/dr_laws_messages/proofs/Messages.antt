@@ -23,7 +23,7 @@ use Rattle.dr_laws_sessions.proofs.Reports.{shown-few}
 use Rattle.dr_laws_attempts.specs.Orders.{IsDoneFor}
 use Rattle.dr_laws_attempts.proofs.Stages.{Serves, Tells}
 use Rattle.dr_laws_attempts.proofs.Tables.{serves, attempt-by, has-done, tells}
-use Rattle.dr_laws_attempts.proofs.Orders.{done-asked}
+use Rattle.dr_laws_attempts.proofs.Orders.{done-asked, work-lost}
 use Rattle.dr_laws_messages.proofs.Eased.{Eases, fits-fewer}
 use Rattle.dr_laws_messages.proofs.Taking.{new, reply-or, MayReply, fits-replied}
 use Rattle.dr_laws_messages.proofs.Masters.{told-others, adds-told, adds-done}
@@ -94,10 +94,6 @@ members-at T server (m ∷ ms) = by (m.server.0 == server) (members-at T server 
     by : (b : Bool) → members_at server (all_seen T ms) ≡ length (members_on server ms) → length (cond b (seen T m ∷ filter (λ (v : Seen). v.server == server) (all_seen T ms)) (filter (λ (v : Seen). v.server == server) (all_seen T ms))) ≡ length (cond b (m ∷ members_on server ms) (members_on server ms))
     by true again = ap suc again
     by false again = again
-
-pub lost-work : (p : PhaseName) → phases.work_in p ≡ Some phases.Report → p ≡ phase.Lost
-lost-work phase.Lost asks = refl
-lost-work p asks = absurd cc
 
 work-finishes : (p : PhaseName) → p ≡ phase.Finishing → (w : phases.Work) → phases.work_in p ≡ Some w → w ≡ phases.Finish
 work-finishes phase.Finishing e phases.Finish asks = refl
@@ -197,7 +193,7 @@ module _ (k : Control) (groups : Groups k) (law : Attempts k) (flights : Flights
       where
         by : IsReport ⊎ (IsReport → ⊥) → InPhase p n (phases.without m.server ks) (rs ++ shown_by reply) vs
         by (inl e) = subst (λ xs. InPhase p n (phases.without m.server ks) (rs ++ xs) vs) (sym (shown-is e))
-            (adds-told f m.session n vs own.numbers own.follows (servers_of x.members) serving m.server shows telling p (lost-work p (asked ∙ ap Some e)) ks rs h)
+            (adds-told f m.session n vs own.numbers own.follows (servers_of x.members) serving m.server shows telling p (work-lost p (asked ∙ ap Some e)) ks rs h)
         by (inr ne) = subst (λ xs. InPhase p n (phases.without m.server ks) (rs ++ xs) vs) (sym (reply-shows m.session work ms k ne))
             (adds-done f m.session n vs own.numbers own.follows (servers_of x.members) serving m.server p (done-for ne) ks rs h)
 

@@ -11,6 +11,7 @@ use Rattle.dr_model.specs.Attempts.{Seen, All, Any, NoneRevertible, NoneCommitte
 use Rattle.dr_model.specs.Flights.{IsForAttempt, may_have_sent, IsKnown, IsSentSoFar, IsFenced, IsQuiet, IsPast, ComesAfterHolds, HasServer, IsThreat, IsOutdated, HasAnswer, IsAwaited, MayTake, shown_in, FlightFits}
 use Rattle.dr_facts.proofs.Tables.{IsOrNot}
 use Rattle.dr_facts.proofs.Lists.{in-joined}
+use Rattle.dr_laws_attempts.proofs.Dues.{commits, reverts}
 use Rattle.dr_laws_messages.proofs.Tables.{Aside}
 use Rattle.dr_laws_messages.proofs.Turned.{committing-in, reverting-in}
 use Rattle.dr_logic.proofs.Truth.{false_true}
@@ -51,14 +52,6 @@ module _ (n : ℕ) (owed : List ℕ) (reports : List Shown) (vs : List Seen) whe
   own-held phase.Finishing phases.Finish e h late = absurd late
   own-held phase.Lost phases.Report e h late = absurd late
   own-held p w e h late = absurd cc
-
-  own-commit : (p : PhaseName) → phases.work_in p ≡ Some phases.Commit → InPhase p n owed reports vs → AllFlashed n vs × (AllAt n vs ⊎ Blocked vs)
-  own-commit phase.Committing e h = (h.flashed, h.way)
-  own-commit p e h = absurd cc
-
-  own-revert : (p : PhaseName) → phases.work_in p ≡ Some phases.Revert → InPhase p n owed reports vs → NoneCommitted n vs ⊎ NoneRevertible vs
-  own-revert phase.Reverting e h = h.way
-  own-revert p e h = absurd cc
 
 -- it has begun, and a flash that it asks for isn't past
 own-busy : (p : PhaseName) (w : phases.Work) → phases.work_in p ≡ Some w → IsQuiet p → ⊥
@@ -165,7 +158,7 @@ module _ (f : Flight) (s server : ℕ) (o : phases.Order) where
 
     sent-commits : (m : Message) → IsOrderFor f s phases.Commit n m ⊎ IsNew phases.Commit n m → AllFlashed n vs
     sent-commits m (inl old) = fits.commits m old
-    sent-commits m (inr i) = (own-commit n owed reports vs p (own phases.Commit i.works) h).0
+    sent-commits m (inr i) = (commits n owed reports vs p (own phases.Commit i.works) h).0
 
     abbrev Threat : phases.Work → Message → Type 0
     Threat work m = IsThreat f s work n vs m ⊎ IsNew work n m
@@ -179,11 +172,11 @@ module _ (f : Flight) (s server : ℕ) (o : phases.Order) where
 
     sent-commit-way : (m : Message) → Threat phases.Commit m → AllAt n vs ⊎ Blocked vs
     sent-commit-way m (inl old) = fits.commit_way m old
-    sent-commit-way m (inr i) = (own-commit n owed reports vs p (own phases.Commit i.works) h).1
+    sent-commit-way m (inr i) = (commits n owed reports vs p (own phases.Commit i.works) h).1
 
     sent-revert-way : (m : Message) → Threat phases.Revert m → NoneCommitted n vs ⊎ NoneRevertible vs
     sent-revert-way m (inl old) = fits.revert_way m old
-    sent-revert-way m (inr i) = own-revert n owed reports vs p (own phases.Revert i.works) h
+    sent-revert-way m (inr i) = reverts n owed reports vs p (own phases.Revert i.works) h
 
     -- where the other was sent before, that was in an earlier epoch, and its server's fence has come to this one
     outdated : (work : phases.Work) → IsFenced p × (may_have_sent p work ≡ false) → (m : Message) → IsOrderFor f s work n m → HasServer m.server vs → (q : Message) → q ≡ new → IsOutdated g s m q

@@ -1,7 +1,7 @@
 -- A master takes a reply that was delivered, which it awaits: the laws of sessions, of attempts and of messages stay.
-use Rattle.std.proofs.Common.{ℕ, ◌≡◌, ◌≤◌, refl, ap, sym, ◌∙◌, Bool, true, ◌==◌, List, [], ◌∷◌, ◌++◌, length, subst, Option, Some}
+use Rattle.std.proofs.Common.{ℕ, ◌≡◌, ◌≤◌, ◌+◌, refl, ap, sym, ◌∙◌, Bool, true, ◌==◌, List, [], ◌∷◌, ◌++◌, length, subst, Option, Some}
 use Rattle.std.proofs.lemmas.List.{append-nil}
-use Rattle.std.proofs.lemmas.Bool.{and_parts, eqb-true}
+use Rattle.std.proofs.lemmas.Bool.{and_parts, and_from, eqb-true}
 use Rattle.std.proofs.lemmas.Option.{same_Some}
 use Rattle.dr_ids.specs.declared.refusal.PhaseName.TheVariants as phase
 use Rattle.dr_model.specs.Decisions.{Shown}
@@ -17,6 +17,7 @@ use Rattle.dr_model.specs.Flights.{IsAnswer, HasAnswer, IsAwaited, shown_by, sho
 use Rattle.dr_laws_sessions.specs.Frames.{ServerSilent, OwesReport}
 use Rattle.dr_facts.proofs.Lists.{to-map}
 use Rattle.dr_laws_sessions.proofs.Changes.{session-found}
+use Rattle.dr_laws_sessions.proofs.Reports.{reports-few}
 use Rattle.dr_laws_sessions.proofs.Tables.{groups-waits, groups-taken}
 use Rattle.dr_laws_attempts.proofs.Tables.{serves, master-servers, with-waits, with-after, with-told}
 use Rattle.dr_laws_messages.proofs.Taking.{fits-take}
@@ -24,7 +25,8 @@ use Rattle.dr_laws_messages.proofs.Masters.{FlightBy, fits-left, fits-told}
 use Rattle.dr_laws_messages.proofs.Sends.{own-lost}
 use Rattle.dr_laws_messages.proofs.Tables.{flights-own}
 use Rattle.dr_laws_messages.proofs.Turns.{own-mirror, flight-by}
-use Rattle.dr_laws_messages.proofs.Messages.{own-numbered, members-at, lost-work}
+use Rattle.dr_laws_attempts.proofs.Orders.{work-lost}
+use Rattle.dr_laws_messages.proofs.Messages.{own-numbered, members-at}
 
 -- ---- the order that is owed
 
@@ -88,7 +90,7 @@ module _ (k : Control) (groups : Groups k) (law : Attempts k) (flights : Flights
   answers : phases.answers reply m.order.work ≡ true
   answers = (fits.known m here (sym there.1)).answers reply body
 
-  awaited-so : HasAnswer m.body → IsAwaited f x.number r.master.phase x.last r.master.owed m
+  pub awaited-so : HasAnswer m.body → IsAwaited f x.number r.master.phase x.last r.master.owed m
   awaited-so answer =
       let p = and_parts (m.epoch == f.epoch m.session) (is_owed_order (phases.order_for r.master m.server) m.order) awaits in
       let o = owed-order (phases.is_among m.server r.master.owed) (phases.work_in r.master.phase) r.master.number m.order p.1 in
@@ -137,6 +139,13 @@ module _ (k : Control) (groups : Groups k) (law : Attempts k) (flights : Flights
   owes-report phases.Done is q h = tt
   owes-report phases.NotYet is q h = tt
 
+  -- it is one to the order that its server is owed
+  owed : OwedOrder (phases.is_among m.server r.master.owed) (phases.work_in r.master.phase) r.master.number m.order
+  owed = owed-order (phases.is_among m.server r.master.owed) (phases.work_in r.master.phase) r.master.number m.order (and_parts (m.epoch == f.epoch m.session) _ awaits).1
+
+  pub awaits-taken : phases.awaits r.master m.server reply ≡ true
+  awaits-taken = and_from (phases.is_among m.server r.master.owed) (phases.is_reply reply (phases.work_in r.master.phase)) owed.due (ap (phases.is_reply reply) owed.works ∙ answers)
+
   taken-sessions : (o : phases.Reply) → reply ≡ o → Groups (taking m o k)
   taken-sessions phases.NotYet is = groups-waits k m.session m.server groups
   taken-sessions phases.Done is = groups-taken k m.session m.server phases.Done x groups found (silent (subst IsAnswer (sym is) tt)) (owes-report phases.Done is)
@@ -146,11 +155,15 @@ module _ (k : Control) (groups : Groups k) (law : Attempts k) (flights : Flights
   sessions-taken = taken-sessions reply refl
 
   -- a report comes to a lost master alone
-  lost-by : (xs : List Shown) → reply ≡ phases.Reported xs → r.master.phase ≡ phase.Lost
-  lost-by xs is = lost-work r.master.phase ((a (subst IsAnswer (sym is) tt)).works ∙ ap Some (report-only xs m.order.work (subst (λ o. phases.answers o m.order.work ≡ true) is answers)))
+  pub lost-by : (xs : List Shown) → reply ≡ phases.Reported xs → r.master.phase ≡ phase.Lost
+  lost-by xs is = work-lost r.master.phase ((a (subst IsAnswer (sym is) tt)).works ∙ ap Some (report-only xs m.order.work (subst (λ o. phases.answers o m.order.work ≡ true) is answers)))
+
+  -- with the reports that it has it has none for more than all members
+  pub few-taken : (xs : List Shown) → reply ≡ phases.Reported xs → length r.master.reports + length xs ≤ length x.members
+  few-taken xs is = reports-few r.master x.members m.server xs (owes-report (phases.Reported xs) is r has) ((groups.each x there.0).few r has (lost-by xs is))
 
   -- and what is done to another one
-  done-by : reply ≡ phases.Done → r.master.phase ≡ phase.Lost → ⊥
+  pub done-by : reply ≡ phases.Done → r.master.phase ≡ phase.Lost → ⊥
   done-by is e = done-else m.order.work (subst (λ o. phases.answers o m.order.work ≡ true) is answers) (own-lost r.master.phase m.order.work e (a (subst IsAnswer (sym is) tt)).works)
 
   now-done : reply ≡ phases.Done → InPhase r.master.phase x.last (phases.without m.server r.master.owed) r.master.reports vs

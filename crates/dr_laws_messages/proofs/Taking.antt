@@ -12,25 +12,13 @@ use Rattle.dr_model.specs.Attempts.{Seen, All, Barred, Blocked, is_owed, Answere
 use Rattle.dr_model.specs.Flights.{IsKnown, IsSentSoFar, IsThreat, IsAwaited, MayTake, owed_after, reports_after, shown_by, shown_in, members_at, FlightFits}
 use Rattle.dr_facts.proofs.Tables.{IsOrNot}
 use Rattle.dr_facts.proofs.Lists.{in-first, in-second, in-joined, from-filter, some-any}
+use Rattle.dr_laws_sessions.proofs.Reports.{out-without}
 use Rattle.dr_laws_sessions.proofs.Sound.{among-without}
 use Rattle.dr_laws_sessions.proofs.Owed.{among-fewer}
 use Rattle.dr_laws_messages.proofs.Eased.{Eases, fits-eased, threat-was}
 use Rattle.dr_logic.proofs.Truth.{false_true}
 
 -- ---- who is owed
-
-not-among : (t : ℕ) (ks : List ℕ) → phases.is_among t (phases.without t ks) ≡ true → ⊥
-not-among t ks any =
-    let w = some-any (λ k. k == t) (phases.without t ks) any in
-    let f = from-filter (λ k. not (k == t)) ks w.0 w.1.0 in
-    let never : not true ≡ true = ap not (sym w.1.1) ∙ f.1 in absurd cc
-
-pub among-self : (t : ℕ) (ks : List ℕ) → phases.is_among t (phases.without t ks) ≡ false
-among-self t ks = by (cases_Bool (phases.is_among t (phases.without t ks)))
-  where
-    by : (phases.is_among t (phases.without t ks) ≡ true) ⊎ (phases.is_among t (phases.without t ks) ≡ false) → phases.is_among t (phases.without t ks) ≡ false
-    by (inl any) = absurd (not-among t ks any)
-    by (inr none) = none
 
 -- one that isn't owed isn't without another
 still-free : (x t : ℕ) (ks : List ℕ) → phases.is_among x ks ≡ false → phases.is_among x (phases.without t ks) ≡ false
@@ -48,7 +36,7 @@ among-step : (x t : ℕ) (ks os : List ℕ) → phases.is_among x ks ≡ phases.
 among-step x t ks os same = by (eqb_tells x t)
   where
     by : IsOrNot x t → phases.is_among x (phases.without t ks) ≡ phases.is_among x (phases.without t os)
-    by (inl is) = subst (λ x. phases.is_among x (phases.without t ks) ≡ phases.is_among x (phases.without t os)) (sym is.1) (among-self t ks ∙ sym (among-self t os))
+    by (inl is) = subst (λ x. phases.is_among x (phases.without t ks) ≡ phases.is_among x (phases.without t os)) (sym is.1) (out-without t ks ∙ sym (out-without t os))
     by (inr other) = among-without x t ks other.1 ∙ (same ∙ sym (among-without x t os other.1))
 
 among-after : (x : ℕ) (ms : List Message) (ks os : List ℕ) → phases.is_among x ks ≡ phases.is_among x os → phases.is_among x (owed_after ms ks) ≡ phases.is_among x (owed_after ms os)
@@ -61,7 +49,7 @@ after-swap x t ms owed = by (eqb_tells x t)
   where
     by : IsOrNot x t → phases.is_among x (owed_after ms (phases.without t owed)) ≡ phases.is_among x (phases.without t (owed_after ms owed))
     by (inl is) = subst (λ x. phases.is_among x (owed_after ms (phases.without t owed)) ≡ phases.is_among x (phases.without t (owed_after ms owed))) (sym is.1)
-        (free-after t ms (phases.without t owed) (among-self t owed) ∙ sym (among-self t (owed_after ms owed)))
+        (free-after t ms (phases.without t owed) (out-without t owed) ∙ sym (out-without t (owed_after ms owed)))
     by (inr other) = among-after x ms (phases.without t owed) owed (among-without x t owed other.1) ∙ sym (among-without x t (owed_after ms owed) other.1)
 
 -- ---- what was reported
@@ -147,7 +135,7 @@ module _ (f : Flight) (s : ℕ) (p : PhaseName) (n : ℕ) where
   fewer-step t ks owed sub x h = by (eqb_tells x t)
     where
       by : IsOrNot x t → phases.is_among x (phases.without t owed) ≡ true
-      by (inl is) = absurd (not-among t ks (subst (λ x. phases.is_among x (phases.without t ks) ≡ true) is.1 h))
+      by (inl is) = false_true (out-without t ks) (subst (λ x. phases.is_among x (phases.without t ks) ≡ true) is.1 h)
       by (inr other) = among-without x t owed other.1 ∙ sub x (among-fewer x t ks h)
 
   take-more : (ms : List Message) (ks owed : List ℕ) → ((x : ℕ) → phases.is_among x ks ≡ true → phases.is_among x owed ≡ true) → MayTake f s p n ks ms → MayTake f s p n owed ms
@@ -268,7 +256,7 @@ module _ (f : Flight) (s e server : ℕ) (o : phases.Order) (reply : phases.Repl
 
         first : (q : Message) → q ≡ new → IsAwaited g s p n owed q → MayTake g s p n (phases.without q.server owed) ms → Parts owed reports (q ∷ ms)
         first q is a rest = subst (λ q. Parts owed reports (q ∷ ms)) (sym is)
-            (WithNew ms (take-more f s p n ms (phases.without server owed) owed (λ x h. among-fewer x server owed h) (none-new ms (phases.without server owed) (among-self server owed) (subst (λ q. MayTake g s p n (phases.without q.server owed) ms) is rest)))
+            (WithNew ms (take-more f s p n ms (phases.without server owed) owed (λ x h. among-fewer x server owed h) (none-new ms (phases.without server owed) (out-without server owed) (subst (λ q. MayTake g s p n (phases.without q.server owed) ms) is rest)))
             (subst (IsAwaited g s p n owed) is a) (λ x. after-swap x server ms owed) (λ r i. told-last ms reports (shown_by reply) r i) (λ r i. told-first ms reports (shown_by reply) r i))
 
         by : In m f.messages ⊎ (m ≡ new) → Parts (phases.without m.server owed) (reports ++ shown_in m.body) ms → Parts owed reports (m ∷ ms)

@@ -14,7 +14,8 @@ use Rattle.dr_laws_attempts.proofs.Facts.{bool_cases, Update, each, rev-not-comm
 use Rattle.dr_laws_attempts.proofs.Turns.{Kind, Try, Flash, Commit, Revert, Raise, Go, next_seen, HoldComes, IsAsked, TakesBack, Ordered, MayTurn}
 use Rattle.dr_laws_attempts.proofs.TurnsKeep.{InAnyPhase, at-server, all-at, all-held, all-flashed, not-flashed, flash-none, plain-stays, blocked, reverted-none, kept-in}
 use Rattle.dr_laws_attempts.proofs.Dues.{turn-by}
-use Rattle.dr_laws_messages.proofs.Taking.{among-self, fits-takes}
+use Rattle.dr_laws_sessions.proofs.Reports.{out-without}
+use Rattle.dr_laws_messages.proofs.Taking.{fits-takes}
 use Rattle.dr_logic.proofs.Truth.{false_true}
 
 -- a phase whose orders commit, or revert, is fenced, and hasn't sent the other
@@ -177,7 +178,7 @@ module _ (f : Flight) (s : ℕ) (p : PhaseName) (n : ℕ) (owed : List ℕ) (rep
       finished-one k a (fits.finished e m w v move.here own, held own)) (fits.finished e m w)
     where
       held : v.server ≡ m.server → n ≤ v.attempt
-      held own = (subst (λ q. InPhase q n (phases.without m.server owed) (reports ++ shown_in m.body) vs) e (fits.replies (m ∷ []) (w, tt))).done v move.here (subst (λ x. phases.is_among x (phases.without m.server owed) ≡ false) (sym own) (among-self m.server owed))
+      held own = (subst (λ q. InPhase q n (phases.without m.server owed) (reports ++ shown_in m.body) vs) e (fits.replies (m ∷ []) (w, tt))).done v move.here (subst (λ x. phases.is_among x (phases.without m.server owed) ≡ false) (sym own) (out-without m.server owed))
 
   -- where no server has other members
   pub fits-on : ((server : ℕ) → members_at server us ≡ members_at server vs) → (k : Kind) → To k → May k → FlightFits f s p n owed reports us

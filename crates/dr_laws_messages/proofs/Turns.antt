@@ -106,7 +106,7 @@ module _ (k : Control) (groups : Groups k) (law : Attempts k) (flights : Flights
       (fits-aborted f x.number x.last (all_seen T x.members) (law.sessions x i).numbers (law.sessions x i).follows (servers_of x.members) (served x i) r.master (servers x r i has) own))
       (λ none own. subst (λ o. FlightFits (messages.aborted x.number o f) x.number phase.Idle x.last [] [] (all_seen T x.members)) (sym none) own)
 
-  aside-aborted : (s : ℕ) (o : Option Mirror) → Aside f (messages.aborted s o f) s
+  pub aside-aborted : (s : ℕ) (o : Option Mirror) → Aside f (messages.aborted s o f) s
   aside-aborted s None = aside-same f s
   aside-aborted s (Some r) = by (is_lost (phases.aborted_phase r.master.phase))
     where
@@ -134,7 +134,7 @@ module _ (k : Control) (groups : Groups k) (law : Attempts k) (flights : Flights
     g = messages.lost_since before now ss f
 
     -- a number is that of one session
-    loses-own : (x : Session) → In x ss → loses_in before now x.number ss ≡ loses_master before now x.mirror
+    pub loses-own : (x : Session) → In x ss → loses_in before now x.number ss ≡ loses_master before now x.mirror
     loses-own x i = by (cases_Bool (loses_master before now x.mirror)) (cases_Bool (loses_in before now x.number ss))
       where
         by : (loses_master before now x.mirror ≡ true) ⊎ (loses_master before now x.mirror ≡ false) → (loses_in before now x.number ss ≡ true) ⊎ (loses_in before now x.number ss ≡ false) → loses_in before now x.number ss ≡ loses_master before now x.mirror
@@ -153,7 +153,7 @@ module _ (k : Control) (groups : Groups k) (law : Attempts k) (flights : Flights
     eases-from-raised s = record { orders = λ m o. record { here = o.here; session = o.session; starts = o.starts; asks = o.asks }; fence = λ x. omega arith }
 
     -- a session whose master stays, or that has none
-    epoch-stays : (s : ℕ) → loses_in before now s ss ≡ false → g.epoch s ≡ f.epoch s
+    pub epoch-stays : (s : ℕ) → loses_in before now s ss ≡ false → g.epoch s ≡ f.epoch s
     epoch-stays s e = ap (λ b. cond b (f.epoch s + 1) (f.epoch s)) e
 
     epoch-begins : (s : ℕ) → loses_in before now s ss ≡ true → g.epoch s ≡ (raised s f).epoch s

@@ -197,9 +197,9 @@ pub begins-ride : Rider Begun
 begins-ride = record {
   acts = acts;
   start_acts = start-acts;
-  unheard = λ w u more k q. begun-told w u more q.events q.sessions q.messages q.quiet k;
+  unheard = λ w u more k q none. begun-told w u more q.events q.sessions q.messages q.quiet k;
   issues = λ w s v t offset len bytes defined low k. begun-told w _ (Issue (w.control.issued + 1) v t offset len bytes ∷ []) refl refl refl (tt, tt) k;
-  regroups = λ w ss f s t turn adds k. record { cuts = k.cuts; forming = λ x here coordinates. (let m = has-member (with_tables w ss f) t x here coordinates in open-regrouped w ss turn k x here coordinates m.0 m.1); flying = flying-more w f adds k };
+  regroups = λ w ss f s t turn adds goes k. record { cuts = k.cuts; forming = λ x here coordinates. (let m = has-member (with_tables w ss f) t x here coordinates in open-regrouped w ss turn k x here coordinates m.0 m.1); flying = flying-more w f adds k };
   opens = λ w i n x r s t found has idle next k. opens w i n x s found next k;
   defines = λ w s v server tracks here undefined k. begun-told w _ (VolumeDefined v server tracks ∷ []) refl refl refl (tt, tt) k;
 }

@@ -29,7 +29,7 @@ use Rattle.dr_laws_closed.proofs.Quiet.{closing-nothing, closing-told, closing-d
 use Rattle.dr_laws_closed.proofs.Regrouped.{closing-regrouped}
 use Rattle.dr_laws_closed.proofs.Opens.{closing-begun}
 use Rattle.dr_laws_closed.proofs.ClosedCuts.{closed-cuts}
-use Rattle.dr_laws_sound.proofs.Turns.{next_of, carried_in, done, done_in_stop, opened_in_stop, not_done, fused, server_at, after_act}
+use Rattle.dr_laws_sound.proofs.Turns.{done, fields-then, done_in_stop, opened_in_stop, not_done, fused, server_at, after_act}
 use Rattle.dr_laws_sound.proofs.KeepsSound.{MayDo}
 use Rattle.dr_laws_sound.proofs.Issues.{issued}
 use Rattle.dr_laws_sound.proofs.Defines.{with_volume}
@@ -64,9 +64,6 @@ closing-pending w x k is sessions messages volume free =
     closing-told w x k [] tt tt (is ∙ sym (append-nil w.events)) sessions messages (λ v rec held t. ap (λ es. lists es v t) is) (ap (λ (volume : ℕ → Volume). λ v. (volume v).fields) volume) free
 
 -- a move
-fields-then : (w : World) (m : Move) → fields_at (done w m None).control ≡ at (fields_at w.control) (target m) (fields_left m (w.control.volume (target m)))
-fields-then w m = fun_ext (λ u. at_map (λ (y : Volume). y.fields) w.control.volume (target m) (moved_keeping (keeps_staged m) (w.control.volume (target m)) (next_of w m) (carried_in w m)) u)
-
 pub stopped-silent : (x n : ℕ) → Silent (Stopped x n ∷ [])
 stopped-silent x n = record { cut = (tt, tt); stand = (tt, tt); list = λ write v. (tt, tt) }
 
@@ -162,10 +159,10 @@ pub closes-ride : Rider Closes
 closes-ride = record {
   acts = acts;
   start_acts = start-acts;
-  unheard = λ w u more k q. (cuts-ride.unheard w u more k.0 q, closing-unheard w u more k.1 q);
+  unheard = λ w u more k q none. (cuts-ride.unheard w u more k.0 q none, closing-unheard w u more k.1 q);
   issues = λ w s v t offset len bytes defined low k. (cuts-ride.issues w s v t offset len bytes defined low k.0, closing-issued w s v t offset len bytes defined low k.1);
-  regroups = λ w ss f s t turn adds k. (
-    cuts-ride.regroups w ss f s t turn adds k.0,
+  regroups = λ w ss f s t turn adds goes k. (
+    cuts-ride.regroups w ss f s t turn adds goes k.0,
     closing-regrouped w.control ss f s.groups s.attempts t.groups t.attempts t.flights turn (eases-added w.control.sessions w.control.flight f s.groups.once adds) w.control.pending (lists w.events) (cuts w.events) (moments w.events)
         (standing w.events) k.1,
   );

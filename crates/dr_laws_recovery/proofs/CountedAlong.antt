@@ -139,13 +139,13 @@ pub counts-ride : Rider Counts
 counts-ride = record {
   acts = acts;
   start_acts = start-acts;
-  unheard = λ w u more k q. (closes-ride.unheard w u more k.0 q, unheard-keeps w u more k.1 q);
+  unheard = λ w u more k q none. (closes-ride.unheard w u more k.0 q none, unheard-keeps w u more k.1 q);
   issues = λ w s v t offset len bytes defined low k. (
     closes-ride.issues w s v t offset len bytes defined low k.0,
     counted-issued w (issued w s v t offset len bytes defined low) k.0.0 k.1 v t offset len bytes refl (same-table w s v t offset len bytes defined low) refl,
   );
-  regroups = λ w ss f s t turn adds k. (
-    closes-ride.regroups w ss f s t turn adds k.0,
+  regroups = λ w ss f s t turn adds goes k. (
+    closes-ride.regroups w ss f s t turn adds goes k.0,
     counted-regrouped w.control ss f (table w) (λ v. refl) s.groups s.attempts t.groups t.attempts turn (histories w.events).write (cuts w.events) (standing w.events) (committeds w.events) k.1,
   );
   opens = λ w i n x r s t found has idle next k. (closes-ride.opens w i n x r s t found has idle next k.0, counted-opens w i n s.groups.once k.1);

@@ -117,8 +117,8 @@ pub cuts-ride : Rider SoundCuts
 cuts-ride = record {
   acts = acts;
   start_acts = start-acts;
-  unheard = cuts-unheard;
-  regroups = λ w ss f s t turn adds k. sound-same w k (with_tables w ss f) refl refl refl;
+  unheard = λ w u more k q none. cuts-unheard w u more k q;
+  regroups = λ w ss f s t turn adds goes k. sound-same w k (with_tables w ss f) refl refl refl;
   opens = λ w i n x r s t found has idle next k. cuts-opens w i n k;
   issues = λ w s v t offset len bytes defined low k. sound-issue w k (issued w s v t offset len bytes defined low) v t offset len bytes refl refl (same-table w s v t offset len bytes defined low);
   defines = λ w s v server tracks here undefined k.

@@ -99,6 +99,7 @@ pub record Ordered (k : Control) (s server : ℕ) (x : Session) (r : Mirror) (o 
 
 -- why a master may send an order to a server
 pub record Posts (k : Control) (s server : ℕ) (x : Session) (r : Mirror) (o : phases.Order) : Type 0 where
+  pub here : server < length k.servers
   pub found : session_in k.sessions s ≡ Some x
   pub mirror : x.mirror ≡ Some r
   pub allowed : send_refusal k r server x.members ≡ None
@@ -209,6 +210,10 @@ module _ (k : Control) (events : List Event) (line : ℕ) where
   where-placed None p go = Says (Refused (unknown OfServer))
   where-placed (Some s) p go = go s refl
 
+  -- a server that a line names is one of those that are defined
+  is-defined : (name : Name) (s : ℕ) → server_named k (name_bytes name) ≡ Some s → s < length k.servers
+  is-defined name s is = (position-Some (bytes_eq (name_bytes name)) k.servers s [] is).0
+
   where-owned : (o : Option ℕ) (p : ℕ → Plan) → ((s : ℕ) → Is (p s)) → Is (on_owner o p)
   where-owned None p go = Says (Refused (unknown OfLss))
   where-owned (Some s) p go = go s
@@ -311,15 +316,15 @@ module _ (k : Control) (events : List Event) (line : ℕ) where
   post-case s server x r None go = Says _
   post-case s server x r (Some o) go = Sends s server x r o (go o refl)
 
-  send-by : (s server : ℕ) (x : Session) (m : Option Mirror) → session_in k.sessions s ≡ Some x → x.mirror ≡ m → Is (send_on k s m server x.members)
-  send-by s server x None is none = Says _
-  send-by s server x (Some r) is mirror =
+  send-by : (s server : ℕ) (x : Session) (m : Option Mirror) → server < length k.servers → session_in k.sessions s ≡ Some x → x.mirror ≡ m → Is (send_on k s m server x.members)
+  send-by s server x None here is none = Says _
+  send-by s server x (Some r) here is mirror =
       where-none (send_refusal k r server x.members) (send_order s (is_idle r.master.phase) server (order_of r server)) (λ free.
-      post-case s server x r (order_of r server) (λ o order. record { found = is; mirror = mirror; allowed = free; order = order }))
+      post-case s server x r (order_of r server) (λ o order. record { here = here; found = is; mirror = mirror; allowed = free; order = order }))
 
   send-case : (s : ℕ) (name : Name) → Is (send_plan k s name)
   send-case s name = where-session (session_in k.sessions s) _ (λ x is.
-      where-named (server_named k (name_bytes name)) (λ server. send_on k s x.mirror server x.members) (λ server. send-by s server x x.mirror is refl))
+      where-placed (server_named k (name_bytes name)) (λ server. send_on k s x.mirror server x.members) (λ server named. send-by s server x x.mirror (is-defined name server named) is refl))
 
   order-by : (n : ℕ) (m : Message) (starts : ℕ) (x : Session) (o : Option Mirror) → ((r : Mirror) → o ≡ Some r → Arrives k n m (Asks starts) x r) → off_refusal k m.server ≡ None → Is (order_on k m starts x.members o)
   order-by n m starts x None go on = Says _
@@ -370,7 +375,7 @@ module _ (k : Control) (events : List Event) (line : ℕ) where
   of-case (Server name) = where-none (server_refusal k (name_bytes name)) (server_done k name) (DefinesServer name)
   of-case (Volume v name tracks) =
       where-placed (server_named k (name_bytes name)) (λ s. unless (volume_refusal k v s tracks) (volume_done v s tracks))
-      (λ s is. where-none (volume_refusal k v s tracks) (volume_done v s tracks) (DefinesVolume v s tracks (position-Some (bytes_eq (name_bytes name)) k.servers s [] is).0))
+      (λ s is. where-none (volume_refusal k v s tracks) (volume_done v s tracks) (DefinesVolume v s tracks (is-defined name s is)))
   of-case (Link a b up) = where-named (server_named k (name_bytes a)) (λ x. on_server k b (λ y. link_between x y up)) (λ x. where-named (server_named k (name_bytes b)) (λ y. link_between x y up) (λ y. link-case x y up))
   of-case (Issue v t offset len bytes) = where-none (issue_refusal k v t) (issue_done k v t offset len bytes) (Issues v t offset len bytes)
   of-case (Write v t offset len bytes) = where-none (issue_refusal k v t) (write_done k v t offset len bytes) (Writes v t offset len bytes)

@@ -1,6 +1,7 @@
 -- The plan of an exchange: a server carries out the order that its session's master owes it, or the first hold of the next attempt, and
 -- the master may take its reply.
-use Rattle.std.proofs.Common.{ℕ, ◌≡◌, ◌≢◌, ◌≤◌, ◌+◌, ◌⊎◌, inl, inr, refl, ap, sym, ◌∙◌, subst, Bool, true, false, cond, arith, List, Some, None, option_map}
+use Rattle.std.proofs.Common.{ℕ, ◌≡◌, ◌≢◌, ◌≤◌, ◌+◌, ◌⊎◌, inl, inr, refl, ap, sym, ◌∙◌, subst, Bool, true, false, cond, not, arith, List, Some, None, option_map}
+use Rattle.std.specs.List.{list_any}
 use Rattle.std.proofs.lemmas.Option.{same_Some}
 use Rattle.dr_ids.specs.declared.names.Member.{Member}
 use Rattle.dr_ids.specs.declared.refusal.PhaseName.{PhaseName}
@@ -9,12 +10,13 @@ use Rattle.dr_model.specs.Refusals.{server_off}
 use Rattle.dr_model.specs.Phases as phases
 use Rattle.dr_model.specs.Sessions.{Session, Mirror, begun}
 use Rattle.dr_model.specs.Messages.{Flight, heard}
-use Rattle.dr_model.specs.Control.{World}
-use Rattle.dr_model.specs.SessionEntries.{members_on, reply_after}
+use Rattle.dr_model.specs.Control.{Control, World}
+use Rattle.dr_model.specs.SessionEntries.{is_drained, members_on, shown_by_members, reply_after}
 use Rattle.dr_model.specs.SessionPlans.{is_idle, off_refusal, phase_refusal, apart_refusal, answered_by, exchanged}
-use Rattle.dr_model.specs.Groups.{Groups, SessionFits, Due}
+use Rattle.dr_model.specs.Groups.{In, Groups, SessionFits, Due}
 use Rattle.dr_model.specs.Attempts.{phase_of, Attempts, ServerDone}
-use Rattle.dr_model.specs.Flights.{Flights}
+use Rattle.dr_model.specs.Decisions.{Shown}
+use Rattle.dr_model.specs.Flights.{shown_by, Flights}
 use Rattle.dr_model.specs.Laws.{Sound}
 use Rattle.dr_laws_sessions.specs.Frames.{ServerSilent}
 use Rattle.dr_laws_sessions.proofs.Changes.{session-found}
@@ -26,6 +28,8 @@ use Rattle.dr_laws_messages.proofs.Replies.{flights-answered, flights-heard}
 use Rattle.dr_laws_closed.specs.Regroups.{Regroups}
 use Rattle.dr_laws_closed.proofs.Regroups.{regroups-same, regroups-taken}
 use Rattle.dr_laws_sound.proofs.NewMessages.{Adds, adds-same}
+use Rattle.dr_laws_sound.proofs.GoesOn.{Knows, AllGoOn, shown-by, reply-shown, goes-same, goes-still}
+use Rattle.dr_laws_sound.proofs.TablesGo.{goes-taken}
 use Rattle.dr_laws_sound.proofs.KeepsSound.{over}
 use Rattle.dr_laws_sound.proofs.Cases.{Ordered, ordered}
 use Rattle.dr_laws_sound.proofs.FitsFlash.{sound-begun}
@@ -85,6 +89,20 @@ not-lost p work asks other lost = other (same_Some _ _ (sym asks ∙ ap phases.w
 pub heard-messages : (s server epoch : ℕ) (work : phases.Work) (f : Flight) → (heard s server epoch work f).messages ≡ f.messages
 heard-messages s server epoch phases.Report f = refl
 heard-messages s server epoch work f = refl
+
+pub heard-epoch : (s server epoch : ℕ) (work : phases.Work) (f : Flight) (t : ℕ) → (heard s server epoch work f).epoch t ≡ f.epoch t
+heard-epoch s server epoch phases.Report f t = refl
+heard-epoch s server epoch work f t = refl
+
+-- a report is what members show, and nothing else is one
+reply-reports : (s : ℕ) (work : phases.Work) (ms : List Member) (k : Control) (xs : List Shown) → reply_after s work ms k ≡ phases.Reported xs → work ≡ phases.Report
+reply-reports s phases.Report ms k xs e = refl
+reply-reports s phases.Seal ms k xs e = absurd (by (list_any (λ (m : Member). not (is_drained m.a.0 k)) ms) e)
+  where
+    by : (b : Bool) → cond b phases.NotYet phases.Done ≡ phases.Reported xs → ⊥
+    by true e = cc
+    by false e = cc
+reply-reports s work ms k xs e = absurd cc
 
 module _ (w : World) (s : Sound w) (i server : ℕ) (x : Session) (r : Mirror) (o : phases.Order) (allowed : Ordered w.control i server x r o) where
   abbrev n : ℕ
@@ -222,6 +240,49 @@ module _ (w : World) (s : Sound w) (i server : ℕ) (x : Session) (r : Mirror) (
         e.sound
     answers false = sound-flight v _ (flights-heard v.control i server o.work e.sound.flights) e.sound
 
+    -- there is a master
+    master : (q : Mirror) × (y.mirror ≡ Some q)
+    master = by e.came
+      where
+        by : Same ⊎ New → (q : Mirror) × (y.mirror ≡ Some q)
+        by (inl same) = (r, ap (λ (z : Session). z.mirror) same ∙ allowed.mirror)
+        by (inr new) = (record r { master = phases.begun r.master }, ap (λ (z : Session). z.mirror) new.0 ∙ ap (option_map (λ (q : Mirror). record q { master = phases.begun q.master })) allowed.mirror)
+
+    -- a lost one is owed a report
+    owed-report : phase_of y.mirror ≡ phase.Lost → o.work ≡ phases.Report
+    owed-report is = by e.came
+      where
+        by : Same ⊎ New → o.work ≡ phases.Report
+        by (inl same) =
+            let lost : r.master.phase ≡ phase.Lost = ap phase_of (sym allowed.mirror) ∙ (ap (λ (z : Session). phase_of z.mirror) (sym same) ∙ is) in
+            let busy : r.master.phase ≢ phase.Idle = λ idle. (let no : phase.Lost ≡ phase.Idle = sym lost ∙ idle in cc) in
+            sym (same_Some _ _ (ap phases.work_in (sym lost) ∙ (order-is r server o busy allowed.order).0))
+        by (inr new) = let no : phase.Coordinating ≡ phase.Lost = sym (coordinates new master.0 master.1) ∙ (ap phase_of (sym master.1) ∙ is) in absurd cc
+
+    abbrev answer : phases.Reply
+    answer = reply_after i o.work ms v.control
+
+    answer-told : (xs : List Shown) → answer ≡ phases.Reported xs → (phase_of y.mirror ≡ phase.Lost) × ((q : Shown) → In q xs → Knows v.control y q)
+    answer-told xs is =
+        let report : o.work ≡ phases.Report = reply-reports i o.work ms v.control xs is in
+        let number : y.number ≡ i = (session-found v.control.sessions i y e.there).1 in (
+          ap phase_of master.1 ∙ lost report master.0 master.1,
+          λ q h. inr (shown-by v.control y server q (subst (λ i. In q (shown_by_members i (members_on server y.members) v.control)) (sym number)
+              (subst (λ qs. In q (shown_by_members i (members_on server qs) v.control)) (sym e.among) (reply-shown i o.work ms v.control q (subst (In q) (sym (ap shown_by is)) h))))),
+        )
+
+    answer-done : answer ≡ phases.Done → phase_of y.mirror ≢ phase.Lost
+    answer-done is at =
+        let no : phases.Reported (shown_by_members i ms v.control) ≡ phases.Done = ap (λ work. reply_after i work ms v.control) (sym (owed-report at)) ∙ is in cc
+
+    -- a report raises a fence alone
+    goes-heard : (ss : List Session) → AllGoOn v.control ss v.control.flight → AllGoOn v.control ss (heard i server (v.control.flight.epoch i) o.work v.control.flight)
+    goes-heard ss h = goes-still v.control v.control.flight _ ss (λ q here. subst (In q) (heard-messages i server (v.control.flight.epoch i) o.work v.control.flight) here) (heard-epoch i server (v.control.flight.epoch i) o.work v.control.flight) h
+
+    goes : (reply : Bool) → AllGoOn v.control (exchanged i server reply o.work ms v.control).sessions (exchanged i server reply o.work ms v.control).flight
+    goes true = goes-heard _ (goes-taken v.control e.sound.groups e.sound.attempts e.sound.flights i server answer y e.there answer-told answer-done)
+    goes false = goes-heard v.control.sessions (goes-same v.control)
+
     turns : (reply : Bool) → Regroups v.control.sessions (exchanged i server reply o.work ms v.control).sessions
     turns true = regroups-taken v.control.sessions e.sound.groups.once i server (reply_after i o.work ms v.control)
     turns false = regroups-same v.control.sessions
@@ -239,4 +300,5 @@ module _ (w : World) (s : Sound w) (i server : ℕ) (x : Session) (r : Mirror) (
     last = λ v e. answers v e reply;
     turns = λ v e. turns v e reply;
     adds = λ v e. adds v e reply;
+    goes = λ v e. goes v e reply;
   }

@@ -38,6 +38,7 @@ use Rattle.dr_laws_sound.proofs.RowsAfter.{idle}
 use Rattle.dr_laws_sound.proofs.KeepsSound.{MayDo, Then, over}
 use Rattle.dr_laws_messages.proofs.Members.{flights-added, flights-removed}
 use Rattle.dr_laws_sound.proofs.NewMessages.{adds-same}
+use Rattle.dr_laws_sound.proofs.TablesGo.{goes-added, goes-removed}
 use Rattle.dr_laws_closed.proofs.Regroups.{regroups-added, regroups-removed}
 use Rattle.dr_laws_sound.proofs.Cases.{Joins, added, expelled, one-passed}
 use Rattle.dr_laws_sound.proofs.CopyFirst.{from}
@@ -243,6 +244,7 @@ module _ (w : World) (s : Sound w) where
       last = joined;
       turns = λ v e. let kept : Kept w v = e.raised.kept in regroups-added v.control.sessions kept.sound.groups.once i n x m (ap (λ ss. session_in ss i) kept.frame.sessions ∙ joins.found) (quiet-of x (taken-quiet w.control x a joins.free)) (ap (λ ss. find (has_place_of m) ss) kept.frame.sessions ∙ none);
       adds = λ v e. adds-same v.control.sessions v.control.flight v.control.flight refl;
+      goes = λ v e. let kept : Kept w v = e.raised.kept in goes-added v.control kept.sound.groups i n x m (ap (λ ss. session_in ss i) kept.frame.sessions ∙ joins.found) (quiet-of x (taken-quiet w.control x a joins.free));
     }
 
   -- ---- a member less
@@ -290,4 +292,5 @@ module _ (w : World) (s : Sound w) where
             (flights-removed v.control i m.a.0 x now.groups now.attempts now.flights f idles gone) now;
         turns = λ v e. regroups-removed v.control.sessions e.kept.sound.groups.once i m.a.0;
         adds = λ v e. adds-same v.control.sessions v.control.flight v.control.flight refl;
+        goes = λ v e. goes-removed v.control e.kept.sound.groups i m.a.0 x (ap (λ ss. session_in ss i) e.kept.frame.sessions ∙ found) (quiet-of x idles);
       }

@@ -3,8 +3,7 @@
 use Rattle.std.proofs.Common.{ℕ, ◌≡◌, ◌≢◌, ◌≤◌, ◌+◌, ◌⊎◌, inl, inr, refl, ap, sym, ◌∙◌, subst, Bool, true, false, cond, not, ◌||◌, arith, List, [], ◌∷◌, ◌++◌, Some, None, option_map, nat_le}
 use Rattle.std.specs.Prelude.{◌==◌}
 use Rattle.std.specs.List.{list_any}
-use Rattle.std.proofs.lemmas.Bool.{and_parts, or_parts, eqb-true, not-false}
-use Rattle.std.proofs.lemmas.Bool.Decides.{nat_tests}
+use Rattle.std.proofs.lemmas.Bool.{and_parts, or_parts, eqb-true, leb-true, not-false}
 use Rattle.std.proofs.lemmas.Option.{same_Some}
 use Rattle.dr_ids.specs.declared.names.Member.{Member}
 use Rattle.dr_ids.specs.declared.refusal.PhaseName.{PhaseName}
@@ -14,8 +13,8 @@ use Rattle.dr_model.specs.declared.event.Event.TheVariants.{Begin}
 use Rattle.dr_model.specs.Refusals.{server_off}
 use Rattle.dr_model.specs.Histories.{histories}
 use Rattle.dr_model.specs.Phases as phases
-use Rattle.dr_model.specs.Sessions.{Session, Mirror, session_in, changed, begun}
-use Rattle.dr_model.specs.Messages.{Flight, Message, is_current, sent, heard}
+use Rattle.dr_model.specs.Sessions.{Session, Mirror, session_in, changed, begun, with_master}
+use Rattle.dr_model.specs.Messages.{Flight, Message, is_current, sent, answered, heard}
 use Rattle.dr_model.specs.Control.{Control, World}
 use Rattle.dr_model.specs.PlanParts.{Plan}
 use Rattle.dr_model.specs.Runs.{begun as begun_by}
@@ -23,8 +22,9 @@ use Rattle.dr_model.specs.SessionEntries.{members_on, reply_after}
 use Rattle.dr_model.specs.SessionPlans.{is_idle, off_refusal, phase_refusal, apart_refusal}
 use Rattle.dr_model.specs.MessagePlans.{full_refusal, old_refusal, send_order, sending, told_begun, order_done, replying, is_awaited, taking}
 use Rattle.dr_model.specs.Groups.{In, Groups, SessionFits, IsLoose, Due}
-use Rattle.dr_model.specs.Attempts.{phase_of, Attempts}
-use Rattle.dr_model.specs.Flights.{Flights}
+use Rattle.dr_model.specs.Attempts.{phase_of, owed_of, Attempts}
+use Rattle.dr_model.specs.Decisions.{Shown}
+use Rattle.dr_model.specs.Flights.{IsAnswer, HasAnswer, IsAwaited, shown_by, shown_in, Flights}
 use Rattle.dr_model.specs.Laws.{Sound}
 use Rattle.dr_model.proofs.Images.{histories-append}
 use Rattle.dr_facts.proofs.Lists.{found as is-found, some-any}
@@ -36,16 +36,18 @@ use Rattle.dr_laws_attempts.proofs.Tables.{attempts-begun}
 use Rattle.dr_laws_attempts.proofs.Orders.{order-is}
 use Rattle.dr_laws_messages.proofs.Turns.{flights-begun}
 use Rattle.dr_laws_messages.proofs.Messages.{flights-sent, flights-replied}
-use Rattle.dr_laws_messages.proofs.Taken.{sessions-taken, attempts-taken, flights-taken}
+use Rattle.dr_laws_messages.proofs.Taken.{awaited-so, lost-by, done-by, sessions-taken, attempts-taken, flights-taken}
 use Rattle.dr_laws_closed.proofs.Regroups.{regroups-same}
 use Rattle.dr_laws_sound.proofs.NewMessages.{Adds, adds-answered, adds-sent}
+use Rattle.dr_laws_sound.proofs.GoesOn.{AllGoOn, goes-replied}
+use Rattle.dr_laws_sound.proofs.TablesGo.{goes-taken}
 use Rattle.dr_laws_sound.proofs.KeepsQueue.{AllQuiet}
 use Rattle.dr_laws_sound.proofs.KeepsSound.{StepHolds, holds-moves, sound-told, over}
 use Rattle.dr_laws_sound.proofs.Cases.{Posts, Reaches, Returns, taken}
 use Rattle.dr_laws_sound.proofs.FitsFlash.{as_begun, sound-begun}
 use Rattle.dr_laws_sound.proofs.FitsSessions.{sound-tables, sound-sessions, sound-flight, Orders}
 use Rattle.dr_laws_sound.proofs.FitsOrders.{Carried, how-due, carries}
-use Rattle.dr_laws_sound.proofs.FitsExchanges.{idle-or, not-lost, heard-messages}
+use Rattle.dr_laws_sound.proofs.FitsExchanges.{idle-or, not-lost, heard-messages, heard-epoch}
 
 -- ---- an order is sent
 
@@ -189,9 +191,6 @@ module _ (w : World) (s : Sound w) (i server : ℕ) (x : Session) (r : Mirror) (
 
 -- ---- an order arrives
 
-at-most : (a b : ℕ) → nat_le a b ≡ true → a ≤ b
-at-most a b h = grind (arith, nat_tests, h)
-
 -- it is one of the present, which no fence is above
 current-passed : (k : Control) (m : Message) (b : Bool) → old_refusal m b ≡ None → b ≡ true
 current-passed k m true h = refl
@@ -213,7 +212,7 @@ module _ (w : World) (s : Sound w) (q : ℕ) (m : Message) (starts : ℕ) (x : S
   loose : IsLoose w.control.flight m
   loose =
       let old = (none-both (full_refusal w.control.flight) _ (none-both (apart_refusal w.control r.server m.server) _ reaches.allowed).1).1 in
-      at-most _ _ (and_parts (starts == w.control.flight.starts m.server) _ (current-passed w.control m (is_current w.control.flight m starts) old)).1
+      leb-true _ _ (and_parts (starts == w.control.flight.starts m.server) _ (current-passed w.control m (is_current w.control.flight m starts) old)).1
 
   due : Due w.control.flight x m.server m.order.work m.order.number
   due = inr (record {
@@ -250,6 +249,11 @@ module _ (w : World) (s : Sound w) (q : ℕ) (m : Message) (starts : ℕ) (x : S
     adds = λ v e.
         let f : Flight = heard m.session m.server m.epoch m.order.work v.control.flight in
         adds-answered v.control.sessions v.control.flight f m (reply_after m.session m.order.work ms v.control) (heard-messages m.session m.server m.epoch m.order.work v.control.flight);
+    goes = λ v e.
+        let there = session-found v.control.sessions m.session e.session e.there in
+        let f : Flight = heard m.session m.server m.epoch m.order.work v.control.flight in
+        subst (λ qs. AllGoOn v.control v.control.sessions (answered m (reply_after m.session m.order.work (members_on m.server qs) v.control) f)) e.among
+        (goes-replied v.control f m m.order.work e.session e.sound.groups.once there.0 there.1 (λ q here. subst (In q) (heard-messages m.session m.server m.epoch m.order.work v.control.flight) here) (heard-epoch m.session m.server m.epoch m.order.work v.control.flight));
   }
 
 -- ---- a reply arrives
@@ -278,6 +282,23 @@ module _ (w : World) (s : Sound w) (q : ℕ) (m : Message) (reply : phases.Reply
 
   pub sound-taken : Sound (begun_by w (taken m reply))
   sound-taken = sound-sessions (as_begun w) (taking m reply w.control).sessions taken-groups taken-attempts taken-flights (sound-begun w s)
+
+  -- what it tells was on its way
+  pub goes-back : AllGoOn w.control (changed m.session (with_master (λ q. phases.taken q m.server reply)) w.control.sessions) w.control.flight
+  goes-back = goes-taken w.control s.groups s.attempts s.flights m.session m.server reply x returns.arrives.found
+      (λ xs is. (lost xs is, λ q h. inl (lost xs is, inr (record { one = m; here = here; is = (awaited-lost xs is, subst (In q) (sym (ap shown_in returns.arrives.says ∙ ap shown_by is)) h) }))))
+      (λ is lost. done-by w.control s.groups s.attempts s.flights m reply x r here returns.arrives.says returns.arrives.found returns.arrives.mirror awaited is (ap phase_of (sym returns.arrives.mirror) ∙ lost))
+    where
+      by-lost : (xs : List Shown) → reply ≡ phases.Reported xs → r.master.phase ≡ phase.Lost
+      by-lost = lost-by w.control s.groups s.attempts s.flights m reply x r here returns.arrives.says returns.arrives.found returns.arrives.mirror awaited
+
+      lost : (xs : List Shown) → reply ≡ phases.Reported xs → phase_of x.mirror ≡ phase.Lost
+      lost xs is = ap phase_of returns.arrives.mirror ∙ by-lost xs is
+
+      awaited-lost : (xs : List Shown) → reply ≡ phases.Reported xs → IsAwaited w.control.flight x.number phase.Lost x.last (owed_of x.mirror) m
+      awaited-lost xs is = subst (λ p. IsAwaited w.control.flight x.number p x.last (owed_of x.mirror) m) (by-lost xs is)
+          (subst (λ o. IsAwaited w.control.flight x.number r.master.phase x.last (owed_of o) m) (sym returns.arrives.mirror)
+          (awaited-so w.control s.groups s.attempts s.flights m reply x r here returns.arrives.says returns.arrives.found returns.arrives.mirror awaited (subst HasAnswer (sym returns.arrives.says) (subst IsAnswer (sym is) tt))))
 
   pub holds-taken : StepHolds w (taken m reply)
   holds-taken = holds-moves w (taken m reply) sound-taken (over _ sound-taken) (λ q v y. over v y) (λ v y. y)

@@ -391,7 +391,7 @@ module _ (w : World) (s : Sound w) (i server : ℕ) (x : Session) (o : phases.Or
           )
       by send false true none floor =
           let on = runs-target v m rest st.stage send in (
-            record { runs = on; allowed = tt; fits = tt; group = order-raises v.control st.stage.sound.groups st.stage.sound.attempts i x found-now m here n low none floor; ready = idle v m.c.0 st.stage.sound.queue on },
+            record { runs = on; allowed = tt; fits = tt; group = order-raises v.control st.stage.sound.groups st.stage.sound.attempts i x found-now m here n low (due-in phases.Revert due v m rest st.stage) none floor; ready = idle v m.c.0 st.stage.sound.queue on },
             λ f y. go _ (record {
               stage = moved v m rest (RaiseFloor m.c.0 n) f st.stage y;
               done = λ last. done-raises v.control (done v (RaiseFloor m.c.0 n) f).control (carried_in v (RaiseFloor m.c.0 n)) x m server n rest st.stage.sound.groups (listed-in v (m ∷ rest) st.stage) here

@@ -25,6 +25,7 @@ use Rattle.dr_laws_messages.proofs.Members.{flights-joined, flights-left}
 use Rattle.dr_laws_closed.specs.Regroups.{Regroups}
 use Rattle.dr_laws_sound.proofs.Cases.{aborted}
 use Rattle.dr_laws_sound.proofs.NewMessages.{Adds}
+use Rattle.dr_laws_sound.proofs.GoesOn.{AllGoOn}
 use Rattle.dr_laws_sound.proofs.FitsFlash.{as_begun, sound-begun}
 use Rattle.dr_laws_sound.proofs.KeepsSound.{Along, MayDo, StepHolds, keeps-sound, holds-moves, over}
 use Rattle.dr_laws_sound.proofs.Along as along
@@ -102,6 +103,7 @@ pub record Orders (w : World) (p : Plan) : Type 1 where
   pub last : (v : World) → ends v → Sound (record v { control = p.last v.control })
   pub turns : (v : World) → ends v → Regroups v.control.sessions (p.last v.control).sessions
   pub adds : (v : World) → ends v → Adds v.control.sessions v.control.flight (p.last v.control).flight
+  pub goes : (v : World) → ends v → AllGoOn v.control (p.last v.control).sessions (p.last v.control).flight
 
 pub holds-orders : (w : World) (p : Plan) → Orders w p → StepHolds w p
 holds-orders w p o = record {

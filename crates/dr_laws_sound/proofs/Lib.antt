@@ -69,6 +69,9 @@
 --   that gives `May` from the lemma of its checks, and hands `done-..` to the next member.
 -- - **What comes into flight** is a reply, or an order that its session's phase asks for: `Adds` (`NewMessages.antt`), the field `adds`
 --   of `Orders`. What rides along sees by it that no flash comes late (`EasesFlight`).
+-- - **How a session goes on** from one table to the next is `AllGoOn` (`GoesOn.antt`), the field `goes` of `Orders`: what a lost master is told
+--   was told before, or members show it; and a master commits only from where it did, from an early phase, or where reports told both of a
+--   member that can go back and of one that can't. `TablesGo.antt` has a lemma for each change of the table of sessions.
 -- - **A set of numbers below n has no more than n** (`len-low`, `Spends.antt`): by `len-remove` and `same_set`.
 pub mod Listed
 pub mod Cases
@@ -105,6 +108,8 @@ pub mod FitsCollide
 pub mod FitsWrites
 pub mod FitsHolds
 pub mod NewMessages
+pub mod GoesOn
+pub mod TablesGo
 pub mod FitsSessions
 pub mod FitsMembers
 pub mod FitsOrders

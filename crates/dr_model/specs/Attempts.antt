@@ -481,18 +481,19 @@ pub record RevertsMember (k : Control) (v a s n : ℕ) : Type 0 where
   pub none : NoneCommitted n (seen_in k place.session)
   pub way : (Due k.flight place.session place.member.server.0 phases.Revert n × (is_secondary_of a (fields_at k place.member.b.0) ≡ true)) ⊎ All (λ u. u.paired ≡ false) (seen_in k place.session)
 
--- a floor is raised, but not past the last number of a session whose member has v as its target; and while that is revertible, not up to
--- that number
-pub record Raises (f : Fields) (n last : ℕ) : Type 0 where
-  pub under : f.revertible ≡ true → n < last
-  pub higher : f.floor ≤ n
-  pub low : n ≤ last
+-- a floor is raised where a revert is due for that number, but not past the last number of a session whose member has v as its target;
+-- and while that is revertible, not up to that number
+pub record Raises (k : Control) (x : Session) (m : Member) (v n : ℕ) : Type 0 where
+  pub due : Due k.flight x m.server.0 phases.Revert n
+  pub under : (fields_at k v).revertible ≡ true → n < x.last
+  pub higher : (fields_at k v).floor ≤ n
+  pub low : n ≤ x.last
 
 -- what raising a floor asks, of whichever member has the target
 abbrev pub MayRaiseFloor : Control → ℕ → ℕ → Type 0
-MayRaiseFloor k v n = (x : Session) (m : Member) → In x k.sessions → In m x.members → m.c.0 ≡ v → Raises (fields_at k v) n x.last
+MayRaiseFloor k v n = (x : Session) (m : Member) → In x k.sessions → In m x.members → m.c.0 ≡ v → Raises k x m v n
 
--- what each kind asks of sessions and phases, beside what its row gives
+-- what each kind asks of sessions and phases, beside what its row gives; the first hold of an attempt is no such move, but opens it
 abbrev pub InAttempt : Control → Move → Type 0
 InAttempt k (Overwrite w v t) = Persists (fields_at k v) × DoesNotCount (fields_at k v)
 InAttempt k (Keep v t) = Persists (fields_at k v)
@@ -504,7 +505,7 @@ InAttempt k (Reverse v left) = MayGo k v × GoesAs k v left (fields_at k v).sess
 InAttempt k (Release v t) = (fields_at k v).reversing ≡ true
 InAttempt k (MakeSecondary v u kind state) = MayFollow k v × IsSilent k u
 InAttempt k (Yield v u kind state) = MayFollow k v × IsSilent k u
-InAttempt k (Hold v s n first) = HoldsMember k v s n × ((fields_at k v).attempt < n)
+InAttempt k (Hold v s n first) = HoldsMember k v s n × (((fields_at k v).attempt < n) × (first ≡ false))
 InAttempt k (Free v) = MayFree k v
 InAttempt k (Seal v u s n) = SealsMember k v u s n
 InAttempt k (Finish v n) = UpToLast k v n

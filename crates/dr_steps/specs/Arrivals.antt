@@ -11,6 +11,7 @@ use Rattle.dr_model.specs.Control.{Control}
 use Rattle.dr_model.specs.Messages.{Message, Body, Asks}
 use Rattle.dr_model.specs.MessagePlans as plans
 use Rattle.dr_model.specs.Phases.{Reply}
+use Rattle.dr_model.specs.PlanParts.{Plan, on_session}
 use Rattle.dr_model.specs.Refusals.{unknown}
 use Rattle.dr_model.specs.SessionPlans.{off_refusal}
 use Rattle.dr_model.specs.Sessions.{Session, Mirror, session_in, no_master}
@@ -54,5 +55,5 @@ posted_by (Ok m) = Done (Posted m)
 posted_by (Err why) = Refused why
 
 -- what a message that is in flight comes to as it arrives
-abbrev pub arrives : Control → Message → plans.Plan
-arrives k m = plans.on_session (session_in k.sessions m.session) (λ y. plans.deliver_on k m y m.body)
+abbrev pub arrives : Control → Message → Plan
+arrives k m = on_session (session_in k.sessions m.session) (λ y. plans.deliver_on k m y m.body)

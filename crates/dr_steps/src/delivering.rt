@@ -3,8 +3,9 @@
 ghost use Rattle.std.specs.Prelude.{◌≡◌, ℕ, ◌<◌, ◌≤◌, true, false, [], length, None, Some, IsTrue, IfSome, if◌then◌else◌};
 ghost use Rattle.dr_ids.specs.declared.refusal.Refusal.TheVariants.{OldMessage};
 ghost use Rattle.dr_ids.specs.declared.refusal.Kind.TheVariants.{Message as OfMessage};
-ghost use Rattle.dr_ctl.specs.Kept.{flight_in, is_order_in};
+ghost use Rattle.dr_ctl.specs.Kept.{flight_in};
 ghost use Rattle.dr_master.specs.Seen.{order_of, reply_of};
+ghost use Rattle.dr_model.specs.Groups.{In};
 ghost use Rattle.dr_model.specs.Laws.{Sound};
 ghost use Rattle.dr_model.specs.Limits.{step_events};
 ghost use Rattle.dr_model.specs.MessagePlans as plans;
@@ -16,12 +17,14 @@ ghost use Rattle.dr_model.specs.SessionEntries.{members_on};
 ghost use Rattle.dr_model.specs.Sessions as model;
 ghost use Rattle.dr_model.specs.declared.step.Step.{Step};
 ghost use Rattle.dr_moves.specs.Checks.{is_stop};
+ghost use Rattle.dr_gmirror.specs.Exchange.{IsNear};
 ghost use Rattle.dr_steps.specs.Arrivals.{message_at, order_refusal_in, reply_refusal_in, arrives, posted_by};
 ghost use Rattle.dr_steps.specs.Faults.{CountsStop};
 ghost use Rattle.dr_steps.specs.Here.{here, said_of, OnAnswer, OnNoMemory, IsReady, Carries};
 ghost use Rattle.dr_steps.specs.Wants.{WantsRow};
 
 use crate::answers::refused;
+use crate::exchanges::tell_few;
 use crate::locate::{off_refusal, unknown_session};
 use crate::messages::hear;
 use crate::sending::full_refusal;
@@ -86,7 +89,7 @@ fn order_refusal<P: Plant>(
 ) -> Option<Refusal>
     requires low { x.now.server.0 < 8 }
     requires known { x.now.server.0 < length config.now.names }
-    requires master { IfSome (model.mirror_in (model.session_in tables.now.sessions.sessions x.now.session.0)) (λ r. r.server < length config.now.names) }
+    requires near { IfSome (model.mirror_in (model.session_in tables.now.sessions.sessions x.now.session.0)) (IsNear (length config.now.names)) }
     ensures refusal { (starts : ℕ) → messages.message_in (flight_in tables.now.flight) x.now.number ≡ Some (message_at x.now (messages.Asks starts))
         → result ≡ order_refusal_in (here (P.state plant.now) config.now tables.now []).control x.now starts }
     ensures calm { is_stop result ≡ false }
@@ -132,7 +135,7 @@ fn carry_order<P: Plant>(
     requires low { x.now.server.0 < 8 }
     requires running { (P.state plant.old).on x.now.server.0 ≡ true }
     requires few { length config.now.volumes ≤ 64 }
-    requires order { IsTrue (is_order_in (messages.message_in (flight_in tables.old.flight) x.now.number)) }
+    requires found { (starts : ℕ) × (messages.message_in (flight_in tables.old.flight) x.now.number ≡ Some (message_at x.now (messages.Asks starts))) }
     requires space { messages.is_full (flight_in tables.old.flight) ≡ false }
     requires memory { IsTrue tables.old.flight.room }
     requires numbers { (flight_in tables.old.flight).made < 4294967295 }
@@ -178,6 +181,9 @@ fn deliver_order<P: Plant>(
 ) -> Result<Addition, Fault>
     requires ready { IsReady (P.state plant.old) config.now tables.old journal.old.events }
     requires sound { Sound (here (P.state plant.old) config.now tables.old journal.old.events) }
+    requires low { x.now.server.0 < 8 }
+    requires known { x.now.server.0 < length config.now.names }
+    requires found { (starts : ℕ) × (messages.message_in (flight_in tables.old.flight) x.now.number ≡ Some (message_at x.now (messages.Asks starts))) }
     requires few { length config.now.volumes ≤ 64 }
     requires numbers { (flight_in tables.old.flight).made < 4294967295 }
     requires room { step_events ≤ journal.old.spare }
@@ -235,7 +241,7 @@ fn reply_refusal<P: Plant>(
 ) -> Option<Refusal>
     requires low { x.now.server.0 < 8 }
     requires known { x.now.server.0 < length config.now.names }
-    requires master { IfSome (model.mirror_in (model.session_in tables.now.sessions.sessions x.now.session.0)) (λ r. (r.server < 8) × (r.server < length config.now.names)) }
+    requires near { IfSome (model.mirror_in (model.session_in tables.now.sessions.sessions x.now.session.0)) (IsNear (length config.now.names)) }
     ensures refusal { (reply : phases.Reply) → result ≡ reply_refusal_in (here (P.state plant.now) config.now tables.now []).control (message_at x.now (messages.Replies reply)) }
     ensures calm { is_stop result ≡ false }
 {
@@ -265,6 +271,9 @@ fn deliver_reply<P: Plant>(
 ) -> Result<Addition, Refusal>
     requires ready { IsReady (P.state plant.now) config.now tables.old journal.now.events }
     requires sound { Sound (here (P.state plant.now) config.now tables.old journal.now.events) }
+    requires low { x.now.server.0 < 8 }
+    requires known { x.now.server.0 < length config.now.names }
+    requires few { length config.now.volumes ≤ 64 }
     requires found { messages.message_in (flight_in tables.old.flight) x.now.number ≡ Some (message_at x.now (messages.Replies (reply_of reply))) }
     ensures step { (line : ℕ) → after_plan (here (P.state plant.now) config.now tables.old journal.now.events) line
         (arrives (here (P.state plant.now) config.now tables.old journal.now.events).control (message_at x.now (messages.Replies (reply_of reply))))
@@ -275,6 +284,7 @@ fn deliver_reply<P: Plant>(
     if let Some(why) = reply_refusal(plant, config, tables, x) {
         return Err(why);
     }
+    tell_few(&tables.sessions, x.session);
     take_reply(&mut tables.sessions, x.session, x.server, reply);
     Ok(phase_of(&tables.sessions, x.session))
 }
@@ -295,6 +305,7 @@ pub fn deliver<P: Plant>(
     requires ready { IsReady (P.state plant.old) config.now tables.old journal.old.events }
     requires sound { Sound (here (P.state plant.old) config.now tables.old journal.old.events) }
     requires few { length config.now.volumes ≤ 64 }
+    requires homes { (m : messages.Message) → In m (flight_in tables.old.flight).messages → m.server < length config.now.names }
     requires numbers { (flight_in tables.old.flight).made < 4294967295 }
     requires room { step_events ≤ journal.old.spare }
     ensures step { OnAnswer result (λ a. (line : ℕ) → after_plan (here (P.state plant.old) config.now tables.old journal.old.events) line

@@ -277,7 +277,7 @@ pub fn carry_session<P: Plant>(
 ) -> Result<Addition, Fault>
     requires ready { IsReady (P.state plant.old) config.now tables.old journal.old.events }
     requires sound { Sound (here (P.state plant.old) config.now tables.old journal.old.events) }
-    requires counts { HasCounts (flight_in tables.old.flight) }
+    requires counts { HasCounts (length config.now.names) (flight_in tables.old.flight) }
     requires fits { IsWellFormed step.now }
     requires few { length config.now.volumes ≤ 64 }
     requires room { step_events ≤ journal.old.spare }

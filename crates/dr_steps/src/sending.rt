@@ -1,11 +1,11 @@
 //! The step that sends an order of a session's master on its way to a server.
 
-ghost use Rattle.std.specs.Prelude.{◌≡◌, ℕ, ◌+◌, ◌<◌, ◌≤◌, ◌++◌, [], length, OnErr, if◌then◌else◌};
+ghost use Rattle.std.specs.Prelude.{◌≡◌, ℕ, ◌+◌, ◌<◌, ◌≤◌, ◌++◌, true, false, None, length, OnErr, if◌then◌else◌};
 ghost use Rattle.dr_ctl.specs.Kept.{flight_in};
+ghost use Rattle.dr_model.specs.Forming.{refusal_said};
 ghost use Rattle.dr_model.specs.Laws.{Sound};
 ghost use Rattle.dr_model.specs.MessagePlans as plans;
 ghost use Rattle.dr_model.specs.Runs.{after_plan, said};
-ghost use Rattle.dr_model.specs.SessionPlans.{begin_refusal};
 ghost use Rattle.dr_model.specs.Sessions as model;
 ghost use Rattle.dr_model.specs.declared.step.Step.{Step};
 ghost use Rattle.dr_moves.specs.Checks.{is_stop};
@@ -51,7 +51,8 @@ fn begin_if(sessions: &mut Sessions, journal: &mut Journal, s: SessionId, n: u32
     }
 }
 
-/// Sends a server the order that the session's master has for it. The answer is the message's number.
+/// Sends a server the order that the session's master has for it. The answer is the message's number. Where there is no memory
+/// nothing has changed.
 fn send_to<P: Plant>(
     plant: &P,
     config: &Config,
@@ -70,6 +71,8 @@ fn send_to<P: Plant>(
         (plans.send_on (here (P.state plant.now) config.now tables.old journal.old.events).control s.0 (model.mirror_in (model.session_in tables.old.sessions.sessions s.0)) server.0 (model.members_in (model.session_in tables.old.sessions.sessions s.0)))
         ≡ said (here (P.state plant.now) config.now tables.new journal.new.events) line a) }
     ensures faults { OnAnswer result (λ a. CountsStop a (P.state plant.now) (P.state plant.now)) }
+    ensures wanted { OnNoMemory result (refusal_said ((plans.send_on (here (P.state plant.now) config.now tables.old journal.old.events).control s.0 (model.mirror_in (model.session_in tables.old.sessions.sessions s.0)) server.0 (model.members_in (model.session_in tables.old.sessions.sessions s.0))).says
+        (here (P.state plant.now) config.now tables.old journal.old.events).control) ≡ None) }
     ensures same { OnErr result (here (P.state plant.now) config.now tables.new journal.new.events ≡ here (P.state plant.now) config.now tables.old journal.old.events) }
     ensures ready { IsReady (P.state plant.now) config.now tables.new journal.new.events }
     ensures host { tables.new.host ≡ tables.old.host }
@@ -87,10 +90,10 @@ fn send_to<P: Plant>(
     };
     let begins = is_idle(phase_in(&tables.sessions, s));
     begin_if(&mut tables.sessions, journal, s, order.n, begins);
-    match tables.flight.send(s, server, order) {
-        Ok(m) => Ok(Addition::Posted { m }),
-        Err(why) => Err(Fault::Refused(why)),
-    }
+    let Ok(m) = tables.flight.send(s, server, order) else {
+        unreachable!()
+    };
+    Ok(Addition::Posted { m })
 }
 
 /// Sends the server of that name the order that the session's master has for it: the one that it is owed, or where no attempt
