@@ -131,7 +131,7 @@ send-at s t h ev n server x there = ap (λ o. send_on (here s t h ev).control n 
 pub send-wants : (s : PlantState) (t : ConfigTable) (h : Tables) (ev : List Event) (n server : ℕ) (name : Name) (x : Session) → session_in h.sessions.sessions n ≡ Some x
     → (bytes : List ℕ) → bytes ≡ name_bytes name → server_named t bytes ≡ Some server
     → (let k : Control = (here s t h ev).control in
-      refusal_said ((send_on k n (mirror_in (session_in h.sessions.sessions n)) server (members_in (session_in h.sessions.sessions n))).says k) ≡ None → WantsRow (here s t h ev) (Send n name))
+    refusal_said ((send_on k n (mirror_in (session_in h.sessions.sessions n)) server (members_in (session_in h.sessions.sessions n))).says k) ≡ None → WantsRow (here s t h ev) (Send n name))
 send-wants s t h ev n server name x there bytes named some free = record {
   row = refl;
   free = λ line.
