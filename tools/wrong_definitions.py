@@ -331,6 +331,8 @@ ROWS = [
         (attempts("Orders"), "by (or_cases (nat_lt n (fields_at k m.a.0).attempt) (nat_eq", "by (or_cases (nat_lt n (fields_at k m.a.0).attempt && not (fields_at k m.a.0).recording) (nat_eq"),
         (attempts("Orders"), "by : (nat_lt n (fields_at k m.a.0).attempt ≡ true) ⊎", "by : ((nat_lt n (fields_at k m.a.0).attempt && not (fields_at k m.a.0).recording) ≡ true) ⊎"),
         (attempts("Orders"), "ltb-true n (fields_at k m.a.0).attempt above in", "ltb-true n (fields_at k m.a.0).attempt (and_parts (nat_lt n (fields_at k m.a.0).attempt) (not (fields_at k m.a.0).recording) above).0 in"),
+        ("dr_laws_orders/proofs/Older.antt", "arith, Bool, true, false, cond, nat_eq, nat_lt,", "arith, Bool, true, false, cond, not, ◌&&◌, nat_eq, nat_lt,"),
+        ("dr_laws_orders/proofs/Older.antt", "(or_parts (nat_lt n (fields_at u.control q.a.0).attempt) _ past)", "(or_parts (nat_lt n (fields_at u.control q.a.0).attempt && not (fields_at u.control q.a.0).recording) _ past)"),
     ),
     Row(
         "repeated_hold_empties_again",
