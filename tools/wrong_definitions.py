@@ -338,7 +338,7 @@ ROWS = [
         "repeated_hold_empties_again",
         "a hold that comes again is done again, and what changed since counts no more",
         (spec("SessionEntries"), "    if records n (fields_at k a) then Pass\n", "    if records n (fields_at k a) then Do (Make (Hold a s n false))\n"),
-        (sound("HushedPlans"), "(records n (fields_at k m.a.0)) Pass _ tt (by", "(records n (fields_at k m.a.0)) (Do (Make (HoldMove m.a.0 s n false))) _ tt (by"),
+        (sound("HushedPlans"), "(records n (fields_at k m.a.0)) Pass _ tt (by", "(records n (fields_at k m.a.0)) (Do (Make (HoldMove m.a.0 s n false))) _ refl (by"),
         (sound("CalmPlans"), "choice-goes (records n (fields_at k m.a.0)) Pass _ pass-goes (do-goes _)", "choice-goes (records n (fields_at k m.a.0)) _ _ (do-goes _) (do-goes _)"),
         (sound("SessionCosts"), "(records n (fields_at w.control m.a.0)) Pass _ (modest-pass w) (either", "(records n (fields_at w.control m.a.0)) (Do (Make (HoldMove m.a.0 s n false))) _ (modest-do w (Make (HoldMove m.a.0 s n false)) (omega arith)) (either"),
         (sound("RefusedWrites"), "(last-endless (hold_on s m.a.0 n) (λ k. choice-goes _ Pass _ pass-goes (do-goes _)))", "(last-endless (hold_on s m.a.0 n) (λ k. choice-goes _ _ _ (do-goes _) (do-goes _)))"),

@@ -1,15 +1,13 @@
 -- What a line that sends an order comes to.
-use Rattle.std.proofs.Common.{ℕ, ◌≡◌, ◌≤◌, ◌+◌, List, [], ◌∷◌, ◌++◌, length, refl, sym, ap, ◌∙◌, subst, arith, Bool, true, false, not, ◌||◌, Option, Some, None, Result, Ok, Err, cond}
-use Rattle.std.specs.Prelude.{◌==◌, OnOk, OnErr, if◌then◌else◌}
+use Rattle.std.proofs.Common.{ℕ, ◌≡◌, ◌+◌, List, ◌++◌, refl, sym, ap, ◌∙◌, subst, Bool, true, false, Option, Some, None}
+use Rattle.std.specs.Prelude.{if◌then◌else◌}
 use Rattle.std.specs.Option.{option_or}
-use Rattle.std.specs.Result.{result_err}
-use Rattle.std.proofs.lemmas.List.{append-nil, length-append}
+use Rattle.std.proofs.lemmas.List.{append-nil}
 use Rattle.std.proofs.lemmas.Option.{same_Some}
 use Rattle.dr_ids.specs.declared.names.Member.{Member}
-use Rattle.dr_ids.specs.declared.refusal.PhaseName.{PhaseName}
 use Rattle.dr_ids.specs.declared.refusal.PhaseName.TheVariants as phase
 use Rattle.dr_ids.specs.declared.refusal.Refusal.{Refusal}
-use Rattle.dr_ids.specs.declared.refusal.Refusal.TheVariants.{OutOfOrder, NumbersSpent}
+use Rattle.dr_ids.specs.declared.refusal.Refusal.TheVariants.{OutOfOrder}
 use Rattle.dr_plant.specs.State.{PlantState}
 use Rattle.dr_config.specs.Table.{ConfigTable, server_named}
 use Rattle.dr_ctl.specs.Kept.{KeptFlight, flight_in}
@@ -30,9 +28,8 @@ use Rattle.dr_model.specs.PlanParts.{Plan, unless, name_bytes, on_named, on_sess
 use Rattle.dr_model.specs.Phases as phases
 use Rattle.dr_model.specs.Runs.{after_plan, said}
 use Rattle.dr_model.specs.SessionPlans.{is_idle, off_refusal, phase_refusal}
-use Rattle.dr_model.specs.Sessions.{Session, Mirror, session_in, mirror_in, members_in, begin_refusal, changed, begun}
+use Rattle.dr_model.specs.Sessions.{Session, Mirror, session_in, mirror_in, members_in, changed, begun}
 use Rattle.dr_model.proofs.CarryLemmas.{plan-refuses, plan-ends, carry-none}
-use Rattle.dr_facts.proofs.Refusals.{none-both}
 use Rattle.dr_gmirror.specs.Exchange.{asking_refusal_in, order_in}
 use Rattle.dr_gmirror.proofs.ExchangeLemmas.{refusals-grouped}
 use Rattle.dr_steps.specs.Here.{here}
@@ -40,30 +37,10 @@ use Rattle.dr_steps.specs.Wants.{WantsRow}
 use Rattle.dr_steps.specs.declared.tables.Tables.{Tables}
 use Rattle.dr_steps.proofs.StepLemmas.{plan-unless}
 
--- ---- an attempt that begins
-
--- no attempt goes on, and the next one may begin
-idle-free : (p : PhaseName) (n : ℕ) (out owed : Bool)
-    → (if is_idle p then (if out then Some (OutOfOrder phase.Idle) else if n + 1 == 4294967296 then Some NumbersSpent else None) else if owed then None else Some (OutOfOrder p)) ≡ None
-    → is_idle p ≡ true → phases.begin_refusal p n ≡ None
-idle-free phase.Idle n true owed free idle = absurd cc
-idle-free phase.Idle n false owed free idle = free
-idle-free p n out owed free idle = absurd cc
-
--- so the order begins it where the master has one
-pub may-begin : (k : Control) (m : Option Mirror) (server : ℕ) (ms : List Member) (begins : Bool) → begins ≡ is_idle (phase_of m) → asking_refusal_in k m server ms ≡ None → begins ≡ true → begin_refusal m ≡ None
-may-begin k None server ms begins is free begin = absurd cc
-may-begin k (Some r) server ms begins is free begin = idle-free r.master.phase r.master.number _ _ (none-both (off_refusal k r.server) (phase_refusal r server ms) free).1 (sym is ∙ begin)
-
--- the journal is told of it, which tells of no write
+-- the journal is told of an attempt that begins, which tells of no write
 pub begun-ready : (s : PlantState) (t : ConfigTable) (h : Tables) (ev mid : List Event) (begins : Bool) (n q : ℕ) → mid ≡ ev ++ told_begun begins n q → metro.IsReady s t h.host ev → metro.IsReady s t h.host mid
 begun-ready s t h ev mid true n q told ready = told-ready s t h.host ev mid (Begin n q) (λ x. refl) told ready
 begun-ready s t h ev mid false n q told ready = subst (metro.IsReady s t h.host) (sym (told ∙ append-nil ev)) ready
-
--- and has room left for the answer
-pub begun-spares : (ev mid : List Event) (begins : Bool) (n q spare left : ℕ) → mid ≡ ev ++ told_begun begins n q → length mid + left ≡ length ev + spare → 2 ≤ spare → 1 ≤ left
-begun-spares ev mid true n q spare left told all room = let one : length mid ≡ length ev + 1 = ap length told ∙ length-append ev (Begin n q ∷ []) in omega (arith, one, all, room)
-begun-spares ev mid false n q spare left told all room = let none : length mid ≡ length ev = ap length (told ∙ append-nil ev) in omega (arith, none, all, room)
 
 -- ---- the order is sent
 

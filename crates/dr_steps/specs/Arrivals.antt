@@ -10,7 +10,6 @@ use Rattle.dr_model.specs.declared.said.Said.TheVariants.{Done, Refused}
 use Rattle.dr_model.specs.Control.{Control}
 use Rattle.dr_model.specs.Messages.{Message, Body, Asks}
 use Rattle.dr_model.specs.MessagePlans as plans
-use Rattle.dr_model.specs.Phases.{Reply}
 use Rattle.dr_model.specs.PlanParts.{Plan, on_session}
 use Rattle.dr_model.specs.Refusals.{unknown}
 use Rattle.dr_model.specs.SessionPlans.{off_refusal}

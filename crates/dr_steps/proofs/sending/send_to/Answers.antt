@@ -3,9 +3,9 @@ use Rattle.dr_master.specs.Seen as master
 use Rattle.dr_model.specs.Messages.{Flight, sent}
 use Rattle.dr_model.specs.Sessions.{session_in, mirror_in, members_in}
 use Rattle.dr_model.specs.SessionPlans.{is_idle}
-use Rattle.dr_steps.specs.Here.{here, rest_of}
+use Rattle.dr_steps.specs.Here.{rest_of}
 use Rattle.dr_steps.proofs.ExchangeLemmas.{master-near}
-use Rattle.dr_steps.proofs.SendLemmas.{may-begin, begun-ready, send-unasked, send-full, send-free, send-done}
+use Rattle.dr_steps.proofs.SendLemmas.{begun-ready, send-unasked, send-full, send-free, send-done}
 use Rattle.dr_steps.proofs.sending.send_to.Goals as goal
 
 pub asked_order-requires-clause-near : goal.asked_order-requires-clause-near
@@ -28,12 +28,6 @@ returns-in_default-reserve-clause-wanted g c =
     let s = g.P.Plant.state c.args.plant.now in let t = c.args.config.now in let h = c.args.tables.now in let ev = c.args.journal.now.events in let n = c.args.s.0 in
     let x = session_in h.sessions.sessions n in
     send-free s t h ev n c.args.server.0 (members_in x) (mirror_in x) (master.order_of c.in-Ok.order) (sym (c.in-Ok.ensures.refused (rest_of h ev) ev)) (sym c.in_default.ensures.refusal) c.in-Ok.ensures.order
-
-pub begin_if-requires-clause-may : goal.begin_if-requires-clause-may
-begin_if-requires-clause-may g c =
-    let s = g.P.Plant.state c.args.plant.now in let t = c.args.config.now in let h = c.args.tables.now in let ev = c.args.journal.now.events in
-    let x = session_in h.sessions.sessions c.args.s.0 in
-    may-begin (here s t h ev).control (mirror_in x) c.args.server.0 (members_in x) c.is_idle-begins.result (c.is_idle-begins.ensures ∙ ap is_idle c.phase_in.ensures) (sym (c.in-Ok.ensures.refused (rest_of h ev) ev))
 
 pub returns-clause-step : goal.returns-clause-step
 returns-clause-step g c line =
