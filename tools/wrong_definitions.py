@@ -110,7 +110,7 @@ ROWS = [
         (
             "dr_facts/proofs/Issued.antt dr_laws_cuts/proofs/Told.antt dr_laws_closed/proofs/Told.antt dr_laws_targets/proofs/Told.antt"
             " dr_laws_sound/proofs/Hushed.antt dr_laws_sound/proofs/Journal.antt dr_laws_sound/proofs/KeepsQueue.antt dr_laws_sound/proofs/RowsAfter.antt dr_laws_sound/proofs/StopsTold.antt"
-            " dr_facts/proofs/Heard.antt dr_laws_freezes/proofs/KeepsWindow.antt dr_laws_recovery/proofs/OnTracks.antt dr_laws_recovery/proofs/Spared.antt",
+            " dr_facts/proofs/Heard.antt dr_laws_freezes/proofs/KeepsWindow.antt dr_laws_flashes/proofs/Takes.antt dr_laws_recovery/proofs/OnTracks.antt dr_laws_recovery/proofs/Spared.antt",
             "Begin, Cut",
             "Frozen as Begin, Cut",
         ),
@@ -405,6 +405,47 @@ ROWS = [
         (sound("FlightCounts"), "by k reply n (counted-heard n (length k.servers) s server (k.flight.epoch s) o.work k.flight h)", "by k reply n (counted-heard n (length k.servers) s server (cond reply (k.flight.epoch s) 0) o.work k.flight h)"),
         (sound("FlightCounts"), "CountedBy k n (messages.heard s server (k.flight.epoch s) o.work k.flight)", "CountedBy k n (messages.heard s server (cond b (k.flight.epoch s) 0) o.work k.flight)"),
         seen=False,
+    ),
+    Row(
+        "old_order_named_by_its_epoch",
+        "an old order is refused, and the answer names its epoch instead of its message",
+        (spec("MessagePlans"), "Some (OldMessage m.number)", "Some (OldMessage m.epoch)"),
+    ),
+    Row(
+        "start_counted_as_the_first",
+        "each start of a server counts as its first, so that an order from before a later one is carried out",
+        (spec("Messages"), "starts = at f.starts server (f.starts server + 1)", "starts = at f.starts server 1"),
+        (sound("FlightCounts"), "f.starts server (f.starts server + 1) one (λ q ne. more.starts q)", "f.starts server 1 (omega arith) (λ q ne. more.starts q)"),
+    ),
+    Row(
+        "raised_floor_copies_on",
+        "a revert of an older attempt has the target's tracks copied in the background from then on",
+        (spec("Pairs"), "with_floor n f = record f { floor = n }", "with_floor n f = record f { floor = n; nocopy = false }"),
+        ("dr_facts/proofs/Lawful.antt",
+         "  lawful-floor i = lawful-paired (with_floor i f) old.out_of_sync_low old.change_recording_low old.blank_low law.primary law.secondary",
+         "  lawful-floor i = record { sets = law.sets; primary = law.primary; secondary = law.secondary; relation = λ h. let o = law.relation h in (o.0, refl, o.2, o.3, o.4, o.5, o.6, o.7, o.8, o.9, o.10, o.11, o.12, o.13, o.14) }"),
+        (sound("KeepsStructure"),
+         "  kept-structure (RaiseFloor v n) a = paired (RaiseFloor v n) (lawful-floor _ _ (old.lawful v) n) (λ q h. h)",
+         "  kept-structure (RaiseFloor v n) a = structure-at v _ (record {\n"
+         "    lawful = lawful-floor _ _ (old.lawful v) n;\n"
+         "    sets = let s = old.sets v in record { apart = s.apart; noted_held = s.noted_held; rewritten_held = s.rewritten_held };\n"
+         "    flags = let g = old.flags v in record { persists = g.persists; records = g.records; unchanged = g.unchanged; some = g.some };\n"
+         "    reverts = λ e. let r = old.reverts v e in record { records = r.records; forward = r.forward; apart = r.apart; noted_held = r.noted_held; rewritten_held = r.rewritten_held; unchanged = r.unchanged; kept = r.kept };\n"
+         "    defined = old.defined v;\n    from = old.flash v;\n    loop = no_loop v;\n    onto = λ u. old.flash u v;\n    restores = stays-restores v;\n  })"),
+    ),
+    Row(
+        "numbers_anew_in_an_empty_flight",
+        "where the last message in flight is lost, messages are numbered from 1 again, so that an old number is carried out",
+        (spec("Messages"), "lost n f = record f { messages = filter (λ m. not (m.number == n)) f.messages }",
+         "lost n f = record f { messages = filter (λ m. not (m.number == n)) f.messages; made = made_left (filter (λ m. not (m.number == n)) f.messages) f.made }"),
+        (spec("Messages"), "-- the message of that number is gone\n",
+         "-- numbers begin anew where no message is left\nabbrev pub made_left : List Message → ℕ → ℕ\nmade_left [] n = 0\nmade_left (m ∷ ms) n = n\n\n-- the message of that number is gone\n"),
+        (sound("FlightCounts"), "(λ m h. fewer m _ (counted-fewer m count (λ (q : Message). not (q.number == n)) k.flight h))",
+         "(λ m h. fewer m _ (counted-dropped m count (filter (λ (q : Message). not (q.number == n)) k.flight.messages) k.flight (counted-fewer m count (λ (q : Message). not (q.number == n)) k.flight h)))"),
+        (sound("FlightCounts"), "counted-left : (n c s l : ℕ)",
+         "counted-dropped : (n c : ℕ) (ms : List Message) (f : Flight) → IsCounted n c (record f { messages = ms }) → IsCounted n c (record f { messages = ms; made = messages.made_left ms f.made })\n"
+         "counted-dropped n c [] f h = record { made = omega arith; starts = h.starts; epochs = h.epochs; numbers = λ m here. absurd here; once = h.once; homes = h.homes }\n"
+         "counted-dropped n c (m ∷ ms) f h = h\n\ncounted-left : (n c s l : ℕ)"),
     ),
 ]
 
