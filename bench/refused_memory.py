@@ -2,9 +2,9 @@
 """Refuses each allocation of the program in turn, outside the gate: bench/refused_memory.py [PROGRAM]
 
 The program takes its memory from the C library. A library that is loaded before it counts these calls, and refuses the one of a number,
-or it and all behind it. So for each number up to the last call of a run in which a server stops in a commit and a recovery follows, and of
-a recovery of an image: the program ends with status 5, and has printed a front of what it prints with ample memory (nothing, where it is a
-recovery of an image), or it has printed all and ends as with ample memory. What is printed of the recovery is so the group that it found.
+or it and all behind it. So for each number up to the last call of a run in which a server stops in a commit and a recovery follows, of one
+whose orders travel as messages, and of a recovery of an image: the program ends with status 5, and has printed a front of what it prints with
+ample memory (nothing, where it is a recovery of an image), or it has printed all and ends as with ample memory. What is printed of the recovery is so the group that it found.
 The library is made by gcc, in a folder that goes again."""
 import os
 import subprocess
@@ -102,7 +102,8 @@ def main():
     program = sys.argv[1] if len(sys.argv) == 2 else str(PROGRAM)
     with tempfile.TemporaryDirectory() as folder:
         library = library_in(Path(folder))
-        for words, name in [(["run"], "site-lost-in-a-commit"), (["recover", "01"], "recover-of-one-target")]:
+        runs = [(["run"], "site-lost-in-a-commit"), (["run"], "orders-delivered-twice"), (["recover", "01"], "recover-of-one-target")]
+        for words, name in runs:
             for is_lasting in [False, True]:
                 requests, ends = refuse(program, words, name, library, is_lasting)
                 told = ", ".join(f"{count} {end}" for end, count in sorted(ends.items()))

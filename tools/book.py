@@ -19,6 +19,7 @@ CHAPTERS = [
     ("What a call is", "Words Outcome Trials Trial Stands Cut Followed Lines Faults Given Limits Runs Carried Fits View"),
     ("The headline", "Headline NewestGroup ClosedCuts Cuts Dependence HeldWrites Groups Recovered Decided Decisions"
                      " Seals Windows Moments Table Laws Held TakenWrites Stored Formed"),
+    ("Orders that travel", "Arrivals OldOrders OlderNumbers Commits Flashed Flights Attempts Calm"),
     ("Pairs, freezes and answers", "Sites Compared Returned Frozen InSync Acknowledged RefusedSteps Showing Stops"),
     ("Listings and images", "Listings Listed PlantImage LineText Recovery Offline Found Pieces Imaged GivesBack"),
     ("Devices", "State Layout BigEndian Control Paths Links Views"),

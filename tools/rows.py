@@ -10,7 +10,7 @@ from pathlib import Path
 
 ROOT = Path(__file__).resolve().parent.parent
 SCRIPTS = [ROOT / "crates" / "scenarios" / "data", ROOT / "examples"]
-VALUES = {"VOL": r"[0-9A-F]{4}", "NAME": r"[A-Za-z][\w.-]*", "SS": r"[0-9A-F]{2}", "BYTES": r"(?:[0-9A-F]{2})+", "wN": r"w\d+",
+VALUES = {"VOL": r"[0-9A-F]{4}", "NAME": r"[A-Za-z][\w.-]*", "SS": r"[0-9A-F]{2}", "BYTES": r"(?:[0-9A-F]{2})+", "wN": r"w\d+", "mN": r"m\d+",
           "PHASE": r"[A-Z][a-z]+", "STATE": r"(?:Copy Pending|Full Duplex|Suspended)"}
 
 

@@ -4,9 +4,9 @@
 A must-fail edit is a wrong body under right definitions. Here it is the other way round: one row of the machine's definitions
 (crates/dr_model/specs) is wrong, and no body is looked at. The crates up to the laws are copied, the row is changed, with what
 else has to say the same, and `rt check` proves crate after crate until one refuses. It must be a crate of laws, and in it
-neither a table of costs nor a list of what is told.
+neither a table of costs nor a list of what is told. A row that no law sees is marked so, and must go through them all.
 
-wrong_definitions.py [--in FOLDER] [--verbose] [NAME..]     tries all rows, or these; exit status 1 where one isn't refused by a law
+wrong_definitions.py [--in FOLDER] [--verbose] [NAME..]     tries all rows, or these; exit status 1 where one isn't as it should be
 wrong_definitions.py --list                                 names them
 
 A folder that is given is kept, and a later run in it begins with what was proved there. It takes two or three minutes for each
@@ -22,8 +22,8 @@ from pathlib import Path
 
 TOP = Path(__file__).resolve().parent.parent
 CRATES = (
-    "dr_logic dr_ids dr_model dr_facts dr_laws_sessions dr_laws_attempts dr_laws_cuts dr_laws_closed dr_laws_targets "
-    "dr_laws_sound dr_laws_freezes dr_laws_flashes dr_laws_recovery dr_laws_return"
+    "dr_logic dr_ids dr_model dr_facts dr_laws_sessions dr_laws_attempts dr_laws_messages dr_laws_cuts dr_laws_closed "
+    "dr_laws_targets dr_laws_sound dr_laws_freezes dr_laws_flashes dr_laws_recovery dr_laws_orders dr_laws_commits dr_laws_return"
 ).split()
 # What counts events, lists what is told of which kind, or says how a definition is cut into parts: no law.
 TECHNICAL = re.compile(r"Costs|Spends|Counting|Limits|Texts|Cases|Journal")
@@ -33,21 +33,43 @@ LOST = re.compile(r"^fn (\S+): (?!proved)(.*)$")
 
 
 class Row:
-    """A wrong row of the definitions, with what else has to say the same so that they stay of one piece."""
+    """A wrong row of the definitions, with what else has to say the same so that they stay of one piece. One that no law sees is
+    held by exact clauses alone: it must be let through."""
 
-    def __init__(self, name, says, *edits):
+    def __init__(self, name, says, *edits, seen=True):
         self.name = name
         self.says = says
         self.edits = edits  # (file, old text that stands there once, new text); a file of several has them joined by blanks
+        self.seen = seen
 
 
 def spec(name):
     return f"dr_model/specs/{name}.antt"
 
 
+def attempts(name):
+    return f"dr_laws_attempts/proofs/{name}.antt"
+
+
+def messages(name):
+    return f"dr_laws_messages/proofs/{name}.antt"
+
+
 def sound(name):
     return f"dr_laws_sound/proofs/{name}.antt"
 
+
+# a refusal that asks only whether something is recorded, and the modules on orders that name it
+UNRECORDED = (
+    spec("SessionEntries"),
+    "-- it is let go, where it is held\n",
+    "-- nor any other\nabbrev pub unrecorded_refusal : ℕ → ℕ → Control → Option Refusal\nunrecorded_refusal a n k = if (fields_at k a).recording then None else Some (Void n)\n\n-- it is let go, where it is held\n",
+)
+IN_ORDERS = (
+    " ".join(map(sound, ("HushedPlans", "CalmPlans", "SessionCosts", "RefusedWrites", "Awaits", "FitsOrders"))),
+    "hold_on, void_refusal, free_on,",
+    "hold_on, void_refusal, unrecorded_refusal, free_on,",
+)
 
 ROWS = [
     Row(
@@ -88,7 +110,7 @@ ROWS = [
         (
             "dr_facts/proofs/Issued.antt dr_laws_cuts/proofs/Told.antt dr_laws_closed/proofs/Told.antt dr_laws_targets/proofs/Told.antt"
             " dr_laws_sound/proofs/Hushed.antt dr_laws_sound/proofs/Journal.antt dr_laws_sound/proofs/KeepsQueue.antt dr_laws_sound/proofs/RowsAfter.antt dr_laws_sound/proofs/StopsTold.antt"
-            " dr_facts/proofs/Heard.antt dr_laws_freezes/proofs/KeepsWindow.antt dr_laws_recovery/proofs/OnTracks.antt dr_laws_recovery/proofs/Spared.antt",
+            " dr_facts/proofs/Heard.antt dr_laws_freezes/proofs/KeepsWindow.antt dr_laws_flashes/proofs/Takes.antt dr_laws_recovery/proofs/OnTracks.antt dr_laws_recovery/proofs/Spared.antt",
             "Begin, Cut",
             "Frozen as Begin, Cut",
         ),
@@ -125,6 +147,305 @@ ROWS = [
         (sound("FitsRecovery"), "Along v (map (settle_on i (RevertAll n)) ms ++ ds)", "Along v (map (settle_on i (RevertSome n n)) ms ++ ds)"),
         (sound("FitsRecovery"), "loop Reverts (settle_on i (RevertAll n)) ds", "loop Reverts (settle_on i (RevertSome n n)) ds"),
         (sound("FitsRecovery"), "settles (RevertAll n) is = reverting n (λ q e. let no : RevertAll n ≡ CommitRest q = sym is ∙ e in absurd cc)", "settles (RevertAll n) is = committing n is"),
+    ),
+    Row(
+        "order_that_no_fence_stops",
+        "an order is carried out whatever its epoch",
+        (spec("Messages"), "starts == f.starts m.server && nat_le (f.fence m.session m.server) m.epoch", "starts == f.starts m.server && nat_le m.epoch m.epoch"),
+    ),
+    Row(
+        "delivered_report_raises_no_fence",
+        "a report that a message asks for leaves its server's fence as it was",
+        (spec("MessagePlans"), "(heard m.session m.server m.epoch m.order.work f)", "(heard m.session m.server 0 m.order.work f)"),
+        (
+            messages("Messages"),
+            "    subst (λ r. Flights (record k { flight = answered m r (heard m.session m.server m.epoch m.order.work k.flight) })) (reply-still m.session m.order.work (members_on m.server x.members) k (heard m.session m.server m.epoch m.order.work k.flight))\n"
+            "    (flights-made (record k { flight = heard m.session m.server m.epoch m.order.work k.flight }) (groups-flight k (heard m.session m.server m.epoch m.order.work k.flight) groups) law\n"
+            "    (flights-heard-at k m.session m.server m.epoch m.order.work flights (fits-known k flights m here)) m (still m.order.work) x found m.order.work refl\n"
+            "    (heard-reaches k.flight m.session m.server m.epoch m.order.work (flights.fences m.session) (fits-known k flights m here)) did silent)",
+            "    subst (λ r. Flights (record k { flight = answered m r (heard m.session m.server 0 m.order.work k.flight) })) (reply-still m.session m.order.work (members_on m.server x.members) k (heard m.session m.server 0 m.order.work k.flight))\n"
+            "    (flights-made (record k { flight = heard m.session m.server 0 m.order.work k.flight }) (groups-flight k (heard m.session m.server 0 m.order.work k.flight) groups) law\n"
+            "    (flights-heard-at k m.session m.server 0 m.order.work flights (omega arith)) m (still m.order.work) x found m.order.work refl\n"
+            "    (heard-reaches k.flight m.session m.server 0 m.order.work (flights.fences m.session) (omega arith)) did silent)",
+        ),
+        (messages("Messages"), "In m (heard m.session m.server m.epoch work k.flight).messages", "In m (heard m.session m.server 0 work k.flight).messages"),
+    ),
+    Row(
+        "exchanged_report_raises_no_fence",
+        "a report that an exchange asks for leaves its server's fence as it was",
+        (spec("SessionPlans"), "messages.heard s server (k.flight.epoch s) work k.flight", "messages.heard s server 0 work k.flight"),
+        (
+            messages("Replies"),
+            "    flights-taken-by (record k { flight = fenced s server (k.flight.epoch s) k.flight }) (groups-flight k (fenced s server (k.flight.epoch s) k.flight) groups) law (flights-heard k s server phases.Report flights) s server x found phases.Report lost\n"
+            "    (λ e. fence-reaches k.flight s server (k.flight.epoch s) (flights.fences s) (omega arith)) done",
+            "    flights-taken-by (record k { flight = fenced s server 0 k.flight }) (groups-flight k (fenced s server 0 k.flight) groups) law (flights-heard-at k s server 0 phases.Report flights (omega arith)) s server x found phases.Report lost\n"
+            "    (λ e. fence-reaches k.flight s server 0 (flights.fences s) (omega arith)) done",
+        ),
+    ),
+    Row(
+        "lost_master_keeps_its_epoch",
+        "no epoch begins where a master's server stops",
+        (spec("Messages"), "then f.epoch s + 1 else f.epoch s }", "then f.epoch s else f.epoch s }"),
+        ("dr_facts/proofs/Sessions.antt", "(λ b. cond b (f.epoch s + 1) (f.epoch s))", "(λ b. cond b (f.epoch s) (f.epoch s))"),
+        (messages("Turns"), "epoch-stays s e = ap (λ b. cond b (f.epoch s + 1) (f.epoch s)) e", "epoch-stays s e = ap (λ b. cond b (f.epoch s) (f.epoch s)) e"),
+        (messages("Turns"), "epoch-begins s e = ap (λ b. cond b (f.epoch s + 1) (f.epoch s)) e", "epoch-begins s e = ap (λ b. cond b (f.epoch s) (f.epoch s)) e"),
+        (messages("Turns"), "f.fence s x ≤ cond b (f.epoch s + 1) (f.epoch s)\n        by true was = omega arith", "f.fence s x ≤ cond b (f.epoch s) (f.epoch s)\n        by true was = omega arith"),
+    ),
+    Row(
+        "abort_into_lost_keeps_its_epoch",
+        "no epoch begins where an abort makes a master Lost",
+        (spec("Messages"), "then raised s f else f", "then f else f"),
+        (messages("Turns"), "Aside f (cond b (raised s f) f) s\n      by true = aside-raised f s", "Aside f (cond b f f) s\n      by true = aside-same f s"),
+        (messages("Turns"), "(cond b (raised s f) f).fence s x ≤ (cond b (raised s f) f).epoch s\n      by true = fences-raised f s (flights.fences s) x", "(cond b f f).fence s x ≤ (cond b f f).epoch s\n      by true = flights.fences s x"),
+        (messages("Losses"), "(cond (is_lost (Some q)) (raised s f) f)", "(cond (is_lost (Some q)) f f)"),
+        (messages("Losses"), "    abort-by m is phase.Lost e fits = subst (λ ks. FlightFits (raised s f) s", "    abort-by m is phase.Lost e fits = subst (λ ks. FlightFits f s"),
+        (messages("Losses"), "(cond (is_lost (phases.aborted_phase m.phase)) (raised s f) f)", "(cond (is_lost (phases.aborted_phase m.phase)) f f)"),
+        (messages("Losses"), "(cond (is_lost o) (raised s f) f)", "(cond (is_lost o) f f)"),
+    ),
+    Row(
+        "epoch_anew_with_the_session",
+        "where a session ends, its number's epochs begin anew",
+        (spec("Messages"), "filter (λ m. not (m.session == s)) f.messages }", "filter (λ m. not (m.session == s)) f.messages; epoch = at f.epoch s 0 }"),
+    ),
+    Row(
+        "reply_of_any_epoch",
+        "a master takes a reply whatever its epoch",
+        (spec("MessagePlans"), "is_awaited f r m = m.epoch == f.epoch m.session && ", "is_awaited f r m = m.epoch == m.epoch && "),
+        (messages("Taken"), "and_parts (m.epoch == f.epoch m.session) (is_owed_order", "and_parts (m.epoch == m.epoch) (is_owed_order"),
+        (messages("Taken"), "and_parts (m.epoch == f.epoch m.session) _ awaits", "and_parts (m.epoch == m.epoch) _ awaits"),
+    ),
+    Row(
+        "reply_to_other_work",
+        "a master takes a reply whatever work it answers",
+        (spec("MessagePlans"), "is_same_work p.work o.work && p.number == o.number", "is_same_work o.work o.work && p.number == o.number"),
+        (messages("Taken"), "and_parts (is_same_work (phases.numbered w n).work o.work)", "and_parts (is_same_work o.work o.work)"),
+    ),
+    Row(
+        "reply_to_another_number",
+        "a master takes a reply whatever the number of its order",
+        (spec("MessagePlans"), "is_same_work p.work o.work && p.number == o.number", "is_same_work p.work o.work && o.number == o.number"),
+        (messages("Taken"), "o.work) ((phases.numbered w n).number == o.number) h in", "o.work) (o.number == o.number) h in"),
+    ),
+    Row(
+        "report_taken_twice",
+        "a master takes a reply of a server that it owes nothing any more",
+        (spec("MessagePlans"), "is_owed_order (phases.order_for r.master m.server) m.order", "is_owed_order (phases.order_if (phases.is_among m.server r.master.servers) (phases.work_in r.master.phase) r.master.number) m.order"),
+        (messages("Taken"), "(is_owed_order (phases.order_for r.master m.server) m.order) awaits in", "(is_owed_order (phases.order_if (phases.is_among m.server r.master.servers) (phases.work_in r.master.phase) r.master.number) m.order) awaits in"),
+        (messages("Taken"), "let o = owed-order (phases.is_among m.server r.master.owed) (phases.work_in", "let o = owed-order (phases.is_among m.server r.master.servers) (phases.work_in"),
+    ),
+    Row(
+        "hold_of_an_older_attempt",
+        "a hold of an older attempt is carried out",
+        (spec("SessionEntries"), "    else if nat_lt (fields_at k a).attempt n then None\n    else Some (Stale n (fields_at k a).attempt)", "    else if nat_lt n (n + 1) then None\n    else Some (Stale n (fields_at k a).attempt)"),
+        (spec("SessionEntries"), "Prelude.{ℕ, max, Bool, false, ◌&&◌,", "Prelude.{ℕ, ◌+◌, max, Bool, false, ◌&&◌,"),
+        (attempts("Orders"), "newer a n k h none = by (nat_lt (fields_at k a).attempt n) refl (sym (ap (λ t. cond t None (cond (nat_lt (fields_at k a).attempt n) None", "newer a n k h none = by (nat_lt n (n + 1)) refl (sym (ap (λ t. cond t None (cond (nat_lt n (n + 1)) None"),
+        (attempts("Orders"), "by : (t : Bool) → nat_lt (fields_at k a).attempt n ≡ t → cond t None", "by : (t : Bool) → nat_lt n (n + 1) ≡ t → cond t None"),
+    ),
+    Row(
+        "finish_that_leaves_the_attempt",
+        "a Finish leaves the number of its primary's last attempt as it was",
+        (spec("Pairs"), "past_attempt n f = record (voided f) { attempt = max f.attempt n }", "past_attempt n f = record (voided f) { attempt = max f.attempt 0 }"),
+        (attempts("Moves"), "tried v (max (T v).attempt n) false false (ending v (max (T v).attempt n)", "tried v (max (T v).attempt 0) false false (ending v (max (T v).attempt 0)"),
+    ),
+    Row(
+        "send_without_begin",
+        "the first order of an attempt is sent, and the attempt doesn't begin",
+        (spec("MessagePlans"), "sessions = if begins then changed s begun k.sessions else k.sessions;", "sessions = if begins then k.sessions else k.sessions;"),
+        (sound("Journal"), "few true = length-changed s attempted k.sessions", "few true = omega arith"),
+        (
+            sound("FitsMessages"),
+            "    sent-idle = sound-tables w (changed i begun k.sessions) (sent i server o k.flight) groups attempts\n"
+            "        (flights-sent begins i server (begun x) (record r { master = phases.begun r.master }) o groups attempts flights found-begun (ap (option_map (λ (r : Mirror). record r { master = phases.begun r.master })) posts.mirror)\n"
+            "        (ap (λ b. phases.order_if b (Some phases.Hold) (r.master.number + 1)) owed ∙ ap Some (sym opens.order))) s\n",
+            "    sent-idle = sound-flight w (sent i server o k.flight) (flights-sent k i server x r o s.groups s.attempts s.flights posts.found posts.mirror posts.order) s\n",
+        ),
+    ),
+    Row(
+        "release_of_any_attempt",
+        "a release asks only whether something is recorded, not for which attempt",
+        UNRECORDED,
+        (spec("SessionEntries"), "release_entries a n = refuse_if (void_refusal a n)", "release_entries a n = refuse_if (unrecorded_refusal a n)"),
+        IN_ORDERS,
+        (sound("HushedPlans"), "member-hush phases.Release m = refused-hush (void_refusal m.a.0 n)", "member-hush phases.Release m = refused-hush (unrecorded_refusal m.a.0 n)"),
+        (sound("CalmPlans"), "member-calm ReleaseWork m = refused-calm (void_refusal m.a.0 n) _ (void-mild m.a.0)", "member-calm ReleaseWork m = refused-calm (unrecorded_refusal m.a.0 n) _ (λ k. mild-choice (fields_at k m.a.0).recording None _ mild-none (mild-some (Void n) refl))"),
+        (sound("SessionCosts"), "modest-member Release s n m =\n    modest-then (refuse_if (void_refusal m.a.0 n)) _ (modest-refuse (void_refusal m.a.0 n))", "modest-member Release s n m =\n    modest-then (refuse_if (unrecorded_refusal m.a.0 n)) _ (modest-refuse (unrecorded_refusal m.a.0 n))"),
+        (sound("RefusedWrites"), "member-first phases.Release s n m = first-refuse (void_refusal m.a.0 n)", "member-first phases.Release s n m = first-refuse (unrecorded_refusal m.a.0 n)"),
+        (sound("Awaits"), "still-member phases.Release ss i n m older =\n    still-then ss (refuse_if (void_refusal m.a.0 n)) _ (λ k e. still-refuse (void_refusal m.a.0 n) k)", "still-member phases.Release ss i n m older =\n    still-then ss (refuse_if (unrecorded_refusal m.a.0 n)) _ (λ k e. still-refuse (unrecorded_refusal m.a.0 n) k)"),
+        (sound("FitsOrders"), "refused v (void_refusal m.a.0 n) (free_on m.a.0 ∷ ds) st.sound", "refused v (unrecorded_refusal m.a.0 n) (free_on m.a.0 ∷ ds) st.sound"),
+        (sound("FitsOrders"), "(by (last-recorded v m rest st (met (records n (fields_at v.control m.a.0)) (Void n) none)) (fields_at v.control m.a.0).coordination)", "(by (records-last v m rest st (met (fields_at v.control m.a.0).recording (Void n) none)) (fields_at v.control m.a.0).coordination)"),
+    ),
+    Row(
+        "seal_of_any_attempt",
+        "a seal asks only whether something is recorded, not for which attempt",
+        UNRECORDED,
+        (spec("SessionEntries"), "seal_entries s a b n = refuse_if (void_refusal a n)", "seal_entries s a b n = refuse_if (unrecorded_refusal a n)"),
+        ("dr_laws_cuts/proofs/SealEnds.antt", "{is_drained, void_refusal,", "{is_drained, unrecorded_refusal,"),
+        ("dr_laws_cuts/proofs/SealEnds.antt", "last-by : void_refusal a n", "last-by : unrecorded_refusal a n"),
+        ("dr_laws_cuts/proofs/SealEnds.antt", "    last : void_refusal a n", "    last : unrecorded_refusal a n"),
+        ("dr_laws_cuts/proofs/SealEnds.antt", "checks (void_refusal a n)", "checks (unrecorded_refusal a n)"),
+    ),
+    Row(
+        "late_revert_of_any_flash",
+        "a revert takes back whatever is revertible, not only what its attempt flashed",
+        (spec("SessionEntries"), "    if is_flashed n (fields_at k c) then Do (Make (Revert c a s n))", "    if (fields_at k c).revertible then Do (Make (Revert c a s (fields_at k c).sequence))"),
+        (sound("HushedPlans"), "choice-hush false (is_flashed n (fields_at k m.c.0)) (Do (Make (RevertMove m.c.0 m.a.0 s n)))", "choice-hush false (fields_at k m.c.0).revertible (Do (Make (RevertMove m.c.0 m.a.0 s (fields_at k m.c.0).sequence)))"),
+        (sound("CalmPlans"), "choice-goes (is_flashed n (fields_at k m.c.0)) _ _", "choice-goes (fields_at k m.c.0).revertible _ _"),
+        (sound("SessionCosts"), "(is_flashed n (fields_at w.control m.c.0)) _ _ (modest-do w (Make (RevertMove m.c.0 m.a.0 s n)) (omega arith))", "(fields_at w.control m.c.0).revertible _ _ (modest-do w (Make (RevertMove m.c.0 m.a.0 s (fields_at w.control m.c.0).sequence)) (omega arith))"),
+        (sound("RefusedWrites"), "choice-goes (is_flashed n (fields_at k m.c.0)) _ _", "choice-goes (fields_at k m.c.0).revertible _ _"),
+        (sound("Awaits"), "still-choice (is_flashed n (fields_at k m.c.0)) _ _", "still-choice (fields_at k m.c.0).revertible _ _"),
+        (sound("FitsOrders"), "(by send (is_flashed n (fields_at v.control m.c.0)) (nat_lt", "(by send (fields_at v.control m.c.0).revertible (nat_lt"),
+        (sound("FitsOrders"), "(b under : Bool) → is_flashed n (fields_at v.control m.c.0) ≡ b", "(b under : Bool) → (fields_at v.control m.c.0).revertible ≡ b"),
+        (sound("FitsOrders"), "(Do (Make (Revert m.c.0 m.a.0 i n)))", "(Do (Make (Revert m.c.0 m.a.0 i (fields_at v.control m.c.0).sequence)))"),
+        (sound("FitsOrders"), "      by send false true none floor =\n", "      by send false true plain floor =\n          let none : is_flashed n (fields_at v.control m.c.0) ≡ false = ap (λ b. b && nat_eq (fields_at v.control m.c.0).sequence n) plain in\n"),
+        (sound("FitsOrders"), "      by send false false none floor = go", "      by send false false plain floor = let none : is_flashed n (fields_at v.control m.c.0) ≡ false = ap (λ b. b && nat_eq (fields_at v.control m.c.0).sequence n) plain in go"),
+    ),
+    Row(
+        "late_commit_of_any_flash",
+        "a commit settles whatever is revertible, not only what its attempt flashed",
+        (spec("SessionEntries"), "is_committed n (fields_at k c) || is_flashed n (fields_at k c) then None", "is_committed n (fields_at k c) || (fields_at k c).revertible then None"),
+        (spec("SessionEntries"), "Do (Make (Commit c a s n))", "Do (Make (Commit c a s (fields_at k c).sequence))"),
+        (attempts("Orders"), "is_committed n (fields_at k c) ≡ false → is_flashed n (fields_at k c) ≡ true", "is_committed n (fields_at k c) ≡ false → (fields_at k c).revertible ≡ true"),
+        (attempts("Orders"), "by (or_cases (is_committed n (fields_at k c)) (is_flashed n (fields_at k c)) (either (is_committed n (fields_at k c) || is_flashed n (fields_at k c)) h))", "by (or_cases (is_committed n (fields_at k c)) (fields_at k c).revertible (either (is_committed n (fields_at k c) || (fields_at k c).revertible) h))"),
+        (attempts("Orders"), "(is_committed n (fields_at k c) ≡ true) ⊎ (is_flashed n (fields_at k c) ≡ true) → is_flashed n (fields_at k c) ≡ true", "(is_committed n (fields_at k c) ≡ true) ⊎ ((fields_at k c).revertible ≡ true) → (fields_at k c).revertible ≡ true"),
+        (attempts("Orders"), "flag = (and_parts (fields_at k m.c.0).revertible (nat_eq (fields_at k m.c.0).sequence n) (commit-passed m.c.0 n k passes none)).0", "flag = commit-passed m.c.0 n k passes none"),
+        (sound("HushedPlans"), "(CommitMove m.c.0 m.a.0 s n)", "(CommitMove m.c.0 m.a.0 s (fields_at k m.c.0).sequence)"),
+        (sound("CalmPlans"), "(is_committed n (fields_at k m.c.0) || is_flashed n (fields_at k m.c.0))", "(is_committed n (fields_at k m.c.0) || (fields_at k m.c.0).revertible)"),
+        (
+            sound("SessionCosts"),
+            "(is_committed n (fields_at w.control m.c.0)) Pass _ (modest-pass w) (modest-do w (Make (CommitMove m.c.0 m.a.0 s n)) (omega arith))",
+            "(is_committed n (fields_at w.control m.c.0)) Pass _ (modest-pass w) (modest-do w (Make (CommitMove m.c.0 m.a.0 s (fields_at w.control m.c.0).sequence)) (omega arith))",
+        ),
+        (sound("FitsOrders"), "(Do (Make (Commit m.c.0 m.a.0 i n)))", "(Do (Make (Commit m.c.0 m.a.0 i (fields_at v.control m.c.0).sequence)))"),
+    ),
+    Row(
+        "late_finish_of_a_later_attempt",
+        "a Finish lets a primary go that records a later attempt",
+        (spec("SessionEntries"), "is_past n f = nat_lt n f.attempt || ", "is_past n f = (nat_lt n f.attempt && not f.recording) || "),
+        (
+            "dr_laws_sessions/proofs/Silent.antt",
+            "by (or_cases (nat_lt n (fields_at k m.a.0).attempt) (nat_eq",
+            "by (or_cases (nat_lt n (fields_at k m.a.0).attempt && not (fields_at k m.a.0).recording) (nat_eq",
+        ),
+        ("dr_laws_sessions/proofs/Silent.antt", "by : (nat_lt n (fields_at k m.a.0).attempt ≡ true) ⊎", "by : ((nat_lt n (fields_at k m.a.0).attempt && not (fields_at k m.a.0).recording) ≡ true) ⊎"),
+        ("dr_laws_sessions/proofs/Silent.antt", "ltb-true n (fields_at k m.a.0).attempt newer in", "ltb-true n (fields_at k m.a.0).attempt (and_parts (nat_lt n (fields_at k m.a.0).attempt) (not (fields_at k m.a.0).recording) newer).0 in"),
+        (attempts("Orders"), "by (or_cases (nat_lt n (fields_at k m.a.0).attempt) (nat_eq", "by (or_cases (nat_lt n (fields_at k m.a.0).attempt && not (fields_at k m.a.0).recording) (nat_eq"),
+        (attempts("Orders"), "by : (nat_lt n (fields_at k m.a.0).attempt ≡ true) ⊎", "by : ((nat_lt n (fields_at k m.a.0).attempt && not (fields_at k m.a.0).recording) ≡ true) ⊎"),
+        (attempts("Orders"), "ltb-true n (fields_at k m.a.0).attempt above in", "ltb-true n (fields_at k m.a.0).attempt (and_parts (nat_lt n (fields_at k m.a.0).attempt) (not (fields_at k m.a.0).recording) above).0 in"),
+        ("dr_laws_orders/proofs/Older.antt", "arith, Bool, true, false, cond, nat_eq, nat_lt,", "arith, Bool, true, false, cond, not, ◌&&◌, nat_eq, nat_lt,"),
+        ("dr_laws_orders/proofs/Older.antt", "(or_parts (nat_lt n (fields_at u.control q.a.0).attempt) _ past)", "(or_parts (nat_lt n (fields_at u.control q.a.0).attempt && not (fields_at u.control q.a.0).recording) _ past)"),
+    ),
+    Row(
+        "repeated_hold_empties_again",
+        "a hold that comes again is done again, and what changed since counts no more",
+        (spec("SessionEntries"), "    if records n (fields_at k a) then Pass\n", "    if records n (fields_at k a) then Do (Make (Hold a s n false))\n"),
+        (sound("HushedPlans"), "(records n (fields_at k m.a.0)) Pass _ tt (by", "(records n (fields_at k m.a.0)) (Do (Make (HoldMove m.a.0 s n false))) _ refl (by"),
+        (sound("CalmPlans"), "choice-goes (records n (fields_at k m.a.0)) Pass _ pass-goes (do-goes _)", "choice-goes (records n (fields_at k m.a.0)) _ _ (do-goes _) (do-goes _)"),
+        (sound("SessionCosts"), "(records n (fields_at w.control m.a.0)) Pass _ (modest-pass w) (either", "(records n (fields_at w.control m.a.0)) (Do (Make (HoldMove m.a.0 s n false))) _ (modest-do w (Make (HoldMove m.a.0 s n false)) (omega arith)) (either"),
+        (sound("RefusedWrites"), "(last-endless (hold_on s m.a.0 n) (λ k. choice-goes _ Pass _ pass-goes (do-goes _)))", "(last-endless (hold_on s m.a.0 n) (λ k. choice-goes _ _ _ (do-goes _) (do-goes _)))"),
+        (sound("Awaits"), "still-choice (records n (fields_at k a)) Pass _ tt", "still-choice (records n (fields_at k a)) (Do (Make (Hold a i n false))) _ tt"),
+        (sound("Awaits"), "attempt o.number) Pass (Do (cond", "attempt o.number) (Do (Make (Hold m.a.0 i o.number false))) (Do (cond"),
+        (sound("FitsOrders"), "Then v (cond p Pass (Do (cond q (OpenAttempt", "Then v (cond p (Do (Make (Hold m.a.0 i n false))) (Do (cond q (OpenAttempt"),
+        (sound("FitsOrders"), "Then v (cond p Pass (Do (cond (nat_lt (last_of v.control i) n) (OpenAttempt", "Then v (cond p (Do (Make (Hold m.a.0 i n false))) (Do (cond (nat_lt (last_of v.control i) n) (OpenAttempt"),
+    ),
+    Row(
+        "repeated_flash_sets_aside_again",
+        "a flash that comes again is done again, and sets the view of the first one aside",
+        (spec("SessionEntries"), "if is_flashed n (fields_at k c) then Pass else Do (Make (Flash c b a s n))", "if is_flashed n (fields_at k c) then Do (Make (Flash c b a s n)) else Do (Make (Flash c b a s n))"),
+        (sound("HushedPlans"), "(is_flashed n (fields_at k m.c.0)) Pass (Do (Make (FlashMove m.c.0 m.b.0 m.a.0 s n)))", "(is_flashed n (fields_at k m.c.0)) (Do (Make (FlashMove m.c.0 m.b.0 m.a.0 s n))) (Do (Make (FlashMove m.c.0 m.b.0 m.a.0 s n)))"),
+        (sound("CalmPlans"), "choice-goes (is_flashed n (fields_at k m.c.0)) Pass _ pass-goes (do-goes _)", "choice-goes (is_flashed n (fields_at k m.c.0)) _ _ (do-goes _) (do-goes _)"),
+        (
+            sound("SessionCosts"),
+            "(is_flashed n (fields_at w.control m.c.0)) Pass _ (modest-pass w) (modest-do w (Make (FlashMove m.c.0 m.b.0 m.a.0 s n)) (omega arith))",
+            "(is_flashed n (fields_at w.control m.c.0)) _ _ (modest-do w (Make (FlashMove m.c.0 m.b.0 m.a.0 s n)) (omega arith)) (modest-do w (Make (FlashMove m.c.0 m.b.0 m.a.0 s n)) (omega arith))",
+        ),
+        (sound("RefusedWrites"), "(last-endless (flash_on s m.a.0 m.b.0 m.c.0 n) (λ k. choice-goes _ Pass _ pass-goes (do-goes _)))", "(last-endless (flash_on s m.a.0 m.b.0 m.c.0 n) (λ k. choice-goes _ _ _ (do-goes _) (do-goes _)))"),
+        (sound("Awaits"), "still-choice (is_flashed n (fields_at k m.c.0)) Pass _ tt tt", "still-choice (is_flashed n (fields_at k m.c.0)) _ _ tt tt"),
+        (sound("FitsOrders"), "Then v (cond b Pass (Do (Make (Flash m.c.0 m.b.0 m.a.0 i n))))", "Then v (cond b (Do (Make (Flash m.c.0 m.b.0 m.a.0 i n))) (Do (Make (Flash m.c.0 m.b.0 m.a.0 i n))))"),
+    ),
+    Row(
+        "member_added_without_raising",
+        "a member that is added has its attempt and its target's floor as they were",
+        (spec("SessionEntries"), "raise_attempt_on a n k = if nat_lt (fields_at k a).attempt n then", "raise_attempt_on a n k = if nat_lt (fields_at k a).attempt 0 then"),
+        (spec("SessionEntries"), "raise_floor_on c n k = if nat_lt (fields_at k c).floor n then", "raise_floor_on c n k = if nat_lt (fields_at k c).floor 0 then"),
+        (sound("HushedPlans"), "(nat_lt (fields_at k m.a.0).attempt n) (Do (Make (RaiseAttempt", "(nat_lt (fields_at k m.a.0).attempt 0) (Do (Make (RaiseAttempt"),
+        (sound("HushedPlans"), "(raise_floor_on m.c.0 n) (λ k. choice-hush false (nat_lt (fields_at k m.c.0).floor n)", "(raise_floor_on m.c.0 n) (λ k. choice-hush false (nat_lt (fields_at k m.c.0).floor 0)"),
+        (sound("Endless"), "(nat_lt (fields_at k m.a.0).attempt n)", "(nat_lt (fields_at k m.a.0).attempt 0)"),
+        (sound("Endless"), "(nat_lt (fields_at k m.c.0).floor n)", "(nat_lt (fields_at k m.c.0).floor 0)"),
+        (sound("SessionCosts"), "(nat_lt (fields_at w.control m.a.0).attempt n)", "(nat_lt (fields_at w.control m.a.0).attempt 0)"),
+        (sound("SessionCosts"), "small-choice w (nat_lt (fields_at w.control m.c.0).floor n)", "small-choice w (nat_lt (fields_at w.control m.c.0).floor 0)"),
+        (sound("FitsMembers"), "refl (by (nat_lt (fields_at v.control c).floor n) refl)", "refl (by (nat_lt (fields_at v.control c).floor 0) refl)"),
+        (sound("FitsMembers"), "by : (b : Bool) → nat_lt (fields_at v.control c).floor n ≡ b", "by : (b : Bool) → nat_lt (fields_at v.control c).floor 0 ≡ b"),
+        (sound("FitsMembers"), "past = ltb-false (fields_at v.control c).floor n lt", "past = ltb-false (fields_at v.control c).floor 0 lt"),
+        (sound("FitsMembers"), "refl (by (nat_lt (fields_at w.control a).attempt n) refl)", "refl (by (nat_lt (fields_at w.control a).attempt 0) refl)"),
+        (sound("FitsMembers"), "by : (b : Bool) → nat_lt (fields_at w.control a).attempt n ≡ b", "by : (b : Bool) → nat_lt (fields_at w.control a).attempt 0 ≡ b"),
+        (sound("FitsMembers"), "let low = ltb-true (fields_at w.control a).attempt n lt in", "let low = ltb-true (fields_at w.control a).attempt 0 lt in"),
+        (sound("FitsMembers"), "raised (ltb-false (fields_at w.control a).attempt n lt)", "raised (ltb-false (fields_at w.control a).attempt 0 lt)"),
+    ),
+    Row(
+        "silent_report_raises_no_fence",
+        "a report that an exchange asks for leaves its server's fence as it was where the master doesn't learn of it",
+        (spec("SessionPlans"), "messages.heard s server (k.flight.epoch s) work k.flight", "messages.heard s server (if reply then k.flight.epoch s else 0) work k.flight"),
+        (sound("FitsExchanges"), "answers false = sound-flight v _ (flights-heard v.control i server o.work e.sound.flights) e.sound", "answers false = sound-flight v _ (flights-heard-at v.control i server 0 o.work e.sound.flights (omega arith)) e.sound"),
+        (sound("FitsExchanges"), "Replies.{flights-answered, flights-heard}", "Replies.{flights-answered, flights-heard-at}"),
+        (
+            sound("FitsExchanges"),
+            "(heard i server (v.control.flight.epoch i) o.work v.control.flight) (heard-messages i server (v.control.flight.epoch i) o.work v.control.flight)",
+            "(heard i server (cond reply (v.control.flight.epoch i) 0) o.work v.control.flight) (heard-messages i server (cond reply (v.control.flight.epoch i) 0) o.work v.control.flight)",
+        ),
+        (
+            sound("FitsExchanges"),
+            "    goes-heard : (ss : List Session) → AllGoOn v.control ss v.control.flight → AllGoOn v.control ss (heard i server (v.control.flight.epoch i) o.work v.control.flight)\n"
+            "    goes-heard ss h = goes-still v.control v.control.flight _ ss (λ q here. subst (In q) (heard-messages i server (v.control.flight.epoch i) o.work v.control.flight) here) (heard-epoch i server (v.control.flight.epoch i) o.work v.control.flight) h",
+            "    goes-heard : (epoch : ℕ) (ss : List Session) → AllGoOn v.control ss v.control.flight → AllGoOn v.control ss (heard i server epoch o.work v.control.flight)\n"
+            "    goes-heard epoch ss h = goes-still v.control v.control.flight _ ss (λ q here. subst (In q) (heard-messages i server epoch o.work v.control.flight) here) (heard-epoch i server epoch o.work v.control.flight) h",
+        ),
+        (sound("FitsExchanges"), "goes true = goes-heard _", "goes true = goes-heard (v.control.flight.epoch i) _"),
+        (sound("FitsExchanges"), "goes false = goes-heard v.control.sessions", "goes false = goes-heard 0 v.control.sessions"),
+        ("dr_laws_orders/proofs/FlightGoesOn.antt", "exchanged-goes i server false work ms k = goes-heard i server (k.flight.epoch i) work", "exchanged-goes i server false work ms k = goes-heard i server 0 work"),
+        (sound("FlightCounts"), "by k reply n (counted-heard n (length k.servers) s server (k.flight.epoch s) o.work k.flight h)", "by k reply n (counted-heard n (length k.servers) s server (cond reply (k.flight.epoch s) 0) o.work k.flight h)"),
+        (sound("FlightCounts"), "CountedBy k n (messages.heard s server (k.flight.epoch s) o.work k.flight)", "CountedBy k n (messages.heard s server (cond b (k.flight.epoch s) 0) o.work k.flight)"),
+        seen=False,
+    ),
+    Row(
+        "old_order_named_by_its_epoch",
+        "an old order is refused, and the answer names its epoch instead of its message",
+        (spec("MessagePlans"), "Some (OldMessage m.number)", "Some (OldMessage m.epoch)"),
+    ),
+    Row(
+        "start_counted_as_the_first",
+        "each start of a server counts as its first, so that an order from before a later one is carried out",
+        (spec("Messages"), "starts = at f.starts server (f.starts server + 1)", "starts = at f.starts server 1"),
+        (sound("FlightCounts"), "f.starts server (f.starts server + 1) one (λ q ne. more.starts q)", "f.starts server 1 (omega arith) (λ q ne. more.starts q)"),
+    ),
+    Row(
+        "raised_floor_copies_on",
+        "a revert of an older attempt has the target's tracks copied in the background from then on",
+        (spec("Pairs"), "with_floor n f = record f { floor = n }", "with_floor n f = record f { floor = n; nocopy = false }"),
+        ("dr_facts/proofs/Lawful.antt",
+         "  lawful-floor i = lawful-paired (with_floor i f) old.out_of_sync_low old.change_recording_low old.blank_low law.primary law.secondary",
+         "  lawful-floor i = record { sets = law.sets; primary = law.primary; secondary = law.secondary; relation = λ h. let o = law.relation h in (o.0, refl, o.2, o.3, o.4, o.5, o.6, o.7, o.8, o.9, o.10, o.11, o.12, o.13, o.14) }"),
+        (sound("KeepsStructure"),
+         "  kept-structure (RaiseFloor v n) a = paired (RaiseFloor v n) (lawful-floor _ _ (old.lawful v) n) (λ q h. h)",
+         "  kept-structure (RaiseFloor v n) a = structure-at v _ (record {\n"
+         "    lawful = lawful-floor _ _ (old.lawful v) n;\n"
+         "    sets = let s = old.sets v in record { apart = s.apart; noted_held = s.noted_held; rewritten_held = s.rewritten_held };\n"
+         "    flags = let g = old.flags v in record { persists = g.persists; records = g.records; unchanged = g.unchanged; some = g.some };\n"
+         "    reverts = λ e. let r = old.reverts v e in record { records = r.records; forward = r.forward; apart = r.apart; noted_held = r.noted_held; rewritten_held = r.rewritten_held; unchanged = r.unchanged; kept = r.kept };\n"
+         "    defined = old.defined v;\n    from = old.flash v;\n    loop = no_loop v;\n    onto = λ u. old.flash u v;\n    restores = stays-restores v;\n  })"),
+    ),
+    Row(
+        "numbers_anew_in_an_empty_flight",
+        "where the last message in flight is lost, messages are numbered from 1 again, so that an old number is carried out",
+        (spec("Messages"), "lost n f = record f { messages = filter (λ m. not (m.number == n)) f.messages }",
+         "lost n f = record f { messages = filter (λ m. not (m.number == n)) f.messages; made = made_left (filter (λ m. not (m.number == n)) f.messages) f.made }"),
+        (spec("Messages"), "-- the message of that number is gone\n",
+         "-- numbers begin anew where no message is left\nabbrev pub made_left : List Message → ℕ → ℕ\nmade_left [] n = 0\nmade_left (m ∷ ms) n = n\n\n-- the message of that number is gone\n"),
+        (sound("FlightCounts"), "(λ m h. fewer m _ (counted-fewer m count (λ (q : Message). not (q.number == n)) k.flight h))",
+         "(λ m h. fewer m _ (counted-dropped m count (filter (λ (q : Message). not (q.number == n)) k.flight.messages) k.flight (counted-fewer m count (λ (q : Message). not (q.number == n)) k.flight h)))"),
+        (sound("FlightCounts"), "counted-left : (n c s l : ℕ)",
+         "counted-dropped : (n c : ℕ) (ms : List Message) (f : Flight) → IsCounted n c (record f { messages = ms }) → IsCounted n c (record f { messages = ms; made = messages.made_left ms f.made })\n"
+         "counted-dropped n c [] f h = record { made = omega arith; starts = h.starts; epochs = h.epochs; numbers = λ m here. absurd here; once = h.once; homes = h.homes }\n"
+         "counted-dropped n c (m ∷ ms) f h = h\n\ncounted-left : (n c s l : ℕ)"),
     ),
 ]
 
@@ -177,8 +498,8 @@ def tried(folder, row, verbose):
             path.write_text(text, encoding="utf-8")
     print(f"{row.name}: {row.says}", flush=True)
     if refusal is None:
-        print("  LET THROUGH")
-        return False
+        print("  LET THROUGH" if row.seen else "  let through, as known: no law sees it", flush=True)
+        return not row.seen
     crate, errors, lost, lines = refusal
     roots = [error for error in errors if not BEHIND.search(error[2])]
     modules = sorted({module for module, _, _ in roots})
@@ -191,7 +512,9 @@ def tried(folder, row, verbose):
     if not crate.startswith("dr_laws_") or not lost or not modules or any(map(TECHNICAL.search, modules)):
         print("  NOT BY A LAW", flush=True)
         return False
-    return True
+    if not row.seen:
+        print("  A LAW SEES IT", flush=True)
+    return row.seen
 
 
 def main():
@@ -210,7 +533,7 @@ def main():
         folder = args.folder or Path(scratch)
         copied(folder)
         good = [tried(folder, row, args.verbose) for row in rows]
-    print(f"{sum(good)} of {len(good)} refused by a law")
+    print(f"{sum(good)} of {len(good)} as they should be: refused by a law, but for those that are known to be seen by none")
     return 0 if all(good) and good else 1
 
 

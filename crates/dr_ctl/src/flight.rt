@@ -1,20 +1,26 @@
-ghost use Rattle.std.specs.Prelude.{◌≡◌, ◌<◌, ◌+◌, false, IsTrue, IfSome, OnOk, OnErr, option_map};
+ghost use Rattle.std.specs.Prelude.{◌≡◌, ◌<◌, ◌+◌, IsTrue, IfSome, IfOk, OnOk, OnErr, option_map};
 ghost use Rattle.std.specs.Result.{result_err};
 ghost use Rattle.dr_master.specs.Seen.{order_of, reply_of};
 ghost use Rattle.dr_model.specs.Messages as model;
+ghost use Rattle.dr_model.specs.MessagePlans.{full_refusal};
 ghost use Rattle.dr_ctl.specs.Kept.{flight_in, lose_refusal, is_order_in, is_current_in, answered_in};
 ghost use Rattle.dr_ctl.specs.Seen.{message_of, with_next};
 
 use crate::counts::{Counts, Rows, no_counts, no_rows, put};
 use crate::list::{message_numbered, place_of, take_out, take_session_out};
 use crate::message::{Message, Numbered};
-use dr_ids::{Kind, MOST_SERVERS, Refusal, ServerId, SessionId};
+use dr_ids::{Kind, MOST_SERVERS, Refusal, ServerId, SessionId, Which};
 use dr_master::{Order, Reply};
 use std::alloc::{AllocError, Global};
 use std::marker::Model;
 
 /// How many messages are in flight at most.
 const MOST_MESSAGES: usize = 256;
+
+/// What a message is refused with where as many are in flight.
+const FULL: Refusal = Refusal::Limit {
+    which: Which::Messages,
+};
 
 /// The messages in flight in the order in which they were made, and how many ever were. Of each server, how often it was started;
 /// of each number of a session, its epoch, and the fence of each server.
@@ -62,16 +68,20 @@ impl Flight {
         self.messages.reserve(1)
     }
 
-    /// Sends an order of a session's master to a server, in room that was reserved, where fewer than 256 messages are in flight;
-    /// gives the message's number.
-    pub fn send(&mut self, s: SessionId, server: ServerId, o: Order) -> u32
+    /// Sends an order of a session's master to a server, in room that was reserved, and gives the message's number. Refused where
+    /// 256 messages are in flight; then nothing has changed.
+    pub fn send(&mut self, s: SessionId, server: ServerId, o: Order) -> Result<u32, Refusal>
         requires room { IsTrue self.old.room }
-        requires space { model.is_full (flight_in self.old) ≡ false }
         requires numbers { (flight_in self.old).made < 4294967295 }
         requires server { server.0 < 8 }
-        ensures number { result ≡ (flight_in self.old).made + 1 }
-        ensures sent { flight_in self.new ≡ model.sent s.0 server.0 (order_of o) (flight_in self.old) }
+        ensures refused { result_err result ≡ full_refusal (flight_in self.old) }
+        ensures number { IfOk result (λ m. m ≡ (flight_in self.old).made + 1) }
+        ensures sent { OnOk result (flight_in self.new ≡ model.sent s.0 server.0 (order_of o) (flight_in self.old)) }
+        ensures same { OnErr result (self.new ≡ self.old) }
     {
+        if self.is_full() {
+            return Err(FULL);
+        }
         let message = Message::Order {
             session: s,
             epoch: self.epoch(s),
@@ -79,19 +89,23 @@ impl Flight {
             order: o,
             starts: self.starts[usize::from(server.0)],
         };
-        self.add(message)
+        Ok(self.add(message))
     }
 
-    /// The server replies to an order that is in flight, in room that was reserved, where fewer than 256 messages are; gives the
-    /// reply's number.
-    pub fn answer(&mut self, m: u32, r: Reply) -> u32
+    /// The server replies to an order that is in flight, in room that was reserved; gives the reply's number. Refused where 256
+    /// messages are in flight; then nothing has changed.
+    pub fn answer(&mut self, m: u32, r: Reply) -> Result<u32, Refusal>
         requires room { IsTrue self.old.room }
-        requires space { model.is_full (flight_in self.old) ≡ false }
         requires numbers { (flight_in self.old).made < 4294967295 }
         requires order { IsTrue (is_order_in (model.message_in (flight_in self.old) m)) }
-        ensures number { result ≡ (flight_in self.old).made + 1 }
-        ensures answered { flight_in self.new ≡ answered_in (model.message_in (flight_in self.old) m) (reply_of r) (flight_in self.old) }
+        ensures refused { result_err result ≡ full_refusal (flight_in self.old) }
+        ensures number { IfOk result (λ n. n ≡ (flight_in self.old).made + 1) }
+        ensures answered { OnOk result (flight_in self.new ≡ answered_in (model.message_in (flight_in self.old) m) (reply_of r) (flight_in self.old)) }
+        ensures same { OnErr result (self.new ≡ self.old) }
     {
+        if self.is_full() {
+            return Err(FULL);
+        }
         let Some(
             Message::Order {
                 session,
@@ -104,13 +118,13 @@ impl Flight {
         else {
             unreachable!()
         };
-        self.add(Message::Reply {
+        Ok(self.add(Message::Reply {
             session,
             epoch,
             server,
             order,
             reply: r,
-        })
+        }))
     }
 
     /// Whether no more messages have room.

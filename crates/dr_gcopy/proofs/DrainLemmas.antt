@@ -3,6 +3,7 @@ use Rattle.std.proofs.Common.{ℕ, zero, suc, ◌≡◌, ◌≢◌, ◌≤◌, �
 use Rattle.std.specs.List.{range_with_len}
 use Rattle.std.specs.FinSet.{contains, remove}
 use Rattle.std.proofs.lemmas.List.{append_assoc, append-nil, take_all, length-take-le}
+use Rattle.std.proofs.lemmas.Bool.{leb-true}
 use Rattle.std.proofs.lemmas.Bool.Decides.{eqb_tells, nat_tests}
 use Rattle.dr_bits.proofs.Laws.{contains-remove_tracks}
 use Rattle.dr_ids.specs.declared.refusal.Refusal.{Refusal}
@@ -136,9 +137,6 @@ abbrev pub Within : Option ℕ → ℕ → Type 0
 Within None i = Unit {0}
 Within (Some m) i = i ≤ m
 
-le-of : (m i : ℕ) → nat_le m i ≡ true → m ≤ i
-le-of m i h = grind (arith, nat_tests, h)
-
 lt-of : (m i : ℕ) → nat_le m i ≡ false → i < m
 lt-of m i h = grind (arith, nat_tests, h)
 
@@ -152,7 +150,7 @@ module _ (n : ℕ) (s : Tracks) (i : ℕ) where
 
   enough-sent : (most : Option ℕ) → Within most i → enough most i ≡ true → take i xs ≡ tracks_to_send most n s
   enough-sent None within h = absurd cc
-  enough-sent (Some m) within h = let e = le-of m i h in let same : i ≡ m = omega (arith, within, e) in ap (λ k. take k xs) same
+  enough-sent (Some m) within h = let e = leb-true m i h in let same : i ≡ m = omega (arith, within, e) in ap (λ k. take k xs) same
 
   whole-sent : (most : Option ℕ) → Within most i → length xs ≤ i → take i xs ≡ tracks_to_send most n s
   whole-sent None within h = (take_all i xs h)

@@ -1,7 +1,9 @@
 -- What a server reports of its members, one by one.
-use Rattle.std.proofs.Common.{ℕ, zero, suc, ◌≡◌, ◌<◌, ◌≤◌, ◌+◌, arith, Bool, true, false, cond, List, [], ◌∷◌, ◌++◌, length, take, slice_get, slice_set, map, refl, ◌∙◌, ap, Some}
+use Rattle.std.proofs.Common.{ℕ, zero, suc, ◌≡◌, ◌<◌, ◌≤◌, ◌+◌, arith, Bool, true, false, cond, List, [], ◌∷◌, ◌++◌, length, take, slice_get, slice_set, map, min, refl, sym, ◌∙◌, ap, Some}
 use Rattle.std.specs.Prelude.{filter, replicate, if◌then◌else◌}
-use Rattle.std.proofs.lemmas.List.{take_more_set, map-append}
+use Rattle.std.proofs.lemmas.List.{take_more_set, take_min, map-append, length-map}
+use Rattle.std.proofs.lemmas.Slice.Zip.{length-zip}
+use Rattle.std.proofs.lemmas.Grind.{common_steps}
 use Rattle.dr_master.specs.Seen.{shown_in}
 use Rattle.dr_master.specs.declared.reports.Report.{Report}
 use Rattle.dr_master.proofs.Reported.{joined}
@@ -9,6 +11,7 @@ use Rattle.dr_gmirror.specs.Reports.{IsTrimmed}
 use Rattle.std.proofs.lemmas.List.Elements.{filter-append}
 use Rattle.dr_ids.specs.declared.names.Member.{Member}
 use Rattle.dr_model.specs.Control.{Control}
+use Rattle.dr_model.specs.Decisions.{shown_by}
 use Rattle.dr_model.specs.Entries.{fields_at}
 use Rattle.dr_model.specs.SessionEntries.{is_on, members_on, counts_in, counts_at, shown_of, shown_at, shown_by_members}
 
@@ -26,6 +29,13 @@ shown-more s server k xs ys =
     ap (λ ms. shown_by_members s ms k) (filter-append (is_on server) xs ys)
     ∙ ap (map (shown_at k)) (filter-append (counts_at s k) (members_on server xs) (members_on server ys))
     ∙ map-append (shown_at k) (filter (counts_at s k) (members_on server xs)) (filter (counts_at s k) (members_on server ys))
+
+-- a report shows no more than it has places for, whatever it counts
+pub places-shown : (places count : ℕ) (numbers : List ℕ) (flags : List Bool) → length numbers ≡ places → length flags ≡ places → take (min count places) (shown_by numbers flags) ≡ take count (shown_by numbers flags)
+places-shown places count numbers flags long also =
+    let xs = shown_by numbers flags in
+    let all : length xs ≡ places = grind (arith, common_steps, length-map, length-zip) in
+    ap (λ n. take (min count n) xs) (sym all) ∙ take_min count xs
 
 -- a report of one more, and the places behind it
 pub set-further : {A : Type 0} (xs : List A) (i j : ℕ) (x : A) → i < j → slice_get (slice_set xs i x) j ≡ slice_get xs j

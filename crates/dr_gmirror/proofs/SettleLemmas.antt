@@ -5,14 +5,11 @@ use Rattle.std.specs.Option.{IsSomeAnd}
 use Rattle.std.proofs.lemmas.Bool.{and_parts}
 use Rattle.dr_ids.specs.declared.refusal.PhaseName.{PhaseName}
 use Rattle.dr_ids.specs.declared.refusal.PhaseName.TheVariants as phase
-use Rattle.dr_master.specs.Seen.{reply_of}
-use Rattle.dr_master.specs.declared.reports.Reply.{Reply}
-use Rattle.dr_session.specs.Seen.{expects}
 use Rattle.dr_model.specs.Decisions.{Shown}
 use Rattle.dr_model.specs.Phases as phases
 use Rattle.dr_model.specs.Sessions.{Session, Mirror, session_in, mirror_in, changed, with_master}
 use Rattle.dr_laws_recovery.proofs.TurnsLeft.{reported-lost}
-use Rattle.dr_gmirror.specs.Exchange.{says_shown, is_lost, is_none, can_settle}
+use Rattle.dr_gmirror.specs.Exchange.{says_shown, is_lost, is_none, can_settle, is_awaited}
 use Rattle.dr_gmirror.proofs.BeginLemmas.{session-changed}
 
 -- two changes of a session are one
@@ -69,9 +66,9 @@ abbrev pub Awaited : Option Mirror → ℕ → phases.Reply → Type 0
 Awaited None server y = ⊥
 Awaited (Some r) server y = phases.awaits r.master server y ≡ true
 
-pub awaited-by : (o : Option Mirror) (server : ℕ) (y : Reply) → expects o server y ≡ true → Awaited o server (reply_of y)
+pub awaited-by : (o : Option Mirror) (server : ℕ) (y : phases.Reply) → is_awaited o server y ≡ true → Awaited o server y
 awaited-by None server y h = absurd cc
-awaited-by (Some r) server y h = (and_parts (phases.awaits r.master server (reply_of y)) _ h).0
+awaited-by (Some r) server y h = (and_parts (phases.awaits r.master server y) _ h).0
 
 same-number : (f : phases.Master → phases.Master) (x : Session) → (with_master f x).number ≡ x.number
 same-number f x = refl

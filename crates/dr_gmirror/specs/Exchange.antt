@@ -1,5 +1,6 @@
 -- Exchanges between a session's master and a server.
 use Rattle.std.specs.Prelude.{◌≡◌, ◌≢◌, ℕ, ◌<◌, ◌+◌, Bool, true, false, ◌&&◌, List, [], ◌∷◌, length, nat_le, Option, Some, None, option_map, Result, Ok, Err}
+use Rattle.std.specs.Option.{option_or}
 use Rattle.dr_ids.specs.declared.names.Member.{Member}
 use Rattle.dr_ids.specs.declared.refusal.PhaseName.{PhaseName}
 use Rattle.dr_ids.specs.declared.refusal.PhaseName.TheVariants as phase
@@ -9,7 +10,8 @@ use Rattle.dr_master.specs.Seen.{order_of as order_seen, work_of}
 use Rattle.dr_master.specs.declared.orders.OrderKind.{OrderKind}
 use Rattle.dr_model.specs.declared.said.Said.{Said}
 use Rattle.dr_model.specs.declared.said.Said.TheVariants.{Refused}
-use Rattle.dr_model.specs.Messages.{Flight, heard}
+use Rattle.dr_model.specs.Messages.{Message, Flight, heard}
+use Rattle.dr_model.specs.MessagePlans.{order_done, deliver_plan}
 use Rattle.dr_model.specs.Phases as phases
 use Rattle.dr_model.specs.Sessions.{Mirror, Session, session_in, mirror_in, members_in}
 use Rattle.dr_model.specs.Control.{Control, World}
@@ -17,7 +19,7 @@ use Rattle.dr_model.specs.PlanParts.{Plan}
 use Rattle.dr_model.specs.Runs.{begun, finish, answered}
 use Rattle.dr_model.specs.ReadStops.{Ends}
 use Rattle.dr_model.specs.SessionEntries.{order_entries, members_on, reply_after}
-use Rattle.dr_model.specs.SessionPlans.{exchange_refusal, order_of, says_phase}
+use Rattle.dr_model.specs.SessionPlans.{exchange_refusal, off_refusal, phase_refusal, order_of, says_phase}
 use Rattle.dr_volume.specs.View.{Rest, with_flight}
 use Rattle.dr_moves.specs.Turns.{Leads}
 use Rattle.dr_gmirror.specs.declared.looks.Look.{Look}
@@ -45,10 +47,19 @@ exchange_flight (Err why) s server f = f
 abbrev pub exchange_rest : Result OrderKind Refusal → ℕ → ℕ → List Session → Rest → Rest
 exchange_rest result s server ss r = with_flight (exchange_flight result s server r.flight) (with_sessions ss r)
 
+-- why the master has no order for the server: there is no master, or its server is off, or its phase says so
+abbrev pub asking_refusal_in : Control → Option Mirror → ℕ → List Member → Option Refusal
+asking_refusal_in k None server ms = Some (OutOfOrder phase.None)
+asking_refusal_in k (Some r) server ms = option_or (off_refusal k r.server) (phase_refusal r server ms)
+
 -- why there is no exchange: there is no master, or the master and the server say so
 abbrev pub refusal_in : Control → Option Mirror → ℕ → List Member → Option Refusal
 refusal_in k None server ms = Some (OutOfOrder phase.None)
 refusal_in k (Some r) server ms = exchange_refusal k r server ms
+
+-- the message of number j is this order of session s, which its server carries out over its members as it is delivered
+abbrev pub Delivers : Control → ℕ → ℕ → ℕ → phases.Order → List Member → Type 0
+Delivers k j s server o ms = (m : Message) × (m.session ≡ s) × (m.order ≡ o) × (deliver_plan k j ≡ order_done m (members_on server ms))
 
 -- the order that is carried out
 abbrev pub order_in : Option Mirror → ℕ → Option phases.Order

@@ -1,6 +1,7 @@
 //! A session's master and a server exchange an order and the reply.
 
-ghost use Rattle.std.specs.Prelude.{◌≡◌, ◌≢◌, ℕ, ◌<◌, ◌≤◌, ◌+◌, ◌&&◌, true, false, length, None, Some, Ok, IfSome, List, OnOk, OnErr, option_map, if◌then◌else◌};
+ghost use Rattle.std.specs.Prelude.{◌≡◌, ◌≢◌, ℕ, ◌<◌, ◌≤◌, ◌+◌, ◌&&◌, true, false, length, None, Some, Ok, IfSome, IfOk, List, OnOk, OnErr, option_map, if◌then◌else◌};
+ghost use Rattle.std.specs.Option.{option_or};
 ghost use Rattle.std.specs.Result.{result_and};
 ghost use Rattle.dr_logic.specs.Counts.{Counted};
 ghost use Rattle.dr_ids.specs.declared.names.Member.{Member};
@@ -17,8 +18,7 @@ ghost use Rattle.dr_model.specs.SessionPlans as plans;
 ghost use Rattle.dr_model.specs.Sessions as model;
 ghost use Rattle.dr_model.specs.Sessions.{Session};
 ghost use Rattle.dr_master.specs.Seen as master;
-ghost use Rattle.dr_master.specs.Seen.{reply_of};
-ghost use Rattle.dr_session.specs.Seen.{expects};
+ghost use Rattle.dr_master.specs.Seen.{reply_of, count_in};
 ghost use Rattle.dr_volume.specs.View.{Rest};
 ghost use Rattle.dr_moves.specs.Checks.{OnNone, is_stop};
 ghost use Rattle.dr_moves.specs.Fit.{RelationsFit};
@@ -27,7 +27,7 @@ ghost use Rattle.dr_moves.specs.Made.{IsAt, Kept};
 ghost use Rattle.dr_moves.specs.Aside.{AsideFits};
 ghost use Rattle.dr_laws_recovery.specs.TakenOver.{IsLeft};
 ghost use Rattle.dr_gmirror.specs.Orders.{with_sessions, AreReady};
-ghost use Rattle.dr_gmirror.specs.Exchange.{PlanEnds, exchange_answer, exchange_rest, refusal_in, order_in, says_shown, can_settle, Looks, IsNear, MayExchange};
+ghost use Rattle.dr_gmirror.specs.Exchange.{PlanEnds, exchange_answer, exchange_rest, asking_refusal_in, refusal_in, order_in, says_shown, members_in_reply, is_awaited, can_settle, Looks, IsNear, MayExchange};
 
 use crate::looks::{Look, apart_refusal, has_member_on, idle_refusal, is_idle, off_refusal};
 use crate::orders::carry_out;
@@ -37,6 +37,9 @@ use dr_master::{Order, OrderKind, Reply};
 use dr_model::Journal;
 use dr_plant::Plant;
 use dr_session::Sessions;
+
+/// How many members a report has places for.
+const PLACES: u8 = 64;
 
 /// Why the server has no exchange with the master in its phase: where no attempt goes on, none begins with it; else it isn't
 /// owed an order.
@@ -54,8 +57,29 @@ fn phase_refusal(ss: &Sessions, s: SessionId, server: ServerId, x: &Look) -> Opt
     Some(Refusal::OutOfOrder { phase: x.phase })
 }
 
-/// Why the server and the master have no exchange: the master's server is off, or else the phase says so, or else the server
-/// is off, or else the link between the two servers is down.
+/// Why the master has no order for the server: the master's server is off, or else the phase says so.
+fn asking_refusal<P: Plant>(
+    plant: &P,
+    config: &Config,
+    ss: &Sessions,
+    s: SessionId,
+    server: ServerId,
+    x: &Look,
+) -> Option<Refusal>
+    requires master_low { x.now.server.0 < 8 }
+    ensures refusal { (q : Rest) (events : List Event) (r : model.Mirror) → Looks x.now r server.0 → r.master.phase ≢ phase.None → result ≡ option_or (plans.off_refusal (world_seen (P.state plant.now) config.now q events).control r.server)
+        (plans.phase_refusal r server.0 (model.members_in (model.session_in ss.now.sessions s.0))) }
+    ensures number { OnNone result (plans.is_idle x.now.phase ≡ true → x.now.number + 1 < 4294967296) }
+    ensures calm { is_stop result ≡ false }
+{
+    if let Some(why) = off_refusal(plant, config, x.server) {
+        return Some(why);
+    }
+    phase_refusal(ss, s, server, x)
+}
+
+/// Why the server and the master have no exchange: the master has no order for it, or else the server is off, or else the link
+/// between the two servers is down.
 fn exchange_refusal<P: Plant>(
     plant: &P,
     config: &Config,
@@ -73,10 +97,7 @@ fn exchange_refusal<P: Plant>(
     ensures number { OnNone result (plans.is_idle x.now.phase ≡ true → x.now.number + 1 < 4294967296) }
     ensures calm { is_stop result ≡ false }
 {
-    if let Some(why) = off_refusal(plant, config, x.server) {
-        return Some(why);
-    }
-    if let Some(why) = phase_refusal(ss, s, server, x) {
+    if let Some(why) = asking_refusal(plant, config, ss, s, server, x) {
         return Some(why);
     }
     if let Some(why) = off_refusal(plant, config, server) {
@@ -99,6 +120,39 @@ fn order_of(x: &Look) -> Option<Order>
     x.owed
 }
 
+/// The order that a session's master has for a server: the one that it owes it, or where no attempt goes on the hold of the next
+/// attempt. Refused where the session has no master, or else where the master's server is off; or else, where no attempt goes
+/// on, where the master is paused or the server has no members, or the next number would be 2^32, and in other phases where the
+/// server isn't owed the phase's order. Whether the server can be reached isn't asked.
+pub fn asked_order<P: Plant>(
+    plant: &P,
+    config: &Config,
+    ss: &Sessions,
+    s: SessionId,
+    server: ServerId,
+) -> Result<Order, Refusal>
+    requires low { server.0 < 8 }
+    requires near { IfSome (model.mirror_in (model.session_in ss.now.sessions s.0)) (IsNear (length config.now.names)) }
+    ensures refused { (q : Rest) (events : List Event) → refusal_of result ≡ asking_refusal_in (world_seen (P.state plant.now) config.now q events).control (model.mirror_in (model.session_in ss.now.sessions s.0)) server.0 (model.members_in (model.session_in ss.now.sessions s.0)) }
+    ensures order { IfOk result (λ o. order_in (model.mirror_in (model.session_in ss.now.sessions s.0)) server.0 ≡ Some (master.order_of o)) }
+    ensures calm { is_stop (refusal_of result) ≡ false }
+{
+    let Some(x) = Look::at(ss, s, server) else {
+        return Err(Refusal::OutOfOrder {
+            phase: PhaseName::None,
+        });
+    };
+    if let Some(why) = asking_refusal(plant, config, ss, s, server, &x) {
+        return Err(why);
+    }
+    match order_of(&x) {
+        Some(order) => Ok(order),
+        None => Err(Refusal::OutOfOrder {
+            phase: PhaseName::None,
+        }),
+    }
+}
+
 /// Whether a reply says what members show.
 fn is_report(y: &Reply) -> bool
     ensures { result ≡ says_shown (reply_of y.now) }
@@ -115,21 +169,38 @@ fn settle_if(ss: &mut Sessions, s: SessionId, on: bool)
     }
 }
 
-/// The master learns of a reply, and goes on after the last report.
-fn take_reply(ss: &mut Sessions, s: SessionId, server: ServerId, y: Reply)
+/// The same reply, of which the count is that of the members it shows: a report has 64 places.
+fn counted(y: Reply) -> Reply
+    ensures says { reply_of result ≡ reply_of y }
+    ensures count { count_in result ≡ members_in_reply (reply_of result) }
+{
+    match y {
+        Reply::Report(shown) => {
+            let mut report = shown;
+            report.count = report.count.min(PLACES);
+            Reply::Report(report)
+        }
+        Reply::Done => Reply::Done,
+        Reply::NotYet => Reply::NotYet,
+    }
+}
+
+/// The session's master takes the reply of a server, which it awaits, and a lost one goes on after the last report. Nothing else
+/// of the sessions changes. All reports to the master speak of 64 members at most.
+pub fn take_reply(ss: &mut Sessions, s: SessionId, server: ServerId, y: Reply)
     requires server { server.0 < 8 }
-    requires expected { expects (model.mirror_in (model.session_in ss.old.sessions s.0)) server.0 y ≡ true }
+    requires awaited { is_awaited (model.mirror_in (model.session_in ss.old.sessions s.0)) server.0 (reply_of y) ≡ true }
     ensures { ss.new.sessions ≡ model.changed s.0 (model.with_master (λ m. phases.taken m server.0 (reply_of y))) ss.old.sessions }
 {
     let report = is_report(&y);
-    ss.reply(s, server, y);
+    ss.reply(s, server, counted(y));
     settle_if(ss, s, report);
 }
 
 /// The same, where it does.
 fn reply_if(ss: &mut Sessions, s: SessionId, server: ServerId, y: Reply, on: bool)
     requires server { server.0 < 8 }
-    requires expected { on ≡ true → expects (model.mirror_in (model.session_in ss.old.sessions s.0)) server.0 y ≡ true }
+    requires awaited { on ≡ true → is_awaited (model.mirror_in (model.session_in ss.old.sessions s.0)) server.0 (reply_of y) ≡ true }
     ensures { ss.new.sessions ≡ (if on then model.changed s.0 (model.with_master (λ m. phases.taken m server.0 (reply_of y))) ss.old.sessions else ss.old.sessions) }
 {
     if on {

@@ -6,11 +6,12 @@
 //! cuts stays so (`cuts`). Both ask that it was so before, which every run shows (`seals_find_their_cut` of
 //! `dr_laws_recovery`). `settle` reports what the targets of a server's members show that count in the session, in
 //! order (`shown`), and changes nothing. `carry_out` carries out an order of any kind over the members of a server, in
-//! order, and begins the session's attempt exactly where its first hold was done (`carried`); `decide_over` is the
+//! order, and begins the session's attempt exactly where its first hold was done (`carried`); `asked_order` is the order
+//! that a master has for a server (`order`), and `take_reply` what it makes of the reply; `decide_over` is the
 //! decision over what a session's members show; `restore_refusal` and `leaving` are what the sessions say of a restore
 //! of a member's target: why it can't be, and who leaves. `exchange` is an order behind its refusals in order, and the
-//! master takes the reply, and goes on after the last report; in a sound world it leaves the target of a member as it
-//! is whose secondary isn't its primary's, as after a takeover (`leaves`).
+//! master takes the reply, and goes on after the last report. In a sound world an exchange leaves the target of a member
+//! as it is whose secondary isn't its primary's, as after a takeover, and so does an order that is delivered (`leaves`).
 #![tactic(auto)]
 
 mod exchanging;
@@ -22,7 +23,8 @@ mod sealing;
 mod settling;
 mod steps;
 
-pub use exchanging::exchange;
+pub use exchanging::{asked_order, exchange, take_reply};
+pub use looks::apart_refusal;
 pub use orders::carry_out;
 pub use restores::{decide_over, leaving, member_with, restore_refusal, secondary_refusal};
 pub use sealing::seal;

@@ -103,7 +103,7 @@ pub(crate) fn off_refusal<P: Plant>(plant: &P, config: &Config, server: ServerId
 }
 
 /// Why two servers don't reach each other: the link between them is down.
-pub(crate) fn apart_refusal(config: &Config, a: ServerId, b: ServerId) -> Option<Refusal>
+pub fn apart_refusal(config: &Config, a: ServerId, b: ServerId) -> Option<Refusal>
     requires first { a.0 < length config.now.names }
     requires second { b.0 < length config.now.names }
     ensures refusal { result ≡ (if nat_eq a.0 b.0 || link_up config.now a.0 b.0 then None else Some (link_down a.0 b.0)) }

@@ -1,13 +1,19 @@
 //! A server carries out what a session's master orders.
 
-ghost use Rattle.std.specs.Prelude.{◌≡◌, ℕ, ◌≤◌, ◌+◌, true, length, None, List, IfOk, OnOk, OnErr, if◌then◌else◌};
+ghost use Rattle.std.specs.Prelude.{◌≡◌, ℕ, ◌≤◌, ◌+◌, true, false, length, None, List, IfOk, OnOk, OnErr, if◌then◌else◌};
 ghost use Rattle.dr_logic.specs.Counts.{Counted};
+ghost use Rattle.dr_ids.specs.declared.names.Member.{Member};
 ghost use Rattle.dr_model.specs.declared.event.Event.{Event};
+ghost use Rattle.dr_model.specs.Entries.{fields_at};
+ghost use Rattle.dr_model.specs.Groups.{In};
+ghost use Rattle.dr_model.specs.Laws.{Sound};
+ghost use Rattle.dr_model.specs.Pairs.{is_secondary_of};
 ghost use Rattle.dr_model.specs.Phases as phases;
 ghost use Rattle.dr_model.specs.ReadStops.{Ends};
 ghost use Rattle.dr_model.specs.Sessions as model;
+ghost use Rattle.dr_model.specs.Sessions.{Session};
 ghost use Rattle.dr_model.specs.SessionEntries.{order_entries, members_on, reply_after};
-ghost use Rattle.dr_master.specs.Seen.{work_of, reply_of, count_in};
+ghost use Rattle.dr_master.specs.Seen.{work_of, order_of, reply_of, count_in};
 ghost use Rattle.dr_volume.specs.View.{Rest};
 ghost use Rattle.dr_moves.specs.Checks.{is_stop};
 ghost use Rattle.dr_moves.specs.Fit.{RelationsFit};
@@ -15,7 +21,8 @@ ghost use Rattle.dr_moves.specs.Here.{world_seen, refusal_of, armed_in, IsAtRest
 ghost use Rattle.dr_moves.specs.Made.{IsAt};
 ghost use Rattle.dr_moves.specs.Turns.{Leads, Fails};
 ghost use Rattle.dr_moves.specs.Aside.{AsideFits};
-ghost use Rattle.dr_gmirror.specs.Exchange.{members_in_reply};
+ghost use Rattle.dr_laws_recovery.specs.TakenOver.{IsLeft};
+ghost use Rattle.dr_gmirror.specs.Exchange.{members_in_reply, Delivers};
 ghost use Rattle.dr_gmirror.specs.Orders.{with_sessions, MayOrder, AreReady, is_report};
 ghost use Rattle.dr_gmirror.specs.Ordered.{Ordered};
 
@@ -75,8 +82,10 @@ fn order_each<P: Plant>(
 /// A server, which is on, carries out an order on its members of a session, in the order in which they came, and replies: to a
 /// report with what its members show; a seal has to wait where a member's primary has tracks left to send; else all is done.
 /// The first hold of an attempt begins it for the session, also where the server stops in that hold and it counts as done.
-/// Fails where a member refuses, or where a server stops in a move or goes off at a read; what was done by then stays. The
-/// journal needs room for two events for each of the session's members and two more; a report speaks of at most 64 members.
+/// Fails where a member refuses, or where a server stops in a move or goes off at a read; what was done by then stays. In a sound
+/// world an order that is delivered leaves the target of a member as it is whose secondary isn't its primary's, as after a
+/// takeover. The journal needs room for two events for each of the session's members and two more; a report speaks of at most
+/// 64 members.
 pub fn carry_out<P: Plant>(
     plant: &mut P,
     config: &Config,
@@ -100,6 +109,10 @@ pub fn carry_out<P: Plant>(
         (world_seen (P.state plant.new) config.now (with_sessions ss.new.sessions r) journal.new.events)) }
     ensures fails { OnErr result ((r : Rest) → Fails (armed_in (P.state plant.old)) (world_seen (P.state plant.old) config.now (with_sessions ss.old.sessions r) journal.old.events) (order_entries (work_of order.kind) s.0 order.n (members_on server.0 (model.members_in (model.session_in ss.old.sessions s.0))))
         (world_seen (P.state plant.new) config.now (with_sessions ss.new.sessions r) journal.new.events) (refusal_of result)) }
+    ensures leaves { (r : Rest) (j : ℕ) (x : Session) (m : Member) → Sound (world_seen (P.state plant.old) config.now (with_sessions ss.old.sessions r) journal.old.events)
+        → Delivers (world_seen (P.state plant.old) config.now (with_sessions ss.old.sessions r) journal.old.events).control j s.0 server.0 (order_of order) (model.members_in (model.session_in ss.old.sessions s.0))
+        → In x ss.old.sessions → In m x.members → is_secondary_of m.a.0 (fields_at (world_seen (P.state plant.old) config.now (with_sessions ss.old.sessions r) journal.old.events).control m.b.0) ≡ false
+        → IsLeft (world_seen (P.state plant.old) config.now (with_sessions ss.old.sessions r) journal.old.events) (world_seen (P.state plant.new) config.now (with_sessions ss.new.sessions r) journal.new.events) m }
     ensures reply { IfOk result (λ y. (r : Rest) (events : List Event) → reply_of y ≡ reply_after s.0 (work_of order.kind) (members_on server.0 (model.members_in (model.session_in ss.old.sessions s.0))) (world_seen (P.state plant.new) config.now r events).control) }
     ensures count { IfOk result (λ y. count_in y ≡ members_in_reply (reply_of y)) }
     ensures members { model.members_in (model.session_in ss.new.sessions s.0) ≡ model.members_in (model.session_in ss.old.sessions s.0) }

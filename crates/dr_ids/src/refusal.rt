@@ -26,6 +26,7 @@ pub enum Which {
     Groups,
     Size,
     Server,
+    Messages,
 }
 
 /// The phase of a session's master; `None` where the session has no master.
@@ -76,7 +77,7 @@ pub enum RelSeen {
     None,
 }
 
-/// Why a step was refused; the answers E01 to E24 in this order.
+/// Why a step was refused; the answers E01 to E25 in this order.
 #[derive(Clone, Copy)]
 pub enum Refusal {
     Syntax { column: u16 },
@@ -103,6 +104,7 @@ pub enum Refusal {
     NoGroup { decision: Decision },
     JournalFull,
     NotBuilt,
+    OldMessage { m: u32 },
 }
 
 /// Why a call that may want memory failed.

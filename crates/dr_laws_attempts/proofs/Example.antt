@@ -1,10 +1,11 @@
 -- The example goes through all phases, and its laws hold all the way.
-use Rattle.std.proofs.Common.{ℕ, ◌≡◌, ◌⊎◌, ◌<◌, ◌≤◌, inl, inr, refl, ap, sym, subst, ◌∙◌, arith, Bool, true, false, [], ◌∷◌, Some, None}
+use Rattle.std.proofs.Common.{ℕ, ◌≡◌, ◌⊎◌, ◌<◌, ◌≤◌, inl, inr, refl, ap, sym, subst, ◌∙◌, arith, Bool, true, false, List, [], ◌∷◌, Some, None}
 use Rattle.std.proofs.lemmas.Option.{same_Some}
 use Rattle.dr_ids.specs.declared.names.Member.{Member}
+use Rattle.dr_ids.specs.declared.refusal.PhaseName.{PhaseName}
 use Rattle.dr_ids.specs.declared.refusal.PhaseName.TheVariants as phase
 use Rattle.dr_ids.specs.declared.refusal.Decision.TheVariants.{NoMember, Nothing, RevertAll, CommitRest}
-use Rattle.dr_model.specs.Decisions.{decision, decided}
+use Rattle.dr_model.specs.Decisions.{Shown, decision, decided}
 use Rattle.dr_model.specs.Control.{Control}
 use Rattle.dr_model.specs.Phases as phases
 use Rattle.dr_model.specs.Moves.{Move, Hold, Free, Seal, Flash, Commit, Revert, Finish, TakeOver}
@@ -13,8 +14,10 @@ use Rattle.dr_model.specs.Entries.{fields_at}
 use Rattle.dr_model.specs.PairEntries.{send_refusal}
 use Rattle.dr_model.specs.Sessions.{Session, Mirror, session_in, changed, begun, has_subsystem, subsystem_of}
 use Rattle.dr_model.specs.SessionEntries.{flash_refusal, commit_refusal, is_flashed, is_committed, shown_by_members}
+use Rattle.dr_model.specs.Messages.{Flight, Message, no_flight}
 use Rattle.dr_model.specs.Groups.{In, IsAt, PlacesDiffer, MemberStands, MasterStands, OwesServers, SessionFits, Groups, Due, HoldsMember, OpensAttempt}
-use Rattle.dr_model.specs.Attempts.{Seen, seen, all_seen, roles, committed, number_shown, AllHeld, AllFlashed, Numbered, phase_of, AttemptOf, Attempts, InAttempt, WorkDone, ServerDone}
+use Rattle.dr_model.specs.Flights.{MayTake, owed_after, reports_after, FlightFits, Flights}
+use Rattle.dr_model.specs.Attempts.{Seen, seen, seen_in, all_seen, roles, committed, number_shown, AllHeld, AllFlashed, Numbered, InPhase, phase_of, owed_of, reports_of, AttemptOf, Attempts, InAttempt, WorkDone, ServerDone}
 use Rattle.dr_laws_sessions.specs.Frames.{Suits, ServerSilent}
 use Rattle.dr_laws_sessions.proofs.Owed.{owes-idle}
 use Rattle.dr_laws_sessions.proofs.Quieting.{groups-move, moved-opened}
@@ -27,9 +30,44 @@ use Rattle.dr_laws_attempts.proofs.Orders.{done-calm, done-asked, order-frees, o
 
 -- ---- the first state is lawful
 
+-- and no message is ever in flight
 record Both (k : Control) : Type 0 where
   groups : Groups k
   attempts : Attempts k
+  still : k.flight ≡ no_flight
+
+nothing-comes : (s : ℕ) (p : PhaseName) (n : ℕ) (owed : List ℕ) (reports : List Shown) (vs : List Seen) → InPhase p n owed reports vs → (ms : List Message) → MayTake no_flight s p n owed ms → InPhase p n (owed_after ms owed) (reports_after ms reports) vs
+nothing-comes s p n owed reports vs law [] takes = law
+nothing-comes s p n owed reports vs law (m ∷ ms) takes = absurd takes.0.here
+
+nothing-flies : (s : ℕ) (p : PhaseName) (n : ℕ) (owed : List ℕ) (reports : List Shown) (vs : List Seen) → InPhase p n owed reports vs → FlightFits no_flight s p n owed reports vs
+nothing-flies s p n owed reports vs law = record {
+  known = λ m here is. absurd here;
+  so_far = λ m here its is. absurd here;
+  fenced = λ f m order is older to. absurd order.here;
+  heard = λ lost v here o. omega arith;
+  reached = λ lost m awaited. absurd awaited.here;
+  holds = λ k m order past. absurd order.order.here;
+  after_holds = λ m order is later. absurd order.here;
+  flashes = λ k m order past. absurd order.order.here;
+  commits = λ m order. absurd order.order.here;
+  commit_way = λ m threat. absurd threat.order.order.here;
+  revert_way = λ m threat. absurd threat.order.order.here;
+  one_way = λ flag c r commit revert to also. absurd commit.order.here;
+  others = λ lost k told other m threat. absurd threat.order.order.here;
+  others_come = λ lost q awaited k told other m threat. absurd awaited.here;
+  replies = nothing-comes s p n owed reports vs law;
+  few = λ m awaited. absurd awaited.here;
+  finished = λ ends m awaited. absurd awaited.here;
+}
+
+flights-still : (k : Control) → Attempts k → k.flight ≡ no_flight → Flights k
+flights-still k law still = record {
+  homes = λ m here. absurd (subst (λ (f : Flight). In m f.messages) still here);
+  fences = λ s server. subst (λ (f : Flight). f.fence s server ≤ f.epoch s) (sym still) (omega arith);
+  each = λ x i. subst (λ f. FlightFits f x.number (phase_of x.mirror) x.last (owed_of x.mirror) (reports_of x.mirror) (seen_in k x)) (sym still)
+      (nothing-flies x.number (phase_of x.mirror) x.last (owed_of x.mirror) (reports_of x.mirror) (seen_in k x) (law.sessions x i).phase);
+}
 
 is-session : (x : Session) → In x (session ∷ []) → session ≡ x
 is-session x (inl is) = sym is
@@ -125,7 +163,7 @@ start-attempts = record {
     numbered = record { attempt = omega arith; seal = omega arith; floor = omega arith; sequence = λ h. omega arith; last = λ h. absurd cc; above = λ h. absurd cc; reached = λ h. absurd cc }
 
 start-both : Both start
-start-both = record { groups = start-groups; attempts = start-attempts }
+start-both = record { groups = start-groups; attempts = start-attempts; still = refl }
 
 -- ---- phases
 
@@ -198,10 +236,10 @@ aborts = refl
 
 module _ (k : Control) (b : Both k) where
   moves : (m : Move) → InAttempt k m → Suits k m → Both (move m k)
-  moves m a s = record { groups = groups-move k (move m k) m None refl (record { volumes = refl; keeps = true; volume = refl }) s b.groups; attempts = attempts-move k (move m k) m None refl (record { volumes = refl; keeps = true; volume = refl }) a b.groups b.attempts }
+  moves m a s = record { groups = groups-move k (move m k) m None refl (record { volumes = refl; keeps = true; volume = refl }) s b.groups; attempts = attempts-move k (move m k) m None refl (record { volumes = refl; keeps = true; volume = refl }) a b.groups b.attempts (flights-still k b.attempts b.still); still = b.still }
 
   answers : (server : ℕ) (x : Session) → session_in k.sessions 7 ≡ Some x → ServerDone k x server → ((r : Mirror) → x.mirror ≡ Some r → r.master.phase ≡ phase.Finishing → ServerSilent k x server) → Both (reply server k)
-  answers server x found done silent = record { groups = groups-taken k 7 server phases.Done x b.groups found silent (λ r has. tt); attempts = with-done k b.groups b.attempts 7 server x found done }
+  answers server x found done silent = record { groups = groups-taken k 7 server phases.Done x b.groups found silent (λ r has. tt); attempts = with-done k b.groups b.attempts 7 server x found done; still = b.still }
 
 opens : OpensAttempt start 1 7 1
 opens = record { place = record { session = session; listed = inl refl; number = refl; mirror = record { server = 0; paused = false; master = phases.idle (0 ∷ 1 ∷ []) 0 }; has_master = refl; member = first; here = inl refl; is = refl }; idle = refl; next = refl; to = refl }
@@ -213,14 +251,15 @@ opened-both : Both opened
 opened-both = record {
   groups = moved-opened start (move (Hold 1 7 1 true) start) 1 (held_for 1 (fields_at start 1)) None refl (record { volumes = refl; keeps = true; volume = refl }) 7 1 refl refl opens start-groups;
   attempts = attempts-opened start (move (Hold 1 7 1 true) start) 1 7 1 None refl (record { volumes = refl; keeps = true; volume = refl }) opens start-groups start-attempts;
+  still = refl;
 }
 
 holds : HoldsMember opened 4 7 1
 unfolding changed
-holds = record { place = record { session = now opened; listed = inl refl; number = refl; mirror = record { server = 0; paused = false; master = phases.begun (phases.idle (0 ∷ 1 ∷ []) 0) }; has_master = refl; member = second; here = inr (inl refl); is = refl }; due = record { mirror = record { server = 0; paused = false; master = phases.begun (phases.idle (0 ∷ 1 ∷ []) 0) }; has_master = refl; owed = refl; works = refl; number = refl }; last = refl; to = refl }
+holds = record { place = record { session = now opened; listed = inl refl; number = refl; mirror = record { server = 0; paused = false; master = phases.begun (phases.idle (0 ∷ 1 ∷ []) 0) }; has_master = refl; member = second; here = inr (inl refl); is = refl }; due = inl (record { mirror = record { server = 0; paused = false; master = phases.begun (phases.idle (0 ∷ 1 ∷ []) 0) }; has_master = refl; owed = refl; works = refl; number = refl }); last = refl; busy = λ e. cc; unfinished = λ ends. refl; to = refl }
 
 held-both : Both held
-held-both = moves opened opened-both (Hold 4 7 1 false) (holds, omega arith) holds
+held-both = moves opened opened-both (Hold 4 7 1 false) (holds, (omega arith, refl)) holds
 
 module _ (k : Control) (b : Both k) (found : session_in k.sessions 7 ≡ Some (now k)) where
   -- replies where the server has done its work, and where that asks nothing of members
@@ -235,8 +274,8 @@ module _ (k : Control) (b : Both k) (found : session_in k.sessions 7 ≡ Some (n
     abbrev Owes : phases.Work → Type 0
     Owes work = ((now k).mirror ≡ Some (master_now k)) × ((phases.is_among m.server.0 (master_now k).master.owed ≡ true) × (phases.work_in (master_now k).master.phase ≡ Some work))
 
-    due : (work : phases.Work) (n : ℕ) → Owes work → n ≡ (now k).last → Due (now k) m.server.0 work n
-    due work n owes last = record { mirror = master_now k; has_master = owes.0; owed = owes.1.0; works = owes.1.1; number = last }
+    due : (work : phases.Work) (n : ℕ) → Owes work → n ≡ (now k).last → Due k.flight (now k) m.server.0 work n
+    due work n owes last = inl (record { mirror = master_now k; has_master = owes.0; owed = owes.1.0; works = owes.1.1; number = last })
 
     frees : Owes phases.Release → Both (move (Free m.a.0) k)
     frees e = moves k b (Free m.a.0) (order-frees k b.groups b.attempts 7 (now k) found m here (due phases.Release (now k).last e refl)) tt
@@ -248,10 +287,10 @@ module _ (k : Control) (b : Both k) (found : session_in k.sessions 7 ≡ Some (n
     flash-moves last e sends passes new = moves k b (Flash m.c.0 m.b.0 m.a.0 7 1) (order-flashes k b.groups b.attempts 7 (now k) found m here 1 last (due phases.Flash 1 e (sym last)) sends passes new) tt
 
     commit-moves : (now k).last ≡ 1 → Owes phases.Commit → send_refusal m.a.0 m.b.0 k ≡ None → commit_refusal m.c.0 1 k ≡ None → is_committed 1 (fields_at k m.c.0) ≡ false → Both (move (Commit m.c.0 m.a.0 7 1) k)
-    commit-moves last e sends passes new = moves k b (Commit m.c.0 m.a.0 7 1) (order-commits k b.groups b.attempts 7 (now k) found m here 1 last (due phases.Commit 1 e (sym last)) sends passes new) tt
+    commit-moves last e sends passes new = moves k b (Commit m.c.0 m.a.0 7 1) (order-commits k b.groups b.attempts 7 (now k) found m here (flights-still k b.attempts b.still) 1 last (due phases.Commit 1 e (sym last)) sends passes new) tt
 
     finish-moves : (now k).last ≡ 1 → Both (move (Finish m.a.0 1) k)
-    finish-moves last = moves k b (Finish m.a.0 1) (order-finishes k b.groups b.attempts 7 (now k) found m here 1 last) tt
+    finish-moves last = moves k b (Finish m.a.0 1) (order-finishes k b.groups b.attempts 7 (now k) found m here 1 (omega (arith, last))) tt
 
 -- what holds of the members on server 0, or on server 1
 apart-servers : {P : Type 0} (a b : ℕ) → a ≡ b → (a ≡ b → ⊥) → P

@@ -16,14 +16,15 @@ use Rattle.dr_model.specs.Entries.{fields_at, is_at, copies_from}
 use Rattle.dr_model.specs.SessionEntries.{may_flash}
 use Rattle.dr_model.specs.Sessions.{Session}
 use Rattle.dr_model.specs.Groups.{In, IsAt, Groups, IsMember, Due}
-use Rattle.dr_model.specs.Attempts.{Role, Roles, role_of, roles, seen_of, seen, all_seen, counts, All, NoneRevertible, NoneCommitted, SomeCommitted, AllHeld, phase_of, owed_of, reports_of, is_owed, IsTarget, AttemptsIn, Attempts, Persists, DoesNotCount, MayGo, MayFree, MayFollow, IsSilent, SealsMember, FlashesMember, CommitsMember, RevertsMember, InAttempt}
+use Rattle.dr_model.specs.Attempts.{Role, Roles, role_of, roles, seen_of, seen, all_seen, counts, All, NoneRevertible, NoneCommitted, SomeCommitted, AllHeld, phase_of, owed_of, reports_of, IsTarget, AttemptsIn, Attempts, Persists, DoesNotCount, MayGo, MayFree, MayFollow, MemberOf, IsSilent, SealsMember, FlashesMember, CommitsMember, RevertsMember, InAttempt}
+use Rattle.dr_model.specs.Flights.{Flights}
 use Rattle.dr_laws_sessions.specs.Frames.{Moves}
 use Rattle.dr_facts.proofs.Lists.{to-map}
 use Rattle.dr_laws_sessions.proofs.Changes.{same-session}
 use Rattle.dr_laws_attempts.proofs.Facts.{bool_cases, stood}
-use Rattle.dr_laws_attempts.proofs.Turns.{Kind, Raise, Go, RevertComes, Ordered, MayTurn, MayTry, MaySeal, MayPair}
+use Rattle.dr_laws_attempts.proofs.Turns.{Kind, Raise, Go, IsAsked, Ordered, TakesBack, MayTurn, MayTry, MaySeal, MayPair}
 use Rattle.dr_laws_attempts.proofs.Turns as turn
-use Rattle.dr_laws_attempts.proofs.Dues.{hold-comes, seal-comes, flash-comes, commit-comes, revert-comes, release-held, flash-held, commit-flashed}
+use Rattle.dr_laws_attempts.proofs.Dues.{due-asked, hold-comes, seal-comes, flash-comes, commit-comes, revert-comes, release-held, flash-held, commit-flashed}
 use Rattle.dr_laws_attempts.proofs.Places.{Stays, Steps, steps-keep, TurnsTo, as_part, tries, pairs, parts, targets}
 use Rattle.dr_facts.proofs.Tables.{at_id}
 use Rattle.dr_facts.proofs.Relations.{copies-from}
@@ -99,10 +100,10 @@ module _ (k : Control) (groups : Groups k) (law : Attempts k) where
   T = roles k
 
   abbrev After : ℕ → Role → Type 0
-  After v y = Steps ss T (at T v y)
+  After v y = Steps k.flight ss T (at T v y)
 
   same : (v : ℕ) → After v (T v)
-  same v = subst (λ S. Steps ss T S) (sym (fun_ext (λ u. at_id T v u))) (record { turns = λ z i. Stays refl; claims = law.volumes })
+  same v = subst (λ S. Steps k.flight ss T S) (sym (fun_ext (λ u. at_id T v u))) (record { turns = λ z i. Stays refl; claims = law.volumes })
 
   -- what is so of a member at a place is so of each member at that place
   pub at-place : (P : Session → Member → Type 0) (v : ℕ) (x : Session) (q : Member) → In x ss → In q x.members → IsAt v q → P x q → (z : Session) (m : Member) → In z ss → In m z.members → IsAt v m → P z m
@@ -116,15 +117,15 @@ module _ (k : Control) (groups : Groups k) (law : Attempts k) where
   attempt-low : (z : Session) (m : Member) → In z ss → In m z.members → (T m.a.0).attempt ≤ z.last
   attempt-low z m i here = ((law.sessions z i).numbers.each (seen T m) (own-seen z m i here)).attempt
 
-  tried : (v q : ℕ) (records held : Bool) → ((z : Session) (m : Member) → In z ss → In m z.members → m.a.0 ≡ v → MayTry (phase_of z.mirror) z.last (all_seen T z.members) (seen T m) q records held)
+  tried : (v q : ℕ) (records held : Bool) → ((z : Session) (m : Member) → In z ss → In m z.members → m.a.0 ≡ v → MayTry k.flight z.number (phase_of z.mirror) z.last (all_seen T z.members) (seen T m) q records held)
       → After v (record (T v) { attempt = q; recording = records; held = held })
-  tried v q records held may = tries ss groups.lone T law v q records held may
+  tried v q records held may = tries k.flight ss groups.lone T law v q records held may
 
   -- a primary that doesn't record from then on
-  ending : (v q : ℕ) → (T v).attempt ≤ q → ((z : Session) (m : Member) → In z ss → In m z.members → m.a.0 ≡ v → q ≤ z.last) → (z : Session) (m : Member) → In z ss → In m z.members → m.a.0 ≡ v → MayTry (phase_of z.mirror) z.last (all_seen T z.members) (seen T m) q false false
+  ending : (v q : ℕ) → (T v).attempt ≤ q → ((z : Session) (m : Member) → In z ss → In m z.members → m.a.0 ≡ v → q ≤ z.last) → (z : Session) (m : Member) → In z ss → In m z.members → m.a.0 ≡ v → MayTry k.flight z.number (phase_of z.mirror) z.last (all_seen T z.members) (seen T m) q false false
   ending v q up low z m i here e = record { up = subst (λ u. (T u).attempt ≤ q) (sym e) up; low = low z m i here e; begun = λ r. absurd cc; free = λ r h. absurd cc }
 
-  ending-now : (v : ℕ) → (z : Session) (m : Member) → In z ss → In m z.members → m.a.0 ≡ v → MayTry (phase_of z.mirror) z.last (all_seen T z.members) (seen T m) (T v).attempt false false
+  ending-now : (v : ℕ) → (z : Session) (m : Member) → In z ss → In m z.members → m.a.0 ≡ v → MayTry k.flight z.number (phase_of z.mirror) z.last (all_seen T z.members) (seen T m) (T v).attempt false false
   ending-now v = ending v (T v).attempt (omega arith) (λ z m i here e. subst (λ u. (T u).attempt ≤ z.last) e (attempt-low z m i here))
 
   silenced : (v : ℕ) → After v (record (T v) { recording = false; held = false })
@@ -140,17 +141,17 @@ module _ (k : Control) (groups : Groups k) (law : Attempts k) where
   })
 
   -- one that is let go, where all were held
-  freed-by : (v : ℕ) → MayFree k v → After v (record (T v) { held = false })
-  freed-by v a = tried v (T v).attempt (T v).recording false (λ z m i here e. record {
+  freed-by : Flights k → (v : ℕ) → MayFree k v → After v (record (T v) { held = false })
+  freed-by flights v a = tried v (T v).attempt (T v).recording false (λ z m i here e. record {
     up = subst (λ u. (T u).attempt ≤ (T v).attempt) (sym e) (omega arith);
     low = subst (λ u. (T u).attempt ≤ z.last) e (attempt-low z m i here);
     begun = λ r. inl (ap (λ u. (T u).recording) e ∙ r);
     free = λ r h. inr (at-place (λ z m. AllHeld z.last (all_seen T z.members)) v a.place.session a.place.member a.place.listed a.place.here (inl (sym a.place.is))
-        (release-held T a.place.session (law.sessions a.place.session a.place.listed) a.place.member.server.0 a.place.session.last a.due) z m i here (inl (sym e)));
+        (release-held k a.place.session (law.sessions a.place.session a.place.listed) (flights.each a.place.session a.place.listed) a.place.member a.place.here a.due) z m i here (inl (sym e)));
   })
 
   paired : (v : ℕ) (primary : Option ℕ) (q : ℕ) → ((z : Session) (m : Member) → In z ss → In m z.members → m.b.0 ≡ v → MayPair (phase_of z.mirror) z.last (seen T m) (is_at primary m.a.0) q) → After v (record (T v) { primary = primary; seal = q })
-  paired v primary q may = pairs ss groups.lone T law v primary q may
+  paired v primary q may = pairs k.flight ss groups.lone T law v primary q may
 
   -- a secondary without a seal, which is whose it was
   resealed : (v q : ℕ) → ((z : Session) (m : Member) → In z ss → In m z.members → m.b.0 ≡ v → (q ≡ 0) ⊎ ((q ≡ z.last) × MaySeal (phase_of z.mirror) z.last (seen T m))) → After v (record (T v) { seal = q })
@@ -162,7 +163,7 @@ module _ (k : Control) (groups : Groups k) (law : Attempts k) where
 
   -- and one that is a primary then
   taken : (v : ℕ) → After v (record (T v) { recording = false; held = false; primary = None; seal = 0 })
-  taken v = parts ss groups.lone T law v (T v).attempt false false None 0 (ending-now v) (λ z m i here e. record { sealed = inl refl; free = λ h. absurd cc })
+  taken v = parts k.flight ss groups.lone T law v (T v).attempt false false None 0 (ending-now v) (λ z m i here e. record { sealed = inl refl; free = λ h. absurd cc })
 
   -- a secondary is made of a primary that doesn't record, where no target of it is revertible
   follows : (v u : ℕ) (b : Bool) → MayFollow k v × IsSilent k u → (z : Session) (m : Member) → In z ss → In m z.members → m.b.0 ≡ v → MayPair (phase_of z.mirror) z.last (seen T m) (is_at (cond b (Some u) None) m.a.0) 0
@@ -173,7 +174,7 @@ module _ (k : Control) (groups : Groups k) (law : Attempts k) where
   -- a target that doesn't count from then on
   gone : (v : ℕ) (y : Role) → as_part y ≡ as_part (T v) → y.floor ≡ (T v).floor → y.member ≡ false → y.revertible ≡ false → y.session ≡ 0 → y.previous ≡ 0
       → ((z : Session) (m : Member) → In z ss → In m z.members → m.c.0 ≡ v → (counts (seen T m) ≡ false) ⊎ NoneRevertible (all_seen T z.members)) → After v y
-  gone v y own floor member revertible session previous may = targets ss groups.lone T law v y own (λ z m i here e. record {
+  gone v y own floor member revertible session previous may = targets k.flight ss groups.lone T law v y own (λ z m i here e. record {
     kind = Go y.sequence y.previous;
     may = may z m i here e;
     is = λ i. record (seen T m) { sequence = y.sequence; previous = y.previous; revertible = revertible i; member = member i; floor = (floor ∙ ap (λ u. (T u).floor) (sym e)) i };
@@ -215,17 +216,25 @@ module _ (k : Control) (groups : Groups k) (law : Attempts k) where
       gone-uncounted v (record (T v) { sequence = q }) none refl refl p.0 p.1 ((law.volumes v).uncounted none) ((law.volumes v).previous p.1)
 
   raised : (v q : ℕ) → InAttempt k (RaiseFloor v q) → After v (record (T v) { floor = q })
-  raised v q a = targets ss groups.lone T law v (record (T v) { floor = q }) refl (λ z m i here e. let r = a z m i here e in record {
+  raised v q a = targets k.flight ss groups.lone T law v (record (T v) { floor = q }) refl (λ z m i here e. let r = a z m i here e in record {
     kind = Raise q;
-    may = record { plain = ap (λ u. (T u).revertible) e ∙ r.plain; higher = subst (λ x. x ≤ q) (ap (λ u. (T u).floor) (sym e)) r.higher; low = r.low };
+    may = record { under = λ h. r.under (sym (ap (λ u. (T u).revertible) e) ∙ h); higher = subst (λ x. x ≤ q) (ap (λ u. (T u).floor) (sym e)) r.higher; low = r.low };
     is = ap (λ u. seen_of m.server.0 m.a.0 (T m.a.0) (T m.b.0) (record (T u) { floor = q })) (sym e);
   }) (record { counted = (law.volumes v).counted; uncounted = (law.volumes v).uncounted; previous = (law.volumes v).previous })
 
   -- ---- sealed, flashed, committed, reverted
 
-  seals : (v u s n : ℕ) → SealsMember k v u s n → After v (record (T v) { seal = n })
-  seals v u s n a = resealed v n (λ z m i here e. at-place (λ z m. (n ≡ 0) ⊎ ((n ≡ z.last) × MaySeal (phase_of z.mirror) z.last (seen T m))) v a.place.session a.place.member a.place.listed a.place.here (inr (inl (sym a.secondary)))
-      (inr (a.last, record { comes = seal-comes a.place.session a.place.member.server.0 n a.due; records = ap (λ u. (T u).recording) a.place.is ∙ rec.0; held = subst (λ u. a.place.session.last ≤ (T u).attempt) (sym a.place.is) (let is : (T u).attempt ≡ n = eqb-true (T u).attempt n rec.1 in let last : n ≡ a.place.session.last = a.last in omega arith) }))
+  -- a member's secondary that is its primary's
+  still-its : {s a : ℕ} (place : MemberOf k s a) → place.member.a.0 ≡ a → is_secondary_of a (fields_at k place.member.b.0) ≡ true → (seen T place.member).paired ≡ true
+  still-its {s} {a} place is to = ap (λ a. is_at (T place.member.b.0).primary a) is ∙ (sym (is-secondary a (fields_at k place.member.b.0)) ∙ to)
+
+  -- an order of the last number is due
+  at-last : (x : Session) (server : ℕ) (work : phases.Work) (n : ℕ) → n ≡ x.last → Due k.flight x server work n → Due k.flight x server work x.last
+  at-last x server work n last due = subst (λ n. Due k.flight x server work n) last due
+
+  seals : Flights k → (v u s n : ℕ) → SealsMember k v u s n → After v (record (T v) { seal = n })
+  seals flights v u s n a = resealed v n (λ z m i here e. at-place (λ z m. (n ≡ 0) ⊎ ((n ≡ z.last) × MaySeal (phase_of z.mirror) z.last (seen T m))) v a.place.session a.place.member a.place.listed a.place.here (inr (inl (sym a.secondary)))
+      (inr (a.last, record { comes = seal-comes k a.place.session (law.sessions a.place.session a.place.listed) (flights.each a.place.session a.place.listed) a.place.member a.place.here (at-last a.place.session a.place.member.server.0 phases.Seal n a.last a.due); records = ap (λ u. (T u).recording) a.place.is ∙ rec.0; held = subst (λ u. a.place.session.last ≤ (T u).attempt) (sym a.place.is) (let is : (T u).attempt ≡ n = eqb-true (T u).attempt n rec.1 in let last : n ≡ a.place.session.last = a.last in omega arith) }))
       z m i here (inr (inl (sym e))))
     where
       rec : ((T u).recording ≡ true) × (nat_eq (T u).attempt n ≡ true)
@@ -235,21 +244,22 @@ module _ (k : Control) (groups : Groups k) (law : Attempts k) where
   flashed_role s n r = record r { sequence = n; previous = r.sequence; revertible = true; session = s }
 
   abbrev To : Role → ℕ → Session → Member → Type 0
-  To y v z m = m.c.0 ≡ v → TurnsTo ss groups.lone T law z m y
+  To y v z m = m.c.0 ≡ v → TurnsTo k.flight ss groups.lone T law z m y
 
-  flashes : (v u a s n : ℕ) → FlashesMember k v u a s n → After v (flashed_role s n (T v))
-  flashes v u a s n p =
+  flashes : Flights k → (v u a s n : ℕ) → FlashesMember k v u a s n → After v (flashed_role s n (T v))
+  flashes flights v u a s n p =
       let f = flashable u (fields_at k v) p.free in
-      targets ss groups.lone T law v (flashed_role s n (T v)) refl
+      targets k.flight ss groups.lone T law v (flashed_role s n (T v)) refl
       (λ z m i here e. at-place (To (flashed_role s n (T v)) v) v p.place.session p.place.member p.place.listed p.place.here (inr (inr (sym p.target))) (λ e. record {
         kind = turn.Flash;
         may = record {
-          comes = flash-comes p.place.session p.place.member.server.0 n (is_owed (owed_of p.place.session.mirror) (seen T p.place.member)) p.due;
-          held = flash-held T p.place.session (law.sessions p.place.session p.place.listed) p.place.member.server.0 n p.due;
+          asked = due-asked k.flight p.place.session p.place.member.server.0 phases.Flash p.place.session.last due;
+          comes = flash-comes k p.place.session (law.sessions p.place.session p.place.listed) (flights.each p.place.session p.place.listed) p.place.member p.place.here due (low e);
+          held = flash-held k p.place.session (law.sessions p.place.session p.place.listed) (flights.each p.place.session p.place.listed) p.place.member p.place.here due;
           paired = ap (λ b. is_at (T b).primary p.place.member.a.0) p.secondary ∙ (ap (λ a. is_at (T u).primary a) p.place.is ∙ (sym (is-secondary a (fields_at k u)) ∙ p.paired));
           sealed = ap (λ b. (T b).seal) p.secondary ∙ (p.sealed ∙ p.last);
           plain = ap (λ c. (T c).revertible) e ∙ f.plain;
-          low = subst (λ c. (T c).floor < p.place.session.last) (sym e) (subst (λ n. (T v).floor < n) p.last p.low);
+          low = low e;
         };
         is = ap (λ c. seen_of p.place.member.server.0 p.place.member.a.0 (T p.place.member.a.0) (T p.place.member.b.0) (flashed_role s n (T c))) (sym e) ∙ ap (λ q. record (seen T p.place.member) { previous = (seen T p.place.member).sequence; sequence = q; revertible = true }) p.last;
       }) z m i here (inr (inr (sym e))) e)
@@ -258,13 +268,19 @@ module _ (k : Control) (groups : Groups k) (law : Attempts k) where
         uncounted = λ h. false_true h (or-true (T v).member);
         previous = λ h. absurd cc;
       })
+    where
+      due : Due k.flight p.place.session p.place.member.server.0 phases.Flash p.place.session.last
+      due = at-last p.place.session p.place.member.server.0 phases.Flash n p.last p.due
+
+      low : p.place.member.c.0 ≡ v → (T p.place.member.c.0).floor < p.place.session.last
+      low e = subst (λ c. (T c).floor < p.place.session.last) (sym e) (subst (λ n. (T v).floor < n) p.last p.low)
 
   abbrev committed_role : ℕ → Role → Role
   committed_role n r = record r { previous = 0; revertible = false; member = true; floor = n }
 
-  commits : (v a s n : ℕ) → CommitsMember k v a s n → After v (committed_role n (T v))
-  commits v a s n p =
-      targets ss groups.lone T law v (committed_role n (T v)) refl
+  commits : Flights k → (v a s n : ℕ) → CommitsMember k v a s n → After v (committed_role n (T v))
+  commits flights v a s n p =
+      targets k.flight ss groups.lone T law v (committed_role n (T v)) refl
       (λ z m i here e. at-place (To (committed_role n (T v)) v) v p.place.session p.place.member p.place.listed p.place.here (inr (inr (sym p.target))) (λ e. record {
         kind = turn.Commit;
         may = record {
@@ -276,20 +292,25 @@ module _ (k : Control) (groups : Groups k) (law : Attempts k) where
       }) z m i here (inr (inr (sym e))) e)
       (record { counted = λ h. (law.volumes v).counted (ap (λ b. (T v).member || b) p.revertible ∙ or-true (T v).member); uncounted = λ h. absurd cc; previous = λ h. refl })
     where
-      by : (Due p.place.session p.place.member.server.0 phases.Commit n × (is_secondary_of a (fields_at k p.place.member.b.0) ≡ true)) ⊎ SomeCommitted n (all_seen T p.place.session.members)
-          → Ordered (phase_of p.place.session.mirror) p.place.session.last (owed_of p.place.session.mirror) (reports_of p.place.session.mirror) (all_seen T p.place.session.members) (seen T p.place.member) ⊎ SomeCommitted p.place.session.last (all_seen T p.place.session.members)
-      by (inl due) = inl (record {
-        comes = commit-comes p.place.session p.place.member.server.0 n (is_owed (owed_of p.place.session.mirror) (seen T p.place.member)) p.place.session.last (reports_of p.place.session.mirror) due.0;
-        flashed = (commit-flashed T p.place.session (law.sessions p.place.session p.place.listed) p.place.member.server.0 n due.0).0;
+      x : Session
+      x = p.place.session
+
+      by : (Due k.flight x p.place.member.server.0 phases.Commit n × (is_secondary_of a (fields_at k p.place.member.b.0) ≡ true)) ⊎ SomeCommitted n (all_seen T x.members)
+          → Ordered k.flight x.number (phase_of x.mirror) x.last (owed_of x.mirror) (reports_of x.mirror) (all_seen T x.members) (seen T p.place.member) ⊎ SomeCommitted x.last (all_seen T x.members)
+      by (inl h) = let due = at-last x p.place.member.server.0 phases.Commit n p.last h.0 in inl (record {
+        asked = due-asked k.flight x p.place.member.server.0 phases.Commit x.last due;
+        comes = commit-comes k x (law.sessions x p.place.listed) (flights.each x p.place.listed) p.place.member p.place.here due (ap (λ c. (T c).revertible) p.target ∙ p.revertible) (still-its p.place p.place.is h.1);
+        paired = still-its p.place p.place.is h.1;
+        flashed = (commit-flashed k x (law.sessions x p.place.listed) (flights.each x p.place.listed) p.place.member p.place.here due).0;
       })
-      by (inr had) = inr (subst (λ q. SomeCommitted q (all_seen T p.place.session.members)) p.last had)
+      by (inr had) = inr (subst (λ q. SomeCommitted q (all_seen T x.members)) p.last had)
 
   abbrev reverted_role : ℕ → Role → Role
   reverted_role n r = record r { sequence = r.previous; previous = 0; revertible = false; session = cond r.member r.session 0; floor = max r.floor n }
 
-  reverts : (v a s n : ℕ) → RevertsMember k v a s n → After v (reverted_role n (T v))
-  reverts v a s n p =
-      targets ss groups.lone T law v (reverted_role n (T v)) refl
+  reverts : Flights k → (v a s n : ℕ) → RevertsMember k v a s n → After v (reverted_role n (T v))
+  reverts flights v a s n p =
+      targets k.flight ss groups.lone T law v (reverted_role n (T v)) refl
       (λ z m i here e. at-place (To (reverted_role n (T v)) v) v p.place.session p.place.member p.place.listed p.place.here (inr (inr (sym p.target))) (λ e. record {
         kind = turn.Revert;
         may = record {
@@ -301,9 +322,16 @@ module _ (k : Control) (groups : Groups k) (law : Attempts k) where
       }) z m i here (inr (inr (sym e))) e)
       (record { counted = λ h. still (T v).member refl h; uncounted = λ h. over (T v).member h; previous = λ h. refl })
     where
-      by : (Due p.place.session p.place.member.server.0 phases.Revert n × (is_secondary_of a (fields_at k p.place.member.b.0) ≡ true)) ⊎ All (λ u. u.paired ≡ false) (all_seen T p.place.session.members)
-          → (RevertComes (phase_of p.place.session.mirror) × (is_at (T p.place.member.b.0).primary p.place.member.a.0 ≡ true)) ⊎ All (λ u. u.paired ≡ false) (all_seen T p.place.session.members)
-      by (inl e) = inl (revert-comes p.place.session p.place.member.server.0 n e.0, ap (λ a. is_at (T p.place.member.b.0).primary a) p.place.is ∙ (sym (is-secondary a (fields_at k p.place.member.b.0)) ∙ e.1))
+      x : Session
+      x = p.place.session
+
+      by : (Due k.flight x p.place.member.server.0 phases.Revert n × (is_secondary_of a (fields_at k p.place.member.b.0) ≡ true)) ⊎ All (λ u. u.paired ≡ false) (all_seen T x.members)
+          → TakesBack k.flight x.number (phase_of x.mirror) x.last (seen T p.place.member) ⊎ All (λ u. u.paired ≡ false) (all_seen T x.members)
+      by (inl h) = let due = at-last x p.place.member.server.0 phases.Revert n p.last h.0 in inl (record {
+        asked = due-asked k.flight x p.place.member.server.0 phases.Revert x.last due;
+        comes = revert-comes k x (law.sessions x p.place.listed) (flights.each x p.place.listed) p.place.member p.place.here due;
+        paired = still-its p.place p.place.is h.1;
+      })
       by (inr all) = inr all
 
       still : (b : Bool) → (T v).member ≡ b → (b || false) ≡ true → IsTarget ss v (cond b (T v).session 0) (T v).source (T v).recorded (T v).inhibited (T v).reversing
@@ -316,52 +344,52 @@ module _ (k : Control) (groups : Groups k) (law : Attempts k) where
 
   -- ---- all kinds
 
-  pub keeps : (m : Move) → InAttempt k m → After (target m) (role_of (next_fields m k.volume))
-  keeps (Overwrite w v t) a = closed v (rewritten (fetched (fields_at k v) t) t) (is_whole (k.volume v).tracks (fetched (fields_at k v) t).own) refl a.0
-  keeps (Keep v t) a = closed v (noted (fetched (fields_at k v) t) t) (is_whole (k.volume v).tracks (fetched (fields_at k v) t).own) refl a
-  keeps (Fetch v t) a = closed v (fetched (fields_at k v) t) (is_whole (k.volume v).tracks (fetched (fields_at k v) t).own) refl a
-  keeps (Relate v s choices) a = gone-uncounted v (role_of (next_fields (Relate v s choices) k.volume)) a refl refl refl refl refl refl
-  keeps (Withdraw v) a = gone-uncounted v (role_of (next_fields (Withdraw v) k.volume)) a refl refl refl refl refl refl
-  keeps (Resync v sequence) a = resynced v (role_of (next_fields (Resync v sequence) k.volume)).sequence a
-  keeps (Reverse v left) a = reversed v a.0 (is_bare (turned (fields_at k v)).own)
-  keeps (Release v t) a = closed-or v (given_up (fields_at k v) t) (is_bare (given_up (fields_at k v) t).own) refl (λ e. reversing-uncounted k law v a)
-  keeps (Store v t u last) a = resealed v 0 (λ z m i here e. inl refl)
-  keeps (Suspend v busy) a = silenced v
-  keeps (MakeSecondary v u kind state) a = paired v (primary_of (next_fields (MakeSecondary v u kind state) k.volume)) 0 (follows v u (is_part kind) a)
-  keeps (MakePrimary v u kind state full) a = silenced v
-  keeps (DropPrimary v) a = silenced v
-  keeps (FallBack v more state) a = silenced v
-  keeps (Yield v u kind state) a = parts ss groups.lone T law v (T v).attempt false false (primary_of (next_fields (Yield v u kind state) k.volume)) 0 (ending-now v) (follows v u (is_part kind) a)
-  keeps (Lift v) a = lifted v
-  keeps (Restart v) a = silenced v
-  keeps (DropSecondary v) a = freed v
-  keeps (TakeOver v) a = taken v
-  keeps (Hold v s n first) a = let p : IsMember k v s = a.0.place in
-      tried v n true true (λ z m i here e. at-place (λ z m. m.a.0 ≡ v → MayTry (phase_of z.mirror) z.last (all_seen T z.members) (seen T m) n true true) v p.session p.member p.listed p.here (inl (sym p.is))
+  pub keeps : Flights k → (m : Move) → InAttempt k m → After (target m) (role_of (next_fields m k.volume))
+  keeps flights (Overwrite w v t) a = closed v (rewritten (fetched (fields_at k v) t) t) (is_whole (k.volume v).tracks (fetched (fields_at k v) t).own) refl a.0
+  keeps flights (Keep v t) a = closed v (noted (fetched (fields_at k v) t) t) (is_whole (k.volume v).tracks (fetched (fields_at k v) t).own) refl a
+  keeps flights (Fetch v t) a = closed v (fetched (fields_at k v) t) (is_whole (k.volume v).tracks (fetched (fields_at k v) t).own) refl a
+  keeps flights (Relate v s choices) a = gone-uncounted v (role_of (next_fields (Relate v s choices) k.volume)) a refl refl refl refl refl refl
+  keeps flights (Withdraw v) a = gone-uncounted v (role_of (next_fields (Withdraw v) k.volume)) a refl refl refl refl refl refl
+  keeps flights (Resync v sequence) a = resynced v (role_of (next_fields (Resync v sequence) k.volume)).sequence a
+  keeps flights (Reverse v left) a = reversed v a.0 (is_bare (turned (fields_at k v)).own)
+  keeps flights (Release v t) a = closed-or v (given_up (fields_at k v) t) (is_bare (given_up (fields_at k v) t).own) refl (λ e. reversing-uncounted k law v a)
+  keeps flights (Store v t u last) a = resealed v 0 (λ z m i here e. inl refl)
+  keeps flights (Suspend v busy) a = silenced v
+  keeps flights (MakeSecondary v u kind state) a = paired v (primary_of (next_fields (MakeSecondary v u kind state) k.volume)) 0 (follows v u (is_part kind) a)
+  keeps flights (MakePrimary v u kind state full) a = silenced v
+  keeps flights (DropPrimary v) a = silenced v
+  keeps flights (FallBack v more state) a = silenced v
+  keeps flights (Yield v u kind state) a = parts k.flight ss groups.lone T law v (T v).attempt false false (primary_of (next_fields (Yield v u kind state) k.volume)) 0 (ending-now v) (follows v u (is_part kind) a)
+  keeps flights (Lift v) a = lifted v
+  keeps flights (Restart v) a = silenced v
+  keeps flights (DropSecondary v) a = freed v
+  keeps flights (TakeOver v) a = taken v
+  keeps flights (Hold v s n first) a = let p : IsMember k v s = a.0.place in
+      tried v n true true (λ z m i here e. at-place (λ z m. m.a.0 ≡ v → MayTry k.flight z.number (phase_of z.mirror) z.last (all_seen T z.members) (seen T m) n true true) v p.session p.member p.listed p.here (inl (sym p.is))
       (λ e. record {
-        up = subst (λ u. (T u).attempt ≤ n) (sym e) (let low : (T v).attempt < n = a.1 in omega arith);
+        up = subst (λ u. (T u).attempt ≤ n) (sym e) (let low : (T v).attempt < n = a.1.0 in omega arith);
         low = let is : n ≡ p.session.last = a.0.last in omega arith;
-        begun = λ r. inr (subst (λ u. (T u).attempt < p.session.last) (sym e) (let low : (T v).attempt < n = a.1 in let is : n ≡ p.session.last = a.0.last in omega arith), hold-comes p.session p.member.server.0 n a.0.due);
+        begun = λ r. inr (subst (λ u. (T u).attempt < p.session.last) (sym e) (let low : (T v).attempt < n = a.1.0 in let is : n ≡ p.session.last = a.0.last in omega arith), hold-comes k.flight p.session p.member.server.0 (at-last p.session p.member.server.0 phases.Hold n a.0.last a.0.due));
         free = λ r h. absurd cc;
       }) z m i here (inl (sym e)) e)
-  keeps (Free v) a = freed-by v a
-  keeps (Seal v u s n) a = seals v u s n a
-  keeps (Finish v n) a = tried v (max (T v).attempt n) false false (ending v (max (T v).attempt n) (omega arith) (λ z m i here e.
+  keeps flights (Free v) a = freed-by flights v a
+  keeps flights (Seal v u s n) a = seals flights v u s n a
+  keeps flights (Finish v n) a = tried v (max (T v).attempt n) false false (ending v (max (T v).attempt n) (omega arith) (λ z m i here e.
       let low : n ≤ z.last = a z m i here e in
       let own : (T v).attempt ≤ z.last = subst (λ u. (T u).attempt ≤ z.last) e (attempt-low z m i here) in
       omega arith))
-  keeps (RaiseAttempt v n) a = tried v n (T v).recording (T v).held (λ z m i here e. let r = a z m i here e in record {
+  keeps flights (RaiseAttempt v n) a = tried v n (T v).recording (T v).held (λ z m i here e. let r = a z m i here e in record {
     up = subst (λ u. (T u).attempt ≤ n) (sym e) r.higher;
     low = r.low;
     begun = λ h. inl (ap (λ u. (T u).recording) e ∙ h);
     free = λ h f. inl (ap (λ u. (T u).recording) e ∙ h, ap (λ u. (T u).held) e ∙ f);
   })
-  keeps (RaiseFloor v n) a = raised v n a
-  keeps (Leave v u s) a = left v a.0
-  keeps (Flash v u a s n) p = flashes v u a s n p
-  keeps (Commit v a s n) p = commits v a s n p
-  keeps (Revert v a s n) p = reverts v a s n p
-  keeps m a = same (target m)
+  keeps flights (RaiseFloor v n) a = raised v n a
+  keeps flights (Leave v u s) a = left v a.0
+  keeps flights (Flash v u a s n) p = flashes flights v u a s n p
+  keeps flights (Commit v a s n) p = commits flights v a s n p
+  keeps flights (Revert v a s n) p = reverts flights v a s n p
+  keeps flights m a = same (target m)
 
-pub attempts-move : (k j : Control) (m : Move) (c : Carried) → j.sessions ≡ k.sessions → Moves k j (target m) (next_fields m k.volume) c → InAttempt k m → Groups k → Attempts k → Attempts j
-attempts-move k j m c still moves a groups law = attempts-moved k j (target m) (next_fields m k.volume) c still moves (steps-keep k.sessions (roles k) (at (roles k) (target m) (role_of (next_fields m k.volume))) law (keeps k groups law m a))
+pub attempts-move : (k j : Control) (m : Move) (c : Carried) → j.sessions ≡ k.sessions → Moves k j (target m) (next_fields m k.volume) c → InAttempt k m → Groups k → Attempts k → Flights k → Attempts j
+attempts-move k j m c still moves a groups law flights = attempts-moved k j (target m) (next_fields m k.volume) c still moves (steps-keep k.flight k.sessions (roles k) (at (roles k) (target m) (role_of (next_fields m k.volume))) law (keeps k groups law flights m a))

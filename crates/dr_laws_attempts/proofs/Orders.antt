@@ -1,6 +1,7 @@
 -- Each move of an order may come where its checks have passed, and at the end the order is done with each member of the server.
-use Rattle.std.proofs.Common.{ℕ, ◌+◌, ◌≡◌, ◌≢◌, ◌<◌, ◌≤◌, ◌⊎◌, inl, inr, refl, ap, sym, ◌∙◌, subst, Bool, true, false, cond, not, ◌&&◌, ◌||◌, nat_eq, nat_lt, arith, List, [], ◌∷◌, None, Some}
+use Rattle.std.proofs.Common.{ℕ, ◌+◌, ◌≡◌, ◌≢◌, ◌<◌, ◌≤◌, ◌⊎◌, inl, inr, refl, ap, sym, ◌∙◌, subst, Bool, true, false, cond, not, ◌&&◌, ◌||◌, nat_eq, nat_lt, arith, List, [], ◌∷◌, Option, None, Some}
 use Rattle.std.specs.List.{find}
+use Rattle.std.proofs.lemmas.Bool.Decides.{eqb_tells}
 use Rattle.std.proofs.lemmas.Bool.{and_parts, or_cases, eqb-true, eq-eqb, ltb-true, ltb-false, not-true}
 use Rattle.std.proofs.lemmas.Option.{same_Some}
 use Rattle.dr_logic.specs.Tables.{at}
@@ -12,28 +13,30 @@ use Rattle.dr_model.specs.Layout.{Fields}
 use Rattle.dr_model.specs.Control.{Control}
 use Rattle.dr_model.specs.Relations.{flashed, committed, reverted}
 use Rattle.dr_model.specs.Pairs.{records, is_secondary_of, held_for, past_attempt, with_floor}
-use Rattle.dr_model.specs.Moves.{Free, Seal, Finish, RaiseAttempt, RaiseFloor, Leave, Flash, Commit, Revert, Carried}
+use Rattle.dr_model.specs.Moves.{Hold, Free, Seal, Finish, RaiseAttempt, RaiseFloor, Leave, Flash, Commit, Revert, Carried}
 use Rattle.dr_model.specs.Entries.{fields_at, relation_state, pair_state}
 use Rattle.dr_model.specs.PairEntries.{reach_refusal, belongs_to, send_refusal}
-use Rattle.dr_model.specs.SessionEntries.{stale_refusal, is_flashed, is_committed, may_flash, unflashed_refusal, flash_refusal, commit_refusal, is_past, members_on}
+use Rattle.dr_model.specs.SessionEntries.{stale_refusal, is_flashed, is_committed, may_flash, unflashed_refusal, flash_refusal, commit_refusal, is_past, last_of, members_on}
 use Rattle.dr_model.specs.Phases as phases
 use Rattle.dr_model.specs.Sessions.{Session, Mirror, session_in, has_place_of, busy}
-use Rattle.dr_model.specs.Groups.{In, IsAt, Groups, Due}
-use Rattle.dr_model.specs.Attempts.{Roles, role_of, roles, Seen, seen_of, seen, all_seen, seen_in, NoneRevertible, NoneCommitted, AllAt, Blocked, phase_of, Attempts, MemberOf, InAttempt, IsDone, WorkDone, ServerDone}
-use Rattle.dr_laws_sessions.specs.Frames.{Moves}
+use Rattle.dr_model.specs.Groups.{In, IsAt, Groups, Due, HoldsMember}
+use Rattle.dr_model.specs.Attempts.{Roles, role_of, roles, Seen, seen_of, seen, all_seen, seen_in, NoneRevertible, NoneCommitted, AllAt, Blocked, phase_of, owed_of, Attempts, MemberOf, InAttempt, IsDone, WorkDone, ServerDone}
+use Rattle.dr_model.specs.Flights.{IsQuiet, Flights}
+use Rattle.dr_laws_sessions.specs.Frames.{Moves, HoldsOn, Holding}
 use Rattle.dr_model.specs.SessionPlans.{is_idle, order_of}
+use Rattle.dr_facts.proofs.Tables.{IsOrNot}
 use Rattle.dr_facts.proofs.Lists.{to-map}
 use Rattle.dr_laws_sessions.proofs.Changes.{session-found}
-use Rattle.dr_laws_sessions.proofs.Silent.{members-there}
+use Rattle.dr_laws_sessions.proofs.Silent.{member-of, members-there}
 use Rattle.dr_laws_sessions.proofs.Sound.{quiet-of}
 use Rattle.dr_laws_sessions.proofs.Members.{no-place}
 use Rattle.dr_laws_attempts.specs.Orders.{DoneBut, LeavesTargetsAlone, TakenBut}
 use Rattle.dr_laws_attempts.proofs.Facts.{bool_cases, Update}
-use Rattle.dr_laws_attempts.proofs.Dues.{commit-flashed, revert-way}
+use Rattle.dr_laws_attempts.proofs.Dues.{commit-flashed, revert-way, hold-busy, hold-unfinished}
 use Rattle.dr_laws_attempts.proofs.Places.{is-placed, seen-apart, seen-a, seen-b, seen-c, update}
 use Rattle.dr_laws_attempts.proofs.Moves.{roles-moved, is-secondary, at-place}
 use Rattle.dr_laws_attempts.proofs.Tables.{quiet-unflashed}
-use Rattle.dr_laws_sessions.proofs.Orders.{some-order}
+use Rattle.dr_laws_sessions.proofs.Orders.{some-order, holding-on}
 use Rattle.dr_facts.proofs.Refusals.{passed, second-none}
 use Rattle.dr_logic.proofs.Truth.{false_true}
 
@@ -49,12 +52,12 @@ sends-to a b k h = by (belongs_to a b k) (second-none (reach_refusal a b k) (con
 pub sends-paired : (m : Member) (k : Control) → send_refusal m.a.0 m.b.0 k ≡ None → (seen (roles k) m).paired ≡ true
 sends-paired m k h = sym (is-secondary m.a.0 (fields_at k m.b.0)) ∙ sends-to m.a.0 m.b.0 k h
 
-record Flashable (b c n : ℕ) (k : Control) : Type 0 where
-  free : may_flash b (fields_at k c) ≡ true
-  low : (fields_at k c).floor < n
-  sealed : (fields_at k b).seal ≡ n
+pub record Flashable (b c n : ℕ) (k : Control) : Type 0 where
+  pub free : may_flash b (fields_at k c) ≡ true
+  pub low : (fields_at k c).floor < n
+  pub sealed : (fields_at k b).seal ≡ n
 
-flash-passed : (b c n : ℕ) (k : Control) → flash_refusal b c n k ≡ None → is_flashed n (fields_at k c) ≡ false → Flashable b c n k
+pub flash-passed : (b c n : ℕ) (k : Control) → flash_refusal b c n k ≡ None → is_flashed n (fields_at k c) ≡ false → Flashable b c n k
 flash-passed b c n k h none = by (sym (ap (λ t. cond t None (unflashed_refusal b c n k)) none) ∙ h)
   where
     by : unflashed_refusal b c n k ≡ None → Flashable b c n k
@@ -64,7 +67,7 @@ flash-passed b c n k h none = by (sym (ap (λ t. cond t None (unflashed_refusal 
         let r = passed (nat_eq (fields_at k b).seal n) _ _ q.1 in
         record { free = p.0; low = ltb-true (fields_at k c).floor n q.0; sealed = eqb-true (fields_at k b).seal n r.0 }
 
-commit-passed : (c n : ℕ) (k : Control) → commit_refusal c n k ≡ None → is_committed n (fields_at k c) ≡ false → is_flashed n (fields_at k c) ≡ true
+pub commit-passed : (c n : ℕ) (k : Control) → commit_refusal c n k ≡ None → is_committed n (fields_at k c) ≡ false → is_flashed n (fields_at k c) ≡ true
 commit-passed c n k h none = by (or_cases (is_committed n (fields_at k c)) (is_flashed n (fields_at k c)) (either (is_committed n (fields_at k c) || is_flashed n (fields_at k c)) h))
   where
     either : (t : Bool) → cond t None (Some (relation_state k c)) ≡ None → t ≡ true
@@ -84,6 +87,47 @@ newer a n k h none = by (nat_lt (fields_at k a).attempt n) refl (sym (ap (λ t. 
 
 -- ---- moves of orders
 
+-- a hold of the last attempt, of a member that wasn't held for it: that attempt goes on, and the member's server hasn't finished it
+pub order-holds : (k : Control) (s server n : ℕ) (ms : List Member) (m : Member) → Groups k → Attempts k → Flights k → Holding k s server n ms → In m ms → m.server.0 ≡ server → (fields_at k m.a.0).primary_partner ≡ m.b.0
+    → nat_lt (last_of k s) n ≡ false → stale_refusal m.a.0 n k ≡ None → records n (fields_at k m.a.0) ≡ false → InAttempt k (Hold m.a.0 s n false)
+unfolding member-of
+order-holds k s server n ms m groups law flights holding here is to not_newer passes none = (by x.mirror refl, (low, refl))
+  where
+    x : Session
+    x = holding.session
+
+    on : HoldsOn k.flight x server n
+    on = holding-on k s server n ms holding not_newer
+
+    low : (fields_at k m.a.0).attempt < n
+    low = newer m.a.0 n k passes none
+
+    new : (seen (roles k) m).attempt < x.last
+    new = subst (λ n. (fields_at k m.a.0).attempt < n) on.last low
+
+    listed : In x k.sessions
+    listed = (session-found k.sessions s x holding.found).0
+
+    there : In m x.members
+    there = subst (In m) (sym holding.members) here
+
+    due : Due k.flight x m.server.0 phases.Hold n
+    due = subst (λ server. Due k.flight x server phases.Hold n) (sym is) on.due
+
+    goes-on : IsQuiet (phase_of x.mirror) → ⊥
+    goes-on = hold-busy k x (law.sessions x listed) (flights.each x listed) m there (subst (λ n. Due k.flight x m.server.0 phases.Hold n) on.last due) new
+
+    by : (o : Option Mirror) → x.mirror ≡ o → HoldsMember k m.a.0 s n
+    by None e = absurd (goes-on (subst IsQuiet (sym (ap phase_of e)) tt))
+    by (Some r) e = record {
+      place = member-of k s x r m holding.found e there;
+      due = due;
+      last = on.last;
+      busy = λ idle. goes-on (subst IsQuiet (sym (ap phase_of e ∙ idle)) tt);
+      unfinished = λ ends. subst (λ o. phases.is_among m.server.0 (owed_of o) ≡ true) e (hold-unfinished k x (law.sessions x listed) (flights.each x listed) m there new (ap phase_of e ∙ ends));
+      to = to;
+    }
+
 module _ (k : Control) (groups : Groups k) (law : Attempts k) (s : ℕ) (x : Session) (found : session_in k.sessions s ≡ Some x) (m : Member) (here : In m x.members) where
   there : In x k.sessions × (x.number ≡ s)
   there = session-found k.sessions s x found
@@ -101,18 +145,21 @@ module _ (k : Control) (groups : Groups k) (law : Attempts k) (s : ℕ) (x : Ses
   only : (P : Session → Member → Type 0) (w : ℕ) → IsAt w m → P x m → (z : Session) (q : Member) → In z k.sessions → In q z.members → IsAt w q → P z q
   only P w at_m is z q i there_q at_q = at-place k groups law P w x m there.0 here at_m is z q i there_q at_q
 
-  pub order-frees : Due x m.server.0 phases.Release x.last → InAttempt k (Free m.a.0)
+  at-last : (work : phases.Work) (n : ℕ) → x.last ≡ n → Due k.flight x m.server.0 work n → Due k.flight x m.server.0 work x.last
+  at-last work n last due = subst (λ n. Due k.flight x m.server.0 work n) (sym last) due
+
+  pub order-frees : Due k.flight x m.server.0 phases.Release x.last → InAttempt k (Free m.a.0)
   order-frees due = record { session = s; place = place; due = due }
 
-  pub order-seals : (n : ℕ) → x.last ≡ n → Due x m.server.0 phases.Seal n → records n (fields_at k m.a.0) ≡ true → InAttempt k (Seal m.b.0 m.a.0 s n)
+  pub order-seals : (n : ℕ) → x.last ≡ n → Due k.flight x m.server.0 phases.Seal n → records n (fields_at k m.a.0) ≡ true → InAttempt k (Seal m.b.0 m.a.0 s n)
   order-seals n last due rec = record { place = place; secondary = refl; due = due; last = sym last; records = rec }
 
-  pub order-flashes : (n : ℕ) → x.last ≡ n → Due x m.server.0 phases.Flash n → send_refusal m.a.0 m.b.0 k ≡ None → flash_refusal m.b.0 m.c.0 n k ≡ None → is_flashed n (fields_at k m.c.0) ≡ false → InAttempt k (Flash m.c.0 m.b.0 m.a.0 s n)
+  pub order-flashes : (n : ℕ) → x.last ≡ n → Due k.flight x m.server.0 phases.Flash n → send_refusal m.a.0 m.b.0 k ≡ None → flash_refusal m.b.0 m.c.0 n k ≡ None → is_flashed n (fields_at k m.c.0) ≡ false → InAttempt k (Flash m.c.0 m.b.0 m.a.0 s n)
   order-flashes n last due sends passes none = let f = flash-passed m.b.0 m.c.0 n k passes none in
       record { place = place; secondary = refl; target = refl; due = due; last = sym last; paired = sends-to m.a.0 m.b.0 k sends; sealed = f.sealed; free = f.free; low = f.low }
 
-  pub order-commits : (n : ℕ) → x.last ≡ n → Due x m.server.0 phases.Commit n → send_refusal m.a.0 m.b.0 k ≡ None → commit_refusal m.c.0 n k ≡ None → is_committed n (fields_at k m.c.0) ≡ false → InAttempt k (Commit m.c.0 m.a.0 s n)
-  order-commits n last due sends passes none = record { place = place; target = refl; last = sym last; revertible = flag; all = by (commit-flashed (roles k) x (law.sessions x there.0) m.server.0 n due).1; way = inl (due, sends-to m.a.0 m.b.0 k sends) }
+  pub order-commits : Flights k → (n : ℕ) → x.last ≡ n → Due k.flight x m.server.0 phases.Commit n → send_refusal m.a.0 m.b.0 k ≡ None → commit_refusal m.c.0 n k ≡ None → is_committed n (fields_at k m.c.0) ≡ false → InAttempt k (Commit m.c.0 m.a.0 s n)
+  order-commits flights n last due sends passes none = record { place = place; target = refl; last = sym last; revertible = flag; all = by (commit-flashed k x (law.sessions x there.0) (flights.each x there.0) m here (at-last phases.Commit n last due)).1; way = inl (due, sends-to m.a.0 m.b.0 k sends) }
     where
       flag : (fields_at k m.c.0).revertible ≡ true
       flag = (and_parts (fields_at k m.c.0).revertible (nat_eq (fields_at k m.c.0).sequence n) (commit-passed m.c.0 n k passes none)).0
@@ -121,8 +168,8 @@ module _ (k : Control) (groups : Groups k) (law : Attempts k) (s : ℕ) (x : Ses
       by (inl all) = subst (λ n. AllAt n (seen_in k x)) last all
       by (inr bar) = false_true (bar v seen-here flag) (sends-paired m k sends)
 
-  pub order-reverts : (n : ℕ) → x.last ≡ n → Due x m.server.0 phases.Revert n → send_refusal m.a.0 m.b.0 k ≡ None → is_flashed n (fields_at k m.c.0) ≡ true → InAttempt k (Revert m.c.0 m.a.0 s n)
-  order-reverts n last due sends flashes = record { place = place; target = refl; last = sym last; revertible = flag; none = by (revert-way (roles k) x (law.sessions x there.0) m.server.0 n due); way = inl (due, sends-to m.a.0 m.b.0 k sends) }
+  pub order-reverts : Flights k → (n : ℕ) → x.last ≡ n → Due k.flight x m.server.0 phases.Revert n → send_refusal m.a.0 m.b.0 k ≡ None → is_flashed n (fields_at k m.c.0) ≡ true → InAttempt k (Revert m.c.0 m.a.0 s n)
+  order-reverts flights n last due sends flashes = record { place = place; target = refl; last = sym last; revertible = flag; none = by (revert-way k x (law.sessions x there.0) (flights.each x there.0) m here (at-last phases.Revert n last due)); way = inl (due, sends-to m.a.0 m.b.0 k sends) }
     where
       flag : (fields_at k m.c.0).revertible ≡ true
       flag = (and_parts (fields_at k m.c.0).revertible (nat_eq (fields_at k m.c.0).sequence n) flashes).0
@@ -139,13 +186,26 @@ module _ (k : Control) (groups : Groups k) (law : Attempts k) (s : ℕ) (x : Ses
       by (inl h) = false_true none (ap (λ b. b && nat_eq (fields_at k m.c.0).sequence n) h ∙ eq-eqb (fields_at k m.c.0).sequence n (((law.sessions x there.0).numbers.each v seen-here).last h ∙ last))
       by (inr h) = h
 
-  pub order-raises : (n : ℕ) → x.last ≡ n → is_flashed n (fields_at k m.c.0) ≡ false → nat_lt (fields_at k m.c.0).floor n ≡ true → InAttempt k (RaiseFloor m.c.0 n)
-  order-raises n last none low = λ z q i there_q e.
-      let up : (fields_at k m.c.0).floor < n = ltb-true (fields_at k m.c.0).floor n low in
-      record { plain = unflashed-plain n last none; higher = omega arith; low = only (λ z q. n ≤ z.last) m.c.0 (inr (inr refl)) (omega arith) z q i there_q (inr (inr (sym e))) }
+  -- a revertible one isn't raised to the last number
+  raised-under : (n : ℕ) → n ≤ x.last → is_flashed n (fields_at k m.c.0) ≡ false → (fields_at k m.c.0).revertible ≡ true → n < x.last
+  raised-under n low none flag = by (eqb_tells n x.last)
+    where
+      by : IsOrNot n x.last → n < x.last
+      by (inl is) = false_true (unflashed-plain n (sym is.1) none) flag
+      by (inr other) = let apart : n ≢ x.last = other.1 in omega arith
 
-  pub order-finishes : (n : ℕ) → x.last ≡ n → InAttempt k (Finish m.a.0 n)
-  order-finishes n last = λ z q i there_q e. only (λ z q. n ≤ z.last) m.a.0 (inl refl) (omega arith) z q i there_q (inl (sym e))
+  pub order-raises : (n : ℕ) → n ≤ x.last → Due k.flight x m.server.0 phases.Revert n → is_flashed n (fields_at k m.c.0) ≡ false → nat_lt (fields_at k m.c.0).floor n ≡ true → InAttempt k (RaiseFloor m.c.0 n)
+  order-raises n last due none low = λ z q i there_q e.
+      let up : (fields_at k m.c.0).floor < n = ltb-true (fields_at k m.c.0).floor n low in
+      record {
+        due = only (λ z q. Due k.flight z q.server.0 phases.Revert n) m.c.0 (inr (inr refl)) due z q i there_q (inr (inr (sym e)));
+        under = λ flag. only (λ z q. n < z.last) m.c.0 (inr (inr refl)) (raised-under n last none flag) z q i there_q (inr (inr (sym e)));
+        higher = omega arith;
+        low = only (λ z q. n ≤ z.last) m.c.0 (inr (inr refl)) last z q i there_q (inr (inr (sym e)));
+      }
+
+  pub order-finishes : (n : ℕ) → n ≤ x.last → InAttempt k (Finish m.a.0 n)
+  order-finishes n last = λ z q i there_q e. only (λ z q. n ≤ z.last) m.a.0 (inl refl) last z q i there_q (inl (sym e))
 
   pub expelled-leaves : busy x.mirror ≡ None → InAttempt k (Leave m.c.0 m.a.0 s)
   expelled-leaves idle = let plain = quiet-unflashed (roles k) x (quiet-of x idle) (law.sessions x there.0) in (
@@ -319,7 +379,7 @@ pub order-is : (r : Mirror) (server : ℕ) (o : phases.Order) → r.master.phase
 order-is r server o ne is = let h = orders-by r.master.phase (phases.is_among server r.master.owed) r.master.number o ne is in (h.work, h.number)
 
 -- only a lost master asks for reports
-work-lost : (p : PhaseName) → phases.work_in p ≡ Some phases.Report → p ≡ phase.Lost
+pub work-lost : (p : PhaseName) → phases.work_in p ≡ Some phases.Report → p ≡ phase.Lost
 work-lost phase.Lost h = refl
 work-lost p h = absurd cc
 

@@ -5,6 +5,7 @@ use Rattle.dr_logic.specs.Tables.{at}
 use Rattle.dr_ids.specs.declared.names.Member.{Member}
 use Rattle.dr_ids.specs.declared.refusal.PhaseName.{PhaseName}
 use Rattle.dr_model.specs.Decisions.{Shown}
+use Rattle.dr_model.specs.Messages.{Flight}
 use Rattle.dr_model.specs.Entries.{is_at}
 use Rattle.dr_model.specs.Sessions.{Session}
 use Rattle.dr_model.specs.Groups.{In, IsAt, PlacesDiffer, Lone}
@@ -117,100 +118,100 @@ abbrev pub parted_as : Role → ℕ → Bool → Bool → Option ℕ → ℕ →
 parted_as r q records held primary k = record r { attempt = q; recording = records; held = held; primary = primary; seal = k }
 
 -- what a member of a session turns into, where volumes say S in place of T
-pub record Turned (T S : Roles) (z : Session) (m : Member) : Type 0 where
+pub record Turned (f : Flight) (T S : Roles) (z : Session) (m : Member) : Type 0 where
   pub kind : Kind
-  pub may : MayTurn kind (phase_of z.mirror) z.last (owed_of z.mirror) (reports_of z.mirror) (all_seen T z.members) (seen T m)
+  pub may : MayTurn kind f z.number (phase_of z.mirror) z.last (owed_of z.mirror) (reports_of z.mirror) (all_seen T z.members) (seen T m)
   pub is : seen S m ≡ next_seen kind z.last (seen T m)
 
-pub turned-same : (T S : Roles) (z : Session) (m : Member) → AttemptOf T z → In m z.members → seen S m ≡ seen T m → Turned T S z m
-turned-same T S z m law here is = record {
+pub turned-same : (f : Flight) (T S : Roles) (z : Session) (m : Member) → AttemptOf T z → In m z.members → seen S m ≡ seen T m → Turned f T S z m
+turned-same f T S z m law here is = record {
   kind = Try (seen T m).attempt (seen T m).recording (seen T m).held;
   may = record { up = omega arith; low = (law.numbers.each (seen T m) (to-map (seen T) z.members m here)).attempt; begun = λ r. inl r; free = λ r h. inl (r, h) };
   is = is;
 }
 
 -- what a session's members turn into: they stay, or one changes as it may
-pub data Turning (p : PhaseName) (n : ℕ) (owed : List ℕ) (reports : List Shown) (vs us : List Seen) : Type 0 where
-  Stays : us ≡ vs → Turning p n owed reports vs us
-  One : (v : Seen) (k : Kind) → Update vs v (next_seen k n v) us → MayTurn k p n owed reports vs v → Turning p n owed reports vs us
+pub data Turning (f : Flight) (s : ℕ) (p : PhaseName) (n : ℕ) (owed : List ℕ) (reports : List Shown) (vs us : List Seen) : Type 0 where
+  Stays : us ≡ vs → Turning f s p n owed reports vs us
+  One : (v : Seen) (k : Kind) → Update vs v (next_seen k n v) us → MayTurn k f s p n owed reports vs v → Turning f s p n owed reports vs us
 
 -- and so of each session, where volumes say S in place of T
-pub record Steps (ss : List Session) (T S : Roles) : Type 0 where
-  pub turns : (z : Session) → In z ss → Turning (phase_of z.mirror) z.last (owed_of z.mirror) (reports_of z.mirror) (all_seen T z.members) (all_seen S z.members)
+pub record Steps (f : Flight) (ss : List Session) (T S : Roles) : Type 0 where
+  pub turns : (z : Session) → In z ss → Turning f z.number (phase_of z.mirror) z.last (owed_of z.mirror) (reports_of z.mirror) (all_seen T z.members) (all_seen S z.members)
   pub claims : (v : ℕ) → Claim ss v (S v)
 
-turning-keeps : (p : PhaseName) (n : ℕ) (owed : List ℕ) (reports : List Shown) (vs us : List Seen) → IsAttempt p n owed reports vs → Turning p n owed reports vs us → IsAttempt p n owed reports us
-turning-keeps p n owed reports vs us law (Stays is) = subst (λ vs. IsAttempt p n owed reports vs) (sym is) law
-turning-keeps p n owed reports vs us law (One v k move may) = kept p n owed reports vs law v us k move may
+turning-keeps : (f : Flight) (s : ℕ) (p : PhaseName) (n : ℕ) (owed : List ℕ) (reports : List Shown) (vs us : List Seen) → IsAttempt p n owed reports vs → Turning f s p n owed reports vs us → IsAttempt p n owed reports us
+turning-keeps f s p n owed reports vs us law (Stays is) = subst (λ vs. IsAttempt p n owed reports vs) (sym is) law
+turning-keeps f s p n owed reports vs us law (One v k move may) = kept f s p n owed reports vs (record { numbers = law.numbers; follows = law.follows }) v us k move may law.phase law.owes
 
-pub steps-keep : (ss : List Session) (T S : Roles) → AttemptsIn ss T → Steps ss T S → AttemptsIn ss S
-steps-keep ss T S law steps = record {
-  sessions = λ z i. turning-keeps (phase_of z.mirror) z.last (owed_of z.mirror) (reports_of z.mirror) (all_seen T z.members) (all_seen S z.members) (law.sessions z i) (steps.turns z i);
+pub steps-keep : (f : Flight) (ss : List Session) (T S : Roles) → AttemptsIn ss T → Steps f ss T S → AttemptsIn ss S
+steps-keep f ss T S law steps = record {
+  sessions = λ z i. turning-keeps f z.number (phase_of z.mirror) z.last (owed_of z.mirror) (reports_of z.mirror) (all_seen T z.members) (all_seen S z.members) (law.sessions z i) (steps.turns z i);
   volumes = steps.claims;
   inside = law.inside;
 }
 
-module _ (ss : List Session) (lone : Lone ss) (T : Roles) (law : AttemptsIn ss T) where
+module _ (f : Flight) (ss : List Session) (lone : Lone ss) (T : Roles) (law : AttemptsIn ss T) where
   module _ (x : ℕ) (y : Role) where
-    session-turns : (z : Session) → In z ss → ((m : Member) → In m z.members → IsAt x m → Turned T (at T x y) z m) → Turning (phase_of z.mirror) z.last (owed_of z.mirror) (reports_of z.mirror) (all_seen T z.members) (all_seen (at T x y) z.members)
+    session-turns : (z : Session) → In z ss → ((m : Member) → In m z.members → IsAt x m → Turned f T (at T x y) z m) → Turning f z.number (phase_of z.mirror) z.last (owed_of z.mirror) (reports_of z.mirror) (all_seen T z.members) (all_seen (at T x y) z.members)
     session-turns z i turns = by (find-place x z.members)
       where
-        by : PlaceIn x z.members ⊎ ((q : Member) → In q z.members → IsAt x q → ⊥) → Turning (phase_of z.mirror) z.last (owed_of z.mirror) (reports_of z.mirror) (all_seen T z.members) (all_seen (at T x y) z.members)
+        by : PlaceIn x z.members ⊎ ((q : Member) → In q z.members → IsAt x q → ⊥) → Turning f z.number (phase_of z.mirror) z.last (owed_of z.mirror) (reports_of z.mirror) (all_seen T z.members) (all_seen (at T x y) z.members)
         by (inl p) =
             let t = turns p.member p.here p.is in
             One (seen T p.member) t.kind (update T x y z.members p.member (next_seen t.kind z.last (seen T p.member)) p.here (λ q there at_q. (lone.one x z z p.member q i i p.here there p.is at_q).1) t.is) t.may
         by (inr none) = Stays (all-apart T x y z.members none)
 
     -- where x says y
-    pub steps-at : ((z : Session) (m : Member) → In z ss → In m z.members → IsAt x m → Turned T (at T x y) z m) → Claim ss x y → Steps ss T (at T x y)
+    pub steps-at : ((z : Session) (m : Member) → In z ss → In m z.members → IsAt x m → Turned f T (at T x y) z m) → Claim ss x y → Steps f ss T (at T x y)
     steps-at turns claim = record { turns = λ z i. session-turns z i (λ m here is. turns z m i here is); claims = at_cases (λ u r. Claim ss u r) T x y claim (λ u ne. law.volumes u) }
 
   claim : (x : ℕ) → Claim ss x (T x)
   claim x = law.volumes x
 
   -- another last attempt of a primary, or whether it records and is held
-  pub tries : (x q : ℕ) (records held : Bool) → ((z : Session) (m : Member) → In z ss → In m z.members → m.a.0 ≡ x → MayTry (phase_of z.mirror) z.last (all_seen T z.members) (seen T m) q records held)
-      → Steps ss T (at T x (record (T x) { attempt = q; recording = records; held = held }))
+  pub tries : (x q : ℕ) (records held : Bool) → ((z : Session) (m : Member) → In z ss → In m z.members → m.a.0 ≡ x → MayTry f z.number (phase_of z.mirror) z.last (all_seen T z.members) (seen T m) q records held)
+      → Steps f ss T (at T x (record (T x) { attempt = q; recording = records; held = held }))
   tries x q records held may = steps-at x (record (T x) { attempt = q; recording = records; held = held }) turns (record { counted = (claim x).counted; uncounted = (claim x).uncounted; previous = (claim x).previous })
     where
-      turns : (z : Session) (m : Member) → In z ss → In m z.members → IsAt x m → Turned T (at T x (tried_as (T x) q records held)) z m
+      turns : (z : Session) (m : Member) → In z ss → In m z.members → IsAt x m → Turned f T (at T x (tried_as (T x) q records held)) z m
       turns z m i here (inl e) = record { kind = Try q records held; may = may z m i here (sym e); is = seen-a T x (tried_as (T x) q records held) m (lone.differ z m i here) e ∙ ap (λ u. seen_of m.server.0 m.a.0 (tried_as (T u) q records held) (T m.b.0) (T m.c.0)) e }
-      turns z m i here (inr (inl e)) = turned-same T (at T x (tried_as (T x) q records held)) z m (law.sessions z i) here (seen-b T x (tried_as (T x) q records held) m (lone.differ z m i here) e ∙ ap (λ u. seen_of m.server.0 m.a.0 (T m.a.0) (tried_as (T u) q records held) (T m.c.0)) e)
-      turns z m i here (inr (inr e)) = turned-same T (at T x (tried_as (T x) q records held)) z m (law.sessions z i) here (seen-c T x (tried_as (T x) q records held) m (lone.differ z m i here) e ∙ ap (λ u. seen_of m.server.0 m.a.0 (T m.a.0) (T m.b.0) (tried_as (T u) q records held)) e)
+      turns z m i here (inr (inl e)) = turned-same f T (at T x (tried_as (T x) q records held)) z m (law.sessions z i) here (seen-b T x (tried_as (T x) q records held) m (lone.differ z m i here) e ∙ ap (λ u. seen_of m.server.0 m.a.0 (T m.a.0) (tried_as (T u) q records held) (T m.c.0)) e)
+      turns z m i here (inr (inr e)) = turned-same f T (at T x (tried_as (T x) q records held)) z m (law.sessions z i) here (seen-c T x (tried_as (T x) q records held) m (lone.differ z m i here) e ∙ ap (λ u. seen_of m.server.0 m.a.0 (T m.a.0) (T m.b.0) (tried_as (T u) q records held)) e)
 
   -- and beside it another primary and seal, as a secondary
-  pub parts : (x q : ℕ) (records held : Bool) (primary : Option ℕ) (k : ℕ) → ((z : Session) (m : Member) → In z ss → In m z.members → m.a.0 ≡ x → MayTry (phase_of z.mirror) z.last (all_seen T z.members) (seen T m) q records held)
+  pub parts : (x q : ℕ) (records held : Bool) (primary : Option ℕ) (k : ℕ) → ((z : Session) (m : Member) → In z ss → In m z.members → m.a.0 ≡ x → MayTry f z.number (phase_of z.mirror) z.last (all_seen T z.members) (seen T m) q records held)
       → ((z : Session) (m : Member) → In z ss → In m z.members → m.b.0 ≡ x → MayPair (phase_of z.mirror) z.last (seen T m) (is_at primary m.a.0) k)
-      → Steps ss T (at T x (record (T x) { attempt = q; recording = records; held = held; primary = primary; seal = k }))
+      → Steps f ss T (at T x (record (T x) { attempt = q; recording = records; held = held; primary = primary; seal = k }))
   parts x q records held primary k may also = steps-at x (record (T x) { attempt = q; recording = records; held = held; primary = primary; seal = k }) turns (record { counted = (claim x).counted; uncounted = (claim x).uncounted; previous = (claim x).previous })
     where
-      turns : (z : Session) (m : Member) → In z ss → In m z.members → IsAt x m → Turned T (at T x (parted_as (T x) q records held primary k)) z m
+      turns : (z : Session) (m : Member) → In z ss → In m z.members → IsAt x m → Turned f T (at T x (parted_as (T x) q records held primary k)) z m
       turns z m i here (inl e) = record { kind = Try q records held; may = may z m i here (sym e); is = seen-a T x (parted_as (T x) q records held primary k) m (lone.differ z m i here) e ∙ ap (λ u. seen_of m.server.0 m.a.0 (parted_as (T u) q records held primary k) (T m.b.0) (T m.c.0)) e }
       turns z m i here (inr (inl e)) = record { kind = Pair (is_at primary m.a.0) k; may = also z m i here (sym e); is = seen-b T x (parted_as (T x) q records held primary k) m (lone.differ z m i here) e ∙ ap (λ u. seen_of m.server.0 m.a.0 (T m.a.0) (parted_as (T u) q records held primary k) (T m.c.0)) e }
-      turns z m i here (inr (inr e)) = turned-same T (at T x (parted_as (T x) q records held primary k)) z m (law.sessions z i) here (seen-c T x (parted_as (T x) q records held primary k) m (lone.differ z m i here) e ∙ ap (λ u. seen_of m.server.0 m.a.0 (T m.a.0) (T m.b.0) (parted_as (T u) q records held primary k)) e)
+      turns z m i here (inr (inr e)) = turned-same f T (at T x (parted_as (T x) q records held primary k)) z m (law.sessions z i) here (seen-c T x (parted_as (T x) q records held primary k) m (lone.differ z m i here) e ∙ ap (λ u. seen_of m.server.0 m.a.0 (T m.a.0) (T m.b.0) (parted_as (T u) q records held primary k)) e)
 
   -- another primary and seal of a secondary
   pub pairs : (x : ℕ) (primary : Option ℕ) (q : ℕ) → ((z : Session) (m : Member) → In z ss → In m z.members → m.b.0 ≡ x → MayPair (phase_of z.mirror) z.last (seen T m) (is_at primary m.a.0) q)
-      → Steps ss T (at T x (record (T x) { primary = primary; seal = q }))
+      → Steps f ss T (at T x (record (T x) { primary = primary; seal = q }))
   pairs x primary q may = steps-at x (record (T x) { primary = primary; seal = q }) turns (record { counted = (claim x).counted; uncounted = (claim x).uncounted; previous = (claim x).previous })
     where
-      turns : (z : Session) (m : Member) → In z ss → In m z.members → IsAt x m → Turned T (at T x (record (T x) { primary = primary; seal = q })) z m
-      turns z m i here (inl e) = turned-same T (at T x (record (T x) { primary = primary; seal = q })) z m (law.sessions z i) here (seen-a T x (record (T x) { primary = primary; seal = q }) m (lone.differ z m i here) e ∙ ap (λ u. seen_of m.server.0 m.a.0 (record (T u) { primary = primary; seal = q }) (T m.b.0) (T m.c.0)) e)
+      turns : (z : Session) (m : Member) → In z ss → In m z.members → IsAt x m → Turned f T (at T x (record (T x) { primary = primary; seal = q })) z m
+      turns z m i here (inl e) = turned-same f T (at T x (record (T x) { primary = primary; seal = q })) z m (law.sessions z i) here (seen-a T x (record (T x) { primary = primary; seal = q }) m (lone.differ z m i here) e ∙ ap (λ u. seen_of m.server.0 m.a.0 (record (T u) { primary = primary; seal = q }) (T m.b.0) (T m.c.0)) e)
       turns z m i here (inr (inl e)) = record { kind = Pair (is_at primary m.a.0) q; may = may z m i here (sym e); is = seen-b T x (record (T x) { primary = primary; seal = q }) m (lone.differ z m i here) e ∙ ap (λ u. seen_of m.server.0 m.a.0 (T m.a.0) (record (T u) { primary = primary; seal = q }) (T m.c.0)) e }
-      turns z m i here (inr (inr e)) = turned-same T (at T x (record (T x) { primary = primary; seal = q })) z m (law.sessions z i) here (seen-c T x (record (T x) { primary = primary; seal = q }) m (lone.differ z m i here) e ∙ ap (λ u. seen_of m.server.0 m.a.0 (T m.a.0) (T m.b.0) (record (T u) { primary = primary; seal = q })) e)
+      turns z m i here (inr (inr e)) = turned-same f T (at T x (record (T x) { primary = primary; seal = q })) z m (law.sessions z i) here (seen-c T x (record (T x) { primary = primary; seal = q }) m (lone.differ z m i here) e ∙ ap (λ u. seen_of m.server.0 m.a.0 (T m.a.0) (T m.b.0) (record (T u) { primary = primary; seal = q })) e)
 
   -- other numbers and flags of a target
   pub record TurnsTo (z : Session) (m : Member) (y : Role) : Type 0 where
     pub kind : Kind
-    pub may : MayTurn kind (phase_of z.mirror) z.last (owed_of z.mirror) (reports_of z.mirror) (all_seen T z.members) (seen T m)
+    pub may : MayTurn kind f z.number (phase_of z.mirror) z.last (owed_of z.mirror) (reports_of z.mirror) (all_seen T z.members) (seen T m)
     pub is : seen_of m.server.0 m.a.0 (T m.a.0) (T m.b.0) y ≡ next_seen kind z.last (seen T m)
 
-  pub targets : (x : ℕ) (y : Role) → as_part y ≡ as_part (T x) → ((z : Session) (m : Member) → In z ss → In m z.members → m.c.0 ≡ x → TurnsTo z m y) → Claim ss x y → Steps ss T (at T x y)
+  pub targets : (x : ℕ) (y : Role) → as_part y ≡ as_part (T x) → ((z : Session) (m : Member) → In z ss → In m z.members → m.c.0 ≡ x → TurnsTo z m y) → Claim ss x y → Steps f ss T (at T x y)
   targets x y same to new = steps-at x y turns new
     where
-      turns : (z : Session) (m : Member) → In z ss → In m z.members → IsAt x m → Turned T (at T x y) z m
-      turns z m i here (inl e) = turned-same T (at T x y) z m (law.sessions z i) here
+      turns : (z : Session) (m : Member) → In z ss → In m z.members → IsAt x m → Turned f T (at T x y) z m
+      turns z m i here (inl e) = turned-same f T (at T x y) z m (law.sessions z i) here
           (seen-a T x y m (lone.differ z m i here) e ∙ ap (λ p. record (seen T m) { attempt = p.attempt; recording = p.recording; held = p.held }) (same ∙ ap (λ u. as_part (T u)) e))
-      turns z m i here (inr (inl e)) = turned-same T (at T x y) z m (law.sessions z i) here
+      turns z m i here (inr (inl e)) = turned-same f T (at T x y) z m (law.sessions z i) here
           (seen-b T x y m (lone.differ z m i here) e ∙ ap (λ p. record (seen T m) { paired = is_at p.primary m.a.0; seal = p.seal }) (same ∙ ap (λ u. as_part (T u)) e))
       turns z m i here (inr (inr e)) = let t = to z m i here (sym e) in record { kind = t.kind; may = t.may; is = seen-c T x y m (lone.differ z m i here) e ∙ t.is }

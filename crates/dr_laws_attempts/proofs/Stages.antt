@@ -9,7 +9,8 @@ use Rattle.dr_ids.specs.declared.refusal.Decision.TheVariants.{CommitRest}
 use Rattle.dr_model.specs.Decisions.{Shown, decision}
 use Rattle.dr_model.specs.Phases as phases
 use Rattle.dr_model.specs.Groups.{In}
-use Rattle.dr_model.specs.Attempts.{Seen, All, Any, counts, committed, number_shown, NoneRevertible, NoneCommitted, SomeCommitted, AllAt, Blocked, Barred, AllHeld, WasFlashed, AllFlashed, Follows, Numbered, OneShown, NumbersAgree, is_owed, Answered, IsReported, AgreesOnLast, AgreesOnOther, Known, InLost, InPhase, Waits, Owes, IsAttempt, IsDone}
+use Rattle.dr_model.specs.Attempts.{Seen, All, Any, counts, committed, number_shown, NoneRevertible, NoneCommitted, SomeCommitted, AllAt, Blocked, Barred, AllHeld, WasFlashed, AllFlashed, Follows, Numbered, OneShown, NumbersAgree, is_owed, Answered, InCoordinating, IsReported, AgreesOnLast, AgreesOnOther, Known, InLost, InPhase, Waits, Owes, IsAttempt, IsDone}
+use Rattle.dr_laws_attempts.specs.Orders.{OnServer, IsDoneFor}
 use Rattle.dr_facts.proofs.Tables.{IsOrNot}
 use Rattle.dr_facts.proofs.Lists.{in-first, in-second, in-joined, from-filter, any-some}
 use Rattle.dr_laws_sessions.proofs.Sound.{among-without}
@@ -86,7 +87,7 @@ module _ (n : ℕ) (vs : List Seen) (numbers : NumbersAgree n vs) (follows : Fol
 
   -- ---- aborted
 
-  aborts-to : (p q : PhaseName) (owed : List ℕ) (reports : List Shown) → phases.aborted_phase p ≡ Some q → InPhase p n owed reports vs → Begins q
+  pub aborts-to : (p q : PhaseName) (owed : List ℕ) (reports : List Shown) → phases.aborted_phase p ≡ Some q → InPhase p n owed reports vs → Begins q
   aborts-to phase.Coordinating phase.Finishing owed reports e h = record { unflashed = h.before.unflashed; done = fresh _ }
   aborts-to phase.Releasing phase.Finishing owed reports e h = record { unflashed = h.before.unflashed; done = fresh _ }
   aborts-to phase.Draining phase.Finishing owed reports e h = record { unflashed = h.before.unflashed; done = fresh _ }
@@ -131,7 +132,7 @@ module _ (n : ℕ) (vs : List Seen) (numbers : NumbersAgree n vs) (follows : Fol
   flash-settles (inr rev) = inl (λ u h c. (numbers.each u h).last (rev u h refl))
 
   -- no server is left that is owed
-  next : (p : PhaseName) (reports : List Shown) → InPhase p n [] reports vs → Begins (phases.next_phase p)
+  pub next : (p : PhaseName) (reports : List Shown) → InPhase p n [] reports vs → Begins (phases.next_phase p)
   next phase.None reports h = h
   next phase.Idle reports h = h
   next phase.Coordinating reports h = record { before = h.before; held = λ u i. h.held u i refl }
@@ -157,29 +158,43 @@ module _ (n : ℕ) (vs : List Seen) (numbers : NumbersAgree n vs) (follows : Fol
         by (inl is) = new u h is.1
         by (inr other) = old u h (sym (among-without u.server server owed other.1) ∙ o)
 
-    abbrev DoneBy : PhaseName → Type 0
+    abbrev pub DoneBy : PhaseName → Type 0
     DoneBy p = (work : phases.Work) → phases.work_in p ≡ Some work → All (λ u. u.server ≡ server → IsDone work n u) vs
 
-    stays : (p : PhaseName) (owed : List ℕ) (reports : List Shown) → DoneBy p → InPhase p n owed reports vs → InPhase p n (phases.without server owed) reports vs
-    stays phase.None owed reports done h = h
-    stays phase.Idle owed reports done h = h
-    stays phase.Coordinating owed reports done h = record { before = h.before; unsealed = h.unsealed; held = on-now owed _ (λ u i s. done phases.Hold refl u i s) h.held }
-    stays phase.Releasing owed reports done h = h
-    stays phase.Draining owed reports done h = h
-    stays phase.Flashing owed reports done h = record { positive = h.positive; uncommitted = h.uncommitted; held = h.held; done = by h.done; flashed = on-now owed (WasFlashed n) (λ u i s. inl (done phases.Flash refl u i s)) h.flashed }
+    -- which leaves of them what is asked of each phase
+    pub done-has : (p : PhaseName) → DoneBy p → IsDoneFor p n server vs
+    done-has phase.None done = tt
+    done-has phase.Idle done = tt
+    done-has phase.Coordinating done = done phases.Hold refl
+    done-has phase.Releasing done = tt
+    done-has phase.Draining done = tt
+    done-has phase.Flashing done = (inr (done phases.Flash refl), λ u i s. inl (done phases.Flash refl u i s))
+    done-has phase.Committing done = done phases.Commit refl
+    done-has phase.Reverting done = done phases.Revert refl
+    done-has phase.Finishing done = done phases.Finish refl
+    done-has phase.Lost done = done phases.Report refl
+
+    pub stays : (p : PhaseName) (owed : List ℕ) (reports : List Shown) → IsDoneFor p n server vs → InPhase p n owed reports vs → InPhase p n (phases.without server owed) reports vs
+    stays phase.None owed reports has h = h
+    stays phase.Idle owed reports has h = h
+    stays phase.Coordinating owed reports has h = record { before = h.before; unsealed = h.unsealed; held = on-now owed _ has h.held }
+    stays phase.Releasing owed reports has h = h
+    stays phase.Draining owed reports has h = h
+    stays phase.Flashing owed reports has h = record { positive = h.positive; uncommitted = h.uncommitted; held = h.held; done = by h.done has.0; flashed = on-now owed (WasFlashed n) has.1 h.flashed }
       where
-        by : Barred n vs ⊎ Answered owed (λ u. u.revertible ≡ true) vs → Barred n vs ⊎ Answered (phases.without server owed) (λ u. u.revertible ≡ true) vs
-        by (inl bar) = inl bar
-        by (inr rev) = inr (on-now owed _ (λ u i s. done phases.Flash refl u i s) rev)
-    stays phase.Committing owed reports done h = record { way = h.way; held = h.held; flashed = h.flashed; done = on-now owed _ (λ u i s. done phases.Commit refl u i s) h.done }
-    stays phase.Reverting owed reports done h = record { way = h.way; done = on-now owed _ (λ u i s. done phases.Revert refl u i s) h.done }
-    stays phase.Finishing owed reports done h = record { unflashed = h.unflashed; done = on-now owed _ (λ u i s. done phases.Finish refl u i s) h.done }
-    stays phase.Lost owed reports done h = record { last = h.last; agrees = h.agrees; known = λ u i c. by (h.known u i c); told = on-now owed _ (λ u i s. absurd (done phases.Report refl u i s)) h.told; after = h.after }
+        by : Barred n vs ⊎ Answered owed (λ u. u.revertible ≡ true) vs → Barred n vs ⊎ OnServer server (λ u. u.revertible ≡ true) vs → Barred n vs ⊎ Answered (phases.without server owed) (λ u. u.revertible ≡ true) vs
+        by (inl bar) new = inl bar
+        by (inr rev) (inl bar) = inl bar
+        by (inr rev) (inr new) = inr (on-now owed _ new rev)
+    stays phase.Committing owed reports has h = record { way = h.way; held = h.held; flashed = h.flashed; done = on-now owed _ has h.done }
+    stays phase.Reverting owed reports has h = record { way = h.way; done = on-now owed _ has h.done }
+    stays phase.Finishing owed reports has h = record { unflashed = h.unflashed; done = on-now owed _ has h.done }
+    stays phase.Lost owed reports has h = record { last = h.last; agrees = h.agrees; known = λ u i c. by (h.known u i c); told = on-now owed _ (λ u i s. absurd (has u i s)) h.told; after = h.after }
       where
         by : Known n owed reports vs → Known n (phases.without server owed) reports vs
         by (inl none) = inl none
         by (inr (inl told)) = inr (inl told)
-        by (inr (inr w)) = inr (inr (record { one = w.one; here = w.here; is = (w.is.0, among-without w.one.server server owed (λ e. done phases.Report refl w.one w.here e) ∙ w.is.1) }))
+        by (inr (inr w)) = inr (inr (record { one = w.one; here = w.here; is = (w.is.0, among-without w.one.server server owed (λ e. has w.one w.here e) ∙ w.is.1) }))
 
     waits-still : (owed rest : List ℕ) → phases.without server owed ≡ rest → (rest ≡ [] → ⊥) → Waits owed vs → Waits rest vs
     waits-still owed rest e some w = record { some = some; members = λ s i. w.members s (from-filter _ owed s (subst (In s) (sym e) i)).0 }
@@ -189,23 +204,27 @@ module _ (n : ℕ) (vs : List Seen) (numbers : NumbersAgree n vs) (follows : Fol
     owes-still phase.Idle owed rest e some h = tt
     owes-still p owed rest e some h = waits-still owed rest e some h
 
-    pub done : (m : phases.Master) → m.servers ≡ servers → DoneBy m.phase → AttemptBy n vs m → AttemptBy n vs (phases.replied m server phases.Done)
-    done m is does law = by (phases.without server m.owed) refl
+    -- where the attempt is as its phase says without the server
+    pub done-after : (m : phases.Master) → m.servers ≡ servers → InPhase m.phase n (phases.without server m.owed) m.reports vs → AttemptBy n vs m → AttemptBy n vs (phases.replied m server phases.Done)
+    done-after m is now law = by (phases.without server m.owed) refl
       where
         by : (rest : List ℕ) → phases.without server m.owed ≡ rest → AttemptBy n vs (phases.left_with m rest)
         by [] e = record {
           numbers = numbers;
           follows = follows;
           phase = subst (λ ks. InPhase (phases.next_phase m.phase) n (phases.owed_first (phases.next_phase m.phase) ks) [] vs) (sym is)
-              (next m.phase m.reports (subst (λ ks. InPhase m.phase n ks m.reports vs) e (stays m.phase m.owed m.reports does law.phase)));
+              (next m.phase m.reports (subst (λ ks. InPhase m.phase n ks m.reports vs) e now));
           owes = subst (λ ks. Owes (phases.next_phase m.phase) (phases.owed_first (phases.next_phase m.phase) ks) vs) (sym is) (owes-next m.phase m.owed law.owes);
         }
         by (k ∷ ks) e = record {
           numbers = numbers;
           follows = follows;
-          phase = subst (λ ks. InPhase m.phase n ks m.reports vs) e (stays m.phase m.owed m.reports does law.phase);
+          phase = subst (λ ks. InPhase m.phase n ks m.reports vs) e now;
           owes = owes-still m.phase m.owed (k ∷ ks) e (λ f. cc) law.owes;
         }
+
+    pub done : (m : phases.Master) → m.servers ≡ servers → IsDoneFor m.phase n server vs → AttemptBy n vs m → AttemptBy n vs (phases.replied m server phases.Done)
+    done m is has law = done-after m is (stays m.phase m.owed m.reports has law.phase) law
 
     -- ---- a server reports
 
@@ -264,7 +283,7 @@ module _ (n : ℕ) (vs : List Seen) (numbers : NumbersAgree n vs) (follows : Fol
       after-by (inl old) = h.after old
       after-by (inr new) = told-after new
 
-      tells-on : InLost n (phases.without server owed) now vs
+      pub tells-on : InLost n (phases.without server owed) now vs
       tells-on = record {
         last = λ k i. last-by k (in-joined reports xs _ i);
         agrees = agrees-by h.agrees;
@@ -296,24 +315,19 @@ module _ (n : ℕ) (vs : List Seen) (numbers : NumbersAgree n vs) (follows : Fol
           by (inl had) = known (h.known had.one had.here had.is)
           by (inr none) = inr none
 
-      settles : (d : Decision) → decision reports ≡ d → Begins (phases.phase_by d)
+      pub settles : (d : Decision) → decision reports ≡ d → Begins (phases.phase_by d)
       settles (CommitRest k) e =
           let both = commit-tells reports k e in
           let a = h.after (subst (λ k. IsReported k false reports) (h.last k both.0) both.1) in
           record { way = commit-way k e h.agrees; held = a.0; flashed = a.1; done = fresh _ }
       settles d e = record { way = revert-way (λ k f. let g = sym e ∙ f in absurd cc) h.agrees; done = fresh _ }
 
-    pub reported : (m : phases.Master) (xs : List Shown) → m.servers ≡ servers → m.phase ≡ phase.Lost → Tells xs → AttemptBy n vs m → AttemptBy n vs (phases.taken m server (phases.Reported xs))
-    reported m xs is lost tells law = by (phases.without server m.owed) refl
+    -- whatever it reports, where that fits
+    pub told : (m : phases.Master) (xs : List Shown) → m.servers ≡ servers → m.phase ≡ phase.Lost → InLost n (phases.without server m.owed) (m.reports ++ xs) vs → AttemptBy n vs m → AttemptBy n vs (phases.taken m server (phases.Reported xs))
+    told m xs is lost now-lost law = by (phases.without server m.owed) refl
       where
-        was : InLost n m.owed m.reports vs
-        was = subst (λ q. InPhase q n m.owed m.reports vs) lost law.phase
-
         waited : Waits m.owed vs
         waited = subst (λ q. Owes q m.owed vs) lost law.owes
-
-        now-lost : InLost n (phases.without server m.owed) (m.reports ++ xs) vs
-        now-lost = tells-on m.owed m.reports xs tells was
 
         by : (rest : List ℕ) → phases.without server m.owed ≡ rest → AttemptBy n vs (phases.settled_where rest (phases.replied m server (phases.Reported xs)))
         by [] e = let a = one-owed m.owed waited in
@@ -324,6 +338,10 @@ module _ (n : ℕ) (vs : List Seen) (numbers : NumbersAgree n vs) (follows : Fol
           phase = subst (λ q. InPhase q n (phases.without server m.owed) (m.reports ++ xs) vs) (sym lost) now-lost;
           owes = subst (λ q. Owes q (phases.without server m.owed) vs) (sym lost) (waits-still m.owed (phases.without server m.owed) refl (λ f. let g = sym e ∙ f in cc) waited);
         }
+
+    -- what its members show
+    pub reported : (m : phases.Master) (xs : List Shown) → m.servers ≡ servers → m.phase ≡ phase.Lost → Tells xs → AttemptBy n vs m → AttemptBy n vs (phases.taken m server (phases.Reported xs))
+    reported m xs is lost tells law = told m xs is lost (tells-on m.owed m.reports xs tells (subst (λ q. InPhase q n m.owed m.reports vs) lost law.phase)) law
 
 -- ---- an attempt begins, the last number is raised
 
@@ -387,15 +405,18 @@ module _ (n : ℕ) (vs : List Seen) (numbers : NumbersAgree n vs) (plain : NoneR
       by (inl is) = subst (λ q. Follows q vs) is.1 follows
       by (inr other) = later-follows q (let d : n ≢ q = other.1 in omega arith)
 
+  pub coordinates : (servers : List ℕ) → Serves servers vs → InCoordinating (n + 1) servers vs
+  coordinates servers serves = record {
+    before = record { positive = omega arith; unflashed = plain; uncommitted = later-none (n + 1) (omega arith) };
+    unsealed = λ u h e. let low : u.seal ≤ n = (numbers.each u h).seal in omega arith;
+    held = λ u h o. false_true o (serves.each u h);
+  }
+
   pub opens : (servers : List ℕ) → Serves servers vs → (v : Seen) → In v vs → IsAttempt phase.Coordinating (n + 1) servers [] vs
   opens servers serves v here = record {
     numbers = later-numbers (n + 1) (omega arith);
     follows = later-follows (n + 1) (omega arith);
-    phase = record {
-      before = record { positive = omega arith; unflashed = plain; uncommitted = later-none (n + 1) (omega arith) };
-      unsealed = λ u h e. let low : u.seal ≤ n = (numbers.each u h).seal in omega arith;
-      held = λ u h o. false_true o (serves.each u h);
-    };
+    phase = coordinates servers serves;
     owes = waits (n + 1) vs (later-numbers (n + 1) (omega arith)) (later-follows (n + 1) (omega arith)) servers serves v here;
   }
 

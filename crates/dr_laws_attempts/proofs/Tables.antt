@@ -18,6 +18,7 @@ use Rattle.dr_model.specs.SessionPlans.{answered_by}
 use Rattle.dr_model.specs.Sessions.{Session, Mirror, session_in, servers_of, has_subsystem, has_member_in, is_only, subsystem_of, with_mirror, with_master, mirrored_by, unmirrored, paused, mirror_lost_since, lost_since, joined_by, left_by, new_session, changed, without_session, joins, joined, leaves, left, begun, leave_refusal, last_refusal, not_in_session, in_session, drop_refusal}
 use Rattle.dr_model.specs.Groups.{In, SessionFits, Groups, OpensAttempt, IsMember}
 use Rattle.dr_model.specs.Attempts.{Roles, roles, Seen, seen, all_seen, All, counts, NoneRevertible, NoneCommitted, SomeCommitted, AllAt, OneShown, NumbersAgree, Follows, is_owed, IsReported, AgreesOnLast, AgreesOnOther, InLost, InPhase, IsAttempt, phase_of, owed_of, reports_of, AttemptOf, AttemptsIn, Attempts, IsDone, ServerDone}
+use Rattle.dr_laws_attempts.specs.Orders.{IsDoneFor}
 use Rattle.dr_laws_sessions.specs.Frames.{Became, Moves, Quiet}
 use Rattle.dr_facts.proofs.Tables.{IsOrNot}
 use Rattle.dr_facts.proofs.Lists.{in-joined, in-first, from-filter, to-filter, from-map, to-map, any-some, all-each}
@@ -27,8 +28,7 @@ use Rattle.dr_laws_sessions.proofs.Silent.{on-members, members-there, quiet-sile
 use Rattle.dr_laws_sessions.proofs.Volumes.{idle-quiet, fit-begun}
 use Rattle.dr_laws_attempts.proofs.Facts.{counts-member, none-some, shown-plain, apart-none}
 use Rattle.dr_laws_attempts.proofs.Reports.{never-impossible}
-use Rattle.dr_laws_attempts.proofs.Stages.{AttemptBy, Serves, idle-none, idle-attempt, aborts, loses, done, Tells, reported, opens}
-use Rattle.dr_laws_attempts.proofs.Turns.{HoldComes}
+use Rattle.dr_laws_attempts.proofs.Stages.{AttemptBy, Serves, idle-none, idle-attempt, aborts, loses, done-has, done-after, done, Tells, told, reported, opens}
 use Rattle.dr_laws_attempts.proofs.Places.{Steps, steps-keep, tries}
 use Rattle.dr_laws_attempts.proofs.Moves.{roles-moved}
 use Rattle.dr_logic.proofs.Truth.{false_true}
@@ -170,7 +170,7 @@ module _ (k : Control) (groups : Groups k) (law : Attempts k) where
       (record { attempt = record { numbers = own.numbers; follows = own.follows; phase = quiet-unflashed T x (quiet-drop x idle) own; owes = tt }; keeps = λ m here c. here; inside = inside x there.0 })
 
   -- the servers of a session's master
-  master-servers : (x : Session) (r : Mirror) → In x ss → x.mirror ≡ Some r → r.master.servers ≡ servers_of x.members
+  pub master-servers : (x : Session) (r : Mirror) → In x ss → x.mirror ≡ Some r → r.master.servers ≡ servers_of x.members
   master-servers x r i has = (groups.each x i).sound.servers r has
 
   pub with-paused : (s : ℕ) (on : Bool) → With (changed s (paused on) ss)
@@ -194,16 +194,27 @@ module _ (k : Control) (groups : Groups k) (law : Attempts k) where
 
   -- ---- replies
 
-  -- what each member of a server has done is seen of it
-  does : (x : Session) (server : ℕ) (r : Mirror) → x.mirror ≡ Some r → ServerDone k x server → (work : phases.Work) → phases.work_in r.master.phase ≡ Some work → (u : Seen) → In u (all_seen T x.members) → u.server ≡ server → IsDone work x.last u
-  does x server r has all work asks u h s = let o = from-map (seen T) x.members u h in
-      subst (IsDone work x.last) (sym o.is) (all work (ap (λ o. phases.work_in (phase_of o)) has ∙ asks) o.from o.here (ap (λ (u : Seen). u.server) (sym o.is) ∙ s))
-
-  pub with-done : (s server : ℕ) (x : Session) → session_in ss s ≡ Some x → ServerDone k x server → With (changed s (with_master (λ m. phases.replied m server phases.Done)) ss)
-  with-done s server x found all = let there = session-found ss s x found in
+  -- a server has done what the phase asks of it, where the attempt is as the phase says without that
+  pub with-after : (s server : ℕ) (x : Session) → session_in ss s ≡ Some x → ((r : Mirror) → x.mirror ≡ Some r → InPhase r.master.phase x.last (phases.without server r.master.owed) r.master.reports (all_seen T x.members)) → With (changed s (with_master (λ m. phases.replied m server phases.Done)) ss)
+  with-after s server x found now = let there = session-found ss s x found in
       with-one s (with_master (λ m. phases.replied m server phases.Done)) x found (λ x. refl)
       (goes-mirror T x (λ r. record r { master = phases.replied r.master server phases.Done }) (inside x there.0) (law.sessions x there.0)
-      (λ r has own. done x.last (all_seen T x.members) own.numbers own.follows (servers_of x.members) (serves T k x (groups.each x there.0)) server r.master (master-servers x r there.0 has) (does x server r has all) own))
+      (λ r has own. done-after x.last (all_seen T x.members) own.numbers own.follows (servers_of x.members) (serves T k x (groups.each x there.0)) server r.master (master-servers x r there.0 has) (now r has) own))
+
+  -- what a server has done may have been done some time ago
+  pub with-replied : (s server : ℕ) (x : Session) → session_in ss s ≡ Some x → ((r : Mirror) → x.mirror ≡ Some r → IsDoneFor r.master.phase x.last server (all_seen T x.members)) → With (changed s (with_master (λ m. phases.replied m server phases.Done)) ss)
+  with-replied s server x found did = let there = session-found ss s x found in
+      with-one s (with_master (λ m. phases.replied m server phases.Done)) x found (λ x. refl)
+      (goes-mirror T x (λ r. record r { master = phases.replied r.master server phases.Done }) (inside x there.0) (law.sessions x there.0)
+      (λ r has own. done x.last (all_seen T x.members) own.numbers own.follows (servers_of x.members) (serves T k x (groups.each x there.0)) server r.master (master-servers x r there.0 has) (did r has) own))
+
+  pub has-done : (server : ℕ) (x : Session) → In x ss → ServerDone k x server → (r : Mirror) → x.mirror ≡ Some r → IsDoneFor r.master.phase x.last server (all_seen T x.members)
+  has-done server x i all r has = let own = law.sessions x i in
+      done-has x.last (all_seen T x.members) own.numbers own.follows (servers_of x.members) (serves T k x (groups.each x i)) server r.master.phase
+      (λ work asks u h s. let o = from-map (seen T) x.members u h in subst (IsDone work x.last) (sym o.is) (all work (ap (λ o. phases.work_in (phase_of o)) has ∙ asks) o.from o.here (ap (λ (u : Seen). u.server) (sym o.is) ∙ s)))
+
+  pub with-done : (s server : ℕ) (x : Session) → session_in ss s ≡ Some x → ServerDone k x server → With (changed s (with_master (λ m. phases.replied m server phases.Done)) ss)
+  with-done s server x found all = with-replied s server x found (has-done server x (session-found ss s x found).0 all)
 
   pub with-waits : (s server : ℕ) → With (changed s (with_master (λ m. phases.replied m server phases.NotYet)) ss)
   with-waits s server = with-changed s (with_master (λ m. phases.replied m server phases.NotYet)) (λ x. refl) (λ x i e. goes-mirror T x (λ r. record r { master = phases.replied r.master server phases.NotYet }) (inside x i) (law.sessions x i) (λ r has own. own))
@@ -215,7 +226,7 @@ module _ (k : Control) (groups : Groups k) (law : Attempts k) where
       let one = groups.lone.one m.c.0 t.session x t.member m t.listed i t.here here (inr (inr (sym t.is))) (inr (inr refl)) in
       and_from (nat_eq (fields_at k m.c.0).session x.number) ((fields_at k m.c.0).member || (fields_at k m.c.0).revertible) (eq-eqb (fields_at k m.c.0).session x.number (sym t.number ∙ one.0)) c
 
-  tells : (x : Session) (server : ℕ) (i : In x ss) (own : NumbersAgree x.last (all_seen T x.members)) (follows : Follows x.last (all_seen T x.members))
+  pub tells : (x : Session) (server : ℕ) (i : In x ss) (own : NumbersAgree x.last (all_seen T x.members)) (follows : Follows x.last (all_seen T x.members))
       → Tells x.last (all_seen T x.members) own follows (servers_of x.members) (serves T k x (groups.each x i)) server (shown_by_members x.number (members_on server x.members) k)
   tells x server i own follows = record {
     from = λ r h.
@@ -238,6 +249,14 @@ module _ (k : Control) (groups : Groups k) (law : Attempts k) where
       (goes-mirror T x (λ r. record r { master = phases.taken r.master server (phases.Reported xs) }) (inside x there.0) (law.sessions x there.0)
       (λ r has own. reported x.last (all_seen T x.members) own.numbers own.follows (servers_of x.members) (serves T k x (groups.each x there.0)) server r.master xs (master-servers x r there.0 has) (lost r has)
       (subst (Tells x.last (all_seen T x.members) own.numbers own.follows (servers_of x.members) (serves T k x (groups.each x there.0)) server) (sym (is ∙ ap (λ s. shown_by_members s (members_on server x.members) k) (sym there.1))) (tells x server there.0 own.numbers own.follows)) own))
+
+  -- whatever it reports, where that fits a lost master
+  pub with-told : (s server : ℕ) (xs : List Shown) (x : Session) → session_in ss s ≡ Some x → ((r : Mirror) → x.mirror ≡ Some r → (r.master.phase ≡ phase.Lost) × InLost x.last (phases.without server r.master.owed) (r.master.reports ++ xs) (all_seen T x.members))
+      → With (changed s (with_master (λ m. phases.taken m server (phases.Reported xs))) ss)
+  with-told s server xs x found fits = let there = session-found ss s x found in
+      with-one s (with_master (λ m. phases.taken m server (phases.Reported xs))) x found (λ x. refl)
+      (goes-mirror T x (λ r. record r { master = phases.taken r.master server (phases.Reported xs) }) (inside x there.0) (law.sessions x there.0)
+      (λ r has own. let now = fits r has in told x.last (all_seen T x.members) own.numbers own.follows (servers_of x.members) (serves T k x (groups.each x there.0)) server r.master xs (master-servers x r there.0 has) now.0 now.1 own))
 
   -- ---- logical subsystems
 
@@ -330,15 +349,18 @@ module _ (k : Control) (groups : Groups k) (law : Attempts k) where
       (subst (λ ks. IsAttempt phase.Coordinating (x.last + 1) ks [] (all_seen T x.members)) (sym (master-servers x r i has))
       (opens x.last (all_seen T x.members) own.numbers (quiet-unflashed T x (idle-quiet x r has idle) own) (quiet-unrecorded x i (idle-quiet x r has idle)) (servers_of x.members) (serves T k x (groups.each x i)) (seen T m) (to-map (seen T) x.members m here)))
 
-  pub with-begun : (v s n : ℕ) → OpensAttempt k v s n → With (changed s begun ss)
-  with-begun v s n opens = let p : IsMember k v s = opens.place in
-      with-changed s begun (λ x. refl) (λ y i e. subst (λ z. Goes T z (begun z)) (same-session ss p.session y groups.once p.listed i (p.number ∙ sym e))
-      (record { attempt = attempt-begun p.session p.mirror p.member p.listed p.has_master opens.idle p.here; keeps = λ m here c. here; inside = inside p.session p.listed }))
+  pub with-begun : (s : ℕ) (x : Session) (r : Mirror) (m : Member) → In x ss → x.number ≡ s → x.mirror ≡ Some r → r.master.phase ≡ phase.Idle → In m x.members → With (changed s begun ss)
+  with-begun s x r m listed number has idle here =
+      with-changed s begun (λ x. refl) (λ y i e. subst (λ z. Goes T z (begun z)) (same-session ss x y groups.once listed i (number ∙ sym e))
+      (record { attempt = attempt-begun x r m listed has idle here; keeps = λ m here c. here; inside = inside x listed }))
 
-  -- and then its first hold
-  pub opened-steps : (v s n : ℕ) → OpensAttempt k v s n → Steps (changed s begun ss) T (at T v (record (T v) { attempt = n; recording = true; held = true }))
+  -- with a hold that comes then
+  pub with-opens : (v s n : ℕ) → OpensAttempt k v s n → With (changed s begun ss)
+  with-opens v s n opens = let p : IsMember k v s = opens.place in with-begun s p.session p.mirror p.member p.listed p.number p.has_master opens.idle p.here
+
+  pub opened-steps : (v s n : ℕ) → OpensAttempt k v s n → Steps k.flight (changed s begun ss) T (at T v (record (T v) { attempt = n; recording = true; held = true }))
   opened-steps v s n opens = let p : IsMember k v s = opens.place in let fit = fit-begun k v s n opens groups in
-      tries (changed s begun ss) fit.lone T (with-begun v s n opens) v n true true (λ z m i here e.
+      tries k.flight (changed s begun ss) fit.lone T (with-opens v s n opens) v n true true (λ z m i here e.
       let listed : In (begun p.session) (changed s begun ss) = changed-becomes s begun ss p.session groups.once p.listed p.number in
       let one = fit.lone.one v (begun p.session) z p.member m listed i p.here here (inl (sym p.is)) (inl (sym e)) in
       let is : begun p.session ≡ z = same-session (changed s begun ss) (begun p.session) z fit.once listed i one.0 in
@@ -348,12 +370,15 @@ module _ (k : Control) (groups : Groups k) (law : Attempts k) where
       record {
         up = subst (λ (q : Member). (T q.a.0).attempt ≤ n) one.1 (omega arith);
         low = omega arith;
-        begun = λ r. inr (subst (λ (q : Member). (T q.a.0).attempt < z.last) one.1 (omega arith), subst (λ (z : Session). HoldComes (phase_of z.mirror)) is (subst (λ o. HoldComes (phase_of (option_map (λ (r : Mirror). record r { master = phases.begun r.master }) o))) (sym p.has_master) tt));
+        begun = λ r. inr (subst (λ (q : Member). (T q.a.0).attempt < z.last) one.1 (omega arith), inl (ap (λ (z : Session). phase_of z.mirror) (sym is) ∙ ap (λ o. phase_of (option_map (λ (r : Mirror). record r { master = phases.begun r.master }) o)) p.has_master));
         free = λ r h. absurd cc;
       })
 
   pub with-opened : (v s n : ℕ) → OpensAttempt k v s n → AttemptsIn (changed s begun ss) (at T v (record (T v) { attempt = n; recording = true; held = true }))
-  with-opened v s n opens = steps-keep (changed s begun ss) T (at T v (record (T v) { attempt = n; recording = true; held = true })) (with-begun v s n opens) (opened-steps v s n opens)
+  with-opened v s n opens = steps-keep k.flight (changed s begun ss) T (at T v (record (T v) { attempt = n; recording = true; held = true })) (with-opens v s n opens) (opened-steps v s n opens)
+
+pub attempts-begun : (k : Control) (s : ℕ) (x : Session) (r : Mirror) (m : Member) → Groups k → Attempts k → session_in k.sessions s ≡ Some x → x.mirror ≡ Some r → r.master.phase ≡ phase.Idle → In m x.members → Attempts (record k { sessions = changed s begun k.sessions })
+attempts-begun k s x r m groups law found has idle here = let there = session-found k.sessions s x found in with-begun k groups law s x r m there.0 there.1 has idle here
 
 pub attempts-opened : (k j : Control) (v s n : ℕ) (c : Carried) → j.sessions ≡ k.sessions → Moves k j v (held_for n (fields_at k v)) c → OpensAttempt k v s n → Groups k → Attempts k → Attempts (record j { sessions = changed s begun j.sessions })
 attempts-opened k j v s n c same moves opens groups law =

@@ -1,9 +1,12 @@
 -- The ways in which a member changes as its session sees it, and what each asks.
-use Rattle.std.specs.Prelude.{ℕ, Bool, ◌≡◌, ◌⊎◌, ◌<◌, ◌≤◌, max, true, false, List}
+use Rattle.std.specs.Prelude.{ℕ, Bool, ◌≡◌, ◌⊎◌, ◌<◌, ◌≤◌, max, true, false, List, Some}
 use Rattle.dr_ids.specs.declared.refusal.PhaseName.{PhaseName}
 use Rattle.dr_ids.specs.declared.refusal.PhaseName.TheVariants as phase
 use Rattle.dr_model.specs.Decisions.{Shown}
-use Rattle.dr_model.specs.Attempts.{Seen, All, counts, NoneRevertible, NoneCommitted, SomeCommitted, AllAt, AllHeld, AllFlashed, IsReported, is_owed}
+use Rattle.dr_model.specs.Phases as phases
+use Rattle.dr_model.specs.Messages.{Flight, Message}
+use Rattle.dr_model.specs.Groups.{IsOrderFor, IsComing}
+use Rattle.dr_model.specs.Attempts.{Seen, All, Any, counts, NoneRevertible, NoneCommitted, SomeCommitted, AllAt, AllHeld, AllFlashed, IsReported, is_owed}
 
 pub data Kind : Type 0 where
   -- its primary's last attempt, and whether it records and is held
@@ -26,11 +29,12 @@ next_seen Revert n v = record v { sequence = v.previous; previous = 0; revertibl
 next_seen (Raise q) n v = record v { floor = q }
 next_seen (Go q before) n v = record v { sequence = q; previous = before; revertible = false; member = false }
 
--- In which phases an order of the last attempt may come: a hold, a seal, a flash, a commit and a revert. Of a lost master it may to
--- a server that is still to report.
-abbrev pub HoldComes : PhaseName → Type 0
-HoldComes phase.Coordinating = Unit {0}
-HoldComes p = ⊥
+-- a hold of the last attempt comes while the master coordinates, or where one is in flight
+abbrev pub HoldComes : Flight → ℕ → PhaseName → ℕ → Type 0
+HoldComes f s p n = (p ≡ phase.Coordinating) ⊎ Any (λ (m : Message). IsOrderFor f s phases.Hold n m) f.messages
+
+-- In which phases another order of the last attempt may come: a seal, a flash, a commit and a revert. Of a lost master it may to a
+-- server that is still to report.
 
 abbrev pub SealComes : PhaseName → Type 0
 SealComes phase.Coordinating = ⊥
@@ -60,10 +64,10 @@ RevertComes p = Unit {0}
 
 -- where its primary records, it did before, or it is held now, which it wasn't for the last number; and where it isn't held, it wasn't,
 -- or all were held for that number
-pub record MayTry (p : PhaseName) (n : ℕ) (vs : List Seen) (v : Seen) (q : ℕ) (records held : Bool) : Type 0 where
+pub record MayTry (f : Flight) (s : ℕ) (p : PhaseName) (n : ℕ) (vs : List Seen) (v : Seen) (q : ℕ) (records held : Bool) : Type 0 where
   pub up : v.attempt ≤ q
   pub low : q ≤ n
-  pub begun : records ≡ true → (v.recording ≡ true) ⊎ ((v.attempt < n) × HoldComes p)
+  pub begun : records ≡ true → (v.recording ≡ true) ⊎ ((v.attempt < n) × HoldComes f s p n)
   pub free : records ≡ true → held ≡ false → ((v.recording ≡ true) × (v.held ≡ false)) ⊎ AllHeld n vs
 
 pub record MaySeal (p : PhaseName) (n : ℕ) (v : Seen) : Type 0 where
@@ -75,7 +79,12 @@ pub record MayPair (p : PhaseName) (n : ℕ) (v : Seen) (pairs : Bool) (z : ℕ)
   pub sealed : (z ≡ 0) ⊎ ((z ≡ n) × MaySeal p n v)
   pub free : pairs ≡ true → (v.paired ≡ true) ⊎ ((v.revertible ≡ false) × (v.recording ≡ false))
 
-pub record MayFlash (p : PhaseName) (n : ℕ) (owed : List ℕ) (vs : List Seen) (v : Seen) : Type 0 where
+-- the phase asks for that work, or an order for it is on its way to the server
+abbrev pub IsAsked : Flight → ℕ → PhaseName → ℕ → ℕ → phases.Work → Type 0
+IsAsked f s p n server work = (phases.work_in p ≡ Some work) ⊎ IsComing f s server work n
+
+pub record MayFlash (f : Flight) (s : ℕ) (p : PhaseName) (n : ℕ) (owed : List ℕ) (vs : List Seen) (v : Seen) : Type 0 where
+  pub asked : IsAsked f s p n v.server phases.Flash
   pub comes : FlashComes p (is_owed owed v)
   pub held : AllHeld n vs
   pub paired : v.paired ≡ true
@@ -84,30 +93,38 @@ pub record MayFlash (p : PhaseName) (n : ℕ) (owed : List ℕ) (vs : List Seen)
   pub low : v.floor < n
 
 -- a commit is ordered, or another one is committed
-pub record Ordered (p : PhaseName) (n : ℕ) (owed : List ℕ) (reports : List Shown) (vs : List Seen) (v : Seen) : Type 0 where
+pub record Ordered (f : Flight) (s : ℕ) (p : PhaseName) (n : ℕ) (owed : List ℕ) (reports : List Shown) (vs : List Seen) (v : Seen) : Type 0 where
+  pub asked : IsAsked f s p n v.server phases.Commit
   pub comes : CommitComes p (is_owed owed v) n reports
+  pub paired : v.paired ≡ true
   pub flashed : AllFlashed n vs
 
-pub record MayCommit (p : PhaseName) (n : ℕ) (owed : List ℕ) (reports : List Shown) (vs : List Seen) (v : Seen) : Type 0 where
+pub record MayCommit (f : Flight) (s : ℕ) (p : PhaseName) (n : ℕ) (owed : List ℕ) (reports : List Shown) (vs : List Seen) (v : Seen) : Type 0 where
   pub revertible : v.revertible ≡ true
   pub all : AllAt n vs
-  pub way : Ordered p n owed reports vs v ⊎ SomeCommitted n vs
+  pub way : Ordered f s p n owed reports vs v ⊎ SomeCommitted n vs
 
-pub record MayRevert (p : PhaseName) (n : ℕ) (vs : List Seen) (v : Seen) : Type 0 where
+-- a revert is ordered, or all secondaries are taken
+pub record TakesBack (f : Flight) (s : ℕ) (p : PhaseName) (n : ℕ) (v : Seen) : Type 0 where
+  pub asked : IsAsked f s p n v.server phases.Revert
+  pub comes : RevertComes p
+  pub paired : v.paired ≡ true
+
+pub record MayRevert (f : Flight) (s : ℕ) (p : PhaseName) (n : ℕ) (vs : List Seen) (v : Seen) : Type 0 where
   pub revertible : v.revertible ≡ true
   pub none : NoneCommitted n vs
-  pub way : (RevertComes p × (v.paired ≡ true)) ⊎ All (λ u. u.paired ≡ false) vs
+  pub way : TakesBack f s p n v ⊎ All (λ u. u.paired ≡ false) vs
 
 pub record MayRaise (n : ℕ) (v : Seen) (q : ℕ) : Type 0 where
-  pub plain : v.revertible ≡ false
+  pub under : v.revertible ≡ true → q < n
   pub higher : v.floor ≤ q
   pub low : q ≤ n
 
-abbrev pub MayTurn : Kind → PhaseName → ℕ → List ℕ → List Shown → List Seen → Seen → Type 0
-MayTurn (Try q records held) p n owed reports vs v = MayTry p n vs v q records held
-MayTurn (Pair paired z) p n owed reports vs v = MayPair p n v paired z
-MayTurn Flash p n owed reports vs v = MayFlash p n owed vs v
-MayTurn Commit p n owed reports vs v = MayCommit p n owed reports vs v
-MayTurn Revert p n owed reports vs v = MayRevert p n vs v
-MayTurn (Raise q) p n owed reports vs v = MayRaise n v q
-MayTurn (Go q before) p n owed reports vs v = (counts v ≡ false) ⊎ NoneRevertible vs
+abbrev pub MayTurn : Kind → Flight → ℕ → PhaseName → ℕ → List ℕ → List Shown → List Seen → Seen → Type 0
+MayTurn (Try q records held) f s p n owed reports vs v = MayTry f s p n vs v q records held
+MayTurn (Pair paired z) f s p n owed reports vs v = MayPair p n v paired z
+MayTurn Flash f s p n owed reports vs v = MayFlash f s p n owed vs v
+MayTurn Commit f s p n owed reports vs v = MayCommit f s p n owed reports vs v
+MayTurn Revert f s p n owed reports vs v = MayRevert f s p n vs v
+MayTurn (Raise q) f s p n owed reports vs v = MayRaise n v q
+MayTurn (Go q before) f s p n owed reports vs v = (counts v ≡ false) ⊎ NoneRevertible vs

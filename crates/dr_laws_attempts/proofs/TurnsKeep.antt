@@ -3,18 +3,25 @@ use Rattle.std.proofs.Common.{ℕ, ◌≡◌, ◌≢◌, ◌<◌, ◌≤◌, ◌
 use Rattle.dr_ids.specs.declared.refusal.PhaseName.{PhaseName}
 use Rattle.dr_ids.specs.declared.refusal.PhaseName.TheVariants as phase
 use Rattle.dr_model.specs.Decisions.{Shown}
+use Rattle.dr_model.specs.Messages.{Flight}
 use Rattle.dr_model.specs.Groups.{In}
 use Rattle.dr_model.specs.Attempts.{Seen, All, counts, committed, number_shown, NoneRevertible, NoneCommitted, SomeCommitted, AllAt, Blocked, Bars, Barred, AllHeld, WasFlashed, AllFlashed, Follows, Numbered, OneShown, NumbersAgree, is_owed, Answered, Before, InCoordinating, InForming, InFlashing, InCommitting, InReverting, InFinishing, IsReported, AgreesOnLast, AgreesOnOther, Known, InLost, InPhase, Waits, Owes, IsAttempt}
-use Rattle.dr_laws_attempts.proofs.Turns.{Kind, Try, Pair, Flash, Commit, Revert, Raise, Go, next_seen, SealComes, FlashComes, CommitComes, HoldComes, RevertComes, MayTurn, MaySeal, MayFlash, MayCommit, MayRevert, Ordered}
+use Rattle.dr_laws_attempts.proofs.Turns.{Kind, Try, Pair, Flash, Commit, Revert, Raise, Go, next_seen, SealComes, FlashComes, CommitComes, HoldComes, RevertComes, MayTurn, MaySeal, MayFlash, MayCommit, MayRevert, Ordered, TakesBack}
 use Rattle.dr_laws_attempts.proofs.Facts.{bool_cases, Update, each, some, any_all, committed-parts, is-committed, rev-not-committed, member-counts, rev-counts, uncounted-plain, shown-rev, shown-plain, none-some, apart-none}
 use Rattle.dr_logic.proofs.Truth.{false_true}
 
-module _ (p : PhaseName) (n : ℕ) (owed : List ℕ) (reports : List Shown) (vs : List Seen) (law : IsAttempt p n owed reports vs) (v : Seen) (us : List Seen) where
+-- what holds of the members in any phase
+pub record InAnyPhase (n : ℕ) (vs : List Seen) : Type 0 where
+  pub numbers : NumbersAgree n vs
+  pub follows : Follows n vs
+
+-- who is owed, and what was reported, may be others than those of the session
+module _ (f : Flight) (s : ℕ) (p : PhaseName) (n : ℕ) (owed : List ℕ) (reports : List Shown) (vs : List Seen) (law : InAnyPhase n vs) (v : Seen) (us : List Seen) where
   abbrev To : Kind → Type 0
   To k = Update vs v (next_seen k n v) us
 
   abbrev May : Kind → Type 0
-  May k = MayTurn k p n owed reports vs v
+  May k = MayTurn k f s p n owed reports vs v
 
   -- the numbers of one member
   numbered : (k : Kind) → May k → Numbered n v → Numbered n (next_seen k n v)
@@ -60,7 +67,7 @@ module _ (p : PhaseName) (n : ℕ) (owed : List ℕ) (reports : List Shown) (vs 
     floor = a.low;
     sequence = r.sequence;
     last = r.last;
-    above = λ h. false_true a.plain h;
+    above = a.under;
     reached = λ m. let s : number_shown v ≤ v.floor = r.reached m in let up : v.floor ≤ q = a.higher in omega arith;
   }
   numbered (Go q before) a r = record { attempt = r.attempt; seal = r.seal; floor = r.floor; sequence = λ h. absurd cc; last = λ h. absurd cc; above = λ h. absurd cc; reached = λ m. absurd cc }
@@ -79,13 +86,13 @@ module _ (p : PhaseName) (n : ℕ) (owed : List ℕ) (reports : List Shown) (vs 
   same-server k = refl
 
   -- attempts and floors only rise
-  attempt-one : (k : Kind) → May k → n ≤ v.attempt → n ≤ (next_seen k n v).attempt
-  attempt-one (Try q records held) a was = let up : v.attempt ≤ q = a.up in omega arith
+  attempt-one : {q : ℕ} (k : Kind) → May k → q ≤ v.attempt → q ≤ (next_seen k n v).attempt
+  attempt-one (Try x records held) a was = let up : v.attempt ≤ x = a.up in omega arith
   attempt-one Flash a was = was
   attempt-one k a was = was
 
-  all-held : (k : Kind) → To k → May k → AllHeld n vs → AllHeld n us
-  all-held k move a all = each (λ u. n ≤ u.attempt) move (attempt-one k a (all v move.here)) all
+  pub all-held : {q : ℕ} (k : Kind) → To k → May k → AllHeld q vs → AllHeld q us
+  all-held {q} k move a all = each (λ u. q ≤ u.attempt) move (attempt-one k a (all v move.here)) all
 
   held-on : (k : Kind) → To k → May k → Answered owed (λ u. n ≤ u.attempt) vs → Answered owed (λ u. n ≤ u.attempt) us
   held-on k move a on = each (λ u. is_owed owed u ≡ false → n ≤ u.attempt) move (λ o. attempt-one k a (on v move.here (sym (same-server k) ∙ o))) on
@@ -94,24 +101,24 @@ module _ (p : PhaseName) (n : ℕ) (owed : List ℕ) (reports : List Shown) (vs 
   flashed-one Flash a here d = inl refl
   flashed-one Commit a here d = inr (omega arith)
   flashed-one Revert a here d = inr (omega arith)
-  flashed-one (Raise q) a here (inl r) = false_true a.plain r
+  flashed-one (Raise q) a here (inl r) = inl r
   flashed-one (Raise q) a here (inr f) = let was : n ≤ v.floor = f in let up : v.floor ≤ q = a.higher in inr (omega arith)
   flashed-one (Go q before) a here (inl r) = false_true (go-plain here a) r
   flashed-one (Go q before) a here (inr f) = inr f
   flashed-one k a here d = d
 
-  all-flashed : (k : Kind) → To k → May k → AllFlashed n vs → AllFlashed n us
+  pub all-flashed : (k : Kind) → To k → May k → AllFlashed n vs → AllFlashed n us
   all-flashed k move a all = each (WasFlashed n) move (flashed-one k a move.here (all v move.here)) all
 
   flashed-on : (k : Kind) → To k → May k → Answered owed (WasFlashed n) vs → Answered owed (WasFlashed n) us
   flashed-on k move a on = each (λ u. is_owed owed u ≡ false → WasFlashed n u) move (λ o. flashed-one k a move.here (on v move.here (sym (same-server k) ∙ o))) on
 
   -- one that is flashed was not before, so none is committed
-  not-flashed : MayFlash p n owed vs v → WasFlashed n v → ⊥
+  pub not-flashed : MayFlash f s p n owed vs v → WasFlashed n v → ⊥
   not-flashed a (inl r) = false_true a.plain r
   not-flashed a (inr f) = let was : n ≤ v.floor = f in let low : v.floor < n = a.low in absurd (omega arith)
 
-  flash-none : MayFlash p n owed vs v → In v vs → NoneCommitted n vs
+  pub flash-none : MayFlash f s p n owed vs v → In v vs → NoneCommitted n vs
   flash-none a here = by law.numbers.none
     where
       by : SomeCommitted n vs ⊎ OneShown n vs → NoneCommitted n vs
@@ -119,7 +126,7 @@ module _ (p : PhaseName) (n : ℕ) (owed : List ℕ) (reports : List Shown) (vs 
       by (inr one) = λ u h. apart-none n u (λ m e. one.apart (sym (one.same u h m) ∙ e))
 
   -- what may come and go
-  plain-stays : (k : Kind) → To k → (k ≡ Flash → ⊥) → NoneRevertible vs → NoneRevertible us
+  pub plain-stays : (k : Kind) → To k → (k ≡ Flash → ⊥) → NoneRevertible vs → NoneRevertible us
   plain-stays Flash move ne q = absurd (ne refl)
   plain-stays Commit move ne q = each _ move refl q
   plain-stays Revert move ne q = each _ move refl q
@@ -130,17 +137,17 @@ module _ (p : PhaseName) (n : ℕ) (owed : List ℕ) (reports : List Shown) (vs 
   none-revertible Flash move a ne q = absurd (ne a.comes)
   none-revertible k move a ne q = plain-stays k move (λ f. cc) q
 
-  pub reverted-none : MayRevert p n vs v → SomeCommitted n vs ⊎ OneShown n vs → To Revert → committed n (next_seen Revert n v) ≡ false
+  pub reverted-none : MayRevert f s p n vs v → SomeCommitted n vs ⊎ OneShown n vs → To Revert → committed n (next_seen Revert n v) ≡ false
   reverted-none a (inl had) move = none-some n vs a.none had
   reverted-none a (inr one) move = apart-none n (next_seen Revert n v) (λ m e. one.apart (sym (one.same v move.here m) ∙ shown-rev v a.revertible ∙ e))
 
   abbrev Commits : Type 0
   Commits = CommitComes p (is_owed owed v) n reports
 
-  no-commit : {P : Type 0} → (Commits → ⊥) → MayCommit p n owed reports vs v → NoneCommitted n vs → P
+  no-commit : {P : Type 0} → (Commits → ⊥) → MayCommit f s p n owed reports vs v → NoneCommitted n vs → P
   no-commit {P} ne a q = by a.way
     where
-      by : Ordered p n owed reports vs v ⊎ SomeCommitted n vs → P
+      by : Ordered f s p n owed reports vs v ⊎ SomeCommitted n vs → P
       by (inl due) = absurd (ne due.comes)
       by (inr had) = none-some n vs q had
 
@@ -167,7 +174,7 @@ module _ (p : PhaseName) (n : ℕ) (owed : List ℕ) (reports : List Shown) (vs 
       by (inl h) = false_true (bar r) h
       by (inr h) = false_true h.0 r
 
-  blocked : (k : Kind) → To k → May k → (k ≡ Flash → ⊥) → Blocked vs → Blocked us
+  pub blocked : (k : Kind) → To k → May k → (k ≡ Flash → ⊥) → Blocked vs → Blocked us
   blocked (Pair paired z) move a ne q = each _ move (λ r. paired-blocked paired z a r (q v move.here)) q
   blocked Flash move a ne q = absurd (ne refl)
   blocked Commit move a ne q = each _ move (λ r. absurd cc) q
@@ -238,10 +245,10 @@ module _ (p : PhaseName) (n : ℕ) (owed : List ℕ) (reports : List Shown) (vs 
   turned-one (Go q before) move a r = absurd cc
   turned-one k move a r = all-held k move a (law.follows.turned v move.here r)
 
-  commit-flashed : MayCommit p n owed reports vs v → In v vs → AllFlashed n vs
+  commit-flashed : MayCommit f s p n owed reports vs v → In v vs → AllFlashed n vs
   commit-flashed a here = by a.way
     where
-      by : Ordered p n owed reports vs v ⊎ SomeCommitted n vs → AllFlashed n vs
+      by : Ordered f s p n owed reports vs v ⊎ SomeCommitted n vs → AllFlashed n vs
       by (inl due) = due.flashed
       by (inr had) = (law.follows.settled had.one had.here had.is).1
 
@@ -310,12 +317,12 @@ module _ (p : PhaseName) (n : ℕ) (owed : List ℕ) (reports : List Shown) (vs 
 
   -- a primary that didn't record doesn't then, where no hold comes
   abbrev NoHold : Type 0
-  NoHold = v.attempt < n → HoldComes p → ⊥
+  NoHold = v.attempt < n → HoldComes f s p n → ⊥
 
   still-silent : (q : ℕ) (records held : Bool) → May (Try q records held) → NoHold → v.recording ≡ false → records ≡ false
   still-silent q records held a ne none = by (bool_cases records)
     where
-      was : (v.recording ≡ true) ⊎ ((v.attempt < n) × HoldComes p) → ⊥
+      was : (v.recording ≡ true) ⊎ ((v.attempt < n) × HoldComes f s p n) → ⊥
       was (inl r) = false_true none r
       was (inr h) = ne h.0 h.1
 
@@ -346,8 +353,8 @@ module _ (p : PhaseName) (n : ℕ) (owed : List ℕ) (reports : List Shown) (vs 
   flash-done Commit move a e q d = no-commit (commit-not phase.Flashing e (λ f. f)) a q.uncommitted
   flash-done Revert move a e q d = by a.way
     where
-      by : (RevertComes p × (v.paired ≡ true)) ⊎ All (λ u. u.paired ≡ false) vs → FlashDone us
-      by (inl due) = absurd (subst RevertComes e due.0)
+      by : TakesBack f s p n v ⊎ All (λ u. u.paired ≡ false) vs → FlashDone us
+      by (inl due) = absurd (subst RevertComes e due.comes)
       by (inr all) = inl (taken-bars all move)
   flash-done Flash move a e q (inr on) = inr (each _ move (λ o. refl) on)
   flash-done (Go x before) move a e q (inr on) = inr (each _ move (λ o. false_true (go-plain move.here a) (on v move.here o)) on)
@@ -373,8 +380,8 @@ module _ (p : PhaseName) (n : ℕ) (owed : List ℕ) (reports : List Shown) (vs 
   commit-way : (k : Kind) → To k → May k → p ≡ phase.Committing → (k ≡ Flash → ⊥) → AllAt n vs ⊎ Blocked vs → AllAt n us ⊎ Blocked us
   commit-way Revert move a e ne d = by a.way
     where
-      by : (RevertComes p × (v.paired ≡ true)) ⊎ All (λ u. u.paired ≡ false) vs → AllAt n us ⊎ Blocked us
-      by (inl due) = absurd (subst RevertComes e due.0)
+      by : TakesBack f s p n v ⊎ All (λ u. u.paired ≡ false) vs → AllAt n us ⊎ Blocked us
+      by (inl due) = absurd (subst RevertComes e due.comes)
       by (inr all) = inr (each _ move (λ r. all v move.here) (λ u h r. all u h))
   commit-way k move a e ne (inl all) = inl (all-at k move a (λ f. cc) all)
   commit-way k move a e ne (inr bar) = inr (blocked k move a ne bar)
@@ -425,15 +432,15 @@ module _ (p : PhaseName) (n : ℕ) (owed : List ℕ) (reports : List Shown) (vs 
     Agrees xs = AgreesOnLast n reports xs ⊎ AgreesOnOther n reports xs
 
     -- none is reverted where what was reported is n
-    revert-apart : MayRevert p n vs v → In v vs → Settled vs → ⊥
+    revert-apart : MayRevert f s p n vs v → In v vs → Settled vs → ⊥
     revert-apart a here (inl had) = none-some n vs a.none had
     revert-apart a here (inr none) = false_true (none v here) a.revertible
 
     -- where one is committed, all that isn't revertible was reported with n
-    commit-told : MayCommit p n owed reports vs v → AgreesOnOther n reports vs → (k : ℕ) → IsReported k false reports → k ≡ n
+    commit-told : MayCommit f s p n owed reports vs v → AgreesOnOther n reports vs → (k : ℕ) → IsReported k false reports → k ≡ n
     commit-told a o = by a.way
       where
-        by : Ordered p n owed reports vs v ⊎ SomeCommitted n vs → (k : ℕ) → IsReported k false reports → k ≡ n
+        by : Ordered f s p n owed reports vs v ⊎ SomeCommitted n vs → (k : ℕ) → IsReported k false reports → k ≡ n
         by (inl due) = (subst (λ q. CommitComes q (is_owed owed v) n reports) e due.comes).1
         by (inr had) = let c = committed-parts n had.one had.is in absurd (o.shown.apart (sym (o.shown.same had.one had.here c.member) ∙ (shown-plain had.one c.plain ∙ c.numbered)))
 
@@ -482,7 +489,7 @@ module _ (p : PhaseName) (n : ℕ) (owed : List ℕ) (reports : List Shown) (vs 
     unfolding commits-now
     commit-known move a = by a.way
       where
-        by : Ordered p n owed reports vs v ⊎ SomeCommitted n vs → Known n owed reports us
+        by : Ordered f s p n owed reports vs v ⊎ SomeCommitted n vs → Known n owed reports us
         by (inl due) = let c = commits-now a move in inr (inr (record { one = c.one; here = c.here; is = (c.is, (subst (λ q. CommitComes q (is_owed owed v) n reports) e due.comes).0) }))
         by (inr had) = known-by Commit move a (λ f. cc) (q.known had.one had.here had.is)
 
@@ -521,7 +528,7 @@ module _ (p : PhaseName) (n : ℕ) (owed : List ℕ) (reports : List Shown) (vs 
   kept-phase phase.Finishing e k move a h = kept-finishing k move a e h
   kept-phase phase.Lost e k move a h = kept-lost e h k move a
 
-  at-server : (k : Kind) → (next_seen k n v).server ≡ v.server
+  pub at-server : (k : Kind) → (next_seen k n v).server ≡ v.server
   at-server Flash = refl
   at-server k = refl
 
@@ -533,5 +540,8 @@ module _ (p : PhaseName) (n : ℕ) (owed : List ℕ) (reports : List Shown) (vs 
   kept-owed phase.Idle k move h = tt
   kept-owed q k move h = still-owed k move h
 
-  pub kept : (k : Kind) → To k → May k → IsAttempt p n owed reports us
-  kept k move a = record { numbers = kept-numbers k move a; follows = kept-follows k move a; phase = kept-phase p refl k move a law.phase; owes = kept-owed p k move law.owes }
+  pub kept-in : (k : Kind) → To k → May k → InPhase p n owed reports vs → InPhase p n owed reports us
+  kept-in k move a h = kept-phase p refl k move a h
+
+  pub kept : (k : Kind) → To k → May k → InPhase p n owed reports vs → Owes p owed vs → IsAttempt p n owed reports us
+  kept k move a h owes = record { numbers = kept-numbers k move a; follows = kept-follows k move a; phase = kept-in k move a h; owes = kept-owed p k move owes }

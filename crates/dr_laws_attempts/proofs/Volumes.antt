@@ -19,7 +19,7 @@ pub attempts-still : (k j : Control) → j.sessions ≡ k.sessions → ((v : ℕ
 attempts-still k j same stays law = subst (λ T. AttemptsIn j.sessions T) (sym (fun_ext stays)) (subst (λ ss. AttemptsIn ss (roles k)) (sym same) law)
 
 -- a volume that isn't defined has no place
-no-place : (k : Control) (v : ℕ) → is_volume k v ≡ false → Groups k → (z : Session) (m : Member) → In z k.sessions → In m z.members → IsAt v m → ⊥
+pub no-place : (k : Control) (v : ℕ) → is_volume k v ≡ false → Groups k → (z : Session) (m : Member) → In z k.sessions → In m z.members → IsAt v m → ⊥
 no-place k v new groups z m i here is = let stands = (groups.each z i).stands m here in by stands is
   where
     by : MemberStands k m → IsAt v m → ⊥
@@ -30,4 +30,4 @@ no-place k v new groups z m i here is = let stands = (groups.each z i).stands m 
 pub attempts-defined : (k : Control) (v server tracks : ℕ) → is_volume k v ≡ false → Groups k → Attempts k → Attempts (record k { volumes = k.volumes ++ v ∷ []; volume = at k.volume v (new_volume server tracks) })
 attempts-defined k v server tracks new groups law =
     subst (λ T. AttemptsIn k.sessions T) (sym (fun_ext (λ u. at_map (λ (y : Volume). role_of y.fields) k.volume v (new_volume server tracks) u)))
-    (steps-keep k.sessions (roles k) (at (roles k) v (role_of no_fields)) law (steps-at k.sessions groups.lone (roles k) law v (role_of no_fields) (λ z m i here is. absurd (no-place k v new groups z m i here is)) (record { counted = λ h. absurd cc; uncounted = λ h. refl; previous = λ h. refl })))
+    (steps-keep k.flight k.sessions (roles k) (at (roles k) v (role_of no_fields)) law (steps-at k.flight k.sessions groups.lone (roles k) law v (role_of no_fields) (λ z m i here is. absurd (no-place k v new groups z m i here is)) (record { counted = λ h. absurd cc; uncounted = λ h. refl; previous = λ h. refl })))

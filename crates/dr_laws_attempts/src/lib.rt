@@ -16,16 +16,18 @@ ghost use Rattle.dr_model.specs.Relations.{flashed, committed, reverted};
 ghost use Rattle.dr_model.specs.Pairs.{held_for, records, is_secondary_of, taken_over, past_attempt, with_floor};
 ghost use Rattle.dr_model.specs.Moves.{Move, Hold, Free, Seal, Finish, RaiseAttempt, RaiseFloor, Leave, Flash, Commit, Revert, Carried, target, next_fields};
 ghost use Rattle.dr_model.specs.Entries.{fields_at, stands_in, is_revertible};
-ghost use Rattle.dr_model.specs.SessionEntries.{first_number, stale_refusal, flash_refusal, commit_refusal, is_flashed, is_committed, is_past, shown_by_members, members_on};
+ghost use Rattle.dr_model.specs.SessionEntries.{first_number, last_of, stale_refusal, flash_refusal, commit_refusal, is_flashed, is_committed, is_past, shown_by_members, members_on};
 ghost use Rattle.dr_model.specs.PairEntries.{send_refusal};
 ghost use Rattle.dr_model.specs.SessionPlans.{order_of, answered_by, join_plan, leave_plan, mirror_plan, pause_mirror_plan, unmirror_plan, abort_plan, add_done, expel_done, exchange_done};
 ghost use Rattle.dr_model.specs.declared.step.Name.{Name};
 ghost use Rattle.dr_model.specs.Sessions.{Session, Mirror, session_in, has_place_of, has_subsystem, subsystem_of, changed, joined, left, lost_since, begun, raised, mirrored_by, unmirrored, paused, with_mirror, with_master, mirror_lost_since, with_member, without_member, busy, leave_refusal, drop_refusal};
-ghost use Rattle.dr_model.specs.Groups.{In, Groups, Due, HoldsMember, OpensAttempt};
-ghost use Rattle.dr_model.specs.Attempts.{Roles, roles, phase_of, DoesNotCount, MayGo, MayFollow, Claim, Attempts, InAttempt, IsDone, WorkDone, ServerDone, Seen, seen, seen_in, All, NoneRevertible, NoneCommitted, SomeCommitted, IsReported, InLost, FlashesMember, RevertsMember, OverIn};
-ghost use Rattle.dr_laws_sessions.specs.Frames.{Moves, Quiet};
+ghost use Rattle.dr_model.specs.Messages.{Flight, Message, sent, answered};
+ghost use Rattle.dr_model.specs.Groups.{In, Groups, IsOrderFor, Due, OpensAttempt};
+ghost use Rattle.dr_model.specs.Flights.{Flights};
+ghost use Rattle.dr_model.specs.Attempts.{Roles, roles, phase_of, DoesNotCount, MayGo, MayFollow, Claim, Attempts, InAttempt, IsDone, WorkDone, ServerDone, Seen, seen, seen_in, all_seen, All, NoneRevertible, NoneCommitted, SomeCommitted, IsReported, InLost, FlashesMember, RevertsMember, OverIn};
+ghost use Rattle.dr_laws_sessions.specs.Frames.{Moves, Quiet, Holding};
 ghost use Rattle.dr_laws_attempts.specs.Example.{first, second, start, report, now, in_phase, held, freed, flashing, one_flashed, flashed as all_flashed, one_committed, all_committed, over, both, lost, aborted, reported, taken_back};
-ghost use Rattle.dr_laws_attempts.specs.Orders.{DoneBut, LeavesTargetsAlone, TakenBut, RestCommits, RestReverts};
+ghost use Rattle.dr_laws_attempts.specs.Orders.{DoneBut, LeavesTargetsAlone, TakenBut, RestCommits, RestReverts, IsDoneFor};
 
 /// The laws hold before the first step, and stay where the sessions do and what volumes say of attempts, and where a volume is
 /// defined.
@@ -37,7 +39,7 @@ pub fn the_laws_of_attempts_begin()
 
 /// They stay in each kind of move that comes where it may, and in the first hold of an attempt, which begins it.
 pub fn each_move_keeps_the_laws_of_attempts()
-    ensures moved { (k j : Control) (m : Move) (c : Carried) → j.sessions ≡ k.sessions → Moves k j (target m) (next_fields m k.volume) c → InAttempt k m → Groups k → Attempts k → Attempts j }
+    ensures moved { (k j : Control) (m : Move) (c : Carried) → j.sessions ≡ k.sessions → Moves k j (target m) (next_fields m k.volume) c → InAttempt k m → Groups k → Attempts k → Flights k → Attempts j }
     ensures opened { (k j : Control) (v s n : ℕ) (c : Carried) → j.sessions ≡ k.sessions → Moves k j v (held_for n (fields_at k v)) c → OpensAttempt k v s n → Groups k → Attempts k → Attempts (record j { sessions = changed s begun j.sessions }) }
 {}
 
@@ -54,21 +56,24 @@ pub fn joining_and_leaving_keep_the_laws_of_attempts()
     ensures left { (k : Control) (s l : ℕ) (x : Session) → Groups k → Attempts k → session_in k.sessions s ≡ Some x → leave_refusal (Some x) s l ≡ None → Attempts (record k { sessions = left s l k.sessions }) }
 {}
 
-/// They stay where a master is appointed, dismissed, paused, aborted or lost.
+/// They stay where a master is appointed, dismissed, paused, aborted or lost; and where it begins an attempt before any member is held.
 pub fn masters_keep_the_laws_of_attempts()
     ensures mirrored { (k : Control) (s server : ℕ) (x : Session) → Groups k → Attempts k → session_in k.sessions s ≡ Some x → x.mirror ≡ None → Attempts (record k { sessions = changed s (mirrored_by server) k.sessions }) }
     ensures unmirrored { (k : Control) (s : ℕ) (x : Session) → Groups k → Attempts k → session_in k.sessions s ≡ Some x → drop_refusal x.mirror ≡ None → Attempts (record k { sessions = changed s unmirrored k.sessions }) }
     ensures paused { (k : Control) (s : ℕ) (on : Bool) → Groups k → Attempts k → Attempts (record k { sessions = changed s (paused on) k.sessions }) }
     ensures aborted { (k : Control) (s : ℕ) → Groups k → Attempts k → Attempts (record k { sessions = changed s (with_master phases.aborted) k.sessions }) }
     ensures lost { (k : Control) (before now : ℕ → Bool) → Groups k → Attempts k → Attempts (record k { sessions = lost_since before now k.sessions }) }
+    ensures begun { (k : Control) (s : ℕ) (x : Session) (r : Mirror) (m : Member) → Groups k → Attempts k → session_in k.sessions s ≡ Some x → x.mirror ≡ Some r → r.master.phase ≡ phase.Idle → In m x.members → Attempts (record k { sessions = changed s begun k.sessions }) }
 {}
 
-/// They stay where a master takes the reply of a server: one that has done its order with each of its members, one that has to wait,
-/// and one that reports what those show; and that which a server gives by its work.
+/// They stay where a master takes the reply of a server: one that has done its order with each of its members, now or some time ago, one
+/// that has to wait, and one that reports what those show, or whatever fits a lost master; and that which a server gives by its work.
 pub fn replies_keep_the_laws_of_attempts()
     ensures done { (k : Control) (s server : ℕ) (x : Session) → Groups k → Attempts k → session_in k.sessions s ≡ Some x → ServerDone k x server → Attempts (record k { sessions = changed s (with_master (λ m. phases.taken m server phases.Done)) k.sessions }) }
+    ensures has_done { (k : Control) (s server : ℕ) (x : Session) → Groups k → Attempts k → session_in k.sessions s ≡ Some x → ((r : Mirror) → x.mirror ≡ Some r → IsDoneFor r.master.phase x.last server (all_seen (roles k) x.members)) → Attempts (record k { sessions = changed s (with_master (λ m. phases.taken m server phases.Done)) k.sessions }) }
     ensures waits { (k : Control) (s server : ℕ) → Groups k → Attempts k → Attempts (record k { sessions = changed s (with_master (λ m. phases.taken m server phases.NotYet)) k.sessions }) }
     ensures reported { (k : Control) (s server : ℕ) (xs : List Shown) (x : Session) → Groups k → Attempts k → session_in k.sessions s ≡ Some x → ((r : Mirror) → x.mirror ≡ Some r → r.master.phase ≡ phase.Lost) → xs ≡ shown_by_members s (members_on server x.members) k → Attempts (record k { sessions = changed s (with_master (λ m. phases.taken m server (phases.Reported xs))) k.sessions }) }
+    ensures told { (k : Control) (s server : ℕ) (xs : List Shown) (x : Session) → Groups k → Attempts k → session_in k.sessions s ≡ Some x → ((r : Mirror) → x.mirror ≡ Some r → (r.master.phase ≡ phase.Lost) × InLost x.last (phases.without server r.master.owed) (r.master.reports ++ xs) (all_seen (roles k) x.members)) → Attempts (record k { sessions = changed s (with_master (λ m. phases.taken m server (phases.Reported xs))) k.sessions }) }
     ensures answered { (k : Control) (s server : ℕ) (work : phases.Work) (x : Session) → Groups k → Attempts k → session_in k.sessions s ≡ Some x → (work ≡ phases.Report → (r : Mirror) → x.mirror ≡ Some r → r.master.phase ≡ phase.Lost) → (work ≢ phases.Report → ServerDone k x server) → Attempts (answered_by s server work (members_on server x.members) k) }
 {}
 
@@ -104,22 +109,27 @@ pub fn no_decision_is_impossible()
 {}
 
 /// Where a target is reverted whose source was taken, as a recovery does, its session's attempt is over: no member can be flashed
-/// with its number. That stays in each kind of move, and in each change of the table until the session's next attempt begins; of
-/// members only those come whose floor forbids the number.
+/// with its number, nor held where it wasn't. That stays in each kind of move, and in each change of the tables until the session's next
+/// attempt begins: also where a master sends the order that it owes, where a server answers, and wherever no hold of that number comes
+/// into flight; and of members only those come that were held for it, and whose floor forbids it.
 pub fn what_was_recovered_stays_barred()
-    ensures begins { (k j : Control) (v a s n : ℕ) (c : Carried) (x : Session) → Moves k j v (reverted n (fields_at k v)) c → RevertsMember k v a s n → Groups k → Attempts k → In x k.sessions → x.number ≡ s → ((m : Member) → In m x.members → m.a.0 ≡ a → is_secondary_of a (fields_at k m.b.0) ≡ false) → OverIn (roles j) x }
-    ensures unflashed { (k : Control) (x : Session) (v u a n : ℕ) → Groups k → In x k.sessions → OverIn (roles k) x → FlashesMember k v u a x.number n → ⊥ }
-    ensures moved { (k j : Control) (m : Move) (c : Carried) (x : Session) → Moves k j (target m) (next_fields m k.volume) c → InAttempt k m → Groups k → Attempts k → In x k.sessions → OverIn (roles k) x → OverIn (roles j) x }
-    ensures opened { (k j : Control) (v s n : ℕ) (c : Carried) (x : Session) → Moves k j v (held_for n (fields_at k v)) c → OpensAttempt k v s n → Groups k → Attempts k → In x k.sessions → x.number ≢ s → OverIn (roles k) x → OverIn (roles j) x }
-    ensures taken { (T : Roles) (x : Session) (server : ℕ) (reply : phases.Reply) → OverIn T x → OverIn T (with_master (λ m. phases.taken m server reply) x) }
-    ensures aborted { (T : Roles) (x : Session) → OverIn T x → OverIn T (with_master phases.aborted x) }
-    ensures lost { (T : Roles) (x : Session) (before now : ℕ → Bool) → OverIn T x → OverIn T (with_mirror (mirror_lost_since before now) x) }
-    ensures paused { (T : Roles) (x : Session) (on : Bool) → OverIn T x → OverIn T (paused on x) }
-    ensures mirrored { (T : Roles) (x : Session) (server : ℕ) → OverIn T x → OverIn T (mirrored_by server x) }
-    ensures unmirrored { (T : Roles) (x : Session) → OverIn T x → OverIn T (unmirrored x) }
-    ensures raised { (k : Control) (x : Session) (n : ℕ) → Groups k → Attempts k → In x k.sessions → busy x.mirror ≡ None → OverIn (roles k) x → OverIn (roles k) (raised n x) }
-    ensures added { (T : Roles) (x : Session) (m : Member) → busy x.mirror ≡ None → x.last ≤ (T m.c.0).floor → (T m.c.0).revertible ≡ false → OverIn T x → OverIn T (with_member m x) }
-    ensures removed { (T : Roles) (x : Session) (a : ℕ) → busy x.mirror ≡ None → OverIn T x → OverIn T (without_member a x) }
+    ensures begins { (k j : Control) (v a s n : ℕ) (c : Carried) (x : Session) → Moves k j v (reverted n (fields_at k v)) c → RevertsMember k v a s n → Groups k → Attempts k → In x k.sessions → x.number ≡ s → ((m : Member) → In m x.members → m.a.0 ≡ a → is_secondary_of a (fields_at k m.b.0) ≡ false) → OverIn j.flight (roles j) x }
+    ensures unflashed { (k : Control) (x : Session) (v u a n : ℕ) → Groups k → In x k.sessions → OverIn k.flight (roles k) x → FlashesMember k v u a x.number n → ⊥ }
+    ensures moved { (k j : Control) (m : Move) (c : Carried) (x : Session) → Moves k j (target m) (next_fields m k.volume) c → InAttempt k m → Groups k → Attempts k → Flights k → In x k.sessions → OverIn k.flight (roles k) x → OverIn k.flight (roles j) x }
+    ensures opened { (k j : Control) (v s n : ℕ) (c : Carried) (x : Session) → Moves k j v (held_for n (fields_at k v)) c → OpensAttempt k v s n → Groups k → Attempts k → In x k.sessions → x.number ≢ s → OverIn k.flight (roles k) x → OverIn k.flight (roles j) x }
+    ensures flown { (f g : Flight) (T : Roles) (x : Session) → ((m : Message) → IsOrderFor g x.number phases.Hold x.last m → IsOrderFor f x.number phases.Hold x.last m) → OverIn f T x → OverIn g T x }
+    ensures sent { (f : Flight) (T : Roles) (x : Session) (r : Mirror) (server : ℕ) (o : phases.Order) → x.mirror ≡ Some r → phases.order_for r.master server ≡ Some o → OverIn f T x → OverIn (sent x.number server o f) T x }
+    ensures apart { (f : Flight) (T : Roles) (x : Session) (s server : ℕ) (o : phases.Order) → s ≢ x.number → OverIn f T x → OverIn (sent s server o f) T x }
+    ensures answered { (f : Flight) (T : Roles) (x : Session) (m : Message) (reply : phases.Reply) → OverIn f T x → OverIn (answered m reply f) T x }
+    ensures taken { (f : Flight) (T : Roles) (x : Session) (server : ℕ) (reply : phases.Reply) → OverIn f T x → OverIn f T (with_master (λ m. phases.taken m server reply) x) }
+    ensures aborted { (f : Flight) (T : Roles) (x : Session) → OverIn f T x → OverIn f T (with_master phases.aborted x) }
+    ensures lost { (f : Flight) (T : Roles) (x : Session) (before now : ℕ → Bool) → OverIn f T x → OverIn f T (with_mirror (mirror_lost_since before now) x) }
+    ensures paused { (f : Flight) (T : Roles) (x : Session) (on : Bool) → OverIn f T x → OverIn f T (paused on x) }
+    ensures mirrored { (f : Flight) (T : Roles) (x : Session) (server : ℕ) → OverIn f T x → OverIn f T (mirrored_by server x) }
+    ensures unmirrored { (f : Flight) (T : Roles) (x : Session) → OverIn f T x → OverIn f T (unmirrored x) }
+    ensures raised { (k : Control) (x : Session) (n : ℕ) → Groups k → Attempts k → Flights k → In x k.sessions → busy x.mirror ≡ None → OverIn k.flight (roles k) x → OverIn k.flight (roles k) (raised n x) }
+    ensures added { (f : Flight) (T : Roles) (x : Session) (m : Member) → busy x.mirror ≡ None → x.last ≤ (T m.a.0).attempt → x.last ≤ (T m.c.0).floor → (T m.c.0).revertible ≡ false → OverIn f T x → OverIn f T (with_member m x) }
+    ensures removed { (f : Flight) (T : Roles) (x : Session) (a : ℕ) → busy x.mirror ≡ None → OverIn f T x → OverIn f T (without_member a x) }
 {}
 
 /// An order has its phase's work and the master's number, and only a lost master asks for reports. Where an order's checks have
@@ -127,14 +137,14 @@ pub fn what_was_recovered_stays_barred()
 pub fn orders_move_members()
     ensures works { (r : Mirror) (server : ℕ) (o : phases.Order) → r.master.phase ≢ phase.Idle → order_of r server ≡ Some o → (phases.work_in r.master.phase ≡ Some o.work) × (r.master.phase ≢ phase.Lost → o.number ≡ r.master.number) }
     ensures reports { (r : Mirror) (server : ℕ) (o : phases.Order) → order_of r server ≡ Some o → o.work ≡ phases.Report → r.master.phase ≡ phase.Lost }
-    ensures holds { (k : Control) (s n : ℕ) (m : Member) → HoldsMember k m.a.0 s n → stale_refusal m.a.0 n k ≡ None → records n (fields_at k m.a.0) ≡ false → InAttempt k (Hold m.a.0 s n false) }
-    ensures frees { (k : Control) (s : ℕ) (x : Session) (m : Member) → Groups k → Attempts k → session_in k.sessions s ≡ Some x → In m x.members → Due x m.server.0 phases.Release x.last → InAttempt k (Free m.a.0) }
-    ensures seals { (k : Control) (s : ℕ) (x : Session) (m : Member) (n : ℕ) → Groups k → Attempts k → session_in k.sessions s ≡ Some x → In m x.members → x.last ≡ n → Due x m.server.0 phases.Seal n → records n (fields_at k m.a.0) ≡ true → InAttempt k (Seal m.b.0 m.a.0 s n) }
-    ensures flashes { (k : Control) (s : ℕ) (x : Session) (m : Member) (n : ℕ) → Groups k → Attempts k → session_in k.sessions s ≡ Some x → In m x.members → x.last ≡ n → Due x m.server.0 phases.Flash n → send_refusal m.a.0 m.b.0 k ≡ None → flash_refusal m.b.0 m.c.0 n k ≡ None → is_flashed n (fields_at k m.c.0) ≡ false → InAttempt k (Flash m.c.0 m.b.0 m.a.0 s n) }
-    ensures commits { (k : Control) (s : ℕ) (x : Session) (m : Member) (n : ℕ) → Groups k → Attempts k → session_in k.sessions s ≡ Some x → In m x.members → x.last ≡ n → Due x m.server.0 phases.Commit n → send_refusal m.a.0 m.b.0 k ≡ None → commit_refusal m.c.0 n k ≡ None → is_committed n (fields_at k m.c.0) ≡ false → InAttempt k (Commit m.c.0 m.a.0 s n) }
-    ensures reverts { (k : Control) (s : ℕ) (x : Session) (m : Member) (n : ℕ) → Groups k → Attempts k → session_in k.sessions s ≡ Some x → In m x.members → x.last ≡ n → Due x m.server.0 phases.Revert n → send_refusal m.a.0 m.b.0 k ≡ None → is_flashed n (fields_at k m.c.0) ≡ true → InAttempt k (Revert m.c.0 m.a.0 s n) }
-    ensures raises { (k : Control) (s : ℕ) (x : Session) (m : Member) (n : ℕ) → Groups k → Attempts k → session_in k.sessions s ≡ Some x → In m x.members → x.last ≡ n → is_flashed n (fields_at k m.c.0) ≡ false → nat_lt (fields_at k m.c.0).floor n ≡ true → InAttempt k (RaiseFloor m.c.0 n) }
-    ensures finishes { (k : Control) (s : ℕ) (x : Session) (m : Member) (n : ℕ) → Groups k → Attempts k → session_in k.sessions s ≡ Some x → In m x.members → x.last ≡ n → InAttempt k (Finish m.a.0 n) }
+    ensures holds { (k : Control) (s server n : ℕ) (ms : List Member) (m : Member) → Groups k → Attempts k → Flights k → Holding k s server n ms → In m ms → m.server.0 ≡ server → (fields_at k m.a.0).primary_partner ≡ m.b.0 → nat_lt (last_of k s) n ≡ false → stale_refusal m.a.0 n k ≡ None → records n (fields_at k m.a.0) ≡ false → InAttempt k (Hold m.a.0 s n false) }
+    ensures frees { (k : Control) (s : ℕ) (x : Session) (m : Member) → Groups k → Attempts k → session_in k.sessions s ≡ Some x → In m x.members → Due k.flight x m.server.0 phases.Release x.last → InAttempt k (Free m.a.0) }
+    ensures seals { (k : Control) (s : ℕ) (x : Session) (m : Member) (n : ℕ) → Groups k → Attempts k → session_in k.sessions s ≡ Some x → In m x.members → x.last ≡ n → Due k.flight x m.server.0 phases.Seal n → records n (fields_at k m.a.0) ≡ true → InAttempt k (Seal m.b.0 m.a.0 s n) }
+    ensures flashes { (k : Control) (s : ℕ) (x : Session) (m : Member) (n : ℕ) → Groups k → Attempts k → session_in k.sessions s ≡ Some x → In m x.members → x.last ≡ n → Due k.flight x m.server.0 phases.Flash n → send_refusal m.a.0 m.b.0 k ≡ None → flash_refusal m.b.0 m.c.0 n k ≡ None → is_flashed n (fields_at k m.c.0) ≡ false → InAttempt k (Flash m.c.0 m.b.0 m.a.0 s n) }
+    ensures commits { (k : Control) (s : ℕ) (x : Session) (m : Member) (n : ℕ) → Groups k → Attempts k → Flights k → session_in k.sessions s ≡ Some x → In m x.members → x.last ≡ n → Due k.flight x m.server.0 phases.Commit n → send_refusal m.a.0 m.b.0 k ≡ None → commit_refusal m.c.0 n k ≡ None → is_committed n (fields_at k m.c.0) ≡ false → InAttempt k (Commit m.c.0 m.a.0 s n) }
+    ensures reverts { (k : Control) (s : ℕ) (x : Session) (m : Member) (n : ℕ) → Groups k → Attempts k → Flights k → session_in k.sessions s ≡ Some x → In m x.members → x.last ≡ n → Due k.flight x m.server.0 phases.Revert n → send_refusal m.a.0 m.b.0 k ≡ None → is_flashed n (fields_at k m.c.0) ≡ true → InAttempt k (Revert m.c.0 m.a.0 s n) }
+    ensures raises { (k : Control) (s : ℕ) (x : Session) (m : Member) (n : ℕ) → Groups k → Attempts k → session_in k.sessions s ≡ Some x → In m x.members → n ≤ x.last → Due k.flight x m.server.0 phases.Revert n → is_flashed n (fields_at k m.c.0) ≡ false → nat_lt (fields_at k m.c.0).floor n ≡ true → InAttempt k (RaiseFloor m.c.0 n) }
+    ensures finishes { (k : Control) (s : ℕ) (x : Session) (m : Member) (n : ℕ) → Groups k → Attempts k → session_in k.sessions s ≡ Some x → In m x.members → n ≤ x.last → InAttempt k (Finish m.a.0 n) }
     ensures leaves { (k : Control) (s : ℕ) (x : Session) (m : Member) → Groups k → Attempts k → session_in k.sessions s ≡ Some x → In m x.members → busy x.mirror ≡ None → InAttempt k (Leave m.c.0 m.a.0 s) }
     ensures added { (k : Control) (m : Member) (n : ℕ) → find (has_place_of m) k.sessions ≡ None → InAttempt k (RaiseAttempt m.a.0 n) × InAttempt k (RaiseFloor m.c.0 n) }
 {}

@@ -13,6 +13,7 @@ use Rattle.dr_model.specs.Moves.{Hold}
 use Rattle.dr_model.specs.Entries.{fields_at}
 use Rattle.dr_model.specs.Sessions.{Session, changed, begun}
 use Rattle.dr_model.specs.Table.{table}
+use Rattle.dr_model.specs.Messages.{Flight}
 use Rattle.dr_model.specs.Groups.{In, IsMember, HoldsMember, OpensAttempt}
 use Rattle.dr_model.specs.Attempts.{Seen, AllHeld, AttemptOf, InPhase, phase_of, owed_of, reports_of, all_seen, seen, roles, committed}
 use Rattle.dr_model.specs.Laws.{SoundBut, AllPending, servers}
@@ -28,9 +29,11 @@ use Rattle.dr_laws_cuts.specs.Sound.{SoundCuts}
 use Rattle.dr_facts.proofs.Tables.{IsOrNot}
 use Rattle.dr_laws_cuts.proofs.KeepsCut.{fresh}
 use Rattle.dr_laws_closed.specs.Moments.{Moments, Standing, moments, standing}
-use Rattle.dr_laws_closed.specs.Closing.{AllFields, IsEarly, CountsFor, number_kept, MemberCounts, ClosingIn, Closing}
+use Rattle.dr_model.specs.Flights.{IsEarly, ComesAfterHolds}
+use Rattle.dr_laws_closed.specs.Closing.{AllFields, AwaitsFlash, CountsFor, number_kept, MemberCounts, ClosingIn, Closing}
 use Rattle.dr_laws_closed.proofs.Told.{ToldOf}
 use Rattle.dr_laws_closed.proofs.Landed.{free-held}
+use Rattle.dr_laws_closed.proofs.Flown.{closing-flown, eases-same}
 use Rattle.dr_laws_closed.proofs.Counts.{numbered, does-count, shown-plain}
 use Rattle.dr_laws_closed.proofs.Holds.{Under, Held, closing-held}
 use Rattle.dr_logic.proofs.Truth.{false_true}
@@ -92,7 +95,7 @@ module _ (starts : Option ℕ) (w : World) (sound : SoundBut starts w) (kept : S
       back-by z (inl o) = inr o
       back-by z (inr b) = inl (b.is ∙ ap begun (same-as b.from b.listed b.number))
 
-      opens : Held k.sessions (changed s begun k.sessions) (fields_at k) c g v s n
+      opens : Held k.sessions (changed s begun k.sessions) k.flight (fields_at k) c g v s n
       opens = record {
         from = p.session;
         listed = p.listed;
@@ -110,7 +113,7 @@ module _ (starts : Option ℕ) (w : World) (sound : SoundBut starts w) (kept : S
         same = same-as;
         place = at-session;
         under = λ q here rec. false_true (quiet-silent k p.session q sound.groups p.listed (idle-quiet p.session p.mirror p.has_master idle) here) rec;
-        unsealed = λ early q here. low-seal q here;
+        unsealed = λ awaited q here. low-seal q here;
         unflashed = λ q here. quiet-unflashed (roles k) p.session (idle-quiet p.session p.mirror p.has_master idle) (sound.attempts.sessions p.session p.listed) (seen (roles k) q) (to-map (seen (roles k)) p.session.members q here);
         unstood = never-stood;
         fresh = newest a;
@@ -151,6 +154,11 @@ module _ (starts : Option ℕ) (w : World) (sound : SoundBut starts w) (kept : S
       unsealed-in phase.Flashing early h = λ u i. absurd (unheld h.held)
       unsealed-in q early h = absurd early
 
+      -- a flash is on its way only after all holds
+      unsealed : AwaitsFlash k.flight p.session → (u : Seen) → In u vs → u.seal ≢ p.session.last
+      unsealed (inl early) = unsealed-in (phase_of p.session.mirror) early own.phase
+      unsealed (inr flies) = absurd (unheld ((sound.flights.each p.session p.listed).after_holds flies.one flies.is.order flies.is.number (subst ComesAfterHolds (sym flies.is.works) tt)))
+
       none-by : (q : Member) → In q p.session.members → CountsFor n (fields_at k q.c.0) → n ≤ p.session.last → ⊥
       none-by q here (inl o) low = false_true (unflashed (seen (roles k) q) (see q here)) o.0
       none-by q here (inr o) low =
@@ -173,7 +181,7 @@ module _ (starts : Option ℕ) (w : World) (sound : SoundBut starts w) (kept : S
         cut = subst (λ j. c.by j q.a.0 ≡ Some s) (sym last) ((old.records p.session q p.listed here rec).by ∙ ap Some p.number);
       }
 
-      holds : Held k.sessions k.sessions (fields_at k) c g v s n
+      holds : Held k.sessions k.sessions k.flight (fields_at k) c g v s n
       holds = record {
         from = p.session;
         listed = p.listed;
@@ -192,7 +200,7 @@ module _ (starts : Option ℕ) (w : World) (sound : SoundBut starts w) (kept : S
         place = at-session;
         under = under;
         unflashed = λ q here. unflashed (seen (roles k) q) (see q here);
-        unsealed = λ early q here e. unsealed-in (phase_of p.session.mirror) early own.phase (seen (roles k) q) (see q here) (e ∙ last);
+        unsealed = λ awaited q here e. unsealed awaited (seen (roles k) q) (see q here) (e ∙ last);
         unstood = none-stands;
         fresh = newest a;
       }
@@ -203,27 +211,31 @@ module _ (starts : Option ℕ) (w : World) (sound : SoundBut starts w) (kept : S
 
   -- ---- where they lead
 
-  module _ (us : List Session) (h : Held k.sessions us (fields_at k) c g v s n) (first : Bool) (idle : AllPending (λ p. p.landed ≡ true → servers k p.volume ≡ servers k v → ⊥) k.pending) where
-    leads : (x : World) → ToldOf w.events x.events (Hold v s n first) (k.volume v) → x.control.sessions ≡ us → fields_at x.control ≡ at (fields_at k) v (held_for n (fields_at k v)) → x.control.pending ≡ k.pending → Closing x
-    leads x told sessions fields pending =
+  module _ (us : List Session) (h : Held k.sessions us k.flight (fields_at k) c g v s n) (first : Bool) (idle : AllPending (λ p. p.landed ≡ true → servers k p.volume ≡ servers k v → ⊥) k.pending) where
+    leads : (x : World) → ToldOf w.events x.events (Hold v s n first) (k.volume v) → x.control.sessions ≡ us → x.control.flight.messages ≡ k.flight.messages → fields_at x.control ≡ at (fields_at k) v (held_for n (fields_at k v)) → x.control.pending ≡ k.pending → Closing x
+    leads x told sessions messages fields pending =
         let C : Cuts = cuts x.events in
         let N : Moments = moments x.events in
         let G : Standing = standing x.events in
         let now : Lists = lists x.events in
         let F : AllFields = at (fields_at k) v (held_for n (fields_at k v)) in
-        subst (λ ss. ClosingIn ss (fields_at x.control) x.control.pending now C N G) (sym sessions)
-        (subst (λ (f : AllFields). ClosingIn us f x.control.pending now C N G) (sym fields)
-        (subst (λ (ps : List Pending). ClosingIn us F ps now C N G) (sym pending)
-        (subst (λ C. ClosingIn us F k.pending now C N G) (sym told.cut)
-        (subst (λ N. ClosingIn us F k.pending now (cut_for s n v (lists w.events) c) N G) (sym told.moment)
-        (subst (λ G. ClosingIn us F k.pending now (cut_for s n v (lists w.events) c) (at2 (moments w.events) s n (lists w.events)) G) (sym told.stand)
-        (closing-held k.sessions us (fields_at k) k.pending k.pending (lists w.events) now c (moments w.events) g v s n h old (λ u t. told.list u t tt)
-        (free-held (fields_at k) v (held_for n (fields_at k v)) (servers k) k.pending idle old.free)))))))
+        let to : Flight = x.control.flight in
+        let cut : Cuts = cut_for s n v (lists w.events) c in
+        let moment : Moments = at2 (moments w.events) s n (lists w.events) in
+        subst (λ ss. ClosingIn ss to (fields_at x.control) x.control.pending now C N G) (sym sessions)
+        (subst (λ (f : AllFields). ClosingIn us to f x.control.pending now C N G) (sym fields)
+        (subst (λ (ps : List Pending). ClosingIn us to F ps now C N G) (sym pending)
+        (subst (λ C. ClosingIn us to F k.pending now C N G) (sym told.cut)
+        (subst (λ N. ClosingIn us to F k.pending now cut N G) (sym told.moment)
+        (subst (λ G. ClosingIn us to F k.pending now cut moment G) (sym told.stand)
+        (closing-flown us k.flight to F k.pending now cut moment g (eases-same us k.flight to messages)
+        (closing-held k.sessions us k.flight (fields_at k) k.pending k.pending (lists w.events) now c (moments w.events) g v s n h old (λ u t. told.list u t tt)
+        (free-held (fields_at k) v (held_for n (fields_at k v)) (servers k) k.pending idle old.free))))))))
 
   pub opened : (o : OpensAttempt k v s n) → MayHold (table w) v n → AllPending (λ p. p.landed ≡ true → servers k p.volume ≡ servers k v → ⊥) k.pending
-      → (x : World) → ToldOf w.events x.events (Hold v s n true) (k.volume v) → x.control.sessions ≡ changed s begun k.sessions → fields_at x.control ≡ at (fields_at k) v (held_for n (fields_at k v)) → x.control.pending ≡ k.pending → Closing x
+      → (x : World) → ToldOf w.events x.events (Hold v s n true) (k.volume v) → x.control.sessions ≡ changed s begun k.sessions → x.control.flight.messages ≡ k.flight.messages → fields_at x.control ≡ at (fields_at k) v (held_for n (fields_at k v)) → x.control.pending ≡ k.pending → Closing x
   opened o a idle = leads (changed s begun k.sessions) (opens o.place o.idle o.next a) true idle
 
   pub held : (first : Bool) (o : HoldsMember k v s n) → (fields_at k v).attempt < n → MayHold (table w) v n → AllPending (λ p. p.landed ≡ true → servers k p.volume ≡ servers k v → ⊥) k.pending
-      → (x : World) → ToldOf w.events x.events (Hold v s n first) (k.volume v) → x.control.sessions ≡ k.sessions → fields_at x.control ≡ at (fields_at k) v (held_for n (fields_at k v)) → x.control.pending ≡ k.pending → Closing x
+      → (x : World) → ToldOf w.events x.events (Hold v s n first) (k.volume v) → x.control.sessions ≡ k.sessions → x.control.flight.messages ≡ k.flight.messages → fields_at x.control ≡ at (fields_at k) v (held_for n (fields_at k v)) → x.control.pending ≡ k.pending → Closing x
   held first o newer a idle = leads k.sessions (holds o.place newer o.last a) first idle

@@ -1,6 +1,6 @@
 -- A hold keeps the laws of closed cuts: the first of an attempt sets its moment, and each later one finds all other members that
 -- record held, so that they hold what they held at their cuts.
-use Rattle.std.proofs.Common.{ℕ, ◌≡◌, ◌≢◌, ◌⊎◌, inl, inr, refl, ap, sym, ◌∙◌, true, false, not, List, Some, None, subst}
+use Rattle.std.proofs.Common.{ℕ, ◌≡◌, ◌≢◌, ◌<◌, ◌⊎◌, inl, inr, refl, ap, sym, ◌∙◌, true, false, not, List, Some, None, subst}
 use Rattle.std.proofs.lemmas.Bool.Decides.{eqb_tells}
 use Rattle.dr_logic.specs.Tables.{at, at2}
 use Rattle.dr_ids.specs.declared.names.Member.{Member}
@@ -9,12 +9,12 @@ use Rattle.dr_model.specs.Histories.{Lists}
 use Rattle.dr_model.specs.Control.{Pending}
 use Rattle.dr_model.specs.Pairs.{primary_of, held_for}
 use Rattle.dr_model.specs.Sessions.{Session}
+use Rattle.dr_model.specs.Messages.{Flight}
 use Rattle.dr_model.specs.Groups.{In}
-use Rattle.dr_model.specs.Attempts.{phase_of}
 use Rattle.dr_model.specs.Cuts.{Cuts, cut_for}
 use Rattle.dr_facts.proofs.Tables.{IsOrNot, at_cases, at2_other}
 use Rattle.dr_laws_closed.specs.Moments.{Moments, Standing}
-use Rattle.dr_laws_closed.specs.Closing.{Whole, AllFields, HeldAsCut, LandedFree, RecordsWhole, IsEarly, SealedWhole, RevertibleWhole, StandsWhole, CountsFor, MemberCounts, StandsAsMember, Members, ClosingIn}
+use Rattle.dr_laws_closed.specs.Closing.{Whole, AllFields, HeldAsCut, LandedFree, RecordsWhole, AwaitsFlash, SealedWhole, RevertibleWhole, StandsWhole, CountsFor, MemberCounts, StandsAsMember, Members, ClosingIn}
 use Rattle.dr_logic.proofs.Truth.{false_true}
 use Rattle.dr_logic.proofs.Options.{none_some}
 use Rattle.dr_logic.proofs.Tables.{at2_same}
@@ -26,7 +26,7 @@ pub record Under (f : Fields) (c : Cuts) (s n a : ℕ) : Type 0 where
   pub cut : c.by n a ≡ Some s
 
 -- The session of the member that is held, before and after. Of the others each stays.
-pub record Held (ss us : List Session) (f : AllFields) (c : Cuts) (g : Standing) (v s n : ℕ) : Type 0 where
+pub record Held (ss us : List Session) (flight : Flight) (f : AllFields) (c : Cuts) (g : Standing) (v s n : ℕ) : Type 0 where
   pub from : Session
   pub listed : In from ss
   pub number : from.number ≡ s
@@ -43,13 +43,13 @@ pub record Held (ss us : List Session) (f : AllFields) (c : Cuts) (g : Standing)
   pub same : (z : Session) → In z ss → z.number ≡ s → z ≡ from
   pub place : (z : Session) (q : Member) → In z ss → In q z.members → q.a.0 ≡ v → z.number ≡ s
   pub under : (q : Member) → In q from.members → (f q.a.0).recording ≡ true → Under (f q.a.0) c s n q.a.0
-  pub unsealed : IsEarly (phase_of to.mirror) → (q : Member) → In q from.members → (f q.b.0).seal ≢ n
+  pub unsealed : AwaitsFlash flight to → (q : Member) → In q from.members → (f q.b.0).seal ≢ n
   pub unflashed : (q : Member) → In q from.members → (f q.c.0).revertible ≡ false
   pub unstood : (a : ℕ) → g s n a ≡ true → ⊥
   pub fresh : c.by n v ≡ None
 
-module _ (ss us : List Session) (f : AllFields) (ps qs : List Pending) (now then : Lists) (c : Cuts) (M : Moments) (g : Standing) (v s n : ℕ) (h : Held ss us f c g v s n)
-    (old : ClosingIn ss f ps now c M g) (lists : (u t : ℕ) → then u t ≡ now u t) where
+module _ (ss us : List Session) (flight : Flight) (f : AllFields) (ps qs : List Pending) (now then : Lists) (c : Cuts) (M : Moments) (g : Standing) (v s n : ℕ) (h : Held ss us flight f c g v s n)
+    (old : ClosingIn ss flight f ps now c M g) (lists : (u t : ℕ) → then u t ≡ now u t) where
   abbrev C : Cuts
   C = cut_for s n v now c
 
@@ -108,15 +108,19 @@ module _ (ss us : List Session) (f : AllFields) (ps qs : List Pending) (now then
       other ne rec (inl is) = at-to is (another q (in-from z q is here) ne rec)
       other ne rec (inr o) = still z.number z.last q.a.0 (λ e j. o.1 e) (old.records z q o.0 here rec)
 
-  sealed-then : Members us (SealedWhole F C N)
-  sealed-then z q i here early = at_cases (λ u y. q.b.0 ≡ u → primary_of y ≡ Some q.a.0 → y.seal ≡ z.last → Whole C N z.number z.last q.a.0) f v (held_for n (f v))
+  -- a hold leaves floors
+  floor-before : (u j : ℕ) → (F u).floor < j → (f u).floor < j
+  floor-before u j = at_cases (λ u (y : Fields). y.floor < j → (f u).floor < j) f v (held_for n (f v)) (λ low. low) (λ u ne low. low) u
+
+  sealed-then : Members us (SealedWhole F flight C N)
+  sealed-then z q i here awaited low = at_cases (λ u y. q.b.0 ≡ u → primary_of y ≡ Some q.a.0 → y.seal ≡ z.last → Whole C N z.number z.last q.a.0) f v (held_for n (f v))
       (λ e to is. by (h.back z i) (ap (λ u. primary_of (f u)) e ∙ to) (ap (λ u. (f u).seal) e ∙ is))
       (λ u ne e to is. by (h.back z i) (ap (λ u. primary_of (f u)) e ∙ to) (ap (λ u. (f u).seal) e ∙ is))
       q.b.0 refl
     where
       by : (z ≡ h.to) ⊎ (In z ss × (z.number ≢ s)) → primary_of (f q.b.0) ≡ Some q.a.0 → (f q.b.0).seal ≡ z.last → Whole C N z.number z.last q.a.0
-      by (inl same) to is = absurd (h.unsealed (subst (λ (z : Session). IsEarly (phase_of z.mirror)) same early) q (in-from z q same here) (is ∙ (ap (λ (z : Session). z.last) same ∙ h.to_last)))
-      by (inr o) to is = still z.number z.last q.a.0 (λ e j. o.1 e) (old.sealed z q o.0 here early to is)
+      by (inl same) to is = absurd (h.unsealed (subst (AwaitsFlash flight) same awaited) q (in-from z q same here) (is ∙ (ap (λ (z : Session). z.last) same ∙ h.to_last)))
+      by (inr o) to is = still z.number z.last q.a.0 (λ e j. o.1 e) (old.sealed z q o.0 here awaited (floor-before q.c.0 z.last low) to is)
 
   revertible-then : Members us (RevertibleWhole F C N)
   revertible-then z q i here = at_cases (λ u y. q.c.0 ≡ u → y.revertible ≡ true → Whole C N z.number z.last q.a.0) f v (held_for n (f v))
@@ -154,5 +158,5 @@ module _ (ss us : List Session) (f : AllFields) (ps qs : List Pending) (now then
       by : MemberCounts ss f z k x → MemberCounts us F z k x
       by c = which c (eqb_tells c.session.number s)
 
-  pub closing-held : LandedFree F qs → ClosingIn us F qs then C N g
+  pub closing-held : LandedFree F qs → ClosingIn us flight F qs then C N g
   closing-held free = record { held = held-then; free = free; records = records-then; sealed = sealed-then; revertible = revertible-then; whole = whole-then; members = members-then }

@@ -1,16 +1,17 @@
 -- What holds of a world's cuts by sessions: the cuts of an attempt are of one moment, and a group that was flashed has such cuts.
-use Rattle.std.specs.Prelude.{◌≡◌, ◌≤◌, ◌⊎◌, ℕ, true, false, List, Some, if◌then◌else◌}
+use Rattle.std.specs.Prelude.{◌≡◌, ◌<◌, ◌≤◌, ◌⊎◌, ℕ, true, false, List, Some, if◌then◌else◌}
 use Rattle.dr_ids.specs.declared.names.Member.{Member}
-use Rattle.dr_ids.specs.declared.refusal.PhaseName.{PhaseName}
-use Rattle.dr_ids.specs.declared.refusal.PhaseName.TheVariants as phase
 use Rattle.dr_model.specs.Layout.{Fields}
 use Rattle.dr_model.specs.Histories.{Lists, lists}
 use Rattle.dr_model.specs.Control.{Pending, World}
 use Rattle.dr_model.specs.Pairs.{primary_of}
 use Rattle.dr_model.specs.Entries.{fields_at}
+use Rattle.dr_model.specs.Phases as phases
 use Rattle.dr_model.specs.Sessions.{Session}
-use Rattle.dr_model.specs.Groups.{In}
-use Rattle.dr_model.specs.Attempts.{phase_of}
+use Rattle.dr_model.specs.Messages.{Flight, Message}
+use Rattle.dr_model.specs.Groups.{In, IsOrderFor}
+use Rattle.dr_model.specs.Attempts.{Any, phase_of}
+use Rattle.dr_model.specs.Flights.{IsEarly}
 use Rattle.dr_model.specs.Laws.{AllPending}
 use Rattle.dr_model.specs.Cuts.{Cuts, cuts}
 use Rattle.dr_laws_closed.specs.Moments.{Moments, Standing, moments, standing}
@@ -40,17 +41,13 @@ LandedFree f = AllPending (λ p. p.landed ≡ true → (f p.volume).coordination
 abbrev pub RecordsWhole : AllFields → Cuts → Moments → Session → Member → Type 0
 RecordsWhole f c M x m = (f m.a.0).recording ≡ true → Whole c M x.number x.last m.a.0
 
--- up to the last flash, so is that of a member whose secondary is sealed for it
-abbrev pub IsEarly : PhaseName → Type 0
-IsEarly phase.Coordinating = Unit {0}
-IsEarly phase.Releasing = Unit {0}
-IsEarly phase.Draining = Unit {0}
-IsEarly phase.Flashing = Unit {0}
-IsEarly p = ⊥
+-- a flash of a session's last attempt may come yet: its attempt is early, or such a message is in flight
+abbrev pub AwaitsFlash : Flight → Session → Type 0
+AwaitsFlash flight x = IsEarly (phase_of x.mirror) ⊎ Any (λ (m : Message). IsOrderFor flight x.number phases.Flash x.last m) flight.messages
 
--- While the last attempt is early, the cut of a member whose secondary is sealed for it is whole.
-abbrev pub SealedWhole : AllFields → Cuts → Moments → Session → Member → Type 0
-SealedWhole f c M x m = IsEarly (phase_of x.mirror) → primary_of (f m.b.0) ≡ Some m.a.0 → (f m.b.0).seal ≡ x.last → Whole c M x.number x.last m.a.0
+-- While one may, the cut of a member whose secondary is sealed for it is whole, unless the target's floor forbids a flash.
+abbrev pub SealedWhole : AllFields → Flight → Cuts → Moments → Session → Member → Type 0
+SealedWhole f flight c M x m = AwaitsFlash flight x → (f m.c.0).floor < x.last → primary_of (f m.b.0) ≡ Some m.a.0 → (f m.b.0).seal ≡ x.last → Whole c M x.number x.last m.a.0
 
 -- that of a member whose target may still go back
 abbrev pub RevertibleWhole : AllFields → Cuts → Moments → Session → Member → Type 0
@@ -82,16 +79,16 @@ pub record MemberCounts (ss : List Session) (f : AllFields) (s n a : ℕ) : Type
 abbrev pub StandsAsMember : List Session → AllFields → Standing → Type 0
 StandsAsMember ss f g = (s n a : ℕ) → g s n a ≡ true → MemberCounts ss f s n a
 
--- all laws on the cuts of attempts, by sessions, fields, pending writes, lists, cuts, moments and who stands
-pub record ClosingIn (ss : List Session) (f : AllFields) (ps : List Pending) (now : Lists) (c : Cuts) (M : Moments) (g : Standing) : Type 0 where
+-- all laws on the cuts of attempts, by sessions, messages in flight, fields, pending writes, lists, cuts, moments and who stands
+pub record ClosingIn (ss : List Session) (flight : Flight) (f : AllFields) (ps : List Pending) (now : Lists) (c : Cuts) (M : Moments) (g : Standing) : Type 0 where
   pub held : (v : ℕ) → HeldAsCut now c v (f v)
   pub free : LandedFree f ps
   pub records : Members ss (RecordsWhole f c M)
-  pub sealed : Members ss (SealedWhole f c M)
+  pub sealed : Members ss (SealedWhole f flight c M)
   pub revertible : Members ss (RevertibleWhole f c M)
   pub whole : StandsWhole c M g
   pub members : StandsAsMember ss f g
 
 -- in a world
 abbrev pub Closing : World → Type 0
-Closing w = ClosingIn w.control.sessions (fields_at w.control) w.control.pending (lists w.events) (cuts w.events) (moments w.events) (standing w.events)
+Closing w = ClosingIn w.control.sessions w.control.flight (fields_at w.control) w.control.pending (lists w.events) (cuts w.events) (moments w.events) (standing w.events)

@@ -38,8 +38,9 @@ Untouched write (Flash x u a s n) v = v ≢ x
 Untouched write (Revert x a s n) v = v ≢ x
 Untouched write m v = Unit {0}
 
--- the second world has the fields that the move leaves, these sessions, and these pending writes
+-- the second world has the fields that the move leaves, these sessions, the same messages in flight, and these pending writes
 pub record MovesTo (w x : World) (m : Move) (us : List Session) (ps : List Pending) : Type 0 where
   pub fields : fields_at x.control ≡ at (fields_at w.control) (target m) (fields_left m (w.control.volume (target m)))
   pub sessions : x.control.sessions ≡ us
+  pub messages : x.control.flight.messages ≡ w.control.flight.messages
   pub pending : x.control.pending ≡ ps

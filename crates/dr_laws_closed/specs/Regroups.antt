@@ -4,10 +4,13 @@ use Rattle.std.specs.Prelude.{◌≡◌, ◌⊎◌, List}
 use Rattle.dr_ids.specs.declared.names.Member.{Member}
 use Rattle.dr_ids.specs.declared.refusal.PhaseName.{PhaseName}
 use Rattle.dr_ids.specs.declared.refusal.PhaseName.TheVariants as phase
+use Rattle.dr_model.specs.Phases as phases
 use Rattle.dr_model.specs.Sessions.{Session}
-use Rattle.dr_model.specs.Groups.{In}
+use Rattle.dr_model.specs.Messages.{Flight, Message}
+use Rattle.dr_model.specs.Groups.{In, IsOrderFor}
 use Rattle.dr_model.specs.Attempts.{phase_of}
-use Rattle.dr_laws_closed.specs.Closing.{IsEarly}
+use Rattle.dr_model.specs.Flights.{IsEarly}
+use Rattle.dr_laws_closed.specs.Closing.{AwaitsFlash}
 
 -- phase q follows on p: it is Coordinating, or one up to the last flash, only where p is
 pub record Eases (p q : PhaseName) : Type 0 where
@@ -35,3 +38,7 @@ pub record Rests (ss : List Session) (y : Session) (m : Member) : Type 0 where
 -- each member of the new table stays in its session and attempt, or its session is Idle
 abbrev pub Regroups : List Session → List Session → Type 0
 Regroups ss us = (y : Session) (m : Member) → In y us → In m y.members → Stays ss y m ⊎ Rests ss y m
+
+-- other messages are in flight, and no flash of an attempt that wasn't awaited
+abbrev pub EasesFlight : List Session → Flight → Flight → Type 0
+EasesFlight ss flight later = (x : Session) (m : Message) → In x ss → IsOrderFor later x.number phases.Flash x.last m → AwaitsFlash flight x

@@ -6,6 +6,7 @@ ghost use Rattle.std.specs.Prelude.{◌≡◌, ◌≢◌, ◌++◌, ℕ, Bool, t
 ghost use Rattle.std.specs.List.{find};
 ghost use Rattle.dr_logic.specs.Tables.{at};
 ghost use Rattle.dr_ids.specs.declared.names.Member.{Member};
+ghost use Rattle.dr_ids.specs.declared.refusal.PhaseName.TheVariants as phase;
 ghost use Rattle.dr_model.specs.declared.event.Event.{Event};
 ghost use Rattle.dr_model.specs.declared.event.Event.TheVariants.{Ack};
 ghost use Rattle.dr_model.specs.Layout.{no_fields};
@@ -14,9 +15,11 @@ ghost use Rattle.dr_model.specs.Phases as phases;
 ghost use Rattle.dr_model.specs.Control.{Control, Pending, Volume, World, is_volume, nothing};
 ghost use Rattle.dr_model.specs.Moves.{Move, Hold, settled, settled_in_stop, target, told, told_in_stop};
 ghost use Rattle.dr_model.specs.Entries.{fields_at};
-ghost use Rattle.dr_model.specs.Sessions.{Session, session_in, has_place_of, changed, begun, joined, left, mirrored_by, unmirrored, paused, with_master, lost_since, raised, with_member, without_member};
-ghost use Rattle.dr_model.specs.Groups.{Groups};
+ghost use Rattle.dr_model.specs.Sessions.{Session, Mirror, session_in, has_place_of, changed, begun, joined, left, mirrored_by, unmirrored, paused, with_master, lost_since, raised, with_member, without_member};
+ghost use Rattle.dr_model.specs.Messages.{Flight, Message, sent, answered};
+ghost use Rattle.dr_model.specs.Groups.{In, Groups};
 ghost use Rattle.dr_model.specs.Attempts.{Attempts};
+ghost use Rattle.dr_model.specs.Flights.{Flights};
 ghost use Rattle.dr_model.specs.Laws.{SoundBut};
 ghost use Rattle.dr_model.specs.Allowed.{May, MayOpen};
 ghost use Rattle.dr_model.specs.Cuts.{Cuts, cuts};
@@ -25,10 +28,10 @@ ghost use Rattle.dr_laws_sessions.specs.Frames.{Quiet};
 ghost use Rattle.dr_laws_cuts.specs.Once.{CutOnce, NoCuts};
 ghost use Rattle.dr_laws_cuts.specs.Sound.{SoundCuts};
 ghost use Rattle.dr_laws_closed.specs.Moments.{Moments, Standing, moments, standing};
-ghost use Rattle.dr_laws_closed.specs.Closing.{StandsWhole, LandedFree, ClosingIn, Closing};
+ghost use Rattle.dr_laws_closed.specs.Closing.{AllFields, StandsWhole, LandedFree, ClosingIn, Closing};
 ghost use Rattle.dr_laws_closed.specs.Silent.{AllStill, Silent};
 ghost use Rattle.dr_laws_closed.specs.Next.{next_moments, next_standing, MovesTo};
-ghost use Rattle.dr_laws_closed.specs.Regroups.{Regroups};
+ghost use Rattle.dr_laws_closed.specs.Regroups.{Regroups, EasesFlight};
 ghost use Rattle.dr_laws_closed.specs.Example.{held, torn, parted};
 
 /// Where each cut stands behind the begin of its attempt, no volume is cut twice for one number, and each primary that stands in a group
@@ -65,22 +68,34 @@ pub fn moves_keep_closed_cuts()
 /// They stay where events are told of which no cut, no group and no held volume hears; where a write that landed in a stop is
 /// acknowledged, on a volume that isn't held; and where a volume is defined.
 pub fn what_moves_nothing_keeps_closed_cuts()
-    ensures told { (w x : World) (more : List Event) → Closing w → NoCuts more → AllStill more → x.events ≡ w.events ++ more → x.control.sessions ≡ w.control.sessions →
+    ensures told { (w x : World) (more : List Event) → Closing w → NoCuts more → AllStill more → x.events ≡ w.events ++ more → x.control.sessions ≡ w.control.sessions → x.control.flight.messages ≡ w.control.flight.messages →
         ((v : ℕ) → (fields_at w.control v).recording ≡ true → (fields_at w.control v).coordination ≡ true → (t : ℕ) → lists x.events v t ≡ lists w.events v t) →
         fields_at x.control ≡ fields_at w.control → LandedFree (fields_at w.control) x.control.pending → Closing x }
     ensures acknowledged { (w x : World) (n : ℕ) → Closing w → x.events ≡ w.events ++ Ack n ∷ [] → (fields_at w.control ((histories w.events).write n).volume).coordination ≡ false →
-        x.control.sessions ≡ w.control.sessions → fields_at x.control ≡ fields_at w.control → LandedFree (fields_at w.control) x.control.pending → Closing x }
-    ensures defined { (w x : World) (more : List Event) (v : ℕ) → Closing w → NoCuts more → AllStill more → x.events ≡ w.events ++ more → x.control.sessions ≡ w.control.sessions →
+        x.control.sessions ≡ w.control.sessions → x.control.flight.messages ≡ w.control.flight.messages → fields_at x.control ≡ fields_at w.control → LandedFree (fields_at w.control) x.control.pending → Closing x }
+    ensures defined { (w x : World) (more : List Event) (v : ℕ) → Closing w → NoCuts more → AllStill more → x.events ≡ w.events ++ more → x.control.sessions ≡ w.control.sessions → x.control.flight.messages ≡ w.control.flight.messages →
         is_volume w.control v ≡ false → Groups w.control → ((u t : ℕ) → u ≢ v → lists x.events u t ≡ lists w.events u t) →
         fields_at x.control ≡ at (fields_at w.control) v no_fields → x.control.pending ≡ w.control.pending → Closing x }
 {}
 
+/// They stay where other messages are in flight, and no flash of an attempt for which none was awaited: so it is where some are gone, where
+/// a master sends the order that it owes or the first hold of an attempt, and where a server answers.
+pub fn messages_keep_closed_cuts()
+    ensures kept { (ss : List Session) (flight later : Flight) (f : AllFields) (ps : List Pending) (now : Lists) (c : Cuts) (M : Moments) (g : Standing) → EasesFlight ss flight later → ClosingIn ss flight f ps now c M g → ClosingIn ss later f ps now c M g }
+    ensures fewer { (ss : List Session) (flight later : Flight) → ((m : Message) → In m later.messages → In m flight.messages) → EasesFlight ss flight later }
+    ensures sent { (k : Control) (x : Session) (r : Mirror) (server : ℕ) (o : phases.Order) → Groups k → In x k.sessions → x.mirror ≡ Some r → phases.order_for r.master server ≡ Some o → EasesFlight k.sessions k.flight (sent x.number server o k.flight) }
+    ensures held { (ss : List Session) (flight : Flight) (s server n : ℕ) → EasesFlight ss flight (sent s server (phases.numbered phases.Hold n) flight) }
+    ensures answered { (ss : List Session) (flight : Flight) (m : Message) (reply : phases.Reply) → EasesFlight ss flight (answered m reply flight) }
+{}
+
 /// They stay where the table of sessions changes in such a way that members stay in their session and its attempt, in a phase that isn't
 /// an earlier one, or their session is Idle. So it does in each line on sessions, where a master takes a reply, and where masters are
-/// lost.
+/// lost. They also stay where a session's master begins an attempt before any member is held.
 pub fn other_tables_of_sessions_keep_closed_cuts()
-    ensures kept { (k : Control) (us : List Session) (ps : List Pending) (now : Lists) (c : Cuts) (M : Moments) (g : Standing) → Groups k → Attempts k → Groups (record k { sessions = us }) → Attempts (record k { sessions = us }) →
-        Regroups k.sessions us → ClosingIn k.sessions (fields_at k) ps now c M g → ClosingIn us (fields_at k) ps now c M g }
+    ensures kept { (k : Control) (us : List Session) (later : Flight) (ps : List Pending) (now : Lists) (c : Cuts) (M : Moments) (g : Standing) → Groups k → Attempts k → Groups (record k { sessions = us; flight = later }) → Attempts (record k { sessions = us; flight = later }) →
+        Flights (record k { sessions = us; flight = later }) → Regroups k.sessions us → EasesFlight k.sessions k.flight later → ClosingIn k.sessions k.flight (fields_at k) ps now c M g → ClosingIn us later (fields_at k) ps now c M g }
+    ensures begun { (k : Control) (s : ℕ) (x : Session) (r : Mirror) (ps : List Pending) (now : Lists) (c : Cuts) (M : Moments) (g : Standing) → Groups k → Attempts k → session_in k.sessions s ≡ Some x → x.mirror ≡ Some r → r.master.phase ≡ phase.Idle →
+        ClosingIn k.sessions k.flight (fields_at k) ps now c M g → ClosingIn (changed s begun k.sessions) k.flight (fields_at k) ps now c M g }
     ensures joined { (k : Control) (s l : ℕ) → Groups k → Regroups k.sessions (joined s l k.sessions) }
     ensures left { (k : Control) (s l : ℕ) → Groups k → Regroups k.sessions (left s l k.sessions) }
     ensures mirrored { (k : Control) (s server : ℕ) → Groups k → Regroups k.sessions (changed s (mirrored_by server) k.sessions) }

@@ -5,6 +5,7 @@ use Rattle.dr_ids.specs.declared.names.Member.{Member}
 use Rattle.dr_ids.specs.declared.refusal.Decision.{Decision}
 use Rattle.dr_ids.specs.declared.refusal.Refusal.{Refusal}
 use Rattle.dr_ids.specs.declared.refusal.Refusal.TheVariants.{Stopped as StoppedIn}
+use Rattle.dr_model.specs.declared.event.Event.TheVariants.{Begin}
 use Rattle.dr_model.specs.declared.said.Said.{Said}
 use Rattle.dr_model.specs.declared.said.Said.TheVariants.{Done}
 use Rattle.dr_model.specs.declared.said.Addition.TheVariants.{Alone}
@@ -12,12 +13,17 @@ use Rattle.dr_model.specs.Histories.{histories}
 use Rattle.dr_model.specs.Control.{Control, World}
 use Rattle.dr_model.specs.Messages.{Flight}
 use Rattle.dr_model.specs.Sessions.{Session}
-use Rattle.dr_model.specs.Phases.{Work, Hold, Release, Seal, Flash, Commit, Revert, Finish, Report}
+use Rattle.dr_model.specs.Phases.{Order, Work, Hold, Release, Seal, Flash, Commit, Revert, Finish, Report}
 use Rattle.dr_model.specs.Carry.{Make, OpenAttempt, Pass, Do, Entry, carry}
 use Rattle.dr_model.specs.SessionEntries.{last_of, is_drained, is_past, hold_refusal, stale_refusal, void_refusal, seal_refusal, is_flashed, is_committed, flash_refusal, commit_refusal, member_entries, order_entries, add_entries, expel_entries}
+use Rattle.dr_model.specs.MessagePlans.{send_order}
 use Rattle.dr_model.specs.Plans.{Plan, same, none_follow, tables_plan}
 use Rattle.dr_model.specs.Runs.{begun}
 use Rattle.dr_model.specs.Laws.{Sound, AllPending}
+use Rattle.std.specs.List.{list_any}
+use Rattle.dr_model.proofs.Images.{histories-append}
+use Rattle.dr_laws_freezes.specs.Windows.{is_ack}
+use Rattle.dr_laws_freezes.proofs.KeepsWindow.{AllPassing}
 use Rattle.dr_laws_freezes.proofs.Fair.{Unacked}
 use Rattle.dr_model.specs.Moves.{Hold as HoldMove, Free, Seal as SealMove, Finish as FinishMove, RaiseAttempt, RaiseFloor, Flash as FlashMove, Commit as CommitMove, Revert as RevertMove, TakeOver}
 use Rattle.dr_model.specs.Layout.{is_part}
@@ -61,6 +67,27 @@ module _ (w : World) (k : Between w) where
           entries = fairly-nil (PlanFin Between rows-between answers-between p) None u (good-none u b.sound.rows) b;
           last = retabled-none;
         }
+
+  -- an order is sent, with which an attempt may begin
+  sent-sound : (i : ℕ) (b : Bool) (server : ℕ) (o : Order) → let p : Plan = send_order i b server (Some o) in StepHolds w p → Sound (begun w p)
+  unfolding carry
+  sent-sound i b server o holds = along.plan-keeps Sound RowsAt MayDo keeps-sound (λ v s. s.rows) w (send_order i b server (Some o)) holds
+
+  sent-fair : (i : ℕ) (b : Bool) (server : ℕ) (o : Order) → let p : Plan = send_order i b server (Some o) in Sound (begun w p) → AllPassing p.told → histories (w.events ++ p.told) ≡ histories w.events → ((n : ℕ) → list_any (is_ack n) p.told ≡ false) → Fair w p
+  sent-fair i b server o sound passing lists acks =
+      let p : Plan = send_order i b server (Some o) in
+      let u : World = begun w p in
+      let g : Between u = record { sound = sound; tidy = tidy-same w u refl refl (λ j h. h) (fresh-told w u p.told refl refl k.tidy.fresh.unacked acks k.tidy.fresh) k.tidy } in
+      record {
+        told = p.told;
+        begins = told-unchanged w u p.told refl passing lists refl refl refl refl (λ v t. refl);
+        entries = fairly-nil (PlanFin Between rows-between answers-between p) None u (good-none u g.sound.rows) g;
+        last = retabled-none;
+      }
+
+  pub fair-sent : (i : ℕ) (b : Bool) (server : ℕ) (o : Order) → StepHolds w (send_order i b server (Some o)) → Fair w (send_order i b server (Some o))
+  fair-sent i true server o holds = sent-fair i true server o (sent-sound i true server o holds) (tt, tt) (histories-append w.events (Begin i o.number ∷ [])) (λ n. refl)
+  fair-sent i false server o holds = sent-fair i false server o (sent-sound i false server o holds) tt (ap histories (append-nil w.events)) (λ n. refl)
 
   module _ (entries : List Entry) (last : Control → Control) (says : Control → Said) (leaves : Leaving (leaving entries last says)) (orders : Orders w (leaving entries last says)) where
     abbrev q : Plan

@@ -5,7 +5,8 @@ use Rattle.dr_model.specs.Phases as phases
 use Rattle.dr_model.specs.Messages as messages
 use Rattle.dr_model.specs.Sessions.{joined, left, changed, mirrored_by, paused, unmirrored, with_master}
 use Rattle.dr_model.specs.SessionEntries.{first_number, add_entries, expel_entries, order_entries, members_on}
-use Rattle.dr_model.specs.SessionPlans.{member_with, exchanged, says_phase}
+use Rattle.dr_model.specs.MessagePlans.{order_done}
+use Rattle.dr_model.specs.SessionPlans.{member_with, is_idle, exchanged, says_phase}
 use Rattle.dr_model.specs.Control.{Control, World, nothing}
 use Rattle.dr_model.specs.Plans.{Plan, same, always}
 use Rattle.dr_model.specs.RecoveryPlans.{decided_in, settle_on, recover_entries, says_recovered}
@@ -19,15 +20,18 @@ use Rattle.dr_model.specs.Runs.{Task}
 use Rattle.dr_laws_freezes.specs.Moments.{moments_from}
 use Rattle.dr_laws_freezes.specs.Windows.{FreezeCut}
 use Rattle.dr_laws_closed.proofs.Regroups.{regroups-same}
-use Rattle.dr_laws_sound.proofs.Cases.{Case, Says, DefinesServer, DefinesVolume, SetsLink, Issues, Writes, Applies, Lists, Shows, Stops, Arms, Starts, MakesFlash, RemovesFlash, ResyncsFlash, ReversesFlash, Copies, Destages, MakesPath, RemovesPath, MakesPair, RemovesPair, PausesPair, ResumesPair, FailsOver, FailsBack, Compares, Drains, Expires, Freezes, Unfreezes, MakesSession, RemovesSession, MakesMirror, PausesMirror, RemovesMirror, Aborts, AddsMember, RemovesMember, Exchanges, Loses, Recovers, Settles, added, expelled, aborted, ordered, Releases}
+use Rattle.dr_laws_sound.proofs.Cases.{Case, Says, DefinesServer, DefinesVolume, SetsLink, Issues, Writes, Applies, Lists, Shows, Stops, Arms, Starts, MakesFlash, RemovesFlash, ResyncsFlash, ReversesFlash, Copies, Destages, MakesPath, RemovesPath, MakesPair, RemovesPair, PausesPair, ResumesPair, FailsOver, FailsBack, Compares, Drains, Expires, Freezes, Unfreezes, MakesSession, RemovesSession, MakesMirror, PausesMirror, RemovesMirror, Aborts, AddsMember, RemovesMember, Exchanges, Sends, Delivers, TakesReply, Loses, Recovers, Settles, added, expelled, aborted, ordered, Releases}
 use Rattle.dr_laws_sound.proofs.Steps.{sound-nothing, case-holds, ending-holds}
 use Rattle.dr_laws_sound.proofs.FitsMembers.{orders-added, orders-expelled}
-use Rattle.dr_laws_sound.proofs.FitsOrders.{orders-ordered}
+use Rattle.dr_laws_sound.proofs.FitsExchanges.{orders-ordered}
+use Rattle.dr_laws_sound.proofs.FitsMessages.{orders-delivered}
 use Rattle.dr_laws_sound.proofs.FitsRecovery.{along-recover, along-settle}
 use Rattle.dr_laws_sound.proofs.FitsSessions.{Orders}
+use Rattle.dr_laws_sound.proofs.NewMessages.{adds-same}
+use Rattle.dr_laws_sound.proofs.GoesOn.{goes-same}
 use Rattle.dr_laws_sound.proofs.FitsFlash.{as_begun, sound-begun}
 use Rattle.dr_laws_sound.proofs.KeepsSound.{Along, over}
-use Rattle.dr_laws_freezes.proofs.FairSessions.{leaving, fair-sessions, fair-leaving, easy-add, easy-expel, easy-order, easy-recover, easy-settle}
+use Rattle.dr_laws_freezes.proofs.FairSessions.{leaving, fair-sessions, fair-sent, fair-leaving, easy-add, easy-expel, easy-order, easy-recover, easy-settle}
 use Rattle.dr_laws_freezes.proofs.Windows.{Chain, freeze-cut}
 use Rattle.dr_laws_freezes.proofs.Chains.{run-chain, Retabled, retabled-none}
 use Rattle.dr_laws_freezes.proofs.FairPlans.{Between}
@@ -55,7 +59,7 @@ between-nothing = record {
 
 -- a plan of entries that are allowed along
 alone : (w : World) → Sound w → (entries : List Entry) (says : Control → Said) → Along (as_begun w) entries → Orders w (leaving entries same says)
-alone w s entries says a = record { ends = Sound; complete = λ v y. y; begins = sound-begun w s; entries = a; follows = λ q v y. over v y; last = λ v y. y; turns = λ v y. regroups-same v.control.sessions }
+alone w s entries says a = record { ends = Sound; complete = λ v y. y; begins = sound-begun w s; entries = a; follows = λ q v y. over v y; last = λ v y. y; turns = λ v y. regroups-same v.control.sessions; adds = λ v y. adds-same v.control.sessions v.control.flight v.control.flight refl; goes = λ v y. goes-same v.control }
 
 pub fair-case : (w : World) (k : Between w) (line : ℕ) (p : Plan) → Case w.control w.events line p → Fair w p
 fair-case w k line _ (Says a) = fair-says w k line a
@@ -96,6 +100,12 @@ fair-case w k line _ (MakesMirror owner i x found free l owned) = fair-sessions 
 fair-case w k line _ (PausesMirror i on) = fair-sessions w k (changed i (paused on)) (λ k. k.flight) (always (Done Alone)) (case-holds w k.sound line _ (PausesMirror i on))
 fair-case w k line _ (RemovesMirror i x found free) = fair-sessions w k (changed i unmirrored) (λ k. k.flight) (always (Done Alone)) (case-holds w k.sound line _ (RemovesMirror i x found free))
 fair-case w k line _ (Aborts i x found free) = fair-sessions w k (changed i (with_master phases.aborted)) (λ k. messages.aborted i x.mirror k.flight) (says_phase i) (case-holds w k.sound line _ (Aborts i x found free))
+fair-case w k line _ (Sends i server x r o posts) = fair-sent w k i (is_idle r.master.phase) server o (case-holds w k.sound line _ (Sends i server x r o posts))
+fair-case w k line _ (TakesReply n m reply x r returns) =
+    fair-sessions w k (changed m.session (with_master (λ q. phases.taken q m.server reply))) (λ k. k.flight) (says_phase m.session) (case-holds w k.sound line _ (TakesReply n m reply x r returns))
+fair-case w k line _ (Delivers n m starts x r reaches) =
+    let ms : List Member = members_on m.server x.members in
+    fair-leaving w k (order_entries m.order.work m.session m.order.number ms) (order_done m ms).last (order_done m ms).says (λ k. record { sessions = _; flight = _; is = refl }) (orders-delivered w k.sound n m starts x r reaches) (easy-order m.order.work m.session m.order.number ms)
 fair-case w k line _ (Loses n) = fair-sessions w k (λ ss. ss) (λ k. messages.lost n k.flight) (always (Done Alone)) (case-holds w k.sound line _ (Loses n))
 fair-case w k line _ (AddsMember i a c x joins) =
     let m : Member = member_with w.control a c in

@@ -22,7 +22,7 @@ use Rattle.dr_model.specs.declared.state.PairState.TheVariants.{Suspended as Sus
 use Rattle.dr_model.specs.declared.step.Devs.{Devs}
 use Rattle.dr_model.specs.declared.step.Name.{Name}
 use Rattle.dr_model.specs.declared.step.Step.{Step}
-use Rattle.dr_model.specs.declared.step.Step.TheVariants.{Server, Volume, Link, Stop, StopAfter, Start, Issue, Write, Apply, Show, MakeFlash, RemoveFlash, ResyncFlash, ReverseFlash, Copy, Destage, MakePath, RemovePath, MakePair, RemovePair, PausePair, ResumePair, Failover, Failback, Drain, Expire, Freeze, Unfreeze, MakeSession, RemoveSession, AddMember, RemoveMember, MakeMirror, PauseMirror, ResumeMirror, RemoveMirror, Abort, Exchange, Lose, Compare, Recover, CommitFlash, RevertFlash, Image, ListPairs, ListFlashes, ListSession, ShowMirror, UnfreezeFlash}
+use Rattle.dr_model.specs.declared.step.Step.TheVariants.{Server, Volume, Link, Stop, StopAfter, Start, Issue, Write, Apply, Show, MakeFlash, RemoveFlash, ResyncFlash, ReverseFlash, Copy, Destage, MakePath, RemovePath, MakePair, RemovePair, PausePair, ResumePair, Failover, Failback, Drain, Expire, Freeze, Unfreeze, MakeSession, RemoveSession, AddMember, RemoveMember, MakeMirror, PauseMirror, ResumeMirror, RemoveMirror, Abort, Exchange, Send, Deliver, Lose, Compare, Recover, CommitFlash, RevertFlash, Image, ListPairs, ListFlashes, ListSession, ShowMirror, UnfreezeFlash}
 use Rattle.dr_model.specs.Refusals.{unknown, server_off, duplicate}
 use Rattle.dr_ids.specs.declared.refusal.Kind.TheVariants.{Message as OfMessage, Write as OfWrite}
 use Rattle.dr_model.specs.Control.{Control}
@@ -32,18 +32,18 @@ use Rattle.dr_model.specs.Entries.{is_at, fields_at, is_running, relation_state,
 use Rattle.dr_model.specs.PairEntries.{first_differing, are_linked, reach_refusal, refuse_if, differs_at, two_servers, stands_free, may_follow, make_entries, leads_to, belongs_to, let_go, remove_both, may_pause, tell_paused, may_resume, may_take_over, leads_as, fall_back_on, yield_on, follow_on, resume_on, tracks_to_send, is_copying}
 use Rattle.dr_model.specs.WriteEntries.{is_between, freeze_on, end_freeze, thaw_on, end_thaw, belongs, lift_on, flash_hold_on, flash_free_on, is_held_in}
 use Rattle.dr_model.specs.Phases as phases
-use Rattle.dr_model.specs.Messages.{Flight, Message, message_in}
-use Rattle.dr_model.specs.MessagePlans.{with_flight, on_message}
+use Rattle.dr_model.specs.Messages.{Flight, Message, Body, Asks, Replies, message_in}
+use Rattle.dr_model.specs.MessagePlans.{with_flight, on_message, send_refusal, send_order, send_on, order_refusal, order_done, replying, order_on, reply_refusal, reply_on, deliver_on}
 use Rattle.dr_model.specs.Messages as messages
 use Rattle.dr_model.specs.Sessions.{Session, Mirror, session_in, members_in, has_place_of, joined, left, changed, mirrored_by, paused, unmirrored, not_in_session, in_session, busy, leave_refusal, join_refusal, make_refusal, drop_refusal, abort_refusal}
 use Rattle.dr_model.specs.SessionEntries.{first_number, members_on, raise_attempt_on, raise_floor_on}
 use Rattle.dr_model.specs.RecoveryPlans.{decided_in, take_over_on, settle_on, end_recovery, recover_done, recover_plan, secondary_refusal, lets_commit, lets_revert, settle_member, settle_target, settle_plan, settle_refusal, member_of_target, revertible_target}
-use Rattle.dr_model.specs.SessionPlans.{table_plan, name_refusal, off_refusal, on_both, add_plan, add_to, add_target, member_target, expel_plan, expel_done, expel_found, outside_refusal, master_refusal, place_refusal, taken_refusal, copy_refusal, member_with, exchange_refusal, exchange_done, exchange_on, order_of}
+use Rattle.dr_model.specs.SessionPlans.{table_plan, name_refusal, off_refusal, on_both, add_plan, add_to, add_target, member_target, expel_plan, expel_done, expel_found, outside_refusal, master_refusal, place_refusal, taken_refusal, copy_refusal, member_with, is_idle, exchange_refusal, exchange_done, exchange_on, order_of}
 use Rattle.dr_model.specs.Plans.{Plan, plan_of, same, entries_plan, tables_plan, only_says, refuses, unless, on_named, on_owner, on_session, is_defined, is_owner, server_named, name_bytes, counted_refusal, restore_refusal, left_by, member_refusal, found_volumes, found_pair, differ, is_no_source, has_few_targets, is_plain_target, is_recorded_target, is_lone_restore, may_return, may_give_back, may_copy, at_most, left_to_copy, drain_plan, stop_on, stop_done, arm_on, expire_on, link_between, link_done, on_server, owner_of, server_refusal, server_done, volume_refusal, volume_done, issue_refusal, issue_done, show_refusal, show_done, expire_plan, path_refusal, make_path_done, unpath_refusal, remove_path_done, freeze_refusal, freeze_done, thaw_refusal, unfreeze_done, hold_first, release_refusal, release_done, redo_now, destage_entries}
 use Rattle.dr_ids.specs.declared.refusal.Refusal.TheVariants.{JournalFull, Syntax}
 use Rattle.dr_logic.specs.Tables.{at}
 use Rattle.dr_model.specs.declared.event.Event.{Event}
-use Rattle.dr_model.specs.declared.event.Event.TheVariants.{Ack, Issue as IssueTold, Stopped, Started, Volume as VolumeDefined}
+use Rattle.dr_model.specs.declared.event.Event.TheVariants.{Ack, Begin, Issue as IssueTold, Stopped, Started, Volume as VolumeDefined}
 use Rattle.dr_model.specs.declared.said.Addition.TheVariants.{Counted}
 use Rattle.dr_model.specs.declared.step.Step.TheVariants.{Run}
 use Rattle.dr_model.specs.Answers.{answer}
@@ -68,7 +68,7 @@ use Rattle.dr_logic.proofs.Tables.{at_same, at_other}
 use Rattle.dr_logic.proofs.Truth.{false_true}
 use Rattle.dr_laws_closed.proofs.Pendings.{each-on, all-more}
 use Rattle.dr_laws_sound.specs.Acknowledged.{acknowledgements}
-use Rattle.dr_laws_sound.proofs.Cases.{added, expelled, aborted, is-new}
+use Rattle.dr_laws_sound.proofs.Cases.{added, expelled, aborted, taken, is-new}
 use Rattle.dr_laws_sound.proofs.RecoveryEntries.{settle-cases}
 use Rattle.dr_laws_sound.proofs.Starts.{find-all}
 use Rattle.dr_laws_sound.proofs.HushedPlans.{if-plan, unless-plan, named-plan, owner-plan, session-plan, volume-plan}
@@ -416,6 +416,35 @@ module _ (v b s : ℕ) (base : List Event) (w : World) (k : Frozen v b s none ba
   exchange-kept i server None reply ms = refused (OutOfOrder phase.None)
   exchange-kept i server (Some r) reply ms = one (exchange_refusal c r server ms) _ (done-kept i server reply (members_on server ms) (order_of r server))
 
+  -- ---- sends and deliveries
+
+  post-kept : (i : ℕ) (begins : Bool) (server : ℕ) (o : Option phases.Order) → P (send_order i begins server o)
+  post-kept i begins server None = refused (OutOfOrder phase.None)
+  post-kept i true server (Some o) = tells (send_order i true server (Some o)) (stays _ refl refl) refl refl (with-told w (Begin i o.number ∷ []) refl) refl empty (λ q. empty) (λ u j. j)
+  post-kept i false server (Some o) = tells (send_order i false server (Some o)) (stays _ refl refl) refl refl (with-told w [] refl) refl empty (λ q. empty) (λ u j. j)
+
+  send-kept : (i server : ℕ) (m : Option Mirror) (ms : List Member) → P (send_on c i m server ms)
+  send-kept i server None ms = refused (OutOfOrder phase.None)
+  send-kept i server (Some r) ms = one (send_refusal c r server ms) _ (post-kept i (is_idle r.master.phase) server (order_of r server))
+
+  order-kept : (m : Message) (starts : ℕ) (ms : List Member) (o : Option Mirror) → P (order_on c m starts ms o)
+  order-kept m starts ms None = refused (OutOfOrder phase.None)
+  order-kept m starts ms (Some r) = one (order_refusal c r m starts) (order_done m (members_on m.server ms))
+      (tells (order_done m (members_on m.server ms)) k.rooted refl refl (with-told w [] refl) refl (calm-order v b s none base m.session m.order.number m.order.work (members_on m.server ms)) (λ q. empty)
+      (λ u j. tables-last u u.control.sessions (replying m (members_on m.server ms) u.control).flight j))
+
+  reply-kept : (m : Message) (reply : phases.Reply) (o : Option Mirror) → P (reply_on c m reply o)
+  reply-kept m reply None = refused (OutOfOrder phase.None)
+  reply-kept m reply (Some r) = one (reply_refusal c r m) (taken m reply) (tells (taken m reply) (stays _ refl refl) refl refl (with-told w [] refl) refl empty (λ q. empty) (λ u j. j))
+
+  body-kept : (m : Message) (x : Session) (body : Body) → P (deliver_on c m x body)
+  body-kept m x (Asks starts) = one (off_refusal c m.server) (order_on c m starts x.members x.mirror) (order-kept m starts x.members x.mirror)
+  body-kept m x (Replies reply) = reply-kept m reply x.mirror
+
+  delivers : (o : Option Message) → P (on_message o (λ m. on_session (session_in c.sessions m.session) (λ x. deliver_on c m x m.body)))
+  delivers None = refused (unknown OfMessage)
+  delivers (Some m) = ruled (session_in c.sessions m.session) (λ x. deliver_on c m x m.body) (λ x. body-kept m x m.body)
+
   settle-ok : (i : ℕ) (d : Decision) (m : Member) (u : World) → Fine u (settle_on i d m u.control)
   settle-ok i d m u = settle-cases (Fine u) i d m u.control tt (λ no-so n. tt) (λ yes-so n. tt)
 
@@ -575,6 +604,9 @@ module _ (v b s : ℕ) (base : List Event) (w : World) (k : Frozen v b s none ba
         (λ x. one (option_or (abort_refusal x.mirror) (master_refusal c x.mirror)) (aborted i x.mirror) (tells (aborted i x.mirror) (stays _ refl refl) refl refl (with-told w [] refl) refl empty (λ q. empty) (λ u j. j)))
     step-kept (Exchange i name reply) stay = ruled (session_in c.sessions i) (λ x. on_server c name (λ server. exchange_on c i x.mirror server reply x.members))
         (λ x. named (server_named c (name_bytes name)) (λ server. exchange_on c i x.mirror server reply x.members) (λ server. exchange-kept i server x.mirror reply x.members))
+    step-kept (Send i name) stay = ruled (session_in c.sessions i) (λ x. on_server c name (λ server. send_on c i x.mirror server x.members))
+        (λ x. named (server_named c (name_bytes name)) (λ server. send_on c i x.mirror server x.members) (λ server. send-kept i server x.mirror x.members))
+    step-kept (Deliver n) stay = delivers (message_in c.flight n)
     step-kept (Lose n) stay = loses n (message_in c.flight n)
     step-kept (Recover i) stay = recovers i
     step-kept (CommitFlash devs source sequence) stay = by-hand devs.dev lets_commit source

@@ -9,7 +9,7 @@ use Rattle.dr_ids.specs.declared.refusal.Decision.{Decision}
 use Rattle.dr_ids.specs.declared.refusal.PhaseName.{PhaseName}
 use Rattle.dr_ids.specs.declared.refusal.PhaseName.TheVariants as phase
 use Rattle.dr_ids.specs.declared.refusal.Refusal.{Refusal}
-use Rattle.dr_ids.specs.declared.refusal.Refusal.TheVariants.{OutOfOrder}
+use Rattle.dr_ids.specs.declared.refusal.Refusal.TheVariants.{OutOfOrder, OldMessage}
 use Rattle.dr_model.specs.declared.event.Event.{Event}
 use Rattle.dr_model.specs.declared.said.Said.{Said}
 use Rattle.dr_model.specs.declared.said.Said.TheVariants.{Done, Refused, Held}
@@ -19,7 +19,7 @@ use Rattle.dr_model.specs.declared.state.Part.TheVariants.{Global}
 use Rattle.dr_model.specs.declared.step.Name.{Name}
 use Rattle.dr_model.specs.declared.step.Devs.{Devs}
 use Rattle.dr_model.specs.declared.step.Step.{Step}
-use Rattle.dr_model.specs.declared.step.Step.TheVariants.{Server, Volume, Link, Stop, StopAfter, Start, Issue, Write, Apply, Show, MakeFlash, RemoveFlash, ResyncFlash, ReverseFlash, Copy, Destage, MakePath, RemovePath, MakePair, RemovePair, PausePair, ResumePair, Failover, Failback, Drain, Expire, Freeze, Unfreeze, MakeSession, RemoveSession, AddMember, RemoveMember, MakeMirror, PauseMirror, ResumeMirror, RemoveMirror, Abort, Exchange, Lose, Recover, CommitFlash, RevertFlash, ListPairs, ListFlashes, ListSession, ShowMirror, UnfreezeFlash}
+use Rattle.dr_model.specs.declared.step.Step.TheVariants.{Server, Volume, Link, Stop, StopAfter, Start, Issue, Write, Apply, Show, MakeFlash, RemoveFlash, ResyncFlash, ReverseFlash, Copy, Destage, MakePath, RemovePath, MakePair, RemovePair, PausePair, ResumePair, Failover, Failback, Drain, Expire, Freeze, Unfreeze, MakeSession, RemoveSession, AddMember, RemoveMember, MakeMirror, PauseMirror, ResumeMirror, RemoveMirror, Abort, Exchange, Send, Deliver, Lose, Recover, CommitFlash, RevertFlash, ListPairs, ListFlashes, ListSession, ShowMirror, UnfreezeFlash}
 use Rattle.dr_model.specs.Layout.{is_part}
 use Rattle.dr_model.specs.Limits.{most_servers, most_volumes, most_tracks, most_pending}
 use Rattle.dr_model.specs.Refusals.{server_off, unknown}
@@ -32,14 +32,15 @@ use Rattle.dr_model.specs.Pairs.{is_kind}
 use Rattle.dr_model.specs.Phases as phases
 use Rattle.dr_model.specs.Sessions.{Session, Mirror, members_in, changed, paused, unmirrored, session_in, in_session, is_member, has_subsystem, has_member_in, is_only, has_place_of, formation, unless_idle, busy, join_refusal, leave_refusal, last_refusal, make_refusal, drop_refusal, abort_refusal}
 use Rattle.dr_model.specs.SessionEntries.{members_on}
-use Rattle.dr_model.specs.Messages.{Message, message_in, lost}
-use Rattle.dr_model.specs.MessagePlans.{with_flight, on_message}
-use Rattle.dr_model.specs.SessionPlans.{with_sessions, appointed, on_both, join_plan, leave_plan, mirror_plan, pause_mirror_plan, unmirror_plan, abort_plan, add_plan, expel_plan, exchange_plan, member_target, member_with, name_refusal, off_refusal, outside_refusal, master_refusal, place_refusal, taken_refusal, copy_refusal, add_target, add_to, expel_found, exchange_refusal, phase_refusal, is_idle, exchange_done, exchange_on, order_of, mirror_phase, session_phase}
+use Rattle.dr_model.specs.Messages.{Message, Body, Asks, Replies, message_in, is_full, is_current, lost}
+use Rattle.dr_model.specs.MessagePlans.{with_flight, on_message, full_refusal, send_refusal, send_order, send_on, old_refusal, order_refusal, order_on, is_awaited, reply_refusal, reply_on, deliver_on}
+use Rattle.dr_model.specs.SessionPlans.{with_sessions, appointed, on_both, join_plan, leave_plan, mirror_plan, pause_mirror_plan, unmirror_plan, abort_plan, add_plan, expel_plan, exchange_plan, member_target, member_with, name_refusal, off_refusal, outside_refusal, master_refusal, place_refusal, taken_refusal, copy_refusal, add_target, add_to, expel_found, exchange_refusal, phase_refusal, apart_refusal, is_idle, exchange_done, exchange_on, order_of, mirror_phase, session_phase}
 use Rattle.dr_model.specs.RecoveryPlans.{recover_plan, settle_plan, secondary_refusal, untaken_refusal, settle_refusal, lets_commit, lets_revert, settle_member, settle_target, decided_in, group_of, says_group, member_of_target, revertible_target}
 use Rattle.dr_model.specs.WriteEntries.{says_written, waits}
 use Rattle.dr_model.specs.Listings.{listing_refusal}
 use Rattle.dr_model.specs.Plans.{Plan, tables_plan, plan, plan_of, has_room, unless, on_named, on_owner, on_session, server_named, server_refusal, volume_refusal, is_foreign, track_refusal, issue_refusal, show_refusal, apply_on, stop_on, start_on, expire_on, says_acked, landed_on, path_refusal, unpath_refusal, freeze_refusal, thaw_refusal, is_named, is_owner, name_bytes, owner_of, release_refusal, release_done}
 use Rattle.dr_laws_sound.proofs.StopsTold.{is_calm}
+use Rattle.dr_laws_sound.proofs.Cases.{taken}
 use Rattle.dr_laws_sound.proofs.CalmPlans.{Mild, mild-none, mild-some, mild-choice, mild-or, session-mild, send-mild, secondary-mild, forbidden-mild}
 
 -- an answer that refuses says neither a stop nor that the step isn't built
@@ -176,15 +177,49 @@ module _ (k : Control) where
   taken-mild : (x : Session) (a : ℕ) → Mild (taken_refusal k x a)
   taken-mild x a = mild-if (is_member a x) _ _ refl (mild-or (in_session (find (is_member a) k.sessions)) _ (session-mild (find (is_member a) k.sessions)) (busy-mild x.mirror))
 
+  phase-mild : (r : Mirror) (server : ℕ) (ms : List Member) → Mild (phase_refusal r server ms)
+  phase-mild r server ms = mild-choice (is_idle r.master.phase) _ _
+      (mild-if (r.paused || not (list_any (λ m. m.server.0 == server) ms)) _ _ refl (mild-if (r.master.number + 1 == 4294967296) _ None refl mild-none))
+      (mild-but (phases.is_among server r.master.owed) (OutOfOrder r.master.phase) refl)
+
+  apart-mild : (s u : ℕ) → Mild (apart_refusal k s u)
+  apart-mild s u = mild-but (nat_eq s u || k.link s u) (link_down s u) refl
+
+  full-mild : Mild (full_refusal k.flight)
+  full-mild = mild-if (is_full k.flight) _ None refl mild-none
+
+  old-mild : (m : Message) (current : Bool) → Mild (old_refusal m current)
+  old-mild m current = mild-but current (OldMessage m.number) refl
+
+  send-answers : (s server : ℕ) (o : Option Mirror) (ms : List Member) → Answers (send_on k s o server ms)
+  send-answers s server None ms = λ j. refl
+  send-answers s server (Some r) ms = unless-answers (send_refusal k r server ms) _ (mild-or (off_refusal k r.server) _ (off-mild r.server) (mild-or (phase_refusal r server ms) _ (phase-mild r server ms) full-mild)) (by (order_of r server))
+    where
+      by : (o : Option phases.Order) → Answers (send_order s (is_idle r.master.phase) server o)
+      by None = λ j. refl
+      by (Some o) = λ j. refl
+
+  order-answers : (m : Message) (starts : ℕ) (ms : List Member) (o : Option Mirror) → Answers (order_on k m starts ms o)
+  order-answers m starts ms None = λ j. refl
+  order-answers m starts ms (Some r) = unless-answers (order_refusal k r m starts) _
+      (mild-or (apart_refusal k r.server m.server) _ (apart-mild r.server m.server) (mild-or (full_refusal k.flight) _ full-mild (old-mild m (is_current k.flight m starts)))) (λ j. refl)
+
+  reply-answers : (m : Message) (reply : phases.Reply) (o : Option Mirror) → Answers (reply_on k m reply o)
+  reply-answers m reply None = λ j. refl
+  reply-answers m reply (Some r) = unless-answers (reply_refusal k r m) _
+      (mild-or (off_refusal k r.server) _ (off-mild r.server) (mild-or (apart_refusal k r.server m.server) _ (apart-mild r.server m.server) (old-mild m (is_awaited k.flight r m)))) (λ j. phase-calm (session_in j.sessions m.session))
+
+  body-answers : (m : Message) (x : Session) (b : Body) → Answers (deliver_on k m x b)
+  body-answers m x (Asks starts) = unless-answers (off_refusal k m.server) _ (off-mild m.server) (order-answers m starts x.members x.mirror)
+  body-answers m x (Replies reply) = reply-answers m reply x.mirror
+
+  deliver-answers : (o : Option Message) → Answers (on_message o (λ m. on_session (session_in k.sessions m.session) (λ x. deliver_on k m x m.body)))
+  deliver-answers None = λ j. refl
+  deliver-answers (Some m) = session-answers (session_in k.sessions m.session) (λ x. deliver_on k m x m.body) (λ x. body-answers m x m.body)
+
   exchange-mild : (r : Mirror) (server : ℕ) (ms : List Member) → Mild (exchange_refusal k r server ms)
   exchange-mild r server ms =
-      mild-or (off_refusal k r.server) _ (off-mild r.server) (mild-or (phase_refusal r server ms) _ phased (mild-or (off_refusal k server) _ (off-mild server)
-      (mild-but (nat_eq r.server server || k.link r.server server) (link_down r.server server) refl)))
-    where
-      phased : Mild (phase_refusal r server ms)
-      phased = mild-choice (is_idle r.master.phase) _ _
-          (mild-if (r.paused || not (list_any (λ m. m.server.0 == server) ms)) _ _ refl (mild-if (r.master.number + 1 == 4294967296) _ None refl mild-none))
-          (mild-but (phases.is_among server r.master.owed) (OutOfOrder r.master.phase) refl)
+      mild-or (off_refusal k r.server) _ (off-mild r.server) (mild-or (phase_refusal r server ms) _ (phase-mild r server ms) (mild-or (off_refusal k server) _ (off-mild server) (apart-mild r.server server)))
 
   pub exchange-answers : (s server : ℕ) (reply : Bool) (m : Option Mirror) (ms : List Member) → Answers (exchange_on k s m server reply ms)
   exchange-answers s server reply None ms = λ j. refl
@@ -357,6 +392,8 @@ module _ (k : Control) where
     of-answers (RemoveMirror devs l s) = unmirror-answers devs.dev l s
     of-answers (Abort s) = abort-answers s
     of-answers (Exchange s name reply) = exchange-said s name reply
+    of-answers (Send s name) = session-answers (session_in k.sessions s) _ (λ x. named-answers (server_named k (name_bytes name)) _ (λ server. send-answers s server x.mirror x.members))
+    of-answers (Deliver n) = deliver-answers (message_in k.flight n)
     of-answers (Lose n) = lose-answers n (message_in k.flight n)
     of-answers (Recover s) = recover-answers s
     of-answers (CommitFlash devs source sequence) = settle-answers devs.dev lets_commit source

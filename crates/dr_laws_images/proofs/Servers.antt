@@ -20,7 +20,7 @@ use Rattle.dr_model.specs.Forming.{Part}
 use Rattle.dr_model.specs.Runs.{Task, course, begun, finish, carried_out, after_plan, after_task, after_tasks, run}
 use Rattle.dr_facts.proofs.Lists.{any-some, found, not-found, is-met}
 use Rattle.dr_facts.proofs.Tables.{at_part}
-use Rattle.dr_laws_sound.proofs.Cases.{Case, Says, DefinesServer, DefinesVolume, SetsLink, Issues, Writes, Applies, Lists, Shows, Stops, Arms, Starts, MakesFlash, RemovesFlash, ResyncsFlash, ReversesFlash, Copies, Destages, MakesPath, RemovesPath, MakesPair, RemovesPair, PausesPair, ResumesPair, FailsOver, FailsBack, Compares, Drains, Expires, Freezes, Unfreezes, MakesSession, RemovesSession, MakesMirror, PausesMirror, RemovesMirror, Aborts, AddsMember, RemovesMember, Exchanges, Loses, Recovers, Settles, one-passed, Releases}
+use Rattle.dr_laws_sound.proofs.Cases.{Case, Says, DefinesServer, DefinesVolume, SetsLink, Issues, Writes, Applies, Lists, Shows, Stops, Arms, Starts, MakesFlash, RemovesFlash, ResyncsFlash, ReversesFlash, Copies, Destages, MakesPath, RemovesPath, MakesPair, RemovesPair, PausesPair, ResumesPair, FailsOver, FailsBack, Compares, Drains, Expires, Freezes, Unfreezes, MakesSession, RemovesSession, MakesMirror, PausesMirror, RemovesMirror, Aborts, AddsMember, RemovesMember, Exchanges, Sends, Delivers, TakesReply, Loses, Recovers, Settles, one-passed, Releases}
 use Rattle.dr_laws_sound.proofs.Parts.{Ending, OnePlan, Imaged, course-case, last-plan}
 use Rattle.dr_laws_sound.proofs.Turns.{act-cases, Counts, after_act}
 use Rattle.dr_laws_images.specs.OneServer.{OneServer}
@@ -177,6 +177,9 @@ module _ (k : Control) (events : List Event) (line : ℕ) where
   case-one _ (PausesMirror s on) = record { first = λ one. one; last = λ j one. one }
   case-one _ (RemovesMirror s x found free) = record { first = λ one. one; last = λ j one. one }
   case-one _ (Aborts s x found free) = record { first = λ one. one; last = λ j one. one }
+  case-one _ (Sends s server x r o posts) = record { first = λ one. one; last = λ j one. one }
+  case-one _ (Delivers n m starts x r reaches) = record { first = λ one. one; last = λ j one. one }
+  case-one _ (TakesReply n m reply x r returns) = record { first = λ one. one; last = λ j one. one }
   case-one _ (Loses n) = record { first = λ one. one; last = λ j one. one }
   case-one _ (AddsMember s a c x joins) = record { first = λ one. one; last = λ j one. one }
   case-one _ (RemovesMember s a x m found is idle on) = record { first = λ one. one; last = λ j one. one }

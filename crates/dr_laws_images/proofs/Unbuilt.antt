@@ -4,10 +4,10 @@ use Rattle.std.specs.Prelude.{is_some}
 use Rattle.dr_ids.specs.declared.names.Member.{Member}
 use Rattle.dr_ids.specs.declared.refusal.PhaseName.{PhaseName}
 use Rattle.dr_ids.specs.declared.refusal.Refusal.{Refusal}
-use Rattle.dr_ids.specs.declared.refusal.Refusal.TheVariants.{Syntax, Unknown, Duplicate, Limit, ServerOff, LinkDown, Void, NotPrimary, Inhibited, PairState, RelationState, InSession, NotInSession, InFormation, OutOfOrder, Unsealed, Stale, Forbidden, NotIdentical, NumbersSpent, Stopped, NoGroup, JournalFull, NotBuilt}
+use Rattle.dr_ids.specs.declared.refusal.Refusal.TheVariants.{OldMessage, Syntax, Unknown, Duplicate, Limit, ServerOff, LinkDown, Void, NotPrimary, Inhibited, PairState, RelationState, InSession, NotInSession, InFormation, OutOfOrder, Unsealed, Stale, Forbidden, NotIdentical, NumbersSpent, Stopped, NoGroup, JournalFull, NotBuilt}
 use Rattle.dr_model.specs.declared.event.Event.{Event}
 use Rattle.dr_model.specs.declared.event.Event.TheVariants.{Answer}
-use Rattle.dr_model.specs.declared.said.Addition.TheVariants.{Alone, Wrote, Acked, Counted, InPhase, InGroup, Showed}
+use Rattle.dr_model.specs.declared.said.Addition.TheVariants.{Posted, Alone, Wrote, Acked, Counted, InPhase, InGroup, Showed}
 use Rattle.dr_model.specs.declared.said.Said.{Said}
 use Rattle.dr_model.specs.declared.said.Said.TheVariants.{Done, Held, Refused}
 use Rattle.dr_model.specs.Answers.{numbers, answer}
@@ -191,6 +191,7 @@ other-code (Done (Acked w)) b = refl
 other-code (Done (Counted n)) b = refl
 other-code (Done (InPhase p n)) b = refl
 other-code (Done (InGroup n d)) b = refl
+other-code (Done (Posted n)) b = refl
 other-code (Done Showed) b = refl
 other-code (Held w) b = refl
 other-code (Refused (Syntax column)) b = refl
@@ -208,6 +209,7 @@ other-code (Refused (InSession session)) b = refl
 other-code (Refused (NotInSession session)) b = refl
 other-code (Refused (InFormation phase n)) b = refl
 other-code (Refused (OutOfOrder phase)) b = refl
+other-code (Refused (OldMessage n)) b = refl
 other-code (Refused (Unsealed volume seal)) b = refl
 other-code (Refused (Stale n floor)) b = refl
 other-code (Refused (Forbidden decision)) b = refl

@@ -2,7 +2,7 @@
 use Rattle.std.proofs.Common.{ℕ, refl, ap, sym, subst, true, List, [], ◌∷◌, ◌++◌, Option, Some, None}
 use Rattle.std.proofs.lemmas.List.{append-nil}
 use Rattle.dr_model.specs.declared.event.Event.{Event}
-use Rattle.dr_model.specs.declared.event.Event.TheVariants.{Ack, Stopped, Frozen, Thawed, Recovered, Volume as VolumeDefined}
+use Rattle.dr_model.specs.declared.event.Event.TheVariants.{Ack, Begin, Stopped, Frozen, Thawed, Recovered, Volume as VolumeDefined}
 use Rattle.dr_model.specs.Contents.{image}
 use Rattle.dr_model.specs.Histories.{Histories, histories}
 use Rattle.dr_model.specs.Control.{World, Fuse, nothing}
@@ -21,7 +21,7 @@ use Rattle.dr_laws_targets.specs.Committeds.{committeds}
 use Rattle.dr_laws_targets.specs.Counted.{TargetsShowCuts}
 use Rattle.dr_laws_targets.proofs.Mays.{may-done, may-stop, open-done, open-stop}
 use Rattle.dr_laws_targets.proofs.Quiet.{counted-nothing, counted-told, counted-issued, counted-defined}
-use Rattle.dr_laws_targets.proofs.Regrouped.{counted-regrouped}
+use Rattle.dr_laws_targets.proofs.Regrouped.{counted-regrouped, counted-begun}
 use Rattle.dr_laws_sound.proofs.Turns.{done, done_in_stop, opened_in_stop, not_done, fused, server_at, after_act}
 use Rattle.dr_laws_sound.proofs.Due.{waiting-settled}
 use Rattle.dr_laws_sound.proofs.RowsAfter.{table-done, table-stop}
@@ -33,7 +33,11 @@ use Rattle.dr_laws_sound.proofs.Defines.{with_volume, row, table-defined}
 use Rattle.dr_laws_sound.proofs.Starts as starts
 use Rattle.dr_laws_sound.proofs.Steps as steps
 use Rattle.dr_laws_sound.proofs.Rides.{Rides, Both}
-use Rattle.dr_laws_sound.proofs.Riders.{Unheard, unheard, Rider, rides-tasks}
+use Rattle.dr_model.specs.Tables.{Once}
+use Rattle.dr_model.specs.Sessions.{changed, begun}
+use Rattle.dr_laws_sessions.proofs.Changes.{numbers}
+use Rattle.dr_laws_sound.proofs.FitsMessages.{opened}
+use Rattle.dr_laws_sound.proofs.Riders.{Unheard, unheard, with_tables, Rider, rides-tasks}
 use Rattle.dr_laws_recovery.proofs.ClosesAlong.{Closes, closes-ride, stopped-silent}
 
 abbrev pub Counts : World → Type 0
@@ -45,7 +49,7 @@ unheard-keeps w u more k q = counted-told w u k more q.quiet q.still q.events q.
 
 -- a server stops, and nothing else is done
 not-keeps : (w : World) (x : ℕ) (f : Option Fuse) → TargetsShowCuts w → TargetsShowCuts (not_done w x f)
-not-keeps w x f k = unheard-keeps w (not_done w x f) (Stopped x 0 ∷ []) k (unheard w (not_done w x f) (Stopped x 0 ∷ []) refl (tt, tt) (tt, tt) (histories-append w.events (Stopped x 0 ∷ [])) refl refl refl refl refl refl)
+not-keeps w x f k = unheard-keeps w (not_done w x f) (Stopped x 0 ∷ []) k (unheard w (not_done w x f) (Stopped x 0 ∷ []) refl (tt, tt) (tt, tt) (histories-append w.events (Stopped x 0 ∷ [])) refl refl refl refl refl refl refl)
 
 -- a move
 module _ (starts : Option ℕ) (w : World) (s : SoundBut starts w) (k : Counts w) where
@@ -89,9 +93,9 @@ acts = record {
     does w (Drop n) f s k may =
         let h : Histories = histories w.events in
         counted-told w (dropped w n) k.1 [] tt tt (sym (append-nil w.events)) refl refl (λ i v. record (table w v) { due = λ q. image h.write (h.now v q ++ waiting-settled n v q w.control.pending may i) })
-    does w (EndFreeze l m) f s k may = unheard-keeps w (frozen w l m) (Frozen l m ∷ []) k.1 (unheard w (frozen w l m) (Frozen l m ∷ []) refl (tt, tt) (tt, tt) (histories-append w.events (Frozen l m ∷ [])) refl refl refl refl refl refl)
-    does w (EndThaw l m) f s k may = unheard-keeps w (thawed w l m) (Thawed l m ∷ []) k.1 (unheard w (thawed w l m) (Thawed l m ∷ []) refl (tt, tt) (tt, tt) (histories-append w.events (Thawed l m ∷ [])) refl refl refl refl refl refl)
-    does w (EndRecovery i n) f s k may = unheard-keeps w (recovered w i n) (Recovered i n ∷ []) k.1 (unheard w (recovered w i n) (Recovered i n ∷ []) refl (tt, tt) (tt, tt) (histories-append w.events (Recovered i n ∷ [])) refl refl refl refl refl refl)
+    does w (EndFreeze l m) f s k may = unheard-keeps w (frozen w l m) (Frozen l m ∷ []) k.1 (unheard w (frozen w l m) (Frozen l m ∷ []) refl (tt, tt) (tt, tt) (histories-append w.events (Frozen l m ∷ [])) refl refl refl refl refl refl refl)
+    does w (EndThaw l m) f s k may = unheard-keeps w (thawed w l m) (Thawed l m ∷ []) k.1 (unheard w (thawed w l m) (Thawed l m ∷ []) refl (tt, tt) (tt, tt) (histories-append w.events (Thawed l m ∷ [])) refl refl refl refl refl refl refl)
+    does w (EndRecovery i n) f s k may = unheard-keeps w (recovered w i n) (Recovered i n ∷ []) k.1 (unheard w (recovered w i n) (Recovered i n ∷ []) refl (tt, tt) (tt, tt) (histories-append w.events (Recovered i n ∷ [])) refl refl refl refl refl refl refl)
 
 -- and those of the start of server x
 module _ (x : ℕ) where
@@ -124,19 +128,27 @@ module _ (x : ℕ) where
       counts w (Restart v) f j k may = stop-keeps (Some x) w j.sound k (Restart v) f (starts.may-restart x w v may)
       counts w m f j k may = absurd may
 
+-- an attempt begins before any hold
+counted-opens : (w : World) (i n : ℕ) → Once (numbers w.control.sessions) → TargetsShowCuts w → TargetsShowCuts (opened w i n)
+counted-opens w i n once k =
+    let u : World = with_tables w (changed i begun w.control.sessions) w.control.flight in
+    unheard-keeps u (opened w i n) (Begin i n ∷ []) (counted-begun (histories w.events).write w.control.sessions (table w) (cuts w.events) (standing w.events) (committeds w.events) i once k)
+    (unheard u (opened w i n) (Begin i n ∷ []) refl (tt, tt) (tt, tt) (histories-append w.events (Begin i n ∷ [])) refl refl refl refl refl refl refl)
+
 pub counts-ride : Rider Counts
 counts-ride = record {
   acts = acts;
   start_acts = start-acts;
-  unheard = λ w u more k q. (closes-ride.unheard w u more k.0 q, unheard-keeps w u more k.1 q);
+  unheard = λ w u more k q none. (closes-ride.unheard w u more k.0 q none, unheard-keeps w u more k.1 q);
   issues = λ w s v t offset len bytes defined low k. (
     closes-ride.issues w s v t offset len bytes defined low k.0,
     counted-issued w (issued w s v t offset len bytes defined low) k.0.0 k.1 v t offset len bytes refl (same-table w s v t offset len bytes defined low) refl,
   );
-  regroups = λ w ss s t turn k. (
-    closes-ride.regroups w ss s t turn k.0,
-    counted-regrouped w.control ss (table w) (λ v. refl) s.groups s.attempts t.groups t.attempts turn (histories w.events).write (cuts w.events) (standing w.events) (committeds w.events) k.1,
+  regroups = λ w ss f s t turn adds goes k. (
+    closes-ride.regroups w ss f s t turn adds goes k.0,
+    counted-regrouped w.control ss f (table w) (λ v. refl) s.groups s.attempts t.groups t.attempts turn (histories w.events).write (cuts w.events) (standing w.events) (committeds w.events) k.1,
   );
+  opens = λ w i n x r s t found has idle next k. (closes-ride.opens w i n x r s t found has idle next k.0, counted-opens w i n s.groups.once k.1);
   defines = λ w s v server tracks here undefined k. (
     closes-ride.defines w s v server tracks here undefined k.0,
     counted-defined w (with_volume w s v server tracks here undefined) k.1 (VolumeDefined v server tracks ∷ []) (tt, tt) (tt, tt) refl refl s.groups

@@ -1,10 +1,10 @@
--- Laws that hold along every exchange: what an order's entries do to the members that they are about.
+-- Laws that hold along every exchange and every delivery: what an order's entries do to the members that they are about.
 use Rattle.std.proofs.Common.{ℕ, ◌≡◌, inl, inr, refl, Bool, true, false, cond, not, ◌&&◌, nat_eq, nat_lt, List, [], ◌∷◌, ◌++◌, Option, Some, None}
 use Rattle.dr_ids.specs.declared.names.Member.{Member}
 use Rattle.dr_ids.specs.declared.refusal.PhaseName.TheVariants as phase
 use Rattle.dr_ids.specs.declared.refusal.Refusal.{Refusal}
 use Rattle.dr_ids.specs.declared.refusal.Refusal.TheVariants.{OutOfOrder}
-use Rattle.dr_ids.specs.declared.refusal.Kind.TheVariants.{Server as OfServer, Session as OfSession}
+use Rattle.dr_ids.specs.declared.refusal.Kind.TheVariants.{Server as OfServer, Session as OfSession, Message as OfMessage}
 use Rattle.dr_model.specs.declared.event.Event.{Event}
 use Rattle.dr_model.specs.declared.step.Name.{Name}
 use Rattle.dr_model.specs.Refusals.{unknown}
@@ -17,17 +17,20 @@ use Rattle.dr_model.specs.Carry.{Act, Make, OpenAttempt, Next, Pass, Do, End, En
 use Rattle.dr_model.specs.Entries.{fields_at}
 use Rattle.dr_model.specs.PairEntries.{send_refusal, reach_refusal, end_if, refuse_if}
 use Rattle.dr_model.specs.SessionEntries.{last_of, hold_refusal, stale_refusal, hold_on, void_refusal, free_on, is_drained, seal_refusal, seal_on, is_flashed, flash_refusal, flash_on, is_committed, commit_refusal, commit_on, revert_on, is_past, finish_on, member_entries, members_on, order_entries}
-use Rattle.dr_model.specs.Messages.{Flight}
-use Rattle.dr_model.specs.SessionPlans.{exchanged, exchange_refusal, order_of, exchange_done, exchange_on, asking, exchange_plan}
+use Rattle.dr_model.specs.Messages.{Flight, Message, Body, Asks, Replies, message_in}
+use Rattle.dr_model.specs.MessagePlans.{on_message, order_refusal, order_done, order_on, reply_refusal, taking, reply_on, deliver_on, deliver_plan}
+use Rattle.dr_model.specs.SessionPlans.{off_refusal, exchanged, exchange_refusal, order_of, exchange_done, exchange_on, asking, exchange_plan}
 use Rattle.dr_model.specs.PlanParts.{Plan, refuses, on_session, on_named, server_named, name_bytes}
+use Rattle.dr_model.specs.Carried.{begun}
 use Rattle.dr_model.specs.Groups.{In}
 use Rattle.dr_model.specs.Laws.{Sound}
 use Rattle.dr_laws_sessions.proofs.Silent.{on-members}
 use Rattle.dr_laws_sound.proofs.KeepsSound.{MayDo}
 use Rattle.dr_laws_sound.proofs.FitsFlash.{as_begun, sound-begun}
 use Rattle.dr_laws_sound.proofs.FitsSessions.{Orders}
-use Rattle.dr_laws_sound.proofs.FitsOrders.{orders-ordered}
-use Rattle.dr_laws_sound.proofs.Cases.{Ordered, ordered}
+use Rattle.dr_laws_sound.proofs.FitsExchanges.{orders-ordered}
+use Rattle.dr_laws_sound.proofs.FitsMessages.{orders-delivered, sound-taken}
+use Rattle.dr_laws_sound.proofs.Cases.{Ordered, Arrives, Reaches, Returns, ordered, taken}
 use Rattle.dr_laws_sound.proofs.Rides.{Rides, Both}
 use Rattle.dr_laws_recovery.proofs.Keeping.{MayFit, keeps-fit, Keeping, Goes, refused-goes, goes-unless}
 use Rattle.dr_laws_sound.proofs.Along as along
@@ -57,6 +60,7 @@ pub record Exchanging (w : World) (W : World → Type 0) : Type 1 where
   pub gives : (v : World) → law v → W v
   pub told : (v : World) (on : ℕ → Bool) (es : List Event) → W v → W (record v { control = record v.control { on = on }; events = es })
   pub regroups : (v : World) (ss : List Session) (f : Flight) → W v → W (record v { control = record v.control { sessions = ss; flight = f } })
+  pub retabled : (v : World) (ss : List Session) (f : Flight) → law v → law (record v { control = record v.control { sessions = ss; flight = f } })
 
 module _ (w : World) (sound : Sound w) (W : World → Type 0) (x : Exchanging w W) where
   abbrev I : World → Type 0
@@ -185,7 +189,7 @@ module _ (w : World) (sound : Sound w) (W : World → Type 0) (x : Exchanging w 
     ordered-goes r o allowed =
         let h : Orders w (ordered s server reply (members_on server y.members) o) = orders-ordered w sound s server y r o allowed reply in
         record {
-          begun_as = refl;
+          begins = keeping.begins;
           entries = fit-along h.ends h.complete (order_entries o.work s o.number (members_on server y.members))
               (fit-order o.work s o.number (members_on server y.members) (λ q h. x.members s y found q (on-members server y.members q h).0)) (as_begun w) x.begins h.entries;
           last = reply-last reply s server o.work (members_on server y.members);
@@ -221,3 +225,44 @@ module _ (w : World) (sound : Sound w) (W : World → Type 0) (x : Exchanging w 
   goes-exchange s name reply =
       goes-session (session_in w.control.sessions s) _ (λ y found.
       goes-named (server_named w.control (name_bytes name)) (λ server. exchange_on w.control s y.mirror server reply y.members) (λ server. on-goes s server reply y found y.mirror refl))
+
+  -- ---- deliveries
+
+  -- an order that came is carried out
+  delivered-goes : (n : ℕ) (m : Message) (starts : ℕ) (y : Session) (r : Mirror) → Reaches w.control n m starts y r → GoesOn (order_done m (members_on m.server y.members))
+  delivered-goes n m starts y r reaches =
+      let ms : List Member = members_on m.server y.members in
+      let h : Orders w (order_done m ms) = orders-delivered w sound n m starts y r reaches in
+      record {
+        begins = keeping.begins;
+        entries = fit-along h.ends h.complete (order_entries m.order.work m.session m.order.number ms)
+            (fit-order m.order.work m.session m.order.number ms (λ q h. x.members m.session y reaches.arrives.found q (on-members m.server y.members q h).0)) (as_begun w) x.begins h.entries;
+        last = λ v h. x.regroups v v.control.sessions _ h;
+        follows = λ q. refl;
+      }
+
+  -- and a reply is taken
+  taken-goes : (n : ℕ) (m : Message) (reply : phases.Reply) (y : Session) (r : Mirror) → Returns w.control n m reply y r → GoesOn (taken m reply)
+  taken-goes n m reply y r returns =
+      let b : I (begun w (taken m reply)) = (sound-taken w sound n m reply y r returns, x.retabled (as_begun w) (taking m reply w.control).sessions w.control.flight x.begins) in
+      record { begins = b; entries = along.along-nil I I I May (begun w (taken m reply)) b; last = λ v h. h; follows = λ q. refl }
+
+  order-goes : (n : ℕ) (m : Message) (starts : ℕ) (y : Session) (o : Option Mirror) → ((r : Mirror) → o ≡ Some r → Arrives w.control n m (Asks starts) y r) → off_refusal w.control m.server ≡ None → GoesOn (order_on w.control m starts y.members o)
+  order-goes n m starts y None arrives on = refuse (OutOfOrder phase.None)
+  order-goes n m starts y (Some r) arrives on =
+      goes-unless w W keeping (order_refusal w.control r m starts) (order_done m (members_on m.server y.members)) (λ free. delivered-goes n m starts y r (record { arrives = arrives r refl; on = on; allowed = free }))
+
+  reply-goes : (n : ℕ) (m : Message) (reply : phases.Reply) (y : Session) (o : Option Mirror) → ((r : Mirror) → o ≡ Some r → Arrives w.control n m (Replies reply) y r) → GoesOn (reply_on w.control m reply o)
+  reply-goes n m reply y None arrives = refuse (OutOfOrder phase.None)
+  reply-goes n m reply y (Some r) arrives = goes-unless w W keeping (reply_refusal w.control r m) (taken m reply) (λ free. taken-goes n m reply y r (record { arrives = arrives r refl; allowed = free }))
+
+  body-goes : (n : ℕ) (m : Message) (y : Session) (b : Body) → ((r : Mirror) → y.mirror ≡ Some r → Arrives w.control n m b y r) → GoesOn (deliver_on w.control m y b)
+  body-goes n m y (Asks starts) arrives = goes-unless w W keeping (off_refusal w.control m.server) (order_on w.control m starts y.members y.mirror) (λ on. order-goes n m starts y y.mirror arrives on)
+  body-goes n m y (Replies reply) arrives = reply-goes n m reply y y.mirror arrives
+
+  message-goes : (n : ℕ) (o : Option Message) → message_in w.control.flight n ≡ o → GoesOn (on_message o (λ m. on_session (session_in w.control.sessions m.session) (λ y. deliver_on w.control m y m.body)))
+  message-goes n None there = refuse (unknown OfMessage)
+  message-goes n (Some m) there = goes-session (session_in w.control.sessions m.session) (λ y. deliver_on w.control m y m.body) (λ y found. body-goes n m y m.body (λ r mirror. record { there = there; says = refl; found = found; mirror = mirror }))
+
+  pub goes-deliver : (n : ℕ) → Goes w W keeping (deliver_plan w.control n)
+  goes-deliver n = message-goes n (message_in w.control.flight n) refl

@@ -42,15 +42,15 @@ pub record Keeping (w : World) (W : World → Type 0) : Type 1 where
   pub begins : law (as_begun w)
 
 module _ (w : World) (W : World → Type 0) (k : Keeping w W) where
-  -- such a plan: its acts may come, its last tables keep W, and nothing follows a stop
+  -- such a plan: the law holds as it begins, its acts may come, its last tables keep W, and nothing follows a stop
   pub record Goes (p : Plan) : Type 0 where
-    pub begun_as : begun w p ≡ as_begun w
-    pub entries : along.Along k.law k.law k.law k.may (as_begun w) p.entries
+    pub begins : k.law (begun w p)
+    pub entries : along.Along k.law k.law k.law k.may (begun w p) p.entries
     pub last : (v : World) → W v → W (record v { control = p.last v.control })
     pub follows : (q : ℕ) → p.follows q ≡ []
 
   pub refused-goes : (r : Refusal) → Goes (refuses r)
-  refused-goes r = record { begun_as = refl; entries = along.along-nil k.law k.law k.law k.may (as_begun w) k.begins; last = λ v h. h; follows = λ q. refl }
+  refused-goes r = record { begins = k.begins; entries = along.along-nil k.law k.law k.law k.may (as_begun w) k.begins; last = λ v h. h; follows = λ q. refl }
 
   pub goes-unless : (o : Option Refusal) (p : Plan) → (o ≡ None → Goes p) → Goes (unless o p)
   goes-unless None p go = go refl
@@ -58,13 +58,11 @@ module _ (w : World) (W : World → Type 0) (k : Keeping w W) where
 
   pub goes-moment : (p : Plan) → Goes p → (n : ℕ) → W (carry (begun w p) (take n p.entries)).0
   goes-moment p goes n =
-      subst (λ b. W (carry b (take n p.entries)).0) (sym goes.begun_as)
-      (along.along-moment k.law k.law k.law W k.may k.gives k.gives k.gives k.keeps (as_begun w) n p.entries k.begins goes.entries)
+      along.along-moment k.law k.law k.law W k.may k.gives k.gives k.gives k.keeps (begun w p) n p.entries goes.begins goes.entries
 
   pub goes-ends : (p : Plan) → Goes p → (armed : ℕ → Bool) (u : World) (r : Option Refusal) → Ends armed u r (begun w p) p.entries → W u
   goes-ends p goes armed u r e =
-      along.ends-weaker k.law k.law k.law W k.may k.gives k.gives k.gives k.keeps armed (λ v q i on is. k.told v _ _ (k.gives v i)) u r (as_begun w) p.entries k.begins goes.entries
-      (subst (λ b. Ends armed u r b p.entries) goes.begun_as e)
+      along.ends-weaker k.law k.law k.law W k.may k.gives k.gives k.gives k.keeps armed (λ v q i on is. k.told v _ _ (k.gives v i)) u r (begun w p) p.entries goes.begins goes.entries e
 
   -- where it ends, and as it is answered
   pub finish-goes : (p : Plan) → Goes p → (u : World) (r : Option Refusal) → W u → W (finish p u r)

@@ -16,8 +16,9 @@
 --   answer: `formed-run` (`RunsFormed.antt`), turn by turn from the commit of one member on (`LastStands`)
 -- - the headline: by devices that fit, recovery gives the cut of the newest group: `headline-on` (read off the laws),
 --   `headline-run` (`Headline.antt`, `HeadlineAlong.antt`)
--- - exchanges leave the target of a member whose secondary was taken over, and what a recovery makes of a session while
---   all of its are; a recovery touches none before: `leaves-exchange`, `leaves-turn`, `exchange-keeps`, `takes-first`
+-- - exchanges and deliveries leave the target of a member whose secondary was taken over, and what a recovery makes of a session while
+--   all of its are; a recovery touches none before: `leaves-exchange`, `leaves-delivery`, `leaves-turn`, `exchange-keeps`,
+--   `delivery-keeps`, `takes-first`
 --   (`TakenOver.antt`, `TakenKeeps.antt`, `TakenFirst.antt`)
 -- - what a recovery answers, and why it is refused: `answers-for-cause` (`RecoveryAnswers.antt`)
 -- - the premises of a seal's own clause hold in every run: `cuts-found`, `sends-found` (`SealsFound.antt`)

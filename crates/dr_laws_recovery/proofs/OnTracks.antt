@@ -180,9 +180,10 @@ pub tracked-ride : Rider Tracked
 tracked-ride = record {
   acts = rides Sound MayDo;
   start_acts = λ s. rides (starts.Inner s) (starts.MayStart s);
-  unheard = λ w u more k q. unheard-on w.events u.events more k q.events q.quiet q.lists;
+  unheard = λ w u more k q none. unheard-on w.events u.events more k q.events q.quiet q.lists;
   issues = λ w s v t offset len bytes defined low k. issues w s v t offset len bytes k;
-  regroups = λ w ss s t turn k. k;
+  regroups = λ w ss f s t turn adds goes k. k;
+  opens = λ w i n x r s t found has idle next k. more-on w.events (Begin i n ∷ []) refl k;
   defines = λ w s v server tracks here undefined k. more-on w.events _ refl k;
 }
   where

@@ -276,7 +276,7 @@ module _ (w : World) (sound : Sound w) (s : ℕ) where
 
     pub done-goes : (x : Session) → session_in w.control.sessions r ≡ Some x → secondary_refusal x.members w.control ≡ None → GoesOn (recover_done r told x.members)
     done-goes x found running = record {
-      begun_as = refl;
+      begins = keeping.begins;
       entries = along-with Sound Sound Sound (Keeps w s) (MayRecover w s) (as_begun w) (recover_entries r told x.members) begins.1
           (fit-along w s (as_begun w) (recover_entries r told x.members) (fit-recover (Fit w s) r told x.members (λ m here. tt) (fits-targets w s r told (as-decided r x found) x.members) (λ n. tt)) (along-recover w sound r x found running));
       last = λ v h. h;
@@ -297,7 +297,7 @@ module _ (w : World) (sound : Sound w) (s : ℕ) where
 
     hand-goes : (x : Session) → session_in w.control.sessions r ≡ Some x → secondary_refusal x.members w.control ≡ None → untaken_refusal x.members w.control ≡ None → (m : Member) → In m x.members → GoesOn (hand m)
     hand-goes x found running free m here = record {
-      begun_as = refl;
+      begins = keeping.begins;
       entries = along-with Sound Sound Sound (Keeps w s) (MayRecover w s) (as_begun w) (settle_on r told m ∷ []) begins.1
           (fit-along w s (as_begun w) (settle_on r told m ∷ []) (fit-one (Fit w s) (settle_on r told m) (fit-settle (Fit w s) r told x.members (fits-targets w s r told (as-decided r x found) x.members) m here)) (along-settle w sound r x found running free m here));
       last = λ v h. h;

@@ -52,7 +52,7 @@ module _ (w : World) (sound : Sound w) (s : ℕ) where
 
   entries-keep : (entries : List Entry) (said : Said) → AllFine Ok entries → Along (as_begun w) entries → KeepsRecovery w (entries_plan entries said) s
   entries-keep entries said fine a = plan-keeps w sound s (entries_plan entries said) (record {
-    begun_as = refl;
+    begins = begins w sound s;
     entries = along-with Sound Sound Sound (Keeps w s) (MayRecover w s) (as_begun w) entries (begins w sound s).1 (fine-along (as_begun w) entries fine a);
     last = λ v h. h;
     follows = λ q. refl;

@@ -1,7 +1,7 @@
 -- Cuts stay sound along every step, and so along every run.
 use Rattle.std.proofs.Common.{ℕ, refl, ap, subst, true, List, [], ◌∷◌, ◌++◌, Option, Some, None}
 use Rattle.dr_model.specs.declared.event.Event.{Event}
-use Rattle.dr_model.specs.declared.event.Event.TheVariants.{Ack, Stopped, Frozen, Thawed, Recovered, Volume as VolumeDefined}
+use Rattle.dr_model.specs.declared.event.Event.TheVariants.{Ack, Begin, Stopped, Frozen, Thawed, Recovered, Volume as VolumeDefined}
 use Rattle.dr_model.specs.Contents.{image}
 use Rattle.dr_model.specs.Histories.{Histories, histories}
 use Rattle.dr_model.specs.Control.{Volume, World, Fuse, nothing}
@@ -28,7 +28,9 @@ use Rattle.dr_laws_sound.proofs.Defines.{with_volume, row, table-defined}
 use Rattle.dr_laws_sound.proofs.Starts as starts
 use Rattle.dr_laws_sound.proofs.Steps as steps
 use Rattle.dr_laws_sound.proofs.Rides.{Rides}
-use Rattle.dr_laws_sound.proofs.Riders.{Unheard, unheard, with_table, Rider, rides-task, rides-tasks}
+use Rattle.dr_model.specs.Sessions.{changed, begun}
+use Rattle.dr_laws_sound.proofs.FitsMessages.{opened}
+use Rattle.dr_laws_sound.proofs.Riders.{Unheard, unheard, with_tables, Rider, rides-task, rides-tasks}
 
 -- what no list hears of, and what cuts no volume
 cuts-unheard : (w u : World) (more : List Event) → SoundCuts w → Unheard w u more → SoundCuts u
@@ -36,7 +38,7 @@ cuts-unheard w u more k q = sound-told w k u more q.quiet q.events (ap (λ (h : 
 
 -- a server stops, and nothing else is done
 cuts-not : (w : World) (x : ℕ) (f : Option Fuse) → SoundCuts w → SoundCuts (not_done w x f)
-cuts-not w x f k = cuts-unheard w (not_done w x f) (Stopped x 0 ∷ []) k (unheard w (not_done w x f) (Stopped x 0 ∷ []) refl (tt, tt) (tt, tt) (histories-append w.events (Stopped x 0 ∷ [])) refl refl refl refl refl refl)
+cuts-not w x f k = cuts-unheard w (not_done w x f) (Stopped x 0 ∷ []) k (unheard w (not_done w x f) (Stopped x 0 ∷ []) refl (tt, tt) (tt, tt) (histories-append w.events (Stopped x 0 ∷ [])) refl refl refl refl refl refl refl)
 
 -- a move
 module _ (starts : Option ℕ) (w : World) (s : SoundBut starts w) (k : SoundCuts w) where
@@ -75,9 +77,9 @@ acts = record { does = does; counts = λ w m f s k may. cuts-stop None w s k m f
     does w (Drop n) f s k may =
         let h : Histories = histories w.events in
         sound-same w k (dropped w n) refl refl (λ i v. record (table w v) { due = λ q. image h.write (h.now v q ++ waiting-settled n v q w.control.pending may i) })
-    does w (EndFreeze l m) f s k may = cuts-unheard w (frozen w l m) (Frozen l m ∷ []) k (unheard w (frozen w l m) (Frozen l m ∷ []) refl (tt, tt) (tt, tt) (histories-append w.events (Frozen l m ∷ [])) refl refl refl refl refl refl)
-    does w (EndThaw l m) f s k may = cuts-unheard w (thawed w l m) (Thawed l m ∷ []) k (unheard w (thawed w l m) (Thawed l m ∷ []) refl (tt, tt) (tt, tt) (histories-append w.events (Thawed l m ∷ [])) refl refl refl refl refl refl)
-    does w (EndRecovery i n) f s k may = cuts-unheard w (recovered w i n) (Recovered i n ∷ []) k (unheard w (recovered w i n) (Recovered i n ∷ []) refl (tt, tt) (tt, tt) (histories-append w.events (Recovered i n ∷ [])) refl refl refl refl refl refl)
+    does w (EndFreeze l m) f s k may = cuts-unheard w (frozen w l m) (Frozen l m ∷ []) k (unheard w (frozen w l m) (Frozen l m ∷ []) refl (tt, tt) (tt, tt) (histories-append w.events (Frozen l m ∷ [])) refl refl refl refl refl refl refl)
+    does w (EndThaw l m) f s k may = cuts-unheard w (thawed w l m) (Thawed l m ∷ []) k (unheard w (thawed w l m) (Thawed l m ∷ []) refl (tt, tt) (tt, tt) (histories-append w.events (Thawed l m ∷ [])) refl refl refl refl refl refl refl)
+    does w (EndRecovery i n) f s k may = cuts-unheard w (recovered w i n) (Recovered i n ∷ []) k (unheard w (recovered w i n) (Recovered i n ∷ []) refl (tt, tt) (tt, tt) (histories-append w.events (Recovered i n ∷ [])) refl refl refl refl refl refl refl)
 
 -- and those of the start of server x
 module _ (x : ℕ) where
@@ -105,12 +107,19 @@ module _ (x : ℕ) where
       counts w (Restart v) f j k may = cuts-stop (Some x) w j.sound k (Restart v) f (starts.may-restart x w v may)
       counts w m f j k may = absurd may
 
+-- an attempt begins before any hold
+cuts-opens : (w : World) (i n : ℕ) → SoundCuts w → SoundCuts (opened w i n)
+cuts-opens w i n k =
+    let u : World = with_tables w (changed i begun w.control.sessions) w.control.flight in
+    cuts-unheard u (opened w i n) (Begin i n ∷ []) (sound-same w k u refl refl refl) (unheard u (opened w i n) (Begin i n ∷ []) refl (tt, tt) (tt, tt) (histories-append w.events (Begin i n ∷ [])) refl refl refl refl refl refl refl)
+
 pub cuts-ride : Rider SoundCuts
 cuts-ride = record {
   acts = acts;
   start_acts = start-acts;
-  unheard = cuts-unheard;
-  regroups = λ w ss s t turn k. sound-same w k (with_table w ss) refl refl refl;
+  unheard = λ w u more k q none. cuts-unheard w u more k q;
+  regroups = λ w ss f s t turn adds goes k. sound-same w k (with_tables w ss f) refl refl refl;
+  opens = λ w i n x r s t found has idle next k. cuts-opens w i n k;
   issues = λ w s v t offset len bytes defined low k. sound-issue w k (issued w s v t offset len bytes defined low) v t offset len bytes refl refl (same-table w s v t offset len bytes defined low);
   defines = λ w s v server tracks here undefined k.
       sound-defined w s.rows k (with_volume w s v server tracks here undefined) (VolumeDefined v server tracks ∷ []) (tt, tt) refl (with-told w (VolumeDefined v server tracks ∷ []) refl) refl v (row w s v server tracks here undefined) undefined refl refl

@@ -20,7 +20,7 @@ use Rattle.dr_model.specs.declared.step.Name.{Name}
 use Rattle.dr_model.specs.declared.step.Devs.{Devs}
 use Rattle.dr_model.specs.declared.step.PairChoices.{PairChoices}
 use Rattle.dr_model.specs.declared.step.Step.{Step}
-use Rattle.dr_model.specs.declared.step.Step.TheVariants.{Server, Volume, Link, Stop, StopAfter, Start, Issue, Write, Apply, Show, MakeFlash, RemoveFlash, ResyncFlash, ReverseFlash, Copy, Destage, MakePath, RemovePath, MakePair, RemovePair, PausePair, ResumePair, Failover, Failback, Compare, Drain, Expire, Freeze, Unfreeze, MakeSession, RemoveSession, AddMember, RemoveMember, MakeMirror, PauseMirror, ResumeMirror, RemoveMirror, Abort, Exchange, Lose, Recover, CommitFlash, RevertFlash, Image, ListPairs, ListFlashes, ListSession, ShowMirror, UnfreezeFlash}
+use Rattle.dr_model.specs.declared.step.Step.TheVariants.{Server, Volume, Link, Stop, StopAfter, Start, Issue, Write, Apply, Show, MakeFlash, RemoveFlash, ResyncFlash, ReverseFlash, Copy, Destage, MakePath, RemovePath, MakePair, RemovePair, PausePair, ResumePair, Failover, Failback, Compare, Drain, Expire, Freeze, Unfreeze, MakeSession, RemoveSession, AddMember, RemoveMember, MakeMirror, PauseMirror, ResumeMirror, RemoveMirror, Abort, Exchange, Send, Deliver, Lose, Recover, CommitFlash, RevertFlash, Image, ListPairs, ListFlashes, ListSession, ShowMirror, UnfreezeFlash}
 use Rattle.dr_model.specs.Layout.{Fields, is_part, kind_of}
 use Rattle.dr_model.specs.Control.{Control, Pending, World}
 use Rattle.dr_model.specs.Contents.{image_at}
@@ -35,16 +35,16 @@ use Rattle.dr_model.specs.WriteEntries.{partner_of, is_grouped, land_mirrored, l
 use Rattle.dr_model.specs.Phases as phases
 use Rattle.dr_model.specs.Sessions.{Session, Mirror as SessionMirror, session_in, members_in, has_place_of, in_session, not_in_session, busy, joined, changed, paused, unmirrored}
 use Rattle.dr_model.specs.SessionEntries.{members_on, is_on, raise_attempt_on, raise_floor_on, is_flashed, first_number}
-use Rattle.dr_model.specs.Messages.{Message, message_in, lost}
-use Rattle.dr_model.specs.MessagePlans.{with_flight, on_message}
-use Rattle.dr_model.specs.SessionPlans.{with_sessions, table_plan, leaving, appointed, aborting, name_refusal, off_refusal, place_refusal, exchange_refusal, order_of, exchange_done, exchange_on, exchange_plan, on_volume, add_done, add_target, add_to, add_plan, expel_done, expel_found, expel_plan, member_target, member_with, says_phase}
+use Rattle.dr_model.specs.Messages.{Message, Body, Asks, Replies, message_in, lost}
+use Rattle.dr_model.specs.MessagePlans.{with_flight, on_message, says_posted, sending, told_begun, send_refusal as post_refusal, send_order, send_on, order_refusal, order_done, order_on, reply_refusal, taking, reply_on, deliver_on}
+use Rattle.dr_model.specs.SessionPlans.{with_sessions, table_plan, leaving, appointed, aborting, name_refusal, off_refusal, place_refusal, exchange_refusal, order_of, exchange_done, exchange_on, exchange_plan, on_volume, add_done, add_target, add_to, add_plan, expel_done, expel_found, expel_plan, is_idle, member_target, member_with, says_phase}
 use Rattle.dr_model.specs.RecoveryPlans.{decided_in, secondary_refusal, forbidden_unless, lets_commit, lets_revert, take_over_on, settle_on, end_recovery, recover_done, recover_plan, member_of_target, revertible_target, settle_refusal, settle_member, settle_target, settle_plan, untaken_refusal}
 use Rattle.dr_ids.specs.declared.refusal.Refusal.TheVariants.{OutOfOrder}
 use Rattle.dr_ids.specs.declared.refusal.PhaseName.TheVariants as phase
 use Rattle.dr_ids.specs.declared.refusal.Kind.TheVariants.{Message as OfMessage, Server as OfServer, Volume as OfVolume, Lss as OfLss, Session as OfSession}
 use Rattle.dr_model.specs.Refusals.{unknown, duplicate, server_off}
 use Rattle.dr_model.specs.Plans.{Plan, same, none_follow, always, entries_plan, tables_plan, only_says, refuses, unless, on_named, on_server, name_bytes, server_named, on_owner, owner_of, on_session, server_refusal, server_done, volume_refusal, volume_done, link_between, link_done, issue_refusal, issue_done, write_done, apply_on, show_refusal, show_done, stop_on, stop_done, arm_on, start_on, start_plan, acknowledge_on, acknowledge_if, landed_on, expire_on, expire_plan, copy_plan, found_pair, found_volumes, is_defined, is_owner, differ, is_no_source, has_few_targets, is_plain_target, is_recorded_target, is_lone_restore, may_return, may_copy, may_give_back, at_most, left_to_copy, counted_refusal, restore_refusal, left_by, path_refusal, make_path_done, unpath_refusal, remove_path_done, freeze_refusal, freeze_done, thaw_refusal, unfreeze_done, make_pair_plan, remove_pair_plan, pause_pair_plan, resume_pair_plan, failover_plan, yield_refusal, failback_plan, member_refusal, drain_plan, plan_of, step_plan, has_room_for, has_room, compare_plan, hold_first, release_refusal, release_done, redo_now, destage_entries}
-use Rattle.dr_model.specs.TakenWrites.{takes_from, sends_write, sends_pending, is_target_in}
+use Rattle.dr_model.specs.TakenWrites.{takes_from, sends_write, sends_pending, is_target_in, is_target_for}
 use Rattle.dr_facts.proofs.Lists.{found, from-filter, any-some}
 use Rattle.dr_facts.proofs.Parts.{global-part, metro-part}
 use Rattle.dr_facts.proofs.Refusals.{none-both}
@@ -54,7 +54,7 @@ use Rattle.dr_model.specs.Limits.{image_events}
 use Rattle.dr_model.specs.PlantImage.{Volume as ListedVolume}
 use Rattle.dr_model.specs.Listings.{pair_lines, flash_lines, member_lines, mirror_lines, sessions_of, lists, listing_refusal}
 use Rattle.dr_laws_sound.proofs.Listed.{AllLines, each-line, all-lines, pair-lines, flash-lines, session-lines, mirrors-lines, image-lines}
-use Rattle.dr_laws_sound.proofs.Cases.{is-new, added as added_plan, expelled}
+use Rattle.dr_laws_sound.proofs.Cases.{is-new, added as added_plan, expelled, taken}
 use Rattle.dr_laws_recovery.proofs.Went.{fine-none, fine-then, fine-append, fine-choice}
 use Rattle.dr_laws_recovery.proofs.Spared.{OkBy, Spares, AllSpared, Told, told-more, told-none, Takes, act-told, carry-kept, finish-kept, check-kept}
 use Rattle.dr_laws_recovery.proofs.SparedEntries.{Fair, FairNext, fair-check, fair-refuse, fair-drop, fair-now, fair-one, fair-map, fair-members, fair-choice, fair-times, fair-found, Easy, keep-fair, copy-fair, suspend-fair, sends-fair, order-fair}
@@ -280,6 +280,34 @@ module _ (w : World) (Q : ℕ → Type 0) where
           moves-told (exchange_done s server reply (members_on server ms) (Some o)) tt
           (order-fair (Takes Q) (easy Q) o.work s o.number (members_on server ms) (λ m here. let c = q m (from-filter (is_on server) ms m here).0 in record { flash = c; revert = c })) (λ t. fine-none (OkBy (Takes Q)))
 
+  -- one that a master sends, with which an attempt may begin
+  post-told : (s : ℕ) (b : Bool) (server : ℕ) (o : Option phases.Order) → Tells (send_order s b server o)
+  post-told s b server None = says-told (Refused (OutOfOrder phase.None))
+  post-told s b server (Some o) = tables-told (sending s b server o) (told_begun b s o.number) says_posted (by b)
+    where
+      by : (b : Bool) → AllSpared Q (told_begun b s o.number)
+      by true = (tt, tt)
+      by false = tt
+
+  send-told : (s server : ℕ) (r : Option SessionMirror) (ms : List Member) → Tells (send_on k s r server ms)
+  send-told s server None ms = says-told (Refused (OutOfOrder phase.None))
+  send-told s server (Some r) ms = where-none (post_refusal k r server ms) (send_order s (is_idle r.master.phase) server (order_of r server)) (λ free. post-told s (is_idle r.master.phase) server (order_of r server))
+
+  -- and one that came by a message
+  come-told : (m : Message) (starts : ℕ) (r : Option SessionMirror) (ms : List Member) → ((q : Member) → In q ms → Q q.c.0) → Tells (order_on k m starts ms r)
+  come-told m starts None ms q = says-told (Refused (OutOfOrder phase.None))
+  come-told m starts (Some r) ms q = where-none (order_refusal k r m starts) (order_done m (members_on m.server ms)) (λ free.
+      moves-told (order_done m (members_on m.server ms)) tt
+      (order-fair (Takes Q) (easy Q) m.order.work m.session m.order.number (members_on m.server ms) (λ p here. let c = q p (from-filter (is_on m.server) ms p here).0 in record { flash = c; revert = c })) (λ t. fine-none (OkBy (Takes Q))))
+
+  reply-told : (m : Message) (reply : phases.Reply) (r : Option SessionMirror) → Tells (reply_on k m reply r)
+  reply-told m reply None = says-told (Refused (OutOfOrder phase.None))
+  reply-told m reply (Some r) = where-none (reply_refusal k r m) (taken m reply) (λ free. tables-told (taking m reply) [] (says_phase m.session) tt)
+
+  body-told : (m : Message) (x : Session) (b : Body) → ((q : Member) → In q x.members → Q q.c.0) → Tells (deliver_on k m x b)
+  body-told m x (Asks starts) q = where-none (off_refusal k m.server) (order_on k m starts x.members x.mirror) (λ on. come-told m starts x.mirror x.members q)
+  body-told m x (Replies reply) q = reply-told m reply x.mirror
+
   -- tracks are sent from a primary
   pub drain-told : (a : ℕ) (most : Option ℕ) → (is_part (fields_at k a).primary ≡ true → Q (fields_at k a).primary_partner) → Tells (drain_plan k a most)
   drain-told a most q =
@@ -448,6 +476,12 @@ module _ (w : World) (line : ℕ) where
       where-session w (MayTake j step) (session_in j.sessions s) _ (λ x is. where-named w (MayTake j step) (server_named j (name_bytes name)) _ (λ server.
       order-told w (MayTake j step) s server reply x.mirror x.members (λ m here. q m (subst (λ o. In m (members_in o)) (sym is) here))))
 
+  deliver-fits : (n : ℕ) (o : Option Message) → message_in j.flight n ≡ o → Fits (Deliver n) (on_message o (λ m. on_session (session_in j.sessions m.session) (λ x. deliver_on j m x m.body)))
+  deliver-fits n None e = says-told w (MayTake j (Deliver n)) (Refused (unknown OfMessage))
+  deliver-fits n (Some m) e =
+      where-session w (MayTake j (Deliver n)) (session_in j.sessions m.session) (λ x. deliver_on j m x m.body) (λ x is.
+      body-told w (MayTake j (Deliver n)) m x m.body (λ q here. subst (λ o. is_target_for j o q.c.0 ≡ true) (sym e) (session-target j m.session q (subst (λ o. In q (members_in o)) (sym is) here))))
+
   -- a host write
   write-fits : (step : Step) (first : Control → Control) (told : List Event) (n a t : ℕ) (says : Control → Said) → AllSpared (MayTake j step) told → (sends_write j a t (partner_of j a) ≡ true → MayTake j step (partner_of j a))
       → Fits step (record { first = first; told = told; entries = landing j n a t; follows = after_write j a t; last = same; says = says })
@@ -544,6 +578,8 @@ module _ (w : World) (line : ℕ) where
   of-step (RemoveMirror devs l s) = where-owned w _ (owner_of j l) _ (λ owner. where-session w _ (session_in j.sessions s) _ (λ x is. where-none w _ _ (table_plan (changed s unmirrored)) (λ free. table-told w _ _)))
   of-step (Abort s) = where-session w _ (session_in j.sessions s) _ (λ x is. where-none w _ _ (record (tables_plan (aborting s x.mirror) [] (Done Alone)) { says = says_phase s }) (λ free. tables-told w _ _ _ _ tt))
   of-step (Exchange s name reply) = exchange-fits (Exchange s name reply) s name reply (λ m here. (session-target j s m here))
+  of-step (Send s name) = where-session w _ (session_in j.sessions s) _ (λ x is. where-named w _ (server_named j (name_bytes name)) (λ server. send_on j s x.mirror server x.members) (λ server. send-told w _ s server x.mirror x.members))
+  of-step (Deliver n) = deliver-fits n (message_in j.flight n) refl
   of-step (Lose n) = where-message w _ n (message_in j.flight n)
   of-step (Recover s) = recover-fits (Recover s) s (λ m here. (session-target j s m here))
   of-step (CommitFlash devs source sequence) = settle-fits (CommitFlash devs source sequence) devs.dev lets_commit source (λ t d is yes no. absurd (false_true no yes))

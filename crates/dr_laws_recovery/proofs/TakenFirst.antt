@@ -188,7 +188,7 @@ module _ (w : World) (sound : Sound w) (s : ℕ) (x : Session) (found : session_
 
   done-goes : secondary_refusal x.members w.control ≡ None → GoesOn (recover_done s told x.members)
   done-goes running = record {
-    begun_as = refl;
+    begins = begins;
     entries = taking x.members (map (settle_on s told) x.members ++ end_recovery s ∷ []) (λ m h. h) (over-all told x.members (end_recovery s ∷ []) ends) (as_begun w) begins.1 (λ q h. inl h) (along-recover w sound s x found running);
     last = λ v h. h;
     follows = λ q. refl;

@@ -15,6 +15,8 @@ use Rattle.dr_model.specs.Carry.{Act, Make, OpenAttempt, Redo, Acknowledge, Drop
 use Rattle.dr_model.specs.Entries.{fields_at}
 use Rattle.dr_model.specs.PairEntries.{send_refusal}
 use Rattle.dr_model.specs.SessionEntries.{counts_in, shown_of}
+use Rattle.dr_model.specs.Messages.{Flight}
+use Rattle.dr_model.specs.MessagePlans.{deliver_plan}
 use Rattle.dr_model.specs.SessionPlans.{exchange_plan}
 use Rattle.dr_model.specs.RecoveryPlans.{lets_revert}
 use Rattle.dr_model.specs.PlanParts.{Plan}
@@ -38,7 +40,7 @@ use Rattle.dr_laws_sound.proofs.Rides.{Rides}
 use Rattle.dr_laws_recovery.proofs.Recovered.{Alike, alike-refl, alike-then, alike-still, alike-away}
 use Rattle.dr_laws_recovery.proofs.RecoverySame.{recovery-same, is-revertible, elsewhere, left-away, decided-still, decided-away}
 use Rattle.dr_laws_recovery.proofs.Keeping.{MayFit, goes-moment, goes-ends, goes-after}
-use Rattle.dr_laws_recovery.proofs.Exchanges.{FitsMember, Exchanging, keeping, goes-exchange}
+use Rattle.dr_laws_recovery.proofs.Exchanges.{FitsMember, Exchanging, keeping, goes-exchange, goes-deliver}
 use Rattle.dr_facts.proofs.Tables.{at_part}
 use Rattle.dr_logic.proofs.Truth.{false_true}
 
@@ -67,6 +69,15 @@ module _ (w : World) (x : Session) where
   -- whatever the journal is told, and servers are on
   stays-told : (u : World) (on : ℕ → Bool) (fuse : ℕ → Option Fuse) (events : List Event) → Stays u → Stays (record u { control = record u.control { on = on; fuse = fuse }; events = events })
   stays-told u on fuse events k = record {
+    volumes = k.volumes;
+    alike = λ v. let a = k.alike v in record { tracks_same = a.tracks_same; remains = a.remains; number = a.number; image = a.image };
+    decided = k.decided;
+    apart = k.apart;
+  }
+
+  -- and whatever sessions and messages there are
+  stays-retabled : (u : World) (ss : List Session) (f : Flight) → Stays u → Stays (record u { control = record u.control { sessions = ss; flight = f } })
+  stays-retabled u ss f k = record {
     volumes = k.volumes;
     alike = λ v. let a = k.alike v in record { tracks_same = a.tracks_same; remains = a.remains; number = a.number; image = a.image };
     decided = k.decided;
@@ -211,12 +222,23 @@ module _ (w : World) (sound : Sound w) (x : Session) (listed : In x w.control.se
     gives = stays-same w x;
     told = λ v on es h. h;
     regroups = λ v ss f h. h;
+    retabled = stays-retabled w x;
   }
 
   pub exchange-keeps : (s : ℕ) (name : Name) (reply : Bool) → KeepsRecovery w (exchange_plan w.control s name reply) x.number
   exchange-keeps s name reply =
       let p : Plan = exchange_plan w.control s name reply in
       let goes = goes-exchange w sound (Same w x) law s name reply in
+      record {
+        moments = goes-moment w (Same w x) (keeping w sound (Same w x) law) p goes;
+        reads = goes-ends w (Same w x) (keeping w sound (Same w x) law) p goes;
+        after = goes-after w (Same w x) (keeping w sound (Same w x) law) p goes;
+      }
+
+  pub delivery-keeps : (n : ℕ) → KeepsRecovery w (deliver_plan w.control n) x.number
+  delivery-keeps n =
+      let p : Plan = deliver_plan w.control n in
+      let goes = goes-deliver w sound (Same w x) law n in
       record {
         moments = goes-moment w (Same w x) (keeping w sound (Same w x) law) p goes;
         reads = goes-ends w (Same w x) (keeping w sound (Same w x) law) p goes;

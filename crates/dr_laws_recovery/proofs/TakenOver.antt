@@ -1,4 +1,4 @@
--- No exchange touches the target of a member whose secondary isn't its primary's.
+-- No exchange and no delivery touches the target of a member whose secondary isn't its primary's.
 use Rattle.std.proofs.Common.{ℕ, ◌≡◌, ◌≢◌, inl, inr, refl, ap, sym, ◌∙◌, subst, Bool, true, false, Option, None}
 use Rattle.dr_ids.specs.declared.names.Member.{Member}
 use Rattle.dr_ids.specs.declared.refusal.Refusal.{Refusal}
@@ -10,6 +10,7 @@ use Rattle.dr_model.specs.Moves.{Move, Hold, target, keeps_staged, moved_keeping
 use Rattle.dr_model.specs.Carry.{Act, Make, OpenAttempt, Redo, Acknowledge, Drop, EndFreeze, EndThaw, EndRecovery}
 use Rattle.dr_model.specs.Entries.{fields_at}
 use Rattle.dr_model.specs.PairEntries.{send_refusal}
+use Rattle.dr_model.specs.MessagePlans.{deliver_plan}
 use Rattle.dr_model.specs.SessionPlans.{exchange_on, asking, exchange_plan}
 use Rattle.dr_model.specs.PlanParts.{Plan}
 use Rattle.dr_model.specs.Carried.{begun, finish}
@@ -22,7 +23,7 @@ use Rattle.dr_laws_recovery.specs.TakenOver.{IsLeft, LeavesTarget}
 use Rattle.dr_laws_sound.proofs.Turns.{next_of, carried_in, done, after_act}
 use Rattle.dr_laws_sound.proofs.Rides.{Rides}
 use Rattle.dr_laws_recovery.proofs.Keeping.{MayFit, Goes, finish-goes, goes-moment, goes-ends, goes-after}
-use Rattle.dr_laws_recovery.proofs.Exchanges.{FitsMember, Exchanging, keeping, goes-asking, goes-exchange}
+use Rattle.dr_laws_recovery.proofs.Exchanges.{FitsMember, Exchanging, keeping, goes-asking, goes-exchange, goes-deliver}
 use Rattle.dr_facts.proofs.Tables.{at_part}
 use Rattle.dr_logic.proofs.Truth.{false_true}
 use Rattle.dr_logic.proofs.Tables.{at_other}
@@ -109,6 +110,7 @@ module _ (w : World) (sound : Sound w) (x : Session) (m : Member) (listed : In x
     gives = λ v h. h.0;
     told = λ v on es h. h;
     regroups = λ v ss f h. h;
+    retabled = λ v ss f h. h;
   }
 
   leaves : (p : Plan) → Goes w LeftAt (keeping w sound LeftAt law) p → LeavesTarget w p m
@@ -120,6 +122,9 @@ module _ (w : World) (sound : Sound w) (x : Session) (m : Member) (listed : In x
 
   pub leaves-exchange : (s : ℕ) (name : Name) (reply : Bool) → LeavesTarget w (exchange_plan w.control s name reply) m
   leaves-exchange s name reply = leaves (exchange_plan w.control s name reply) (goes-exchange w sound LeftAt law s name reply)
+
+  pub leaves-delivery : (n : ℕ) → LeavesTarget w (deliver_plan w.control n) m
+  leaves-delivery n = leaves (deliver_plan w.control n) (goes-deliver w sound LeftAt law n)
 
   pub leaves-turn : (s server : ℕ) → LeavesTarget w (asking w.control s server true) m
   leaves-turn s server = leaves (asking w.control s server true) (goes-asking w sound LeftAt law s server true)

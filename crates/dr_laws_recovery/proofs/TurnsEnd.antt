@@ -32,7 +32,7 @@ use Rattle.dr_laws_sessions.proofs.Silent.{last-is}
 use Rattle.dr_laws_sound.proofs.Turns.{after_act}
 use Rattle.dr_laws_sound.proofs.Cases.{ordered}
 use Rattle.dr_laws_sound.proofs.FitsFlash.{as_begun, sound-begun}
-use Rattle.dr_laws_sound.proofs.FitsOrders.{WorkPhase, works}
+use Rattle.dr_laws_sound.proofs.FitsExchanges.{WorkPhase, works}
 use Rattle.dr_laws_sound.proofs.Awaits.{Awaited, exchange-begins, exchange-next, exchange-awaits}
 use Rattle.dr_laws_sound.proofs.Parts.{comes-asking}
 use Rattle.dr_laws_sound.proofs.Steps.{sound-part}

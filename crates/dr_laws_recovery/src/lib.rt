@@ -21,6 +21,7 @@ ghost use Rattle.dr_model.specs.Rows.{after};
 ghost use Rattle.dr_model.specs.Laws.{SoundRows, Sound, shown, sizes};
 ghost use Rattle.dr_model.specs.RecoveryPlans.{recover_plan, settle_plan, secondary_refusal, says_group, group_number, lets_commit, lets_revert};
 ghost use Rattle.dr_model.specs.PlanParts.{Plan};
+ghost use Rattle.dr_model.specs.MessagePlans.{deliver_plan};
 ghost use Rattle.dr_model.specs.SessionPlans.{exchange_plan, asking};
 ghost use Rattle.dr_model.specs.Pairs.{is_secondary_of};
 ghost use Rattle.dr_model.specs.Entries.{fields_at};
@@ -135,16 +136,18 @@ pub fn a_recovery_is_refused_for_its_causes()
     ensures { (w : World) (x : Session) → Sound w → In x w.control.sessions → AnswersForCause w x }
 {}
 
-/// No exchange flashes, commits or reverts the target of a member whose secondary isn't its primary's: as it was taken over, and until the
-/// pair is made again, the target stays as it is, wherever servers stop. So while all of a session's are taken over, exchanges change
-/// nothing of what a recovery makes of the session. And a recovery commits or reverts none before it has taken over the secondary of each
-/// member of the session.
+/// No exchange and no delivery flashes, commits or reverts the target of a member whose secondary isn't its primary's: as it was taken over,
+/// and until the pair is made again, the target stays as it is, wherever servers stop. So while all of a session's are taken over,
+/// exchanges and deliveries change nothing of what a recovery makes of the session. And a recovery commits or reverts none before it has
+/// taken over the secondary of each member of the session.
 pub fn what_is_taken_over_is_left()
     ensures exchanges { (w : World) (s : ℕ) (name : Name) (reply : Bool) (x : Session) (m : Member) → Sound w → In x w.control.sessions → In m x.members → is_secondary_of m.a.0 (fields_at w.control m.b.0) ≡ false →
         LeavesTarget w (exchange_plan w.control s name reply) m }
+    ensures deliveries { (w : World) (n : ℕ) (x : Session) (m : Member) → Sound w → In x w.control.sessions → In m x.members → is_secondary_of m.a.0 (fields_at w.control m.b.0) ≡ false → LeavesTarget w (deliver_plan w.control n) m }
     ensures turns { (w : World) (s server : ℕ) (x : Session) (m : Member) → Sound w → In x w.control.sessions → In m x.members → is_secondary_of m.a.0 (fields_at w.control m.b.0) ≡ false →
         LeavesTarget w (asking w.control s server true) m }
     ensures keeps { (w : World) (s : ℕ) (name : Name) (reply : Bool) (x : Session) → Sound w → In x w.control.sessions → AreTaken w x → KeepsRecovery w (exchange_plan w.control s name reply) x.number }
+    ensures keeps_delivered { (w : World) (n : ℕ) (x : Session) → Sound w → In x w.control.sessions → AreTaken w x → KeepsRecovery w (deliver_plan w.control n) x.number }
     ensures recovers { (w : World) (s : ℕ) (x : Session) → Sound w → session_in w.control.sessions s ≡ Some x → TakesOverFirst w (recover_plan w.control s) x }
 {}
 

@@ -198,7 +198,7 @@ settled-some : (d : Decision) → phases.phase_by d ≢ phase.None
 settled-some (CommitRest n) e = absurd cc
 settled-some d e = absurd cc
 
-settled-found : (d : Decision) → phases.phase_by d ≢ phase.Lost
+pub settled-found : (d : Decision) → phases.phase_by d ≢ phase.Lost
 settled-found (CommitRest n) lost = absurd cc
 settled-found d lost = absurd cc
 

@@ -13,8 +13,8 @@ use Rattle.dr_model.specs.Entries.{fields_at}
 use Rattle.dr_model.specs.SessionEntries.{is_past, last_of}
 use Rattle.dr_model.specs.SessionPlans.{is_idle, order_of}
 use Rattle.dr_model.specs.Sessions.{Session, Mirror, session_in, changed, begun}
-use Rattle.dr_model.specs.Groups.{In, SessionFits, HoldsMember, OpensAttempt, Groups}
-use Rattle.dr_laws_sessions.specs.Frames.{RecordedBefore, Moves, SilentBut, BeginsOrHolds, Holding}
+use Rattle.dr_model.specs.Groups.{In, SessionFits, Due, OpensAttempt, Groups}
+use Rattle.dr_laws_sessions.specs.Frames.{RecordedBefore, Moves, SilentBut, Begins, HoldsOn, Holding}
 use Rattle.dr_laws_sessions.proofs.Changes.{session-found, changed-found}
 use Rattle.dr_laws_sessions.proofs.Sound.{among-servers}
 use Rattle.dr_laws_sessions.proofs.Quieting.{moved-silent, moved-itself}
@@ -68,72 +68,80 @@ order-reports r server o lost is = by (phases.is_among server r.master.owed) (sy
 -- ---- holds, one after another
 
 pub holding-begins : (k : Control) (s server : ℕ) (x : Session) (r : Mirror) (o : phases.Order) → Groups k → session_in k.sessions s ≡ Some x → x.mirror ≡ Some r → order_of r server ≡ Some o → o.work ≡ phases.Hold → Holding k s server o.number x.members
-holding-begins k s server x r o groups found has is holds = record {
-  session = x;
-  found = found;
-  mirror = r;
-  has_master = has;
-  members = refl;
-  stage = by (order-holds r server o is holds);
-  owed = λ p m here on. subst (λ server. phases.is_among server r.master.owed ≡ true) (sym on) (owed-by r.master.phase (phases.is_among server r.master.owed) r.master.number o p is);
-  among = λ m here. subst (λ ks. phases.is_among m.server.0 ks ≡ true) (sym (fits.sound.servers r has)) (among-servers x m fits.sound here);
-}
+holding-begins k s server x r o groups found has is holds = record { session = x; found = found; members = refl; stage = by (order-holds r server o is holds) }
   where
     fits : SessionFits k x
     fits = groups.each x (session-found k.sessions s x found).0
 
-    number : r.master.number ≡ x.last
-    number = (groups.each x (session-found k.sessions s x found).0).sound.number r has
+    by : ((r.master.phase ≡ phase.Idle) × (o.number ≡ r.master.number + 1)) ⊎ ((r.master.phase ≡ phase.Coordinating) × (o.number ≡ r.master.number)) → Begins x o.number ⊎ HoldsOn k.flight x server o.number
+    by (inl h) = inl (record {
+      mirror = r;
+      has_master = has;
+      idle = h.0;
+      next = h.1 ∙ (λ i. fits.sound.number r has i + 1);
+      among = λ m here. subst (λ ks. phases.is_among m.server.0 ks ≡ true) (sym (fits.sound.servers r has)) (among-servers x m fits.sound here);
+    })
+    by (inr h) = let last = h.1 ∙ fits.sound.number r has in inr (record {
+      last = last;
+      due = inl (record { mirror = r; has_master = has; owed = owed-by r.master.phase (phases.is_among server r.master.owed) r.master.number o h.0 is; works = ap phases.work_in h.0; number = last });
+    })
 
-    by : ((r.master.phase ≡ phase.Idle) × (o.number ≡ r.master.number + 1)) ⊎ ((r.master.phase ≡ phase.Coordinating) × (o.number ≡ r.master.number)) → BeginsOrHolds x r o.number
-    by (inl h) = inl (h.0, h.1 ∙ (λ i. number i + 1))
-    by (inr h) = inr (h.0, h.1 ∙ number)
+-- a hold that comes by a message
+pub holding-comes : (k : Control) (s server n : ℕ) (x : Session) → session_in k.sessions s ≡ Some x → n ≡ x.last → Due k.flight x server phases.Hold n → Holding k s server n x.members
+holding-comes k s server n x found last due = record { session = x; found = found; members = refl; stage = inr (record { last = last; due = due }) }
 
--- the first hold begins the attempt, and each other is one of it
-pub holding-opens : (k : Control) (s server n : ℕ) (ms : List Member) (m : Member) → Holding k s server n ms → In m ms → (fields_at k m.a.0).primary_partner ≡ m.b.0 → nat_lt (last_of k s) n ≡ true → OpensAttempt k m.a.0 s n
-unfolding member-of
-holding-opens k s server n ms m holding here to newer = by holding.stage
+-- where its number is above the last one it begins the attempt
+pub holding-next : (k : Control) (s server n : ℕ) (ms : List Member) → (holding : Holding k s server n ms) → nat_lt (last_of k s) n ≡ true → Begins holding.session n
+holding-next k s server n ms holding newer = by holding.stage
   where
     above : holding.session.last < n
     above = ltb-true holding.session.last n (ap (λ i. nat_lt i n) (sym (last-is k s holding.session holding.found)) ∙ newer)
 
-    by : BeginsOrHolds holding.session holding.mirror n → OpensAttempt k m.a.0 s n
-    by (inl h) = record { place = member-of k s holding.session holding.mirror m holding.found holding.has_master (subst (In m) (sym holding.members) here); idle = h.0; next = h.1; to = to }
-    by (inr h) = let lt : holding.session.last < n = above in let e : n ≡ holding.session.last = h.1 in absurd (omega arith)
+    by : Begins holding.session n ⊎ HoldsOn k.flight holding.session server n → Begins holding.session n
+    by (inl h) = h
+    by (inr h) = let lt : holding.session.last < n = above in let e : n ≡ holding.session.last = h.last in absurd (omega arith)
 
-pub holding-holds : (k : Control) (s server n : ℕ) (ms : List Member) (m : Member) → Holding k s server n ms → In m ms → m.server.0 ≡ server → (fields_at k m.a.0).primary_partner ≡ m.b.0 → nat_lt (last_of k s) n ≡ false → HoldsMember k m.a.0 s n
+pub holding-opens : (k : Control) (s server n : ℕ) (ms : List Member) (m : Member) → Holding k s server n ms → In m ms → (fields_at k m.a.0).primary_partner ≡ m.b.0 → nat_lt (last_of k s) n ≡ true → OpensAttempt k m.a.0 s n
 unfolding member-of
-holding-holds k s server n ms m holding here is to not_newer = by holding.stage
+holding-opens k s server n ms m holding here to newer = let b = holding-next k s server n ms holding newer in
+    record { place = member-of k s holding.session b.mirror m holding.found b.has_master (subst (In m) (sym holding.members) here); idle = b.idle; next = b.next; to = to }
+
+-- else it is one of the last
+pub holding-on : (k : Control) (s server n : ℕ) (ms : List Member) → (holding : Holding k s server n ms) → nat_lt (last_of k s) n ≡ false → HoldsOn k.flight holding.session server n
+holding-on k s server n ms holding not_newer = by holding.stage
   where
     below : (holding.session.last < n) → ⊥
     below lt = false_true not_newer (ap (λ i. nat_lt i n) (last-is k s holding.session holding.found) ∙ lt-ltb holding.session.last n lt)
 
-    by : BeginsOrHolds holding.session holding.mirror n → HoldsMember k m.a.0 s n
-    by (inl h) = let e : n ≡ holding.session.last + 1 = h.1 in absurd (below (omega arith))
-    by (inr h) = record { place = member-of k s holding.session holding.mirror m holding.found holding.has_master (subst (In m) (sym holding.members) here); due = record { mirror = holding.mirror; has_master = holding.has_master; owed = holding.owed h.0 m here is; works = ap phases.work_in h.0; number = h.1 }; last = h.1; to = to }
+    by : Begins holding.session n ⊎ HoldsOn k.flight holding.session server n → HoldsOn k.flight holding.session server n
+    by (inl h) = let e : n ≡ holding.session.last + 1 = h.next in absurd (below (omega arith))
+    by (inr h) = h
 
--- it stays so where the sessions do, and where the attempt has begun
-pub holding-stays : (k j : Control) (s server n : ℕ) (ms : List Member) → j.sessions ≡ k.sessions → Holding k s server n ms → Holding j s server n ms
-holding-stays k j s server n ms same holding = record { session = holding.session; found = ap (λ ss. session_in ss s) same ∙ holding.found; mirror = holding.mirror; has_master = holding.has_master; members = holding.members; stage = holding.stage; owed = holding.owed; among = holding.among }
+-- it stays so where the sessions and the messages do, and where the attempt has begun
+pub holding-stays : (k j : Control) (s server n : ℕ) (ms : List Member) → j.sessions ≡ k.sessions → j.flight ≡ k.flight → Holding k s server n ms → Holding j s server n ms
+holding-stays k j s server n ms same still holding = record {
+  session = holding.session;
+  found = ap (λ ss. session_in ss s) same ∙ holding.found;
+  members = holding.members;
+  stage = subst (λ f. Begins holding.session n ⊎ HoldsOn f holding.session server n) (sym still) holding.stage;
+}
 
-pub holding-begun : (k j : Control) (v s server n : ℕ) (ms : List Member) → j.sessions ≡ changed s begun k.sessions → nat_lt (last_of k s) n ≡ true → Holding k s server n ms → Holding j s server n ms
-holding-begun k j v s server n ms same newer holding = record {
+pub holding-begun : (k j : Control) (s server n : ℕ) (ms : List Member) (m : Member) → j.sessions ≡ changed s begun k.sessions → nat_lt (last_of k s) n ≡ true → In m ms → m.server.0 ≡ server → Holding k s server n ms → Holding j s server n ms
+holding-begun k j s server n ms m same newer here on holding = let b = holding-next k s server n ms holding newer in record {
   session = begun holding.session;
   found = ap (λ ss. session_in ss s) same ∙ changed-found s begun k.sessions holding.session (λ x. refl) holding.found;
-  mirror = record holding.mirror { master = phases.begun holding.mirror.master };
-  has_master = ap (option_map (λ (r : Mirror). record r { master = phases.begun r.master })) holding.has_master;
   members = holding.members;
-  stage = inr (refl, by holding.stage);
-  owed = λ p m here on. holding.among m here;
-  among = holding.among;
+  stage = inr (record {
+    last = b.next;
+    due = inl (record {
+      mirror = record b.mirror { master = phases.begun b.mirror.master };
+      has_master = ap (option_map (λ (r : Mirror). record r { master = phases.begun r.master })) b.has_master;
+      owed = subst (λ server. phases.is_among server b.mirror.master.servers ≡ true) on (b.among m (subst (In m) (sym holding.members) here));
+      works = refl;
+      number = b.next;
+    });
+  });
 }
-  where
-    above : holding.session.last < n
-    above = ltb-true holding.session.last n (ap (λ i. nat_lt i n) (sym (last-is k s holding.session holding.found)) ∙ newer)
-
-    by : BeginsOrHolds holding.session holding.mirror n → n ≡ holding.session.last + 1
-    by (inl h) = h.1
-    by (inr h) = let lt : holding.session.last < n = above in let e : n ≡ holding.session.last = h.1 in absurd (omega arith)
 
 -- ---- a server falls silent
 

@@ -32,7 +32,7 @@ those-few ks (m ∷ ms) = by (phases.is_among m.server.0 ks) (those-few ks ms)
     by false less = omega (arith, less)
 
 -- a list without a server doesn't have it
-out-without : (s : ℕ) (ks : List ℕ) → phases.is_among s (phases.without s ks) ≡ false
+pub out-without : (s : ℕ) (ks : List ℕ) → phases.is_among s (phases.without s ks) ≡ false
 out-without s [] = refl
 out-without s (n ∷ ks) = by (eqb_tells n s) (out-without s ks)
   where

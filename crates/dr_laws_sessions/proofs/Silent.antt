@@ -107,7 +107,9 @@ pub holds-of : (k : Control) (s : ℕ) (x : Session) (r : Mirror) (m : Member) �
 unfolding member-of
 holds-of k s x r m groups is has here to phase_is owes = record {
   place = member-of k s x r m is has here;
-  due = record { mirror = r; has_master = has; owed = owes; works = ap phases.work_in phase_is; number = (groups.each x (session-found k.sessions s x is).0).sound.number r has };
+  due = inl (record { mirror = r; has_master = has; owed = owes; works = ap phases.work_in phase_is; number = (groups.each x (session-found k.sessions s x is).0).sound.number r has });
+  busy = λ idle. let other : phase.Coordinating ≡ phase.Idle = sym phase_is ∙ idle in absurd cc;
+  unfinished = λ ends. owes;
   last = (groups.each x (session-found k.sessions s x is).0).sound.number r has;
   to = to;
 }

@@ -1,5 +1,5 @@
 -- The laws of sessions stay where volumes change: before the first step, where a volume is defined, and in a move.
-use Rattle.std.proofs.Common.{ℕ, ◌≡◌, ◌≢◌, ◌⊎◌, inl, inr, refl, ap, sym, ◌∙◌, subst, true, false, ◌||◌, ◌+◌, nat_eq, List, [], ◌∷◌, ◌++◌, None, Some, option_map}
+use Rattle.std.proofs.Common.{ℕ, ◌≡◌, ◌≢◌, ◌⊎◌, inl, inr, refl, ap, sym, ◌∙◌, subst, true, false, ◌||◌, ◌+◌, nat_eq, List, [], ◌∷◌, ◌++◌, Some, option_map}
 use Rattle.std.specs.List.{list_any}
 use Rattle.std.proofs.lemmas.Bool.{cases_Bool}
 use Rattle.std.proofs.lemmas.List.Folds.{list_any-append}
@@ -11,11 +11,11 @@ use Rattle.dr_ids.specs.declared.refusal.PhaseName.TheVariants as phase
 use Rattle.dr_model.specs.Phases as phases
 use Rattle.dr_model.specs.Control.{Control, Volume, new_volume, no_control, is_volume}
 use Rattle.dr_model.specs.Entries.{fields_at}
-use Rattle.dr_model.specs.Sessions.{Session, Mirror, changed, begun}
+use Rattle.dr_model.specs.Sessions.{Session, Mirror, session_in, changed, begun}
 use Rattle.dr_model.specs.Groups.{In, Finished, SessionFits, IsRecorder, Groups, IsMember, HoldsMember, OpensAttempt}
 use Rattle.dr_laws_sessions.specs.Frames.{Grows, Quieter, Framed, RecordedBefore, RecordedOr, Quiet}
 use Rattle.dr_facts.proofs.Tables.{at_cases}
-use Rattle.dr_laws_sessions.proofs.Changes.{same-session, changed-becomes}
+use Rattle.dr_laws_sessions.proofs.Changes.{session-found, same-session, changed-becomes}
 use Rattle.dr_laws_sessions.proofs.Frames.{Fit, fit-of, groups-fit, recorder-is, groups-of, stands-grows, master-grows, Turns, turn-quiet}
 use Rattle.dr_laws_sessions.proofs.Sound.{mapped, master-turns, master-with, sound-begun, fits-calm}
 use Rattle.dr_laws_sessions.proofs.Owed.{owes-enters, owes-mirrors}
@@ -91,12 +91,6 @@ pub record HoldsIn (ss : List Session) (v n partner : ℕ) : Type 0 where
   pub last : n ≡ session.last
   pub to : partner ≡ member.b.0
 
-hold-busy : (p : PhaseName) → phases.work_in p ≡ Some phases.Hold → p ≢ phase.Idle
-hold-busy p works idle = let none : None ≡ Some phases.Hold = sym (ap phases.work_in idle) ∙ works in absurd cc
-
-hold-unfinished : {P : Type 0} (p : PhaseName) → phases.work_in p ≡ Some phases.Hold → p ≡ phase.Finishing → P
-hold-unfinished p works ends = let other : Some phases.Finish ≡ Some phases.Hold = sym (ap phases.work_in ends) ∙ works in absurd cc
-
 still-unfinished : (r q : Mirror) (p m : Member) → r ≡ q → p ≡ m → (r.master.phase ≡ phase.Finishing → phases.is_among p.server.0 r.master.owed ≡ true) → q.master.phase ≡ phase.Finishing → phases.is_among m.server.0 q.master.owed ≡ true
 still-unfinished r q p m is also owes ends = sym (λ i. phases.is_among (also i).server.0 (is i).master.owed) ∙ owes (ap (λ (q : Mirror). q.master.phase) is ∙ ends)
 
@@ -153,11 +147,10 @@ module _ (j k : Control) (ss : List Session) (v n : ℕ) (grows : Grows j k) (st
 pub groups-held : (j k : Control) (v s n : ℕ) → Framed j k → ((u : ℕ) → (fields_at k u).recording ≡ true → RecordedOr j k v n u) → HoldsMember j v s n → Groups j → Groups k
 groups-held j k v s n frame stays holds old =
     let p : IsMember j v s = holds.place in
-    let works : phases.work_in p.mirror.master.phase ≡ Some phases.Hold = ap (λ (r : Mirror). phases.work_in r.master.phase) (same_Some _ _ (sym p.has_master ∙ holds.due.has_master)) ∙ holds.due.works in
     groups-fit k (subst (Fit k) (sym frame.sessions) (fit-holds j k j.sessions v n (grows-framed j k frame) stays (fit-of j old)
-    (record { session = p.session; listed = p.listed; mirror = p.mirror; has_master = p.has_master; busy = hold-busy p.mirror.master.phase works; unfinished = λ ends. hold-unfinished p.mirror.master.phase works ends; member = p.member; here = p.here; is = p.is; last = holds.last; to = holds.to })))
+    (record { session = p.session; listed = p.listed; mirror = p.mirror; has_master = p.has_master; busy = holds.busy; unfinished = holds.unfinished; member = p.member; here = p.here; is = p.is; last = holds.last; to = holds.to })))
 
--- ---- the first hold of an attempt
+-- ---- an attempt begins, by its first hold or without one
 
 turn-begun : (k : Control) (x : Session) → Quiet x → SessionFits k x → Turns k x (begun x)
 turn-begun k x quiet fits =
@@ -174,12 +167,17 @@ turn-begun k x quiet fits =
 pub idle-quiet : (x : Session) (q : Mirror) → x.mirror ≡ Some q → q.master.phase ≡ phase.Idle → Quiet x
 idle-quiet x q has idle r also = ap (λ (z : Mirror). z.master.phase) ((same_Some _ _ (sym also ∙ has))) ∙ idle
 
-pub fit-begun : (k : Control) (v s n : ℕ) → OpensAttempt k v s n → Groups k → Fit k (changed s begun k.sessions)
-fit-begun k v s n opens groups =
-    let p : IsMember k v s = opens.place in
+fit-begun-in : (k : Control) (s : ℕ) (x : Session) (r : Mirror) → Groups k → In x k.sessions → x.number ≡ s → x.mirror ≡ Some r → r.master.phase ≡ phase.Idle → Fit k (changed s begun k.sessions)
+fit-begun-in k s x r groups listed number has idle =
     fit-changed k s begun groups (λ x. refl) (λ y i e.
-    subst (λ z. Turns k z (begun z)) (same-session k.sessions p.session y groups.once p.listed i (p.number ∙ sym e))
-    (turn-begun k p.session (idle-quiet p.session p.mirror p.has_master opens.idle) (groups.each p.session p.listed)))
+    subst (λ z. Turns k z (begun z)) (same-session k.sessions x y groups.once listed i (number ∙ sym e))
+    (turn-begun k x (idle-quiet x r has idle) (groups.each x listed)))
+
+pub fit-begun : (k : Control) (v s n : ℕ) → OpensAttempt k v s n → Groups k → Fit k (changed s begun k.sessions)
+fit-begun k v s n opens groups = let p : IsMember k v s = opens.place in fit-begun-in k s p.session p.mirror groups p.listed p.number p.has_master opens.idle
+
+pub groups-begun : (k : Control) (s : ℕ) (x : Session) (r : Mirror) → Groups k → session_in k.sessions s ≡ Some x → x.mirror ≡ Some r → r.master.phase ≡ phase.Idle → Groups (record k { sessions = changed s begun k.sessions })
+groups-begun k s x r groups found has idle = let there = session-found k.sessions s x found in with-table k (changed s begun k.sessions) (fit-begun-in k s x r groups there.0 there.1 has idle)
 
 pub groups-opened : (j k : Control) (v s n : ℕ) → Framed j k → ((u : ℕ) → (fields_at k u).recording ≡ true → RecordedOr j k v n u) → OpensAttempt j v s n → Groups j → Groups (record k { sessions = changed s begun k.sessions })
 groups-opened j k v s n frame stays opens old =

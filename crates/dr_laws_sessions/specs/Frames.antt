@@ -11,7 +11,8 @@ use Rattle.dr_model.specs.Control.{Control, is_volume}
 use Rattle.dr_model.specs.Moves.{Move, Hold, RaiseAttempt, Carried, moved_keeping}
 use Rattle.dr_model.specs.Entries.{fields_at}
 use Rattle.dr_model.specs.Sessions.{Session, Mirror, session_in}
-use Rattle.dr_model.specs.Groups.{In, IsAt, HoldsMember}
+use Rattle.dr_model.specs.Messages.{Flight}
+use Rattle.dr_model.specs.Groups.{In, IsAt, Due, HoldsMember}
 
 -- each volume that was there is there, on its server and of its size
 pub record Grows (k j : Control) : Type 0 where
@@ -85,17 +86,22 @@ pub record Became (s : ℕ) (f : Session → Session) (ss : List Session) (y : S
   pub number : from.number ≡ s
   pub is : y ≡ f from
 
--- attempt n of the session that a number gives is about to begin, or its master holds members for it
-abbrev pub BeginsOrHolds : Session → Mirror → ℕ → Type 0
-BeginsOrHolds x r n = ((r.master.phase ≡ phase.Idle) × (n ≡ x.last + 1)) ⊎ ((r.master.phase ≡ phase.Coordinating) × (n ≡ x.last))
+-- attempt n of a session is about to begin: its master is Idle, with the servers of its members
+pub record Begins (x : Session) (n : ℕ) : Type 0 where
+  pub mirror : Mirror
+  pub has_master : x.mirror ≡ Some mirror
+  pub idle : mirror.master.phase ≡ phase.Idle
+  pub next : n ≡ x.last + 1
+  pub among : (m : Member) → In m x.members → phases.is_among m.server.0 mirror.master.servers ≡ true
 
--- Session s has a master and these members, and attempt n begins in it or goes on with holds, which are owed to that server.
+-- or it is the last one, of which a hold is due on that server
+pub record HoldsOn (f : Flight) (x : Session) (server n : ℕ) : Type 0 where
+  pub last : n ≡ x.last
+  pub due : Due f x server phases.Hold n
+
+-- session s has these members, and attempt n begins in it or goes on with holds on that server
 pub record Holding (k : Control) (s server n : ℕ) (ms : List Member) : Type 0 where
   pub session : Session
   pub found : session_in k.sessions s ≡ Some session
-  pub mirror : Mirror
-  pub has_master : session.mirror ≡ Some mirror
   pub members : session.members ≡ ms
-  pub stage : BeginsOrHolds session mirror n
-  pub owed : mirror.master.phase ≡ phase.Coordinating → (m : Member) → In m ms → m.server.0 ≡ server → phases.is_among m.server.0 mirror.master.owed ≡ true
-  pub among : (m : Member) → In m ms → phases.is_among m.server.0 mirror.master.servers ≡ true
+  pub stage : Begins session n ⊎ HoldsOn k.flight session server n

@@ -21,8 +21,8 @@ ghost use Rattle.dr_model.specs.SessionEntries.{is_past, last_of, members_on};
 ghost use Rattle.dr_model.specs.SessionPlans.{order_of, answered_by, join_plan, leave_plan, mirror_plan, pause_mirror_plan, unmirror_plan, abort_plan, add_done, expel_done, exchange_done};
 ghost use Rattle.dr_model.specs.Plans.{server_plan, volume_plan};
 ghost use Rattle.dr_model.specs.Sessions.{Session, Mirror, session_in, has_place_of, changed, joined, left, lost_since, begun, raised, mirrored_by, unmirrored, paused, with_master, with_member, without_member, busy, leave_refusal, drop_refusal};
-ghost use Rattle.dr_model.specs.Groups.{In, IsAt, MemberStands, PlacesDiffer, Groups, HoldsMember, OpensAttempt, Housed};
-ghost use Rattle.dr_laws_sessions.specs.Frames.{Grows, Quieter, Framed, RecordedBefore, RecordedOr, Moves, Suits, Quiet, ServerSilent, SilentBut, MayReport, OwesReport, Became, Holding};
+ghost use Rattle.dr_model.specs.Groups.{In, IsAt, MemberStands, PlacesDiffer, Groups, Due, HoldsMember, OpensAttempt, Housed};
+ghost use Rattle.dr_laws_sessions.specs.Frames.{Grows, Quieter, Framed, RecordedBefore, RecordedOr, Moves, Suits, Quiet, ServerSilent, SilentBut, MayReport, OwesReport, Became, HoldsOn, Holding};
 
 /// The laws hold before the first step, and stay where a volume is defined.
 pub fn the_laws_of_sessions_begin()
@@ -46,13 +46,15 @@ pub fn joining_and_leaving_keep_the_laws_of_sessions()
     ensures left { (k : Control) (s l : ℕ) (x : Session) → Groups k → session_in k.sessions s ≡ Some x → leave_refusal (Some x) s l ≡ None → Groups (record k { sessions = left s l k.sessions }) }
 {}
 
-/// They stay where a master is appointed on the server of a volume, dismissed, paused, aborted or lost.
+/// They stay where a master is appointed on the server of a volume, dismissed, paused, aborted or lost; and where it begins an attempt
+/// before any member is held.
 pub fn masters_keep_the_laws_of_sessions()
     ensures mirrored { (k : Control) (s server : ℕ) (x : Session) → Groups k → session_in k.sessions s ≡ Some x → x.mirror ≡ None → (v : ℕ) → is_volume k v ≡ true → (k.volume v).server ≡ server → Groups (record k { sessions = changed s (mirrored_by server) k.sessions }) }
     ensures unmirrored { (k : Control) (s : ℕ) (x : Session) → Groups k → session_in k.sessions s ≡ Some x → drop_refusal x.mirror ≡ None → Groups (record k { sessions = changed s unmirrored k.sessions }) }
     ensures paused { (k : Control) (s : ℕ) (on : Bool) → Groups k → Groups (record k { sessions = changed s (paused on) k.sessions }) }
     ensures aborted { (k : Control) (s : ℕ) → Groups k → Groups (record k { sessions = changed s (with_master phases.aborted) k.sessions }) }
     ensures lost { (k : Control) (before now : ℕ → Bool) → Groups k → Groups (record k { sessions = lost_since before now k.sessions }) }
+    ensures begun { (k : Control) (s : ℕ) (x : Session) (r : Mirror) → Groups k → session_in k.sessions s ≡ Some x → x.mirror ≡ Some r → r.master.phase ≡ phase.Idle → Groups (record k { sessions = changed s begun k.sessions }) }
 {}
 
 /// They stay where a master takes the reply of a server. In Finishing no member on it may record; and a lost master takes a report of each
@@ -134,13 +136,14 @@ pub fn orders_hold_members()
 {}
 
 /// While a server carries out a hold, the first member that isn't held yet begins the attempt where none has begun, and each other is
-/// held for the one that has.
+/// held for the one that has: by an order that is owed, or by one that came as a message.
 pub fn one_member_after_another_is_held()
     ensures begins { (k : Control) (s server : ℕ) (x : Session) (r : Mirror) (o : phases.Order) → Groups k → session_in k.sessions s ≡ Some x → x.mirror ≡ Some r → order_of r server ≡ Some o → o.work ≡ phases.Hold → Holding k s server o.number x.members }
+    ensures comes { (k : Control) (s server n : ℕ) (x : Session) → session_in k.sessions s ≡ Some x → n ≡ x.last → Due k.flight x server phases.Hold n → Holding k s server n x.members }
     ensures opens { (k : Control) (s server n : ℕ) (ms : List Member) (m : Member) → Holding k s server n ms → In m ms → (fields_at k m.a.0).primary_partner ≡ m.b.0 → nat_lt (last_of k s) n ≡ true → OpensAttempt k m.a.0 s n }
-    ensures holds { (k : Control) (s server n : ℕ) (ms : List Member) (m : Member) → Holding k s server n ms → In m ms → m.server.0 ≡ server → (fields_at k m.a.0).primary_partner ≡ m.b.0 → nat_lt (last_of k s) n ≡ false → HoldsMember k m.a.0 s n }
-    ensures stays { (k j : Control) (s server n : ℕ) (ms : List Member) → j.sessions ≡ k.sessions → Holding k s server n ms → Holding j s server n ms }
-    ensures begun { (k j : Control) (v s server n : ℕ) (ms : List Member) → j.sessions ≡ changed s begun k.sessions → nat_lt (last_of k s) n ≡ true → Holding k s server n ms → Holding j s server n ms }
+    ensures holds { (k : Control) (s server n : ℕ) (ms : List Member) → (h : Holding k s server n ms) → nat_lt (last_of k s) n ≡ false → HoldsOn k.flight h.session server n }
+    ensures stays { (k j : Control) (s server n : ℕ) (ms : List Member) → j.sessions ≡ k.sessions → j.flight ≡ k.flight → Holding k s server n ms → Holding j s server n ms }
+    ensures begun { (k j : Control) (s server n : ℕ) (ms : List Member) (m : Member) → j.sessions ≡ changed s begun k.sessions → nat_lt (last_of k s) n ≡ true → In m ms → m.server.0 ≡ server → Holding k s server n ms → Holding j s server n ms }
 {}
 
 /// One member after another on a server stops to record, and at last none records.

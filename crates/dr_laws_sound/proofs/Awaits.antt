@@ -30,7 +30,7 @@ use Rattle.dr_laws_sessions.proofs.Silent.{quiet-silent, last-is, on-members}
 use Rattle.dr_laws_sessions.proofs.Volumes.{idle-quiet}
 use Rattle.dr_laws_sessions.proofs.Orders.{order-reports}
 use Rattle.dr_laws_sessions.proofs.Reports.{shown-few, reports-few}
-use Rattle.dr_laws_sound.proofs.FitsOrders.{WorkPhase, IsLast, works}
+use Rattle.dr_laws_sound.proofs.FitsExchanges.{WorkPhase, IsLast, works}
 use Rattle.dr_laws_sound.proofs.Turns.{act-cases}
 use Rattle.dr_laws_sound.proofs.Cases.{one-passed}
 use Rattle.dr_facts.proofs.Refusals.{none-both, met}

@@ -23,7 +23,7 @@ use Rattle.dr_ids.specs.declared.refusal.Decision.{Decision}
 use Rattle.dr_model.specs.Plans.{counted_refusal, secondary_refusal, leaves_all, forbidden_unless, decided_in, restore_refusal, member_from, restores_refusal, yield_refusal, compare_entries, left_by, member_refusal, Plan, found_volumes, named_pair, is_defined, is_owner, differ, is_no_source, has_few_targets, is_plain_target, is_recorded_target, is_lone_restore, may_return, may_give_back, may_copy, at_most, left_to_copy}
 use Rattle.dr_model.specs.RecoveryPlans.{decided_in, settle_on}
 use Rattle.dr_laws_sound.proofs.Parts.{Ending, OnePlan, Imaged}
-use Rattle.dr_laws_sound.proofs.Cases.{Case, Says, DefinesServer, DefinesVolume, SetsLink, Issues, Writes, Applies, Lists, Shows, Stops, Arms, Starts, MakesFlash, RemovesFlash, ResyncsFlash, ReversesFlash, Copies, Destages, MakesPath, RemovesPath, MakesPair, RemovesPair, PausesPair, ResumesPair, FailsOver, FailsBack, Compares, Drains, Expires, Freezes, Unfreezes, MakesSession, RemovesSession, MakesMirror, PausesMirror, RemovesMirror, Aborts, AddsMember, RemovesMember, Exchanges, Loses, Recovers, Settles, Releases}
+use Rattle.dr_laws_sound.proofs.Cases.{Case, Says, DefinesServer, DefinesVolume, SetsLink, Issues, Writes, Applies, Lists, Shows, Stops, Arms, Starts, MakesFlash, RemovesFlash, ResyncsFlash, ReversesFlash, Copies, Destages, MakesPath, RemovesPath, MakesPair, RemovesPair, PausesPair, ResumesPair, FailsOver, FailsBack, Compares, Drains, Expires, Freezes, Unfreezes, MakesSession, RemovesSession, MakesMirror, PausesMirror, RemovesMirror, Aborts, AddsMember, RemovesMember, Exchanges, Sends, Delivers, TakesReply, Loses, Recovers, Settles, Releases}
 use Rattle.std.specs.List.{find}
 use Rattle.dr_ids.specs.declared.names.Member.{Member}
 use Rattle.dr_model.specs.Sessions.{Session, session_in, members_in, in_session, is_member}
@@ -287,6 +287,9 @@ case-calm k events line _ (PausesMirror s on) = none-calm
 case-calm k events line _ (RemovesMirror s x found free) = none-calm
 case-calm k events line _ (Aborts s x found free) = none-calm
 case-calm k events line _ (Loses n) = none-calm
+case-calm k events line _ (Sends s server x r o posts) = none-calm
+case-calm k events line _ (TakesReply n m reply x r returns) = none-calm
+case-calm k events line _ (Delivers n m starts x r reaches) = order-calm m.session m.order.number m.order.work (members_on m.server x.members)
 case-calm k events line _ (AddsMember s a c x joins) = endless-calm _ (add-endless (member_with k a c) _)
 case-calm k events line _ (RemovesMember s a x m found is idle on) = now-calm (Leave m.c.0 m.a.0 s)
 case-calm k events line _ (Recovers s x found on) = endless-calm _ (recover-endless s (decided_in s k) x.members)

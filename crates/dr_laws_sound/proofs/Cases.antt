@@ -22,7 +22,7 @@ use Rattle.dr_model.specs.declared.step.Devs.{Devs}
 use Rattle.dr_model.specs.declared.step.PairChoices.{PairChoices}
 use Rattle.dr_model.specs.declared.step.TornWord.{TornWord}
 use Rattle.dr_model.specs.declared.step.Step.{Step}
-use Rattle.dr_model.specs.declared.step.Step.TheVariants.{Server, Volume, Link, Stop, StopAfter, Start, Issue, Write, Apply, Show, MakeFlash, RemoveFlash, ResyncFlash, ReverseFlash, Copy, Destage, MakePath, RemovePath, MakePair, RemovePair, PausePair, ResumePair, Failover, Failback, Drain, Expire, Freeze, Unfreeze, MakeSession, RemoveSession, AddMember, RemoveMember, MakeMirror, PauseMirror, ResumeMirror, RemoveMirror, Abort, Exchange, Lose, Recover, CommitFlash, RevertFlash, ListPairs, ListFlashes, ListSession, ShowMirror, UnfreezeFlash}
+use Rattle.dr_model.specs.declared.step.Step.TheVariants.{Server, Volume, Link, Stop, StopAfter, Start, Issue, Write, Apply, Show, MakeFlash, RemoveFlash, ResyncFlash, ReverseFlash, Copy, Destage, MakePath, RemovePath, MakePair, RemovePair, PausePair, ResumePair, Failover, Failback, Drain, Expire, Freeze, Unfreeze, MakeSession, RemoveSession, AddMember, RemoveMember, MakeMirror, PauseMirror, ResumeMirror, RemoveMirror, Abort, Exchange, Send, Deliver, Lose, Recover, CommitFlash, RevertFlash, ListPairs, ListFlashes, ListSession, ShowMirror, UnfreezeFlash}
 use Rattle.dr_model.specs.Layout.{is_part, kind_of}
 use Rattle.dr_model.specs.Limits.{most_servers, most_volumes, most_tracks, most_pending}
 use Rattle.dr_model.specs.Refusals.{server_off, unknown, duplicate, over}
@@ -34,9 +34,9 @@ use Rattle.dr_model.specs.Phases as phases
 use Rattle.dr_model.specs.Sessions.{Session, Mirror, has_subsystem, subsystem_of, session_in, members_in, has_place_of, joined, changed, paused, unmirrored, with_member, without_member, raised, busy, in_session, leave_refusal, join_refusal, make_refusal, drop_refusal, abort_refusal}
 use Rattle.dr_model.specs.SessionEntries.{order_entries, members_on, first_number, add_entries, expel_entries}
 use Rattle.dr_model.specs.Entries.{fields_at, first_of, subsystem}
-use Rattle.dr_model.specs.Messages.{Message, message_in, lost}
-use Rattle.dr_model.specs.MessagePlans.{with_flight, on_message}
-use Rattle.dr_model.specs.SessionPlans.{with_sessions, table_plan, leaving, appointed, aborting, exchanged, says_phase, name_refusal, off_refusal, outside_refusal, master_refusal, place_refusal, taken_refusal, copy_refusal, member_target, member_with, add_target, add_to, expel_done, expel_found, exchange_refusal, order_of, exchange_done, exchange_on, on_volume, join_plan, leave_plan, mirror_plan, pause_mirror_plan, unmirror_plan, abort_plan, add_plan, expel_plan, exchange_plan}
+use Rattle.dr_model.specs.Messages.{Message, Body, Asks, Replies, message_in, lost}
+use Rattle.dr_model.specs.MessagePlans.{with_flight, on_message, send_refusal, send_order, send_on, send_plan, order_refusal, order_done, order_on, reply_refusal, taking, reply_on, deliver_on}
+use Rattle.dr_model.specs.SessionPlans.{with_sessions, table_plan, leaving, appointed, aborting, exchanged, says_phase, is_idle, name_refusal, off_refusal, outside_refusal, master_refusal, place_refusal, taken_refusal, copy_refusal, member_target, member_with, add_target, add_to, expel_done, expel_found, exchange_refusal, order_of, exchange_done, exchange_on, on_volume, join_plan, leave_plan, mirror_plan, pause_mirror_plan, unmirror_plan, abort_plan, add_plan, expel_plan, exchange_plan}
 use Rattle.dr_ids.specs.declared.refusal.Decision.{Decision}
 use Rattle.dr_model.specs.RecoveryPlans.{decided_in, secondary_refusal, untaken_refusal, forbidden_unless, lets_commit, lets_revert, settle_on, recover_done, recover_plan, member_of_target, revertible_target, settle_refusal, settle_member, settle_target, settle_plan}
 use Rattle.dr_facts.proofs.Lists.{found}
@@ -97,6 +97,36 @@ pub record Ordered (k : Control) (s server : ℕ) (x : Session) (r : Mirror) (o 
   pub allowed : exchange_refusal k r server x.members ≡ None
   pub order : order_of r server ≡ Some o
 
+-- why a master may send an order to a server
+pub record Posts (k : Control) (s server : ℕ) (x : Session) (r : Mirror) (o : phases.Order) : Type 0 where
+  pub here : server < length k.servers
+  pub found : session_in k.sessions s ≡ Some x
+  pub mirror : x.mirror ≡ Some r
+  pub allowed : send_refusal k r server x.members ≡ None
+  pub order : order_of r server ≡ Some o
+
+-- a message was found, and its session with its master
+pub record Arrives (k : Control) (n : ℕ) (m : Message) (body : Body) (x : Session) (r : Mirror) : Type 0 where
+  pub there : message_in k.flight n ≡ Some m
+  pub says : m.body ≡ body
+  pub found : session_in k.sessions m.session ≡ Some x
+  pub mirror : x.mirror ≡ Some r
+
+-- why a server may carry out an order that came
+pub record Reaches (k : Control) (n : ℕ) (m : Message) (starts : ℕ) (x : Session) (r : Mirror) : Type 0 where
+  pub arrives : Arrives k n m (Asks starts) x r
+  pub on : off_refusal k m.server ≡ None
+  pub allowed : order_refusal k r m starts ≡ None
+
+-- and why a master may take a reply that came
+pub record Returns (k : Control) (n : ℕ) (m : Message) (reply : phases.Reply) (x : Session) (r : Mirror) : Type 0 where
+  pub arrives : Arrives k n m (Replies reply) x r
+  pub allowed : reply_refusal k r m ≡ None
+
+-- a master takes a reply
+abbrev pub taken : Message → phases.Reply → Plan
+taken m reply = record (tables_plan (taking m reply) [] (Done Alone)) { says = says_phase m.session }
+
 -- what a step comes to, with what was seen before
 pub data Case (k : Control) (events : List Event) (line : ℕ) : Plan → Type 0 where
   Says : (a : Said) → Case k events line (only_says a)
@@ -141,6 +171,9 @@ pub data Case (k : Control) (events : List Event) (line : ℕ) : Plan → Type 0
   RemovesMember : (s a : ℕ) → (x : Session) → (m : Member) → session_in k.sessions s ≡ Some x → find (λ m. m.a.0 == a) x.members ≡ Some m → busy x.mirror ≡ None → off_refusal k (k.volume m.c.0).server ≡ None → Case k events line (expelled s m)
   Loses : (n : ℕ) → Case k events line (tables_plan (with_flight (lost n)) [] (Done Alone))
   Exchanges : (s server : ℕ) → (reply : Bool) → (x : Session) → (r : Mirror) → (o : phases.Order) → Ordered k s server x r o → Case k events line (ordered s server reply (members_on server x.members) o)
+  Sends : (s server : ℕ) → (x : Session) → (r : Mirror) → (o : phases.Order) → Posts k s server x r o → Case k events line (send_order s (is_idle r.master.phase) server (Some o))
+  Delivers : (n : ℕ) → (m : Message) → (starts : ℕ) → (x : Session) → (r : Mirror) → Reaches k n m starts x r → Case k events line (order_done m (members_on m.server x.members))
+  TakesReply : (n : ℕ) → (m : Message) → (reply : phases.Reply) → (x : Session) → (r : Mirror) → Returns k n m reply x r → Case k events line (taken m reply)
   Recovers : (s : ℕ) → (x : Session) → session_in k.sessions s ≡ Some x → secondary_refusal x.members k ≡ None → Case k events line (recover_done s (decided_in s k) x.members)
   Settles : (s : ℕ) → (x : Session) → (m : Member) → session_in k.sessions s ≡ Some x → In m x.members → secondary_refusal x.members k ≡ None → untaken_refusal x.members k ≡ None → Case k events line (entries_plan (settle_on s (decided_in s k) m ∷ []) (Done Alone))
 
@@ -176,6 +209,10 @@ module _ (k : Control) (events : List Event) (line : ℕ) where
   where-placed : (o : Option ℕ) (p : ℕ → Plan) → ((s : ℕ) → o ≡ Some s → Is (p s)) → Is (on_named o p)
   where-placed None p go = Says (Refused (unknown OfServer))
   where-placed (Some s) p go = go s refl
+
+  -- a server that a line names is one of those that are defined
+  is-defined : (name : Name) (s : ℕ) → server_named k (name_bytes name) ≡ Some s → s < length k.servers
+  is-defined name s is = (position-Some (bytes_eq (name_bytes name)) k.servers s [] is).0
 
   where-owned : (o : Option ℕ) (p : ℕ → Plan) → ((s : ℕ) → Is (p s)) → Is (on_owner o p)
   where-owned None p go = Says (Refused (unknown OfLss))
@@ -275,6 +312,37 @@ module _ (k : Control) (events : List Event) (line : ℕ) where
   exchange-case s name reply = where-session (session_in k.sessions s) _ (λ x is.
       where-named (server_named k (name_bytes name)) (λ server. exchange_on k s x.mirror server reply x.members) (λ server. on-case s server reply x x.mirror is refl))
 
+  post-case : (s server : ℕ) (x : Session) (r : Mirror) (o : Option phases.Order) → ((p : phases.Order) → o ≡ Some p → Posts k s server x r p) → Is (send_order s (is_idle r.master.phase) server o)
+  post-case s server x r None go = Says _
+  post-case s server x r (Some o) go = Sends s server x r o (go o refl)
+
+  send-by : (s server : ℕ) (x : Session) (m : Option Mirror) → server < length k.servers → session_in k.sessions s ≡ Some x → x.mirror ≡ m → Is (send_on k s m server x.members)
+  send-by s server x None here is none = Says _
+  send-by s server x (Some r) here is mirror =
+      where-none (send_refusal k r server x.members) (send_order s (is_idle r.master.phase) server (order_of r server)) (λ free.
+      post-case s server x r (order_of r server) (λ o order. record { here = here; found = is; mirror = mirror; allowed = free; order = order }))
+
+  send-case : (s : ℕ) (name : Name) → Is (send_plan k s name)
+  send-case s name = where-session (session_in k.sessions s) _ (λ x is.
+      where-placed (server_named k (name_bytes name)) (λ server. send_on k s x.mirror server x.members) (λ server named. send-by s server x x.mirror (is-defined name server named) is refl))
+
+  order-by : (n : ℕ) (m : Message) (starts : ℕ) (x : Session) (o : Option Mirror) → ((r : Mirror) → o ≡ Some r → Arrives k n m (Asks starts) x r) → off_refusal k m.server ≡ None → Is (order_on k m starts x.members o)
+  order-by n m starts x None go on = Says _
+  order-by n m starts x (Some r) go on =
+      where-none (order_refusal k r m starts) (order_done m (members_on m.server x.members)) (λ free. Delivers n m starts x r (record { arrives = go r refl; on = on; allowed = free }))
+
+  reply-by : (n : ℕ) (m : Message) (reply : phases.Reply) (x : Session) (o : Option Mirror) → ((r : Mirror) → o ≡ Some r → Arrives k n m (Replies reply) x r) → Is (reply_on k m reply o)
+  reply-by n m reply x None go = Says _
+  reply-by n m reply x (Some r) go = where-none (reply_refusal k r m) (taken m reply) (λ free. TakesReply n m reply x r (record { arrives = go r refl; allowed = free }))
+
+  body-case : (n : ℕ) (m : Message) (x : Session) (b : Body) → ((r : Mirror) → x.mirror ≡ Some r → Arrives k n m b x r) → Is (deliver_on k m x b)
+  body-case n m x (Asks starts) go = where-none (off_refusal k m.server) (order_on k m starts x.members x.mirror) (λ on. order-by n m starts x x.mirror go on)
+  body-case n m x (Replies reply) go = reply-by n m reply x x.mirror go
+
+  deliver-case : (n : ℕ) (o : Option Message) → message_in k.flight n ≡ o → Is (on_message o (λ m. on_session (session_in k.sessions m.session) (λ x. deliver_on k m x m.body)))
+  deliver-case n None there = Says _
+  deliver-case n (Some m) there = where-session (session_in k.sessions m.session) (λ x. deliver_on k m x m.body) (λ x is. body-case n m x m.body (λ r mirror. record { there = there; says = refl; found = is; mirror = mirror }))
+
   lose-case : (n : ℕ) (o : Option Message) → Is (on_message o (λ m. tables_plan (with_flight (lost n)) [] (Done Alone)))
   lose-case n None = Says _
   lose-case n (Some m) = Loses n
@@ -307,7 +375,7 @@ module _ (k : Control) (events : List Event) (line : ℕ) where
   of-case (Server name) = where-none (server_refusal k (name_bytes name)) (server_done k name) (DefinesServer name)
   of-case (Volume v name tracks) =
       where-placed (server_named k (name_bytes name)) (λ s. unless (volume_refusal k v s tracks) (volume_done v s tracks))
-      (λ s is. where-none (volume_refusal k v s tracks) (volume_done v s tracks) (DefinesVolume v s tracks (position-Some (bytes_eq (name_bytes name)) k.servers s [] is).0))
+      (λ s is. where-none (volume_refusal k v s tracks) (volume_done v s tracks) (DefinesVolume v s tracks (is-defined name s is)))
   of-case (Link a b up) = where-named (server_named k (name_bytes a)) (λ x. on_server k b (λ y. link_between x y up)) (λ x. where-named (server_named k (name_bytes b)) (λ y. link_between x y up) (λ y. link-case x y up))
   of-case (Issue v t offset len bytes) = where-none (issue_refusal k v t) (issue_done k v t offset len bytes) (Issues v t offset len bytes)
   of-case (Write v t offset len bytes) = where-none (issue_refusal k v t) (write_done k v t offset len bytes) (Writes v t offset len bytes)
@@ -354,6 +422,8 @@ module _ (k : Control) (events : List Event) (line : ℕ) where
   of-case (RemoveMirror devs l s) = unmirror-case devs.dev l s
   of-case (Abort s) = abort-case s
   of-case (Exchange s name reply) = exchange-case s name reply
+  of-case (Send s name) = send-case s name
+  of-case (Deliver n) = deliver-case n (message_in k.flight n) refl
   of-case (Lose n) = lose-case n (message_in k.flight n)
   of-case (Recover s) = recover-case s
   of-case (CommitFlash devs source sequence) = settle-case devs.dev lets_commit source

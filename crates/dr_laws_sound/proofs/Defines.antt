@@ -14,6 +14,7 @@ use Rattle.dr_model.specs.Table.{Row, table, waiting, due_by, aside, aside_by}
 use Rattle.dr_model.specs.Laws.{Seals, OneKind, SealedGlobal, AllSent, NoMetro, fields, ShowsAside, SoundRows, HoldsOld, RowParts, RowRecords, Partnered, OneWay, FreeSource, Alike, source, its_primary, its_secondary, Numbered, Waits, AllPending, Lone, Together, servers, sizes, Sound}
 use Rattle.dr_model.proofs.Images.{histories-append}
 use Rattle.dr_laws_attempts.proofs.Volumes.{attempts-defined}
+use Rattle.dr_laws_messages.proofs.Moves.{flights-defined}
 use Rattle.dr_laws_closed.proofs.Pendings.{each-on}
 use Rattle.dr_facts.proofs.Tables.{at_cases, IsOrNot, each-at, linked-at}
 use Rattle.dr_facts.proofs.Sets.{if_false, in_none}
@@ -213,6 +214,7 @@ module _ (w : World) (s : Sound w) (v server tracks : ℕ) (here : server < leng
     groups = groups-defined w.control v server tracks undefined s.groups;
     housed = housed-volume w.control v server tracks here s.housed;
     attempts = attempts-defined w.control v server tracks undefined s.groups s.attempts;
+    flights = flights-defined w.control v server tracks undefined s.groups s.flights;
     queue = record {
       each = each-on waits-on ps s.queue.each;
       apart = s.queue.apart;

@@ -36,6 +36,9 @@ use Rattle.dr_laws_sessions.proofs.Housed.{housed-low}
 use Rattle.dr_laws_sound.proofs.Turns.{done}
 use Rattle.dr_laws_sound.proofs.RowsAfter.{idle}
 use Rattle.dr_laws_sound.proofs.KeepsSound.{MayDo, Then, over}
+use Rattle.dr_laws_messages.proofs.Members.{flights-added, flights-removed}
+use Rattle.dr_laws_sound.proofs.NewMessages.{adds-same}
+use Rattle.dr_laws_sound.proofs.TablesGo.{goes-added, goes-removed}
 use Rattle.dr_laws_closed.proofs.Regroups.{regroups-added, regroups-removed}
 use Rattle.dr_laws_sound.proofs.Cases.{Joins, added, expelled, one-passed}
 use Rattle.dr_laws_sound.proofs.CopyFirst.{from}
@@ -228,7 +231,8 @@ module _ (w : World) (s : Sound w) where
         let found : session_in v.control.sessions i ≡ Some x = ap (λ ss. session_in ss i) kept.frame.sessions ∙ joins.found in
         let free : find (has_place_of m) v.control.sessions ≡ None = ap (λ ss. find (has_place_of m) ss) kept.frame.sessions ∙ none in
         sound-sessions v _ (groups-added v.control i n x m kept.sound.groups found (taken-quiet w.control x a joins.free) (housed-low v.control m kept.sound.housed there) there (places-differ v.control m there other) free)
-        (attempts-added v.control i n x m kept.sound.groups kept.sound.attempts found (taken-quiet w.control x a joins.free) free joins.inside h.attempt h.seal h.floor (raised-low x.last _ (fields_at v.control a).attempt e.held) (raised-low x.last _ (fields_at v.control c).floor e.past)) kept.sound
+        (attempts-added v.control i n x m kept.sound.groups kept.sound.attempts found (taken-quiet w.control x a joins.free) free joins.inside h.attempt h.seal h.floor (raised-low x.last _ (fields_at v.control a).attempt e.held) (raised-low x.last _ (fields_at v.control c).floor e.past))
+        (flights-added v.control i n x m kept.sound.groups kept.sound.attempts kept.sound.flights found (taken-quiet w.control x a joins.free) free joins.inside h.attempt h.seal h.floor (raised-low x.last _ (fields_at v.control a).attempt e.held) (raised-low x.last _ (fields_at v.control c).floor e.past)) kept.sound
 
     pub orders-added : Orders w (added w.control i x m)
     orders-added = record {
@@ -239,6 +243,8 @@ module _ (w : World) (s : Sound w) where
       follows = λ q v y. over v y;
       last = joined;
       turns = λ v e. let kept : Kept w v = e.raised.kept in regroups-added v.control.sessions kept.sound.groups.once i n x m (ap (λ ss. session_in ss i) kept.frame.sessions ∙ joins.found) (quiet-of x (taken-quiet w.control x a joins.free)) (ap (λ ss. find (has_place_of m) ss) kept.frame.sessions ∙ none);
+      adds = λ v e. adds-same v.control.sessions v.control.flight v.control.flight refl;
+      goes = λ v e. let kept : Kept w v = e.raised.kept in goes-added v.control kept.sound.groups i n x m (ap (λ ss. session_in ss i) kept.frame.sessions ∙ joins.found) (quiet-of x (taken-quiet w.control x a joins.free));
     }
 
   -- ---- a member less
@@ -278,9 +284,13 @@ module _ (w : World) (s : Sound w) where
         follows = λ q v y. over v y;
         last = λ v e.
             let f : session_in v.control.sessions i ≡ Some x = ap (λ ss. session_in ss i) e.kept.frame.sessions ∙ found in
-            sound-sessions v _ (groups-removed v.control i m.a.0 x e.kept.sound.groups f idles)
-            (attempts-removed v.control i m.a.0 x e.kept.sound.groups e.kept.sound.attempts f idles (λ q h same.
-            let one = e.kept.sound.groups.lone.one m.a.0 x x m q (session-found v.control.sessions i x f).0 (session-found v.control.sessions i x f).0 here h (inl refl) (inl (sym same)) in
-            subst (λ (z : Member). (fields_at v.control z.c.0).member ≡ false) one.1 e.plain)) e.kept.sound;
+            let now : Sound v = e.kept.sound in
+            let gone : ((q : Member) → In q x.members → q.a.0 ≡ m.a.0 → (fields_at v.control q.c.0).member ≡ false) = λ q h same. (
+            let one = now.groups.lone.one m.a.0 x x m q (session-found v.control.sessions i x f).0 (session-found v.control.sessions i x f).0 here h (inl refl) (inl (sym same)) in
+            subst (λ (z : Member). (fields_at v.control z.c.0).member ≡ false) one.1 e.plain) in
+            sound-sessions v _ (groups-removed v.control i m.a.0 x now.groups f idles) (attempts-removed v.control i m.a.0 x now.groups now.attempts f idles gone)
+            (flights-removed v.control i m.a.0 x now.groups now.attempts now.flights f idles gone) now;
         turns = λ v e. regroups-removed v.control.sessions e.kept.sound.groups.once i m.a.0;
+        adds = λ v e. adds-same v.control.sessions v.control.flight v.control.flight refl;
+        goes = λ v e. goes-removed v.control e.kept.sound.groups i m.a.0 x (ap (λ ss. session_in ss i) e.kept.frame.sessions ∙ found) (quiet-of x idles);
       }

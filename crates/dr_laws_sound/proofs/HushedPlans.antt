@@ -20,7 +20,7 @@ use Rattle.dr_model.specs.declared.state.PairState.TheVariants.{Suspended as Sus
 use Rattle.dr_model.specs.declared.step.Devs.{Devs}
 use Rattle.dr_model.specs.declared.step.Name.{Name}
 use Rattle.dr_model.specs.declared.step.Step.{Step}
-use Rattle.dr_model.specs.declared.step.Step.TheVariants.{Server, Volume, Link, Stop, StopAfter, Start, Issue, Write, Apply, Show, MakeFlash, RemoveFlash, ResyncFlash, ReverseFlash, Copy, Destage, MakePath, RemovePath, MakePair, RemovePair, PausePair, ResumePair, Failover, Failback, Drain, Expire, Freeze, Unfreeze, MakeSession, RemoveSession, AddMember, RemoveMember, MakeMirror, PauseMirror, ResumeMirror, RemoveMirror, Abort, Exchange, Lose, Recover, CommitFlash, RevertFlash, ListPairs, ListFlashes, ListSession, ShowMirror, UnfreezeFlash}
+use Rattle.dr_model.specs.declared.step.Step.TheVariants.{Server, Volume, Link, Stop, StopAfter, Start, Issue, Write, Apply, Show, MakeFlash, RemoveFlash, ResyncFlash, ReverseFlash, Copy, Destage, MakePath, RemovePath, MakePair, RemovePair, PausePair, ResumePair, Failover, Failback, Drain, Expire, Freeze, Unfreeze, MakeSession, RemoveSession, AddMember, RemoveMember, MakeMirror, PauseMirror, ResumeMirror, RemoveMirror, Abort, Exchange, Send, Deliver, Lose, Recover, CommitFlash, RevertFlash, ListPairs, ListFlashes, ListSession, ShowMirror, UnfreezeFlash}
 use Rattle.dr_model.specs.Refusals.{unknown, server_off, duplicate}
 use Rattle.dr_model.specs.Control.{Control}
 use Rattle.dr_model.specs.Layout.{Fields, is_part, kind_of}
@@ -34,15 +34,15 @@ use Rattle.dr_model.specs.Phases as phases
 use Rattle.dr_model.specs.Sessions.{Session, Mirror, session_in, members_in, has_place_of, joined, changed, paused, unmirrored, not_in_session, in_session, busy, leave_refusal, join_refusal, make_refusal, drop_refusal, abort_refusal}
 use Rattle.dr_model.specs.SessionEntries.{first_number, last_of, hold_refusal, stale_refusal, hold_on, void_refusal, free_on, is_drained, seal_refusal, seal_on, is_flashed, flash_refusal, flash_on, is_committed, commit_refusal, commit_on, revert_on, is_past, finish_on, member_entries, members_on, order_entries, raise_attempt_on, raise_floor_on, add_entries}
 use Rattle.dr_model.specs.RecoveryPlans.{decided_in, take_over_on, settle_on, end_recovery, recover_entries, recover_done, recover_plan, group_of, says_group, secondary_refusal, lets_commit, lets_revert, settle_member, settle_target, settle_plan, settle_refusal, member_of_target, revertible_target}
-use Rattle.dr_model.specs.Messages.{Message, message_in, lost}
-use Rattle.dr_model.specs.MessagePlans.{with_flight, on_message}
-use Rattle.dr_model.specs.SessionPlans.{with_sessions, table_plan, leaving, appointed, mirror_phase, session_phase, says_phase, name_refusal, off_refusal, on_volume, on_both, add_plan, add_to, add_target, member_target, expel_plan, expel_done, expel_found, outside_refusal, master_refusal, place_refusal, taken_refusal, copy_refusal, member_with, exchange_refusal, exchange_done, exchange_on, order_of}
+use Rattle.dr_model.specs.Messages.{Message, Body, Asks, Replies, message_in, lost}
+use Rattle.dr_model.specs.MessagePlans.{with_flight, on_message, says_posted, sending, told_begun, send_refusal as post_refusal, send_order, send_on, order_refusal, order_done, order_on, reply_refusal, taking, reply_on, deliver_on}
+use Rattle.dr_model.specs.SessionPlans.{is_idle, with_sessions, table_plan, leaving, appointed, mirror_phase, session_phase, says_phase, name_refusal, off_refusal, on_volume, on_both, add_plan, add_to, add_target, member_target, expel_plan, expel_done, expel_found, outside_refusal, master_refusal, place_refusal, taken_refusal, copy_refusal, member_with, exchange_refusal, exchange_done, exchange_on, order_of}
 use Rattle.dr_model.specs.Plans.{Plan, plan_of, same, none_follow, always, tables_plan, entries_plan, only_says, refuses, unless, on_named, on_owner, on_session, is_defined, is_owner, server_named, name_bytes, counted_refusal, restore_refusal, yield_refusal, left_by, member_refusal, found_volumes, found_pair, differ, is_no_source, has_few_targets, is_plain_target, is_recorded_target, is_lone_restore, may_return, may_give_back, may_copy, at_most, left_to_copy, drain_plan, stop_on, stop_done, arm_on, expire_on, link_between, link_done, on_server, owner_of, server_refusal, server_done, volume_refusal, volume_done, issue_refusal, issue_done, show_refusal, show_done, expire_plan, path_refusal, make_path_done, unpath_refusal, remove_path_done, freeze_refusal, freeze_done, thaw_refusal, unfreeze_done, compare_plan, hold_first, release_refusal, release_done, redo_now, destage_entries}
 use Rattle.dr_laws_sound.specs.Acknowledged.{acknowledgements}
 use Rattle.dr_laws_sound.proofs.RecoveryEntries.{settle-cases}
 use Rattle.dr_model.specs.Listings.{pair_lines, flash_lines, member_lines, mirror_lines, sessions_of, lists, listing_refusal}
 use Rattle.dr_laws_sound.proofs.Listed.{AllLines, Plain, lines-plain, pair-lines, flash-lines, session-lines, mirrors-lines}
-use Rattle.dr_laws_sound.proofs.Cases.{added, expelled, aborted}
+use Rattle.dr_laws_sound.proofs.Cases.{added, expelled, aborted, taken}
 use Rattle.dr_laws_sound.proofs.Hushed.{mirrors, Unheard, unheard-none, MuteMove, Mute, MuteNext, Hush, AllHush, none-hush, then-hush, append-hush}
 use Rattle.dr_model.specs.Relations.{Choices}
 
@@ -316,6 +316,15 @@ pub exchange-hush : (k : Control) (s server : ℕ) (m : Option Mirror) (reply : 
 exchange-hush k s server None reply ms = refusal-hush (OutOfOrder phase.None)
 exchange-hush k s server (Some r) reply ms = unless-plan H refusal-hush (exchange_refusal k r server ms) _ (done-hush s server reply (members_on server ms) (order_of r server))
 
+-- a send, which may begin an attempt
+posted-hush : (s : ℕ) (begins : Bool) (server : ℕ) (o : Option phases.Order) → H (send_order s begins server o)
+posted-hush s begins server None = refusal-hush (OutOfOrder phase.None)
+posted-hush s begins server (Some o) = tables-hush (sending s begins server o) same (told_begun begins s o.number) says_posted (by begins) (λ k. done-not _)
+  where
+    by : (b : Bool) → Unheard false (told_begun b s o.number)
+    by true = record { none = refl; plain = refl; uncut = λ h. absurd cc }
+    by false = unheard-none false
+
 -- no write is carried out, and no server starts
 abbrev pub acknowledges : Step → Bool
 acknowledges (Write v t offset len bytes) = true
@@ -336,6 +345,27 @@ module _ (k : Control) (events : List Event) (line : ℕ) where
   owned-by : (dev : Option Name) (l s : ℕ) (first : ℕ → Session → Control → Control) (why : ℕ → Session → Option Refusal) → H (on_both k l s (λ owner x. unless (option_or (name_refusal k dev owner) (why owner x)) (tables_plan (first owner x) [] (Done Alone))))
   owned-by dev l s first why = owned l (λ owner. on_session (session_in k.sessions s) (λ x. unless (option_or (name_refusal k dev owner) (why owner x)) (tables_plan (first owner x) [] (Done Alone))))
       (λ owner. session-plan H refusal-hush (session_in k.sessions s) (λ x. unless (option_or (name_refusal k dev owner) (why owner x)) (tables_plan (first owner x) [] (Done Alone))) (λ x. one (option_or (name_refusal k dev owner) (why owner x)) (tables_plan (first owner x) [] (Done Alone)) (first-hush (first owner x))))
+
+  posts : (s server : ℕ) (m : Option Mirror) (ms : List Member) → H (send_on k s m server ms)
+  posts s server None ms = refusal-hush (OutOfOrder phase.None)
+  posts s server (Some r) ms = one (post_refusal k r server ms) _ (posted-hush s (is_idle r.master.phase) server (order_of r server))
+
+  arrives : (m : Message) (starts : ℕ) (ms : List Member) (o : Option Mirror) → H (order_on k m starts ms o)
+  arrives m starts ms None = refusal-hush (OutOfOrder phase.None)
+  arrives m starts ms (Some r) = one (order_refusal k r m starts) (order_done m (members_on m.server ms))
+      (record { told = unheard-none false; entries = order-hush m.session m.order.number m.order.work (members_on m.server ms); follows = λ q. none-hush; says = λ j. done-not _ })
+
+  returns : (m : Message) (reply : phases.Reply) (o : Option Mirror) → H (reply_on k m reply o)
+  returns m reply None = refusal-hush (OutOfOrder phase.None)
+  returns m reply (Some r) = one (reply_refusal k r m) (taken m reply) (tables-hush (taking m reply) same [] (says_phase m.session) (unheard-none false) (λ j. phase-not (session_in j.sessions m.session)))
+
+  comes : (m : Message) (x : Session) (b : Body) → H (deliver_on k m x b)
+  comes m x (Asks starts) = one (off_refusal k m.server) (order_on k m starts x.members x.mirror) (arrives m starts x.members x.mirror)
+  comes m x (Replies reply) = returns m reply x.mirror
+
+  delivers : (o : Option Message) → H (on_message o (λ m. on_session (session_in k.sessions m.session) (λ x. deliver_on k m x m.body)))
+  delivers None = refusal-hush _
+  delivers (Some m) = session-plan H refusal-hush (session_in k.sessions m.session) (λ x. deliver_on k m x m.body) (λ x. comes m x m.body)
 
   loses : (n : ℕ) (o : Option Message) → H (on_message o (λ m. tables_plan (with_flight (lost n)) [] (Done Alone)))
   loses n None = refusal-hush _
@@ -447,6 +477,9 @@ module _ (k : Control) (events : List Event) (line : ℕ) where
       (λ x. one (option_or (abort_refusal x.mirror) (master_refusal k x.mirror)) (aborted s x.mirror) (tables-hush _ same _ (says_phase s) (unheard-none false) (λ j. phase-not (session_in j.sessions s))))
   step-hush (Exchange s name reply) other = session-plan H refusal-hush (session_in k.sessions s) (λ x. on_server k name (λ server. exchange_on k s x.mirror server reply x.members))
       (λ x. named (server_named k (name_bytes name)) (λ server. exchange_on k s x.mirror server reply x.members) (λ server. exchange-hush k s server x.mirror reply x.members))
+  step-hush (Send s name) other = session-plan H refusal-hush (session_in k.sessions s) (λ x. on_server k name (λ server. send_on k s x.mirror server x.members))
+      (λ x. named (server_named k (name_bytes name)) (λ server. send_on k s x.mirror server x.members) (λ server. posts s server x.mirror x.members))
+  step-hush (Deliver n) other = delivers (message_in k.flight n)
   step-hush (Lose n) other = loses n (message_in k.flight n)
   step-hush (Recover s) other = recovers s
   step-hush (CommitFlash devs source sequence) other = by-hand devs.dev lets_commit source

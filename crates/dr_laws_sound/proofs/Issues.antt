@@ -118,6 +118,7 @@ module _ (w : World) (s : Sound w) (v t offset len : ℕ) (bytes : List ℕ) (de
     groups = groups-same w.control issued.control (record { sessions = refl; volumes = refl; server = λ v. refl; tracks = λ v. refl }) (λ v h. (h, (refl, refl))) s.groups;
     housed = s.housed;
     attempts = s.attempts;
+    flights = s.flights;
     queue = record {
       each = each-new ps s.queue.each;
       apart = apart-new ps s.queue.each s.queue.apart;

@@ -29,12 +29,12 @@ use Rattle.dr_ids.specs.declared.names.Member.{Member}
 use Rattle.dr_model.specs.Sessions.{Session, joined, left, changed, begun as attempted, mirrored_by, paused, unmirrored, raised, with_master, with_member, without_member}
 use Rattle.dr_model.specs.SessionEntries.{members_on, first_number, reply_after}
 use Rattle.dr_model.specs.Messages.{lost}
-use Rattle.dr_model.specs.MessagePlans.{with_flight}
-use Rattle.dr_model.specs.SessionPlans.{with_sessions, table_plan, appointed, leaving, aborting, exchanged, says_phase, member_with}
+use Rattle.dr_model.specs.MessagePlans.{with_flight, says_posted, sending, told_begun, taking}
+use Rattle.dr_model.specs.SessionPlans.{with_sessions, table_plan, appointed, leaving, aborting, exchanged, says_phase, is_idle, member_with}
 use Rattle.dr_laws_sound.specs.Limits.{IsWithin}
 use Rattle.dr_facts.proofs.Sessions.{length-changed, changed-twice, length-left, joined-few}
 use Rattle.dr_model.specs.RecoveryPlans.{decided_in, recover_done}
-use Rattle.dr_laws_sound.proofs.Cases.{Case, Says, DefinesServer, DefinesVolume, SetsLink, Issues, Writes, Applies, Lists, Shows, Stops, Arms, Starts, MakesFlash, RemovesFlash, ResyncsFlash, ReversesFlash, Copies, Destages, MakesPath, RemovesPath, MakesPair, RemovesPair, PausesPair, ResumesPair, FailsOver, FailsBack, Compares, Drains, Expires, Freezes, Unfreezes, MakesSession, RemovesSession, MakesMirror, PausesMirror, RemovesMirror, Aborts, AddsMember, RemovesMember, Exchanges, Loses, Recovers, Settles, aborted, servers-left, is-new, may-issue, Releases}
+use Rattle.dr_laws_sound.proofs.Cases.{Case, Says, DefinesServer, DefinesVolume, SetsLink, Issues, Writes, Applies, Lists, Shows, Stops, Arms, Starts, MakesFlash, RemovesFlash, ResyncsFlash, ReversesFlash, Copies, Destages, MakesPath, RemovesPath, MakesPair, RemovesPair, PausesPair, ResumesPair, FailsOver, FailsBack, Compares, Drains, Expires, Freezes, Unfreezes, MakesSession, RemovesSession, MakesMirror, PausesMirror, RemovesMirror, Aborts, AddsMember, RemovesMember, Exchanges, Sends, Delivers, TakesReply, Loses, Recovers, Settles, servers-left, is-new, may-issue, Releases}
 use Rattle.dr_laws_sound.proofs.Listed.{lines-plain, image-lines}
 use Rattle.dr_laws_sound.proofs.Parts.{Comes, Ending, OnePlan, Imaged, course-case, last-plan}
 use Rattle.dr_facts.proofs.Tables.{at_cases, at_part}
@@ -386,6 +386,20 @@ module _ (k : Control) where
   case-modest events line _ (RemovesMember s a x m found is idle on) = record { one = omega arith; within = λ h. h; last = λ j. stays-sessions (changed s (without_member m.a.0)) j (length-changed s (without_member m.a.0) j.sessions); silent = refl }
   case-modest events line _ (Recovers s x found on) = quiet same [] (recover_done s (decided_in s k) x.members).entries (recover_done s (decided_in s k) x.members).says refl unmoved refl
   case-modest events line _ (Settles s x m found here on free) = entries-modest _ _
+  case-modest events line _ (Sends s server x r o posts) =
+      quiet (sending s (is_idle r.master.phase) server o) (told_begun (is_idle r.master.phase) s o.number) [] says_posted refl (few (is_idle r.master.phase), (refl, (refl, (refl, λ v. refl)))) (silent (is_idle r.master.phase))
+    where
+      few : (b : Bool) → length (sending s b server o k).sessions ≤ length k.sessions
+      few true = length-changed s attempted k.sessions
+      few false = omega arith
+
+      silent : (b : Bool) → Silent (told_begun b s o.number)
+      silent true = refl
+      silent false = refl
+  case-modest events line _ (Delivers n m starts x r reaches) =
+      record { one = omega arith; within = λ h. h; last = λ j. record { servers = refl; tracks = λ v. refl; volumes = refl; issued = refl; pending = omega arith; sessions = omega arith }; silent = refl }
+  case-modest events line _ (TakesReply n m reply x r returns) =
+      let f : Session → Session = with_master (λ q. phases.taken q m.server reply) in quiet (taking m reply) [] [] (says_phase m.session) refl (retabled (changed m.session f) (length-changed m.session f k.sessions)) refl
   case-modest events line _ (Loses n) = quiet (with_flight (lost n)) [] [] (always (Done Alone)) refl unmoved refl
   case-modest events line _ (Exchanges s server reply x r o allowed) = record { one = omega arith; within = λ h. h; last = by reply; silent = refl }
     where

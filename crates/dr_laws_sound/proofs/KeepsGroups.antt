@@ -10,6 +10,7 @@ use Rattle.dr_model.specs.Groups.{Groups, Housed, OpensAttempt}
 use Rattle.dr_model.specs.Table.{table}
 use Rattle.dr_model.specs.Allowed.{Allowed}
 use Rattle.dr_model.specs.Attempts.{Attempts, InAttempt}
+use Rattle.dr_model.specs.Flights.{Flights}
 use Rattle.dr_facts.proofs.Tables.{at_cases, at_part}
 use Rattle.dr_laws_sound.proofs.Turns.{next_of, carried_in}
 use Rattle.dr_laws_sessions.specs.Frames.{Framed, RecordedOr}
@@ -17,6 +18,7 @@ use Rattle.dr_laws_sessions.proofs.Volumes.{groups-same, groups-held, groups-ope
 use Rattle.dr_laws_sessions.proofs.Housed.{housed-stays}
 use Rattle.dr_laws_attempts.proofs.Moves.{attempts-move}
 use Rattle.dr_laws_attempts.proofs.Tables.{attempts-opened}
+use Rattle.dr_laws_messages.proofs.Moves.{flights-move, flights-opened}
 use Rattle.dr_logic.proofs.Truth.{false_true}
 
 module _ (w : World) (write : ℕ → Write) (on : ℕ → Bool) (fuse : ℕ → Option Fuse) (ps : List Pending) where
@@ -73,8 +75,15 @@ module _ (w : World) (write : ℕ → Write) (on : ℕ → Bool) (fuse : ℕ →
   housed-after m old = housed-stays w.control (after m) refl refl (frame m).server old
 
   -- and what attempts say of sessions and volumes stays
-  pub attempts-after : (m : Move) → InAttempt w.control m → Groups w.control → Attempts w.control → Attempts (after m)
-  attempts-after m g groups old = attempts-move w.control (after m) m (carried_in w m) refl (record { volumes = refl; keeps = keeps_staged m; volume = refl }) g groups old
+  pub attempts-after : (m : Move) → InAttempt w.control m → Groups w.control → Attempts w.control → Flights w.control → Attempts (after m)
+  attempts-after m g groups old flights = attempts-move w.control (after m) m (carried_in w m) refl (record { volumes = refl; keeps = keeps_staged m; volume = refl }) g groups old flights
+
+  -- and so does what the messages in flight say
+  pub flights-after : (m : Move) → InAttempt w.control m → Groups w.control → Attempts w.control → Flights w.control → Flights (after m)
+  flights-after m g groups old flights = flights-move w.control (after m) m (carried_in w m) refl refl (record { volumes = refl; keeps = keeps_staged m; volume = refl }) g groups old flights
 
   pub attempts-begun : (v s n : ℕ) → OpensAttempt w.control v s n → Groups w.control → Attempts w.control → Attempts (record (after (Hold v s n true)) { sessions = changed s begun w.control.sessions })
   attempts-begun v s n opens groups old = attempts-opened w.control (after (Hold v s n true)) v s n (carried_in w (Hold v s n true)) refl (record { volumes = refl; keeps = true; volume = refl }) opens groups old
+
+  pub flights-begun : (v s n : ℕ) → OpensAttempt w.control v s n → Groups w.control → Attempts w.control → Flights w.control → Flights (record (after (Hold v s n true)) { sessions = changed s begun w.control.sessions })
+  flights-begun v s n opens groups old flights = flights-opened w.control (after (Hold v s n true)) v s n (carried_in w (Hold v s n true)) refl refl (record { volumes = refl; keeps = true; volume = refl }) opens groups old flights

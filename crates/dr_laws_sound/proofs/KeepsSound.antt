@@ -30,7 +30,7 @@ use Rattle.dr_laws_sound.proofs.KeepsRecorders.{kept-recorders}
 use Rattle.dr_laws_sound.proofs.KeepsSeals.{kept-seals}
 use Rattle.dr_laws_sound.proofs.KeepsAsides.{kept-asides}
 use Rattle.dr_laws_sound.proofs.KeepsPairs.{kept-pairs}
-use Rattle.dr_laws_sound.proofs.KeepsGroups.{groups-after, groups-begun, housed-after, attempts-after, attempts-begun}
+use Rattle.dr_laws_sound.proofs.KeepsGroups.{groups-after, groups-begun, housed-after, attempts-after, attempts-begun, flights-after, flights-begun}
 use Rattle.dr_laws_sessions.proofs.Volumes.{groups-same}
 use Rattle.dr_laws_sound.proofs.KeepsTargets.{few-after}
 use Rattle.dr_laws_sound.proofs.KeepsQueue.{AllQuiet, queue-done, queue-stop, queue-same, goes-off, apart-filter, lone-filter}
@@ -61,7 +61,8 @@ module _ (starts : Option ℕ) where
     queue = queue-done starts w s.queue m f may.ready;
     groups = groups-after w (histories w.events).write (done w m f).control.on (done w m f).control.fuse (done w m f).control.pending m may.allowed may.group s.groups;
     housed = housed-after w (histories w.events).write (done w m f).control.on (done w m f).control.fuse (done w m f).control.pending m s.housed;
-    attempts = attempts-after w (histories w.events).write (done w m f).control.on (done w m f).control.fuse (done w m f).control.pending m may.group s.groups s.attempts;
+    attempts = attempts-after w (histories w.events).write (done w m f).control.on (done w m f).control.fuse (done w m f).control.pending m may.group s.groups s.attempts s.flights;
+    flights = flights-after w (histories w.events).write (done w m f).control.on (done w m f).control.fuse (done w m f).control.pending m may.group s.groups s.attempts s.flights;
   }
 
   pub sound-stop : (w : World) (m : Move) (f : Option Fuse) → SoundBut starts w → May w m → SoundBut starts (done_in_stop w m f)
@@ -71,7 +72,8 @@ module _ (starts : Option ℕ) where
     queue = queue-stop starts w s.queue m f may.ready;
     groups = groups-after w (histories w.events).write (done_in_stop w m f).control.on (done_in_stop w m f).control.fuse (done_in_stop w m f).control.pending m may.allowed may.group s.groups;
     housed = housed-after w (histories w.events).write (done_in_stop w m f).control.on (done_in_stop w m f).control.fuse (done_in_stop w m f).control.pending m s.housed;
-    attempts = attempts-after w (histories w.events).write (done_in_stop w m f).control.on (done_in_stop w m f).control.fuse (done_in_stop w m f).control.pending m may.group s.groups s.attempts;
+    attempts = attempts-after w (histories w.events).write (done_in_stop w m f).control.on (done_in_stop w m f).control.fuse (done_in_stop w m f).control.pending m may.group s.groups s.attempts s.flights;
+    flights = flights-after w (histories w.events).write (done_in_stop w m f).control.on (done_in_stop w m f).control.fuse (done_in_stop w m f).control.pending m may.group s.groups s.attempts s.flights;
   }
 
   -- the first hold of an attempt, with which it begins
@@ -87,6 +89,7 @@ module _ (starts : Option ℕ) where
         groups = groups-begun w (histories w.events).write k.on k.fuse k.pending v i n may.opens s.groups;
         housed = housed-after w (histories w.events).write k.on k.fuse k.pending m s.housed;
         attempts = attempts-begun w (histories w.events).write k.on k.fuse k.pending v i n may.opens s.groups s.attempts;
+        flights = flights-begun w (histories w.events).write k.on k.fuse k.pending v i n may.opens s.groups s.attempts s.flights;
       }
 
   pub sound-opened_stop : (w : World) (v i n : ℕ) (f : Option Fuse) → SoundBut starts w → MayOpen w v i n → SoundBut starts (opened_in_stop w v i n f)
@@ -101,6 +104,7 @@ module _ (starts : Option ℕ) where
         groups = groups-begun w (histories w.events).write k.on k.fuse k.pending v i n may.opens s.groups;
         housed = housed-after w (histories w.events).write k.on k.fuse k.pending m s.housed;
         attempts = attempts-begun w (histories w.events).write k.on k.fuse k.pending v i n may.opens s.groups s.attempts;
+        flights = flights-begun w (histories w.events).write k.on k.fuse k.pending v i n may.opens s.groups s.attempts s.flights;
       }
 
   told-groups : (w : World) (servers : List (List ℕ)) (on : ℕ → Bool) (fuse : ℕ → Option Fuse) (link : ℕ → ℕ → Bool) (paths : List Path) → Groups w.control → Groups (record w.control { servers = servers; on = on; fuse = fuse; link = link; paths = paths })
@@ -116,6 +120,7 @@ module _ (starts : Option ℕ) where
     groups = told-groups w servers on fuse link paths s.groups;
     housed = housed;
     attempts = s.attempts;
+    flights = s.flights;
     queue = queue-same starts w s.queue (record w.control { servers = servers; on = on; fuse = fuse; link = link; paths = paths }) es w.contents quiet refl refl refl (λ v. refl) (λ v. refl) off;
   }
 
@@ -135,6 +140,7 @@ module _ (starts : Option ℕ) where
     groups = told-groups w w.control.servers w.control.on (at w.control.fuse x f) w.control.link w.control.paths s.groups;
     housed = s.housed;
     attempts = s.attempts;
+    flights = s.flights;
     queue = record { each = s.queue.each; apart = s.queue.apart; lone = s.queue.lone; numbers = s.queue.numbers };
   }
 
@@ -165,6 +171,7 @@ module _ (starts : Option ℕ) where
         groups = groups-same w.control _ (record { sessions = refl; volumes = refl; server = λ v. refl; tracks = λ v. refl }) (λ v h. (h, (refl, refl))) s.groups;
         housed = s.housed;
         attempts = s.attempts;
+        flights = s.flights;
         queue = record {
           each = all-filter (Waits starts w.control h.write) (is_other n) ps s.queue.each;
           apart = apart-filter n ps s.queue.apart;

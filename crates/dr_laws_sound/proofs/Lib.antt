@@ -30,7 +30,8 @@
 --   each step by `plan-left` (`RefusedSteps.antt`), an `@run` and whole runs by `RefusedRuns.antt`
 -- - what sessions and records of volumes say together (numbers differ, one place for a volume, who records, the master's
 --   server and phase): fields `groups` and `housed` of `SoundBut`, each kind of change by `dr_laws_sessions`; plans by
---   `FitsSessions.antt`, `FitsMembers.antt`, `FitsOrders.antt`, `FitsRecovery.antt` (`KeepsGroups.antt`, `Steps.antt`)
+--   `FitsSessions.antt`, `FitsMembers.antt`, `FitsOrders.antt`, `FitsExchanges.antt`, `FitsMessages.antt`, `FitsRecovery.antt`
+--   (`KeepsGroups.antt`, `Steps.antt`); what the messages in flight say: field `flights`, by `dr_laws_messages`
 -- - no volume has two places in the sessions: `are-lone` (`Places.antt`), from `once` and `lone` of `groups`; it rides along
 -- - where a volume takes a track back it is at rest: `calm-run`, `calm-reads` (`Restores.antt`). What holds where entries come to a
 --   move is `along-comes_to` (`Along.antt`); of each plan of a step, `rides-comes` (`Riders.antt`): the rows fit, the move is
@@ -58,12 +59,19 @@
 --   everything that may follow).
 -- - **A recovery** (`FitsRecovery.antt`) goes over the members twice: `TakenBut` says which secondaries are left to
 --   take, while what the members show stays; then `RestCommits` or `RestReverts` stays from member to member.
--- - The premises of an order's moves are its checks, and that it is due (`order-flashes` and its like). While it goes on, `DoneBut`
---   says who is left to do, and at the end `ServerDone` lets the reply be taken. In `FitsOrders.antt` the entries of each order ask
---   only what is due (`Dues`); its phase is named where the order is chosen (`entries-by`) and where the reply is taken.
+-- - The premises of an order's moves are its checks, and that it is due (`order-flashes` and its like): owed by the master, or in
+--   flight under no fence (`Due`). `FitsOrders.antt` proves them once, for an exchange (`FitsExchanges.antt`) and a message
+--   (`FitsMessages.antt`) alike, which differ in why the order may be carried out (`How`). While it goes on, `DoneBut` says who is
+--   left to do, if it is the last attempt's. An older attempt's order finds nothing to do, or is refused, step by step: `last-recorded`,
+--   `last-flashed`, `late-holds`, `is_past`.
 -- - **An order's loop in `FitsOrders.antt`** has one state (`Stage`, with `Does`, `Finishes` or `Holds` around it), one
---   step for each kind of order, and `Answers` at the end, which is all that the reply rests on. A new order is a step
+--   step for each kind of order, and `Carried` at the end, which is all that the reply rests on. A new order is a step
 --   that gives `May` from the lemma of its checks, and hands `done-..` to the next member.
+-- - **What comes into flight** is a reply, or an order that its session's phase asks for: `Adds` (`NewMessages.antt`), the field `adds`
+--   of `Orders`. What rides along sees by it that no flash comes late (`EasesFlight`).
+-- - **How a session goes on** from one table to the next is `AllGoOn` (`GoesOn.antt`), the field `goes` of `Orders`: what a lost master is told
+--   was told before, or members show it; and a master commits only from where it did, from an early phase, or where reports told both of a
+--   member that can go back and of one that can't. `TablesGo.antt` has a lemma for each change of the table of sessions.
 -- - **A set of numbers below n has no more than n** (`len-low`, `Spends.antt`): by `len-remove` and `same_set`.
 pub mod Listed
 pub mod Cases
@@ -99,9 +107,14 @@ pub mod FitsDrain
 pub mod FitsCollide
 pub mod FitsWrites
 pub mod FitsHolds
+pub mod NewMessages
+pub mod GoesOn
+pub mod TablesGo
 pub mod FitsSessions
 pub mod FitsMembers
 pub mod FitsOrders
+pub mod FitsExchanges
+pub mod FitsMessages
 pub mod FitsRecovery
 pub mod Awaits
 pub mod Issues

@@ -4,7 +4,7 @@ use Rattle.std.specs.List.{flat_map, fold, list_any}
 use Rattle.std.proofs.lemmas.List.{length-append, length-map}
 use Rattle.dr_ids.specs.declared.names.Member.{Member}
 use Rattle.dr_model.specs.declared.event.Event.{Event}
-use Rattle.dr_model.specs.declared.event.Event.TheVariants.{PairLine, FlashLine, SessionLine, MirrorLine, ImageStart, ImageVolume, ImageBlock, ImageEnd}
+use Rattle.dr_model.specs.declared.event.Event.TheVariants.{Begin, PairLine, FlashLine, SessionLine, MirrorLine, ImageStart, ImageVolume, ImageBlock, ImageEnd}
 use Rattle.dr_model.specs.Histories.{Histories, histories, after_event}
 use Rattle.dr_model.specs.HeldWrites.{is_answer}
 use Rattle.dr_model.specs.Layout.{Fields, is_part}
@@ -72,7 +72,16 @@ lines-unheard (e ∷ es) h ls = lines-unheard es (after_event h e) ls.1 ∙ line
 pub lines-lists : (events es : List Event) → AllLines es → histories (events ++ es) ≡ histories events
 lines-lists events es ls = histories-append events es ∙ lines-unheard es (histories events) ls
 
--- no answer is among them, nothing is acknowledged, mirrored or cut, and no group hears of them
+-- no attempt begins by an event, nor by a list of such
+abbrev pub NoBegin : Event → Type 0
+NoBegin (Begin s n) = ⊥
+NoBegin e = Unit {0}
+
+abbrev pub NoBegins : List Event → Type 0
+NoBegins [] = Unit {0}
+NoBegins (e ∷ es) = NoBegin e × NoBegins es
+
+-- no answer is among them, nothing is acknowledged, mirrored, cut or begun, and no group hears of them
 pub record Plain (es : List Event) : Type 0 where
   pub silent : list_any is_answer es ≡ false
   pub none : acknowledgements es ≡ []
@@ -81,20 +90,21 @@ pub record Plain (es : List Event) : Type 0 where
   pub quiet : (n : ℕ) → AllQuiet n es
   pub cuts : NoCuts es
   pub still : AllStill es
+  pub begins : NoBegins es
 
 one-plain : (e : Event) (es : List Event) → IsLine e → Plain es → Plain (e ∷ es)
-one-plain (PairLine line v u state kind k) es l p = record { silent = p.silent; none = p.none; plain = p.plain; uncut = p.uncut; quiet = λ n. (tt, p.quiet n); cuts = (tt, p.cuts); still = (tt, p.still) }
-one-plain (FlashLine line s t sequence previous state flags own) es l p = record { silent = p.silent; none = p.none; plain = p.plain; uncut = p.uncut; quiet = λ n. (tt, p.quiet n); cuts = (tt, p.cuts); still = (tt, p.still) }
-one-plain (SessionLine line s a b c state) es l p = record { silent = p.silent; none = p.none; plain = p.plain; uncut = p.uncut; quiet = λ n. (tt, p.quiet n); cuts = (tt, p.cuts); still = (tt, p.still) }
-one-plain (MirrorLine line s server phase n paused) es l p = record { silent = p.silent; none = p.none; plain = p.plain; uncut = p.uncut; quiet = λ n. (tt, p.quiet n); cuts = (tt, p.cuts); still = (tt, p.still) }
-one-plain ImageStart es l p = record { silent = p.silent; none = p.none; plain = p.plain; uncut = p.uncut; quiet = λ n. (tt, p.quiet n); cuts = (tt, p.cuts); still = (tt, p.still) }
-one-plain (ImageVolume v server tracks) es l p = record { silent = p.silent; none = p.none; plain = p.plain; uncut = p.uncut; quiet = λ n. (tt, p.quiet n); cuts = (tt, p.cuts); still = (tt, p.still) }
-one-plain (ImageBlock v index bytes) es l p = record { silent = p.silent; none = p.none; plain = p.plain; uncut = p.uncut; quiet = λ n. (tt, p.quiet n); cuts = (tt, p.cuts); still = (tt, p.still) }
-one-plain ImageEnd es l p = record { silent = p.silent; none = p.none; plain = p.plain; uncut = p.uncut; quiet = λ n. (tt, p.quiet n); cuts = (tt, p.cuts); still = (tt, p.still) }
+one-plain (PairLine line v u state kind k) es l p = record { silent = p.silent; none = p.none; plain = p.plain; uncut = p.uncut; quiet = λ n. (tt, p.quiet n); cuts = (tt, p.cuts); still = (tt, p.still); begins = (tt, p.begins) }
+one-plain (FlashLine line s t sequence previous state flags own) es l p = record { silent = p.silent; none = p.none; plain = p.plain; uncut = p.uncut; quiet = λ n. (tt, p.quiet n); cuts = (tt, p.cuts); still = (tt, p.still); begins = (tt, p.begins) }
+one-plain (SessionLine line s a b c state) es l p = record { silent = p.silent; none = p.none; plain = p.plain; uncut = p.uncut; quiet = λ n. (tt, p.quiet n); cuts = (tt, p.cuts); still = (tt, p.still); begins = (tt, p.begins) }
+one-plain (MirrorLine line s server phase n paused) es l p = record { silent = p.silent; none = p.none; plain = p.plain; uncut = p.uncut; quiet = λ n. (tt, p.quiet n); cuts = (tt, p.cuts); still = (tt, p.still); begins = (tt, p.begins) }
+one-plain ImageStart es l p = record { silent = p.silent; none = p.none; plain = p.plain; uncut = p.uncut; quiet = λ n. (tt, p.quiet n); cuts = (tt, p.cuts); still = (tt, p.still); begins = (tt, p.begins) }
+one-plain (ImageVolume v server tracks) es l p = record { silent = p.silent; none = p.none; plain = p.plain; uncut = p.uncut; quiet = λ n. (tt, p.quiet n); cuts = (tt, p.cuts); still = (tt, p.still); begins = (tt, p.begins) }
+one-plain (ImageBlock v index bytes) es l p = record { silent = p.silent; none = p.none; plain = p.plain; uncut = p.uncut; quiet = λ n. (tt, p.quiet n); cuts = (tt, p.cuts); still = (tt, p.still); begins = (tt, p.begins) }
+one-plain ImageEnd es l p = record { silent = p.silent; none = p.none; plain = p.plain; uncut = p.uncut; quiet = λ n. (tt, p.quiet n); cuts = (tt, p.cuts); still = (tt, p.still); begins = (tt, p.begins) }
 one-plain e es l p = absurd l
 
 pub lines-plain : (es : List Event) → AllLines es → Plain es
-lines-plain [] ls = record { silent = refl; none = refl; plain = refl; uncut = refl; quiet = λ n. tt; cuts = tt; still = tt }
+lines-plain [] ls = record { silent = refl; none = refl; plain = refl; uncut = refl; quiet = λ n. tt; cuts = tt; still = tt; begins = tt }
 lines-plain (e ∷ es) ls = one-plain e es ls.0 (lines-plain es ls.1)
 
 -- ---- what tells them

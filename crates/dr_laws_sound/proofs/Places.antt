@@ -92,9 +92,10 @@ lone-rides = record {
     opens = λ w v i n f j k may. are-lone _ ((starts.keeps x).opens w v i n f j may).groups;
     fails = λ w a f d j k may. are-lone _ ((starts.keeps x).fails w a f d j may).groups;
   };
-  unheard = λ w u more k same. subst AreLone (sym same.sessions) k;
+  unheard = λ w u more k same none. subst AreLone (sym same.sessions) k;
   issues = λ w s v t offset len bytes defined low k. k;
-  regroups = λ w ss s sound turn k. are-lone _ sound.groups;
+  regroups = λ w ss f s sound turn adds goes k. are-lone _ sound.groups;
+  opens = λ w i n x r s sound found has idle next k. are-lone _ sound.groups;
   defines = λ w s v server tracks here undefined k. k;
 }
 

@@ -73,7 +73,7 @@ module _ (s : ℕ) where
   ask-ends : (w : World) (server : ℕ) (r : Refusal) → Refuses w (asking w.control s server true) r → HasFormed s r w (after_part w (asking w.control s server true))
   ask-ends w server r refused = elim (asking-left w s true r server refused) [
     | inl is ↦ stays-after r w _ is
-    | inr ordered ↦ formed-after r w _ (on-stays w _ _ ordered.leads) (AskEnds w _ server ordered)
+    | inr ordered ↦ formed-after r w _ (on-stays w _ _ ordered.carried.leads) (AskEnds w _ server ordered)
   ]
 
   ran-drain : (w : World) (a : ℕ) → Ran w (part w (drain_plan w.control a None))

@@ -1,5 +1,5 @@
 -- A step that is refused, but by the stop of a server, changes nothing but what `Leaves` names: by the plan of each step.
-use Rattle.std.proofs.Common.{ℕ, ◌+◌, ◌≡◌, inl, inr, refl, ap, sym, ◌∙◌, subst, ◌||◌, Bool, true, false, cond, [], Option, Some, None, Result, Ok, nat_eq}
+use Rattle.std.proofs.Common.{ℕ, ◌+◌, ◌≡◌, inl, inr, refl, ap, sym, ◌∙◌, subst, ◌||◌, Bool, true, false, cond, List, [], Option, Some, None, Result, Ok, nat_eq}
 use Rattle.std.specs.Prelude.{◌==◌}
 use Rattle.std.specs.List.{find}
 use Rattle.std.specs.Option.{option_or}
@@ -13,18 +13,19 @@ use Rattle.dr_model.specs.declared.said.Addition.TheVariants.{Alone}
 use Rattle.dr_model.specs.Carried.{losing}
 use Rattle.dr_model.specs.declared.step.Name.{Name}
 use Rattle.dr_model.specs.declared.step.Step.{Step}
-use Rattle.dr_model.specs.declared.step.Step.TheVariants.{Server, Volume, Link, Stop, StopAfter, Start, Issue, Write, Apply, Show, MakeFlash, RemoveFlash, ResyncFlash, ReverseFlash, Copy, Destage, MakePath, RemovePath, MakePair, RemovePair, PausePair, ResumePair, Failover, Failback, Drain, Expire, Freeze, Unfreeze, MakeSession, RemoveSession, AddMember, RemoveMember, MakeMirror, PauseMirror, ResumeMirror, RemoveMirror, Abort, Exchange, Lose, Recover, CommitFlash, RevertFlash, Run, ListPairs, ListFlashes, ListSession, ShowMirror, UnfreezeFlash}
+use Rattle.dr_model.specs.declared.step.Step.TheVariants.{Server, Volume, Link, Stop, StopAfter, Start, Issue, Write, Apply, Show, MakeFlash, RemoveFlash, ResyncFlash, ReverseFlash, Copy, Destage, MakePath, RemovePath, MakePair, RemovePair, PausePair, ResumePair, Failover, Failback, Drain, Expire, Freeze, Unfreeze, MakeSession, RemoveSession, AddMember, RemoveMember, MakeMirror, PauseMirror, ResumeMirror, RemoveMirror, Abort, Exchange, Send, Deliver, Lose, Recover, CommitFlash, RevertFlash, Run, ListPairs, ListFlashes, ListSession, ShowMirror, UnfreezeFlash}
 use Rattle.dr_model.specs.Layout.{kind_of}
 use Rattle.dr_model.specs.Listings.{listing_refusal}
 use Rattle.dr_model.specs.Control.{Control, World}
-use Rattle.dr_model.specs.Sessions.{Session, session_in, has_place_of, changed, paused, unmirrored, busy, in_session, not_in_session, join_refusal, make_refusal, abort_refusal}
+use Rattle.dr_model.specs.Phases as phases
+use Rattle.dr_model.specs.Sessions.{Session, Mirror, session_in, has_place_of, changed, paused, unmirrored, busy, in_session, not_in_session, join_refusal, make_refusal, abort_refusal}
 use Rattle.dr_model.specs.Carry.{dropped}
 use Rattle.dr_model.specs.Entries.{fields_at}
 use Rattle.dr_model.specs.SessionEntries.{first_number}
 use Rattle.dr_model.specs.PlanParts.{Plan, tables_plan, refuses, unless, on_session, on_owner, owner_of, server_named, name_bytes, is_defined}
 use Rattle.dr_model.specs.Messages.{Message, message_in, lost}
-use Rattle.dr_model.specs.MessagePlans.{with_flight, on_message}
-use Rattle.dr_model.specs.SessionPlans.{with_sessions, leaving, name_refusal, off_refusal, outside_refusal, master_refusal, place_refusal, taken_refusal, copy_refusal, member_target, member_with, add_target, expel_found, abort_plan, add_plan, expel_plan}
+use Rattle.dr_model.specs.MessagePlans.{with_flight, on_message, send_refusal, send_order, send_on}
+use Rattle.dr_model.specs.SessionPlans.{with_sessions, leaving, name_refusal, off_refusal, outside_refusal, master_refusal, place_refusal, taken_refusal, copy_refusal, member_target, member_with, add_target, expel_found, is_idle, order_of, abort_plan, add_plan, expel_plan}
 use Rattle.dr_model.specs.RecoveryPlans.{decided_in, lets_commit, lets_revert, settle_on, member_of_target, revertible_target, settle_refusal, settle_member, settle_target, settle_plan}
 use Rattle.dr_model.specs.Plans.{plan_of, step_plan, has_room, server_refusal, volume_refusal, issue_refusal, show_refusal, start_plan, landed_on, says_acked, path_refusal, unpath_refusal, freeze_refusal, thaw_refusal, release_refusal}
 use Rattle.dr_model.specs.Carried.{carried_out, answered, said, masters_lost, after_plan}
@@ -35,12 +36,20 @@ use Rattle.dr_laws_sound.specs.RefusedSteps.{is_by_volume, is_off, with_issued, 
 use Rattle.dr_laws_sound.proofs.Endless.{last-endless, settle-goes, start-endless, freeze-endless, thaw-endless, expire-endless, now-endless, add-endless, release-endless}
 use Rattle.dr_laws_sound.proofs.ChecksFirst.{first-done, never-leads, on-stays}
 use Rattle.dr_laws_sound.proofs.RefusedPlans.{Refuses, Still, entries-refuse, still-plan, same-begun, still-entries, still-says, still-tables, never-refused, still-choice, still-unless, still-named, still-owner, still-session, phase-accepts, still-flash, still-withdraw, still-resync, still-reverse, still-copy, still-pair, still-remove, still-pause, still-resume, still-failover, still-failback, still-destage}
-use Rattle.dr_laws_sound.proofs.RefusedWrites.{says-left, write-left, applied-left, drain-left, exchange-left, recover-left}
+use Rattle.dr_laws_sound.proofs.RefusedWrites.{says-left, write-left, applied-left, drain-left, exchange-left, deliver-left, recover-left}
 
 -- ---- plans that leave the world
 
 still-session-table : (o : Option ℕ) (q : ℕ → Option Session) (why : ℕ → Session → Option Refusal) (first : ℕ → Session → Control → Control) → Still (on_owner o (λ owner. on_session (q owner) (λ x. unless (why owner x) (tables_plan (first owner x) [] (Done Alone)))))
 still-session-table o q why first = still-owner o _ (λ owner. still-session (q owner) _ (λ x. still-unless (why owner x) _ (still-tables _ _ _)))
+
+still-post : (s : ℕ) (begins : Bool) (server : ℕ) (o : Option phases.Order) → Still (send_order s begins server o)
+still-post s begins server None = still-says _
+still-post s begins server (Some o) = never-refused (send_order s begins server (Some o)) (λ k. refl) refl
+
+still-send : (k : Control) (s server : ℕ) (m : Option Mirror) (ms : List Member) → Still (send_on k s m server ms)
+still-send k s server None ms = still-says _
+still-send k s server (Some r) ms = still-unless (send_refusal k r server ms) _ (still-post s (is_idle r.master.phase) server (order_of r server))
 
 still-lose : (n : ℕ) (o : Option Message) → Still (on_message o (λ m. tables_plan (with_flight (lost n)) [] (Done Alone)))
 still-lose n None = still-says _
@@ -136,6 +145,8 @@ plan-left w line (ResumeMirror devs l s cginterval coordinate drain) one = still
 plan-left w line (RemoveMirror devs l s) one = still-session-table (owner_of w.control l) (λ owner. session_in w.control.sessions s) _ (λ owner x. with_sessions (changed s unmirrored)) w
 plan-left w line (Abort s) one = still-abort w.control s w
 plan-left w line (Exchange s name reply) one = λ r. exchange-left w s reply r name
+plan-left w line (Send s name) one = still-session (session_in w.control.sessions s) _ (λ x. still-named (server_named w.control (name_bytes name)) _ (λ server. still-send w.control s server x.mirror x.members)) w
+plan-left w line (Deliver n) one = deliver-left w n
 plan-left w line (Lose n) one = still-lose n (message_in w.control.flight n) w
 plan-left w line (Recover s) one = recover-left w s
 plan-left w line (CommitFlash devs source sequence) one = still-settle w.control devs.dev lets_commit source w
@@ -153,6 +164,7 @@ kept-full w (Write v t offset len bytes) one = refl
 kept-full w (Apply n) one = refl
 kept-full w (Drain a most) one = inl refl
 kept-full w (Exchange s name reply) one = inl refl
+kept-full w (Deliver n) one = inl refl
 kept-full w (Recover s) one = refl
 kept-full w (Run s n) one = absurd cc
 kept-full w _ one = refl
@@ -188,7 +200,9 @@ left-on w (Ok (Apply n)) one r u is = ap (λ (x : World). x.control.on) is ∙ b
 left-on w (Ok (Drain a most)) one r u (inl is) = ap (λ (x : World). x.control.on) is
 left-on w (Ok (Drain a most)) one r u (inr sent) = on-stays w u _ sent.leads
 left-on w (Ok (Exchange s name reply)) one r u (inl is) = ap (λ (x : World). x.control.on) is
-left-on w (Ok (Exchange s name reply)) one r u (inr ordered) = on-stays w u _ ordered.order.leads
+left-on w (Ok (Exchange s name reply)) one r u (inr ordered) = on-stays w u _ ordered.order.carried.leads
+left-on w (Ok (Deliver n)) one r u (inl is) = ap (λ (x : World). x.control.on) is
+left-on w (Ok (Deliver n)) one r u (inr delivered) = on-stays w u _ delivered.carried.leads
 left-on w (Ok (Recover s)) one r u is = recovered-on r is
   where
     recovered-on : (r : Refusal) → Leaves w (Ok (Recover s)) r u → u.control.on ≡ w.control.on

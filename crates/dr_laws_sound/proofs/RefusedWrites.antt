@@ -9,7 +9,7 @@ use Rattle.dr_ids.specs.declared.refusal.Decision.{Decision}
 use Rattle.dr_ids.specs.declared.refusal.Refusal.{Refusal}
 use Rattle.dr_ids.specs.declared.refusal.Refusal.TheVariants.{NotPrimary, Inhibited, NoGroup, OutOfOrder}
 use Rattle.dr_ids.specs.declared.refusal.PhaseName.TheVariants as phase
-use Rattle.dr_ids.specs.declared.refusal.Kind.TheVariants.{Volume as OfVolume, Track as OfTrack, Write as OfWrite, Session as OfSession, Server as OfServer}
+use Rattle.dr_ids.specs.declared.refusal.Kind.TheVariants.{Volume as OfVolume, Track as OfTrack, Write as OfWrite, Session as OfSession, Server as OfServer, Message as OfMessage}
 use Rattle.dr_ids.specs.declared.refusal.Which.TheVariants.{Pending as PendingWrites}
 use Rattle.dr_model.specs.declared.said.Said.TheVariants.{Done, Held, Refused}
 use Rattle.dr_model.specs.declared.said.Addition.TheVariants.{Wrote}
@@ -27,7 +27,9 @@ use Rattle.dr_model.specs.Entries.{fields_at, is_running, relation_state, pair_s
 use Rattle.dr_model.specs.PairEntries.{end_if, reach_refusal, send_refusal, flashed_refusal, suspend_where, refuse_if, store_on, strike_on, send_entries, sends, tracks_to_send, is_copying}
 use Rattle.dr_model.specs.WriteEntries.{landing, land_entries, waits, says_written}
 use Rattle.dr_model.specs.SessionEntries.{member_entries, members_on, order_entries, hold_refusal, stale_refusal, hold_on, void_refusal, free_on, seal_refusal, seal_on, flash_refusal, flash_on, commit_refusal, commit_on, revert_on, finish_on, is_flashed}
-use Rattle.dr_model.specs.SessionPlans.{asking, exchange_refusal, exchange_on, exchange_done, exchange_plan, order_of}
+use Rattle.dr_model.specs.Messages.{Message, Body, Asks, Replies, message_in}
+use Rattle.dr_model.specs.MessagePlans.{on_message, order_refusal, order_done, order_on, reply_refusal, reply_on, deliver_on, deliver_plan}
+use Rattle.dr_model.specs.SessionPlans.{asking, off_refusal, exchange_refusal, exchange_on, exchange_done, exchange_plan, order_of}
 use Rattle.dr_model.specs.RecoveryPlans.{decided_in, secondary_refusal, recover_entries, recover_done, recover_plan, group_of, says_group}
 use Rattle.dr_model.specs.PlanParts.{Plan, refuses, unless, on_named, on_session, server_named, name_bytes, is_defined}
 use Rattle.dr_model.specs.Plans.{track_refusal, issue_refusal, write_done, write_plan, apply_done, apply_on, apply_plan, drain_plan}
@@ -36,10 +38,11 @@ use Rattle.dr_model.specs.Forming.{refusal_said, part_refusal}
 use Rattle.dr_model.proofs.CarryLemmas.{onward, carry-none, carry-first, carry-skips, carry-passed, carry-refused, carry-goes, carry-append, act-drop}
 use Rattle.dr_facts.proofs.Lists.{found}
 use Rattle.dr_laws_sound.specs.Stops.{refused_stop}
-use Rattle.dr_laws_sound.specs.RefusedSteps.{is_by_volume, is_off, with_issued, let_go, HasSent, HasOrdered, NamedOrdered, Leaves}
+use Rattle.dr_laws_sound.specs.RefusedSteps.{is_by_volume, is_off, with_issued, let_go, HasSent, HasCarriedOrder, HasOrdered, HasDelivered, NamedOrdered, Leaves}
 use Rattle.dr_laws_sound.proofs.Endless.{Endless, none-endless, pass-goes, do-goes, choice-goes, keep-goes, last-endless, then-endless, append-endless, map-endless, lands-endless, recover-endless}
 use Rattle.dr_laws_sound.proofs.ChecksFirst.{ChecksFirst, first-done, first-refuse, never-leads, blocks-leave}
-use Rattle.dr_laws_sound.proofs.RefusedPlans.{Refuses, entries-refuse, same-begun, still-says, phase-accepts}
+use Rattle.dr_laws_sound.proofs.RefusedPlans.{Refuses, entries-refuse, same-begun, still-says, never-refused, phase-accepts}
+use Rattle.dr_laws_sound.proofs.Cases.{taken}
 
 -- ---- what refuses a plan before its entries
 
@@ -319,6 +322,17 @@ member-first phases.Commit s n m = first-refuse (send_refusal m.a.0 m.b.0) _ (fi
 member-first phases.Revert s n m = first-refuse (send_refusal m.a.0 m.b.0) _ (first-done _ (last-endless (revert_on s m.a.0 m.c.0 n) (λ k. choice-goes (is_flashed n (fields_at k m.c.0)) _ _ (do-goes _) (choice-goes (nat_lt (fields_at k m.c.0).floor n) _ Pass (do-goes _) pass-goes))))
 member-first phases.Report s n m = first-refuse (reach_refusal m.a.0 m.b.0) [] (first-done [] none-endless)
 
+-- by the session that was looked up
+carried-left : (w u : World) (s server : ℕ) (order : phases.Order) (r : Refusal) (o : Option Session) → session_in w.control.sessions s ≡ o → carry w (order_entries order.work s order.number (members_on server (members_in o))) ≡ (u, Some r) → refused_stop (Some r) ≡ None
+    → HasCarriedOrder w s server order r u
+carried-left w u s server order r o here leads other =
+    let done = blocks-leave (member_entries order.work s order.number) (member-first order.work s order.number) (members_on server (members_in o)) w u r leads other in
+    record {
+      members = done.count;
+      leads = ap (λ found. carry w (order_entries order.work s order.number (take done.count (members_on server (members_in found))))) here ∙ done.leads;
+      refuses = ap (λ found. carry u (order_entries order.work s order.number (drop done.count (members_on server (members_in found))))) here ∙ done.refuses;
+    }
+
 module _ (w : World) (s : ℕ) (reply : Bool) (r : Refusal) where
   -- the world, or what an order did
   abbrev Ordering : ℕ → World → Type 0
@@ -334,16 +348,7 @@ module _ (w : World) (s : ℕ) (reply : Bool) (r : Refusal) where
         let p : Plan = exchange_done s server reply ms (Some order) in
         let u : World = (carried_out w p).0 in
         let leads : carry w p.entries ≡ (u, Some r) = ap (λ v. carry v p.entries) (sym (same-begun w)) ∙ entries-refuse w p r (λ k. phase-accepts (session_in k.sessions s)) refused in
-        let done = blocks-leave (member_entries order.work s order.number) (member-first order.work s order.number) ms w u r leads refused.other in
-        inr (record {
-          master = m;
-          found = ap mirror_in here ∙ mirror;
-          order = order;
-          owed = owed;
-          members = done.count;
-          leads = ap (λ found. carry w (order_entries order.work s order.number (take done.count (members_on server (members_in found))))) here ∙ done.leads;
-          refuses = ap (λ found. carry u (order_entries order.work s order.number (drop done.count (members_on server (members_in found))))) here ∙ done.refuses;
-        })
+        inr (record { master = m; found = ap mirror_in here ∙ mirror; order = order; owed = owed; carried = carried-left w u s server order r o here leads refused.other })
 
   -- by the session that was looked up
   asked-left : (o : Option Session) → session_in w.control.sessions s ≡ o → (server : ℕ) (m : Option Mirror) → mirror_in o ≡ m → Refuses w (exchange_on w.control s m server reply (members_in o)) r
@@ -375,6 +380,47 @@ module _ (w : World) (s : ℕ) (reply : Bool) (r : Refusal) where
 
     pub exchange-left : Refuses w (exchange_plan w.control s name reply) r → Named (carried_out w (exchange_plan w.control s name reply)).0
     exchange-left refused = found-left (session_in w.control.sessions s) refl refused
+
+-- ---- deliveries
+
+module _ (w : World) (n : ℕ) (r : Refusal) where
+  -- the world, or what the order did
+  abbrev Delivering : World → Type 0
+  Delivering u = (u ≡ w) ⊎ HasDelivered w n r u
+
+  module _ (m : Message) (there : message_in w.control.flight n ≡ Some m) (x : Session) (here : session_in w.control.sessions m.session ≡ Some x) where
+    come-left : Refuses w (order_done m (members_on m.server x.members)) r → Delivering (carried_out w (order_done m (members_on m.server x.members))).0
+    come-left refused =
+        let p : Plan = order_done m (members_on m.server x.members) in
+        let u : World = (carried_out w p).0 in
+        let leads : carry w p.entries ≡ (u, Some r) = ap (λ v. carry v p.entries) (sym (same-begun w)) ∙ entries-refuse w p r (λ k. refl) refused in
+        inr (record { message = m; found = there; carried = carried-left w u m.session m.server m.order r (Some x) here leads refused.other })
+
+    order-left : (starts : ℕ) (o : Option Mirror) → Refuses w (order_on w.control m starts x.members o) r → Delivering (carried_out w (order_on w.control m starts x.members o)).0
+    order-left starts None refused = says-left w (OutOfOrder phase.None) r Delivering (λ e. inl refl) refused
+    order-left starts (Some q) refused = unless-left w (order_refusal w.control q m starts) (order_done m (members_on m.server x.members)) r Delivering (λ e is same. inl refl) come-left refused
+
+    reply-left : (reply : phases.Reply) (o : Option Mirror) → Refuses w (reply_on w.control m reply o) r → Delivering (carried_out w (reply_on w.control m reply o)).0
+    reply-left reply None refused = says-left w (OutOfOrder phase.None) r Delivering (λ e. inl refl) refused
+    reply-left reply (Some q) refused = unless-left w (reply_refusal w.control q m) (taken m reply) r Delivering (λ e is same. inl refl)
+        (λ refused. inl (never-refused (taken m reply) (λ k. phase-accepts (session_in k.sessions m.session)) refl w r refused)) refused
+
+    body-left : (b : Body) → Refuses w (deliver_on w.control m x b) r → Delivering (carried_out w (deliver_on w.control m x b)).0
+    body-left (Asks starts) refused = unless-left w (off_refusal w.control m.server) (order_on w.control m starts x.members x.mirror) r Delivering (λ e is same. inl refl) (order-left starts x.mirror) refused
+    body-left (Replies reply) refused = reply-left reply x.mirror refused
+
+  home-left : (m : Message) → message_in w.control.flight n ≡ Some m → (o : Option Session) → session_in w.control.sessions m.session ≡ o
+      → Refuses w (on_session o (λ x. deliver_on w.control m x m.body)) r → Delivering (carried_out w (on_session o (λ x. deliver_on w.control m x m.body))).0
+  home-left m there None here refused = says-left w (unknown OfSession) r Delivering (λ e. inl refl) refused
+  home-left m there (Some x) here refused = body-left m there x here m.body refused
+
+  message-left : (o : Option Message) → message_in w.control.flight n ≡ o
+      → let p : Plan = on_message o (λ m. on_session (session_in w.control.sessions m.session) (λ x. deliver_on w.control m x m.body)) in Refuses w p r → Delivering (carried_out w p).0
+  message-left None there refused = says-left w (unknown OfMessage) r Delivering (λ e. inl refl) refused
+  message-left (Some m) there refused = home-left m there (session_in w.control.sessions m.session) refl refused
+
+  pub deliver-left : Refuses w (deliver_plan w.control n) r → Delivering (carried_out w (deliver_plan w.control n)).0
+  deliver-left refused = message-left (message_in w.control.flight n) refl refused
 
 -- ---- recoveries
 

@@ -1,9 +1,10 @@
 -- A law rides along plans: where each act that may come keeps it, beside the laws by which the act comes, it holds wherever plans
 -- come to. Nothing is shown of a plan anew.
-use Rattle.std.proofs.Common.{ℕ, refl, List, [], ◌∷◌, take, Option}
+use Rattle.std.proofs.Common.{ℕ, refl, subst, List, [], ◌∷◌, take, Option, Some}
+use Rattle.dr_model.specs.Refusals.{stopped}
 use Rattle.dr_model.specs.Control.{World, Fuse}
 use Rattle.dr_model.specs.Moves.{Move}
-use Rattle.dr_model.specs.Carry.{Act, Make, OpenAttempt, Next, Pass, Do, End, Entry, carry}
+use Rattle.dr_model.specs.Carry.{Act, Make, OpenAttempt, Next, Pass, Do, End, Entry, Outcome, carry}
 use Rattle.dr_model.specs.Plans.{Plan}
 use Rattle.dr_model.specs.Runs.{begun, carried_out}
 use Rattle.dr_laws_sound.specs.Calm.{Carries, ComesTo}
@@ -73,3 +74,11 @@ module _ (I W K : World → Type 0) (May : World → Act → Type 0) (w : World)
   rides-comes_to v m at =
       along.along-comes_to (Both holds.inner K) (Both I K) (Both holds.ends K) holds.may (keeps-with holds.inner K holds.may I holds.keeps rides) (begun w p) p.entries v m
       (holds.begins, begins) (along-with holds.inner I holds.ends K holds.may (begun w p) p.entries begins holds.entries) at
+
+  -- so where a server stopped in them, and those that follow come to one
+  pub rides-follows : along.Keeps I I May → Rides I K May → (s : ℕ) (u v : World) (m : Move) → Carries (begun w p) p.entries u (Some (stopped s)) → ComesTo Carries u (p.follows s) v m → Both I K v × May v (Make m)
+  rides-follows each acts s u v m ends at =
+      let j : Both I K u = subst (λ (o : Outcome). along.EndedBy (Both holds.inner K) (Both I K) (Both holds.ends K) holds.may o.0 o.1) ends
+      (along.along (Both holds.inner K) (Both I K) (Both holds.ends K) holds.may (keeps-with holds.inner K holds.may I holds.keeps rides) (begun w p) p.entries (holds.begins, begins)
+      (along-with holds.inner I holds.ends K holds.may (begun w p) p.entries begins holds.entries)) in
+      along.along-comes_to (Both I K) (Both I K) (Both I K) May (keeps-with I K May I each acts) u (p.follows s) v m j (along-with I I I K May u (p.follows s) j.1 (holds.follows s u j.0)) at

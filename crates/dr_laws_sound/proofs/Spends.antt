@@ -23,12 +23,13 @@ use Rattle.dr_model.specs.Forming.{after_part}
 use Rattle.dr_model.specs.Runs.{begun, finish, after_plan}
 use Rattle.dr_model.specs.Laws.{Sound}
 use Rattle.dr_laws_sound.specs.Limits.{IsWithin}
-use Rattle.dr_laws_sound.proofs.Cases.{Case, Says, DefinesServer, DefinesVolume, SetsLink, Issues, Writes, Applies, Lists, Shows, Stops, Arms, Starts, MakesFlash, RemovesFlash, ResyncsFlash, ReversesFlash, Copies, Destages, MakesPath, RemovesPath, MakesPair, RemovesPair, PausesPair, ResumesPair, FailsOver, FailsBack, Compares, Drains, Expires, Freezes, Unfreezes, MakesSession, RemovesSession, MakesMirror, PausesMirror, RemovesMirror, Aborts, AddsMember, RemovesMember, Exchanges, Loses, Recovers, Settles, Releases}
+use Rattle.dr_laws_sound.proofs.Cases.{Case, Says, DefinesServer, DefinesVolume, SetsLink, Issues, Writes, Applies, Lists, Shows, Stops, Arms, Starts, MakesFlash, RemovesFlash, ResyncsFlash, ReversesFlash, Copies, Destages, MakesPath, RemovesPath, MakesPair, RemovesPair, PausesPair, ResumesPair, FailsOver, FailsBack, Compares, Drains, Expires, Freezes, Unfreezes, MakesSession, RemovesSession, MakesMirror, PausesMirror, RemovesMirror, Aborts, AddsMember, RemovesMember, Exchanges, Sends, Delivers, TakesReply, Loses, Recovers, Settles, Releases}
 use Rattle.dr_facts.proofs.Sets.{not_removed, rest_low}
 use Rattle.dr_laws_sound.proofs.Costs.{Costs, costs-nil, costs-check, costs-last, carry-adds, Small, Light, AllLight, light-none, light-then, light-costs, small-pass, small-do}
 use Rattle.dr_laws_sound.proofs.CopyCosts.{rounds}
 use Rattle.dr_laws_sound.proofs.PairCosts.{costs-refused, sends-costs, sent-few, suspend_after-few, light-pair, light-remove, length-remove, light-pause, light-resume, light-failover, light-failback, light-compare}
-use Rattle.dr_model.specs.SessionPlans.{member_with}
+use Rattle.dr_model.specs.MessagePlans.{told_begun}
+use Rattle.dr_model.specs.SessionPlans.{is_idle, member_with}
 use Rattle.dr_laws_sessions.proofs.Members.{members-few}
 use Rattle.dr_laws_sound.proofs.SessionCosts.{add-costs, order-costs, light-settle, recover-costs}
 use Rattle.dr_model.specs.RecoveryPlans.{decided_in, settle_on}
@@ -159,6 +160,11 @@ module _ (w : World) (x : Sound w) (h : IsWithin w.control) where
   tables-spends : (first : Control → Control) (told : List Event) (said : Said) → length told ≤ 256 → Spends w (tables_plan first told said)
   tables-spends first told said le = record { spends = 0; costs = costs-nil 0 _; after = 0; follows = none-adds; few = omega arith }
 
+  -- a send tells that an attempt begins, at most
+  posted : (b : Bool) (s n : ℕ) → length (told_begun b s n) ≤ 1
+  posted true s n = omega arith
+  posted false s n = omega arith
+
   pub case-spends : (line : ℕ) (p : Plan) → Case w.control w.events line p → Spends w p
   case-spends line _ (Says a) = tables-spends _ _ _ (omega arith)
   case-spends line _ (DefinesServer name free) = tables-spends _ _ _ (omega arith)
@@ -229,6 +235,13 @@ module _ (w : World) (x : Sound w) (h : IsWithin w.control) where
   case-spends line _ (MakesMirror owner s y found free l owned) = tables-spends _ _ _ (omega arith)
   case-spends line _ (PausesMirror s on) = tables-spends _ _ _ (omega arith)
   case-spends line _ (RemovesMirror s y found free) = tables-spends _ _ _ (omega arith)
+  case-spends line _ (Sends s server y r o posts) =
+      let le : length (told_begun (is_idle r.master.phase) s o.number) ≤ 1 = posted (is_idle r.master.phase) s o.number in record { spends = 0; costs = costs-nil 0 _; after = 0; follows = none-adds; few = omega arith }
+  case-spends line _ (Delivers n m starts y r reaches) =
+      let few : length y.members ≤ length w.control.volumes = members-few w.control m.session y x.groups reaches.arrives.found in
+      let room : length w.control.volumes ≤ most_volumes = h.volumes in
+      record { spends = 384; costs = order-costs m.order.work m.session m.order.number m.server y.members 64 (omega arith) 384 (omega arith) _; after = 0; follows = none-adds; few = omega arith }
+  case-spends line _ (TakesReply n m reply y r returns) = record { spends = 0; costs = costs-nil 0 _; after = 0; follows = none-adds; few = omega arith }
   case-spends line _ (Loses n) = tables-spends _ _ _ (omega arith)
   case-spends line _ (Aborts s y found free) = record { spends = 0; costs = costs-nil 0 _; after = 0; follows = none-adds; few = omega arith }
   case-spends line _ (AddsMember s a c y joins) = record { spends = 2; costs = add-costs (member_with w.control a c) _ _; after = 0; follows = none-adds; few = omega arith }

@@ -28,6 +28,7 @@ use Rattle.dr_facts.proofs.Sets.{if_false, if_true}
 use Rattle.dr_laws_sound.proofs.Turns.{after_act, done_in_stop, not_done, place, server_of, Writes}
 use Rattle.dr_laws_sound.proofs.Due.{acked_lists}
 use Rattle.dr_laws_sessions.proofs.Volumes.{groups-same}
+use Rattle.dr_laws_messages.proofs.Moves.{flights-started}
 use Rattle.dr_laws_sound.proofs.RowsAfter.{calm-each}
 use Rattle.dr_laws_sound.proofs.KeepsQueue.{apart-filter, lone-filter, numbered-after}
 use Rattle.dr_laws_sound.proofs.KeepsSound.{StepHolds, over, sound-done, sound-stop, sound-not, rows-told, sound-fused}
@@ -192,6 +193,7 @@ module _ (s : ℕ) where
     groups = j.groups;
     housed = j.housed;
     attempts = j.attempts;
+    flights = j.flights;
     queue = record { each = each-on (λ p waits. waits-free w.control _ p waits (inl off)) w.control.pending j.queue.each; apart = j.queue.apart; lone = j.queue.lone; numbers = j.queue.numbers };
   }
 
@@ -202,6 +204,7 @@ module _ (s : ℕ) where
     groups = j.groups;
     housed = j.housed;
     attempts = j.attempts;
+    flights = j.flights;
     queue = record { each = both-on (λ p waits free. waits-free w.control _ p waits (inr free)) w.control.pending j.queue.each free; apart = j.queue.apart; lone = j.queue.lone; numbers = j.queue.numbers };
   }
 
@@ -244,6 +247,7 @@ module _ (s : ℕ) where
       groups = same-groups w.control (acknowledged w p.w).control refl refl refl j.groups;
       housed = j.housed;
       attempts = j.attempts;
+      flights = j.flights;
       queue = record {
         each = subst (λ (h : Histories). AllPending (Waits (Some s) w.control h.write) (filter (is_other p.w) ps)) (sym told) (all-filter _ (is_other p.w) ps j.queue.each);
         apart = apart-filter p.w ps j.queue.apart;
@@ -344,6 +348,7 @@ module _ (s : ℕ) where
           groups = same-groups w.control (starting s w.control) refl refl refl x.groups;
           housed = x.housed;
           attempts = x.attempts;
+          flights = flights-started w.control s x.flights;
           queue = record {
             each = subst (λ (h : Histories). AllPending (Waits (Some s) (starting s w.control) h.write) w.control.pending) (sym same) (each-on (starts-waits w x) w.control.pending x.queue.each);
             apart = x.queue.apart;

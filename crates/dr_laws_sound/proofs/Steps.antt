@@ -27,9 +27,11 @@ use Rattle.dr_model.proofs.Images.{histories-append}
 use Rattle.dr_model.proofs.LawfulLemmas.{lawful-no_fields}
 use Rattle.dr_laws_sessions.proofs.Housed.{housed-none, housed-server}
 use Rattle.dr_laws_attempts.proofs.Volumes.{attempts-none}
+use Rattle.dr_laws_messages.proofs.Still.{flights-none}
+use Rattle.dr_laws_messages.proofs.Messages.{flights-dropped}
 use Rattle.dr_model.specs.Listings.{lists}
 use Rattle.dr_laws_sound.proofs.Listed.{AllLines, lines-plain, lines-lists, image-lines}
-use Rattle.dr_laws_sound.proofs.Cases.{Case, Says, DefinesServer, DefinesVolume, SetsLink, Issues, Writes, Applies, Lists, Shows, Stops, Arms, Starts, MakesFlash, RemovesFlash, ResyncsFlash, ReversesFlash, Copies, Destages, MakesPath, RemovesPath, MakesPair, RemovesPair, PausesPair, ResumesPair, FailsOver, FailsBack, Compares, Drains, Expires, Freezes, Unfreezes, MakesSession, RemovesSession, MakesMirror, PausesMirror, RemovesMirror, Aborts, AddsMember, RemovesMember, Exchanges, Loses, Recovers, Settles, IsTrack, servers-left, is-new, may-issue, Releases}
+use Rattle.dr_laws_sound.proofs.Cases.{Case, Says, DefinesServer, DefinesVolume, SetsLink, Issues, Writes, Applies, Lists, Shows, Stops, Arms, Starts, MakesFlash, RemovesFlash, ResyncsFlash, ReversesFlash, Copies, Destages, MakesPath, RemovesPath, MakesPair, RemovesPair, PausesPair, ResumesPair, FailsOver, FailsBack, Compares, Drains, Expires, Freezes, Unfreezes, MakesSession, RemovesSession, MakesMirror, PausesMirror, RemovesMirror, Aborts, AddsMember, RemovesMember, Exchanges, Sends, Delivers, TakesReply, Loses, Recovers, Settles, IsTrack, servers-left, is-new, may-issue, Releases}
 use Rattle.dr_laws_sound.proofs.Parts.{Comes, Ending, OnePlan, Imaged, course-case, each-plan, last-plan}
 use Rattle.dr_laws_sound.proofs.KeepsQueue.{Quiet, AllQuiet, goes-off}
 use Rattle.dr_laws_sound.proofs.KeepsSound.{StepHolds, RowsAt, MayDo, holds-moves, keeps-sound, sound-told, over}
@@ -44,7 +46,8 @@ use Rattle.dr_laws_sound.proofs.FitsDrain.{holds-drain}
 use Rattle.dr_laws_sound.proofs.FitsWrites.{lands, writes-after}
 use Rattle.dr_laws_sound.proofs.FitsSessions.{sound-lost, holds-joined, holds-left, holds-mirrored, holds-paused, holds-unmirrored, holds-aborted, holds-flight, holds-orders}
 use Rattle.dr_laws_sound.proofs.FitsMembers.{orders-added, orders-expelled}
-use Rattle.dr_laws_sound.proofs.FitsOrders.{orders-ordered}
+use Rattle.dr_laws_sound.proofs.FitsExchanges.{orders-ordered}
+use Rattle.dr_laws_sound.proofs.FitsMessages.{holds-sent, orders-delivered, holds-taken}
 use Rattle.dr_laws_sound.proofs.FitsRecovery.{along-recover, along-settle}
 use Rattle.dr_laws_sound.proofs.FitsHolds.{holds-freeze, holds-thaw, holds-expire, holds-release}
 use Rattle.dr_facts.proofs.Sets.{in_none}
@@ -162,7 +165,10 @@ module _ (w : World) (s : Sound w) (line : ℕ) where
   case-holds _ (Aborts i x found free) = holds-aborted w s i x found free
   case-holds _ (AddsMember i a c x joins) = holds-orders w _ (orders-added w s i a c x joins)
   case-holds _ (RemovesMember i a x m found is idle on) = holds-orders w _ (orders-expelled w s i a x m found is idle on)
-  case-holds _ (Loses n) = holds-flight w s (lost n)
+  case-holds _ (Loses n) = holds-flight w s (lost n) (flights-dropped w.control n s.flights)
+  case-holds _ (Sends i server x r o posts) = holds-sent w s i server x r o posts
+  case-holds _ (Delivers n m starts x r reaches) = holds-orders w _ (orders-delivered w s n m starts x r reaches)
+  case-holds _ (TakesReply n m reply x r returns) = holds-taken w s n m reply x r returns
   case-holds _ (Exchanges i server reply x r o allowed) = holds-orders w _ (orders-ordered w s i server x r o allowed reply)
   case-holds _ (Recovers i x found on) = holds-moves w _ (sound-begun w s) (along-recover w s i x found on) (λ q v y. over v y) (λ v y. y)
   case-holds _ (Settles i x m found here on free) = holds-entries w _ _ s (along-settle w s i x found on free m here)
@@ -231,6 +237,7 @@ sound-nothing = record {
   };
   housed = housed-none;
   attempts = attempts-none;
+  flights = flights-none;
   targets = record { once = tt; few = λ v. omega arith };
   queue = record { each = tt; apart = tt; lone = tt; numbers = record { now = λ v t. tt; aside = λ v t. tt } };
 }

@@ -1,14 +1,17 @@
 -- How an act ends: it is done; or its server stops in it, and it counts as done or doesn't.
 use Rattle.std.proofs.Common.{ℕ, ◌≡◌, refl, ap, ◌∙◌, sym, subst, Bool, true, false, cond, not, [], ◌∷◌, ◌++◌, Option, Some, None, is_some}
+use Rattle.std.proofs.Math.Path.{fun_ext}
 use Rattle.dr_logic.specs.Tables.{at}
 use Rattle.dr_model.specs.declared.event.Event.TheVariants.{Stopped}
 use Rattle.dr_model.specs.Histories.{histories}
 use Rattle.dr_model.specs.Layout.{Fields}
 use Rattle.dr_model.specs.Control.{Fuse, Volume, World}
-use Rattle.dr_model.specs.Moves.{Move, Hold, Carried, target, next_fields, carried, told, told_in_stop, landed, settled, settled_in_stop, keeps_staged, updated_keeping, moved}
+use Rattle.dr_model.specs.Moves.{Move, Hold, Carried, target, fields_left, next_fields, carried, told, told_in_stop, landed, settled, settled_in_stop, keeps_staged, updated_keeping, moved, moved_keeping}
+use Rattle.dr_model.specs.Entries.{fields_at}
 use Rattle.dr_model.specs.Carry.{Act, Make, OpenAttempt, Redo, Acknowledge, Drop, EndFreeze, EndThaw, EndRecovery, dropped, frozen, thawed, recovered, Turn, Ended, ended, turn, redo, redo_ended, redo_writes, act, acknowledged, spent, off, burnt, lower, pass, equal, attempt_begun, opened_by}
 use Rattle.dr_model.proofs.CarryLemmas.{lowered-armed, turn-ends}
 use Rattle.dr_facts.proofs.Turns.{equal-same, equal-not}
+use Rattle.dr_laws_attempts.proofs.Moves.{at_map}
 use Rattle.dr_logic.proofs.Tables.{at_same}
 
 abbrev pub server_at : World → ℕ → ℕ
@@ -31,6 +34,10 @@ done w m f =
       control = record (moved_in w m).control { fuse = at w.control.fuse u.server f; pending = settled m w.control.pending };
       events = w.events ++ told m u;
     }
+
+-- the fields of all volumes then
+pub fields-then : (w : World) (m : Move) → fields_at (done w m None).control ≡ at (fields_at w.control) (target m) (fields_left m (w.control.volume (target m)))
+fields-then w m = fun_ext (λ u. at_map (λ (y : Volume). y.fields) w.control.volume (target m) (moved_keeping (keeps_staged m) (w.control.volume (target m)) (next_of w m) (carried_in w m)) u)
 
 -- a server stopped in a move, which counts as done
 abbrev pub done_in_stop : World → Move → Option Fuse → World

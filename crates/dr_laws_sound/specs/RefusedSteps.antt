@@ -8,10 +8,11 @@ use Rattle.dr_model.specs.declared.event.Event.TheVariants.{Issue}
 use Rattle.dr_model.specs.declared.said.Said.TheVariants.{Refused}
 use Rattle.dr_model.specs.declared.step.Name.{Name}
 use Rattle.dr_model.specs.declared.step.Step.{Step}
-use Rattle.dr_model.specs.declared.step.Step.TheVariants.{Write, Apply, Drain, Exchange, Recover, Run}
+use Rattle.dr_model.specs.declared.step.Step.TheVariants.{Write, Apply, Drain, Exchange, Deliver, Recover, Run}
 use Rattle.dr_model.specs.Phases as phases
 use Rattle.dr_model.specs.Control.{World}
 use Rattle.dr_model.specs.Sessions.{Mirror, session_in, mirror_in, members_in}
+use Rattle.dr_model.specs.Messages.{Message, message_in}
 use Rattle.dr_model.specs.Carry.{Entry, carry, dropped}
 use Rattle.dr_model.specs.Entries.{fields_at}
 use Rattle.dr_model.specs.PairEntries.{sends, suspend_where, send_refusal, flashed_refusal, tracks_to_send}
@@ -59,16 +60,25 @@ pub record HasSent (w : World) (a : ℕ) (most : Option ℕ) (r : Refusal) (u : 
       let b : ℕ = (fields_at w.control a).primary_partner in
       option_or (send_refusal a b u.control) (flashed_refusal b u.control) ≡ Some r
 
--- The order that a server was owed, or the first of the next attempt, was carried out for so many of its members, and the others refuse it
--- with r.
+-- an order was carried out for so many members of session s on a server, and the others refuse it with r
+pub record HasCarriedOrder (w : World) (s server : ℕ) (order : phases.Order) (r : Refusal) (u : World) : Type 0 where
+  pub members : ℕ
+  pub leads : CarriesTo w (order_entries order.work s order.number (take members (members_on server (members_in (session_in w.control.sessions s))))) u
+  pub refuses : carry u (order_entries order.work s order.number (drop members (members_on server (members_in (session_in w.control.sessions s))))) ≡ (u, Some r)
+
+-- so was the order that the server was owed, or the first of the next attempt
 pub record HasOrdered (w : World) (s server : ℕ) (r : Refusal) (u : World) : Type 0 where
   pub master : Mirror
   pub found : mirror_in (session_in w.control.sessions s) ≡ Some master
   pub order : phases.Order
   pub owed : order_of master server ≡ Some order
-  pub members : ℕ
-  pub leads : CarriesTo w (order_entries order.work s order.number (take members (members_on server (members_in (session_in w.control.sessions s))))) u
-  pub refuses : carry u (order_entries order.work s order.number (drop members (members_on server (members_in (session_in w.control.sessions s))))) ≡ (u, Some r)
+  pub carried : HasCarriedOrder w s server order r u
+
+-- and one that came as message n
+pub record HasDelivered (w : World) (n : ℕ) (r : Refusal) (u : World) : Type 0 where
+  pub message : Message
+  pub found : message_in w.control.flight n ≡ Some message
+  pub carried : HasCarriedOrder w message.session message.server message.order r u
 
 -- by the server of that name
 pub record NamedOrdered (w : World) (s : ℕ) (name : Name) (r : Refusal) (u : World) : Type 0 where
@@ -90,12 +100,14 @@ abbrev pub HasCarriedRecovery : World → ℕ → World → Type 0
 HasCarriedRecovery w s u = CarriesTo w (recover_entries s (decided_in s w.control) (members_in (session_in w.control.sessions s))) u
 
 -- What a step that is refused so leaves of a world: of a write that its number is with_issued, but not where it is refused before; of one that its
--- volume refuses that it waits no more; and what a drain, an order, a recovery that finds no group, and the plans of an `@run` had done.
+-- volume refuses that it waits no more; and what a drain, an order, also one that came by a message, a recovery that finds no group, and
+-- the plans of an `@run` had done.
 abbrev pub Leaves : World → Result Step ℕ → Refusal → World → Type 0
 Leaves w (Ok (Write v t offset len bytes)) r u = u ≡ (if is_by_volume r || is_off r then let_go (with_issued w v t offset len bytes) (w.control.issued + 1) r else w)
 Leaves w (Ok (Apply n)) r u = u ≡ let_go w n r
 Leaves w (Ok (Drain a most)) r u = (u ≡ w) ⊎ HasSent w a most r u
 Leaves w (Ok (Exchange s name reply)) r u = (u ≡ w) ⊎ NamedOrdered w s name r u
+Leaves w (Ok (Deliver n)) r u = (u ≡ w) ⊎ HasDelivered w n r u
 Leaves w (Ok (Recover s)) (NoGroup d) u = HasCarriedRecovery w s u
 Leaves w (Ok (Run s n)) r u = (u ≡ (formed w s n).world) × HasFormed s r w u
 Leaves w asked r u = u ≡ w

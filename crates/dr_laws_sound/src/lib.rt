@@ -63,13 +63,13 @@ pub fn every_step_keeps_soundness()
     ensures { (w : World) (tasks : List Task) → Sound w → Sound (after_tasks w tasks) }
 {}
 
-/// No more messages are made, no server is started and no epoch of a session begun more often than the journal has events, in every run;
-/// and so it is after a step that begins in such a world. Before the masters are lost whose servers went off in a plan, it is so with one
-/// event more than the journal had as the plan began.
+/// No more messages are made, no server is started and no epoch of a session begun more often than the journal has events, in every run, and
+/// each message in flight is to or from one of the servers that are defined; and so it is after a step that begins in such a world. Before
+/// the masters are lost whose servers went off in a plan, it is so with one event more than the journal had as the plan began.
 pub fn the_flight_is_counted()
     ensures runs { (tasks : List Task) → FlightCounted (run tasks) }
     ensures step { (w : World) (t : Task) → FlightCounted w → FlightCounted (after_task w t) }
-    ensures plan { (w : World) (t : Task) (x : Part) → FlightCounted w → In x (plans_of w t) → IsCounted (length x.world.events + 1) (carried_out x.world x.plan).0.control.flight }
+    ensures plan { (w : World) (t : Task) (x : Part) → FlightCounted w → In x (plans_of w t) → let u : World = (carried_out x.world x.plan).0 in IsCounted (length x.world.events + 1) (length u.control.servers) u.control.flight }
 {}
 
 /// The table of volumes is as it should be after each entry of each plan of a step, too.

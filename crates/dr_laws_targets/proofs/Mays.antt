@@ -24,7 +24,7 @@ use Rattle.dr_laws_targets.specs.Counted.{CountedIn, TargetsShowCuts}
 use Rattle.dr_laws_targets.proofs.Told.{committeds-told, committeds-stopped}
 use Rattle.dr_laws_targets.proofs.Quiet.{counted-world}
 use Rattle.dr_laws_targets.proofs.Keeps.{moved, held}
-use Rattle.dr_laws_targets.proofs.Regrouped.{counted-among, begun-back, begun-on}
+use Rattle.dr_laws_targets.proofs.Regrouped.{counted-begun}
 
 module _ (starts : Option ℕ) (w : World) (sound : SoundBut starts w) (kept : SoundCuts w) (closing : Closing w) (old : TargetsShowCuts w) (x : World) where
   abbrev write : ℕ → Write
@@ -49,8 +49,7 @@ module _ (starts : Option ℕ) (w : World) (sound : SoundBut starts w) (kept : S
   opens v s n may to tell commit sessions =
       let U : Table = after write (table w) (Hold v s n true) in
       leads (Hold v s n true) to tell commit (changed s begun w.control.sessions) sessions
-      (counted-among write w.control.sessions (changed s begun w.control.sessions) U (cut_for s n v (lists w.events) (cuts w.events)) (standing w.events) (committeds w.events)
-      (held starts w sound kept old closing v s n true may.allowed) (begun-back w.control.sessions sound.groups.once U s) (begun-on w.control.sessions sound.groups.once U s))
+      (counted-begun write w.control.sessions U (cut_for s n v (lists w.events) (cuts w.events)) (standing w.events) (committeds w.events) s sound.groups.once (held starts w sound kept old closing v s n true may.allowed))
 
   pub may-done : (m : Move) → May w m → MovedTo w x m → x.control.sessions ≡ w.control.sessions → x.events ≡ w.events ++ told m (w.control.volume (target m)) → TargetsShowCuts x
   may-done m may to sessions is = keeps m may to (told-of w.events x.events m (w.control.volume (target m)) is) (ap committeds is ∙ committeds-told w.events m (w.control.volume (target m))) sessions

@@ -10,6 +10,7 @@ use Rattle.dr_model.specs.Control.{Control}
 use Rattle.dr_model.specs.Entries.{fields_at}
 use Rattle.dr_model.specs.Sessions.{Session, changed, begun}
 use Rattle.dr_model.specs.Table.{Table}
+use Rattle.dr_model.specs.Messages.{Flight}
 use Rattle.dr_model.specs.Groups.{In, Groups}
 use Rattle.dr_model.specs.Attempts.{Attempts}
 use Rattle.dr_model.specs.Laws.{fields}
@@ -73,9 +74,12 @@ module _ (ss : List Session) (once : Once (numbers ss)) (T : Table) (s : ℕ) wh
       by (inl is) = record { session = begun x; listed = changed-becomes s begun ss x once i is.1; number = refl; here = here }
       by (inr not) = record { session = x; listed = changed-stays s begun ss x i not.1; number = refl; here = here }
 
+pub counted-begun : (write : ℕ → Write) (ss : List Session) (T : Table) (c : Cuts) (g l : Standing) (s : ℕ) → Once (numbers ss) → CountedIn write ss T c g l → CountedIn write (changed s begun ss) T c g l
+counted-begun write ss T c g l s once old = counted-among write ss (changed s begun ss) T c g l old (begun-back ss once T s) (begun-on ss once T s)
+
 -- members stay, or their session is Idle
-module _ (k : Control) (us : List Session) (T : Table) (same : (v : ℕ) → fields T v ≡ fields_at k v) (groups : Groups k) (law : Attempts k) (then_groups : Groups (record k { sessions = us })) (then_law : Attempts (record k { sessions = us }))
-    (turn : Regroups k.sessions us) where
+module _ (k : Control) (us : List Session) (later : Flight) (T : Table) (same : (v : ℕ) → fields T v ≡ fields_at k v) (groups : Groups k) (law : Attempts k)
+    (then_groups : Groups (record k { sessions = us; flight = later })) (then_law : Attempts (record k { sessions = us; flight = later })) (turn : Regroups k.sessions us) where
   so-counts : (v : ℕ) → CountsAsTarget (fields T v) → CountsAsTarget (fields_at k v)
   so-counts v counts = subst CountsAsTarget (same v) counts
 

@@ -12,6 +12,7 @@ ghost use Rattle.dr_model.specs.Control.{Control, Volume, World, is_volume, noth
 ghost use Rattle.dr_model.specs.Moves.{Move, Hold, target, told, told_in_stop};
 ghost use Rattle.dr_model.specs.Entries.{fields_at};
 ghost use Rattle.dr_model.specs.Sessions.{Session, changed, begun};
+ghost use Rattle.dr_model.specs.Messages.{Flight};
 ghost use Rattle.dr_model.specs.Groups.{In, Groups};
 ghost use Rattle.dr_model.specs.Attempts.{Attempts};
 ghost use Rattle.dr_model.specs.Table.{Row, Table, table};
@@ -62,14 +63,15 @@ pub fn moves_keep_what_targets_show()
 {}
 
 /// So they do where events are told of which no cut and no group hears and by which the writes and the rows stay, where a write is issued,
-/// where a volume is defined, and where members stay in their session's attempt or their session is Idle.
+/// where a volume is defined, where members stay in their session's attempt or their session is Idle, and where an attempt begins.
 pub fn what_moves_nothing_keeps_what_targets_show()
     ensures told { (w x : World) (more : List Event) → TargetsShowCuts w → NoCuts more → AllStill more → x.events ≡ w.events ++ more → (histories x.events).write ≡ (histories w.events).write → table x ≡ table w → x.control.sessions ≡ w.control.sessions → TargetsShowCuts x }
     ensures issued { (w x : World) (v t offset len : ℕ) (bytes : List ℕ) → SoundCuts w → TargetsShowCuts w → x.events ≡ w.events ++ Issue (w.control.issued + 1) v t offset len bytes ∷ [] → table x ≡ table w → x.control.sessions ≡ w.control.sessions → TargetsShowCuts x }
     ensures defined { (w x : World) (more : List Event) (v : ℕ) (y : Row) → TargetsShowCuts w → Groups w.control → NoCuts more → AllStill more → x.events ≡ w.events ++ more → (histories x.events).write ≡ (histories w.events).write →
         is_volume w.control v ≡ false → y.volume.fields ≡ no_fields → table x ≡ at (table w) v y → x.control.sessions ≡ w.control.sessions → TargetsShowCuts x }
-    ensures regrouped { (write : ℕ → Write) (k : Control) (us : List Session) (T : Table) (c : Cuts) (g l : Standing) → ((v : ℕ) → fields T v ≡ fields_at k v) → Groups k → Attempts k → Groups (record k { sessions = us }) → Attempts (record k { sessions = us }) →
+    ensures regrouped { (write : ℕ → Write) (k : Control) (us : List Session) (later : Flight) (T : Table) (c : Cuts) (g l : Standing) → ((v : ℕ) → fields T v ≡ fields_at k v) → Groups k → Attempts k → Groups (record k { sessions = us; flight = later }) → Attempts (record k { sessions = us; flight = later }) →
         Regroups k.sessions us → CountedIn write k.sessions T c g l → CountedIn write us T c g l }
+    ensures begun { (write : ℕ → Write) (k : Control) (T : Table) (c : Cuts) (g l : Standing) (s : ℕ) → Groups k → CountedIn write k.sessions T c g l → CountedIn write (changed s begun k.sessions) T c g l }
 {}
 
 /// An example: once the target of one of two primaries is committed, its attempt is the session's newest group, though the other isn't

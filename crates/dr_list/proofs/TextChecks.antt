@@ -44,6 +44,10 @@ shows_zeros : said_text untold 0 6 0 0 ≡ codes "ok -"
 unfolding zeros
 shows_zeros = refl
 
+posted : said_text untold 0 7 256 0 ≡ codes "ok m256"
+unfolding digits
+posted = refl
+
 held : said_text untold 100 7 0 0 ≡ codes "held w7"
 unfolding digits
 held = refl
@@ -57,6 +61,9 @@ unknown = refl
 
 unknown_message : said_text untold 2 8 0 0 ≡ codes "E02 unknown message"
 unknown_message = refl
+
+full : said_text untold 4 9 0 0 ≡ codes "E04 limit messages"
+full = refl
 
 links : said_text defined 6 1 0 0 ≡ codes "E06 link down A B"
 links = refl
@@ -88,6 +95,10 @@ stale = refl
 
 forbidden : said_text untold 18 0 0 0 ≡ codes "E18 decision NoMember"
 forbidden = refl
+
+old_message : said_text untold 25 4294967295 0 0 ≡ codes "E25 old message 4294967295"
+unfolding digits
+old_message = refl
 
 no_group : said_text untold 22 5 3 4 ≡ codes "E22 no group Impossible(3,4)"
 unfolding digits

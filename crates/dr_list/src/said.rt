@@ -107,6 +107,10 @@ fn push_addition(
             out.extend_from_slice(b" ")?;
             push_track(out, told.shown())
         }
+        7 => {
+            out.extend_from_slice(b" m")?;
+            push_number(out, a)
+        }
         _ if kind % 256 == 5 => push_group(out, kind / 256, a, b),
         _ => Ok(()),
     }
@@ -158,6 +162,7 @@ fn push_values(out: &mut Vec<u8>, told: &Heard, of: AnswerNumbers) -> Result<(),
             out.extend_from_slice(b" ")?;
             push_decision(out, of.a, of.b, of.c)
         }
+        25 => push_count(out, of.a),
         _ => Ok(()),
     }
 }

@@ -35,6 +35,7 @@ pub(crate) fn limit_word(limit: u32) -> &'static [u8]
         6 => b"groups",
         7 => b"size",
         8 => b"server",
+        9 => b"messages",
         _ => b"",
     }
 }
@@ -139,6 +140,7 @@ pub(crate) fn refusal_words(code: u8) -> &'static [u8]
         22 => b"E22 no group",
         23 => b"E23 journal full",
         24 => b"E24 not built",
+        25 => b"E25 old message",
         _ => b"",
     }
 }

@@ -5,7 +5,7 @@ use crate::reports::Reply;
 use dr_ids::PhaseName;
 
 /// What a master asks a server to do with its members.
-#[derive(Clone, Copy)]
+#[derive(Clone, Copy, PartialEq, Eq)]
 pub enum OrderKind {
     Hold,
     Release,
@@ -60,7 +60,7 @@ impl OrderKind {
 }
 
 /// An order of a master, with the number of its attempt; a report has the number 0.
-#[derive(Clone, Copy)]
+#[derive(Clone, Copy, PartialEq, Eq)]
 pub struct Order {
     pub kind: OrderKind,
     pub n: u32,

@@ -190,3 +190,31 @@ lost_none = refl
 lost_more : outcome (line_of (codes "@lose 7 8")) ≡ 9000
 unfolding outcome line_of words_from words_behind command_named commands command_word read_words read_on setting_named settings setting_word operands needed operand_value operand_items own_steps all_digits no_options no_operands spelled_bytes has flagged valued setting_items may_end may_end_with steps_of step_of paired ranges_items form
 lost_more = refl
+
+sent : outcome (line_of (codes "@send 01 A1")) ≡ 1
+unfolding outcome line_of words_from words_behind command_named commands command_word read_words read_on setting_named settings setting_word operands needed operand_value operand_items own_steps all_digits no_options no_operands spelled_bytes has flagged valued setting_items may_end may_end_with steps_of step_of paired ranges_items form
+sent = refl
+
+sent_nowhere : outcome (line_of (codes "@send 00 A1")) ≡ 7000
+unfolding outcome line_of words_from words_behind command_named commands command_word read_words read_on setting_named settings setting_word operands needed operand_value operand_items own_steps all_digits no_options no_operands spelled_bytes has flagged valued setting_items may_end may_end_with steps_of step_of paired ranges_items form
+sent_nowhere = refl
+
+sent_to_none : outcome (line_of (codes "@send 01")) ≡ 9000
+unfolding outcome line_of words_from words_behind command_named commands command_word read_words read_on setting_named settings setting_word operands needed operand_value operand_items own_steps all_digits no_options no_operands spelled_bytes has flagged valued setting_items may_end may_end_with steps_of step_of paired ranges_items form
+sent_to_none = refl
+
+sent_once : outcome (line_of (codes "@send 01 A1 noreply")) ≡ 13000
+unfolding outcome line_of words_from words_behind command_named commands command_word read_words read_on setting_named settings setting_word operands needed operand_value operand_items own_steps all_digits no_options no_operands spelled_bytes has flagged valued setting_items may_end may_end_with steps_of step_of paired ranges_items form
+sent_once = refl
+
+delivered : outcome (line_of (codes "@deliver 4294967295")) ≡ 1
+unfolding outcome line_of words_from words_behind command_named commands command_word read_words read_on setting_named settings setting_word operands needed operand_value operand_items own_steps all_digits no_options no_operands spelled_bytes has flagged valued setting_items may_end may_end_with steps_of step_of paired ranges_items form
+delivered = refl
+
+delivered_past : outcome (line_of (codes "@deliver 4294967296")) ≡ 10000
+unfolding outcome line_of words_from words_behind command_named commands command_word read_words read_on setting_named settings setting_word operands needed operand_value operand_items own_steps all_digits no_options no_operands spelled_bytes has flagged valued setting_items may_end may_end_with steps_of step_of paired ranges_items form
+delivered_past = refl
+
+delivered_message : outcome (line_of (codes "@deliver m1")) ≡ 10000
+unfolding outcome line_of words_from words_behind command_named commands command_word read_words read_on setting_named settings setting_word operands needed operand_value operand_items own_steps all_digits no_options no_operands spelled_bytes has flagged valued setting_items may_end may_end_with steps_of step_of paired ranges_items form
+delivered_message = refl

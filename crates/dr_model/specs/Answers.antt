@@ -3,7 +3,7 @@ use Rattle.std.specs.Prelude.{ℕ, ◌+◌, ◌*◌}
 use Rattle.dr_ids.specs.declared.refusal.Kind.{Kind}
 use Rattle.dr_ids.specs.declared.refusal.Kind.TheVariants.{Server as OfServer, Volume as OfVolume, Lss as OfLss, Path as OfPath, Write as OfWrite, Session as OfSession, Track as OfTrack, Master as OfMaster, Message as OfMessage}
 use Rattle.dr_ids.specs.declared.refusal.Which.{Which}
-use Rattle.dr_ids.specs.declared.refusal.Which.TheVariants.{Servers, Volumes, Tracks, Sessions, Pending, Targets, Groups, Size, Server as OneServer}
+use Rattle.dr_ids.specs.declared.refusal.Which.TheVariants.{Servers, Volumes, Tracks, Sessions, Pending, Targets, Groups, Size, Server as OneServer, Messages}
 use Rattle.dr_ids.specs.declared.refusal.PhaseName.{PhaseName}
 use Rattle.dr_ids.specs.declared.refusal.PhaseName.TheVariants.{None as NoMaster, Idle, Coordinating, Releasing, Draining, Flashing, Committing, Reverting, Finishing, Lost}
 use Rattle.dr_ids.specs.declared.refusal.Decision.{Decision}
@@ -13,11 +13,11 @@ use Rattle.dr_ids.specs.declared.refusal.PairSeen.TheVariants.{CopyPending, Full
 use Rattle.dr_ids.specs.declared.refusal.RelSeen.{RelSeen}
 use Rattle.dr_ids.specs.declared.refusal.RelSeen.TheVariants.{Revertible, Reversing, Target, Source, None as NoRelation}
 use Rattle.dr_ids.specs.declared.refusal.Refusal.{Refusal}
-use Rattle.dr_ids.specs.declared.refusal.Refusal.TheVariants.{Syntax, Unknown, Duplicate, Limit, ServerOff, LinkDown, Void, NotPrimary, Inhibited, PairState, RelationState, InSession, NotInSession, InFormation, OutOfOrder, Unsealed, Stale, Forbidden, NotIdentical, NumbersSpent, Stopped, NoGroup, JournalFull, NotBuilt}
+use Rattle.dr_ids.specs.declared.refusal.Refusal.TheVariants.{Syntax, Unknown, Duplicate, Limit, ServerOff, LinkDown, Void, NotPrimary, Inhibited, PairState, RelationState, InSession, NotInSession, InFormation, OutOfOrder, Unsealed, Stale, Forbidden, NotIdentical, NumbersSpent, Stopped, NoGroup, JournalFull, NotBuilt, OldMessage}
 use Rattle.dr_model.specs.declared.event.Event.{Event}
 use Rattle.dr_model.specs.declared.event.Event.TheVariants.{Answer}
 use Rattle.dr_model.specs.declared.said.Addition.{Addition}
-use Rattle.dr_model.specs.declared.said.Addition.TheVariants.{Alone, Wrote, Acked, Counted, InPhase, InGroup, Showed}
+use Rattle.dr_model.specs.declared.said.Addition.TheVariants.{Alone, Wrote, Acked, Counted, InPhase, InGroup, Showed, Posted}
 use Rattle.dr_model.specs.declared.said.AnswerNumbers.{AnswerNumbers}
 use Rattle.dr_model.specs.declared.said.Said.{Said}
 use Rattle.dr_model.specs.declared.said.Said.TheVariants.{Done, Held, Refused}
@@ -45,6 +45,7 @@ which_place Targets = 5
 which_place Groups = 6
 which_place Size = 7
 which_place OneServer = 8
+which_place Messages = 9
 
 -- of a phase
 abbrev pub phase_place : PhaseName → ℕ
@@ -120,6 +121,7 @@ done_numbers (Counted n) = numbers_of 0 3 n 0
 done_numbers (InPhase phase n) = numbers_of 0 4 (phase_place phase) n
 done_numbers (InGroup group decision) = numbers_of 0 (256 * decision_place decision + 5) group (decision_number decision)
 done_numbers Showed = numbers_of 0 6 0 0
+done_numbers (Posted m) = numbers_of 0 7 m 0
 
 -- a refusal's code is its number, and the others are its fields in order
 abbrev pub refused_numbers : Refusal → AnswerNumbers
@@ -147,6 +149,7 @@ refused_numbers (Stopped server) = numbers_of 21 server.0 0 0
 refused_numbers (NoGroup decision) = numbers_of 22 (decision_place decision) (decision_first decision) (decision_second decision)
 refused_numbers JournalFull = numbers_of 23 0 0 0
 refused_numbers NotBuilt = numbers_of 24 0 0 0
+refused_numbers (OldMessage m) = numbers_of 25 m 0 0
 
 -- code 100 is held, and a the write that waits
 abbrev pub numbers : Said → AnswerNumbers

@@ -15,7 +15,8 @@ use Rattle.dr_model.specs.Moves.{Move, Overwrite, Keep, Relate, Withdraw, Fetch,
 use Rattle.dr_model.specs.Entries.{fields_at, is_at}
 use Rattle.dr_model.specs.Sessions.{Session, Mirror, has_subsystem, subsystem_of}
 use Rattle.dr_model.specs.SessionEntries.{may_flash}
-use Rattle.dr_model.specs.Groups.{In, Due, HoldsMember}
+use Rattle.dr_model.specs.Messages.{Flight, Message}
+use Rattle.dr_model.specs.Groups.{In, IsOrderFor, Due, HoldsMember}
 
 -- ---- what is seen
 
@@ -439,13 +440,13 @@ IsSilent k v = (fields_at k v).recording ≡ false
 pub record MayFree (k : Control) (v : ℕ) : Type 0 where
   pub session : ℕ
   pub place : MemberOf k session v
-  pub due : Due place.session place.member.server.0 phases.Release place.session.last
+  pub due : Due k.flight place.session place.member.server.0 phases.Release place.session.last
 
 -- so is a secondary sealed for the last number, for which its primary records
 pub record SealsMember (k : Control) (v u s n : ℕ) : Type 0 where
   pub place : MemberOf k s u
   pub secondary : place.member.b.0 ≡ v
-  pub due : Due place.session place.member.server.0 phases.Seal n
+  pub due : Due k.flight place.session place.member.server.0 phases.Seal n
   pub last : n ≡ place.session.last
   pub records : records n (fields_at k u) ≡ true
 
@@ -454,7 +455,7 @@ pub record FlashesMember (k : Control) (v u a s n : ℕ) : Type 0 where
   pub place : MemberOf k s a
   pub secondary : place.member.b.0 ≡ u
   pub target : place.member.c.0 ≡ v
-  pub due : Due place.session place.member.server.0 phases.Flash n
+  pub due : Due k.flight place.session place.member.server.0 phases.Flash n
   pub last : n ≡ place.session.last
   pub paired : is_secondary_of a (fields_at k u) ≡ true
   pub sealed : (fields_at k u).seal ≡ n
@@ -469,7 +470,7 @@ pub record CommitsMember (k : Control) (v a s n : ℕ) : Type 0 where
   pub last : n ≡ place.session.last
   pub revertible : (fields_at k v).revertible ≡ true
   pub all : AllAt n (seen_in k place.session)
-  pub way : (Due place.session place.member.server.0 phases.Commit n × (is_secondary_of a (fields_at k place.member.b.0) ≡ true)) ⊎ SomeCommitted n (seen_in k place.session)
+  pub way : (Due k.flight place.session place.member.server.0 phases.Commit n × (is_secondary_of a (fields_at k place.member.b.0) ≡ true)) ⊎ SomeCommitted n (seen_in k place.session)
 
 -- one is reverted where none is committed, and that is due while its source is its primary's secondary, or all secondaries are taken
 pub record RevertsMember (k : Control) (v a s n : ℕ) : Type 0 where
@@ -478,19 +479,21 @@ pub record RevertsMember (k : Control) (v a s n : ℕ) : Type 0 where
   pub last : n ≡ place.session.last
   pub revertible : (fields_at k v).revertible ≡ true
   pub none : NoneCommitted n (seen_in k place.session)
-  pub way : (Due place.session place.member.server.0 phases.Revert n × (is_secondary_of a (fields_at k place.member.b.0) ≡ true)) ⊎ All (λ u. u.paired ≡ false) (seen_in k place.session)
+  pub way : (Due k.flight place.session place.member.server.0 phases.Revert n × (is_secondary_of a (fields_at k place.member.b.0) ≡ true)) ⊎ All (λ u. u.paired ≡ false) (seen_in k place.session)
 
--- a floor is raised, but not past the last number of a session whose member has v as its target, and not while it is revertible
-pub record Raises (f : Fields) (n last : ℕ) : Type 0 where
-  pub plain : f.revertible ≡ false
-  pub higher : f.floor ≤ n
-  pub low : n ≤ last
+-- a floor is raised where a revert is due for that number, but not past the last number of a session whose member has v as its target;
+-- and while that is revertible, not up to that number
+pub record Raises (k : Control) (x : Session) (m : Member) (v n : ℕ) : Type 0 where
+  pub due : Due k.flight x m.server.0 phases.Revert n
+  pub under : (fields_at k v).revertible ≡ true → n < x.last
+  pub higher : (fields_at k v).floor ≤ n
+  pub low : n ≤ x.last
 
 -- what raising a floor asks, of whichever member has the target
 abbrev pub MayRaiseFloor : Control → ℕ → ℕ → Type 0
-MayRaiseFloor k v n = (x : Session) (m : Member) → In x k.sessions → In m x.members → m.c.0 ≡ v → Raises (fields_at k v) n x.last
+MayRaiseFloor k v n = (x : Session) (m : Member) → In x k.sessions → In m x.members → m.c.0 ≡ v → Raises k x m v n
 
--- what each kind asks of sessions and phases, beside what its row gives
+-- what each kind asks of sessions and phases, beside what its row gives; the first hold of an attempt is no such move, but opens it
 abbrev pub InAttempt : Control → Move → Type 0
 InAttempt k (Overwrite w v t) = Persists (fields_at k v) × DoesNotCount (fields_at k v)
 InAttempt k (Keep v t) = Persists (fields_at k v)
@@ -502,7 +505,7 @@ InAttempt k (Reverse v left) = MayGo k v × GoesAs k v left (fields_at k v).sess
 InAttempt k (Release v t) = (fields_at k v).reversing ≡ true
 InAttempt k (MakeSecondary v u kind state) = MayFollow k v × IsSilent k u
 InAttempt k (Yield v u kind state) = MayFollow k v × IsSilent k u
-InAttempt k (Hold v s n first) = HoldsMember k v s n × ((fields_at k v).attempt < n)
+InAttempt k (Hold v s n first) = HoldsMember k v s n × (((fields_at k v).attempt < n) × (first ≡ false))
 InAttempt k (Free v) = MayFree k v
 InAttempt k (Seal v u s n) = SealsMember k v u s n
 InAttempt k (Finish v n) = UpToLast k v n
@@ -543,12 +546,13 @@ IsLate phase.Releasing = ⊥
 IsLate phase.Draining = ⊥
 IsLate p = Unit {0}
 
--- no member of a session can be flashed with its last number any more
-pub record IsOver (p : PhaseName) (n : ℕ) (vs : List Seen) : Type 0 where
+-- no member of session s can be flashed with its last number any more, and no hold for that can come to one
+pub record IsOver (f : Flight) (s : ℕ) (p : PhaseName) (n : ℕ) (vs : List Seen) : Type 0 where
   pub late : IsLate p
   pub positive : 0 < n
   pub barred : Barred n vs
+  pub held : (m : Message) → IsOrderFor f s phases.Hold n m → AllHeld n vs
 
 -- of session x
-abbrev pub OverIn : Roles → Session → Type 0
-OverIn T x = IsOver (phase_of x.mirror) x.last (all_seen T x.members)
+abbrev pub OverIn : Flight → Roles → Session → Type 0
+OverIn f T x = IsOver f x.number (phase_of x.mirror) x.last (all_seen T x.members)

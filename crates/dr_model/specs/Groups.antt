@@ -4,6 +4,7 @@ use Rattle.dr_ids.specs.declared.names.Member.{Member}
 use Rattle.dr_ids.specs.declared.refusal.PhaseName.TheVariants as phase
 use Rattle.dr_model.specs.Phases as phases
 use Rattle.dr_model.specs.Sessions.{Session, Mirror, IsSoundSession}
+use Rattle.dr_model.specs.Messages.{Flight, Message, Asks}
 use Rattle.dr_model.specs.Control.{Control, is_volume}
 use Rattle.dr_model.specs.Entries.{fields_at}
 use Rattle.dr_model.specs.Tables.{Once}
@@ -105,19 +106,50 @@ pub record IsMember (k : Control) (v s : ℕ) : Type 0 where
   pub here : In member session.members
   pub is : member.a.0 ≡ v
 
--- an order of that work is due for attempt n: the session's master owes it to that server
-pub record Due (x : Session) (server : ℕ) (work : phases.Work) (n : ℕ) : Type 0 where
+-- the session's master owes an order of that work to that server, for attempt n
+pub record IsOwed (x : Session) (server : ℕ) (work : phases.Work) (n : ℕ) : Type 0 where
   pub mirror : Mirror
   pub has_master : x.mirror ≡ Some mirror
   pub owed : phases.is_among server mirror.master.owed ≡ true
   pub works : phases.work_in mirror.master.phase ≡ Some work
   pub number : n ≡ x.last
 
--- a hold of a session's last attempt is due; v's partner is the member's secondary
+-- an order of session s is in flight
+pub record IsOrder (f : Flight) (s : ℕ) (m : Message) : Type 0 where
+  pub here : In m f.messages
+  pub session : m.session ≡ s
+  pub starts : ℕ
+  pub asks : m.body ≡ Asks starts
+
+-- no fence is above a message: its server would still carry it out
+abbrev pub IsLoose : Flight → Message → Type 0
+IsLoose f m = f.fence m.session m.server ≤ m.epoch
+
+-- it is one of that work, for attempt n
+pub record IsOrderFor (f : Flight) (s : ℕ) (work : phases.Work) (n : ℕ) (m : Message) : Type 0 where
+  pub order : IsOrder f s m
+  pub works : m.order.work ≡ work
+  pub number : m.order.number ≡ n
+
+-- such an order is on its way to that server, which would still carry it out
+pub record IsComing (f : Flight) (s server : ℕ) (work : phases.Work) (n : ℕ) : Type 0 where
+  pub message : Message
+  pub order : IsOrderFor f s work n message
+  pub to : message.server ≡ server
+  pub loose : IsLoose f message
+
+-- an order of that work is due for attempt n: the master owes it, or it is on its way
+abbrev pub Due : Flight → Session → ℕ → phases.Work → ℕ → Type 0
+Due f x server work n = IsOwed x server work n ⊎ IsComing f x.number server work n
+
+-- A hold of a session's last attempt is due while that goes on, also for the member's server, which hasn't finished it; v's partner is
+-- the member's secondary.
 pub record HoldsMember (k : Control) (v s n : ℕ) : Type 0 where
   pub place : IsMember k v s
-  pub due : Due place.session place.member.server.0 phases.Hold n
+  pub due : Due k.flight place.session place.member.server.0 phases.Hold n
   pub last : n ≡ place.session.last
+  pub busy : place.mirror.master.phase ≢ phase.Idle
+  pub unfinished : place.mirror.master.phase ≡ phase.Finishing → phases.is_among place.member.server.0 place.mirror.master.owed ≡ true
   pub to : (fields_at k v).primary_partner ≡ place.member.b.0
 
 -- or the first of the next one, while it is Idle

@@ -19,6 +19,7 @@ pub use Rattle.dr_model.specs.Tables.{Once}
 use Rattle.dr_model.specs.Messages.{Flight, Message}
 use Rattle.dr_model.specs.Groups.{In, Groups, Housed}
 use Rattle.dr_model.specs.Attempts.{Attempts}
+use Rattle.dr_model.specs.Flights.{Flights}
 
 -- a law on each volume, and one on each volume and the one that it points to
 abbrev pub Each : (ℕ → Row → Type 0) → Table → Type 0
@@ -365,6 +366,7 @@ pub record SoundBut (starts : Option ℕ) (w : World) : Type 0 where
   pub groups : Groups w.control
   pub housed : Housed w.control
   pub attempts : Attempts w.control
+  pub flights : Flights w.control
 
 -- what holds of a world between steps
 abbrev pub Sound : World → Type 0
@@ -372,19 +374,19 @@ Sound = SoundBut None
 
 -- Counts: how much was sent, started and begun.
 
--- No more than n messages were made, no server was started and no epoch of a session begun more often, and no fence is above its
--- session's epoch. The messages in flight are some of those that were made, each with a number of its own.
-pub record IsCounted (n : ℕ) (f : Flight) : Type 0 where
+-- No more than n messages were made, no server was started and no epoch of a session begun more often. The messages in flight are some of
+-- those that were made, each with a number of its own, to or from one of so many servers.
+pub record IsCounted (n servers : ℕ) (f : Flight) : Type 0 where
   pub made : f.made ≤ n
   pub starts : (server : ℕ) → f.starts server ≤ n
   pub epochs : (s : ℕ) → f.epoch s ≤ n
-  pub fences : (s server : ℕ) → f.fence s server ≤ f.epoch s
   pub numbers : (m : Message) → In m f.messages → (0 < m.number) × (m.number ≤ f.made)
   pub once : Once (map (λ (m : Message). m.number) f.messages)
+  pub homes : (m : Message) → In m f.messages → m.server < servers
 
 -- none of these counts is above the number of events
 abbrev pub FlightCounted : World → Type 0
-FlightCounted w = IsCounted (length w.events) w.control.flight
+FlightCounted w = IsCounted (length w.events) (length w.control.servers) w.control.flight
 
 -- what a track of a volume shows
 abbrev pub shown : Table → ℕ → ℕ → List ℕ

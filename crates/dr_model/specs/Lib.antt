@@ -35,6 +35,7 @@ pub mod Table
 pub mod Rows
 pub mod Groups
 pub mod Attempts
+pub mod Flights
 pub mod Laws
 pub mod Allowed
 pub mod Cuts

@@ -1,7 +1,7 @@
 -- The table of commands: the word of each, its options, its operands and how many steps it makes.
 use Rattle.std.specs.Prelude.{ℕ, Bool, true, false, List, [], ◌∷◌, length, codes}
 use Rattle.dr_model.specs.declared.grammar.Command.{Command}
-use Rattle.dr_model.specs.declared.grammar.Command.TheVariants.{AtServer, AtVolume, AtLink, AtStop, AtStart, AtExpire, AtIssue, AtWrite, AtApply, AtDrain, AtCopy, AtDestage, AtExchange, AtLose, AtRun, AtAbort, AtRecover, AtShow, AtCompare, AtImage, Mkpprcpath, Rmpprcpath, Mkpprc, Rmpprc, Pausepprc, Resumepprc, Failoverpprc, Failbackpprc, Freezepprc, Unfreezepprc, Lspprc, Lsflash, Mkflash, Rmflash, Resyncflash, Reverseflash, Commitflash, Revertflash, Unfreezeflash, Mksession, Chsession, Rmsession, Lssession, Showgmir, Mkgmir, Resumegmir, Pausegmir, Rmgmir}
+use Rattle.dr_model.specs.declared.grammar.Command.TheVariants.{AtServer, AtVolume, AtLink, AtStop, AtStart, AtExpire, AtIssue, AtWrite, AtApply, AtDrain, AtCopy, AtDestage, AtExchange, AtSend, AtDeliver, AtLose, AtRun, AtAbort, AtRecover, AtShow, AtCompare, AtImage, Mkpprcpath, Rmpprcpath, Mkpprc, Rmpprc, Pausepprc, Resumepprc, Failoverpprc, Failbackpprc, Freezepprc, Unfreezepprc, Lspprc, Lsflash, Mkflash, Rmflash, Resyncflash, Reverseflash, Commitflash, Revertflash, Unfreezeflash, Mksession, Chsession, Rmsession, Lssession, Showgmir, Mkgmir, Resumegmir, Pausegmir, Rmgmir}
 use Rattle.dr_model.specs.declared.grammar.Setting.{Setting}
 use Rattle.dr_model.specs.declared.grammar.Setting.TheVariants.{Quiet, Dev, RemoteDev, RemotePort, SourceLss, TargetLss, ConsistencyGroup, Force, PairType, Mode, Unconditional, AtSource, NoCopy, Persist, Recording, Inhibit, FreezeSource, Sequence, Fast, TargetPprc, OfLss, Members, Action, OfSession, Interval, Coordination, DrainTime}
 use Rattle.dr_model.specs.declared.grammar.Operand.{Operand}
@@ -9,7 +9,7 @@ use Rattle.dr_model.specs.declared.grammar.Operand.TheVariants.{ServerName, Othe
 
 -- all commands
 unfoldable pub commands : List Command
-commands = AtServer ∷ AtVolume ∷ AtLink ∷ AtStop ∷ AtStart ∷ AtExpire ∷ AtIssue ∷ AtWrite ∷ AtApply ∷ AtDrain ∷ AtCopy ∷ AtDestage ∷ AtExchange ∷ AtLose ∷ AtRun ∷ AtAbort ∷ AtRecover ∷ AtShow ∷ AtCompare ∷ AtImage
+commands = AtServer ∷ AtVolume ∷ AtLink ∷ AtStop ∷ AtStart ∷ AtExpire ∷ AtIssue ∷ AtWrite ∷ AtApply ∷ AtDrain ∷ AtCopy ∷ AtDestage ∷ AtExchange ∷ AtSend ∷ AtDeliver ∷ AtLose ∷ AtRun ∷ AtAbort ∷ AtRecover ∷ AtShow ∷ AtCompare ∷ AtImage
     ∷ Mkpprcpath ∷ Rmpprcpath ∷ Mkpprc ∷ Rmpprc ∷ Pausepprc ∷ Resumepprc ∷ Failoverpprc ∷ Failbackpprc ∷ Freezepprc ∷ Unfreezepprc ∷ Lspprc
     ∷ Lsflash ∷ Mkflash ∷ Rmflash ∷ Resyncflash ∷ Reverseflash ∷ Commitflash ∷ Revertflash ∷ Unfreezeflash
     ∷ Mksession ∷ Chsession ∷ Rmsession ∷ Lssession ∷ Showgmir ∷ Mkgmir ∷ Resumegmir ∷ Pausegmir ∷ Rmgmir ∷ []
@@ -92,6 +92,8 @@ form AtDrain = host_line (codes "@drain") (OneVolume ∷ CountOrAll ∷ [])
 form AtCopy = host_line (codes "@copy") (OneVolume ∷ CountOrAll ∷ [])
 form AtDestage = host_line (codes "@destage") (OneVolume ∷ [])
 form AtExchange = record (host_line (codes "@exchange") (SessionNumber ∷ ServerName ∷ NoReply ∷ [])) { may_end_with = 2 }
+form AtSend = host_line (codes "@send") (SessionNumber ∷ ServerName ∷ [])
+form AtDeliver = host_line (codes "@deliver") (Count ∷ [])
 form AtLose = host_line (codes "@lose") (Count ∷ [])
 form AtRun = host_line (codes "@run") (SessionNumber ∷ Count ∷ [])
 form AtAbort = host_line (codes "@abort") (SessionNumber ∷ [])

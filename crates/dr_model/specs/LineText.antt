@@ -10,9 +10,9 @@ use Rattle.dr_model.specs.declared.step.Devs.{Devs}
 use Rattle.dr_model.specs.declared.step.TornWord.{TornWord}
 use Rattle.dr_model.specs.declared.step.TornWord.TheVariants.{Same, Fill, Bytes}
 use Rattle.dr_model.specs.declared.step.Step.{Step}
-use Rattle.dr_model.specs.declared.step.Step.TheVariants.{Server, Volume, Link, Stop, StopAfter, Start, Expire, Issue, Write, Apply, Drain, Copy, Destage, Exchange, Lose, Run, Abort, Recover, Show, Compare, Image, MakePath, RemovePath, MakePair, RemovePair, PausePair, ResumePair, Failover, Failback, Freeze, Unfreeze, ListPairs, ListFlashes, MakeFlash, RemoveFlash, ResyncFlash, ReverseFlash, CommitFlash, RevertFlash, UnfreezeFlash, MakeSession, AddMember, RemoveMember, RemoveSession, ListSession, ShowMirror, MakeMirror, ResumeMirror, PauseMirror, RemoveMirror}
+use Rattle.dr_model.specs.declared.step.Step.TheVariants.{Server, Volume, Link, Stop, StopAfter, Start, Expire, Issue, Write, Apply, Drain, Copy, Destage, Exchange, Send, Deliver, Lose, Run, Abort, Recover, Show, Compare, Image, MakePath, RemovePath, MakePair, RemovePair, PausePair, ResumePair, Failover, Failback, Freeze, Unfreeze, ListPairs, ListFlashes, MakeFlash, RemoveFlash, ResyncFlash, ReverseFlash, CommitFlash, RevertFlash, UnfreezeFlash, MakeSession, AddMember, RemoveMember, RemoveSession, ListSession, ShowMirror, MakeMirror, ResumeMirror, PauseMirror, RemoveMirror}
 use Rattle.dr_model.specs.declared.grammar.Command.{Command}
-use Rattle.dr_model.specs.declared.grammar.Command.TheVariants.{AtServer, AtVolume, AtLink, AtStop, AtStart, AtExpire, AtIssue, AtWrite, AtApply, AtDrain, AtCopy, AtDestage, AtExchange, AtLose, AtRun, AtAbort, AtRecover, AtShow, AtCompare, AtImage, Mkpprcpath, Rmpprcpath, Mkpprc, Rmpprc, Pausepprc, Resumepprc, Failoverpprc, Failbackpprc, Freezepprc, Unfreezepprc, Lspprc, Lsflash, Mkflash, Rmflash, Resyncflash, Reverseflash, Commitflash, Revertflash, Unfreezeflash, Mksession, Chsession, Rmsession, Lssession, Showgmir, Mkgmir, Resumegmir, Pausegmir, Rmgmir}
+use Rattle.dr_model.specs.declared.grammar.Command.TheVariants.{AtServer, AtVolume, AtLink, AtStop, AtStart, AtExpire, AtIssue, AtWrite, AtApply, AtDrain, AtCopy, AtDestage, AtExchange, AtSend, AtDeliver, AtLose, AtRun, AtAbort, AtRecover, AtShow, AtCompare, AtImage, Mkpprcpath, Rmpprcpath, Mkpprc, Rmpprc, Pausepprc, Resumepprc, Failoverpprc, Failbackpprc, Freezepprc, Unfreezepprc, Lspprc, Lsflash, Mkflash, Rmflash, Resyncflash, Reverseflash, Commitflash, Revertflash, Unfreezeflash, Mksession, Chsession, Rmsession, Lssession, Showgmir, Mkgmir, Resumegmir, Pausegmir, Rmgmir}
 use Rattle.dr_model.specs.declared.grammar.Setting.{Setting}
 use Rattle.dr_model.specs.declared.grammar.Setting.TheVariants.{Quiet, Dev, RemoteDev, RemotePort, SourceLss, TargetLss, PairType, Mode, AtSource, Sequence, OfLss, Members, Action, OfSession, Interval, Coordination, DrainTime}
 use Rattle.dr_model.specs.declared.grammar.Operand.{Operand}
@@ -180,6 +180,8 @@ at_saying (Drain volume most) = Some (at_sign AtDrain (record no_operands { volu
 at_saying (Copy volume most) = Some (at_sign AtCopy (record no_operands { volume = volume; most = most }))
 at_saying (Destage volume) = Some (at_sign AtDestage (record no_operands { volume = volume }))
 at_saying (Exchange session server reply) = Some (at_sign AtExchange (record no_operands { server = server; session = session; reply = reply }))
+at_saying (Send session server) = Some (at_sign AtSend (record no_operands { server = server; session = session }))
+at_saying (Deliver message) = Some (at_sign AtDeliver (record no_operands { count = message }))
 at_saying (Lose message) = Some (at_sign AtLose (record no_operands { count = message }))
 at_saying (Run session groups) = Some (at_sign AtRun (record no_operands { count = groups; session = session }))
 at_saying (Abort session) = Some (at_sign AtAbort (record no_operands { session = session }))

@@ -27,7 +27,7 @@ pub use Rattle.dr_model.specs.PlanParts.{Plan, same, none_follow, always, tables
 pub use Rattle.dr_model.specs.RecoveryPlans.{decided_in, secondary_refusal, leaves_all, forbidden_unless}
 use Rattle.dr_model.specs.RecoveryPlans.{member_of_target, lets_commit, lets_revert, recover_plan, settle_plan}
 use Rattle.dr_model.specs.SessionPlans.{join_plan, leave_plan, add_plan, expel_plan, mirror_plan, pause_mirror_plan, unmirror_plan, abort_plan, exchange_plan}
-use Rattle.dr_model.specs.MessagePlans.{lose_plan}
+use Rattle.dr_model.specs.MessagePlans.{send_plan, deliver_plan, lose_plan}
 use Rattle.dr_model.specs.Listings.{list_pairs_plan, list_flashes_plan, list_session_plan, show_mirror_plan}
 use Rattle.dr_model.specs.declared.said.Addition.TheVariants.{Alone, Wrote, Acked, Counted, Showed}
 use Rattle.dr_model.specs.declared.said.Said.{Said}
@@ -42,7 +42,7 @@ use Rattle.dr_model.specs.declared.step.PairChoices.{PairChoices}
 use Rattle.dr_model.specs.declared.step.TornWord.{TornWord}
 use Rattle.dr_model.specs.declared.step.TornWord.TheVariants.{Same, Fill, Bytes}
 use Rattle.dr_model.specs.declared.step.Step.{Step}
-use Rattle.dr_model.specs.declared.step.Step.TheVariants.{Server, Volume, Link, Stop, StopAfter, Start, Issue as IssueWrite, Write, Apply, Show, MakeFlash, RemoveFlash, ResyncFlash, ReverseFlash, Copy, Destage, MakePath, RemovePath, MakePair, RemovePair, PausePair, ResumePair, Failover, Failback, Drain, Expire, Freeze, Unfreeze, MakeSession, RemoveSession, AddMember, RemoveMember, MakeMirror, PauseMirror, ResumeMirror, RemoveMirror, Abort, Exchange, Lose, Recover, CommitFlash, RevertFlash, UnfreezeFlash, ListPairs, ListFlashes, ListSession, ShowMirror}
+use Rattle.dr_model.specs.declared.step.Step.TheVariants.{Server, Volume, Link, Stop, StopAfter, Start, Issue as IssueWrite, Write, Apply, Show, MakeFlash, RemoveFlash, ResyncFlash, ReverseFlash, Copy, Destage, MakePath, RemovePath, MakePair, RemovePair, PausePair, ResumePair, Failover, Failback, Drain, Expire, Freeze, Unfreeze, MakeSession, RemoveSession, AddMember, RemoveMember, MakeMirror, PauseMirror, ResumeMirror, RemoveMirror, Abort, Exchange, Send, Deliver, Lose, Recover, CommitFlash, RevertFlash, UnfreezeFlash, ListPairs, ListFlashes, ListSession, ShowMirror}
 
 -- a server is defined; it is on
 abbrev pub server_done : Control → Name → Plan
@@ -612,6 +612,8 @@ plan_of k events line (ResumeMirror devs l s cginterval coordinate drain) = paus
 plan_of k events line (RemoveMirror devs l s) = unmirror_plan k devs.dev l s
 plan_of k events line (Abort s) = abort_plan k s
 plan_of k events line (Exchange s name reply) = exchange_plan k s name reply
+plan_of k events line (Send s name) = send_plan k s name
+plan_of k events line (Deliver n) = deliver_plan k n
 plan_of k events line (Lose n) = lose_plan k n
 plan_of k events line (Recover s) = recover_plan k s
 plan_of k events line (CommitFlash devs source sequence) = settle_plan k devs.dev lets_commit source

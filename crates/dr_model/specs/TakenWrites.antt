@@ -4,10 +4,11 @@ use Rattle.std.specs.List.{find, list_any}
 use Rattle.dr_ids.specs.declared.names.Member.{Member}
 use Rattle.dr_model.specs.declared.event.Event.{Event}
 use Rattle.dr_model.specs.declared.step.Step.{Step}
-use Rattle.dr_model.specs.declared.step.Step.TheVariants.{Volume, Write, Apply, Drain, Copy, Exchange, Run, Recover, MakeFlash, RemoveFlash, ResyncFlash, ReverseFlash, RevertFlash}
+use Rattle.dr_model.specs.declared.step.Step.TheVariants.{Volume, Write, Apply, Drain, Copy, Exchange, Deliver, Run, Recover, MakeFlash, RemoveFlash, ResyncFlash, ReverseFlash, RevertFlash}
 use Rattle.dr_model.specs.Groups.{In}
 use Rattle.dr_model.specs.HeldWrites.{WasReplaced}
 use Rattle.dr_model.specs.Histories.{lists}
+use Rattle.dr_model.specs.Messages.{Message, message_in}
 use Rattle.dr_model.specs.Control.{Control, Pending, World, is_volume}
 use Rattle.dr_model.specs.Sessions.{session_in, members_in}
 use Rattle.dr_model.specs.Pairs.{is_primary_of, goes_over, collides}
@@ -29,6 +30,11 @@ sends_pending k (Some p) v = sends_write k p.volume p.track v
 -- v is the target of one of a session's members
 abbrev pub is_target_in : Control → ℕ → ℕ → Bool
 is_target_in k s v = list_any (λ (m : Member). nat_eq m.c.0 v) (members_in (session_in k.sessions s))
+
+-- or of that of a message, if it is in flight
+abbrev pub is_target_for : Control → Option Message → ℕ → Bool
+is_target_for k None v = false
+is_target_for k (Some m) v = is_target_in k m.session v
 
 -- v is the secondary that the primary of one of them names
 abbrev pub is_copy_in : Control → ℕ → ℕ → Bool
@@ -53,6 +59,7 @@ takes_from k (Ok (Write a t offset len bytes)) v = sends_write k a t v
 takes_from k (Ok (Apply n)) v = sends_pending k (find (is_write n) k.pending) v
 takes_from k (Ok (Drain a most)) v = is_primary_of v (fields_at k a)
 takes_from k (Ok (Exchange s name reply)) v = is_target_in k s v
+takes_from k (Ok (Deliver n)) v = is_target_for k (message_in k.flight n) v
 takes_from k (Ok (Run s n)) v = is_target_in k s v || is_copy_in k s v
 takes_from k (Ok (Recover s)) v = is_target_in k s v
 takes_from k (Ok (RevertFlash devs source sequence)) v = is_at (revertible_target k source) v

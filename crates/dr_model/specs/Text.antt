@@ -69,7 +69,7 @@ abbrev pub limit_word : ℕ → List ℕ
 limit_word n =
     if nat_eq n 0 then codes "servers" else if nat_eq n 1 then codes "volumes" else if nat_eq n 2 then codes "tracks"
     else if nat_eq n 3 then codes "sessions" else if nat_eq n 4 then codes "pending" else if nat_eq n 5 then codes "targets"
-    else if nat_eq n 6 then codes "groups" else if nat_eq n 7 then codes "size" else if nat_eq n 8 then codes "server" else []
+    else if nat_eq n 6 then codes "groups" else if nat_eq n 7 then codes "size" else if nat_eq n 8 then codes "server" else if nat_eq n 9 then codes "messages" else []
 
 -- of a phase
 abbrev pub phase_word : ℕ → List ℕ
@@ -115,8 +115,8 @@ decision_text n a b =
 abbrev pub group_decision : ℕ → ℕ → ℕ → List ℕ
 group_decision n group number = if nat_eq n 4 then decision_text n group number else decision_text n number 0
 
--- what an ok adds: nothing, a write's number, a write that is acknowledged late, a count of tracks, a phase, a group, or the track
--- that was shown
+-- what an ok adds: nothing, a write's number, a write that is acknowledged late, a count of tracks, a phase, a group, the track that
+-- was shown, or a message's number
 abbrev pub addition : Heard → ℕ → ℕ → ℕ → List ℕ
 addition told kind a b =
     if nat_eq kind 1 then codes " w" ++ decimal a
@@ -124,6 +124,7 @@ addition told kind a b =
     else if nat_eq kind 3 then codes " " ++ decimal a
     else if nat_eq kind 4 then codes " " ++ phase_word a ++ codes " " ++ decimal b
     else if nat_eq kind 6 then codes " " ++ track_text told.shown
+    else if nat_eq kind 7 then codes " m" ++ decimal a
     else if nat_eq (kind % 256) 5 then codes " group " ++ decimal a ++ codes " " ++ group_decision (kind / 256) a b
     else []
 
@@ -137,7 +138,8 @@ refusal_words code =
     else if nat_eq code 13 then codes "E13 not in session" else if nat_eq code 14 then codes "E14 in formation" else if nat_eq code 15 then codes "E15 out of order"
     else if nat_eq code 16 then codes "E16 unsealed" else if nat_eq code 17 then codes "E17 stale" else if nat_eq code 18 then codes "E18 decision"
     else if nat_eq code 19 then codes "E19 not identical" else if nat_eq code 20 then codes "E20 numbers spent" else if nat_eq code 21 then codes "E21 stopped"
-    else if nat_eq code 22 then codes "E22 no group" else if nat_eq code 23 then codes "E23 journal full" else if nat_eq code 24 then codes "E24 not built" else []
+    else if nat_eq code 22 then codes "E22 no group" else if nat_eq code 23 then codes "E23 journal full" else if nat_eq code 24 then codes "E24 not built"
+    else if nat_eq code 25 then codes "E25 old message" else []
 
 -- a volume in four hexadecimal digits, and a session in two, by as many of a number's lowest bits
 abbrev pub volume_digits : ℕ → List ℕ
@@ -175,6 +177,7 @@ refusal_values told code a b c =
     else if nat_eq code 19 then codes " " ++ decimal a
     else if nat_eq code 21 then codes " " ++ told_name told a
     else if nat_eq code 22 then codes " " ++ decision_text a b c
+    else if nat_eq code 25 then codes " " ++ decimal a
     else []
 
 -- what an answer says

@@ -16,6 +16,8 @@ pub enum Command {
     AtCopy,
     AtDestage,
     AtExchange,
+    AtSend,
+    AtDeliver,
     AtLose,
     AtRun,
     AtAbort,

@@ -22,6 +22,8 @@ pub enum Addition {
     InGroup { group: u32, decision: Decision },
     /// The bytes that were shown.
     Showed,
+    /// The number of the control message that was made.
+    Posted { m: u32 },
 }
 
 /// What a step answers.
@@ -87,6 +89,7 @@ impl Addition {
                 decision_number(decision),
             ),
             Addition::Showed => numbered(0, 6, 0, 0),
+            Addition::Posted { m } => numbered(0, 7, m, 0),
         }
     }
 }
@@ -129,6 +132,7 @@ fn refused_numbers(refusal: Refusal) -> AnswerNumbers
         Refusal::NoGroup { decision } => decided_numbers(22, decision),
         Refusal::JournalFull => numbered(23, 0, 0, 0),
         Refusal::NotBuilt => numbered(24, 0, 0, 0),
+        Refusal::OldMessage { m } => numbered(25, m, 0, 0),
     }
 }
 
@@ -172,6 +176,7 @@ fn which_place(which: Which) -> u32
         Which::Groups => 6,
         Which::Size => 7,
         Which::Server => 8,
+        Which::Messages => 9,
     }
 }
 

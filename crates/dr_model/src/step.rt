@@ -93,6 +93,13 @@ pub enum Step {
         server: Name,
         reply: bool,
     },
+    Send {
+        session: u8,
+        server: Name,
+    },
+    Deliver {
+        message: u32,
+    },
     Lose {
         message: u32,
     },

@@ -40,7 +40,7 @@ refusal_said code count = if nat_eq count 0 then [] else codes ", " ++ code_word
 
 -- the refusals of a line, and at how many points each came
 unfoldable pub refusals_said : ℕ → List Outcome → List ℕ
-refusals_said number rows = flat_map (λ code. refusal_said code (count_by (refuses_line number code) rows)) (range_with_len 1 24)
+refusals_said number rows = flat_map (λ code. refusal_said code (count_by (refuses_line number code) rows)) (range_with_len 1 25)
 
 -- a line of the recovery with its number, at how many points it was ok or held, and its refusals
 abbrev pub line_told : List Outcome → ℕ → List ℕ → List ℕ

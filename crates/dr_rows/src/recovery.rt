@@ -110,7 +110,7 @@ fn push_refusal(text: &mut Text, code: u8, count: usize) -> Result<(), AllocErro
 fn push_refusals(text: &mut Text, rows: &[Row], number: usize) -> Result<(), AllocError>
     ensures { OnOk result (text.new ≡ text.old ++ refusals_said number rows.now) }
 {
-    for code in 1..25 {
+    for code in 1..26 {
         push_refusal(text, code, refused_so(rows, number, code))?;
     }
     Ok(())

@@ -11,9 +11,9 @@ use Rattle.std.proofs.lemmas.Bool.{and_parts}
 use Rattle.dr_model.specs.declared.step.Name.{Name}
 use Rattle.dr_model.specs.declared.step.Devs.{Devs}
 use Rattle.dr_model.specs.declared.step.Step.{Step}
-use Rattle.dr_model.specs.declared.step.Step.TheVariants.{Server, Volume, Link, Stop, StopAfter, Start, Expire, Issue, Write, Apply, Drain, Copy, Destage, Exchange, Lose, Run, Abort, Recover, Show, Compare, Image, MakePath, RemovePath, MakePair, RemovePair, PausePair, ResumePair, Failover, Failback, Freeze, Unfreeze, ListPairs, ListFlashes, MakeFlash, RemoveFlash, ResyncFlash, ReverseFlash, CommitFlash, RevertFlash, UnfreezeFlash, MakeSession, AddMember, RemoveMember, RemoveSession, ListSession, ShowMirror, MakeMirror, ResumeMirror, PauseMirror, RemoveMirror}
+use Rattle.dr_model.specs.declared.step.Step.TheVariants.{Server, Volume, Link, Stop, StopAfter, Start, Expire, Issue, Write, Apply, Drain, Copy, Destage, Exchange, Send, Deliver, Lose, Run, Abort, Recover, Show, Compare, Image, MakePath, RemovePath, MakePair, RemovePair, PausePair, ResumePair, Failover, Failback, Freeze, Unfreeze, ListPairs, ListFlashes, MakeFlash, RemoveFlash, ResyncFlash, ReverseFlash, CommitFlash, RevertFlash, UnfreezeFlash, MakeSession, AddMember, RemoveMember, RemoveSession, ListSession, ShowMirror, MakeMirror, ResumeMirror, PauseMirror, RemoveMirror}
 use Rattle.dr_model.specs.declared.grammar.Command.{Command}
-use Rattle.dr_model.specs.declared.grammar.Command.TheVariants.{AtServer, AtVolume, AtLink, AtStop, AtStart, AtExpire, AtIssue, AtWrite, AtApply, AtDrain, AtCopy, AtDestage, AtExchange, AtLose, AtRun, AtAbort, AtRecover, AtShow, AtCompare, AtImage, Mkpprcpath, Rmpprcpath, Mkpprc, Rmpprc, Pausepprc, Resumepprc, Failoverpprc, Failbackpprc, Freezepprc, Unfreezepprc, Lspprc, Lsflash, Mkflash, Rmflash, Resyncflash, Reverseflash, Commitflash, Revertflash, Unfreezeflash, Mksession, Chsession, Rmsession, Lssession, Showgmir, Mkgmir, Resumegmir, Pausegmir, Rmgmir}
+use Rattle.dr_model.specs.declared.grammar.Command.TheVariants.{AtServer, AtVolume, AtLink, AtStop, AtStart, AtExpire, AtIssue, AtWrite, AtApply, AtDrain, AtCopy, AtDestage, AtExchange, AtSend, AtDeliver, AtLose, AtRun, AtAbort, AtRecover, AtShow, AtCompare, AtImage, Mkpprcpath, Rmpprcpath, Mkpprc, Rmpprc, Pausepprc, Resumepprc, Failoverpprc, Failbackpprc, Freezepprc, Unfreezepprc, Lspprc, Lsflash, Mkflash, Rmflash, Resyncflash, Reverseflash, Commitflash, Revertflash, Unfreezeflash, Mksession, Chsession, Rmsession, Lssession, Showgmir, Mkgmir, Resumegmir, Pausegmir, Rmgmir}
 use Rattle.dr_model.specs.declared.grammar.Setting.{Setting}
 use Rattle.dr_model.specs.declared.grammar.Setting.TheVariants.{Quiet, Dev, RemoteDev, RemotePort, SourceLss, TargetLss, ConsistencyGroup, Force, PairType, Mode, Unconditional, AtSource, NoCopy, Persist, Recording, Inhibit, FreezeSource, Sequence, Fast, TargetPprc, OfLss, Members, Action, OfSession, Interval, Coordination, DrainTime}
 use Rattle.dr_model.specs.declared.grammar.Options.{Options}
@@ -53,6 +53,8 @@ command_facts AtDrain = record { inked = refl; named = refl; plain = λ rest. re
 command_facts AtCopy = record { inked = refl; named = refl; plain = λ rest. refl; short = omega arith; options = omega arith; operands = omega arith; own = omega arith }
 command_facts AtDestage = record { inked = refl; named = refl; plain = λ rest. refl; short = omega arith; options = omega arith; operands = omega arith; own = omega arith }
 command_facts AtExchange = record { inked = refl; named = refl; plain = λ rest. refl; short = omega arith; options = omega arith; operands = omega arith; own = omega arith }
+command_facts AtSend = record { inked = refl; named = refl; plain = λ rest. refl; short = omega arith; options = omega arith; operands = omega arith; own = omega arith }
+command_facts AtDeliver = record { inked = refl; named = refl; plain = λ rest. refl; short = omega arith; options = omega arith; operands = omega arith; own = omega arith }
 command_facts AtLose = record { inked = refl; named = refl; plain = λ rest. refl; short = omega arith; options = omega arith; operands = omega arith; own = omega arith }
 command_facts AtRun = record { inked = refl; named = refl; plain = λ rest. refl; short = omega arith; options = omega arith; operands = omega arith; own = omega arith }
 command_facts AtAbort = record { inked = refl; named = refl; plain = λ rest. refl; short = omega arith; options = omega arith; operands = omega arith; own = omega arith }
@@ -105,6 +107,8 @@ ready AtDrain o = tt
 ready AtCopy o = tt
 ready AtDestage o = tt
 ready AtExchange o = tt
+ready AtSend o = tt
+ready AtDeliver o = tt
 ready AtLose o = tt
 ready AtRun o = tt
 ready AtAbort o = tt
@@ -277,6 +281,8 @@ reads (Copy volume most) h = told (at_sign AtCopy (record no_operands { volume =
 reads (Destage volume) h = told (at_sign AtDestage (record no_operands { volume = volume })) (Destage volume) refl refl (refl, (refl, (tt, tt))) h refl refl
 reads (Exchange session server true) h = told (at_sign AtExchange (record no_operands { server = server; session = session; reply = true })) (Exchange session server true) refl refl (refl, (refl, (tt, (refl, (refl, (tt, tt)))))) h refl refl
 reads (Exchange session server false) h = told (at_sign AtExchange (record no_operands { server = server; session = session; reply = false })) (Exchange session server false) refl refl (refl, (refl, (tt, (refl, (refl, (tt, (refl, (refl, (tt, tt))))))))) h refl refl
+reads (Send session server) h = told (at_sign AtSend (record no_operands { server = server; session = session })) (Send session server) refl refl (refl, (refl, (tt, (refl, (refl, (tt, tt)))))) h refl refl
+reads (Deliver message) h = told (at_sign AtDeliver (record no_operands { count = message })) (Deliver message) refl refl (refl, (refl, (tt, tt))) h refl refl
 reads (Lose message) h = told (at_sign AtLose (record no_operands { count = message })) (Lose message) refl refl (refl, (refl, (tt, tt))) h refl refl
 reads (Run session groups) h = told (at_sign AtRun (record no_operands { count = groups; session = session })) (Run session groups) refl refl (refl, (refl, (tt, (refl, (refl, (tt, tt)))))) h refl refl
 reads (Abort session) h = told (at_sign AtAbort (record no_operands { session = session })) (Abort session) refl refl (refl, (refl, (tt, tt))) h refl refl

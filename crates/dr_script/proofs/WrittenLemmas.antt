@@ -12,7 +12,7 @@ use Rattle.dr_model.specs.declared.step.TornWord.{TornWord}
 use Rattle.dr_model.specs.declared.step.Step.{Step}
 use Rattle.dr_model.specs.declared.step.Step.TheVariants.{Stop, StopAfter, Exchange, AddMember, RemoveMember}
 use Rattle.dr_model.specs.declared.grammar.Command.{Command}
-use Rattle.dr_model.specs.declared.grammar.Command.TheVariants.{AtServer, AtVolume, AtLink, AtStop, AtStart, AtExpire, AtIssue, AtWrite, AtApply, AtDrain, AtCopy, AtDestage, AtExchange, AtLose, AtRun, AtAbort, AtRecover, AtShow, AtCompare, AtImage, Mkpprcpath, Rmpprcpath, Mkpprc, Rmpprc, Pausepprc, Resumepprc, Failoverpprc, Failbackpprc, Freezepprc, Unfreezepprc, Lspprc, Lsflash, Mkflash, Rmflash, Resyncflash, Reverseflash, Commitflash, Revertflash, Unfreezeflash, Mksession, Chsession, Rmsession, Lssession, Showgmir, Mkgmir, Resumegmir, Pausegmir, Rmgmir}
+use Rattle.dr_model.specs.declared.grammar.Command.TheVariants.{AtServer, AtVolume, AtLink, AtStop, AtStart, AtExpire, AtIssue, AtWrite, AtApply, AtDrain, AtCopy, AtDestage, AtExchange, AtSend, AtDeliver, AtLose, AtRun, AtAbort, AtRecover, AtShow, AtCompare, AtImage, Mkpprcpath, Rmpprcpath, Mkpprc, Rmpprc, Pausepprc, Resumepprc, Failoverpprc, Failbackpprc, Freezepprc, Unfreezepprc, Lspprc, Lsflash, Mkflash, Rmflash, Resyncflash, Reverseflash, Commitflash, Revertflash, Unfreezeflash, Mksession, Chsession, Rmsession, Lssession, Showgmir, Mkgmir, Resumegmir, Pausegmir, Rmgmir}
 use Rattle.dr_model.specs.declared.grammar.Setting.{Setting}
 use Rattle.dr_model.specs.declared.grammar.Setting.TheVariants.{Quiet, Dev, RemoteDev, RemotePort, SourceLss, TargetLss, ConsistencyGroup, Force, PairType, Mode, Unconditional, AtSource, NoCopy, Persist, Recording, Inhibit, FreezeSource, Sequence, Fast, TargetPprc, OfLss, Members, Action, OfSession, Interval, Coordination, DrainTime}
 use Rattle.dr_model.specs.declared.grammar.Options.{Options}
@@ -39,6 +39,7 @@ Enough AtExpire k = k.server ≡ true
 Enough AtIssue k = k.bytes ≡ true
 Enough AtWrite k = k.bytes ≡ true
 Enough AtExchange k = (k.session ≡ true) × (k.server ≡ true)
+Enough AtSend k = (k.session ≡ true) × (k.server ≡ true)
 Enough AtRun k = k.session ≡ true
 Enough AtAbort k = k.session ≡ true
 Enough AtRecover k = k.session ≡ true
@@ -62,6 +63,8 @@ enough_all AtDrain = tt
 enough_all AtCopy = tt
 enough_all AtDestage = tt
 enough_all AtExchange = (refl, refl)
+enough_all AtSend = (refl, refl)
+enough_all AtDeliver = tt
 enough_all AtLose = tt
 enough_all AtRun = refl
 enough_all AtAbort = refl
@@ -113,6 +116,8 @@ enough_end AtDrain = tt
 enough_end AtCopy = tt
 enough_end AtDestage = tt
 enough_end AtExchange = (refl, refl)
+enough_end AtSend = (refl, refl)
+enough_end AtDeliver = tt
 enough_end AtLose = tt
 enough_end AtRun = refl
 enough_end AtAbort = refl
@@ -183,6 +188,8 @@ all_given AtDrain o e = tt
 all_given AtCopy o e = tt
 all_given AtDestage o e = tt
 all_given AtExchange o e = tt
+all_given AtSend o e = tt
+all_given AtDeliver o e = tt
 all_given AtLose o e = tt
 all_given AtRun o e = tt
 all_given AtAbort o e = tt
@@ -241,6 +248,8 @@ item_sound AtDrain o p h = h
 item_sound AtCopy o p h = h
 item_sound AtDestage o p h = h
 item_sound AtExchange o p h = h
+item_sound AtSend o p h = h
+item_sound AtDeliver o p h = h
 item_sound AtLose o p h = h
 item_sound AtRun o p h = h
 item_sound AtAbort o p h = h
@@ -368,6 +377,8 @@ step_written AtDrain o p i h s = at_sound AtDrain (record no_operands { volume =
 step_written AtCopy o p i h s = at_sound AtCopy (record no_operands { volume = p.volume; most = p.most }) (no_item) refl (two _ _ h.operands.volume h.operands.most)
 step_written AtDestage o p i h s = at_sound AtDestage (record no_operands { volume = p.volume }) (no_item) refl (one _ h.operands.volume)
 step_written AtExchange o p i h s = exchange_written p.session p.server p.reply (h.operands.session h.enough.0) (h.operands.server h.enough.1)
+step_written AtSend o p i h s = at_sound AtSend (record no_operands { server = p.server; session = p.session }) (no_item) refl (two _ _ (h.operands.session h.enough.0) (h.operands.server h.enough.1))
+step_written AtDeliver o p i h s = at_sound AtDeliver (record no_operands { count = p.count }) (no_item) refl (one _ h.operands.count)
 step_written AtLose o p i h s = at_sound AtLose (record no_operands { count = p.count }) (no_item) refl (one _ h.operands.count)
 step_written AtRun o p i h s = at_sound AtRun (record no_operands { count = p.count; session = p.session }) (no_item) refl (two _ _ (h.operands.session h.enough) h.operands.count)
 step_written AtAbort o p i h s = at_sound AtAbort (record no_operands { session = p.session }) (no_item) refl (one _ (h.operands.session h.enough))

@@ -230,6 +230,21 @@ fn at_saying(step: &Step) -> Option<Saying>
                 ..no_operands()
             },
         ),
+        Step::Send { session, server } => at_sign(
+            Command::AtSend,
+            Operands {
+                server,
+                session,
+                ..no_operands()
+            },
+        ),
+        Step::Deliver { message } => at_sign(
+            Command::AtDeliver,
+            Operands {
+                count: message,
+                ..no_operands()
+            },
+        ),
         Step::Lose { message } => at_sign(
             Command::AtLose,
             Operands {

@@ -90,6 +90,13 @@ pub(crate) fn step_of(command: Command, options: &Options, operands: &Operands, 
             server: operands.server,
             reply: operands.reply,
         },
+        Command::AtSend => Step::Send {
+            session: operands.session,
+            server: operands.server,
+        },
+        Command::AtDeliver => Step::Deliver {
+            message: operands.count,
+        },
         Command::AtLose => Step::Lose {
             message: operands.count,
         },

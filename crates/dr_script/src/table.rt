@@ -25,6 +25,8 @@ pub(crate) fn commands() -> &'static [Command]
         Command::AtCopy,
         Command::AtDestage,
         Command::AtExchange,
+        Command::AtSend,
+        Command::AtDeliver,
         Command::AtLose,
         Command::AtRun,
         Command::AtAbort,
@@ -82,6 +84,8 @@ pub(crate) fn command_word(command: Command) -> &'static [u8]
         Command::AtCopy => b"@copy",
         Command::AtDestage => b"@destage",
         Command::AtExchange => b"@exchange",
+        Command::AtSend => b"@send",
+        Command::AtDeliver => b"@deliver",
         Command::AtLose => b"@lose",
         Command::AtRun => b"@run",
         Command::AtAbort => b"@abort",
@@ -280,6 +284,8 @@ pub(crate) fn settings(command: Command) -> &'static [Setting]
         | Command::AtCopy
         | Command::AtDestage
         | Command::AtExchange
+        | Command::AtSend
+        | Command::AtDeliver
         | Command::AtLose
         | Command::AtRun
         | Command::AtAbort
@@ -320,6 +326,8 @@ pub(crate) fn needed(command: Command) -> &'static [Setting]
         | Command::AtCopy
         | Command::AtDestage
         | Command::AtExchange
+        | Command::AtSend
+        | Command::AtDeliver
         | Command::AtLose
         | Command::AtRun
         | Command::AtAbort
@@ -367,7 +375,7 @@ pub(crate) fn operands(command: Command) -> &'static [Operand]
             Operand::Offset,
             Operand::WriteBytes,
         ],
-        Command::AtApply | Command::AtLose => &[Operand::Count],
+        Command::AtApply | Command::AtDeliver | Command::AtLose => &[Operand::Count],
         Command::AtDrain | Command::AtCopy => &[Operand::OneVolume, Operand::CountOrAll],
         Command::AtDestage => &[Operand::OneVolume],
         Command::AtExchange => &[
@@ -375,6 +383,7 @@ pub(crate) fn operands(command: Command) -> &'static [Operand]
             Operand::ServerName,
             Operand::NoReply,
         ],
+        Command::AtSend => &[Operand::SessionNumber, Operand::ServerName],
         Command::AtRun => &[Operand::SessionNumber, Operand::Count],
         Command::AtAbort
         | Command::AtRecover

@@ -18,23 +18,25 @@ use Rattle.dr_steps.specs.Counts.{HasCounts}
 with-room : (n room most : ℕ) → nat_le (n + room) most ≡ true → n ≤ most
 with-room n room most has = grind (arith, nat_tests, has)
 
-have : (n : ℕ) (f : Flight) → n ≤ most_events + 1 → IsCounted n f → HasCounts f
-have n f few counted = record {
+have : (n servers : ℕ) (f : Flight) → n ≤ most_events + 1 → IsCounted n servers f → HasCounts servers f
+have n servers f few counted = record {
+  made = let a : f.made ≤ n = counted.made in omega (arith, few, a);
   starts = λ server. let a : f.starts server ≤ n = counted.starts server in omega (arith, few, a);
   epochs = λ s. let a : f.epoch s ≤ n = counted.epochs s in omega (arith, few, a);
+  homes = counted.homes;
 }
 
 -- before a step
-pub before-step : (w : World) → has_room w.events ≡ true → FlightCounted w → HasCounts w.control.flight
+pub before-step : (w : World) → has_room w.events ≡ true → FlightCounted w → HasCounts (length w.control.servers) w.control.flight
 before-step w room counted =
     let few = with-room (length w.events) step_events most_events room in
-    have (length w.events) w.control.flight (omega (arith, few)) counted
+    have (length w.events) (length w.control.servers) w.control.flight (omega (arith, few)) counted
 
 -- and behind its plan, before masters are lost
-pub behind-plan : (w u : World) (line : ℕ) (step : Step) → has_room w.events ≡ true → FlightCounted w → after_plan w line (plan_of w.control w.events line step) ≡ u → HasCounts u.control.flight
+pub behind-plan : (w u : World) (line : ℕ) (step : Step) → has_room w.events ≡ true → FlightCounted w → after_plan w line (plan_of w.control w.events line step) ≡ u → HasCounts (length u.control.servers) u.control.flight
 unfolding after_plan
 behind-plan w u line step room counted is =
     let p : Plan = plan_of w.control w.events line step in
     let case : Case w.control w.events line p = subst (λ (b : Bool). Case w.control w.events line (cond b p (refuses JournalFull))) room (plan-case w.control w.events line (Ok step)) in
     let few = with-room (length w.events) step_events most_events room in
-    subst (λ (v : World). HasCounts v.control.flight) is (have (length w.events + 1) (after_plan w line p).control.flight (omega (arith, few)) (counted-carried w line p (OnePlan p case) counted))
+    subst (λ (v : World). HasCounts (length v.control.servers) v.control.flight) is (have (length w.events + 1) (length (after_plan w line p).control.servers) (after_plan w line p).control.flight (omega (arith, few)) (counted-carried w line p (OnePlan p case) counted))

@@ -6,27 +6,23 @@ use Rattle.std.proofs.lemmas.Bool.Decides.{nat_tests}
 use Rattle.std.proofs.lemmas.List.{append-nil, length-map}
 use Rattle.dr_ids.specs.declared.names.Member.{Member}
 use Rattle.dr_ids.specs.declared.refusal.Refusal.{Refusal}
-use Rattle.dr_ids.specs.declared.refusal.Kind.TheVariants.{Server as OfServer, Session as OfSession}
 use Rattle.dr_plant.specs.State.{PlantState}
 use Rattle.dr_config.specs.Table.{ConfigTable, server_named}
 use Rattle.dr_model.specs.declared.event.Event.{Event}
 use Rattle.dr_model.specs.declared.said.Said.{Said}
-use Rattle.dr_model.specs.declared.said.Said.TheVariants.{Refused}
 use Rattle.dr_model.specs.declared.step.Name.{Name}
 use Rattle.dr_model.specs.Carry.{Entry, carry, follow}
 use Rattle.dr_model.specs.Control.{Control, World}
 use Rattle.dr_model.specs.Groups.{SessionFits}
 use Rattle.dr_model.specs.Laws.{Sound}
 use Rattle.dr_model.specs.Phases as phases
-use Rattle.dr_model.specs.PlanParts.{Plan, unless, none_follow, name_bytes, on_server, on_session}
-use Rattle.dr_model.specs.Refusals.{unknown}
+use Rattle.dr_model.specs.PlanParts.{Plan, unless, none_follow, name_bytes}
 use Rattle.dr_model.specs.Runs.{after_plan, begun, finish, said}
 use Rattle.dr_model.specs.Decisions.{Shown}
 use Rattle.dr_model.specs.SessionEntries.{members_on, order_entries, reply_after}
 use Rattle.dr_model.specs.Messages.{Flight, heard}
 use Rattle.dr_model.specs.SessionPlans.{says_phase, asking, exchange_plan, exchange_on, exchange_done, exchange_refusal, order_of}
 use Rattle.dr_model.specs.Sessions.{Session, Mirror, session_in, mirror_in, members_in}
-use Rattle.dr_model.proofs.CarryLemmas.{plan-refuses}
 use Rattle.dr_laws_sessions.proofs.Changes.{session-found}
 use Rattle.dr_laws_sessions.proofs.Members.{members-few}
 use Rattle.dr_laws_sound.proofs.Awaits.{exchange-begins, exchange-next, exchange-awaits}
@@ -47,7 +43,7 @@ use Rattle.dr_steps.proofs.CarriesLemmas.{carries, carries-plan}
 use Rattle.dr_steps.specs.declared.tables.Tables.{Tables}
 use Rattle.dr_steps.proofs.LandLemmas.{exact, told-through, ready-after}
 use Rattle.dr_steps.proofs.RelationLemmas.{placed-here}
-use Rattle.dr_steps.proofs.StopLemmas.{unknown-server, known-server}
+use Rattle.dr_steps.proofs.NamedLemmas.{named-goes}
 use Rattle.dr_logic.proofs.Options.{if-some}
 
 -- ---- a plan that was carried out
@@ -88,34 +84,17 @@ pub some-defined : (b : Bool) (o : Option Session) → b ≡ true → (IsTrue b 
 some-defined b None is iff = absurd (let some = iff.0 is in cc)
 some-defined b (Some x) is iff = (x, refl)
 
-module _ (s : PlantState) (t : ConfigTable) (h : Tables) (ev : List Event) (line n : ℕ) (name : Name) (reply : Bool) where
-  abbrev w : World
-  w = here s t h ev
+-- what comes of a session's exchange with a server
+abbrev pub exchange_for : Control → ℕ → Bool → Session → ℕ → Plan
+exchange_for k n reply x server = exchange_on k n x.mirror server reply x.members
 
-  abbrev k : Control
-  k = w.control
-
-  abbrev found : Option Session
-  found = session_in h.sessions.sessions n
-
-  abbrev plan_for : Session → ℕ → Plan
-  plan_for x server = exchange_on k n x.mirror server reply x.members
-
-  abbrev line_of : Session → Plan
-  line_of x = on_server k name (plan_for x)
-
-  pub exchange-nowhere : found ≡ None → after_plan w line (exchange_plan k n name reply) ≡ said w line (Refused (unknown OfSession))
-  exchange-nowhere none = ap (λ o. after_plan w line (on_session o line_of)) none ∙ plan-refuses w line (unknown OfSession)
-
-  module _ (x : Session) (there : found ≡ Some x) (bytes : List ℕ) (named : bytes ≡ name_bytes name) where
-    pub exchange-foreign : server_named t bytes ≡ None → after_plan w line (exchange_plan k n name reply) ≡ said w line (Refused (unknown OfServer))
-    exchange-foreign none = ap (λ o. after_plan w line (on_session o line_of)) there ∙ unknown-server s t h ev line (plan_for x) name bytes named none
-
-    pub exchange-goes : (server : ℕ) (u : World) (a : Said) → server_named t bytes ≡ Some server → Carries w (asking k n server reply) u a → after_plan w line (exchange_plan k n name reply) ≡ said u line a
-    exchange-goes server u a some carried =
-        ap (λ o. after_plan w line (on_session o line_of)) there
-        ∙ known-server s t h ev line (plan_for x) name bytes server (said u line a) named some
-        (ap (λ o. after_plan w line (exchange_on k n (mirror_in o) server reply (members_in o))) (sym there) ∙ carries-plan w (asking k n server reply) u a carried line)
+pub exchange-goes : (s : PlantState) (t : ConfigTable) (h : Tables) (ev : List Event) (line n : ℕ) (name : Name) (reply : Bool) (x : Session) → session_in h.sessions.sessions n ≡ Some x
+    → (bytes : List ℕ) → bytes ≡ name_bytes name → (server : ℕ) (u : World) (a : Said) → server_named t bytes ≡ Some server
+    → (let w : World = here s t h ev in Carries w (asking w.control n server reply) u a → after_plan w line (exchange_plan w.control n name reply) ≡ said u line a)
+exchange-goes s t h ev line n name reply x there bytes named server u a some carried =
+    let w = here s t h ev in let k = w.control in
+    named-goes s t h ev line n name (exchange_for k n reply) x there bytes named server (said u line a) some
+    (ap (λ o. after_plan w line (exchange_on k n (mirror_in o) server reply (members_in o))) (sym there) ∙ carries-plan w (asking k n server reply) u a carried line)
 
 -- what is ready stays so
 pub exchange-ready : (s u : PlantState) (t : ConfigTable) (h h' : Tables) (ev mid : List Event) (n server : ℕ) (reply : Bool) (m : Option Mirror) (ms : List Member) (a : Said)
@@ -155,7 +134,7 @@ leads-carry w v es leads =
     ap (carry w) (sym (append-nil es))
     ∙ ends-exact (λ q. false) (λ q e. absurd cc) v None w (es ++ []) (leads (λ q. false) v None [] (ends-none (λ q. false) v None v (record { world = refl; refusal = refl })))
 
-may-order : (work : phases.Work) (ss : List Session) (n number : ℕ) → MayBegin ss n number → MayOrder work ss n number
+pub may-order : (work : phases.Work) (ss : List Session) (n number : ℕ) → MayBegin ss n number → MayOrder work ss n number
 may-order phases.Hold ss n number may = may
 may-order phases.Release ss n number may = tt
 may-order phases.Seal ss n number may = tt
@@ -166,7 +145,7 @@ may-order phases.Finish ss n number may = tt
 may-order phases.Report ss n number may = tt
 
 -- what a reply reports has its place
-has-place : (reports most : ℕ) (y : phases.Reply) → ((xs : List Shown) → y ≡ phases.Reported xs → reports + length xs ≤ most) → reports ≤ 64 → most ≤ 64 → reports + members_in_reply y ≤ 64
+pub has-place : (reports most : ℕ) (y : phases.Reply) → ((xs : List Shown) → y ≡ phases.Reported xs → reports + length xs ≤ most) → reports ≤ 64 → most ≤ 64 → reports + members_in_reply y ≤ 64
 has-place reports most (phases.Reported xs) room few all = let fit = room xs refl in omega (arith, fit, all)
 has-place reports most phases.Done room few all = omega (arith, few)
 has-place reports most phases.NotYet room few all = omega (arith, few)

@@ -3,7 +3,8 @@
 -- a device of zeros shows; `WellFormedLemmas.antt`: what a line says is well formed; `FlashLemmas.antt`,
 -- `BackgroundLemmas.antt`: steps on relationships, and so many rounds of entries.
 -- `LossLemmas.antt`, `EpochLemmas.antt`: masters that are lost, and the epochs that begin with it; `CountLemmas.antt`: that the counts of the
--- messages in flight have room; `MessageLemmas.antt`: lines on control messages.
+-- messages in flight have room; `MessageLemmas.antt`, `SendLemmas.antt`: lines on control messages.
+-- `DeliverLemmas.antt`: a message that arrives; `PostLemmas.antt`: an order that is carried out then, and the reply that this makes.
 -- - **Step lemmas over plain `here s t h events`**, with each state and list as an explicit argument
 --   (`StepLemmas.antt`). In the answer of a goal, name the parts by `let`, and then it is one line.
 -- - **A plan that names a server**: `unknown-server` and `known-server` (`StopLemmas.antt`) take the plan as a function
@@ -70,7 +71,11 @@ pub mod FreezeLemmas
 pub mod ReleaseLemmas
 pub mod SessionLemmas
 pub mod MemberLemmas
+pub mod NamedLemmas
 pub mod ExchangeLemmas
+pub mod PostLemmas
+pub mod DeliverLemmas
+pub mod SendLemmas
 pub mod FormingLemmas
 pub mod RecoveringLemmas
 pub mod WantLemmas

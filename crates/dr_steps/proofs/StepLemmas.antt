@@ -28,6 +28,7 @@ use Rattle.dr_model.specs.declared.event.Event.{Event}
 use Rattle.dr_model.specs.declared.event.Event.TheVariants.{Shown, Issue}
 use Rattle.dr_model.specs.declared.said.Said.{Said}
 use Rattle.dr_model.specs.declared.said.Said.TheVariants.{Done, Held, Refused}
+use Rattle.dr_model.specs.declared.said.Addition.{Addition}
 use Rattle.dr_model.specs.declared.said.Addition.TheVariants.{Showed, Wrote}
 use Rattle.dr_model.specs.Limits.{most_pending}
 use Rattle.dr_model.specs.Refusals.{server_off, unknown, over}
@@ -177,6 +178,12 @@ fault-answers T (FaultRefused r) P Q f is = f r is
 pub fault-says : (T : Type 0) (e : Fault) (P : Refusal → Type 0) (Q : Said → Type 0) → ((r : Refusal) → P r → Q (Refused r)) → OnRefused {T = T} (Err e) P → OnSaid (Err e) Q
 fault-says T NoMemory P Q f is = tt
 fault-says T (FaultRefused r) P Q f is = f r is
+
+-- what holds of an answer, along something that does
+pub answer-weaker : (r : Result Addition Fault) (P Q : Said → Type 0) → ((a : Said) → P a → Q a) → OnAnswer r P → OnAnswer r Q
+answer-weaker (Ok x) P Q each is = each (Done x) is
+answer-weaker (Err NoMemory) P Q each is = tt
+answer-weaker (Err (FaultRefused r)) P Q each is = each (Refused r) is
 
 -- a plan that a refusal comes before
 pub plan-unless : (w : World) (line : ℕ) (p : Plan) (o : Option Refusal) (r : Refusal) → o ≡ Some r → after_plan w line (unless o p) ≡ said w line (Refused r)

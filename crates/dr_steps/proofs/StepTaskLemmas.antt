@@ -13,12 +13,12 @@ use Rattle.dr_ids.specs.declared.refusal.Refusal.TheVariants.{JournalFull, Stopp
 use Rattle.dr_model.specs.declared.event.Event.{Event}
 use Rattle.dr_model.specs.declared.event.Event.TheVariants.{Answer}
 use Rattle.dr_model.specs.declared.said.Addition.{Addition}
-use Rattle.dr_model.specs.declared.said.Addition.TheVariants.{Alone, Wrote, Acked, Counted as CountedRows, InPhase, InGroup, Showed}
+use Rattle.dr_model.specs.declared.said.Addition.TheVariants.{Alone, Wrote, Acked, Counted as CountedRows, InPhase, InGroup, Posted, Showed}
 use Rattle.dr_model.specs.declared.said.Said.{Said}
 use Rattle.dr_model.specs.declared.said.Said.TheVariants.{Done, Held, Refused}
 use Rattle.dr_model.specs.declared.step.Name.{Name}
 use Rattle.dr_model.specs.declared.step.Step.{Step}
-use Rattle.dr_model.specs.declared.step.Step.TheVariants.{Server, Volume, Link, Stop, StopAfter, Start, Issue, Write, Apply, Show, MakeFlash, RemoveFlash, ResyncFlash, ReverseFlash, UnfreezeFlash, Copy, Destage, MakePath, RemovePath, MakePair, RemovePair, PausePair, ResumePair, Failover, Failback, Drain, Expire, Freeze, Unfreeze, MakeSession, RemoveSession, AddMember, RemoveMember, MakeMirror, PauseMirror, ResumeMirror, RemoveMirror, Abort, Exchange, Lose, Run, Compare, Image, Recover, CommitFlash, RevertFlash, ListPairs, ListFlashes, ListSession, ShowMirror}
+use Rattle.dr_model.specs.declared.step.Step.TheVariants.{Server, Volume, Link, Stop, StopAfter, Start, Issue, Write, Apply, Show, MakeFlash, RemoveFlash, ResyncFlash, ReverseFlash, UnfreezeFlash, Copy, Destage, MakePath, RemovePath, MakePair, RemovePair, PausePair, ResumePair, Failover, Failback, Drain, Expire, Freeze, Unfreeze, MakeSession, RemoveSession, AddMember, RemoveMember, MakeMirror, PauseMirror, ResumeMirror, RemoveMirror, Abort, Exchange, Send, Deliver, Lose, Run, Compare, Image, Recover, CommitFlash, RevertFlash, ListPairs, ListFlashes, ListSession, ShowMirror}
 use Rattle.dr_model.specs.declared.step.TornWord.{TornWord}
 use Rattle.dr_model.specs.declared.step.Devs.{Devs}
 use Rattle.dr_model.specs.declared.step.PairChoices.{PairChoices}
@@ -117,20 +117,24 @@ pub none-session : (step : Step)
     → ((d : Devs) (l x : ℕ) → step ≡ RemoveMirror d l x → ⊥)
     → ((x : ℕ) → step ≡ Abort x → ⊥)
     → ((x : ℕ) (n : Name) (r : Bool) → step ≡ Exchange x n r → ⊥)
+    → ((x : ℕ) (n : Name) → step ≡ Send x n → ⊥)
+    → ((n : ℕ) → step ≡ Deliver n → ⊥)
     → ((n : ℕ) → step ≡ Lose n → ⊥)
     → is_session step ≡ false
-none-session (MakeSession d l x) make remove add expel mirror pause resume unmirror abort exchange lose = absurd (make d l x refl)
-none-session (RemoveSession d l x) make remove add expel mirror pause resume unmirror abort exchange lose = absurd (remove d l x refl)
-none-session (AddMember d l a x) make remove add expel mirror pause resume unmirror abort exchange lose = absurd (add d l a x refl)
-none-session (RemoveMember d l a x) make remove add expel mirror pause resume unmirror abort exchange lose = absurd (expel d l a x refl)
-none-session (MakeMirror d l x i c t) make remove add expel mirror pause resume unmirror abort exchange lose = absurd (mirror d l x i c t refl)
-none-session (PauseMirror d l x) make remove add expel mirror pause resume unmirror abort exchange lose = absurd (pause d l x refl)
-none-session (ResumeMirror d l x i c t) make remove add expel mirror pause resume unmirror abort exchange lose = absurd (resume d l x i c t refl)
-none-session (RemoveMirror d l x) make remove add expel mirror pause resume unmirror abort exchange lose = absurd (unmirror d l x refl)
-none-session (Abort x) make remove add expel mirror pause resume unmirror abort exchange lose = absurd (abort x refl)
-none-session (Exchange x n r) make remove add expel mirror pause resume unmirror abort exchange lose = absurd (exchange x n r refl)
-none-session (Lose n) make remove add expel mirror pause resume unmirror abort exchange lose = absurd (lose n refl)
-none-session _ make remove add expel mirror pause resume unmirror abort exchange lose = refl
+none-session (MakeSession d l x) make remove add expel mirror pause resume unmirror abort exchange send deliver lose = absurd (make d l x refl)
+none-session (RemoveSession d l x) make remove add expel mirror pause resume unmirror abort exchange send deliver lose = absurd (remove d l x refl)
+none-session (AddMember d l a x) make remove add expel mirror pause resume unmirror abort exchange send deliver lose = absurd (add d l a x refl)
+none-session (RemoveMember d l a x) make remove add expel mirror pause resume unmirror abort exchange send deliver lose = absurd (expel d l a x refl)
+none-session (MakeMirror d l x i c t) make remove add expel mirror pause resume unmirror abort exchange send deliver lose = absurd (mirror d l x i c t refl)
+none-session (PauseMirror d l x) make remove add expel mirror pause resume unmirror abort exchange send deliver lose = absurd (pause d l x refl)
+none-session (ResumeMirror d l x i c t) make remove add expel mirror pause resume unmirror abort exchange send deliver lose = absurd (resume d l x i c t refl)
+none-session (RemoveMirror d l x) make remove add expel mirror pause resume unmirror abort exchange send deliver lose = absurd (unmirror d l x refl)
+none-session (Abort x) make remove add expel mirror pause resume unmirror abort exchange send deliver lose = absurd (abort x refl)
+none-session (Exchange x n r) make remove add expel mirror pause resume unmirror abort exchange send deliver lose = absurd (exchange x n r refl)
+none-session (Send x n) make remove add expel mirror pause resume unmirror abort exchange send deliver lose = absurd (send x n refl)
+none-session (Deliver n) make remove add expel mirror pause resume unmirror abort exchange send deliver lose = absurd (deliver n refl)
+none-session (Lose n) make remove add expel mirror pause resume unmirror abort exchange send deliver lose = absurd (lose n refl)
+none-session _ make remove add expel mirror pause resume unmirror abort exchange send deliver lose = refl
 
 -- or no recovery, and no commit or revert by hand
 pub none-recovery : (step : Step) → ((x : ℕ) → step ≡ Recover x → ⊥) → ((d : Devs) (b : ℕ) (n : Option ℕ) → step ≡ CommitFlash d b n → ⊥) → ((d : Devs) (b : ℕ) (n : Option ℕ) → step ≡ RevertFlash d b n → ⊥) → is_recovery step ≡ false
@@ -211,6 +215,7 @@ done-stop number (Acked w) = refl
 done-stop number (CountedRows n) = refl
 done-stop number (InPhase phase n) = refl
 done-stop number (InGroup group decision) = refl
+done-stop number (Posted m) = refl
 done-stop number Showed = refl
 
 answer-stop : (number : ℕ) (a : Said) → list_any is_stop (answer number a ∷ []) ≡ is_stopped a

@@ -51,6 +51,11 @@ pub no-memory-weaker : (T U : Type 0) (f : Fault) (P Q : Type 0) → (P → Q) �
 no-memory-weaker T U NoMemory P Q each is = each is
 no-memory-weaker T U (FaultRefused r) P Q each is = tt
 
+-- the same of a result
+pub no-memory-then : (T : Type 0) (r : Result T Fault) (P Q : Type 0) → (P → Q) → OnNoMemory r P → OnNoMemory r Q
+no-memory-then T (Ok x) P Q each is = tt
+no-memory-then T (Err f) P Q each is = no-memory-weaker T T f P Q each is
+
 -- the refusal of a plan in a control state
 abbrev refusal_in : Control → Plan → Option Refusal
 refusal_in k p = refusal_said (p.says k)

@@ -8,13 +8,13 @@ use Rattle.std.proofs.lemmas.Bool.Decides.{nat_tests}
 use Rattle.dr_model.specs.declared.step.Name.{Name}
 use Rattle.dr_model.specs.declared.step.Devs.{Devs}
 use Rattle.dr_model.specs.declared.step.Step.{Step}
-use Rattle.dr_model.specs.declared.step.Step.TheVariants.{Server, Volume, Link, Stop, StopAfter, Start, Issue, Write, MakeFlash, RemoveFlash, ResyncFlash, ReverseFlash, UnfreezeFlash, MakePath, RemovePath, MakePair, RemovePair, PausePair, ResumePair, Failover, Failback, Expire, Freeze, Unfreeze, MakeSession, RemoveSession, AddMember, RemoveMember, MakeMirror, PauseMirror, ResumeMirror, RemoveMirror, Exchange, CommitFlash, RevertFlash, ListPairs, ListFlashes, ListSession, ShowMirror}
+use Rattle.dr_model.specs.declared.step.Step.TheVariants.{Server, Volume, Link, Stop, StopAfter, Start, Issue, Write, MakeFlash, RemoveFlash, ResyncFlash, ReverseFlash, UnfreezeFlash, MakePath, RemovePath, MakePair, RemovePair, PausePair, ResumePair, Failover, Failback, Expire, Freeze, Unfreeze, MakeSession, RemoveSession, AddMember, RemoveMember, MakeMirror, PauseMirror, ResumeMirror, RemoveMirror, Exchange, Send, CommitFlash, RevertFlash, ListPairs, ListFlashes, ListSession, ShowMirror}
 use Rattle.dr_model.specs.LineTable as table
 use Rattle.dr_model.specs.LineText as line
 use Rattle.dr_model.specs.LineText.{at_sign, for_item, for_lss, for_session, said_fits, said_operands, settings_fit, operands_fit, remote_fits, IsWritten, name_fits, name_text, bytes_fit}
 use Rattle.dr_model.specs.LineSteps.{has, no_options, no_operands, no_name}
 use Rattle.dr_model.specs.declared.grammar.Saying.{Saying}
-use Rattle.dr_model.specs.declared.grammar.Command.TheVariants.{AtServer, AtVolume, AtLink, AtStop, AtStart, AtExpire, AtIssue, AtWrite, Mkflash, Rmflash, Resyncflash, Reverseflash, Unfreezeflash, Mkpprcpath, Rmpprcpath, Mkpprc, Rmpprc, Pausepprc, Resumepprc, Failoverpprc, Failbackpprc, Freezepprc, Unfreezepprc, AtExchange, Mksession, Rmsession, Chsession, Mkgmir, Resumegmir, Pausegmir, Rmgmir, Commitflash, Revertflash, Lspprc, Lsflash, Lssession, Showgmir}
+use Rattle.dr_model.specs.declared.grammar.Command.TheVariants.{AtServer, AtVolume, AtLink, AtStop, AtStart, AtExpire, AtIssue, AtWrite, Mkflash, Rmflash, Resyncflash, Reverseflash, Unfreezeflash, Mkpprcpath, Rmpprcpath, Mkpprc, Rmpprc, Pausepprc, Resumepprc, Failoverpprc, Failbackpprc, Freezepprc, Unfreezepprc, AtExchange, AtSend, Mksession, Rmsession, Chsession, Mkgmir, Resumegmir, Pausegmir, Rmgmir, Commitflash, Revertflash, Lspprc, Lsflash, Lssession, Showgmir}
 use Rattle.dr_model.specs.LineWords.{is_name, is_name_byte, begins_with_letter}
 use Rattle.dr_steps.specs.WellFormed.{FitsName, FitsOwner, FitsDevs, IsWellFormed}
 
@@ -126,4 +126,5 @@ written-fits (ListSession devs l) h = owner-fits devs.dev _ (settings-fit (for_l
 written-fits (ShowMirror devs l) h = owner-fits devs.dev _ (settings-fit (for_lss Showgmir (record no_options { devs = devs }) l) h)
 written-fits (Exchange s name true) h = one-name name _ ((and_parts (nat_le 1 s && nat_lt s 256) _ (operands-fit (at_sign AtExchange (record no_operands { server = name; session = s; reply = true })) h)).1)
 written-fits (Exchange s name false) h = one-name name _ ((and_parts (nat_le 1 s && nat_lt s 256) _ (operands-fit (at_sign AtExchange (record no_operands { server = name; session = s; reply = false })) h)).1)
+written-fits (Send s name) h = one-name name true ((and_parts (nat_le 1 s && nat_lt s 256) _ (operands-fit (at_sign AtSend (record no_operands { server = name; session = s })) h)).1)
 written-fits _ h = tt

@@ -1,7 +1,7 @@
 -- Forms of steps.
 use Rattle.std.specs.Prelude.{Bool, true, false, ◌||◌}
 use Rattle.dr_model.specs.declared.step.Step.{Step}
-use Rattle.dr_model.specs.declared.step.Step.TheVariants.{Server, Volume, Link, Stop, StopAfter, Start, Issue, Write, Apply, Show, MakePath, RemovePath, Expire, Freeze, Unfreeze, MakeFlash, RemoveFlash, ResyncFlash, ReverseFlash, UnfreezeFlash, Copy, Destage, MakePair, RemovePair, PausePair, ResumePair, Drain, MakeSession, RemoveSession, AddMember, RemoveMember, MakeMirror, PauseMirror, ResumeMirror, RemoveMirror, Abort, Exchange, Lose, Recover, CommitFlash, RevertFlash, ListPairs, ListFlashes, ListSession, ShowMirror}
+use Rattle.dr_model.specs.declared.step.Step.TheVariants.{Server, Volume, Link, Stop, StopAfter, Start, Issue, Write, Apply, Show, MakePath, RemovePath, Expire, Freeze, Unfreeze, MakeFlash, RemoveFlash, ResyncFlash, ReverseFlash, UnfreezeFlash, Copy, Destage, MakePair, RemovePair, PausePair, ResumePair, Drain, MakeSession, RemoveSession, AddMember, RemoveMember, MakeMirror, PauseMirror, ResumeMirror, RemoveMirror, Abort, Exchange, Send, Deliver, Lose, Recover, CommitFlash, RevertFlash, ListPairs, ListFlashes, ListSession, ShowMirror}
 
 -- those that define servers, volumes and links, those on paths, and freezes and thaws of pairs
 abbrev pub is_defining : Step → Bool
@@ -70,6 +70,8 @@ is_session (ResumeMirror devs l s cginterval coordinate drain) = true
 is_session (RemoveMirror devs l s) = true
 is_session (Abort s) = true
 is_session (Exchange s name reply) = true
+is_session (Send s name) = true
+is_session (Deliver n) = true
 is_session (Lose n) = true
 is_session _ = false
 

@@ -1,4 +1,5 @@
 pub mod Here
+pub mod Arrivals
 pub mod Counts
 pub mod Faults
 pub mod Formed

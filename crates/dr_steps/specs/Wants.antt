@@ -1,9 +1,11 @@
 -- Where a step may end for want of memory: where it asks for memory, behind its refusals, and never where the journal is full.
-use Rattle.std.specs.Prelude.{◌≡◌, ℕ, ◌+◌, ◌-◌, ◌<◌, ◌⊎◌, Bool, true, false, not, List, length, is_some, None, Result, Ok, Err}
+use Rattle.std.specs.Prelude.{◌≡◌, ℕ, ◌+◌, ◌-◌, ◌<◌, ◌⊎◌, Bool, true, false, not, List, length, is_some, Option, Some, None, Result, Ok, Err}
 use Rattle.dr_ids.specs.Paths.{path_in}
+use Rattle.dr_ctl.specs.Kept.{is_order}
+use Rattle.dr_model.specs.Messages.{Message, message_in}
 use Rattle.dr_model.specs.declared.event.Event.{Event}
 use Rattle.dr_model.specs.declared.step.Step.{Step}
-use Rattle.dr_model.specs.declared.step.Step.TheVariants.{Server, Volume, Issue, Write, MakePath, MakeSession, AddMember, Run, Image}
+use Rattle.dr_model.specs.declared.step.Step.TheVariants.{Server, Volume, Issue, Write, MakePath, MakeSession, AddMember, Send, Deliver, Run, Image}
 use Rattle.dr_model.specs.Control.{Control, World}
 use Rattle.dr_model.specs.Forming.{refusal_said}
 use Rattle.dr_model.specs.Limits.{most_events, step_events, image_events}
@@ -21,7 +23,13 @@ abbrev pub room_taken : Result Step ℕ → List Event → ℕ
 room_taken (Ok (Run s n)) events = most_events - length events
 room_taken asked events = room_needed asked
 
--- a step that adds a row to a table: a server, a volume, a path that isn't there yet, a pending write, a subsystem of a session, a member
+-- whether there is a message, and it is an order, to which its server replies by another one
+abbrev pub asks_reply : Option Message → Bool
+asks_reply None = false
+asks_reply (Some m) = is_order m.body
+
+-- a step that adds a row to a table: a server, a volume, a path that isn't there yet, a pending write, a subsystem of a session, a member, a
+-- message
 abbrev pub adds_row : Control → Step → Bool
 adds_row k (Server name) = true
 adds_row k (Volume v name tracks) = true
@@ -30,6 +38,8 @@ adds_row k (Issue v t offset len bytes) = true
 adds_row k (Write v t offset len bytes) = true
 adds_row k (MakeSession devs l s) = true
 adds_row k (AddMember devs l a s) = true
+adds_row k (Send s name) = true
+adds_row k (Deliver n) = asks_reply (message_in k.flight n)
 adds_row k _ = false
 
 -- it asks for that row: its plan is no refusal

@@ -3,7 +3,7 @@ use Rattle.std.specs.Prelude.{◌+◌, ◌≤◌, Option, Some, None}
 use Rattle.dr_model.specs.declared.step.Name.{Name}
 use Rattle.dr_model.specs.declared.step.Devs.{Devs}
 use Rattle.dr_model.specs.declared.step.Step.{Step}
-use Rattle.dr_model.specs.declared.step.Step.TheVariants.{Server, Volume, Link, Stop, StopAfter, Start, Issue, Write, MakeFlash, RemoveFlash, ResyncFlash, ReverseFlash, UnfreezeFlash, MakePath, RemovePath, MakePair, RemovePair, PausePair, ResumePair, Failover, Failback, Expire, Freeze, Unfreeze, MakeSession, RemoveSession, AddMember, RemoveMember, MakeMirror, PauseMirror, ResumeMirror, RemoveMirror, Exchange, CommitFlash, RevertFlash, ListPairs, ListFlashes, ListSession, ShowMirror}
+use Rattle.dr_model.specs.declared.step.Step.TheVariants.{Server, Volume, Link, Stop, StopAfter, Start, Issue, Write, MakeFlash, RemoveFlash, ResyncFlash, ReverseFlash, UnfreezeFlash, MakePath, RemovePath, MakePair, RemovePair, PausePair, ResumePair, Failover, Failback, Expire, Freeze, Unfreeze, MakeSession, RemoveSession, AddMember, RemoveMember, MakeMirror, PauseMirror, ResumeMirror, RemoveMirror, Exchange, Send, CommitFlash, RevertFlash, ListPairs, ListFlashes, ListSession, ShowMirror}
 
 -- a name has 1 to 24 bytes
 abbrev pub FitsName : Name → Type 0
@@ -53,6 +53,7 @@ IsWellFormed (PauseMirror devs l s) = FitsOwner devs.dev
 IsWellFormed (ResumeMirror devs l s cginterval coordinate drain) = FitsOwner devs.dev
 IsWellFormed (RemoveMirror devs l s) = FitsOwner devs.dev
 IsWellFormed (Exchange s name reply) = FitsName name
+IsWellFormed (Send s name) = FitsName name
 IsWellFormed (CommitFlash devs source sequence) = FitsOwner devs.dev
 IsWellFormed (RevertFlash devs source sequence) = FitsOwner devs.dev
 IsWellFormed (ListPairs devs v) = FitsOwner devs.dev

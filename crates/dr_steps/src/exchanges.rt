@@ -22,7 +22,7 @@ use dr_plant::Plant;
 use dr_session::Sessions;
 
 /// The reports to the session's master speak of at most 64 members. Does nothing but state it.
-fn tell_few(sessions: &Sessions, s: SessionId)
+pub fn tell_few(sessions: &Sessions, s: SessionId)
     ensures { IfSome (model.mirror_in (model.session_in sessions.now.sessions s.0)) (λ r. length r.master.reports ≤ 64) }
 {
     let _ = sessions.master(s);

@@ -289,7 +289,8 @@ fn is_finishing(phase: PhaseName) -> bool
     }
 }
 
-fn is_idle(phase: PhaseName) -> bool
+/// No attempt goes on in that phase.
+pub fn is_idle(phase: PhaseName) -> bool
     ensures { result ≡ is_idle phase }
 {
     match phase {
@@ -317,7 +318,7 @@ fn still_left(committed: bool, after: PhaseName, left: u32) -> u32
 }
 
 /// The phase of a session's master.
-fn phase_in(sessions: &Sessions, s: SessionId) -> PhaseName
+pub fn phase_in(sessions: &Sessions, s: SessionId) -> PhaseName
     ensures { result ≡ plans.phase_of (model.mirror_in (model.session_in sessions.now.sessions s.0)) }
 {
     match sessions.master(s) {

@@ -15,6 +15,7 @@ ghost use Rattle.dr_steps.specs.WellFormed.{IsWellFormed};
 
 use crate::answers::refused;
 use crate::background::{copy, destage_volume};
+use crate::delivering::deliver;
 use crate::exchanges::exchange;
 use crate::flash::{make_flash, remove_flash, resync_flash, reverse_flash, unfreeze_flash};
 use crate::members::{add_member, remove_member};
@@ -22,6 +23,7 @@ use crate::messages::lose;
 use crate::pairs::{drain, make_pair, pause_pair, remove_pair, resume_pair};
 use crate::recovering::{commit_flash, recover_session, revert_flash};
 use crate::returning::carry_return;
+use crate::sending::send;
 use crate::sessions::{
     abort_attempt, make_mirror, make_session, pause_mirror, remove_mirror, remove_session,
 };
@@ -275,7 +277,7 @@ pub fn carry_session<P: Plant>(
 ) -> Result<Addition, Fault>
     requires ready { IsReady (P.state plant.old) config.now tables.old journal.old.events }
     requires sound { Sound (here (P.state plant.old) config.now tables.old journal.old.events) }
-    requires counts { HasCounts (flight_in tables.old.flight) }
+    requires counts { HasCounts (length config.now.names) (flight_in tables.old.flight) }
     requires fits { IsWellFormed step.now }
     requires few { length config.now.volumes ≤ 64 }
     requires room { step_events ≤ journal.old.spare }
@@ -407,6 +409,15 @@ pub fn carry_session<P: Plant>(
             &server,
             reply,
         )),
+        Step::Send { session, server } => send(
+            plant,
+            config,
+            tables,
+            journal,
+            SessionId(session),
+            &server,
+        ),
+        Step::Deliver { message } => deliver(plant, config, tables, journal, message),
         Step::Lose { message } => refused(lose(plant, config, tables, journal, message)),
         _ => refused(carry_recovery(plant, config, tables, journal, step)),
     }

@@ -8,7 +8,7 @@
 //! `define_volume`, `set_link`, `issue`, `write`, `apply`, `show`, `stop`, `arm`, `start`, `make_flash`,
 //! `remove_flash`, `resync_flash`, `reverse_flash`, `unfreeze_flash`, `copy`, `destage_volume`, `make_path`, `remove_path`, `make_pair`, `remove_pair`,
 //! `pause_pair`, `resume_pair`, `fail_over`, `fail_back`, `compare`, `drain`, `expire`, `freeze`, `thaw`, `make_session`, `remove_session`,
-//! `make_mirror`, `pause_mirror`, `remove_mirror`, `abort_attempt`, `add_member`, `remove_member`, `exchange`, `lose`,
+//! `make_mirror`, `pause_mirror`, `remove_mirror`, `abort_attempt`, `add_member`, `remove_member`, `exchange`, `send`, `deliver`, `lose`,
 //! `recover_session`, `commit_flash`, `revert_flash`, `list_pairs`, `list_flashes`, `list_session` and `show_mirror` are
 //! their steps, each with its answer (`step`); `show` gives the bytes that the host writes of the journal say. `fetch_tracks` and `restore_tracks` are the background copy and
 //! the restore of several tracks (`carried`), also where reads may fail.
@@ -18,6 +18,7 @@ mod answers;
 mod background;
 mod comparing;
 mod define;
+mod delivering;
 mod exchanges;
 mod expiry;
 mod flash;
@@ -34,6 +35,7 @@ mod pairs;
 mod paths;
 mod recovering;
 mod returning;
+mod sending;
 mod sessions;
 mod steps;
 mod stops;

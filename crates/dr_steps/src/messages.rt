@@ -31,7 +31,8 @@ pub fn raise_if(flight: &mut Flight, s: SessionId, lost: bool)
 /// server's fence to the epoch.
 pub fn hear(flight: &mut Flight, s: SessionId, server: ServerId, epoch: u32, kind: OrderKind)
     requires server { server.0 < 8 }
-    ensures { flight_in flight.new ≡ model.heard s.0 server.0 epoch (work_of kind) (flight_in flight.old) }
+    ensures room { flight.new.room ≡ flight.old.room }
+    ensures heard { flight_in flight.new ≡ model.heard s.0 server.0 epoch (work_of kind) (flight_in flight.old) }
 {
     if matches!(kind, OrderKind::Report) {
         flight.raise_fence(s, server, epoch);

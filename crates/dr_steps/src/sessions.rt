@@ -1,6 +1,6 @@
 //! The steps on sessions and their masters.
 
-ghost use Rattle.std.specs.Prelude.{◌≡◌, ℕ, ◌<◌, false, List, Option, Some, IfSome, IfOk, IfErr, is_some, option_map, if◌then◌else◌};
+ghost use Rattle.std.specs.Prelude.{◌≡◌, ℕ, ◌<◌, false, List, Option, Some, IfSome, IfOk, IfErr, is_some, option_map, length, if◌then◌else◌};
 ghost use Rattle.dr_ids.specs.declared.refusal.Refusal.{Refusal};
 ghost use Rattle.dr_plant.specs.State.{PlantState};
 ghost use Rattle.dr_config.specs.Table.{ConfigTable};
@@ -225,7 +225,7 @@ pub fn make_mirror<P: Plant>(
 ) -> Result<Addition, Refusal>
     requires ready { IsReady (P.state plant.now) config.now tables.old journal.now.events }
     requires short { FitsOwner devs.now.dev }
-    requires counts { HasCounts (flight_in tables.old.flight) }
+    requires counts { HasCounts (length config.now.names) (flight_in tables.old.flight) }
     ensures step { (line : ℕ) → after_plan (here (P.state plant.now) config.now tables.old journal.now.events) line
         (plans.mirror_plan (here (P.state plant.now) config.now tables.old journal.now.events).control devs.now.dev l.0 s.0)
         ≡ said (here (P.state plant.now) config.now tables.new journal.now.events) line (said_of result) }
@@ -346,7 +346,7 @@ pub fn abort_attempt<P: Plant>(
 ) -> Result<Addition, Refusal>
     requires ready { IsReady (P.state plant.now) config.now tables.old journal.now.events }
     requires sound { Sound (here (P.state plant.now) config.now tables.old journal.now.events) }
-    requires counts { HasCounts (flight_in tables.old.flight) }
+    requires counts { HasCounts (length config.now.names) (flight_in tables.old.flight) }
     ensures step { (line : ℕ) → after_plan (here (P.state plant.now) config.now tables.old journal.now.events) line
         (plans.abort_plan (here (P.state plant.now) config.now tables.old journal.now.events).control s.0)
         ≡ said (here (P.state plant.now) config.now tables.new journal.now.events) line (said_of result) }

@@ -107,7 +107,7 @@ pub fn start<P: Plant>(
     requires ready { IsReady (P.state plant.old) config.now tables.old journal.old.events }
     requires short { name.now.len ≤ 24 }
     requires room { length config.now.volumes + length config.now.volumes + 3 ≤ journal.old.spare }
-    requires counts { HasCounts (flight_in tables.old.flight) }
+    requires counts { HasCounts (length config.now.names) (flight_in tables.old.flight) }
     ensures step { (line : ℕ) → StepLeads (here (P.state plant.old) config.now tables.old journal.old.events) line (Step.Start name.now)
         (here (P.state plant.new) config.now tables.new journal.new.events) (said_of result) }
     ensures faults { CountsStop (said_of result) (P.state plant.old) (P.state plant.new) }

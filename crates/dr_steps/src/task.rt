@@ -49,7 +49,7 @@ fn carry_listing<P: Plant>(
 ) -> Result<Said, Fault>
     requires ready { IsReady (P.state plant.old) config.now tables.old journal.old.events }
     requires sound { Sound (here (P.state plant.old) config.now tables.old journal.old.events) }
-    requires counts { HasCounts (flight_in tables.old.flight) }
+    requires counts { HasCounts (length config.now.names) (flight_in tables.old.flight) }
     requires fits { IsWellFormed step.now }
     requires few { length config.now.volumes ≤ 64 }
     requires room { step_events ≤ journal.old.spare }
@@ -118,7 +118,7 @@ fn carry_host<P: Plant>(
 ) -> Result<Said, Fault>
     requires ready { IsReady (P.state plant.old) config.now tables.old journal.old.events }
     requires sound { Sound (here (P.state plant.old) config.now tables.old journal.old.events) }
-    requires counts { HasCounts (flight_in tables.old.flight) }
+    requires counts { HasCounts (length config.now.names) (flight_in tables.old.flight) }
     requires fits { IsWellFormed step.now }
     requires few { length config.now.volumes ≤ 64 }
     requires room { step_events ≤ journal.old.spare }
@@ -188,7 +188,7 @@ fn carry_out<P: Plant>(
 ) -> Result<Said, Fault>
     requires ready { IsReady (P.state plant.old) config.old tables.old journal.old.events }
     requires sound { Sound (here (P.state plant.old) config.old tables.old journal.old.events) }
-    requires counts { HasCounts (flight_in tables.old.flight) }
+    requires counts { HasCounts (length config.old.names) (flight_in tables.old.flight) }
     requires fits { IsWellFormed step.now }
     requires few { length config.old.volumes ≤ 64 }
     requires room { step_events ≤ journal.old.spare }
@@ -296,7 +296,7 @@ fn carry_answered<P: Plant>(
 ) -> Result<(), AllocError>
     requires ready { IsReady (P.state plant.old) config.old tables.old journal.old.events }
     requires sound { Sound (here (P.state plant.old) config.old tables.old journal.old.events) }
-    requires counts { HasCounts (flight_in tables.old.flight) }
+    requires counts { HasCounts (length config.old.names) (flight_in tables.old.flight) }
     requires fits { IsWellFormed step.now }
     requires few { length config.old.volumes ≤ 64 }
     requires room { step_events ≤ journal.old.spare }

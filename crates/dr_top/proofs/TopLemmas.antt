@@ -47,6 +47,10 @@ use Rattle.dr_laws_recovery.proofs.KeepsWrites.{keeps-run}
 use Rattle.dr_laws_recovery.proofs.TakenAt.{holds-run}
 use Rattle.dr_laws_recovery.proofs.GroupsFound.{found-run}
 use Rattle.dr_laws_recovery.proofs.RunsFormed.{formed-run}
+use Rattle.dr_laws_orders.proofs.Arrivals.{below-refused}
+use Rattle.dr_laws_orders.proofs.StaysOld.{before-run}
+use Rattle.dr_laws_orders.proofs.Older.{leaves-run}
+use Rattle.dr_laws_commits.proofs.Commits.{commits-run}
 use Rattle.dr_laws_images.proofs.Imaged.{all-read-back, last-gives-back}
 use Rattle.dr_laws_return.proofs.Sites.{alike-on}
 use Rattle.dr_laws_return.specs.Returned.{Returns}
@@ -214,6 +218,10 @@ stands-here s0 s t h ev sound ready room stops steps leads lists images =
       acknowledged = λ tasks goes. acked-run tasks;
       formed = λ tasks goes. formed-run tasks;
       found = λ tasks goes. found-run tasks;
+      fenced = below-refused w.control;
+      settled = λ tasks goes. before-run tasks;
+      older = λ tasks goes. leaves-run tasks;
+      commits = λ tasks goes. commits-run tasks;
       freezes = λ tasks goes. freezes-hold tasks;
       in_sync = λ tasks goes. in-sync-run tasks;
       shown = λ tasks goes. shown-here s t h ev sound is tasks goes;

@@ -26,6 +26,10 @@ use Rattle.dr_laws_recovery.specs.Formed.{FormedIsFound, GroupsAreFound}
 use Rattle.dr_laws_recovery.specs.Held.{HoldsAll}
 use Rattle.dr_laws_recovery.specs.Stored.{StoredAtCuts}
 use Rattle.dr_laws_recovery.specs.Recovered.{HoldsTracks}
+use Rattle.dr_laws_orders.specs.Arrivals.{FencesHold}
+use Rattle.dr_laws_orders.specs.OldOrders.{OldOrdersStayRefused}
+use Rattle.dr_laws_orders.specs.OlderNumbers.{OlderOrdersLeaveVolumes}
+use Rattle.dr_laws_commits.specs.Commits.{CommitsAreOfFlashed}
 use Rattle.dr_laws_images.specs.Imaged.{AllReadBack, LastGivesBack}
 use Rattle.dr_laws_return.specs.Sites.{SitesAlike}
 use Rattle.dr_laws_return.specs.Compared.{ComparesDevices}
@@ -47,8 +51,10 @@ pub record HasDevices (w : World) (s : PlantState) : Type 0 where
 -- to decide over each session. And the headline: of each session that is defined, the devices give back one cut of the host's acknowledged
 -- writes, that of its newest group. Of the steps it says which may take a write away, that what is acknowledged is what was answered, that
 -- what is formed is what recovery finds, that after a freeze no write lands until a step lets it, that a Full Duplex primary is in sync
--- where its server runs, and that a refused step changes nothing but what is named. What the last step showed is on the devices, and a
--- write that a secondary stored was acknowledged, or a server stopped. Where a pair is in place by the records on both devices, these
+-- where its server runs, and that a refused step changes nothing but what is named. Of orders in flight it says that none below its server's
+-- fence is carried out, nor one from before a loss once the master has gone on, whatever comes later; that one of an older attempt changes
+-- no view and no recording; and that a number is committed only where each member was flashed with it. What the last step showed is on the
+-- devices, and a write that a secondary stored was acknowledged, or a server stopped. Where a pair is in place by the records on both devices, these
 -- contain the same on each track that isn't recorded; what a comparison answered as the last step is what the devices contain; and where a
 -- failback and a drain behind it were answered ok, the pair is turned round, and both devices contain what the host writes make.
 pub record Stands (steps : List Task) (world : World) (events : List Event) (s s' : PlantState) : Type 0 where
@@ -74,6 +80,10 @@ pub record Stands (steps : List Task) (world : World) (events : List Event) (s s
   pub acknowledged : (tasks : List Task) → run tasks ≡ world → AcknowledgedIsAnswered tasks
   pub formed : (tasks : List Task) → run tasks ≡ world → FormedIsFound tasks
   pub found : (tasks : List Task) → run tasks ≡ world → GroupsAreFound tasks
+  pub fenced : FencesHold world.control
+  pub settled : (tasks : List Task) → run tasks ≡ world → OldOrdersStayRefused tasks
+  pub older : (tasks : List Task) → run tasks ≡ world → OlderOrdersLeaveVolumes tasks
+  pub commits : (tasks : List Task) → run tasks ≡ world → CommitsAreOfFlashed tasks
   pub freezes : (tasks : List Task) → run tasks ≡ world → FreezesHold tasks
   pub in_sync : (tasks : List Task) → run tasks ≡ world → DuplexInSync tasks
   pub shown : (tasks : List Task) → run tasks ≡ world → ShowsDevices tasks s'.block

@@ -1,4 +1,4 @@
-use Rattle.dr_laws_attempts.proofs.Tables.{with-mirrored, with-unmirrored, with-paused, with-aborted, with-lost}
+use Rattle.dr_laws_attempts.proofs.Tables.{with-mirrored, with-unmirrored, with-paused, with-aborted, with-lost, attempts-begun}
 use Rattle.dr_laws_attempts.proofs.masters_keep_the_laws_of_attempts.Goals as goal
 
 pub returns-clause-mirrored : goal.returns-clause-mirrored
@@ -15,3 +15,6 @@ returns-clause-aborted c = λ k s groups law. with-aborted k groups law s
 
 pub returns-clause-lost : goal.returns-clause-lost
 returns-clause-lost c = λ k before now groups law. with-lost k groups law before now
+
+pub returns-clause-begun : goal.returns-clause-begun
+returns-clause-begun c = attempts-begun

@@ -1,8 +1,8 @@
-use Rattle.dr_laws_attempts.proofs.Orders.{order-frees, order-seals, order-flashes, order-commits, order-reverts, order-raises, order-finishes, newer, expelled-leaves, added-raises, order-is, reports-lost}
+use Rattle.dr_laws_attempts.proofs.Orders.{order-holds, order-frees, order-seals, order-flashes, order-commits, order-reverts, order-raises, order-finishes, expelled-leaves, added-raises, order-is, reports-lost}
 use Rattle.dr_laws_attempts.proofs.orders_move_members.Goals as goal
 
 pub returns-clause-holds : goal.returns-clause-holds
-returns-clause-holds c = λ k s n m holds passes none. (holds, newer m.a.0 n k passes none)
+returns-clause-holds c = order-holds
 
 pub returns-clause-frees : goal.returns-clause-frees
 returns-clause-frees c = λ k s x m groups law found here. order-frees k groups law s x found m here
@@ -14,10 +14,10 @@ pub returns-clause-flashes : goal.returns-clause-flashes
 returns-clause-flashes c = λ k s x m n groups law found here. order-flashes k groups law s x found m here n
 
 pub returns-clause-commits : goal.returns-clause-commits
-returns-clause-commits c = λ k s x m n groups law found here. order-commits k groups law s x found m here n
+returns-clause-commits c = λ k s x m n groups law flights found here. order-commits k groups law s x found m here flights n
 
 pub returns-clause-reverts : goal.returns-clause-reverts
-returns-clause-reverts c = λ k s x m n groups law found here. order-reverts k groups law s x found m here n
+returns-clause-reverts c = λ k s x m n groups law flights found here. order-reverts k groups law s x found m here flights n
 
 pub returns-clause-raises : goal.returns-clause-raises
 returns-clause-raises c = λ k s x m n groups law found here. order-raises k groups law s x found m here n

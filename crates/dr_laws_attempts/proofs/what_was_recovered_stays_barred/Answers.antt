@@ -1,4 +1,4 @@
-use Rattle.dr_laws_attempts.proofs.Barred.{over-begins, over-unflashed, over-moved, over-opened, over-taken, over-aborted, over-lost, over-paused, over-mirrored, over-unmirrored, over-raised, over-added, over-removed}
+use Rattle.dr_laws_attempts.proofs.Barred.{over-begins, over-unflashed, over-moved, over-opened, over-flown, over-sent, over-apart, over-answered, over-taken, over-aborted, over-lost, over-paused, over-mirrored, over-unmirrored, over-raised, over-added, over-removed}
 use Rattle.dr_laws_attempts.proofs.what_was_recovered_stays_barred.Goals as goal
 
 pub returns-clause-begins : goal.returns-clause-begins
@@ -39,3 +39,15 @@ returns-clause-added c = over-added
 
 pub returns-clause-removed : goal.returns-clause-removed
 returns-clause-removed c = over-removed
+
+pub returns-clause-flown : goal.returns-clause-flown
+returns-clause-flown c = over-flown
+
+pub returns-clause-sent : goal.returns-clause-sent
+returns-clause-sent c = over-sent
+
+pub returns-clause-apart : goal.returns-clause-apart
+returns-clause-apart c = over-apart
+
+pub returns-clause-answered : goal.returns-clause-answered
+returns-clause-answered c = over-answered

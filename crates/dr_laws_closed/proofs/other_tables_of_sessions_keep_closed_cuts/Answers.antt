@@ -1,9 +1,13 @@
 use Rattle.dr_laws_closed.proofs.Regrouped.{closing-regrouped}
+use Rattle.dr_laws_closed.proofs.Opens.{closing-begun}
 use Rattle.dr_laws_closed.proofs.Regroups.{regroups-joined, regroups-left, regroups-mirrored, regroups-unmirrored, regroups-paused, regroups-aborted, regroups-taken, regroups-added, regroups-removed, regroups-lost}
 use Rattle.dr_laws_closed.proofs.other_tables_of_sessions_keep_closed_cuts.Goals as goal
 
 pub returns-clause-kept : goal.returns-clause-kept
-returns-clause-kept c = λ k us ps now cuts M g groups law then_groups then_law turn old. closing-regrouped k us groups law then_groups then_law turn ps now cuts M g old
+returns-clause-kept c = λ k us later ps now cuts M g groups law then_groups then_law then_flights turn eases old. closing-regrouped k us later groups law then_groups then_law then_flights turn eases ps now cuts M g old
+
+pub returns-clause-begun : goal.returns-clause-begun
+returns-clause-begun c = λ k s x r ps now cuts M g groups law found has idle old. closing-begun k s x r groups law found has idle ps now cuts M g old
 
 pub returns-clause-joined : goal.returns-clause-joined
 returns-clause-joined c = λ k s l groups. regroups-joined k.sessions groups.once s l

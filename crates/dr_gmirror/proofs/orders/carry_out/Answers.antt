@@ -2,12 +2,13 @@ use Rattle.std.proofs.Common.{arith, ap, sym, subst, ◌∙◌, Some}
 use Rattle.dr_model.specs.Sessions.{session_in, members_in}
 use Rattle.dr_model.specs.Phases as phases
 use Rattle.dr_model.specs.SessionEntries.{order_entries, members_on, reply_after}
-use Rattle.dr_master.specs.Seen.{work_of, reply_of}
+use Rattle.dr_master.specs.Seen.{work_of, order_of, reply_of}
 use Rattle.dr_moves.specs.Here.{world_seen, armed_in}
 use Rattle.dr_moves.specs.Turns.{Leads, Fails}
 use Rattle.dr_moves.proofs.EntryLemmas.{led, failed}
 use Rattle.dr_gmirror.specs.Orders.{with_sessions}
 use Rattle.dr_gmirror.proofs.BeginLemmas.{to_begin-one}
+use Rattle.dr_gmirror.proofs.ExchangeLemmas.{leaves-delivered}
 use Rattle.dr_gmirror.proofs.OrderLemmas.{report-only, reply-is}
 use Rattle.dr_laws_sound.proofs.SessionCosts.{few-on}
 use Rattle.dr_gmirror.proofs.orders.carry_out.Goals as goal
@@ -23,6 +24,12 @@ returns-in-Ok-clause-carried g c r =
     let s = g.P.Plant.state c.args.plant.now in
     let w = world_seen s c.args.config.now (with_sessions c.args.ss.now.sessions r) c.args.journal.now.events in
     led (armed_in s) w w (order_entries (work_of c.args.order.kind) c.args.s.0 c.args.order.n (members_on c.args.server.0 (members_in (session_in c.args.ss.now.sessions c.args.s.0)))) (returns-in-Ok-clause-leads g c r)
+
+pub returns-in-Ok-clause-leaves : goal.returns-in-Ok-clause-leaves
+returns-in-Ok-clause-leaves g c r j x m sound delivers listed here apart =
+    let s = g.P.Plant.state c.args.plant.now in
+    let w = world_seen s c.args.config.now (with_sessions c.args.ss.now.sessions r) c.args.journal.now.events in
+    leaves-delivered (armed_in s) w _ _ j c.args.s.0 c.args.server.0 (order_of c.args.order) (members_in (session_in c.args.ss.now.sessions c.args.s.0)) x m sound delivers listed here apart (returns-in-Ok-clause-carried g c r)
 
 pub returns-in-Ok-clause-reply : goal.returns-in-Ok-clause-reply
 returns-in-Ok-clause-reply g c r events =
@@ -43,6 +50,12 @@ returns-in-Err-clause-carried g c r =
     let w = world_seen s c.args.config.now (with_sessions c.args.ss.now.sessions r) c.args.journal.now.events in
     failed (armed_in s) w w (Some c.in-Err.why) (order_entries (work_of c.args.order.kind) c.args.s.0 c.args.order.n (members_on c.args.server.0 (members_in (session_in c.args.ss.now.sessions c.args.s.0)))) (returns-in-Err-clause-fails g c r)
 
+pub returns-in-Err-clause-leaves : goal.returns-in-Err-clause-leaves
+returns-in-Err-clause-leaves g c r j x m sound delivers listed here apart =
+    let s = g.P.Plant.state c.args.plant.now in
+    let w = world_seen s c.args.config.now (with_sessions c.args.ss.now.sessions r) c.args.journal.now.events in
+    leaves-delivered (armed_in s) w _ _ j c.args.s.0 c.args.server.0 (order_of c.args.order) (members_in (session_in c.args.ss.now.sessions c.args.s.0)) x m sound delivers listed here apart (returns-in-Err-clause-carried g c r)
+
 pub returns-in-Ok-order_each-clause-leads : goal.returns-in-Ok-order_each-clause-leads
 returns-in-Ok-order_each-clause-leads g c = c.in-Ok-order_each.ensures.leads
 
@@ -52,6 +65,12 @@ returns-in-Ok-order_each-clause-carried g c r =
     let w = world_seen s c.args.config.now (with_sessions c.args.ss.now.sessions r) c.args.journal.now.events in
     let u = world_seen (g.P.Plant.state c.order_each.new.plant) c.args.config.now (with_sessions c.order_each.new.ss.sessions r) c.order_each.new.journal.events in
     led (armed_in s) w u (order_entries (work_of c.args.order.kind) c.args.s.0 c.args.order.n (members_on c.args.server.0 (members_in (session_in c.args.ss.now.sessions c.args.s.0)))) (c.in-Ok-order_each.ensures.leads r)
+
+pub returns-in-Ok-order_each-clause-leaves : goal.returns-in-Ok-order_each-clause-leaves
+returns-in-Ok-order_each-clause-leaves g c r j x m sound delivers listed here apart =
+    let s = g.P.Plant.state c.args.plant.now in
+    let w = world_seen s c.args.config.now (with_sessions c.args.ss.now.sessions r) c.args.journal.now.events in
+    leaves-delivered (armed_in s) w _ _ j c.args.s.0 c.args.server.0 (order_of c.args.order) (members_in (session_in c.args.ss.now.sessions c.args.s.0)) x m sound delivers listed here apart (returns-in-Ok-order_each-clause-carried g c r)
 
 pub returns-in-Ok-order_each-clause-reply : goal.returns-in-Ok-order_each-clause-reply
 returns-in-Ok-order_each-clause-reply g c =
@@ -70,6 +89,12 @@ returns-in-Err-order_each-clause-carried g c r =
     let w = world_seen s c.args.config.now (with_sessions c.args.ss.now.sessions r) c.args.journal.now.events in
     let u = world_seen (g.P.Plant.state c.order_each.new.plant) c.args.config.now (with_sessions c.order_each.new.ss.sessions r) c.order_each.new.journal.events in
     failed (armed_in s) w u (Some c.in-Err-order_each.why) (order_entries (work_of c.args.order.kind) c.args.s.0 c.args.order.n (members_on c.args.server.0 (members_in (session_in c.args.ss.now.sessions c.args.s.0)))) (c.in-Err-order_each.ensures.fails r)
+
+pub returns-in-Err-order_each-clause-leaves : goal.returns-in-Err-order_each-clause-leaves
+returns-in-Err-order_each-clause-leaves g c r j x m sound delivers listed here apart =
+    let s = g.P.Plant.state c.args.plant.now in
+    let w = world_seen s c.args.config.now (with_sessions c.args.ss.now.sessions r) c.args.journal.now.events in
+    leaves-delivered (armed_in s) w _ _ j c.args.s.0 c.args.server.0 (order_of c.args.order) (members_in (session_in c.args.ss.now.sessions c.args.s.0)) x m sound delivers listed here apart (returns-in-Err-order_each-clause-carried g c r)
 
 pub returns-in-Err-order_each-clause-room : goal.returns-in-Err-order_each-clause-room
 returns-in-Err-order_each-clause-room g c =

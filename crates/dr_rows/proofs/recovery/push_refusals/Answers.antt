@@ -25,5 +25,5 @@ returns c =
     let least = c.loop-code-test.false in
     let most = c.loop-code.auto.code-end in
     let from = c.loop-code.auto.code in
-    let all : c.loop-code.code - 1 ≡ 24 = omega arith in
+    let all : c.loop-code.code - 1 ≡ 25 = omega arith in
     c.loop-code.invariant ∙ ap (λ n. c.args.text.now ++ flat_map says (range_with_len 1 n)) all

@@ -41,18 +41,18 @@ returns-in-Ok-clause-step g c =
     let u = g.P.Plant.state c.exchange.new.plant in let h' = record h { sessions = c.exchange.new.ss; flight = c.hear.new.flight } in let mid = c.exchange.new.journal.events in
     subst (Carries (here s t h ev) (asking (here s t h ev).control n c.args.server.0 c.args.reply) (here u t h' mid)) (sym c.phase_of.ensures)
     (plan-exact s c.requires.ready.reads (here s t h ev) (here u t h' mid) _ (says_phase n (here u t h' mid).control)
-    (heard-ends s u t h ev mid c.exchange.new.ss c.hear.new.flight c.args.server.0 c.epoch-epoch.result (work_of c.in-Ok.kind) _ n c.epoch-epoch.ensures c.hear.ensures (c.in-Ok.ensures.carried (rest_of h ev))))
+    (heard-ends s u t h ev mid c.exchange.new.ss c.hear.new.flight c.args.server.0 c.epoch-epoch.result (work_of c.in-Ok.kind) _ n c.epoch-epoch.ensures c.hear.ensures.heard (c.in-Ok.ensures.carried (rest_of h ev))))
 
 pub returns-in-Ok-clause-ready : goal.returns-in-Ok-clause-ready
 returns-in-Ok-clause-ready g c =
     let s = g.P.Plant.state c.args.plant.now in let t = c.args.config.now in let h = c.args.tables.now in let ev = c.args.journal.now.events in let n = c.args.s.0 in
     let u = g.P.Plant.state c.exchange.new.plant in let h' = record h { sessions = c.exchange.new.ss; flight = c.hear.new.flight } in let mid = c.exchange.new.journal.events in
     exchange-ready s u t h h' ev mid n c.args.server.0 c.args.reply (mirror_in (session_in h.sessions.sessions n)) (members_in (session_in h.sessions.sessions n)) (says_phase n (here u t h' mid).control)
-    (heard-ends s u t h ev mid c.exchange.new.ss c.hear.new.flight c.args.server.0 c.epoch-epoch.result (work_of c.in-Ok.kind) _ n c.epoch-epoch.ensures c.hear.ensures (c.in-Ok.ensures.carried (rest_of h ev))) c.in-Ok.ensures.rest c.in-Ok.ensures.unarmed c.requires.ready
+    (heard-ends s u t h ev mid c.exchange.new.ss c.hear.new.flight c.args.server.0 c.epoch-epoch.result (work_of c.in-Ok.kind) _ n c.epoch-epoch.ensures c.hear.ensures.heard (c.in-Ok.ensures.carried (rest_of h ev))) c.in-Ok.ensures.rest c.in-Ok.ensures.unarmed c.requires.ready
 
 pub returns-in-Ok-clause-epochs : goal.returns-in-Ok-clause-epochs
 returns-in-Ok-clause-epochs g c =
-    ap (λ (f : Flight). f.epoch) c.hear.ensures ∙ heard-epochs c.args.s.0 c.args.server.0 c.epoch-epoch.result (work_of c.in-Ok.kind) (flight_in c.args.tables.now.flight)
+    ap (λ (f : Flight). f.epoch) c.hear.ensures.heard ∙ heard-epochs c.args.s.0 c.args.server.0 c.epoch-epoch.result (work_of c.in-Ok.kind) (flight_in c.args.tables.now.flight)
 
 pub returns-in-Ok-clause-room : goal.returns-in-Ok-clause-room
 returns-in-Ok-clause-room g c =

@@ -1,0 +1,2 @@
+pub mod Flashed
+pub mod Commits
