@@ -2,8 +2,8 @@
 """Checks the documents, and the notes at the head of crates. Prints each finding as FILE:LINE: text, and ends with 1 where there is one.
 
 What it finds: names and files in backquotes that no source has; links that lead nowhere; a chapter of the book by another number than
-it has, or by a number without a link; docs/BOOK.md that isn't as tools/book.py makes it; a document over its size, and a table of README
-over its rows.
+it has, or by a number without a link; a field of what stands of a run that docs/CLAIMS.md lacks; docs/BOOK.md that isn't as tools/book.py
+makes it; a document over its size, and a table of README over its rows.
 """
 import re
 import sys
@@ -136,9 +136,20 @@ def unnamed_crates():
             yield f"no row of its own for `{crate}`"
 
 
+def unnamed_fields():
+    """The fields of what stands of a run that a table of that page doesn't name: that of one line each, and that of every run."""
+    record = (ROOT / "crates" / "dr_top" / "specs" / "Stands.antt").read_text(encoding="utf-8").partition("pub record Stands")[2]
+    page = (ROOT / "docs" / "CLAIMS.md").read_text(encoding="utf-8")
+    for head in ("In one line each", "Of every run"):
+        part = page.partition(f"## {head}\n")[2].partition("\n## ")[0]
+        for field in re.findall(r"^  pub (\w+) :", record, re.M):
+            if f"`{field}`" not in part:
+                yield f"no row for `{field}` below {head}"
+
+
 def findings():
     words = known_words()
-    yield from (("docs/CLAIMS.md", 1, text) for text in unnamed_crates())
+    yield from (("docs/CLAIMS.md", 1, text) for text in [*unnamed_crates(), *unnamed_fields()])
     for path in paths(DOCUMENTS):
         name = str(path.relative_to(ROOT))
         found = list(links(path))
