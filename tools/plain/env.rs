@@ -1,7 +1,7 @@
 //! What `main` is handed: the allocator, the standard streams and the words of the program.
 
 use crate::alloc::Global;
-use std::io::{self, Stderr, Stdin, Stdout};
+use std::io::{self, Read, Write};
 
 /// The process that the program runs in.
 pub struct HostRuntime;
@@ -11,16 +11,35 @@ impl HostRuntime {
         Global
     }
 
-    pub fn stdin(&self) -> Stdin {
-        io::stdin()
+    pub fn stdin(&self) -> impl Read {
+        streams::unbuffered(io::stdin())
     }
 
-    pub fn stdout(&self) -> Stdout {
-        io::stdout()
+    pub fn stdout(&self) -> impl Write {
+        streams::unbuffered(io::stdout())
     }
 
-    pub fn stderr(&self) -> Stderr {
-        io::stderr()
+    pub fn stderr(&self) -> impl Write {
+        streams::unbuffered(io::stderr())
+    }
+}
+
+/// Each read and each write is a call of the system, as Rattle's library has it.
+#[cfg(unix)]
+mod streams {
+    use std::fs::File;
+    use std::os::fd::AsFd;
+
+    pub fn unbuffered(stream: impl AsFd) -> File {
+        File::from(stream.as_fd().try_clone_to_owned().expect("a descriptor is left"))
+    }
+}
+
+/// Elsewhere the streams are Rust's.
+#[cfg(not(unix))]
+mod streams {
+    pub fn unbuffered<S>(stream: S) -> S {
+        stream
     }
 }
 

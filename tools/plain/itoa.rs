@@ -50,8 +50,17 @@ impl Buffer {
         Buffer([0; MOST])
     }
 
-    pub fn format(&mut self, n: impl Integer) -> &str {
+    pub fn format(&mut self, n: impl Integer) -> Digits<'_> {
         let at = n.write(&mut self.0);
-        std::str::from_utf8(&self.0[at..]).expect("these are digits")
+        Digits(&self.0[at..])
+    }
+}
+
+/// The digits of a number, of which only the bytes are asked.
+pub struct Digits<'a>(&'a [u8]);
+
+impl<'a> Digits<'a> {
+    pub fn as_bytes(self) -> &'a [u8] {
+        self.0
     }
 }

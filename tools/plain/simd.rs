@@ -15,7 +15,9 @@ impl u64x4 {
 
     /// The first four words.
     pub fn from_slice(words: &[u64]) -> u64x4 {
-        u64x4([words[0], words[1], words[2], words[3]])
+        let mut lanes = [0; 4];
+        lanes.copy_from_slice(&words[..4]);
+        u64x4(lanes)
     }
 
     pub fn to_array(self) -> [u64; 4] {
@@ -39,11 +41,19 @@ impl u64x4 {
     }
 
     pub fn to_le_bytes(self) -> u8x32 {
-        u8x32(array::from_fn(|at| self.0[at / 8].to_le_bytes()[at % 8]))
+        let mut bytes = [0; 32];
+        for (into, word) in bytes.chunks_exact_mut(8).zip(self.0) {
+            into.copy_from_slice(&word.to_le_bytes());
+        }
+        u8x32(bytes)
     }
 
     pub fn from_le_bytes(bytes: u8x32) -> u64x4 {
-        u64x4(array::from_fn(|lane| u64::from_le_bytes(array::from_fn(|at| bytes.0[8 * lane + at]))))
+        let mut words = [0; 4];
+        for (word, piece) in words.iter_mut().zip(bytes.0.chunks_exact(8)) {
+            *word = u64::from_le_bytes(piece.try_into().expect("eight bytes"));
+        }
+        u64x4(words)
     }
 }
 
@@ -79,7 +89,9 @@ pub struct u8x32([u8; 32]);
 impl u8x32 {
     /// The first 32 bytes.
     pub fn from_slice(bytes: &[u8]) -> u8x32 {
-        u8x32(array::from_fn(|at| bytes[at]))
+        let mut lanes = [0; 32];
+        lanes.copy_from_slice(&bytes[..32]);
+        u8x32(lanes)
     }
 
     pub fn to_array(self) -> [u8; 32] {
@@ -98,15 +110,15 @@ impl u8x64 {
     }
 
     pub fn simd_eq(self, other: u8x64) -> Mask {
-        Mask(array::from_fn(|at| self.0[at] == other.0[at]))
+        Mask(self.0 == other.0)
     }
 }
 
-/// In which lanes two vectors are the same.
-pub struct Mask([bool; 64]);
+/// Whether two vectors are the same in all lanes.
+pub struct Mask(bool);
 
 impl Mask {
     pub fn all(self) -> bool {
-        self.0.iter().all(|same| *same)
+        self.0
     }
 }
