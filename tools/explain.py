@@ -1,5 +1,9 @@
 #!/usr/bin/env python3
-"""Shows a script with its answers beside its lines: drsim run < SCRIPT | tools/explain.py SCRIPT
+"""Shows a script with its answers beside its lines.
+
+    drsim run < SCRIPT | tools/explain.py SCRIPT
+    tools/explain.py --check       looks at the stored answers of examples/: ends with 1 where a step has no answer or no name, or where a
+                                   refusal has no row in docs/ANSWERS.md
 
 A line of several steps has the pair or volume of each before its answer, and a line outside the grammar a caret under its first fault. Behind
 the script stands what docs/ANSWERS.md says of each refusal that came, and of writes that wait: what it means, and what to do next.
@@ -101,12 +105,30 @@ def explained(answers):
             yield "\n" + "\n".join(folded(head, rest) for head, rest in said.items() if rest)
 
 
-def main(words):
-    if len(words) != 1:
-        print(__doc__)
-        return 2
-    script = [line.removesuffix(b"\r") for line in Path(words[0]).read_bytes().removesuffix(b"\n").split(b"\n")]
-    answers = answers_by_line(sys.stdin.buffer.read().decode("utf-8", "replace"))
+def lines_of(path):
+    return [line.removesuffix(b"\r") for line in path.read_bytes().removesuffix(b"\n").split(b"\n")]
+
+
+def is_shown(raw, steps, patterns):
+    """Whether a line has its answers, each of several steps a name, and each refusal a row."""
+    told = [step[-1] for step in steps if not step[-1].startswith("ok")]
+    is_named = len(steps) < 2 or all(names_of(raw.decode(), len(steps)))
+    return beside(raw, steps) != ["no answer"] and is_named and all(any(it.fullmatch(text) for it in patterns) for text in told)
+
+
+def faults_in_examples():
+    """What can't be shown of the stored answers of examples."""
+    patterns = [pattern for pattern, *_ in advice()]
+    for path in sorted((rows.ROOT / "examples").glob("*.dscli")):
+        if not path.with_suffix(".words").exists():
+            answers = answers_by_line(path.with_suffix(".out").read_text(encoding="utf-8"))
+            for number, raw in enumerate(lines_of(path), 1):
+                if not is_shown(raw, answers.get(number, []), patterns):
+                    yield f"{path.relative_to(rows.ROOT)}:{number}: a step without an answer, a name or a row of docs/ANSWERS.md"
+
+
+def show(script, answers):
+    """Prints each line with its answers, and the carets."""
     width = min(WIDEST, max(len(line) for number, line in enumerate(script, 1) if number in answers) if answers else 0)
     for number, raw in enumerate(script, 1):
         steps, line = answers.get(number, []), raw.decode("utf-8", "replace")
@@ -116,6 +138,19 @@ def main(words):
             print(f"{left:{width + 6}}  {text}".rstrip())
         if below:
             print(" " * 6 + below)
+
+
+def main(words):
+    if words == ["--check"]:
+        faults = list(faults_in_examples())
+        print("\n".join(faults), end="\n" if faults else "")
+        return 1 if faults else 0
+    if len(words) != 1:
+        print(__doc__)
+        return 2
+    script = lines_of(Path(words[0]))
+    answers = answers_by_line(sys.stdin.buffer.read().decode("utf-8", "replace"))
+    show(script, answers)
     for said in explained(answers):
         print(said)
     return 0
