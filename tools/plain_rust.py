@@ -22,7 +22,8 @@ PLAIN = ROOT / "tools" / "plain"
 PROGRAMS = ("drsim", "sweep")
 STORED_TEST = "stored.rs"
 EDITION = "2021"
-OLDEST = "1.65"
+# The oldest Rust whose library has all calls, by the lint incompatible_msrv of clippy.
+OLDEST = "1.73"
 
 CLAUSE = re.compile(r"\s*(requires|ensures)( \w+)? \{")
 GHOST = re.compile(r"\s*ghost ")
@@ -246,7 +247,7 @@ def scripts():
             files.update(run.files)
         count += len(runs)
     test = (PLAIN / STORED_TEST).read_text(encoding="utf-8")
-    files[f"tests/{STORED_TEST}"] = f"{test}stored! {{\n{''.join(lines)}}}\n"
+    files[f"tests/{STORED_TEST}"] = f"{test}\nstored! {{\n{''.join(lines)}}}\n"
     return files, count
 
 

@@ -113,7 +113,11 @@ impl<'a> Command<'a> {
     {
         let Some((first, rest)) = words.split_first() else {
             let matches = ArgMatches::default();
-            return if self.subcommand_required { Err(Error(ErrorKind::Other)) } else { Ok(matches) };
+            return if self.subcommand_required {
+                Err(Error(ErrorKind::Other))
+            } else {
+                Ok(matches)
+            };
         };
         let named = self.subcommands.iter().find(|it| it.name == first.as_str());
         let values = named.ok_or(Error(ErrorKind::Other))?.values_from(rest)?;
@@ -129,7 +133,11 @@ impl<'a> Command<'a> {
         'a: 'm,
     {
         let Some(arg) = &self.arg else {
-            return if words.is_empty() { Ok(ArgMatches::default()) } else { Err(Error(ErrorKind::Other)) };
+            return if words.is_empty() {
+                Ok(ArgMatches::default())
+            } else {
+                Err(Error(ErrorKind::Other))
+            };
         };
         if !arg.range.contains(&words.len()) && (arg.required || !words.is_empty()) {
             return Err(Error(ErrorKind::Other));
@@ -154,12 +162,18 @@ pub struct ArgMatches<'a> {
 
 impl<'a> ArgMatches<'a> {
     pub fn subcommand(&self) -> Option<(&str, &ArgMatches<'a>)> {
-        self.subcommand.as_ref().map(|(name, values)| (*name, &**values))
+        self.subcommand
+            .as_ref()
+            .map(|(name, values)| (*name, &**values))
     }
 
     pub fn get_strs(&self, id: &str) -> Option<&[&'a str]> {
         let (named, words) = self.value.as_ref()?;
-        if *named == id { Some(words.as_slice()) } else { None }
+        if *named == id {
+            Some(words.as_slice())
+        } else {
+            None
+        }
     }
 
     pub fn get_str(&self, id: &str) -> Option<&'a str> {

@@ -31,7 +31,12 @@ mod streams {
     use std::os::fd::AsFd;
 
     pub fn unbuffered(stream: impl AsFd) -> File {
-        File::from(stream.as_fd().try_clone_to_owned().expect("a descriptor is left"))
+        File::from(
+            stream
+                .as_fd()
+                .try_clone_to_owned()
+                .expect("a descriptor is left"),
+        )
     }
 }
 
@@ -45,6 +50,9 @@ mod streams {
 
 /// The words that the program was called with, its own name first. One that isn't UTF-8 is `InvalidData`.
 pub fn args(_: &HostRuntime) -> io::Result<impl Iterator<Item = String>> {
-    let words: Result<Vec<String>, _> = std::env::args_os().map(|word| word.into_string()).collect();
-    words.map(Vec::into_iter).map_err(|_| io::ErrorKind::InvalidData.into())
+    let words: Result<Vec<String>, _> =
+        std::env::args_os().map(|word| word.into_string()).collect();
+    words
+        .map(Vec::into_iter)
+        .map_err(|_| io::ErrorKind::InvalidData.into())
 }

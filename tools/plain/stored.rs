@@ -14,13 +14,28 @@ fn check(program: &str, words: &[&str], input: &str, output: &str, status: i32) 
         .stdin(input)
         .output()
         .expect("the program runs");
-    if ended.stdout != wanted {
-        let lines = |text: &[u8]| String::from_utf8_lossy(text).lines().map(String::from).collect::<Vec<_>>();
-        let (printed, wanted) = (lines(&ended.stdout), lines(&wanted));
-        let same = printed.iter().zip(&wanted).take_while(|(a, b)| a == b).count();
-        panic!("line {} of the output is {:?} and not {:?}", same + 1, printed.get(same), wanted.get(same));
-    }
+    assert!(
+        ended.stdout == wanted,
+        "{}",
+        first_difference(&ended.stdout, &wanted)
+    );
     assert_eq!(ended.status.code(), Some(status), "the status");
+}
+
+/// Says in which line two texts differ first.
+fn first_difference(printed: &[u8], wanted: &[u8]) -> String {
+    let (printed, wanted) = (
+        String::from_utf8_lossy(printed),
+        String::from_utf8_lossy(wanted),
+    );
+    let lines = printed.lines().zip(wanted.lines());
+    let same = lines.take_while(|(a, b)| a == b).count();
+    let at = |text: &str| text.lines().nth(same).map(String::from);
+    let (printed, wanted) = (at(&printed), at(&wanted));
+    format!(
+        "line {} of the output is {printed:?} and not {wanted:?}",
+        same + 1
+    )
 }
 
 /// A test for each stored run: its name, the program's words, input, output and status.
@@ -34,4 +49,3 @@ macro_rules! stored {
         })*
     };
 }
-
