@@ -13,10 +13,10 @@ sys.dont_write_bytecode = True
 import book
 
 ROOT = book.ROOT
-DOCUMENTS = ("README.md", "CONTRIBUTING.md", "docs/*.md", "examples/README.md")
+DOCUMENTS = ("README.md", "CONTRIBUTING.md", "CHANGELOG.md", "docs/*.md", "examples/README.md", "editors/README.md")
 NOTES = ("crates/*/src/lib.rt", "crates/*/src/main.rt", "crates/*/proofs/Lib.antt")
 SOURCES = ("crates/**/*.rt", "crates/**/*.antt", "crates/*/data/*", "crates/*/must-fail/*", "crates/scenarios/std*", "examples/*",
-           "bench/*", "tools/*", ".ci/run", "crates.txt", "HANDLES")
+           "bench/*", "tools/*", "tools/plain/*", "editors/**/*", ".ci/run", "crates.txt", "HANDLES")
 SIZES = {"README.md": 14_336, "docs/PROOFS.md": 20_000}
 ROWS = {"What it promises": 8}
 
@@ -28,7 +28,7 @@ WORD = re.compile(r"[A-Za-z_]\w*(?:[-'][\w]+)*'*")
 SPAN = re.compile(r"(?<!`)`([^`\n]+)`(?!`)")
 LINK = re.compile(r"\[[^\]\n]*\]\(([^)\s]+)\)")
 CHAPTER = re.compile(r"\[([^\]\n]*)\]\(\S*BOOK\.md#(\d+)-[^)]*\)")
-FILE = re.compile(r"[\w./*{},-]*[\w*]\.(?:rt|antt|md|py|sh|dscli|out|status|words|edit|txt)")
+FILE = re.compile(r"[\w./*{},-]*[\w*]\.(?:rt|rs|antt|md|py|sh|dscli|out|status|words|edit|txt)")
 
 
 def paths(patterns):
@@ -66,7 +66,7 @@ def missing_file(name, base):
     places = (ROOT, base, ROOT / "crates", *ROOT.glob("crates/*"))
     if any(next(place.glob(name.lstrip("./")), None) for place in places):
         return False
-    return "/" in name or not any(next(ROOT.glob(f"{top}/**/{name}"), None) for top in ("crates", "docs", "examples", "bench", "tools"))
+    return "/" in name or not any(next(ROOT.glob(f"{top}/**/{name}"), None) for top in ("crates", "docs", "editors", "examples", "bench", "tools"))
 
 
 def checked_names(span):

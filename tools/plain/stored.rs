@@ -1,0 +1,51 @@
+//! Runs the programs on each script that the repository stores, and compares what they print, and their status, with what is stored.
+
+use std::fs::{self, File};
+use std::path::Path;
+use std::process::Command;
+
+/// Runs a program with these words on an input: it has to print what the file of the output has, and to end with the status.
+fn check(program: &str, words: &[&str], input: &str, output: &str, status: i32) {
+    let top = Path::new(env!("CARGO_MANIFEST_DIR"));
+    let input = File::open(top.join(input)).expect("the input is there");
+    let wanted = fs::read(top.join(output)).expect("the output is there");
+    let ended = Command::new(program)
+        .args(words)
+        .stdin(input)
+        .output()
+        .expect("the program runs");
+    assert!(
+        ended.stdout == wanted,
+        "{}",
+        first_difference(&ended.stdout, &wanted)
+    );
+    assert_eq!(ended.status.code(), Some(status), "the status");
+}
+
+/// Says in which line two texts differ first.
+fn first_difference(printed: &[u8], wanted: &[u8]) -> String {
+    let (printed, wanted) = (
+        String::from_utf8_lossy(printed),
+        String::from_utf8_lossy(wanted),
+    );
+    let lines = printed.lines().zip(wanted.lines());
+    let same = lines.take_while(|(a, b)| a == b).count();
+    let at = |text: &str| text.lines().nth(same).map(String::from);
+    let (printed, wanted) = (at(&printed), at(&wanted));
+    format!(
+        "line {} of the output is {printed:?} and not {wanted:?}",
+        same + 1
+    )
+}
+
+/// A test for each stored run: its name, the program's words, input, output and status.
+macro_rules! stored {
+    ($($folder:ident $program:literal { $($name:ident [$($word:literal),*] $input:literal $output:literal $status:literal;)* })*) => {
+        $(mod $folder {
+            $(#[test]
+            fn $name() {
+                super::check(env!(concat!("CARGO_BIN_EXE_", $program)), &[$($word),*], $input, $output, $status);
+            })*
+        })*
+    };
+}
