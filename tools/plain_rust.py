@@ -4,7 +4,7 @@
 It is the same code without its contracts, built by another compiler, and not proved: contracts, ghost items and what only proofs need are
 taken out of each crate that the programs stand on, and the rest stays as it is. It takes no crate but Rust's own library: what Rattle's
 library does otherwise, and what the code uses of `clap`, `indexmap` and `itoa`, is the crate `shim`, the files of tools/plain. The scripts
-that the repository stores are copied along, so the folder can be moved. In DIR:
+that the repository stores are copied along, so the folder can be moved; so are tools/explain.py and the pages that it needs. In DIR:
 
     cargo run --release -- run < examples/first-group.dscli         builds the programs, and runs a script
     cargo run --release --bin sweep < examples/sweeps/two-hosts.plan
@@ -21,6 +21,12 @@ ROOT = Path(__file__).resolve().parent.parent
 PLAIN = ROOT / "tools" / "plain"
 PROGRAMS = ("drsim", "sweep")
 STORED_TEST = "stored.rs"
+
+# The folders of scripts, in the package and in the repository.
+SCRIPTS = {"scenarios": "crates/scenarios/data", "examples": "examples"}
+
+# What goes along for who reads answers.
+ALONG = ("LICENSE", "docs/ANSWERS.md", "docs/COMMANDS.md", "tools/explain.py", "tools/rows.py")
 EDITION = "2021"
 # The oldest Rust whose library has all calls, by the lint incompatible_msrv of clippy.
 OLDEST = "1.73"
@@ -221,9 +227,8 @@ def beside(script, *endings):
 
 def stored_runs():
     """All runs that the repository stores, with the program of each: those of a folder together."""
-    scripts = {"scenarios": ROOT / "crates" / "scenarios" / "data", "examples": ROOT / "examples"}
-    for folder, place in scripts.items():
-        found = sorted(place.glob("*.dscli"))
+    for folder, place in SCRIPTS.items():
+        found = sorted((ROOT / place).glob("*.dscli"))
         yield folder, "drsim", [Stored(it.stem, beside(it, ".out", ".words", ".status"), folder, "run") for it in found]
     plans = sorted((ROOT / "examples" / "sweeps").glob("*.plan"))
     sweeps = [Stored(it.stem, beside(it, ".report", ".words", ".status"), "examples/sweeps", "") for it in plans]
@@ -266,6 +271,7 @@ def write(out, files):
         if not file.exists() or file.read_bytes() != data:
             file.parent.mkdir(parents=True, exist_ok=True)
             file.write_bytes(data)
+            file.chmod(0o755 if file.suffix == ".py" else 0o644)
 
 
 def main():
@@ -278,7 +284,7 @@ def main():
         return 1
     stored, count = scripts()
     files = {**code(), **stored, "README.md": (PLAIN / "README.md").read_text(encoding="utf-8")}
-    files["LICENSE"] = (ROOT / "LICENSE").read_text(encoding="utf-8")
+    files.update({name: (ROOT / name).read_bytes() for name in ALONG})
     write(out, files)
     print(f"{out}: {sum('Cargo.toml' in name for name in files)} crates, {count} stored scripts")
     return 0
