@@ -38,7 +38,7 @@ DERIVE = re.compile(r"(\s*)#\[derive\((.*)\)\]$")
 TEXT = re.compile(r'"(?:\\.|[^"\\])*"')
 OPENING, CLOSING = "{([", "})]"
 
-# Blocks that hold ghost items alone.
+# Blocks that hold ghost items only.
 MODEL = re.compile(r"^impl(<[^>\n]*>)? Model for [^{\n]+\{\s*\}\n", re.M)
 TESTS = re.compile(r"\n#\[cfg\(test\)\]\nmod tests;\n")
 HEAD = re.compile(r"(?://!.*\n|\n)*")
@@ -114,7 +114,7 @@ def depth_of(line):
 
 
 def whole_item(lines, first):
-    """The place behind an item that begins in a line and ends where all its brackets are closed."""
+    """The place after an item that begins in a line and ends as all its brackets are closed."""
     place, depth = first, 0
     while True:
         depth += depth_of(lines[place])
@@ -124,7 +124,7 @@ def whole_item(lines, first):
 
 
 def derives_kept(line):
-    """A line of derives without those that are dropped; empty where none is left."""
+    """A line of derives without those that are dropped; empty if none is left."""
     begin, names = DERIVE.match(line).groups()
     kept = [name for name in names.split(", ") if name not in DROPPED_DERIVES]
     return [f"{begin}#[derive({', '.join(kept)})]"] if kept else []
@@ -139,11 +139,11 @@ def without_proofs(text):
             kept += derives_kept(line)
             place += 1
         elif CLAUSE.match(line) or GHOST.match(line) or PROOF_ONLY.match(line):
-            behind = whole_item(lines, place)
+            after = whole_item(lines, place)
             # The last clause of a method without a body ends the method.
-            if CLAUSE.match(line) and lines[behind - 1].endswith("};"):
+            if CLAUSE.match(line) and lines[after - 1].endswith("};"):
                 kept[-1] += ";"
-            place = behind
+            place = after
         else:
             kept.append(line)
             place += 1
@@ -257,7 +257,7 @@ def scripts():
 
 
 def write(out, files):
-    """Makes the folder have just these files, but for what was built."""
+    """Makes the folder have just these files, and what was built."""
     for path in sorted(out.glob("**/*"), reverse=True):
         name = str(path.relative_to(out))
         if name.split("/")[0] in ("target", "Cargo.lock"):

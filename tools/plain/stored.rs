@@ -23,7 +23,7 @@ fn check(program: &Path, words: &[&str], input: &str, output: &str, status: i32)
     assert_eq!(ended.status.code(), Some(status), "the status");
 }
 
-/// The program as it was built with this test, also where the folder has been moved since.
+/// The program as it was built with this test, also if the folder has been moved since.
 fn program(name: &str, built: &str) -> PathBuf {
     let test = env::current_exe().expect("the test has a place");
     let beside = test.ancestors().nth(2).map(|folder| folder.join(name));
