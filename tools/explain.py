@@ -2,10 +2,10 @@
 """Shows a script with its answers beside its lines.
 
     drsim run < SCRIPT | tools/explain.py SCRIPT
-    tools/explain.py --check       looks at the stored answers of examples/: ends with 1 where a step has no answer or no name, or where a
+    tools/explain.py --check       looks at the stored answers of examples/: ends with 1 if a step has no answer or no name, or if a
                                    refusal has no row in docs/ANSWERS.md
 
-A line of several steps has the pair or volume of each before its answer, and a line outside the grammar a caret under its first fault. Behind
+A line of several steps has the pair or volume of each before its answer, and a line outside the grammar a caret under its first fault. After
 the script stands what docs/ANSWERS.md says of each refusal that came, and of writes that wait: what it means, and what to do next.
 """
 import re
@@ -50,7 +50,7 @@ def names_in(words, side):
 
 
 def names_of(line, count):
-    """The pair or volume of each of the steps of a line; nothing where there is one step, or it isn't clear."""
+    """The pair or volume of each of the steps of a line; nothing if there is one step, or if it isn't clear."""
     words = line.split()
     if "-volume" in words[:-1]:
         names = names_in([words[words.index("-volume") + 1]], VOLUMES)
@@ -91,7 +91,7 @@ def advice():
 
 
 def folded(head, text):
-    """A text behind a word, on lines that aren't too long."""
+    """A text after a word, on lines that aren't too long."""
     text = text.replace("(below)", "(docs/ANSWERS.md, Traps)")
     return textwrap.fill(f"{head} {text}", 110, subsequent_indent=" " * 9, break_long_words=False)
 

@@ -4,7 +4,7 @@
 It is the same code without its contracts, built by another compiler, and not proved: contracts, ghost items and what only proofs need are
 taken out of each crate that the programs stand on, and the rest stays as it is. It takes no crate but Rust's own library: what Rattle's
 library does otherwise, and what the code uses of `clap`, `indexmap` and `itoa`, is the crate `shim`, the files of tools/plain. The scripts
-that the repository stores are copied along, so the folder can be moved. In DIR:
+that the repository stores are copied along, so the folder can be moved; so are tools/explain.py and the pages that it needs. In DIR:
 
     cargo run --release -- run < examples/first-group.dscli         builds the programs, and runs a script
     cargo run --release --bin sweep < examples/sweeps/two-hosts.plan
@@ -21,6 +21,12 @@ ROOT = Path(__file__).resolve().parent.parent
 PLAIN = ROOT / "tools" / "plain"
 PROGRAMS = ("drsim", "sweep")
 STORED_TEST = "stored.rs"
+
+# The folders of scripts, in the package and in the repository.
+SCRIPTS = {"scenarios": "crates/scenarios/data", "examples": "examples"}
+
+# What goes along for who reads answers.
+ALONG = ("LICENSE", "docs/ANSWERS.md", "docs/COMMANDS.md", "tools/explain.py", "tools/rows.py")
 EDITION = "2021"
 # The oldest Rust whose library has all calls, by the lint incompatible_msrv of clippy.
 OLDEST = "1.73"
@@ -32,7 +38,7 @@ DERIVE = re.compile(r"(\s*)#\[derive\((.*)\)\]$")
 TEXT = re.compile(r'"(?:\\.|[^"\\])*"')
 OPENING, CLOSING = "{([", "})]"
 
-# Blocks that hold ghost items alone.
+# Blocks that hold ghost items only.
 MODEL = re.compile(r"^impl(<[^>\n]*>)? Model for [^{\n]+\{\s*\}\n", re.M)
 TESTS = re.compile(r"\n#\[cfg\(test\)\]\nmod tests;\n")
 HEAD = re.compile(r"(?://!.*\n|\n)*")
@@ -108,7 +114,7 @@ def depth_of(line):
 
 
 def whole_item(lines, first):
-    """The place behind an item that begins in a line and ends where all its brackets are closed."""
+    """The place after an item that begins in a line and ends as all its brackets are closed."""
     place, depth = first, 0
     while True:
         depth += depth_of(lines[place])
@@ -118,7 +124,7 @@ def whole_item(lines, first):
 
 
 def derives_kept(line):
-    """A line of derives without those that are dropped; empty where none is left."""
+    """A line of derives without those that are dropped; empty if none is left."""
     begin, names = DERIVE.match(line).groups()
     kept = [name for name in names.split(", ") if name not in DROPPED_DERIVES]
     return [f"{begin}#[derive({', '.join(kept)})]"] if kept else []
@@ -133,11 +139,11 @@ def without_proofs(text):
             kept += derives_kept(line)
             place += 1
         elif CLAUSE.match(line) or GHOST.match(line) or PROOF_ONLY.match(line):
-            behind = whole_item(lines, place)
+            after = whole_item(lines, place)
             # The last clause of a method without a body ends the method.
-            if CLAUSE.match(line) and lines[behind - 1].endswith("};"):
+            if CLAUSE.match(line) and lines[after - 1].endswith("};"):
                 kept[-1] += ";"
-            place = behind
+            place = after
         else:
             kept.append(line)
             place += 1
@@ -221,9 +227,8 @@ def beside(script, *endings):
 
 def stored_runs():
     """All runs that the repository stores, with the program of each: those of a folder together."""
-    scripts = {"scenarios": ROOT / "crates" / "scenarios" / "data", "examples": ROOT / "examples"}
-    for folder, place in scripts.items():
-        found = sorted(place.glob("*.dscli"))
+    for folder, place in SCRIPTS.items():
+        found = sorted((ROOT / place).glob("*.dscli"))
         yield folder, "drsim", [Stored(it.stem, beside(it, ".out", ".words", ".status"), folder, "run") for it in found]
     plans = sorted((ROOT / "examples" / "sweeps").glob("*.plan"))
     sweeps = [Stored(it.stem, beside(it, ".report", ".words", ".status"), "examples/sweeps", "") for it in plans]
@@ -252,7 +257,7 @@ def scripts():
 
 
 def write(out, files):
-    """Makes the folder have just these files, but for what was built."""
+    """Makes the folder have just these files, and what was built."""
     for path in sorted(out.glob("**/*"), reverse=True):
         name = str(path.relative_to(out))
         if name.split("/")[0] in ("target", "Cargo.lock"):
@@ -266,6 +271,7 @@ def write(out, files):
         if not file.exists() or file.read_bytes() != data:
             file.parent.mkdir(parents=True, exist_ok=True)
             file.write_bytes(data)
+            file.chmod(0o755 if file.suffix == ".py" else 0o644)
 
 
 def main():
@@ -278,7 +284,7 @@ def main():
         return 1
     stored, count = scripts()
     files = {**code(), **stored, "README.md": (PLAIN / "README.md").read_text(encoding="utf-8")}
-    files["LICENSE"] = (ROOT / "LICENSE").read_text(encoding="utf-8")
+    files.update({name: (ROOT / name).read_bytes() for name in ALONG})
     write(out, files)
     print(f"{out}: {sum('Cargo.toml' in name for name in files)} crates, {count} stored scripts")
     return 0

@@ -3,7 +3,7 @@
 answers out of docs/ANSWERS.md.
 
     tools/syntax.py            writes them, for vim and for VS Code
-    tools/syntax.py --check    compares them with the two pages, and ends with 1 where one differs, or where a line of examples/ has a
+    tools/syntax.py --check    compares them with the two pages, and ends with 1 if one differs, or if a line of examples/ has a
                                command or an option that the pages haven't
 """
 import json
@@ -60,7 +60,7 @@ def commands():
 
 
 def codes():
-    """The codes of the answers, with the words that stand behind each as they are, the longest first."""
+    """The codes of the answers, with the words that stand after each as they are, the longest first."""
     page = (ROOT / "docs" / "ANSWERS.md").read_text(encoding="utf-8")
     found = {}
     for code, kind in re.findall(r"^\| `(E\d\d) ([a-z]+(?: [a-z]+)*)", page, re.M):

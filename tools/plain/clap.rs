@@ -127,7 +127,7 @@ impl<'a> Command<'a> {
         })
     }
 
-    /// The words behind a subcommand's name as its value.
+    /// The words after a subcommand's name as its value.
     fn values_from<'m>(&self, words: &'m [String]) -> Result<ArgMatches<'m>, Error>
     where
         'a: 'm,

@@ -1,14 +1,15 @@
 //! Runs the programs on each script that the repository stores, and compares what they print, and their status, with what is stored.
 
+use std::env;
 use std::fs::{self, File};
-use std::path::Path;
+use std::path::{Path, PathBuf};
 use std::process::Command;
 
 /// Runs a program with these words on an input: it has to print what the file of the output has, and to end with the status.
-fn check(program: &str, words: &[&str], input: &str, output: &str, status: i32) {
-    let top = Path::new(env!("CARGO_MANIFEST_DIR"));
-    let input = File::open(top.join(input)).expect("the input is there");
-    let wanted = fs::read(top.join(output)).expect("the output is there");
+fn check(program: &Path, words: &[&str], input: &str, output: &str, status: i32) {
+    // cargo runs a test in the folder of its package.
+    let input = File::open(input).expect("the input is there");
+    let wanted = fs::read(output).expect("the output is there");
     let ended = Command::new(program)
         .args(words)
         .stdin(input)
@@ -20,6 +21,16 @@ fn check(program: &str, words: &[&str], input: &str, output: &str, status: i32) 
         first_difference(&ended.stdout, &wanted)
     );
     assert_eq!(ended.status.code(), Some(status), "the status");
+}
+
+/// The program as it was built with this test, also if the folder has been moved since.
+fn program(name: &str, built: &str) -> PathBuf {
+    let test = env::current_exe().expect("the test has a place");
+    let beside = test.ancestors().nth(2).map(|folder| folder.join(name));
+    let found = beside.map(|path| path.with_extension(env::consts::EXE_EXTENSION));
+    found
+        .filter(|path| path.exists())
+        .unwrap_or_else(|| built.into())
 }
 
 /// Says in which line two texts differ first.
@@ -44,7 +55,8 @@ macro_rules! stored {
         $(mod $folder {
             $(#[test]
             fn $name() {
-                super::check(env!(concat!("CARGO_BIN_EXE_", $program)), &[$($word),*], $input, $output, $status);
+                let program = super::program($program, env!(concat!("CARGO_BIN_EXE_", $program)));
+                super::check(&program, &[$($word),*], $input, $output, $status);
             })*
         })*
     };
