@@ -12,10 +12,10 @@ sys.dont_write_bytecode = True
 import book
 
 ROOT = book.ROOT
-DOCUMENTS = ("README.md", "CONTRIBUTING.md", "docs/*.md", "examples/README.md")
+DOCUMENTS = ("README.md", "CONTRIBUTING.md", "CHANGELOG.md", "docs/*.md", "examples/README.md", "editors/README.md")
 NOTES = ("crates/*/src/lib.rt", "crates/*/src/main.rt", "crates/*/proofs/Lib.antt")
 SOURCES = ("crates/**/*.rt", "crates/**/*.antt", "crates/*/data/*", "crates/*/must-fail/*", "crates/scenarios/std*", "examples/*",
-           "bench/*", "tools/*", ".ci/run", "crates.txt", "HANDLES")
+           "bench/*", "tools/*", "tools/plain/*", "editors/**/*", ".ci/run", "crates.txt", "HANDLES")
 SIZES = {"README.md": 12_288, "docs/PROOFS.md": 20_000}
 
 # Words of the toolchain that no source needs to have; names in capitals stand for others.
@@ -25,7 +25,7 @@ PLACEHOLDER = re.compile(r"rattle-kit-|std/|.*\.\.|.*-[A-Z]+$|.*(NAME|SCRIPT|FIL
 WORD = re.compile(r"[A-Za-z_]\w*(?:[-'][\w]+)*'*")
 SPAN = re.compile(r"(?<!`)`([^`\n]+)`(?!`)")
 LINK = re.compile(r"\[[^\]\n]*\]\(([^)\s]+)\)")
-FILE = re.compile(r"[\w./*{},-]*[\w*]\.(?:rt|antt|md|py|sh|dscli|out|status|words|edit|txt)")
+FILE = re.compile(r"[\w./*{},-]*[\w*]\.(?:rt|rs|antt|md|py|sh|dscli|out|status|words|edit|txt)")
 
 
 def paths(patterns):
@@ -63,7 +63,7 @@ def missing_file(name, base):
     places = (ROOT, base, ROOT / "crates", *ROOT.glob("crates/*"))
     if any(next(place.glob(name.lstrip("./")), None) for place in places):
         return False
-    return "/" in name or not any(next(ROOT.glob(f"{top}/**/{name}"), None) for top in ("crates", "docs", "examples", "bench", "tools"))
+    return "/" in name or not any(next(ROOT.glob(f"{top}/**/{name}"), None) for top in ("crates", "docs", "editors", "examples", "bench", "tools"))
 
 
 def checked_names(span):

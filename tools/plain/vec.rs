@@ -68,6 +68,12 @@ impl<T: Copy> Vec<T> {
         Ok(all)
     }
 
+    pub fn resize(&mut self, count: usize, value: T) -> Result<(), AllocError> {
+        self.reserve(count.saturating_sub(self.0.len()))?;
+        self.0.resize(count, value);
+        Ok(())
+    }
+
     pub fn extend_from_slice(&mut self, slice: &[T]) -> Result<(), AllocError> {
         self.reserve(slice.len())?;
         self.0.extend_from_slice(slice);

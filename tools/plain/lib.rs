@@ -1,14 +1,19 @@
-//! What Rattle's library does otherwise than Rust's, as the sources call it: calls that take memory are passed an allocator and
-//! return a result. Below it is Rust's library with its own allocator, asked by `try_reserve`.
-#![allow(clippy::new_without_default)]
+//! What Rattle's library does otherwise than Rust's, as the sources call it, over Rust's library: calls that take memory are passed an
+//! allocator and return a result, and vectors of the processor are arrays. Beside it the few calls of `clap`, `indexmap` and `itoa` that
+//! the sources make.
+#![allow(clippy::new_without_default, clippy::len_without_is_empty)]
 
 pub mod alloc;
+pub mod clap;
+pub mod env;
 pub mod indexmap;
 pub mod itoa;
+pub mod simd;
 pub mod texts;
 pub mod vec;
 
 pub mod prelude {
+    pub use crate::env::HostRuntime;
     pub use crate::texts::{CollectIn, FromStrIn, ToStringIn};
     pub use crate::vec::Vec;
 }

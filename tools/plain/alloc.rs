@@ -1,5 +1,7 @@
 //! The allocator that is passed, and its failures.
 
+use std::io;
+
 /// The one allocator.
 #[derive(Clone, Copy)]
 pub struct Global;
@@ -14,5 +16,11 @@ pub struct AllocFailed<T>(pub T);
 impl<T> From<AllocFailed<T>> for AllocError {
     fn from(_: AllocFailed<T>) -> AllocError {
         AllocError
+    }
+}
+
+impl<T> From<AllocFailed<T>> for io::Error {
+    fn from(_: AllocFailed<T>) -> io::Error {
+        io::ErrorKind::OutOfMemory.into()
     }
 }

@@ -1,4 +1,4 @@
-//! Maps and sets in order of insertion: the entries in a vector, and their places in a hash table of Rust's library, by a hash of one
+//! Maps and sets in order of insertion: keys and values in a vector each, and their places in a hash table of Rust's library, by a hash of one
 //! multiplication for each eight bytes, as Rattle's library has it.
 
 use crate::alloc::{AllocError, Global};
@@ -50,24 +50,27 @@ impl Hasher for FoldHasher {
 }
 
 pub struct IndexMap<K, V> {
-    entries: Vec<(K, V)>,
+    keys: Vec<K>,
+    values: Vec<V>,
     places: HashMap<K, usize, BuildHasherDefault<FoldHasher>>,
 }
 
 impl<K: Eq + Hash + Clone, V> IndexMap<K, V> {
     pub fn new(_: Global) -> IndexMap<K, V> {
         IndexMap {
-            entries: Vec::new(),
+            keys: Vec::new(),
+            values: Vec::new(),
             places: HashMap::default(),
         }
     }
 
     pub fn len(&self) -> usize {
-        self.entries.len()
+        self.keys.len()
     }
 
     pub fn reserve(&mut self, more: usize) -> Result<(), AllocError> {
-        self.entries.try_reserve(more).map_err(|_| AllocError)?;
+        self.keys.try_reserve(more).map_err(|_| AllocError)?;
+        self.values.try_reserve(more).map_err(|_| AllocError)?;
         self.places.try_reserve(more).map_err(|_| AllocError)
     }
 
@@ -82,25 +85,34 @@ impl<K: Eq + Hash + Clone, V> IndexMap<K, V> {
     where
         K: Borrow<Q>,
     {
-        self.get_index_of(key).map(|at| &self.entries[at].1)
+        self.get_index_of(key).map(|at| &self.values[at])
+    }
+
+    pub fn get_mut<Q: ?Sized + Eq + Hash>(&mut self, key: &Q) -> Option<&mut V>
+    where
+        K: Borrow<Q>,
+    {
+        let at = self.get_index_of(key)?;
+        Some(&mut self.values[at])
     }
 
     pub fn get_index(&self, at: usize) -> Option<(&K, &V)> {
-        self.entries.get(at).map(|(key, value)| (key, value))
+        Some((self.keys.get(at)?, self.values.get(at)?))
     }
 
     pub fn values(&self) -> impl Iterator<Item = &V> {
-        self.entries.iter().map(|(_, value)| value)
+        self.values.iter()
     }
 
     /// What stood there before, if anything did.
     pub fn insert(&mut self, key: K, value: V) -> Result<Option<V>, AllocError> {
         if let Some(at) = self.get_index_of(&key) {
-            return Ok(Some(std::mem::replace(&mut self.entries[at].1, value)));
+            return Ok(Some(std::mem::replace(&mut self.values[at], value)));
         }
         self.reserve(1)?;
-        self.places.insert(key.clone(), self.entries.len());
-        self.entries.push((key, value));
+        self.places.insert(key.clone(), self.keys.len());
+        self.keys.push(key);
+        self.values.push(value);
         Ok(None)
     }
 
@@ -110,10 +122,10 @@ impl<K: Eq + Hash + Clone, V> IndexMap<K, V> {
     }
 
     pub fn shift_remove_index(&mut self, at: usize) -> Option<(K, V)> {
-        if at >= self.entries.len() {
+        if at >= self.keys.len() {
             return None;
         }
-        let entry = self.entries.remove(at);
+        let entry = (self.keys.remove(at), self.values.remove(at));
         self.places.remove(&entry.0);
         for place in self.places.values_mut() {
             *place -= usize::from(*place > at);
@@ -126,13 +138,13 @@ impl<K, V> Index<usize> for IndexMap<K, V> {
     type Output = V;
 
     fn index(&self, at: usize) -> &V {
-        &self.entries[at].1
+        &self.values[at]
     }
 }
 
 impl<K, V> IndexMut<usize> for IndexMap<K, V> {
     fn index_mut(&mut self, at: usize) -> &mut V {
-        &mut self.entries[at].1
+        &mut self.values[at]
     }
 }
 
@@ -154,6 +166,23 @@ impl<K: Eq + Hash + Clone> IndexSet<K> {
         self.0.get_index_of(key)
     }
 
+    pub fn contains<Q: ?Sized + Eq + Hash>(&self, key: &Q) -> bool
+    where
+        K: Borrow<Q>,
+    {
+        self.get_index_of(key).is_some()
+    }
+
+    pub fn as_slice(&self) -> &[K] {
+        &self.0.keys
+    }
+
+    pub fn retain(&mut self, stays: impl FnMut(&K) -> bool) {
+        self.0.keys.retain(stays);
+        self.0.values.resize(self.0.keys.len(), ());
+        self.0.places = self.0.keys.iter().cloned().zip(0..).collect();
+    }
+
     /// Whether it is new.
     pub fn insert(&mut self, key: K) -> Result<bool, AllocError> {
         Ok(self.0.insert(key, ())?.is_none())
@@ -164,6 +193,6 @@ impl<K> Index<usize> for IndexSet<K> {
     type Output = K;
 
     fn index(&self, at: usize) -> &K {
-        &self.0.entries[at].0
+        &self.0.keys[at]
     }
 }
