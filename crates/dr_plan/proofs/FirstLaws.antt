@@ -12,7 +12,7 @@ use Rattle.dr_plan.specs.declared.stages.Stage.{Stage}
 use Rattle.dr_plan.specs.declared.stages.Stage.TheVariants.{Start, Losing, Using, Bounded, Trying, Recovering}
 use Rattle.dr_plan.specs.declared.reading.Reading.{Reading}
 use Rattle.dr_plan.specs.Marks.{is_mark, mark_of, names_onto}
-use Rattle.dr_plan.specs.Outcome.{TellsFault, Begins, IsFirstBad, TellsFirst}
+use Rattle.dr_plan.specs.Outcome.{TellsFault, AreNoPlan, Begins, IsFirstBad, TellsFirst}
 use Rattle.dr_plan.specs.Reading.{noted, read_on, finished, read_lines, begun, sweep_of}
 use Rattle.dr_plan.specs.Sweep.{Sweep}
 use Rattle.dr_plan.proofs.EachLaws.{run, run_more, run_both, run_read, read_mark, plan-is-read}
@@ -118,6 +118,13 @@ breaks done r line ran bad b =
     let both : Err (1 + length done) ≡ Ok b.1 = sym err ∙ ok in
     cc
 
+ends_short : (k n : ℕ) (r : Reading) (done : List (List ℕ)) → k ≡ length done + 1 → run begun done ≡ Some r → read_lines k r [] ≡ Err n → AreNoPlan done
+ends_short k n r done is ran h = λ plan p.
+    (let last : 1 + length done ≡ k = omega (arith, is) in
+    let err = ap (read_lines 1 begun) (sym (append-nil done)) ∙ run_read 1 begun r done [] ran ∙ ap (λ (l : ℕ). read_lines l r []) last ∙ h in
+    let both : Err n ≡ Ok plan = sym err ∙ plan-is-read done plan p in
+    cc)
+
 missing : (k n : ℕ) (stage : Stage) (plan : Sweep) → finished k stage plan ≡ Err n → k ≡ n
 missing k n Start plan h = cc
 missing k n Losing plan h = cc
@@ -129,7 +136,7 @@ missing k n Recovering plan h = absurd cc
 first_bad : (k n : ℕ) (r : Reading) (lines done : List (List ℕ)) → k ≡ length done + 1 → run begun done ≡ Some r → Read done r.stage r.plan → read_lines k r lines ≡ Err n → IsFirstBad (done ++ lines) n
 unfolding read_lines run
 first_bad k n r [] done is ran so_far h =
-    record { front = done; behind = []; cut = refl; is = sym (missing k n r.stage r.plan h) ∙ is; begins = begins done r ran so_far; breaks = tt }
+    record { front = done; behind = []; cut = refl; is = sym (missing k n r.stage r.plan h) ∙ is; begins = begins done r ran so_far; breaks = ends_short k n r done is ran h }
 first_bad k n r (line ∷ rest) done is ran so_far h =
     by (read_on r line) refl h
     (λ next stands k_more. first_bad (k + 1) n next rest (done ++ line ∷ []) (let size : length (done ++ line ∷ []) ≡ length done + 1 = grind (arith, common_steps) in omega (arith, is)) (run_both begun r next done (line ∷ []) ran (run_more r next next line [] stands refl)) (read_step done line r next stands so_far) k_more)

@@ -19,21 +19,26 @@ abbrev pub ReadsAs : Result Sweep ℕ → Result Sweep PlanFault → Type 0
 ReadsAs reading (Ok plan) = reading ≡ Ok plan
 ReadsAs reading (Err fault) = TellsFault reading fault
 
+-- the lines are no plan
+abbrev pub AreNoPlan : List (List ℕ) → Type 0
+AreNoPlan lines = (plan : Sweep) → IsPlan lines plan → ⊥
+
 -- lines with a bad one are no plan
 abbrev pub IsNoPlan : List (List ℕ) → PlanFault → Type 0
 IsNoPlan lines NoMemory = Unit {0}
-IsNoPlan lines (BadLine line) = (plan : Sweep) → IsPlan lines plan → ⊥
+IsNoPlan lines (BadLine line) = AreNoPlan lines
 
 -- the lines begin a plan
 abbrev pub Begins : List (List ℕ) → Type 0
 Begins lines = (rest : List (List ℕ)) × (plan : Sweep) × IsPlan (lines ++ rest) plan
 
--- with the next line these begin none, where there is one
+-- with the next line these begin none; if there is no next line, they are none themselves
 abbrev pub Breaks : List (List ℕ) → List (List ℕ) → Type 0
-Breaks front [] = Unit {0}
+Breaks front [] = AreNoPlan front
 Breaks front (line ∷ rest) = Begins (front ++ line ∷ []) → ⊥
 
--- the lines before that one begin a plan, and with it they begin none; it is the one behind the last line where a line is missing
+-- The lines before that one begin a plan, and with it they begin none. If the number is the one after the last line, the lines are no plan, and
+-- more lines would make them one.
 pub record IsFirstBad (lines : List (List ℕ)) (number : ℕ) : Type 0 where
   pub front : List (List ℕ)
   pub behind : List (List ℕ)
