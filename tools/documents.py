@@ -1,8 +1,9 @@
 #!/usr/bin/env python3
 """Checks the documents, and the notes at the head of crates. Prints each finding as FILE:LINE: text, and ends with 1 where there is one.
 
-What it finds: names and files in backquotes that no source has; links that lead nowhere; docs/BOOK.md that isn't as tools/book.py
-makes it; a document over its size.
+What it finds: names and files in backquotes that no source has; links that lead nowhere; a chapter of the book by another number than
+it has, or by a number without a link; a field of what stands of a run that docs/CLAIMS.md lacks; docs/BOOK.md that isn't as tools/book.py
+makes it; a document over its size, and a table of README over its rows.
 """
 import re
 import sys
@@ -16,7 +17,8 @@ DOCUMENTS = ("README.md", "CONTRIBUTING.md", "CHANGELOG.md", "docs/*.md", "examp
 NOTES = ("crates/*/src/lib.rt", "crates/*/src/main.rt", "crates/*/proofs/Lib.antt")
 SOURCES = ("crates/**/*.rt", "crates/**/*.antt", "crates/*/data/*", "crates/*/must-fail/*", "crates/scenarios/std*", "examples/*",
            "bench/*", "tools/*", "tools/plain/*", "editors/**/*", ".ci/run", "crates.txt", "HANDLES")
-SIZES = {"README.md": 12_288, "docs/PROOFS.md": 20_000}
+SIZES = {"README.md": 14_336, "docs/PROOFS.md": 20_000}
+ROWS = {"What it promises": 8}
 
 # Words of the toolchain that no source needs to have; names in capitals stand for others.
 FOREIGN = {"allow-holes", "arith", "grind", "omega", "sum_by", "unfolding"}
@@ -25,6 +27,7 @@ PLACEHOLDER = re.compile(r"rattle-kit-|std/|.*\.\.|.*-[A-Z]+$|.*(NAME|SCRIPT|FIL
 WORD = re.compile(r"[A-Za-z_]\w*(?:[-'][\w]+)*'*")
 SPAN = re.compile(r"(?<!`)`([^`\n]+)`(?!`)")
 LINK = re.compile(r"\[[^\]\n]*\]\(([^)\s]+)\)")
+CHAPTER = re.compile(r"\[([^\]\n]*)\]\(\S*BOOK\.md#(\d+)-[^)]*\)")
 FILE = re.compile(r"[\w./*{},-]*[\w*]\.(?:rt|rs|antt|md|py|sh|dscli|out|status|words|edit|txt)")
 
 
@@ -103,6 +106,27 @@ def links(path):
                 yield number, f"no heading #{anchor} in {there.name}"
 
 
+def chapters(path):
+    """Links to a chapter of the book whose words have another number, or none, and numbers of chapters without a link."""
+    for number, line in prose(path):
+        for text, chapter in CHAPTER.findall(line):
+            if re.findall(r"\d+", text) != [chapter]:
+                yield number, f"[{text}] leads to chapter {chapter} of the book"
+        for bare in re.findall(r"\b[Cc]hapters? \d+", CHAPTER.sub("", line)):
+            yield number, f"{bare} without a link to it in the book"
+
+
+def long_tables(path):
+    """The tables of a document that have more rows than they may, by the heading above them."""
+    head, rows = "", 0
+    for number, line in prose(path):
+        if line.startswith("#"):
+            head, rows = line.lstrip("# "), 0
+        rows += line.startswith("| ")
+        if head in ROWS and rows == ROWS[head] + 2 and line.startswith("| "):
+            yield number, f"more than {ROWS[head]} rows below {head}"
+
+
 def unnamed_crates():
     """The crates that the page on claims has no row for."""
     rows = "".join(line for _, line in prose(ROOT / "docs" / "CLAIMS.md") if line.startswith("- "))
@@ -112,14 +136,27 @@ def unnamed_crates():
             yield f"no row of its own for `{crate}`"
 
 
+def unnamed_fields():
+    """The fields of what stands of a run that a table of that page doesn't name: that of one line each, and that of every run."""
+    record = (ROOT / "crates" / "dr_top" / "specs" / "Stands.antt").read_text(encoding="utf-8").partition("pub record Stands")[2]
+    page = (ROOT / "docs" / "CLAIMS.md").read_text(encoding="utf-8")
+    for head in ("In one line each", "Of every run"):
+        part = page.partition(f"## {head}\n")[2].partition("\n## ")[0]
+        for field in re.findall(r"^  pub (\w+) :", record, re.M):
+            if f"`{field}`" not in part:
+                yield f"no row for `{field}` below {head}"
+
+
 def findings():
     words = known_words()
-    yield from (("docs/CLAIMS.md", 1, text) for text in unnamed_crates())
+    yield from (("docs/CLAIMS.md", 1, text) for text in [*unnamed_crates(), *unnamed_fields()])
     for path in paths(DOCUMENTS):
         name = str(path.relative_to(ROOT))
         found = list(links(path))
         if path != book.BOOK:
-            found += names(path, words)
+            found += [*names(path, words), *chapters(path)]
+        if name == "README.md":
+            found += long_tables(path)
         size = path.stat().st_size
         if size > SIZES.get(name, size):
             found.append((1, f"{size} bytes, and may have {SIZES[name]}"))

@@ -1,7 +1,8 @@
 #!/usr/bin/env python3
 """Checks that what docs/COMMANDS.md and docs/ANSWERS.md show is what scenarios and examples print; exit status 1 where it isn't.
 
-Each example of COMMANDS.md is a line of the scenario each-command-once, with its answers. Each row of ANSWERS.md names a scenario or
+Each example of COMMANDS.md is a line of the scenario each-command-once, with its answers. What its table says that DSCLI has and this hasn't
+stands in a line of the scenario dscli-words-that-are-refused that answers E01. Each row of ANSWERS.md names a scenario or
 an example (in its last column) whose output has the answer that the row begins with; rows without one say so there.
 """
 import re
@@ -10,6 +11,7 @@ from pathlib import Path
 
 ROOT = Path(__file__).resolve().parent.parent
 SCRIPTS = [ROOT / "crates" / "scenarios" / "data", ROOT / "examples"]
+MISSING = "## DSCLI has it, this hasn't"
 VALUES = {"VOL": r"[0-9A-F]{4}", "NAME": r"[A-Za-z][\w.-]*", "SS": r"[0-9A-F]{2}", "BYTES": r"(?:[0-9A-F]{2})+", "wN": r"w\d+", "mN": r"m\d+",
           "PHASE": r"[A-Z][a-z]+", "STATE": r"(?:Copy Pending|Full Duplex|Suspended)"}
 
@@ -39,6 +41,21 @@ def faults_in_commands(path):
             yield f"{path.relative_to(ROOT)}:{number}: no line of each-command-once with these answers"
 
 
+def faults_in_what_is_missing(path):
+    """The words in backquotes of the first column of that table that stand together in no line which is outside the grammar."""
+    answers, script = answers_of("dscli-words-that-are-refused")
+    refused = [set(line.split()) for n, line in enumerate(script, 1) if any(a.startswith("E01") for a in answers.get(n, []))]
+    refused += [{part for word in words for part in word.split(":")} for words in refused]
+    inside = False
+    for number, line in enumerate(path.read_text(encoding="utf-8").split("\n"), 1):
+        if line.startswith("## "):
+            inside = line == MISSING
+        if inside and line.startswith("| "):
+            for span in re.findall(r"`([^`]+)`", line.split(" | ")[0]):
+                if not any(set(span.split()) <= words for words in refused):
+                    yield f"{path.relative_to(ROOT)}:{number}: no line of dscli-words-that-are-refused with `{span}` answers E01"
+
+
 def pattern_of(answer):
     """What an answer with words in the place of values stands for."""
     words = [VALUES.get(word) or re.sub(r"\b[A-Zmn]\b", r"\\d+", re.escape(word)) for word in answer.split(" ")]
@@ -60,7 +77,8 @@ def faults_in_answers(path):
 
 
 def main():
-    faults = [*faults_in_commands(ROOT / "docs" / "COMMANDS.md"), *faults_in_answers(ROOT / "docs" / "ANSWERS.md")]
+    commands = ROOT / "docs" / "COMMANDS.md"
+    faults = [*faults_in_commands(commands), *faults_in_what_is_missing(commands), *faults_in_answers(ROOT / "docs" / "ANSWERS.md")]
     print("\n".join(faults), end="\n" if faults else "")
     return 1 if faults else 0
 

@@ -9,7 +9,7 @@
 //! read as, whatever comes (`reads`), and `finish` says what it did; it answers want of memory exactly where a `feed`
 //! had none. `Image` is a list of volumes with their blocks: `len`, `volume`, `block` read it, `push_volume` and
 //! `push_block` change it (`ok`, `err`). `push_id`, `push_number`, `push_decimal`, `push_kept` and `trimmed` are the pieces of
-//! its lines, for texts that name volumes and blocks in the same way. The program doesn't use this crate yet.
+//! its lines, for texts that name volumes and blocks in the same way. The word `recover` of the program reads images by `ImageReader`.
 #![tactic(auto)]
 
 mod fault;
