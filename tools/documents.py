@@ -14,7 +14,7 @@ import book
 ROOT = book.ROOT
 DOCUMENTS = ("README.md", "CONTRIBUTING.md", "docs/*.md", "examples/README.md")
 NOTES = ("crates/*/src/lib.rt", "crates/*/src/main.rt", "crates/*/proofs/Lib.antt")
-SOURCES = ("crates/**/*.rt", "crates/**/*.antt", "crates/*/data/*", "crates/*/must-fail/*", "crates/scenarios/std*", "examples/*",
+SOURCES = ("crates/**/*.rt", "crates/**/*.antt", "crates/*/data/*", "crates/*/must-fail/*", "crates/*/edits/*", "crates/scenarios/std*", "examples/*",
            "bench/*", "tools/*", ".ci/run", "crates.txt", "HANDLES")
 SIZES = {"README.md": 12_288, "docs/PROOFS.md": 20_000}
 
