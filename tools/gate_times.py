@@ -4,9 +4,10 @@
 gate_times.py PROCESS       looks until the process of that number has ended, and writes to standard output. The first line is
                             'begin DATE PROCESSORS', and the last 'end SECONDS'. Between them is a line for each check that ended:
                             SECONDS of a processor, SECONDS of the clock, CRATE and WHAT, with tabs between. WHAT is 'proof',
-                            'tests', 'build', 'base' (what the edits of a crate begin with) or 'edit NAME'
+                            'tests', 'build', 'base' (what the edits of a crate begin with: a check of the crate, or of it with its
+                            first edit, as the kit has it) or 'edit NAME'
 
-It reads /proc alone, and nothing that it does can make the gate fail. What a check did in its last half second is not seen.
+It reads only /proc, and nothing that it does can make the gate fail. What a check did in its last half second is not seen.
 """
 import os
 import re
@@ -17,6 +18,8 @@ from pathlib import Path
 TOP = Path(__file__).resolve().parent.parent
 PAUSE = 0.5
 TICKS = os.sysconf("SC_CLK_TCK")
+# The checks that were seen over each folder in which a kit tries the edits of a crate in turn.
+TURNS = {}
 
 
 def processes():
@@ -48,13 +51,18 @@ def ticks_of(found, children, number):
 
 
 def edit_name(crate, words):
-    """The name of the edit that a check over what is kept in the folder .../NUMBER tries."""
+    """What a check over a kept folder tries: the edit of its number, or, if all edits of the crate go over one folder, the next of them."""
     edits = sorted(it.stem for it in (TOP / "crates" / crate / "must-fail").glob("*.edit"))
-    place = words[words.index("--incremental") + 1].rpartition("/")[2] if "--incremental" in words else "0"
+    kept = words[words.index("--incremental") + 1] if "--incremental" in words else ""
+    place = kept.rpartition("/")[2] if kept else "0" if len(edits) == 1 else ""
     if place == "seed":
         return "base"
-    is_known = place.isdigit() and int(place) < len(edits) and ("--incremental" in words or len(edits) == 1)
-    return f"edit {edits[int(place)] if is_known else '?'}"
+    if kept and not place.isdigit():
+        turn = TURNS[kept] = TURNS.get(kept, -1) + 1
+        if turn == 0:
+            return "base"
+        place = str(turn)
+    return f"edit {edits[int(place)] if place.isdigit() and int(place) < len(edits) else '?'}"
 
 
 def check_of(number):
@@ -67,7 +75,7 @@ def check_of(number):
     if not words[0].endswith("/rattle") or "--crate-name" not in words:
         return None
     crate = words[words.index("--crate-name") + 1]
-    if re.search(r"/rt-edit-\d+-[^/]*$", folder):
+    if re.search(r"/rt-edit-[^/]+$", folder):
         return crate, edit_name(crate, words)
     if "--test" in words:
         return crate, "tests"

@@ -23,28 +23,33 @@ def count_of(pattern):
     return sum(1 for _ in ROOT.glob(pattern))
 
 
-def found_in(path, pattern):
-    """What the groups of a pattern are in a file; None where there is no such file or line."""
-    path = ROOT / path
-    match = path.exists() and re.search(pattern, path.read_text(encoding="utf-8"), re.M)
-    return match.groups() if match else None
+def found_in(page, pattern):
+    """What the groups of a pattern are in a page. Ends the script if no line of the page fits, since a row would be missing then."""
+    match = re.search(pattern, (ROOT / page).read_text(encoding="utf-8"), re.M)
+    if not match:
+        sys.exit(f"{page}:1: has no line {pattern}, of which README.md has a row")
+    return match.groups()
+
+
+def gate_row():
+    """What the gate took, by the table of docs/GATE.md, which is of one run from nothing or of all that was seen of several runs."""
+    what, taken = found_in("docs/GATE.md", r"^\| (the whole gate|all that was seen) \| \d+ minutes of the clock, (\d+) of a processor \|$")
+    return f"| the gate, {'from nothing' if what == 'the whole gate' else 'as far as seen'} | {taken} minutes of a processor |"
 
 
 def numbers():
     crates = sum(1 for line in (ROOT / "crates.txt").read_text().splitlines() if line.strip() and line[0] != "#")
-    rows = [f"| code | about {lines_of('crates/*/src/**/*.rt')} lines in {crates} crates |"]
-    book = found_in("docs/BOOK.md", r"^(\d+) definitions, (\d+) lines$")
-    if book:
-        definitions, lines = (f"{int(n):,}" for n in book)
-        rows.append(f"| to believe: what the two contracts of the top call reach | {definitions} definitions, {lines} lines |")
-    rows.append(f"| proofs | about {lines_of('crates/*/proofs/**/*.antt')} lines |")
-    rows.append(f"| wrong bodies that the prover must refuse | {count_of('crates/*/must-fail/*.edit')} |")
-    scenarios, examples = count_of("crates/scenarios/data/*.dscli"), count_of("examples/*.dscli")
-    rows.append(f"| scenarios and examples, byte by byte | {scenarios} and {examples} |")
-    gate = found_in("docs/GATE.md", r"^\| the whole gate.*?\| (\d+) minutes")
-    if gate:
-        rows.append(f"| the whole gate, everything from nothing | {gate[0]} minutes on four processors |")
-    return ["| | |", "|---|---|"] + rows
+    definitions, lines = (f"{int(n):,}" for n in found_in("docs/BOOK.md", r"^(\d+) definitions, (\d+) lines$"))
+    return [
+        "| | |",
+        "|---|---|",
+        f"| code | about {lines_of('crates/*/src/**/*.rt')} lines in {crates} crates |",
+        f"| to believe: what the two contracts of the top call reach | {definitions} definitions, {lines} lines |",
+        f"| proofs | about {lines_of('crates/*/proofs/**/*.antt')} lines |",
+        f"| wrong bodies that the prover must refuse | {count_of('crates/*/must-fail/*.edit')} in the gate, {count_of('crates/*/edits/*.edit')} outside it |",
+        f"| scenarios and examples, byte by byte | {count_of('crates/scenarios/data/*.dscli')} and {count_of('examples/*.dscli')} |",
+        gate_row(),
+    ]
 
 
 def screen():

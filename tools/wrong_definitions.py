@@ -471,7 +471,7 @@ def changed(folder, row):
 def copied(folder):
     (folder / "crates").mkdir(parents=True, exist_ok=True)
     for name in CRATES:
-        shutil.copytree(TOP / "crates" / name, folder / "crates" / name, ignore=shutil.ignore_patterns("out", "must-fail"), dirs_exist_ok=True)
+        shutil.copytree(TOP / "crates" / name, folder / "crates" / name, ignore=shutil.ignore_patterns("out", "must-fail", "edits"), dirs_exist_ok=True)
     wanted = [line for line in (TOP / "crates.txt").read_text().splitlines() if line.split(":")[0] in CRATES]
     (folder / "crates.txt").write_text("\n".join(wanted) + "\n")
     shutil.copy(TOP / "HANDLES", folder / "HANDLES")
