@@ -16,7 +16,7 @@ from pathlib import Path
 ROOT = Path(__file__).resolve().parent.parent
 DATA = ROOT / "crates" / "scenarios" / "data"
 PROGRAM = ROOT / "crates" / "drsim" / "out" / "drsim"
-ENDED = re.compile(rb"^run=ended status=(\d+) ", re.M)  # of the last line that `rt try` prints
+ENDED = re.compile(rb"^run=ended status=(\d+) .*proved=no\n\Z", re.M)  # the last line of `rt try`, if the program ended
 FAILED = (3, 4, 5)  # a read or a write that failed, and want of memory, of which no scenario is
 
 
@@ -46,10 +46,10 @@ def run(words, script):
         done = subprocess.run([PROGRAM, *words], input=script, capture_output=True, check=False)
         return done.stdout, done.returncode
     done = subprocess.run(["rt", "try", "--", *words], cwd=PROGRAM.parent.parent, input=script, capture_output=True, check=False)
-    ended = ENDED.findall(done.stderr)
-    if not ended:
+    ended = ENDED.search(done.stderr)
+    if not ended or int(ended[1]) != done.returncode:
         raise Fault(f"rt try doesn't run the program\n{done.stderr.decode(errors='replace').rstrip()}")
-    return done.stdout, int(ended[-1])
+    return done.stdout, done.returncode
 
 
 def accept(name, folder):
