@@ -110,7 +110,8 @@ fn any_differs(alloc: Global, first: &Row, more: &[Row]) -> Result<bool, AllocEr
     ensures { IfOk result (λ found. found ≡ list_any (differs first.now) more.now) }
 {
     for row in more {
-        if differs(alloc, first, row)? {
+        let is_other = differs(alloc, first, row)?;
+        if is_other {
             return Ok(true);
         }
     }

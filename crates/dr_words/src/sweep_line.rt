@@ -1,6 +1,6 @@
-ghost use Rattle.std.specs.Prelude.{◌≡◌, IfOk, codes};
-ghost use Rattle.clap.specs.Words.{app_of};
-ghost use Rattle.dr_words.specs.SweepLine.{sweep_line};
+ghost use Rattle.std.specs.Prelude.{◌≡◌, IfOk, codes, false};
+ghost use Rattle.clap.specs.Words.{app_of, new_app, rule_of, with_rule, with_subcommand};
+ghost use Rattle.dr_words.specs.SweepLine.{bare_sweep, point_rule, sweep_line};
 
 use clap::{Arg, Command};
 use std::alloc::{AllocError, Global};
@@ -12,15 +12,32 @@ pub const POINT: &str = "point";
 pub fn sweep_line<'a>(alloc: Global) -> Result<Command<'a>, AllocError>
     ensures { IfOk result (λ line. app_of line ≡ sweep_line) }
 {
-    let point = Arg::new(alloc, POINT).required(true).num_args(2..=5);
-    let rows = Command::new(alloc, "rows");
-    let picture = Command::new(alloc, "picture");
-    let script = Command::new(alloc, "script").arg(point)?;
+    let line = bare_sweep(alloc).subcommand(Command::new(alloc, "rows"))?;
+    let line = line.subcommand(Command::new(alloc, "picture"))?;
+    with_script(alloc, line)
+}
+
+/// The program without its name, help and options.
+fn bare_sweep<'a>(alloc: Global) -> Command<'a>
+    ensures { app_of result ≡ bare_sweep }
+{
     Command::new(alloc, "sweep")
         .no_binary_name(true)
         .disable_help_flag(true)
         .disable_help_subcommand(true)
-        .subcommand(rows)?
-        .subcommand(picture)?
-        .subcommand(script)
+}
+
+/// The line with the subcommand `script`.
+fn with_script<'a>(alloc: Global, line: Command<'a>) -> Result<Command<'a>, AllocError>
+    ensures { IfOk result (λ longer. app_of longer ≡ with_subcommand (app_of line.entry) (with_rule (new_app (codes "script")) point_rule).top) }
+{
+    let script = Command::new(alloc, "script").arg(point(alloc))?;
+    line.subcommand(script)
+}
+
+/// The words of a point, which have to be there.
+fn point<'a>(alloc: Global) -> Arg<'a>
+    ensures { (rule_of result ≡ point_rule) × (result.global ≡ false) }
+{
+    Arg::new(alloc, POINT).required(true).num_args(2..=5)
 }
