@@ -12,6 +12,7 @@ use Rattle.dr_model.specs.Runs.{after_plan}
 use Rattle.dr_steps.specs.Faults.{CountsStop}
 use Rattle.dr_steps.specs.Here.{said_of, answered_by, widened, refused, answer_widened, OnSaid, OnAnswer, OnNoMemory, StepLeads}
 use Rattle.dr_steps.specs.Wants.{WantsRow}
+use Rattle.dr_steps.proofs.DeliverLemmas.{answer-refused}
 
 -- what a step owes, but for what its tables and its journal come to
 pub record Widened (w u : World) (s s' : PlantState) (line : ℕ) (asked : Step) (result : Result Said Fault) : Type 0 where
@@ -66,10 +67,6 @@ pub record Answered (w u : World) (s s' : PlantState) (asked : Step) (result : R
   pub same : OnNoMemory result (u ≡ w)
   pub same_plant : OnNoMemory result (s' ≡ s)
 
-answer-so : (r : Result Addition Refusal) (P : Said → Type 0) → P (said_of r) → OnAnswer (refused r) P
-answer-so (Ok added) P holds = holds
-answer-so (Err e) P holds = holds
-
 never-refused : (r : Result Addition Refusal) (P : Type 0) → OnNoMemory (refused r) P
 never-refused (Ok added) P = tt
 never-refused (Err e) P = tt
@@ -77,8 +74,8 @@ never-refused (Err e) P = tt
 pub refuses : (w u : World) (s s' : PlantState) (asked given : Step) (r : Result Addition Refusal) (result : Result Addition Fault) → result ≡ refused r → asked ≡ given
     → ((line : ℕ) → StepLeads w line given u (said_of r)) → CountsStop (said_of r) s s' → Answered w u s s' asked result
 refuses w u s s' asked given r result is same leads counts = record {
-  step = subst (λ (x : Result Addition Fault). OnAnswer x (λ a. (line : ℕ) → StepLeads w line asked u a)) (sym is) (answer-so r (λ a. (line : ℕ) → StepLeads w line asked u a) (λ line. ap (λ x. after_plan w line (plan_of w.control w.events line x)) same ∙ leads line));
-  faults = subst (λ (x : Result Addition Fault). OnAnswer x (λ a. CountsStop a s s')) (sym is) (answer-so r (λ a. CountsStop a s s') counts);
+  step = subst (λ (x : Result Addition Fault). OnAnswer x (λ a. (line : ℕ) → StepLeads w line asked u a)) (sym is) (answer-refused r (λ a. (line : ℕ) → StepLeads w line asked u a) (λ line. ap (λ x. after_plan w line (plan_of w.control w.events line x)) same ∙ leads line));
+  faults = subst (λ (x : Result Addition Fault). OnAnswer x (λ a. CountsStop a s s')) (sym is) (answer-refused r (λ a. CountsStop a s s') counts);
   wanted = subst (λ (x : Result Addition Fault). OnNoMemory x (WantsRow w asked)) (sym is) (never-refused r (WantsRow w asked));
   same = subst (λ (x : Result Addition Fault). OnNoMemory x (u ≡ w)) (sym is) (never-refused r (u ≡ w));
   same_plant = subst (λ (x : Result Addition Fault). OnNoMemory x (s' ≡ s)) (sym is) (never-refused r (s' ≡ s));
