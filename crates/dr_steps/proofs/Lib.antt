@@ -60,6 +60,7 @@ pub mod ZeroDevice
 pub mod DefineLemmas
 pub mod WellFormedLemmas
 pub mod StepTaskLemmas
+pub mod WidenLemmas
 pub mod ListingLemmas
 pub mod RelationLemmas
 pub mod FlashLemmas

@@ -1,6 +1,7 @@
 //! The six blocks of a record: how the fields are written to them, and read from them.
 
-ghost use Rattle.std.specs.Prelude.{◌≡◌, ◌<◌};
+ghost use Rattle.std.specs.Prelude.{◌≡◌, ◌<◌, ◌++◌, unwrap_or};
+ghost use Rattle.dr_volume.specs.Codes as coded;
 ghost use Rattle.dr_volume.specs.Record as lies;
 
 use crate::codes::{
@@ -156,21 +157,39 @@ fn codes(f: &Fields) -> [u8; 8]
     ]
 }
 
+/// The volumes that a record names, and the staged track, in two bytes each.
+fn names(f: &Fields) -> [u8; 8]
+    ensures { result ≡ coded.two_bytes f.now.primary_partner.0 ++ coded.two_bytes f.now.secondary_partner.0 ++ coded.two_bytes f.now.source.0 ++ coded.two_bytes (unwrap_or f.now.staged 0) }
+{
+    let mut names = [0; 8];
+    names[..2].copy_from_slice(&two_bytes(f.primary_partner.0));
+    names[2..4].copy_from_slice(&two_bytes(f.secondary_partner.0));
+    names[4..6].copy_from_slice(&two_bytes(f.source.0));
+    names[6..].copy_from_slice(&two_bytes(f.staged.unwrap_or(0)));
+    names
+}
+
+/// The numbers of a record, in four bytes each.
+fn numbers(f: &Fields) -> [u8; 20]
+    ensures { result ≡ coded.four_bytes f.now.attempt ++ coded.four_bytes f.now.seal ++ coded.four_bytes f.now.sequence ++ coded.four_bytes f.now.previous_sequence ++ coded.four_bytes f.now.floor }
+{
+    let mut numbers = [0; 20];
+    numbers[..4].copy_from_slice(&four_bytes(f.attempt));
+    numbers[4..8].copy_from_slice(&four_bytes(f.seal));
+    numbers[8..12].copy_from_slice(&four_bytes(f.sequence));
+    numbers[12..16].copy_from_slice(&four_bytes(f.previous_sequence));
+    numbers[16..].copy_from_slice(&four_bytes(f.floor));
+    numbers
+}
+
 #[tactic(auto, unfolding(crate::specs::Record::head_of))]
 fn head(f: &Fields) -> Block
     ensures { result ≡ lies.head_of f.now }
 {
     let mut head = [0; 64];
     head[..8].copy_from_slice(&codes(f));
-    head[8..10].copy_from_slice(&two_bytes(f.primary_partner.0));
-    head[10..12].copy_from_slice(&two_bytes(f.secondary_partner.0));
-    head[12..14].copy_from_slice(&two_bytes(f.source.0));
-    head[14..16].copy_from_slice(&two_bytes(f.staged.unwrap_or(0)));
-    head[16..20].copy_from_slice(&four_bytes(f.attempt));
-    head[20..24].copy_from_slice(&four_bytes(f.seal));
-    head[24..28].copy_from_slice(&four_bytes(f.sequence));
-    head[28..32].copy_from_slice(&four_bytes(f.previous_sequence));
-    head[32..36].copy_from_slice(&four_bytes(f.floor));
+    head[8..16].copy_from_slice(&names(f));
+    head[16..36].copy_from_slice(&numbers(f));
     head
 }
 

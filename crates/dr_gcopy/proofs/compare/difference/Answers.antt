@@ -1,4 +1,5 @@
-use Rattle.std.proofs.Common.{subst, arith, ◌∙◌, ap, sym}
+use Rattle.std.proofs.Common.{◌≡◌, subst, arith, ◌∙◌, ap, sym, true}
+use Rattle.dr_plant.specs.State.{PlantState}
 use Rattle.dr_volume.specs.Update.{IsAsBefore}
 use Rattle.dr_volume.specs.View.{volume_seen, track_seen}
 use Rattle.dr_model.specs.PairEntries.{first_differing}
@@ -41,3 +42,11 @@ loop-at-preserved g c =
           (c.in_ok-found.ensures.found ∙ ap (λ u. first_from (track_seen u t) a b c.loop-at.at c.min-count.result) c.loop-at.invariant.plant)
           (sym c.is_some.ensures ∙ c.if-is_some.false);
     }
+
+pub group_difference-requires-clause-first_running : goal.group_difference-requires-clause-first_running
+group_difference-requires-clause-first_running g c =
+    subst (λ (s : PlantState). s.on (volume_seen s c.args.config.now c.args.a.0).server ≡ true) (sym c.loop-at.invariant.plant) c.requires.first_running
+
+pub group_difference-requires-clause-second_running : goal.group_difference-requires-clause-second_running
+group_difference-requires-clause-second_running g c =
+    subst (λ (s : PlantState). s.on (volume_seen s c.args.config.now c.args.b.0).server ≡ true) (sym c.loop-at.invariant.plant) c.requires.second_running

@@ -1,4 +1,4 @@
-use Rattle.std.proofs.Common.{◌≡◌, ◌+◌, [], take, drop, arith, inl, inr, refl, ap, sym, subst, ◌∙◌, None, Some}
+use Rattle.std.proofs.Common.{◌≡◌, ◌<◌, ◌+◌, [], take, drop, arith, inl, inr, refl, ap, sym, subst, ◌∙◌, None, Some}
 use Rattle.std.proofs.Math.Numerals.{suc-eq-add-one}
 use Rattle.dr_model.specs.Layout.{Fields, is_part}
 use Rattle.dr_model.specs.PairEntries.{send_entries, sends, suspend_after, tracks_to_send}
@@ -12,6 +12,8 @@ use Rattle.dr_moves.proofs.TurnLemmas.{refused-by}
 use Rattle.dr_moves.specs.Followed.{FailsFollowed}
 use Rattle.dr_moves.proofs.FollowLemmas.{failed-wider}
 use Rattle.dr_gcopy.proofs.DrainLemmas.{Within, sent-next, sent-failed, all-sent, end-sent, count-sent, next-sent, within-next, in_order-next, first-some, first-none, take-next, drop-next, more-next}
+use Rattle.dr_gcopy.proofs.SendLemmas.{same-tracks}
+use Rattle.dr_gcopy.proofs.TwoMoves.{server-stays, still-running}
 use Rattle.dr_gcopy.proofs.draining.drain_to.Goals as goal
 use Rattle.dr_logic.proofs.Results.{err-always}
 
@@ -88,3 +90,22 @@ loop-sent-preserved g c =
       primary = ap (λ (f : Fields). is_part f.primary) c.in_ok-send_to.ensures.struck ∙ c.loop-sent.invariant.primary;
       spare = c.in_ok-send_to.ensures.spare ∙ c.loop-sent.invariant.spare;
     }
+
+pub send_to-requires-clause-running : goal.send_to-requires-clause-running
+send_to-requires-clause-running g c =
+    still-running (g.P.Plant.state c.args.plant.now) (g.P.Plant.state c.loop-sent.plant) c.args.config.now c.args.a.0 c.requires.from c.loop-sent.invariant.on c.requires.running
+
+pub send_to-requires-clause-two_servers : goal.send_to-requires-clause-two_servers
+send_to-requires-clause-two_servers g c =
+    let s = g.P.Plant.state c.args.plant.now in let u = g.P.Plant.state c.loop-sent.plant in let t = c.args.config.now in
+    λ same. c.requires.two_servers (sym (server-stays s u t c.args.a.0 c.requires.from) ∙ same ∙ server-stays s u t c.args.b.0 c.requires.to)
+
+pub send_to-requires-clause-within : goal.send_to-requires-clause-within
+send_to-requires-clause-within g c =
+    let s = g.P.Plant.state c.args.plant.now in let u = g.P.Plant.state c.loop-sent.plant in let t = c.args.config.now in
+    subst (λ n. c.in-Some.t < n) (sym c.requires.tracks ∙ same-tracks s u t c.args.a.0) c.in-Some.ensures.within
+
+pub send_to-requires-clause-size : goal.send_to-requires-clause-size
+send_to-requires-clause-size g c =
+    let s = g.P.Plant.state c.args.plant.now in let u = g.P.Plant.state c.loop-sent.plant in let t = c.args.config.now in
+    same-tracks u s t c.args.b.0 ∙ c.requires.size ∙ same-tracks s u t c.args.a.0

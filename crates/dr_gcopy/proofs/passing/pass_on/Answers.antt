@@ -12,6 +12,9 @@ use Rattle.dr_moves.specs.Turns.{Leads, Fails}
 use Rattle.dr_facts.proofs.Ends.{ends-off}
 use Rattle.dr_moves.proofs.FitLemmas.{fit-same}
 use Rattle.dr_moves.proofs.TurnLemmas.{refused-by}
+use Rattle.dr_model.specs.Pairs.{is_last}
+use Rattle.dr_volume.proofs.SaysLaws.{shows-says}
+use Rattle.dr_gcopy.specs.Ran.{CanPass}
 use Rattle.dr_gcopy.specs.Sending.{pass_entries}
 use Rattle.dr_gcopy.proofs.RanLemmas.{counted-failed}
 use Rattle.dr_gcopy.proofs.passing.pass_on.Goals as goal
@@ -49,3 +52,28 @@ pub returns-clause-faults : goal.returns-clause-faults
 returns-clause-faults g c =
     subst (λ (x : PlantState). Counted (is_err c.hand_over.result) x.faults (g.P.Plant.state c.hand_over.new.plant).faults) c.in_ok-read_told.ensures.passed
     (counted-failed c.hand_over.result _ _ c.hand_over.ensures.stops c.hand_over.ensures.ran.stays.faults)
+
+pub hand_over-requires-clause-at : goal.hand_over-requires-clause-at
+hand_over-requires-clause-at g c = record {
+  rest = c.in_ok-read_told.ensures.rest;
+  fit = fit-same (g.P.Plant.state c.args.plant.now) (g.P.Plant.state c.read_told.new.plant) c.args.config.now c.in_ok-read_told.ensures.same c.requires.fit;
+}
+
+pub hand_over-requires-clause-can : goal.hand_over-requires-clause-can
+hand_over-requires-clause-can g c =
+    let s = g.P.Plant.state c.args.plant.now in let t = c.args.config.now in let a = c.args.a.0 in
+    subst (λ (x : PlantState). CanPass x t a c.args.b.0 c.args.t c.peek_fields-fields.result c.read_told.new.into c.is_last-last.result) (sym c.in_ok-read_told.ensures.passed)
+    (record {
+      from = c.requires.from;
+      to = c.requires.to;
+      running = c.requires.running;
+      reached = c.requires.reached;
+      primary = c.requires.primary;
+      secondary = c.requires.secondary;
+      two_servers = c.requires.two_servers;
+      within = c.requires.within;
+      size = c.requires.size;
+      says = shows-says s t a c.peek_fields-fields.result c.peek_fields-fields.ensures;
+      bytes = c.in_ok-read_told.ensures.bytes;
+      last = c.is_last-last.ensures ∙ ap (λ f. is_last f c.args.t) c.peek_fields-fields.ensures.fields;
+    })
