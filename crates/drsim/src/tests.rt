@@ -1,10 +1,9 @@
 //! What no clause and no scenario says: sources and sinks that fail or give an input in pieces, other words, calls of the standard streams,
-//! how many blocks a line reads, and kernels on lengths that no set of tracks has.
+//! and kernels on lengths that no set of tracks has.
 
 ghost use Rattle.std.specs.Prelude.{◌<◌};
 ghost use Rattle.dr_plant.specs.State.{IsFresh};
 
-mod blocks;
 mod lanes;
 
 use dr_io::{MemSink, MemSource, Sink, Source, StdSink, StdSource};
