@@ -14,7 +14,7 @@ use Rattle.dr_plan.specs.Points.{text_of, with_end}
 use Rattle.dr_plan.specs.Reading.{taken_apart}
 use Rattle.dr_plan.specs.Sweep.{Sweep, is_unbroken}
 use Rattle.dr_plan.proofs.ApartLemmas.{stand-apart}
-use Rattle.dr_plan.proofs.LineLemmas.{before-parts}
+use Rattle.dr_io.proofs.LineLemmas.{before-parts}
 use Rattle.dr_plan.proofs.PrintLemmas.{unbroken-append}
 
 -- the front of a line

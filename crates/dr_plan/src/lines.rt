@@ -1,44 +1,12 @@
-//! The lines of a text, and the lines of one step that stand for a line.
+//! The lines of a part of a plan, and the lines of one step that stand for a line.
 
-ghost use Rattle.std.specs.Prelude.{◌≡◌, ◌<◌, ◌∷◌, ◌++◌, [], ◌==◌, ◌+◌, length, map, All, OnOk, IfSome, Some, None, Ok};
-ghost use Rattle.std.specs.List.{position};
-ghost use Rattle.std.specs.Str.Lines.{lines, strip_carriage_return};
+ghost use Rattle.std.specs.Prelude.{◌≡◌, ◌∷◌, ◌++◌, [], map, All, OnOk, Ok};
 ghost use Rattle.dr_model.specs.LineText.{step_text, IsWritten};
 ghost use Rattle.dr_plan.specs.Reading.{taken_apart};
 
 use dr_ids::{Fault, Text};
 use dr_script::{Line, print_step, read_line};
 use std::alloc::{AllocError, Global};
-
-/// Where the first line ends.
-fn line_end(text: &[u8]) -> Option<usize>
-    ensures value { result ≡ position (λ b. b == 10) text.now }
-    ensures within { IfSome result (λ end. end < length text.now) }
-{
-    text.iter().position(|b| *b == b'\n')
-}
-
-/// The line without the carriage return at its end, if it has one.
-fn without_return(line: &[u8]) -> &[u8]
-    ensures { result.now ≡ strip_carriage_return line.now }
-{
-    match line {
-        [front @ .., b'\r'] => front,
-        _ => line,
-    }
-}
-
-/// The first line of a text, and what stands behind it.
-pub(crate) fn split_line(text: &[u8]) -> (&[u8], &[u8])
-    requires { 0 < length text.now }
-    ensures lines { lines text.now ≡ result.0.now ∷ lines result.1.now }
-    ensures shorter { length result.1.now < length text.now }
-{
-    match line_end(text) {
-        Some(end) => (without_return(&text[..end]), &text[end + 1..]),
-        None => (text, &text[text.len()..]),
-    }
-}
 
 /// Adds a line.
 pub(crate) fn push_line(alloc: Global, all: &mut Vec<Text>, line: &[u8]) -> Result<(), AllocError>

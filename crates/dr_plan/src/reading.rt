@@ -8,10 +8,11 @@ ghost use Rattle.dr_plan.specs.Parts.{IsPlan, IsSweep};
 ghost use Rattle.dr_plan.specs.Reading.{begun, kept, noted, marked, read_on, finished, sweep_of};
 
 use crate::fault::PlanFault;
-use crate::lines::{push_apart, push_line, split_line};
+use crate::lines::{push_apart, push_line};
 use crate::marks::{Mark, is_mark, read_mark};
 use crate::plan::{Draft, SweepPlan};
 use crate::stages::{Stage, stage_after};
+use dr_io::split_line;
 use std::alloc::{AllocError, Global};
 
 /// The most disasters of a plan.

@@ -26,12 +26,13 @@ pub mod LineLemmas
 pub mod TaskLemmas
 pub mod ReachLemmas
 pub mod LeadLemmas
+pub mod TextLemmas
+pub mod OpenLemmas
 pub mod RunLemmas
 pub mod TakenLemmas
 pub mod EndLemmas
 pub mod RefusalLemmas
 pub mod TopLemmas
 pub mod SummaryLemmas
-pub mod TriedLemmas
 pub mod WantLemmas
 pub mod TrialLemmas

@@ -2,8 +2,8 @@ use Rattle.std.proofs.Common.{◌≡◌, ◌+◌, length, drop, [], arith, ap, �
 use Rattle.std.proofs.lemmas.Grind.{common_steps}
 use Rattle.std.specs.Str.Lines.{lines}
 use Rattle.dr_logic.proofs.Lists.{to_the_end}
-use Rattle.dr_plan.proofs.LineLemmas.{line-ended, line-unended}
-use Rattle.dr_plan.proofs.lines.split_line.Goals as goal
+use Rattle.dr_io.proofs.LineLemmas.{line-ended, line-unended}
+use Rattle.dr_io.proofs.text_lines.split_line.Goals as goal
 
 pub returns-in-Some-clause-lines : goal.returns-in-Some-clause-lines
 returns-in-Some-clause-lines c =
