@@ -1,13 +1,18 @@
 -- A run that goes on, one text after another.
-use Rattle.std.proofs.Common.{ℕ, ◌≡◌, ◌≤◌, ◌<◌, ◌+◌, ◌⊎◌, Bool, true, false, ◌&&◌, ◌||◌, List, [], ◌++◌, take, drop, map, length, nat_eq, refl, ap, ◌∙◌, sym, subst, inl, inr, Some, Result, Ok, Err, arith}
+use Rattle.std.proofs.Common.{ℕ, suc, ◌≡◌, ◌≤◌, ◌<◌, ◌+◌, ◌⊎◌, Bool, true, false, ◌&&◌, ◌||◌, List, [], ◌++◌, take, drop, map, length, nat_eq, nat_lt, refl, ap, ◌∙◌, sym, subst, inl, inr, Some, Result, Ok, Err, arith}
 use Rattle.std.specs.Prelude.{slice_get, is_some}
+use Rattle.std.proofs.lemmas.Bool.Decides.{nat_tests, leb_tells}
 use Rattle.std.proofs.lemmas.List.{append-nil}
 use Rattle.std.proofs.Math.Seq.{take-length, drop-append_seam}
 use Rattle.std.specs.Str.Lines.{lines}
 use Rattle.dr_logic.specs.Counts.{Counted}
-use Rattle.dr_plant.specs.State.{PlantState}
+use Rattle.dr_plant.specs.State.{PlantState, IsFresh}
 use Rattle.dr_ids.specs.declared.names.Member.{Member}
-use Rattle.dr_config.specs.Table.{IsSoundConfig, place_of}
+use Rattle.dr_config.specs.Table.{ConfigTable, IsSoundConfig, place_of}
+use Rattle.dr_config.proofs.Sound.{sound-empty}
+use Rattle.dr_ctl.specs.Kept.{flight_in}
+use Rattle.dr_host.specs.Writes.{Writes}
+use Rattle.dr_model.specs.Messages.{no_flight}
 use Rattle.dr_model.specs.declared.event.Event.{Event}
 use Rattle.dr_model.specs.Control.{World, nothing}
 use Rattle.dr_model.specs.Limits.{most_events}
@@ -16,13 +21,15 @@ use Rattle.dr_model.specs.Listed.{as_asked}
 use Rattle.dr_model.specs.Runs.{Task}
 use Rattle.dr_model.specs.SessionEntries.{counts_at}
 use Rattle.dr_model.specs.Sessions.{session_in, members_in}
+use Rattle.dr_io.specs.Lines.{most_bytes, most_lines}
 use Rattle.dr_io.specs.Pieces.{IsPast}
 use Rattle.dr_volume.specs.Head.{head_of}
 use Rattle.dr_volume.specs.View.{volume_seen}
 use Rattle.dr_volume.specs.declared.head.Head.{Head}
 use Rattle.dr_steps.proofs.ExchangeLemmas.{members-ready}
 use Rattle.dr_steps.specs.Faults.{told_stop}
-use Rattle.dr_steps.specs.Here.{IsReady}
+use Rattle.dr_steps.specs.Here.{IsReady, IsTold}
+use Rattle.dr_steps.specs.declared.tables.Tables.{Tables}
 use Rattle.dr_top.specs.Carried.{Reached, StepsLead, GoesThrough}
 use Rattle.dr_top.specs.Offline.{script_limits}
 use Rattle.dr_top.specs.OpenRuns.{RunProgress, shown, HasRun, IsOfRun, FirstOf, BeforeFull, BeforeWant, steps_on, PassesLimits, IsCounted, EndsText, GoesOn}
@@ -33,14 +40,27 @@ use Rattle.dr_top.specs.declared.carry.Bar.{Bar}
 use Rattle.dr_top.specs.declared.carry.Bar.TheVariants.{Full as BarFull, NoMemory as BarNoMemory}
 use Rattle.dr_top.specs.declared.status.Status.{Status}
 use Rattle.dr_top.specs.declared.status.Status.TheVariants.{Done, DoneRefused, Usage, ReadFault, WriteFault, NoMemory, TooLong, BadImage, Contradiction, NoMembers}
-use Rattle.dr_top.proofs.LeadLemmas.{led-then}
+use Rattle.dr_top.proofs.LeadLemmas.{led-then, none-last}
 use Rattle.dr_top.proofs.ReachLemmas.{reached-sound}
 use Rattle.dr_top.proofs.RunLemmas.{grown, longer}
-use Rattle.dr_top.proofs.TopLemmas.{stands-here}
+use Rattle.dr_top.proofs.TaskLemmas.{tasks-none}
+use Rattle.dr_top.proofs.TopLemmas.{stands-here, empty_table, idle, begins, ready-fresh}
 
 -- the world of a run was reached
 pub run-reached : (s : PlantState) (r : RunProgress) (events : List Event) → IsOfRun s r events → Reached (shown s r events)
-run-reached s r events is = (is.1.0, is.1.1.stands.leads)
+run-reached s r events is = (is.steps, is.has.stands.leads)
+
+-- a run that carried out nothing yet
+pub fresh-run : (s : PlantState) (fresh : IsFresh s) (t : ConfigTable) (h : Tables) → t ≡ empty_table s fresh → h.host ≡ (idle s fresh).host → h.sessions ≡ (idle s fresh).sessions → flight_in h.flight ≡ no_flight
+    → HasRun s s (record { config = t; tables = h; lines = 0; bytes = 0 }) [] []
+fresh-run s fresh t h empty host sessions flight =
+    subst (λ (x : ConfigTable). HasRun s s (record { config = x; tables = h; lines = 0; bytes = 0 }) [] []) (sym empty) (record {
+      stands = stands-here s s (empty_table s fresh) h [] sound-empty ready (omega arith) refl [] (tasks-none nothing ∙ sym (begins s fresh h host sessions flight)) tt (λ before t is. absurd (none-last before t is));
+      ready = ready;
+    })
+  where
+    ready : IsReady s (empty_table s fresh) h []
+    ready = record { rest = (ready-fresh s fresh).rest; reads = fresh.no_read_fuse; told = subst (λ (x : Writes). IsTold (record h { host = x }) []) (sym host) tt }
 
 module _ (text : List ℕ) (r r' : RunProgress) (s0 s s' : PlantState) (events events' : List Event) (steps : List Task) (h : HasRun s0 s r events steps) where
   abbrev asked : List Task
@@ -115,6 +135,21 @@ module _ (text : List ℕ) (r r' : RunProgress) (s0 s s' : PlantState) (events e
     pub goes-wanting : GoesThrough (shown s r events) s.block (r.lines + 1) (lines text) (shown s' r' events') s'.block (Err BarNoMemory) → GoesOn text r r' s0 s s' events events' steps NoMemory
     goes-wanting goes = goes-by (Err BarNoMemory) goes sound ready room faults NoMemory (counted, record { first = first-of (Err BarNoMemory) goes; place = goes.ends })
 
+-- ---- the limits
+
+either-past : (a b m n : ℕ) → (nat_lt m a || nat_lt n b) ≡ true → (m < a) ⊎ (n < b)
+either-past a b m n past = elim (leb_tells (suc m) a) [ | inl at ↦ inl at.1 | inr at ↦ inr (let lt : n < b = grind (arith, nat_tests, past, at) in lt) ]
+
+pub is-past : (text : List ℕ) (r : RunProgress) (bytes lines_more : ℕ) → bytes ≡ length text → lines_more ≡ length (lines text) → (nat_lt most_bytes (r.bytes + bytes) || nat_lt most_lines (r.lines + lines_more)) ≡ true → PassesLimits text r
+is-past text r bytes more is are past =
+    either-past (r.bytes + length text) (r.lines + length (lines text)) most_bytes most_lines (ap (λ n. nat_lt most_bytes (r.bytes + n) || nat_lt most_lines (r.lines + length (lines text))) (sym is) ∙ ap (λ n. nat_lt most_bytes (r.bytes + bytes) || nat_lt most_lines (r.lines + n)) (sym are) ∙ past)
+
+neither-past : (a b m n : ℕ) → (nat_lt m a || nat_lt n b) ≡ false → (a ≤ m) × (b ≤ n)
+neither-past a b m n none = (grind (arith, nat_tests, none), grind (arith, nat_tests, none))
+
+pub is-within : (r : RunProgress) (bytes more : ℕ) → (nat_lt most_bytes (r.bytes + bytes) || nat_lt most_lines (r.lines + more)) ≡ false → (r.bytes + bytes ≤ most_bytes) × (r.lines + more ≤ most_lines)
+is-within r bytes more none = neither-past (r.bytes + bytes) (r.lines + more) most_bytes most_lines none
+
 -- ---- a run of one text
 
 module _ (text : List ℕ) (r r' : RunProgress) (lines_none : r.lines ≡ 0) (bytes_none : r.bytes ≡ 0) (s s' : PlantState) (events' : List Event) where
@@ -133,8 +168,8 @@ module _ (text : List ℕ) (r r' : RunProgress) (lines_none : r.lines ≡ 0) (by
     full-here w full = subst (λ asked. BeforeFull asked more w) same-steps full
 
     tried-by : (status : Status) → EndsText text r r' s s' more told status (shown s' r' events') → TriedBy text status more (shown s' r' events')
-    tried-by Done ends = (ends.1.0 ∙ same-steps, ap has_refusal same ∙ ends.1.1)
-    tried-by DoneRefused ends = (ends.1.0 ∙ same-steps, ap has_refusal same ∙ ends.1.1)
+    tried-by Done ends = (ends.1 ∙ same-steps, ap has_refusal same ∙ ends.2)
+    tried-by DoneRefused ends = (ends.1 ∙ same-steps, ap has_refusal same ∙ ends.2)
     tried-by NoMemory ends = first-here ends.1.first
     tried-by TooLong (inl ends) = inl (full-here (shown s' r' events') ends.1)
     tried-by TooLong (inr ends) = inr (record { first = record { done = 0; within = omega arith; same = ap (map as_asked) ends.1.no_step }; past = past-here ends.0 })

@@ -22,8 +22,8 @@ no-parts (x ∷ xs) ys none = cc
 
 -- an element of the second of two lists, and of the first
 at-later : {X : Type 0} (xs ys : List X) (i : ℕ) → slice_get (xs ++ ys) (length xs + i) ≡ slice_get ys i
-at-later [] ys i = ap (slice_get ys) (omega arith)
-at-later (x ∷ xs) ys i = ap (slice_get (x ∷ (xs ++ ys))) (omega arith) ∙ at-later xs ys i
+at-later [] ys i = let e : 0 + i ≡ i = omega arith in ap (slice_get ys) e
+at-later (x ∷ xs) ys i = let e : suc (length xs) + i ≡ suc (length xs + i) = omega arith in ap (slice_get (x ∷ (xs ++ ys))) e ∙ at-later xs ys i
 
 at-first : {X : Type 0} (xs ys : List X) (i : ℕ) (x : X) → slice_get xs i ≡ Some x → slice_get (xs ++ ys) i ≡ Some x
 at-first [] ys i x at = absurd cc

@@ -36,13 +36,16 @@ pub record HasRun (s0 s : PlantState) (r : RunProgress) (events : List Event) (s
   pub stands : Stands steps (shown s r events) events s0 s
   pub ready : IsReady s r.config r.tables events
 
--- plant and journal are those of a run, whichever steps it carried out
-abbrev pub IsOfRun : PlantState → RunProgress → List Event → Type 0
-IsOfRun s r events = (s0 : PlantState) × (steps : List Task) × HasRun s0 s r events steps
+-- Plant and journal are those of a run, whichever steps it carried out.
+pub record IsOfRun (s : PlantState) (r : RunProgress) (events : List Event) : Type 0 where
+  pub began : PlantState
+  pub steps : List Task
+  pub has : HasRun began s r events steps
 
--- so is a plant, with some journal
-abbrev pub IsPlantOf : RunProgress → PlantState → Type 0
-IsPlantOf r s = (events : List Event) × IsOfRun s r events
+-- A plant is that of a run, whatever its journal tells.
+pub record IsPlantOf (r : RunProgress) (s : PlantState) : Type 0 where
+  pub events : List Event
+  pub is : IsOfRun s r events
 
 -- ---- which of the steps that are asked for were carried out
 
@@ -81,9 +84,9 @@ module _ (text : List ℕ) (r : RunProgress) where
   module _ (r' : RunProgress) where
     -- with it they are within these limits, and it is counted
     pub record IsCounted : Type 0 where
-      pub lines : r'.lines ≡ r.lines + length (lines text)
+      pub more_lines : r'.lines ≡ r.lines + length (lines text)
       pub few : r'.lines ≤ most_lines
-      pub bytes : r'.bytes ≡ r.bytes + length text
+      pub more_bytes : r'.bytes ≡ r.bytes + length text
       pub short : r'.bytes ≤ most_bytes
 
     module _ (s s' : PlantState) (more : List Task) (told : List Event) where

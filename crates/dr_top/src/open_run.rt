@@ -1,6 +1,6 @@
 //! A run that goes on: one text after another is carried out, and nobody hears the answers.
 
-ghost use Rattle.std.specs.Prelude.{◌≡◌, ◌↔◌, ◌+◌, ◌<◌, ◌⊎◌, ◌&&◌, ◌||◌, [], List, length, nat_eq, slice_get, IsTrue, option_map};
+ghost use Rattle.std.specs.Prelude.{◌≡◌, ◌+◌, ◌&&◌, ◌||◌, [], List, length, nat_eq, nat_lt, slice_get, option_map};
 ghost use Rattle.dr_io.specs.Lines.{most_bytes, most_lines};
 ghost use Rattle.dr_plant.specs.State.{PlantState, IsFresh};
 ghost use Rattle.dr_config.specs.Table.{IsSoundConfig};
@@ -99,12 +99,12 @@ impl OpenRun {
         }
     }
 
-    /// Whether a text of so many bytes and lines more is past a script's limits.
+    /// Whether with a text of so many bytes and lines more all texts are past a script's limits.
     fn is_past(&self, bytes: usize, lines: usize) -> bool
-        ensures { IsTrue result ↔ (most_bytes < self.now.bytes + bytes) ⊎ (most_lines < self.now.lines + lines) }
+        ensures { result ≡ (nat_lt most_bytes (self.now.bytes + bytes) || nat_lt most_lines (self.now.lines + lines)) }
     {
-        bytes > (SCRIPT_LIMITS.bytes - self.bytes) as usize
-            || lines > (SCRIPT_LIMITS.lines - self.lines) as usize
+        self.bytes as u128 + bytes as u128 > SCRIPT_LIMITS.bytes as u128
+            || self.lines as u128 + lines as u128 > SCRIPT_LIMITS.lines as u128
     }
 
     /// The session that was defined after `i` others of today's, if there are so many.
