@@ -85,10 +85,10 @@ module _ (text : List ℕ) (r r' : RunProgress) (s0 s s' : PlantState) (events e
     abbrev more : List Task
     more = goes.led.steps
 
-    first-of : FirstOf asked more
+    abbrev pub first-of : FirstOf asked more
     first-of = record { done = goes.done; within = goes.within; same = goes.led.same }
 
-    told-on : (es : List Event) × (events' ≡ events ++ es)
+    pub told-on : (es : List Event) × (events' ≡ events ++ es)
     told-on = grown (shown s r events) (shown s' r' events') more goes.led.leads
 
     -- what was told, from the end of the journal before on
@@ -140,15 +140,15 @@ module _ (text : List ℕ) (r r' : RunProgress) (s0 s s' : PlantState) (events e
 either-past : (a b m n : ℕ) → (nat_lt m a || nat_lt n b) ≡ true → (m < a) ⊎ (n < b)
 either-past a b m n past = elim (leb_tells (suc m) a) [ | inl at ↦ inl at.1 | inr at ↦ inr (let lt : n < b = grind (arith, nat_tests, past, at) in lt) ]
 
-pub is-past : (text : List ℕ) (r : RunProgress) (bytes lines_more : ℕ) → bytes ≡ length text → lines_more ≡ length (lines text) → (nat_lt most_bytes (r.bytes + bytes) || nat_lt most_lines (r.lines + lines_more)) ≡ true → PassesLimits text r
-is-past text r bytes more is are past =
+pub is-past : (text : List ℕ) (r : RunProgress) (bytes count : ℕ) → bytes ≡ length text → count ≡ length (lines text) → (nat_lt most_bytes (r.bytes + bytes) || nat_lt most_lines (r.lines + count)) ≡ true → PassesLimits text r
+is-past text r bytes count is are past =
     either-past (r.bytes + length text) (r.lines + length (lines text)) most_bytes most_lines (ap (λ n. nat_lt most_bytes (r.bytes + n) || nat_lt most_lines (r.lines + length (lines text))) (sym is) ∙ ap (λ n. nat_lt most_bytes (r.bytes + bytes) || nat_lt most_lines (r.lines + n)) (sym are) ∙ past)
 
 neither-past : (a b m n : ℕ) → (nat_lt m a || nat_lt n b) ≡ false → (a ≤ m) × (b ≤ n)
 neither-past a b m n none = (grind (arith, nat_tests, none), grind (arith, nat_tests, none))
 
-pub is-within : (r : RunProgress) (bytes more : ℕ) → (nat_lt most_bytes (r.bytes + bytes) || nat_lt most_lines (r.lines + more)) ≡ false → (r.bytes + bytes ≤ most_bytes) × (r.lines + more ≤ most_lines)
-is-within r bytes more none = neither-past (r.bytes + bytes) (r.lines + more) most_bytes most_lines none
+pub is-within : (r : RunProgress) (bytes count : ℕ) → (nat_lt most_bytes (r.bytes + bytes) || nat_lt most_lines (r.lines + count)) ≡ false → (r.bytes + bytes ≤ most_bytes) × (r.lines + count ≤ most_lines)
+is-within r bytes count none = neither-past (r.bytes + bytes) (r.lines + count) most_bytes most_lines none
 
 -- ---- a run of one text
 
