@@ -1,5 +1,5 @@
 -- A run that goes on, one text after another.
-use Rattle.std.proofs.Common.{ℕ, suc, ◌≡◌, ◌≤◌, ◌<◌, ◌+◌, ◌⊎◌, Bool, true, false, ◌&&◌, ◌||◌, List, [], ◌++◌, take, drop, map, length, nat_eq, nat_lt, refl, ap, ◌∙◌, sym, subst, inl, inr, Some, Result, Ok, Err, arith}
+use Rattle.std.proofs.Common.{ℕ, suc, ◌≡◌, ◌≤◌, ◌<◌, ◌+◌, ◌⊎◌, Bool, true, false, ◌||◌, List, [], ◌++◌, take, drop, map, length, nat_lt, refl, ap, ◌∙◌, sym, subst, inl, inr, Some, Result, Ok, Err, arith}
 use Rattle.std.specs.Prelude.{slice_get, is_some}
 use Rattle.std.proofs.lemmas.Bool.Decides.{nat_tests, leb_tells}
 use Rattle.std.proofs.lemmas.List.{append-nil}
@@ -19,13 +19,9 @@ use Rattle.dr_model.specs.Limits.{most_events}
 use Rattle.dr_model.specs.Lines.{tasks, tasks_from}
 use Rattle.dr_model.specs.Listed.{as_asked}
 use Rattle.dr_model.specs.Runs.{Task}
-use Rattle.dr_model.specs.SessionEntries.{counts_at}
 use Rattle.dr_model.specs.Sessions.{session_in, members_in}
 use Rattle.dr_io.specs.Lines.{most_bytes, most_lines}
 use Rattle.dr_io.specs.Pieces.{IsPast}
-use Rattle.dr_volume.specs.Head.{head_of}
-use Rattle.dr_volume.specs.View.{volume_seen}
-use Rattle.dr_volume.specs.declared.head.Head.{Head}
 use Rattle.dr_steps.proofs.ExchangeLemmas.{members-ready}
 use Rattle.dr_steps.specs.Faults.{told_stop}
 use Rattle.dr_steps.specs.Here.{IsReady, IsTold}
@@ -34,7 +30,7 @@ use Rattle.dr_top.specs.Carried.{Reached, StepsLead, GoesThrough}
 use Rattle.dr_top.specs.Offline.{script_limits}
 use Rattle.dr_top.specs.OpenRuns.{RunProgress, shown, HasRun, IsOfRun, FirstOf, BeforeFull, BeforeWant, steps_on, PassesLimits, IsCounted, EndsText, GoesOn}
 use Rattle.dr_top.specs.Outcome.{has_refusal}
-use Rattle.dr_top.specs.Statuses.{whole_status}
+use Rattle.dr_top.specs.Statuses.{whole_status, text_status}
 use Rattle.dr_top.specs.Tried.{TriedBy, IsTried}
 use Rattle.dr_top.specs.declared.carry.Bar.{Bar}
 use Rattle.dr_top.specs.declared.carry.Bar.TheVariants.{Full as BarFull, NoMemory as BarNoMemory}
@@ -120,7 +116,7 @@ module _ (text : List ℕ) (r r' : RunProgress) (s0 s s' : PlantState) (events e
     all-by goes false is = (counted, goes.led.same ∙ ap (λ n. take n asked) goes.ends ∙ take-length asked, is)
 
     -- all of them
-    pub goes-all : (goes : GoesThrough (shown s r events) s.block (r.lines + 1) (lines text) (shown s' r' events') s'.block (Ok tt)) (from : ℕ) → from ≡ length events → (status : Status)
+    goes-all : (goes : GoesThrough (shown s r events) s.block (r.lines + 1) (lines text) (shown s' r' events') s'.block (Ok tt)) (from : ℕ) → from ≡ length events → (status : Status)
         → status ≡ whole_status (has_refusal (drop from events')) → GoesOn text r r' s0 s s' events events' steps status
     goes-all goes from at status is =
         let refused = has_refusal (told-on (Ok tt) goes).0 in
@@ -128,12 +124,19 @@ module _ (text : List ℕ) (r r' : RunProgress) (s0 s s' : PlantState) (events e
         (goes-by (Ok tt) goes sound ready room faults (whole_status refused) (all-by goes refused refl))
 
     -- those before one that found the journal full
-    pub goes-full : GoesThrough (shown s r events) s.block (r.lines + 1) (lines text) (shown s' r' events') s'.block (Err BarFull) → GoesOn text r r' s0 s s' events events' steps TooLong
+    goes-full : GoesThrough (shown s r events) s.block (r.lines + 1) (lines text) (shown s' r' events') s'.block (Err BarFull) → GoesOn text r r' s0 s s' events events' steps TooLong
     goes-full goes = goes-by (Err BarFull) goes sound ready room faults TooLong (inl (counted, record { first = first-of (Err BarFull) goes; full = goes.ends }))
 
     -- those before the place where memory was wanting
-    pub goes-wanting : GoesThrough (shown s r events) s.block (r.lines + 1) (lines text) (shown s' r' events') s'.block (Err BarNoMemory) → GoesOn text r r' s0 s s' events events' steps NoMemory
+    goes-wanting : GoesThrough (shown s r events) s.block (r.lines + 1) (lines text) (shown s' r' events') s'.block (Err BarNoMemory) → GoesOn text r r' s0 s s' events events' steps NoMemory
     goes-wanting goes = goes-by (Err BarNoMemory) goes sound ready room faults NoMemory (counted, record { first = first-of (Err BarNoMemory) goes; place = goes.ends })
+
+    -- by what the text came to
+    pub goes-text : (result : Result (Unit {0}) Bar) → GoesThrough (shown s r events) s.block (r.lines + 1) (lines text) (shown s' r' events') s'.block result → (from : ℕ) → from ≡ length events → (status : Status)
+        → status ≡ text_status result (has_refusal (drop from events')) → GoesOn text r r' s0 s s' events events' steps status
+    goes-text (Ok x) goes from at status is = goes-all goes from at status is
+    goes-text (Err BarFull) goes from at status is = subst (λ (x : Status). GoesOn text r r' s0 s s' events events' steps x) (sym is) (goes-full goes)
+    goes-text (Err BarNoMemory) goes from at status is = subst (λ (x : Status). GoesOn text r r' s0 s s' events events' steps x) (sym is) (goes-wanting goes)
 
 -- ---- the limits
 
@@ -188,8 +191,3 @@ module _ (text : List ℕ) (r r' : RunProgress) (lines_none : r.lines ≡ 0) (by
 -- the target of a member is defined
 pub target-placed : (s : PlantState) (r : RunProgress) (events : List Event) → Reached (shown s r events) → (n i : ℕ) (m : Member) → slice_get (members_in (session_in r.tables.sessions.sessions n)) i ≡ Some m → is_some (place_of r.config m.c.0) ≡ true
 target-placed s r events reached n i m at = (members-ready s r.config r.tables events (reached-sound (shown s r events) reached) n i m at).target
-
--- whether it counts, by its head
-pub counts-here : (s : PlantState) (r : RunProgress) (events : List Event) (n : ℕ) (m : Member) (head : Head) (counts : Bool) → head ≡ head_of (volume_seen s r.config m.c.0).fields
-    → counts ≡ (nat_eq head.session n && (head.member || head.revertible)) → counts ≡ counts_at n (shown s r events).control m
-counts-here s r events n m head counts peeked is = is ∙ ap (λ (x : Head). nat_eq x.session n && (x.member || x.revertible)) peeked

@@ -1,6 +1,6 @@
 //! A run that goes on: one text after another is carried out, and nobody hears the answers.
 
-ghost use Rattle.std.specs.Prelude.{◌≡◌, ◌+◌, ◌&&◌, ◌||◌, [], List, length, nat_eq, nat_lt, slice_get, option_map};
+ghost use Rattle.std.specs.Prelude.{◌≡◌, ◌≤◌, ◌+◌, ◌&&◌, ◌||◌, [], List, drop, length, nat_eq, nat_lt, slice_get, option_map};
 ghost use Rattle.dr_io.specs.Lines.{most_bytes, most_lines};
 ghost use Rattle.dr_plant.specs.State.{PlantState, IsFresh};
 ghost use Rattle.dr_config.specs.Table.{IsSoundConfig};
@@ -9,6 +9,8 @@ ghost use Rattle.dr_model.specs.Forming.{phase_in};
 ghost use Rattle.dr_model.specs.Runs.{Task};
 ghost use Rattle.dr_model.specs.SessionEntries.{counts_at};
 ghost use Rattle.dr_model.specs.Sessions as model;
+ghost use Rattle.dr_top.specs.Outcome.{has_refusal};
+ghost use Rattle.dr_top.specs.Statuses.{text_status};
 ghost use Rattle.dr_top.specs.OpenRuns.{GoesOn, HasRun, IsOfRun, IsPlantOf, shown};
 
 use crate::carry::{Bar, carry_text};
@@ -92,11 +94,7 @@ impl OpenRun {
             text,
         );
         tell_sound(&self.config);
-        match carried {
-            Ok(()) => whole_status(journal, from),
-            Err(Bar::Full) => Status::TooLong,
-            Err(Bar::NoMemory) => Status::NoMemory,
-        }
+        status_of(carried, journal, from)
     }
 
     /// Whether with a text of so many bytes and lines more all texts are past a script's limits.
@@ -147,6 +145,18 @@ impl OpenRun {
     {
         let m = self.tables.sessions.member_at(s, i)?;
         Some(counts_in(s, &peek_head(plant, &self.config, m.c)))
+    }
+}
+
+/// How a text ends that was carried out so, by the events from a place on.
+fn status_of(carried: Result<(), Bar>, journal: &Journal, from: usize) -> Status
+    requires { from ≤ length journal.now.events }
+    ensures { result ≡ text_status carried (has_refusal (drop from journal.now.events)) }
+{
+    match carried {
+        Ok(()) => whole_status(journal, from),
+        Err(Bar::Full) => Status::TooLong,
+        Err(Bar::NoMemory) => Status::NoMemory,
     }
 }
 
