@@ -141,7 +141,7 @@ module _ (text : List ℕ) (r r' : RunProgress) (s0 s s' : PlantState) (events e
 -- ---- the limits
 
 either-past : (a b m n : ℕ) → (nat_lt m a || nat_lt n b) ≡ true → (m < a) ⊎ (n < b)
-either-past a b m n past = elim (leb_tells (suc m) a) [ | inl at ↦ inl at.1 | inr at ↦ inr (let lt : n < b = grind (arith, nat_tests, past, at) in lt) ]
+either-past a b m n past = elim (leb_tells (suc m) a) [ inl at ↦ inl at.1 | inr at ↦ inr (let lt : n < b = grind (arith, nat_tests, past, at) in lt) ]
 
 pub is-past : (text : List ℕ) (r : RunProgress) (bytes count : ℕ) → bytes ≡ length text → count ≡ length (lines text) → (nat_lt most_bytes (r.bytes + bytes) || nat_lt most_lines (r.lines + count)) ≡ true → PassesLimits text r
 is-past text r bytes count is are past =

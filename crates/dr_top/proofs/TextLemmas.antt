@@ -113,7 +113,7 @@ module _ (w0 : World) (d0 : ℕ → Blocks) (first : ℕ) (ls : List (List ℕ))
     through-next goes =
         let all : take goes.done ts ≡ ts = ap (λ n. take n ts) goes.ends ∙ take-length ts in
         let same : had ++ take goes.done ts ≡ tasks_from first (t.before ++ line ∷ []) =
-            ap (λ xs. had ++ xs) (all ∙ sym (append-nil ts)) ∙ ap (λ n. had ++ tasks_from n (line ∷ [])) t.count ∙ sym (tasks-append first t.before (line ∷ []))
+        ap (λ xs. had ++ xs) (all ∙ sym (append-nil ts)) ∙ ap (λ n. had ++ tasks_from n (line ∷ [])) t.count ∙ sym (tasks-append first t.before (line ∷ []))
         in
         record {
           before = t.before ++ line ∷ [];
