@@ -9,9 +9,8 @@
 //! most one byte past that of bytes, or the source's fault (`next`). Sources and sinks fail exactly where their count of
 //! faults rises (`rose`, `steady`), the count never falls, and a call that failed took nothing (`untouched`) or wrote a
 //! front of its piece (`part`). `MemSource` gives exactly its bytes (`filled`, `state`), `MemSink` keeps exactly what it
-//! took (`taken`, `state`).
-//! `line_count` says how many lines a text has, and `split_line` gives the first of them. `StdSource` and `StdSink` count exactly the calls that failed, and those that took no byte of
-//! a piece (`counted`).
+//! took (`taken`, `state`). `line_count` says how many lines a text has, and `split_line` gives the first of them.
+//! `StdSource` and `StdSink` count exactly the calls that failed, and those that took no byte of a piece (`counted`).
 #![tactic(auto)]
 
 mod ahead;
