@@ -7,16 +7,16 @@ use Rattle.dr_plan.proofs.StepLemmas.{gap-read, gap-steps}
 use Rattle.dr_plan.proofs.points.gap_script.Goals as goal
 
 -- the script that was made
-made : (c : goal.In_ok-push_lines) → Some c.push_lines.new.text ≡ option_map text_of (gap_lines c.args.plan.now c.args.servers.now c.args.line)
+made : (c : goal.In_ok-push_lines) → Some c.push_lines.new.text ≡ option_map text_of (gap_lines c.args.plan.now c.args.servers.now c.args.place)
 made c =
     let tried_is = ap (λ plan. length plan.tried) c.plan.view_is in
     let last_is = ap (λ lines. c.push_stops.new.text ++ text_of lines) (c.deref.ensures.value ∙ ap (λ plan. plan.recovery) c.plan.view_is) in
     let count = c.len.ensures in
-    let test = c.if-len-line.false in
-    gap-text c.args.plan.now c.args.servers.now c.args.line c.in_ok-text.text c.push_stops.new.text c.push_lines.new.text (omega (arith, tried_is, count, test)) c.in_ok-text.ensures c.in_ok-push_stops.ensures (c.in_ok-push_lines.ensures ∙ last_is)
+    let test = c.if-len-place.false in
+    gap-text c.args.plan.now c.args.servers.now c.args.place c.in_ok-text.text c.push_stops.new.text c.push_lines.new.text (omega (arith, tried_is, count, test)) c.in_ok-text.ensures c.in_ok-push_stops.ensures (c.in_ok-push_lines.ensures ∙ last_is)
 
 pub returns-clause-lines : goal.returns-clause-lines
-returns-clause-lines c = ap (option_map lines) (made c) ∙ gap-read c.args.plan.now c.args.servers.now c.args.line c.requires.sweep c.requires.fit
+returns-clause-lines c = ap (option_map lines) (made c) ∙ gap-read c.args.plan.now c.args.servers.now c.args.place c.requires.sweep c.requires.fit
 
 pub returns-clause-steps : goal.returns-clause-steps
-returns-clause-steps c = gap-steps c.args.plan.now c.args.servers.now c.args.line _ c.requires.sweep c.requires.fit (made c)
+returns-clause-steps c = gap-steps c.args.plan.now c.args.servers.now c.args.place _ c.requires.sweep c.requires.fit (made c)
