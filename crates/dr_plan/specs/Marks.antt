@@ -33,7 +33,7 @@ lose_said (word ∷ rest) = option_map Lose (names_said (word ∷ rest))
 -- `RANGE for RANGE`, under a name or none
 abbrev pub ranges_said : Option Name → List ℕ → List ℕ → List ℕ → Option Mark
 ranges_said name first between second =
-    if bytes_eq between (codes "for") then span_word first >>= λ a. span_word second >>= λ b. Some (Use name a b) else None
+    if bytes_eq between (codes "for") then (span_word first >>= λ a. span_word second >>= λ b. Some (Use name a b)) else None
 
 -- `use RANGE for RANGE`, or `use NAME RANGE for RANGE`
 abbrev pub use_said : List (List ℕ) → Option Mark

@@ -1,6 +1,7 @@
 -- How a plan is read line by line, and why a line can't stand where it stands.
-use Rattle.std.specs.Prelude.{ℕ, ◌+◌, Bool, true, false, not, ◌&&◌, ◌||◌, List, [], ◌∷◌, ◌++◌, length, map, nat_eq, nat_lt, Option, Some, None, is_none, Result, Ok, Err, if◌then◌else◌}
+use Rattle.std.specs.Prelude.{ℕ, ◌+◌, Bool, true, false, ◌&&◌, ◌||◌, List, [], ◌∷◌, ◌++◌, length, map, nat_eq, nat_lt, Option, Some, None, Result, Ok, Err, if◌then◌else◌}
 use Rattle.std.specs.List.{list_any}
+use Rattle.std.specs.Option.{option_or}
 use Rattle.std.specs.Str.{bytes_eq}
 use Rattle.dr_model.specs.declared.step.Name.{Name}
 use Rattle.dr_model.specs.declared.step.Step.{Step}
@@ -16,14 +17,11 @@ use Rattle.dr_plan.specs.declared.reason.Reason.TheVariants.{HereMayStand, Serve
 use Rattle.dr_plan.specs.declared.reason.Lack.TheVariants.{Lose as LackLose, Use as LackUse, Here as LackHere, Then as LackThen}
 use Rattle.dr_plan.specs.declared.stages.Stage.{Stage}
 use Rattle.dr_plan.specs.declared.stages.Stage.TheVariants.{Start, Losing, Using, Bounded, Trying, Recovering}
+use Rattle.dr_plan.specs.declared.above.VolumeSize.{VolumeSize}
 use Rattle.dr_plan.specs.declared.reading.Reading.{Reading}
-use Rattle.dr_plan.specs.Above.{is_among, defines_server, tracks_in}
+use Rattle.dr_plan.specs.Above.{unless, is_among, servers_in, volumes_in, tracks_of}
 use Rattle.dr_plan.specs.Marks.{is_mark, mark_of}
 use Rattle.dr_plan.specs.Sweep.{Sweep, Use as HostUse, Tried, empty, most_disasters, most_uses}
-
--- a result taken on by a function that may fail
-abbrev pub ◌>>>◌ : {A B : Type 0} → Result A Reason → (A → Result B Reason) → Result B Reason
-r >>> f = elim r as (λ _. Result _ Reason) [ Ok x ↦ f x | Err reason ↦ Err reason ]
 
 -- ---- stages
 
@@ -42,26 +40,28 @@ stage_after _ _ = None
 
 -- ---- what a line's own words may be wrong in
 
--- of the names of a disaster, with those before them: each comes once, and a line above defines it
-unfoldable pub servers_fault : List (List ℕ) → List Name → List Name → Option Reason
-servers_fault above before [] = None
-servers_fault above before (name ∷ rest) =
+-- of the names of a disaster, after those before them: each comes once, and is that of a server that lines above define
+unfoldable pub servers_fault : List Name → List Name → List Name → Option Reason
+servers_fault known before [] = None
+servers_fault known before (name ∷ rest) =
     if is_among name before then Some (ServerTwice name)
-    else if defines_server above name then servers_fault above (before ++ name ∷ []) rest
+    else if is_among name known then servers_fault known (before ++ name ∷ []) rest
     else Some (UnknownServer name)
 
 -- of two volumes, by how many tracks lines above give them
 abbrev pub sizes_fault : ℕ → ℕ → Option ℕ → Option ℕ → Option Reason
-sizes_fault first second None b = Some (UnknownVolume first)
+sizes_fault first second None n = Some (UnknownVolume first)
 sizes_fault first second (Some m) None = Some (UnknownVolume second)
 sizes_fault first second (Some m) (Some n) = if nat_eq m n then None else Some (OtherSize first second)
 
--- of pairs, the first that isn't of two volumes of one size
-unfoldable pub pairs_fault : List (List ℕ) → List Item → Option Reason
-pairs_fault above [] = None
-pairs_fault above (pair ∷ rest) =
-    elim (sizes_fault pair.first pair.second (tracks_in above pair.first) (tracks_in above pair.second)) as (λ _. Option Reason)
-    [ None ↦ pairs_fault above rest | Some reason ↦ Some reason ]
+-- of a pair, by the sizes that lines above give volumes
+abbrev pub pair_fault : List VolumeSize → Item → Option Reason
+pair_fault sizes pair = sizes_fault pair.first pair.second (tracks_of sizes pair.first) (tracks_of sizes pair.second)
+
+-- the first fault of pairs
+unfoldable pub pairs_fault : List VolumeSize → List Item → Option Reason
+pairs_fault sizes [] = None
+pairs_fault sizes (pair ∷ rest) = option_or (pair_fault sizes pair) (pairs_fault sizes rest)
 
 -- ---- uses
 
@@ -75,10 +75,13 @@ is_same_use _ _ = false
 abbrev pub has_use : List HostUse → Option Name → Bool
 has_use uses name = list_any (λ (u : HostUse). is_same_use u.name name) uses
 
+-- a use after a line of that name with these pairs
+abbrev pub joined : Option Name → List Item → HostUse → HostUse
+joined name pairs u = if is_same_use u.name name then record u { pairs = u.pairs ++ pairs } else u
+
 -- pairs join the use of that name, or are a use more
-unfoldable pub with_pairs : List HostUse → Option Name → List Item → List HostUse
-with_pairs [] name pairs = record { name = name; pairs = pairs } ∷ []
-with_pairs (u ∷ uses) name pairs = if is_same_use u.name name then record u { pairs = u.pairs ++ pairs } ∷ uses else u ∷ with_pairs uses name pairs
+abbrev pub with_pairs : List HostUse → Option Name → List Item → List HostUse
+with_pairs uses name pairs = if has_use uses name then map (joined name pairs) uses else uses ++ record { name = name; pairs = pairs } ∷ []
 
 -- ---- what a line adds
 
@@ -108,15 +111,13 @@ kept stage number line steps plan = with_line stage line plan
 abbrev pub lost_too : List Name → List ℕ → Sweep → Result Sweep Reason
 lost_too servers line plan =
     if nat_lt (length plan.loses) most_disasters
-    then elim (servers_fault plan.setup [] servers) as (λ _. Result Sweep Reason)
-        [ None ↦ Ok (record plan { loses = plan.loses ++ servers ∷ []; setup = plan.setup ++ line ∷ [] }) | Some reason ↦ Err reason ]
+    then unless (servers_fault (servers_in plan.setup) [] servers) (record plan { loses = plan.loses ++ servers ∷ []; setup = plan.setup ++ line ∷ [] })
     else Err ManyDisasters
 
 -- pairs more, of ranges of equal length
 abbrev pub used_pairs : Option Name → List Item → List ℕ → Sweep → Result Sweep Reason
 used_pairs name pairs line plan =
-    elim (pairs_fault plan.setup pairs) as (λ _. Result Sweep Reason)
-    [ None ↦ Ok (record plan { uses = with_pairs plan.uses name pairs; setup = plan.setup ++ line ∷ [] }) | Some reason ↦ Err reason ]
+    unless (pairs_fault (volumes_in plan.setup) pairs) (record plan { uses = with_pairs plan.uses name pairs; setup = plan.setup ++ line ∷ [] })
 
 -- ranges more
 abbrev pub used_too : Option Name → Span → Span → List ℕ → Sweep → Result Sweep Reason
@@ -141,20 +142,26 @@ announces _ = false
 
 -- ---- a line
 
--- a reading after a line of the plan's own that says this
+-- a reading in that stage, after what the line of the plan's own added
+abbrev pub moved : Mark → Stage → Result Sweep Reason → Result Reading Reason
+moved mark stage (Ok plan) = Ok (record { stage = stage; waits = announces mark; plan = plan })
+moved mark stage (Err reason) = Err reason
+
+-- after a line of the plan's own, by the stage that it leads to
+abbrev pub marked_in : ℕ → Reading → List ℕ → Mark → Option Stage → Result Reading Reason
+marked_in number r line mark None = Err (HereMayStand r.stage)
+marked_in number r line mark (Some stage) = moved mark stage (noted number r.stage mark line r.plan)
+
+-- after a line of the plan's own, by what it says
 abbrev pub marked : ℕ → Reading → List ℕ → Option Mark → Result Reading Reason
 marked number r line None = Err (HereMayStand r.stage)
-marked number r line (Some mark) =
-    elim (stage_after mark r.stage) as (λ _. Result Reading Reason)
-    [ None ↦ Err (HereMayStand r.stage)
-    | Some stage ↦ noted number r.stage mark line r.plan >>> λ plan. Ok (record { stage = stage; waits = announces mark; plan = plan })
-    ]
+marked number r line (Some mark) = marked_in number r line mark (stage_after mark r.stage)
 
 -- after any other line, by its steps; an announcement waits for a line with some
 abbrev pub plain : ℕ → Reading → List ℕ → Result (List Step) ℕ → Result Reading Reason
 plain number r line (Err column) = Err (Syntax column)
-plain number r line (Ok []) = if r.waits then Err NoLineFollows else Ok (record r { plan = kept r.stage number line [] r.plan })
-plain number r line (Ok (step ∷ steps)) = Ok (record r { waits = false; plan = kept r.stage number line (step ∷ steps) r.plan })
+plain number r line (Ok steps) =
+    if r.waits && nat_eq (length steps) 0 then Err NoLineFollows else Ok (record r { waits = false; plan = kept r.stage number line steps r.plan })
 
 -- a reading after the line with that number; or why it can't stand there
 unfoldable pub read_on : ℕ → Reading → List ℕ → Result Reading Reason
@@ -177,19 +184,25 @@ lacking Bounded = Some (Missing LackHere)
 lacking Trying = Some (Missing LackThen)
 lacking Recovering = None
 
--- a plan has all its parts once its recovery has begun, and each announcement its line
+-- what is missing after a reading: the line of an announcement, or one of the plan's own
+abbrev pub missing : Reading → Option Reason
+missing r = if r.waits then Some NoLineFollows else lacking r.stage
+
+-- after the last line, whose number is one less, a plan has all its parts; or it is bad for what is missing
+abbrev pub finished_by : ℕ → Sweep → Option Reason → Result Sweep Bad
+finished_by number plan None = Ok plan
+finished_by number plan (Some reason) = Err (record { line = number; reason = reason })
+
+-- the plan that was read before the line with that number, which isn't there
 abbrev pub finished : ℕ → Reading → Result Sweep Bad
-finished number r =
-    if r.waits then Err (record { line = number; reason = NoLineFollows })
-    else elim (lacking r.stage) as (λ _. Result Sweep Bad) [ None ↦ Ok r.plan | Some reason ↦ Err (record { line = number; reason = reason }) ]
+finished number r = finished_by number r.plan (missing r)
 
 -- What the lines from that number on make of a reading: the plan; or the first line that can't stand where it stands, and why. Where one
 -- is missing, that is the one after the last.
 unfoldable pub read_lines : ℕ → Reading → List (List ℕ) → Result Sweep Bad
 read_lines number r [] = finished number r
 read_lines number r (line ∷ rest) =
-    elim (read_on number r line) as (λ _. Result Sweep Bad)
-    [ Err reason ↦ Err (record { line = number; reason = reason }) | Ok next ↦ read_lines (number + 1) next rest ]
+    elim (read_on number r line) as (λ _. Result Sweep Bad) [ Err reason ↦ Err (record { line = number; reason = reason }) | Ok next ↦ read_lines (number + 1) next rest ]
 
 -- a reading before the first line
 abbrev pub begun : Reading

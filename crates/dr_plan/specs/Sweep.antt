@@ -1,5 +1,5 @@
 -- What a plan of a sweep says.
-use Rattle.std.specs.Prelude.{ℕ, Bool, not, List, [], nat_eq, Option, None}
+use Rattle.std.specs.Prelude.{ℕ, Bool, not, List, [], map, nat_eq, Option, None}
 use Rattle.std.specs.List.{list_all}
 use Rattle.dr_model.specs.declared.step.Name.{Name}
 use Rattle.dr_model.specs.declared.grammar.Item.{Item}
@@ -14,6 +14,10 @@ pub record Tried : Type 0 where
   pub line : ℕ  -- the number of its line in the plan
   pub part : ℕ  -- its place among the steps of that line, counted from 1; 0 where it is the only one
   pub text : List ℕ  -- the line, or of one of several steps the line that it would be by itself
+
+-- the lines of steps that are tried
+abbrev pub texts : List Tried → List (List ℕ)
+texts tried = map (λ (t : Tried). t.text) tried
 
 -- A plan of a sweep. Lines are counted from 1.
 pub record Sweep : Type 0 where

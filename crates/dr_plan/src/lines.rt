@@ -1,13 +1,14 @@
-//! The lines of a text, and the lines of one step that stand for a line.
+//! The lines of a text, and the steps that are tried of a line.
 
-ghost use Rattle.std.specs.Prelude.{◌≡◌, ◌<◌, ◌∷◌, ◌++◌, [], ◌==◌, ◌+◌, length, map, All, OnOk, IfSome, Some, None, Ok};
+ghost use Rattle.std.specs.Prelude.{◌≡◌, ◌<◌, ◌∷◌, ◌++◌, [], ◌==◌, length, All, OnOk, IfSome};
 ghost use Rattle.std.specs.List.{position};
 ghost use Rattle.std.specs.Str.Lines.{lines, strip_carriage_return};
-ghost use Rattle.dr_model.specs.LineText.{step_text, IsWritten};
-ghost use Rattle.dr_plan.specs.Reading.{taken_apart};
+ghost use Rattle.dr_model.specs.LineText.{IsWritten};
+ghost use Rattle.dr_plan.specs.Reading.{parts_from, tried_steps};
 
-use dr_ids::{Fault, Text};
-use dr_script::{Line, print_step, read_line};
+use crate::plan::Tried;
+use dr_ids::Text;
+use dr_script::{Line, print_step};
 use std::alloc::{AllocError, Global};
 
 /// Where the first line ends.
@@ -28,7 +29,7 @@ fn without_return(line: &[u8]) -> &[u8]
     }
 }
 
-/// The first line of a text, and what stands behind it.
+/// The first line of a text, and what stands after it.
 pub(crate) fn split_line(text: &[u8]) -> (&[u8], &[u8])
     requires { 0 < length text.now }
     ensures lines { lines text.now ≡ result.0.now ∷ lines result.1.now }
@@ -50,31 +51,61 @@ pub(crate) fn push_line(alloc: Global, all: &mut Vec<Text>, line: &[u8]) -> Resu
     Ok(())
 }
 
-/// Adds the lines of one step that stand for a line.
-#[tactic(auto, unfolding(crate::specs::Reading::taken_apart))]
-pub(crate) fn push_apart(alloc: Global, all: &mut Vec<Text>, line: &[u8]) -> Result<(), AllocError>
-    ensures { OnOk result (all.new.items ≡ all.old.items ++ taken_apart line.now) }
+/// Adds the steps that are tried of a line with that number.
+pub(crate) fn push_tried(
+    alloc: Global,
+    all: &mut Vec<Tried>,
+    number: usize,
+    line: &[u8],
+    steps: &Line,
+) -> Result<(), AllocError>
+    requires { All IsWritten steps.now }
+    ensures { OnOk result (all.new.items ≡ all.old.items ++ tried_steps number line.now steps.now) }
 {
-    let mut steps = Line::new(alloc);
-    match read_line(alloc, line, &mut steps) {
-        Err(Fault::NoMemory) => Err(AllocError),
-        Err(Fault::Refused(_)) => push_line(alloc, all, line),
-        Ok(()) => match steps.len() {
-            0 => Ok(()),
-            1 => push_line(alloc, all, line),
-            _ => push_steps(alloc, all, &steps),
-        },
+    match steps.len() {
+        0 => Ok(()),
+        1 => push_whole(alloc, all, number, line),
+        _ => push_parts(alloc, all, number, steps),
     }
 }
 
-/// Adds the line of each step.
-fn push_steps(alloc: Global, all: &mut Vec<Text>, steps: &Line) -> Result<(), AllocError>
+/// Adds a line of one step.
+fn push_whole(
+    alloc: Global,
+    all: &mut Vec<Tried>,
+    number: usize,
+    line: &[u8],
+) -> Result<(), AllocError>
+    ensures { OnOk result (all.new.items ≡ all.old.items ++ record { line = number; part = 0; text = line.now } ∷ []) }
+{
+    let mut text = Text::new(alloc);
+    text.append(line)?;
+    all.push(Tried {
+        line: number,
+        part: 0,
+        text,
+    })?;
+    Ok(())
+}
+
+/// Adds each step of a line as a part of it.
+fn push_parts(
+    alloc: Global,
+    all: &mut Vec<Tried>,
+    number: usize,
+    steps: &Line,
+) -> Result<(), AllocError>
     requires { All IsWritten steps.now }
-    ensures { OnOk result (all.new.items ≡ all.old.items ++ map step_text steps.now) }
+    ensures { OnOk result (all.new.items ≡ all.old.items ++ parts_from number 1 steps.now) }
 {
     for i in 0..steps.len() {
         let step = steps.step(i).unwrap();
-        all.push(print_step(alloc, step)?)?;
+        let text = print_step(alloc, step)?;
+        all.push(Tried {
+            line: number,
+            part: i + 1,
+            text,
+        })?;
     }
     Ok(())
 }

@@ -7,10 +7,11 @@ ghost use Rattle.std.specs.Str.Lines.{lines};
 ghost use Rattle.dr_model.specs.LineText.{name_fits};
 ghost use Rattle.dr_model.specs.Lines.{tasks};
 ghost use Rattle.dr_plan.specs.Parts.{IsSweep};
-ghost use Rattle.dr_plan.specs.Points.{torn_word, stop_line, fuse_line, others, cut_lines, gap_lines, lines_at, cut_steps, gap_steps, steps_at, with_end, text_of, script_of};
+ghost use Rattle.dr_plan.specs.Points.{torn_word, stop_line, fuse_line, others, lines_before, calm_lines, cut_lines, gap_lines, lines_at, cut_steps, gap_steps, steps_at, with_end, text_of, script_of, calm_script};
+ghost use Rattle.dr_plan.specs.Sweep.{texts};
 
 use crate::names::Disaster;
-use crate::plan::{Draft, SweepPlan};
+use crate::plan::{Draft, SweepPlan, Tried};
 use dr_ids::Text;
 use dr_model::{Name, Step, TornWord};
 use dr_script::print_step;
@@ -27,22 +28,22 @@ pub enum Torn {
     Ones,
 }
 
-/// A place of a plan at which a disaster comes. All places are counted from 0.
+/// A place of a plan at which a disaster comes. All places are counted from 0, those of tried steps in all that are tried.
 #[derive(Clone, Copy)]
 pub enum Point {
-    /// In a tried line: after so many device writes in it one of a server of the disaster is cut short, and behind the
-    /// line the disaster's other servers are lost.
+    /// In a tried step: after that many device writes in it one of a server of the disaster is cut short, and after the
+    /// step the disaster's other servers are lost.
     Cut {
         disaster: usize,
-        line: usize,
+        place: usize,
         server: usize,
         write: u32,
         torn: Torn,
     },
-    /// Behind so many tried lines all servers of the disaster are lost.
+    /// After that many tried steps all servers of the disaster are lost.
     Gap {
         disaster: usize,
-        line: usize,
+        place: usize,
     },
 }
 
@@ -117,7 +118,17 @@ fn push_fuse(
     push_end(text, line.bytes())
 }
 
-/// Adds the lines that stop all servers at once but the one at that place.
+/// Adds the lines of steps that are tried.
+fn push_texts(text: &mut Text, tried: &[Tried]) -> Result<(), AllocError>
+    ensures { OnOk result (text.new ≡ text.old ++ text_of (texts tried.now)) }
+{
+    for step in tried {
+        push_end(text, step.text())?;
+    }
+    Ok(())
+}
+
+/// Adds the lines that stop all servers at once except the one at that place.
 fn push_others(
     alloc: Global,
     text: &mut Text,
@@ -132,14 +143,14 @@ fn push_others(
     push_stops(alloc, text, &servers[server + 1..])
 }
 
-/// The lines of the setup, and so many tried ones.
-fn front(alloc: Global, plan: &Draft, line: usize) -> Result<Text, AllocError>
-    requires { line ≤ length plan.now.tried }
-    ensures { IfOk result (λ text. text ≡ text_of (plan.now.setup ++ take line plan.now.tried)) }
+/// The lines of the set-up, and the first tried steps, that many.
+fn front(alloc: Global, plan: &Draft, place: usize) -> Result<Text, AllocError>
+    requires { place ≤ length plan.now.tried }
+    ensures { IfOk result (λ text. text ≡ text_of (lines_before plan.now place)) }
 {
     let mut text = Text::new(alloc);
     push_lines(&mut text, &plan.setup)?;
-    push_lines(&mut text, &plan.tried[..line])?;
+    push_texts(&mut text, &plan.tried[..place])?;
     Ok(text)
 }
 
@@ -157,60 +168,60 @@ fn server_at(servers: &[Name], server: usize) -> Option<&Name>
     servers.get(server)
 }
 
-/// The tried line at a place.
-fn tried_at(plan: &Draft, line: usize) -> Option<&Text>
-    ensures { option_copied result ≡ slice_get plan.now.tried line }
+/// The tried step at a place.
+fn tried_at(plan: &Draft, place: usize) -> Option<&Tried>
+    ensures { option_copied result ≡ slice_get plan.now.tried place }
 {
-    plan.tried.get(line)
+    plan.tried.get(place)
 }
 
-/// The script in which a tried line is cut short.
+/// The script in which a tried step is cut short.
 fn cut_script(
     alloc: Global,
     plan: &Draft,
     servers: &[Name],
-    line: usize,
+    place: usize,
     server: usize,
     write: u32,
     torn: Torn,
 ) -> Result<Option<Text>, AllocError>
     requires fit { All (λ name. name_fits name ≡ true) servers.now }
     requires sweep { IsSweep plan.now }
-    ensures text { IfOk result (λ script. script ≡ option_map text_of (cut_lines plan.now servers.now line server write torn)) }
-    ensures lines { IfOk result (λ script. option_map lines script ≡ cut_lines plan.now servers.now line server write torn) }
-    ensures steps { IfOk result (λ script. option_map tasks script ≡ cut_steps plan.now servers.now line server write torn) }
+    ensures text { IfOk result (λ script. script ≡ option_map text_of (cut_lines plan.now servers.now place server write torn)) }
+    ensures lines { IfOk result (λ script. option_map lines script ≡ cut_lines plan.now servers.now place server write torn) }
+    ensures steps { IfOk result (λ script. option_map tasks script ≡ cut_steps plan.now servers.now place server write torn) }
 {
     let Some(name) = server_at(servers, server) else {
         return Ok(None);
     };
-    let Some(tried) = tried_at(plan, line) else {
+    let Some(tried) = tried_at(plan, place) else {
         return Ok(None);
     };
-    let mut text = front(alloc, plan, line)?;
+    let mut text = front(alloc, plan, place)?;
     push_fuse(alloc, &mut text, name, write, torn)?;
-    push_end(&mut text, tried.bytes())?;
+    push_end(&mut text, tried.text())?;
     push_others(alloc, &mut text, servers, server)?;
     push_lines(&mut text, &plan.recovery)?;
     Ok(Some(text))
 }
 
-/// The script in which all servers are lost behind so many tried lines.
+/// The script in which all servers are lost after that many tried steps.
 fn gap_script(
     alloc: Global,
     plan: &Draft,
     servers: &[Name],
-    line: usize,
+    place: usize,
 ) -> Result<Option<Text>, AllocError>
     requires fit { All (λ name. name_fits name ≡ true) servers.now }
     requires sweep { IsSweep plan.now }
-    ensures text { IfOk result (λ script. script ≡ option_map text_of (gap_lines plan.now servers.now line)) }
-    ensures lines { IfOk result (λ script. option_map lines script ≡ gap_lines plan.now servers.now line) }
-    ensures steps { IfOk result (λ script. option_map tasks script ≡ gap_steps plan.now servers.now line) }
+    ensures text { IfOk result (λ script. script ≡ option_map text_of (gap_lines plan.now servers.now place)) }
+    ensures lines { IfOk result (λ script. option_map lines script ≡ gap_lines plan.now servers.now place) }
+    ensures steps { IfOk result (λ script. option_map tasks script ≡ gap_steps plan.now servers.now place) }
 {
-    if plan.tried.len() < line {
+    if plan.tried.len() < place {
         return Ok(None);
     }
-    let mut text = front(alloc, plan, line)?;
+    let mut text = front(alloc, plan, place)?;
     push_stops(alloc, &mut text, servers)?;
     push_lines(&mut text, &plan.recovery)?;
     Ok(Some(text))
@@ -227,17 +238,29 @@ pub fn script_at(alloc: Global, plan: &SweepPlan, point: Point) -> Result<Option
     match point {
         Point::Cut {
             disaster,
-            line,
+            place,
             server,
             write,
             torn,
         } => match lost_at(plan, disaster) {
-            Some(lost) => cut_script(alloc, plan, lost.servers(), line, server, write, torn),
+            Some(lost) => cut_script(alloc, plan, lost.servers(), place, server, write, torn),
             None => Ok(None),
         },
-        Point::Gap { disaster, line } => match lost_at(plan, disaster) {
-            Some(lost) => gap_script(alloc, plan, lost.servers(), line),
+        Point::Gap { disaster, place } => match lost_at(plan, disaster) {
+            Some(lost) => gap_script(alloc, plan, lost.servers(), place),
             None => Ok(None),
         },
     }
+}
+
+/// The script of the calm run: the set-up and all tried steps, without a disaster.
+pub fn calm_script(alloc: Global, plan: &SweepPlan) -> Result<Text, AllocError>
+    ensures text { IfOk result (λ script. script ≡ calm_script plan.now) }
+    ensures lines { IfOk result (λ script. lines script ≡ calm_lines plan.now) }
+{
+    let plan = plan.draft();
+    let mut text = Text::new(alloc);
+    push_lines(&mut text, &plan.setup)?;
+    push_texts(&mut text, &plan.tried)?;
+    Ok(text)
 }

@@ -1,10 +1,19 @@
 //! Why a line can't stand in a plan where it stands.
 
+ghost use Rattle.std.specs.Prelude.{◌≡◌, ◌++◌, OnOk};
+ghost use Rattle.std.specs.Fmt.{decimal};
+ghost use Rattle.dr_ids.specs.Spelling.{hex4};
+ghost use Rattle.dr_model.specs.LineText.{name_text};
+ghost use Rattle.dr_plan.specs.Reasons.{may_stand, lack_word, reason_text};
+
+use crate::names::name_bytes;
 use crate::stages::Stage;
+use dr_ids::{Text, upper_hex};
 use dr_model::Name;
+use std::alloc::{AllocError, Global};
 
 /// A line that a plan wants.
-#[derive(Clone, Copy, Debug, PartialEq, Eq)]
+#[derive(Clone, Copy)]
 pub enum Lack {
     Lose,
     Use,
@@ -37,4 +46,99 @@ pub enum Reason {
     NoLineFollows,
     /// The text has ended, and this line is missing.
     Missing(Lack),
+}
+
+/// The lines of a plan's own that may stand in a stage.
+fn may_stand(stage: Stage) -> &'static [u8]
+    ensures { result.now ≡ may_stand stage }
+{
+    match stage {
+        Stage::Start => b"lose NAME .., refused",
+        Stage::Losing => b"lose NAME .., use [NAME] RANGE for RANGE, refused",
+        Stage::Using => b"use [NAME] RANGE for RANGE, at most NUMBER, here, refused",
+        Stage::Bounded => b"here, refused",
+        Stage::Trying => b"then, refused",
+        Stage::Recovering => b"refused",
+    }
+}
+
+/// The word of a line that is missing.
+fn lack_word(lack: Lack) -> &'static [u8]
+    ensures { result.now ≡ lack_word lack }
+{
+    match lack {
+        Lack::Lose => b"lose",
+        Lack::Use => b"use",
+        Lack::Here => b"here",
+        Lack::Then => b"then",
+    }
+}
+
+/// Adds a volume in four upper-case hexadecimal digits.
+pub fn push_volume(text: &mut Text, volume: u16) -> Result<(), AllocError>
+    ensures { OnOk result (text.new ≡ text.old ++ hex4 volume) }
+{
+    let high = (volume / 256) as u8;
+    let low = (volume % 256) as u8;
+    let digits = [
+        upper_hex(high / 16),
+        upper_hex(high % 16),
+        upper_hex(low / 16),
+        upper_hex(low % 16),
+    ];
+    text.append(&digits)
+}
+
+/// Adds a column in decimal digits.
+fn push_column(alloc: Global, text: &mut Text, column: u16) -> Result<(), AllocError>
+    ensures { OnOk result (text.new ≡ text.old ++ decimal column) }
+{
+    let digits = column.to_string(alloc)?;
+    text.append(digits.as_bytes())
+}
+
+/// Adds words, and a name after them.
+fn push_named(text: &mut Text, words: &[u8], name: &Name) -> Result<(), AllocError>
+    ensures { OnOk result (text.new ≡ text.old ++ (words.now ++ name_text name.now)) }
+{
+    text.append(words)?;
+    text.append(name_bytes(name))
+}
+
+/// Adds two words one after another.
+fn push_both(text: &mut Text, words: &[u8], more: &[u8]) -> Result<(), AllocError>
+    ensures { OnOk result (text.new ≡ text.old ++ (words.now ++ more.now)) }
+{
+    text.append(words)?;
+    text.append(more)
+}
+
+/// Adds the text of a reason.
+pub fn push_reason(alloc: Global, text: &mut Text, reason: &Reason) -> Result<(), AllocError>
+    ensures { OnOk result (text.new ≡ text.old ++ reason_text reason.now) }
+{
+    match reason {
+        Reason::HereMayStand(stage) => push_both(text, b"here may stand: ", may_stand(*stage)),
+        Reason::ServerTwice(name) => push_named(text, b"server twice: ", name),
+        Reason::ManyDisasters => text.append(b"more than 8 disasters"),
+        Reason::ManyUses => text.append(b"more than 8 uses"),
+        Reason::UnknownServer(name) => push_named(text, b"unknown server ", name),
+        Reason::UnequalRanges => text.append(b"ranges of unequal length"),
+        Reason::UnknownVolume(volume) => {
+            text.append(b"unknown volume ")?;
+            push_volume(text, *volume)
+        }
+        Reason::OtherSize(first, second) => {
+            text.append(b"other size: ")?;
+            push_volume(text, *first)?;
+            text.append(b" ")?;
+            push_volume(text, *second)
+        }
+        Reason::Syntax(column) => {
+            text.append(b"syntax ")?;
+            push_column(alloc, text, *column)
+        }
+        Reason::NoLineFollows => text.append(b"refused, but no line follows"),
+        Reason::Missing(lack) => push_both(text, b"missing: ", lack_word(*lack)),
+    }
 }
