@@ -17,7 +17,6 @@ use Rattle.dr_plan.specs.Reading.{parts_from, tried_steps}
 use Rattle.dr_plan.specs.Sweep.{Tried, texts, is_unbroken}
 use Rattle.dr_plan.proofs.PrintLemmas.{step-unbroken}
 
-
 -- what is tried for a line
 pub record Stand (line : List ℕ) (tried : List Tried) : Type 0 where
   pub one : All (λ (t : Tried). IsOneStep t.text) tried

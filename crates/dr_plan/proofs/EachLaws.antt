@@ -27,7 +27,7 @@ use Rattle.dr_plan.specs.Sweep.{Sweep, Use as HostUse, empty, most_disasters, mo
 use Rattle.dr_plan.specs.declared.fault.PlanFault.{PlanFault}
 use Rattle.dr_plan.specs.declared.fault.PlanFault.TheVariants.{NoMemory, BadLine}
 use Rattle.dr_plan.proofs.ApartLemmas.{tried-more}
-use Rattle.dr_plan.proofs.FaultLaws.{OnceAfter, names-complete, pairs-complete, uses-room}
+use Rattle.dr_plan.proofs.FaultLaws.{names-complete, pairs-complete, uses-room}
 use Rattle.dr_plan.proofs.FollowLemmas.{Passes, MayStand, is_refused, plain-not, says-not, refused-is, passes-parts, passes-first, passes-end, passes-of}
 use Rattle.dr_plan.proofs.OwnLemmas.{Kind, Plain, Announces, Says, Nothing, kind-of, own-comment, marks-append, announced-more, announced-same, announced-none}
 use Rattle.dr_plan.proofs.ReadLemmas.{read-plain, may-stand-room, not-waiting, read-mark, run, run-none, run-more, run-then, run-read, lines-done}
@@ -196,7 +196,6 @@ said_first line rest mark marks says h = sym (marks-append (line ∷ []) rest �
 lose_notes : (plan : Sweep) (s : IsSetup plan) (number : ℕ) (stage : Stage) (done rest : List (List ℕ)) (line : List ℕ) (servers : List Name) (ls loses : List (List Name)) (uses : List HostUse) (limit : Option ℕ) → IsMark line (Lose servers) → plan.setup ≡ done ++ line ∷ rest
     → loses ++ servers ∷ ls ≡ plan.loses → ComeOnce servers
     → noted number stage (Lose servers) line (draft loses uses limit done) ≡ Ok (record (draft loses uses limit done) { loses = loses ++ servers ∷ []; setup = done ++ line ∷ [] })
-unfolding OnceAfter
 lose_notes plan s number stage done rest line servers ls loses uses limit m cut all once =
     let made : Sweep = record (draft loses uses limit done) { loses = loses ++ servers ∷ []; setup = done ++ line ∷ [] } in
     let count : length (loses ++ servers ∷ ls) ≡ length loses + 1 + length ls = grind (arith, common_steps) in
@@ -251,6 +250,7 @@ setup_read plan s (line ∷ rest) done stage last loses uses limit waits after n
     lose : (mark : Mark) (servers : List Name) (ls : List (List Name)) (us : List Ranges) (b : Option ℕ) → IsMark line mark → Some mark ∷ marks_in rest ≡ map Some (to_come (servers ∷ ls) us b) → stages stage (to_come (servers ∷ ls) us b) ≡ Some last → loses ++ servers ∷ ls ≡ plan.loses
         → fold with_ranges uses us ≡ plan.uses → limited b limit ≡ plan.bound → All ComeOnce (servers ∷ ls) → All (λ (r : Ranges). span_len r.first ≡ span_len r.second) us → Further → Goal
     lose mark servers ls us b m says goes lost used bounded once lengths further =
+        let parts : Some mark ∷ marks_in rest ≡ Some (Lose servers) ∷ map Some (to_come ls us b) = says in
         let is : mark ≡ Lose servers = cc in
         let tail : marks_in rest ≡ map Some (to_come ls us b) = cc in
         let own : IsMark line (Lose servers) = subst (IsMark line) is m in
@@ -263,6 +263,7 @@ setup_read plan s (line ∷ rest) done stage last loses uses limit waits after n
     use_line : (mark : Mark) (r : Ranges) (us : List Ranges) (b : Option ℕ) → IsMark line mark → Some mark ∷ marks_in rest ≡ map Some (to_come [] (r ∷ us) b) → stages stage (to_come [] (r ∷ us) b) ≡ Some last → loses ++ [] ≡ plan.loses → fold with_ranges uses (r ∷ us) ≡ plan.uses
         → limited b limit ≡ plan.bound → All ComeOnce [] → All (λ (r : Ranges). span_len r.first ≡ span_len r.second) (r ∷ us) → Further → Goal
     use_line mark r us b m says goes lost used bounded once lengths further =
+        let parts : Some mark ∷ marks_in rest ≡ Some (use_mark r) ∷ map Some (to_come [] us b) = says in
         let is : mark ≡ use_mark r = cc in
         let tail : marks_in rest ≡ map Some (to_come [] us b) = cc in
         let own : IsMark line (use_mark r) = subst (IsMark line) is m in
@@ -275,6 +276,7 @@ setup_read plan s (line ∷ rest) done stage last loses uses limit waits after n
     bound_line : (mark : Mark) (n : ℕ) → IsMark line mark → Some mark ∷ marks_in rest ≡ map Some (to_come [] [] (Some n)) → stages stage (to_come [] [] (Some n)) ≡ Some last → loses ++ [] ≡ plan.loses → fold with_ranges uses [] ≡ plan.uses → limited (Some n) limit ≡ plan.bound
         → All ComeOnce [] → All (λ (r : Ranges). span_len r.first ≡ span_len r.second) [] → Further → Goal
     bound_line mark n m says goes lost used bounded once lengths further =
+        let parts : Some mark ∷ marks_in rest ≡ Some (AtMost n) ∷ [] = says in
         let is : mark ≡ AtMost n = cc in
         let tail : marks_in rest ≡ map Some (to_come [] [] None) = cc in
         let own : IsMark line (AtMost n) = subst (IsMark line) is m in
@@ -289,7 +291,7 @@ setup_read plan s (line ∷ rest) done stage last loses uses limit waits after n
     says_one mark (servers ∷ ls) us b m says goes lost used bounded once lengths further = lose mark servers ls us b m says goes lost used bounded once lengths further
     says_one mark [] (r ∷ us) b m says goes lost used bounded once lengths further = use_line mark r us b m says goes lost used bounded once lengths further
     says_one mark [] [] (Some n) m says goes lost used bounded once lengths further = bound_line mark n m says goes lost used bounded once lengths further
-    says_one mark [] [] None m says goes lost used bounded once lengths further = absurd cc
+    says_one mark [] [] None m says goes lost used bounded once lengths further = let none : Some mark ∷ marks_in rest ≡ [] = says in absurd cc
 
     by : Kind line → Further → Goal
     by (Plain e none) further =
@@ -334,6 +336,183 @@ limit_whole (Some n) = refl
 setup_run : (plan : Sweep) (after : Bool) → IsSetup plan → Passes false plan.setup after → run 1 begun plan.setup ≡ Some (at (after_bound plan.bound) after (draft plan.loses plan.uses plan.bound plan.setup))
 unfolding IsHead announced_from
 setup_run plan after s passes =
-    setup_read plan s plan.setup [] Start (after_bound plan.bound) [] [] None false after 1 refl
+    setup_read plan s plan.setup [] Start (after_bound plan.bound) [] [] None false after 1 (omega arith)
     (record { ls = plan.loses; us = s.used; b = plan.bound; cut = refl; head = tt; marks = s.marks; goes = lost_first plan.loses s.used plan.bound s.some_lost ∙ used_first s.used plan.bound s.some_used; all_lost = refl; all_used = sym s.uses; bounded = limit_whole plan.bound; once = s.once; lengths = s.lengths })
     passes
+
+-- ---- lines that are tried, and the recovery
+
+-- no line says anything but an announcement
+calm_first : (line : List ℕ) (rest : List (List ℕ)) → marks_in (line ∷ []) ≡ [] → marks_in (line ∷ rest) ≡ [] → marks_in rest ≡ []
+calm_first line rest none h = sym (marks-append (line ∷ []) rest ∙ ap (λ ms. ms ++ marks_in rest) none) ∙ h
+
+not_said : {P : Type 0} (line : List ℕ) (rest : List (List ℕ)) (m : Option Mark) → marks_in (line ∷ []) ≡ m ∷ [] → marks_in (line ∷ rest) ≡ [] → P
+not_said line rest m says h = let both : m ∷ marks_in rest ≡ [] = sym (marks-append (line ∷ []) rest ∙ ap (λ ms. ms ++ marks_in rest) says) ∙ h in absurd cc
+
+-- after lines, of which the last ones are tried
+abbrev trial : Sweep → List (List ℕ) → ℕ → List (List ℕ) → Sweep
+trial base front first done = record base { tried = tried_from first done; announced = announced_from 1 (front ++ done) }
+
+abbrev recovered : Sweep → List (List ℕ) → List (List ℕ) → Sweep
+recovered base front done = record base { recovery = done; announced = announced_from 1 (front ++ done) }
+
+both_length : (front done : List (List ℕ)) (number : ℕ) → number ≡ length front + 1 + length done → number ≡ length (front ++ done) + 1
+both_length front done number here = let size : length (front ++ done) ≡ length front + length done = grind (arith, common_steps) in omega (arith, size, here)
+
+calm_both : (number : ℕ) (front done : List (List ℕ)) (line : List ℕ) → number ≡ length front + 1 + length done → announced_by number (is_mark line) (mark_of line) ≡ [] → announced_from 1 (front ++ done) ≡ announced_from 1 (front ++ (done ++ line ∷ []))
+calm_both number front done line here nothing = calm_more number (front ++ done) line (both_length front done number here) nothing ∙ ap (announced_from 1) (append_assoc front done (line ∷ []))
+
+refused_both : (number : ℕ) (front done : List (List ℕ)) (line : List ℕ) → number ≡ length front + 1 + length done → IsMark line Refused → announced_from 1 (front ++ done) ++ (number + 1) ∷ [] ≡ announced_from 1 (front ++ (done ++ line ∷ []))
+refused_both number front done line here m = refused_more number (front ++ done) line (both_length front done number here) m ∙ ap (announced_from 1) (append_assoc front done (line ∷ []))
+
+tried_both : (first number : ℕ) (front done : List (List ℕ)) (line : List ℕ) (steps : List Step) → first ≡ length front + 1 → number ≡ length front + 1 + length done → line_of line ≡ Ok steps → tried_from first done ++ tried_steps number line steps ≡ tried_from first (done ++ line ∷ [])
+tried_both first number front done line steps begins here is = sym (tried-more first number done line (omega (arith, begins, here)) ∙ ap (λ ss. tried_from first done ++ tried_steps number line ss) (ap steps_read is))
+
+try_plain : (base : Sweep) (front done : List (List ℕ)) (line : List ℕ) (first number : ℕ) (waits : Bool) → first ≡ length front + 1 → number ≡ length front + 1 + length done → is_mark line ≡ false → MayStand waits line
+    → read_on number (at Trying waits (trial base front first done)) line ≡ Ok (at Trying (is_refused line) (trial base front first (done ++ line ∷ [])))
+try_plain base front done line first number waits begins here e m =
+    read-plain number (at Trying waits (trial base front first done)) line m.steps e m.read (may-stand-room waits line m)
+    ∙ (λ i. Ok (at Trying (sym (plain-not line e) i) (record base { tried = tried_both first number front done line m.steps begins here m.read i; announced = calm_both number front done line here (plain_calm number line e) i })))
+
+try_refused : (base : Sweep) (front done : List (List ℕ)) (line : List ℕ) (first number : ℕ) (waits : Bool) → first ≡ length front + 1 → number ≡ length front + 1 + length done → IsMark line Refused → MayStand waits line
+    → read_on number (at Trying waits (trial base front first done)) line ≡ Ok (at Trying (is_refused line) (trial base front first (done ++ line ∷ [])))
+try_refused base front done line first number waits begins here m stands =
+    let t = trial base front first done in
+    ap (λ w. read_on number (at Trying w t) line) (not-waiting waits line m.0 stands)
+    ∙ read-mark number line Refused Trying Trying t (record t { announced = t.announced ++ (number + 1) ∷ [] }) m refl refl
+    ∙ (λ i. Ok (at Trying (sym (refused-is line m) i) (record base { tried = (sym (append-nil (tried_from first done)) ∙ tried_both first number front done line [] begins here (own-comment line m.0)) i; announced = refused_both number front done line here m i })))
+
+trying : (base : Sweep) (front done rest : List (List ℕ)) (first number : ℕ) (waits after : Bool) → first ≡ length front + 1 → number ≡ length front + 1 + length done → marks_in rest ≡ [] → Passes waits rest after
+    → run number (at Trying waits (trial base front first done)) rest ≡ Some (at Trying after (trial base front first (done ++ rest)))
+trying base front done [] first number waits after begins here none p =
+    run-none number (at Trying waits (trial base front first done)) ∙ (λ i. Some (at Trying (passes-end waits after p i) (trial base front first (sym (append-nil done) i))))
+trying base front done (line ∷ rest) first number waits after begins here none p =
+    by (kind-of line) (λ calm. trying base front (done ++ line ∷ []) rest first (number + 1) (is_refused line) after begins longer (calm_first line rest calm none) both.1)
+  where
+    both : MayStand waits line × Passes (is_refused line) rest after
+    both = passes-first waits after line rest p
+
+    longer : number + 1 ≡ length front + 1 + length (done ++ line ∷ [])
+    longer = let size : length (done ++ line ∷ []) ≡ length done + 1 = grind (arith, common_steps) in omega (arith, size, here)
+
+    on : read_on number (at Trying waits (trial base front first done)) line ≡ Ok (at Trying (is_refused line) (trial base front first (done ++ line ∷ [])))
+        → run (number + 1) (at Trying (is_refused line) (trial base front first (done ++ line ∷ []))) rest ≡ Some (at Trying after (trial base front first ((done ++ line ∷ []) ++ rest)))
+        → run number (at Trying waits (trial base front first done)) (line ∷ rest) ≡ Some (at Trying after (trial base front first (done ++ line ∷ rest)))
+    on reads more =
+        run-more number (at Trying waits (trial base front first done)) (at Trying (is_refused line) (trial base front first (done ++ line ∷ []))) line rest reads ∙ more
+        ∙ (λ i. Some (at Trying after (trial base front first (append_assoc done (line ∷ []) rest i))))
+
+    by : Kind line → (marks_in (line ∷ []) ≡ [] → run (number + 1) (at Trying (is_refused line) (trial base front first (done ++ line ∷ []))) rest ≡ Some (at Trying after (trial base front first ((done ++ line ∷ []) ++ rest))))
+        → run number (at Trying waits (trial base front first done)) (line ∷ rest) ≡ Some (at Trying after (trial base front first (done ++ line ∷ rest)))
+    by (Plain e calm) further = on (try_plain base front done line first number waits begins here e both.0) (further calm)
+    by (Announces m calm) further = on (try_refused base front done line first number waits begins here m both.0) (further calm)
+    by (Says mark m own says) further = not_said line rest (Some mark) says none
+    by (Nothing e is says) further = not_said line rest None says none
+
+recover_plain : (base : Sweep) (front done : List (List ℕ)) (line : List ℕ) (number : ℕ) (waits : Bool) → number ≡ length front + 1 + length done → is_mark line ≡ false → MayStand waits line
+    → read_on number (at Recovering waits (recovered base front done)) line ≡ Ok (at Recovering (is_refused line) (recovered base front (done ++ line ∷ [])))
+recover_plain base front done line number waits here e m =
+    read-plain number (at Recovering waits (recovered base front done)) line m.steps e m.read (may-stand-room waits line m)
+    ∙ (λ i. Ok (at Recovering (sym (plain-not line e) i) (record base { recovery = done ++ line ∷ []; announced = calm_both number front done line here (plain_calm number line e) i })))
+
+recover_refused : (base : Sweep) (front done : List (List ℕ)) (line : List ℕ) (number : ℕ) (waits : Bool) → number ≡ length front + 1 + length done → IsMark line Refused → MayStand waits line
+    → read_on number (at Recovering waits (recovered base front done)) line ≡ Ok (at Recovering (is_refused line) (recovered base front (done ++ line ∷ [])))
+recover_refused base front done line number waits here m stands =
+    let t = recovered base front done in
+    ap (λ w. read_on number (at Recovering w t) line) (not-waiting waits line m.0 stands)
+    ∙ read-mark number line Refused Recovering Recovering t (record t { recovery = done ++ line ∷ []; announced = t.announced ++ (number + 1) ∷ [] }) m refl refl
+    ∙ (λ i. Ok (at Recovering (sym (refused-is line m) i) (record base { recovery = done ++ line ∷ []; announced = refused_both number front done line here m i })))
+
+recovering : (base : Sweep) (front done rest : List (List ℕ)) (number : ℕ) (waits after : Bool) → number ≡ length front + 1 + length done → marks_in rest ≡ [] → Passes waits rest after
+    → run number (at Recovering waits (recovered base front done)) rest ≡ Some (at Recovering after (recovered base front (done ++ rest)))
+recovering base front done [] number waits after here none p =
+    run-none number (at Recovering waits (recovered base front done)) ∙ (λ i. Some (at Recovering (passes-end waits after p i) (recovered base front (sym (append-nil done) i))))
+recovering base front done (line ∷ rest) number waits after here none p =
+    by (kind-of line) (λ calm. recovering base front (done ++ line ∷ []) rest (number + 1) (is_refused line) after longer (calm_first line rest calm none) both.1)
+  where
+    both : MayStand waits line × Passes (is_refused line) rest after
+    both = passes-first waits after line rest p
+
+    longer : number + 1 ≡ length front + 1 + length (done ++ line ∷ [])
+    longer = let size : length (done ++ line ∷ []) ≡ length done + 1 = grind (arith, common_steps) in omega (arith, size, here)
+
+    on : read_on number (at Recovering waits (recovered base front done)) line ≡ Ok (at Recovering (is_refused line) (recovered base front (done ++ line ∷ [])))
+        → run (number + 1) (at Recovering (is_refused line) (recovered base front (done ++ line ∷ []))) rest ≡ Some (at Recovering after (recovered base front ((done ++ line ∷ []) ++ rest)))
+        → run number (at Recovering waits (recovered base front done)) (line ∷ rest) ≡ Some (at Recovering after (recovered base front (done ++ line ∷ rest)))
+    on reads more =
+        run-more number (at Recovering waits (recovered base front done)) (at Recovering (is_refused line) (recovered base front (done ++ line ∷ []))) line rest reads ∙ more
+        ∙ (λ i. Some (at Recovering after (recovered base front (append_assoc done (line ∷ []) rest i))))
+
+    by : Kind line → (marks_in (line ∷ []) ≡ [] → run (number + 1) (at Recovering (is_refused line) (recovered base front (done ++ line ∷ []))) rest ≡ Some (at Recovering after (recovered base front ((done ++ line ∷ []) ++ rest))))
+        → run number (at Recovering waits (recovered base front done)) (line ∷ rest) ≡ Some (at Recovering after (recovered base front (done ++ line ∷ rest)))
+    by (Plain e calm) further = on (recover_plain base front done line number waits here e both.0) (further calm)
+    by (Announces m calm) further = on (recover_refused base front done line number waits here m both.0) (further calm)
+    by (Says mark m own says) further = not_said line rest (Some mark) says none
+    by (Nothing e is says) further = not_said line rest None says none
+
+-- ---- the whole plan
+
+-- the lines `here` and `then`
+here_goes : (limit : Option ℕ) → stage_after Here (after_bound limit) ≡ Some Trying
+unfolding after_bound
+here_goes None = refl
+here_goes (Some n) = refl
+
+here_read : (plan : Sweep) (begin : List ℕ) (number : ℕ) (waits : Bool) → number ≡ length plan.setup + 1 → IsMark begin Here → MayStand waits begin
+    → read_on number (at (after_bound plan.bound) waits (draft plan.loses plan.uses plan.bound plan.setup)) begin ≡ Ok (at Trying (is_refused begin) (trial (draft plan.loses plan.uses plan.bound plan.setup) (plan.setup ++ begin ∷ []) (length plan.setup + 2) []))
+unfolding tried_from
+here_read plan begin number waits here m stands =
+    let d = draft plan.loses plan.uses plan.bound plan.setup in
+    ap (λ w. read_on number (at (after_bound plan.bound) w d) begin) (not-waiting waits begin m.0 stands)
+    ∙ read-mark number begin Here (after_bound plan.bound) Trying d d m (here_goes plan.bound) refl
+    ∙ (λ i. Ok (at Trying (sym (says-not begin Here m refl) i) (record d { announced = (calm_more number plan.setup begin here (says_calm number begin Here m refl) ∙ ap (announced_from 1) (sym (append-nil (plan.setup ++ begin ∷ [])))) i })))
+
+then_read : (base : Sweep) (front : List (List ℕ)) (end : List ℕ) (number : ℕ) (waits : Bool) → base.announced ≡ announced_from 1 front → base.recovery ≡ [] → number ≡ length front + 1 → IsMark end Then → MayStand waits end
+    → read_on number (at Trying waits base) end ≡ Ok (at Recovering (is_refused end) (recovered (record base { then_line = number }) (front ++ end ∷ []) []))
+then_read base front end number waits told none here m stands =
+    ap (λ w. read_on number (at Trying w base) end) (not-waiting waits end m.0 stands)
+    ∙ read-mark number end Then Trying Recovering base (record base { then_line = number }) m refl refl
+    ∙ (λ i. Ok (at Recovering (sym (says-not end Then m refl) i) (record base { then_line = number; recovery = none i; announced = (told ∙ calm_more number front end here (says_calm number end Then m refl) ∙ ap (announced_from 1) (sym (append-nil (front ++ end ∷ [])))) i })))
+
+-- the set-up, `here`, and the lines that are tried
+middle_run : (plan : Sweep) (begin : List ℕ) (between : List (List ℕ)) (first mid : Bool) → IsSetup plan → IsMark begin Here → marks_in between ≡ [] → Passes false plan.setup first → Passes first (begin ∷ between) mid
+    → run 1 begun (plan.setup ++ begin ∷ between) ≡ Some (at Trying mid (trial (draft plan.loses plan.uses plan.bound plan.setup) (plan.setup ++ begin ∷ []) (length plan.setup + 2) between))
+middle_run plan begin between first mid s m none before behind =
+    let d = draft plan.loses plan.uses plan.bound plan.setup in
+    let p = passes-first first mid begin between behind in
+    let size : length (plan.setup ++ begin ∷ []) ≡ length plan.setup + 1 = grind (arith, common_steps) in
+    run-then 1 (length plan.setup + 1) begun (at (after_bound plan.bound) first d) plan.setup (begin ∷ between) (omega arith) (setup_run plan first s before)
+    ∙ run-more (length plan.setup + 1) (at (after_bound plan.bound) first d) (at Trying (is_refused begin) (trial d (plan.setup ++ begin ∷ []) (length plan.setup + 2) [])) begin between (here_read plan begin (length plan.setup + 1) first refl m p.0)
+    ∙ trying d (plan.setup ++ begin ∷ []) [] between (length plan.setup + 2) (length plan.setup + 1 + 1) (is_refused begin) mid (omega (arith, size)) (omega (arith, size)) none p.1
+
+-- `then`, and the recovery
+end_run : (t : Sweep) (front : List (List ℕ)) (end : List ℕ) (rest : List (List ℕ)) (mid : Bool) (number : ℕ) → t.announced ≡ announced_from 1 front → t.recovery ≡ [] → number ≡ length front + 1 → IsMark end Then → marks_in rest ≡ [] → Passes mid (end ∷ rest) false
+    → run number (at Trying mid t) (end ∷ rest) ≡ Some (at Recovering false (recovered (record t { then_line = number }) (front ++ end ∷ []) rest))
+end_run t front end rest mid number told empty here m none passes =
+    let p = passes-first mid false end rest passes in
+    let size : length (front ++ end ∷ []) ≡ length front + 1 = grind (arith, common_steps) in
+    run-more number (at Trying mid t) (at Recovering (is_refused end) (recovered (record t { then_line = number }) (front ++ end ∷ []) [])) end rest (then_read t front end number mid told empty here m p.0)
+    ∙ recovering (record t { then_line = number }) (front ++ end ∷ []) [] rest (number + 1) (is_refused end) false (omega (arith, size, here)) none p.1
+
+-- a reading of all lines of a plan
+plan_run : (lines : List (List ℕ)) (plan : Sweep) → IsPlan lines plan → run 1 begun lines ≡ Some (at Recovering false plan)
+plan_run lines plan p =
+    let whole : Passes false lines false = passes-of lines [] lines false refl p.read p.followed (λ e. absurd cc) in
+    let parts = passes-parts false false (plan.setup ++ p.begin ∷ p.between) (p.end ∷ plan.recovery) (subst (λ ls. Passes false ls false) p.cut whole) in
+    let first = passes-parts false parts.mid plan.setup (p.begin ∷ p.between) parts.before in
+    let t = trial (draft plan.loses plan.uses plan.bound plan.setup) (plan.setup ++ p.begin ∷ []) (length plan.setup + 2) p.between in
+    let sized : length (plan.setup ++ p.begin ∷ p.between) ≡ length plan.setup + 1 + length p.between = grind (arith, common_steps) in
+    let joined : announced_from 1 ((plan.setup ++ p.begin ∷ []) ++ p.between) ≡ announced_from 1 (plan.setup ++ p.begin ∷ p.between) = ap (announced_from 1) (append_assoc plan.setup (p.begin ∷ []) p.between) in
+    let told : announced_from 1 (((plan.setup ++ p.begin ∷ p.between) ++ p.end ∷ []) ++ plan.recovery) ≡ plan.announced = ap (announced_from 1) (append_assoc (plan.setup ++ p.begin ∷ p.between) (p.end ∷ []) plan.recovery ∙ sym p.cut) ∙ sym p.announced in
+    ap (run 1 begun) p.cut
+    ∙ run-then 1 (length plan.setup + 2 + length p.between) begun (at Trying parts.mid t) (plan.setup ++ p.begin ∷ p.between) (p.end ∷ plan.recovery) (omega (arith, sized)) (middle_run plan p.begin p.between first.mid parts.mid p.setup p.begins p.unmarked first.before first.behind)
+    ∙ end_run t (plan.setup ++ p.begin ∷ p.between) p.end plan.recovery parts.mid (length plan.setup + 2 + length p.between) joined refl (omega (arith, sized)) p.ends p.unmarked_after parts.behind
+    ∙ (λ i. Some (at Recovering false (record plan { tried = sym p.tries.apart i; then_line = sym p.place i; announced = told i })))
+
+pub plan-is-read : (lines : List (List ℕ)) (plan : Sweep) → IsPlan lines plan → sweep_of lines ≡ Ok plan
+plan-is-read lines plan p =
+    ap (read_lines 1 begun) (sym (append-nil lines)) ∙ run-read 1 (1 + length lines) begun (at Recovering false plan) lines [] refl (plan_run lines plan p) ∙ lines-done (1 + length lines) (at Recovering false plan)
+
+pub no-plan : (lines : List (List ℕ)) (fault : PlanFault) → TellsFault (sweep_of lines) fault → IsNoPlan lines fault
+no-plan lines NoMemory h = tt
+no-plan lines (BadLine line reason) h = λ plan p. (let both : Ok plan ≡ Err (record { line = line; reason = reason }) = sym (plan-is-read lines plan p) ∙ h in cc)

@@ -34,11 +34,11 @@ no_cut [] x after e = absurd cc
 no_cut (y ∷ before) x after e = absurd cc
 
 -- after those names none of these comes again
-pub OnceAfter : List Name → List Name → Type 0
+abbrev pub OnceAfter : List Name → List Name → Type 0
 OnceAfter first names = (before after : List Name) (name : Name) → names ≡ before ++ name ∷ after → is_among name (first ++ before) ≡ false
 
-once_more : (first : List Name) (name : Name) (rest : List Name) → is_among name first ≡ false → OnceAfter (first ++ name ∷ []) rest → OnceAfter first (name ∷ rest)
-unfolding OnceAfter
+once_more : (first : List Name) (name : Name) (rest : List Name) → is_among name first ≡ false → OnceAfter (first ++ name ∷ []) rest
+    → (before after : List Name) (n : Name) → name ∷ rest ≡ before ++ n ∷ after → is_among n (first ++ before) ≡ false
 once_more first name rest e h [] after n cut = let same : n ≡ name = cc in ap (is_among n) (append-nil first) ∙ ap (λ x. is_among x first) same ∙ e
 once_more first name rest e h (m ∷ before) after n cut =
     let same : m ≡ name = cc in
@@ -46,23 +46,24 @@ once_more first name rest e h (m ∷ before) after n cut =
     ap (is_among n) (ap (λ x. first ++ x ∷ before) same ∙ sym (append_assoc first (name ∷ []) before)) ∙ h before after n tail
 
 pub names-sound : (known first names : List Name) → servers_fault known first names ≡ None → All (λ name. is_among name known ≡ true) names × OnceAfter first names
-unfolding OnceAfter
 names-sound known first [] h = (All-nil (λ name. is_among name known ≡ true), λ before after name cut. no_cut before name after cut)
-names-sound known first (name ∷ rest) h = by (cases_Bool (is_among name first))
+names-sound known first (name ∷ rest) h = by (cases_Bool (is_among name first)) (names-sound known (first ++ name ∷ []) rest)
   where
-    inner : is_among name first ≡ false → (is_among name known ≡ true) ⊎ (is_among name known ≡ false) → cond (is_among name known) (servers_fault known (first ++ name ∷ []) rest) (Some (UnknownServer name)) ≡ None
-        → All (λ name. is_among name known ≡ true) (name ∷ rest) × OnceAfter first (name ∷ rest)
-    inner once (inl is) k =
-        let r = names-sound known (first ++ name ∷ []) rest (sym (ap (λ b. cond b (servers_fault known (first ++ name ∷ []) rest) (Some (UnknownServer name))) is) ∙ k) in
-        (All-cons (λ name. is_among name known ≡ true) name rest is r.0, once_more first name rest once r.1)
-    inner once (inr is) k = let bad : Some (UnknownServer name) ≡ None = sym (ap (λ b. cond b (servers_fault known (first ++ name ∷ []) rest) (Some (UnknownServer name))) is) ∙ k in absurd cc
+    Further : Type 0
+    Further = servers_fault known (first ++ name ∷ []) rest ≡ None → All (λ name. is_among name known ≡ true) rest × OnceAfter (first ++ name ∷ []) rest
 
-    by : (is_among name first ≡ true) ⊎ (is_among name first ≡ false) → All (λ name. is_among name known ≡ true) (name ∷ rest) × OnceAfter first (name ∷ rest)
-    by (inl twice) = let bad : Some (ServerTwice name) ≡ None = sym (name-twice known first name rest twice) ∙ h in absurd cc
-    by (inr once) = inner once (cases_Bool (is_among name known)) (sym (name-other known first name rest once) ∙ h)
+    inner : Further → is_among name first ≡ false → (is_among name known ≡ true) ⊎ (is_among name known ≡ false) → cond (is_among name known) (servers_fault known (first ++ name ∷ []) rest) (Some (UnknownServer name)) ≡ None
+        → All (λ name. is_among name known ≡ true) (name ∷ rest) × OnceAfter first (name ∷ rest)
+    inner further once (inl is) k =
+        let r = further (sym (ap (λ b. cond b (servers_fault known (first ++ name ∷ []) rest) (Some (UnknownServer name))) is) ∙ k) in
+        (All-cons (λ name. is_among name known ≡ true) name rest is r.0, once_more first name rest once r.1)
+    inner further once (inr is) k = let bad : Some (UnknownServer name) ≡ None = sym (ap (λ b. cond b (servers_fault known (first ++ name ∷ []) rest) (Some (UnknownServer name))) is) ∙ k in absurd cc
+
+    by : (is_among name first ≡ true) ⊎ (is_among name first ≡ false) → Further → All (λ name. is_among name known ≡ true) (name ∷ rest) × OnceAfter first (name ∷ rest)
+    by (inl twice) further = let bad : Some (ServerTwice name) ≡ None = sym (name-twice known first name rest twice) ∙ h in absurd cc
+    by (inr once) further = inner further once (cases_Bool (is_among name known)) (sym (name-other known first name rest once) ∙ h)
 
 pub names-complete : (known first names : List Name) → All (λ name. is_among name known ≡ true) names → OnceAfter first names → servers_fault known first names ≡ None
-unfolding OnceAfter
 names-complete known first [] all once = names-end known first
 names-complete known first (name ∷ rest) all once =
     let new : is_among name first ≡ false = ap (is_among name) (sym (append-nil first)) ∙ once [] rest name refl in
@@ -88,11 +89,11 @@ sizes_complete first second tracks a b e k =
 
 pub pairs-sound : (above : List (List ℕ)) (pairs : List Item) → pairs_fault (volumes_in above) pairs ≡ None → All (AreAlike above) pairs
 pairs-sound above [] h = All-nil (AreAlike above)
-pairs-sound above (pair ∷ rest) h = by (pair_fault (volumes_in above) pair) refl (sym (pairs-next (volumes_in above) pair rest) ∙ h)
+pairs-sound above (pair ∷ rest) h = by (pair_fault (volumes_in above) pair) refl (sym (pairs-next (volumes_in above) pair rest) ∙ h) (pairs-sound above rest)
   where
-    by : (fault : Option Reason) → pair_fault (volumes_in above) pair ≡ fault → option_or fault (pairs_fault (volumes_in above) rest) ≡ None → All (AreAlike above) (pair ∷ rest)
-    by None is k = All-cons (AreAlike above) pair rest (sizes_sound pair.first pair.second (tracks_in above pair.first) (tracks_in above pair.second) is) (pairs-sound above rest k)
-    by (Some reason) is k = absurd cc
+    by : (fault : Option Reason) → pair_fault (volumes_in above) pair ≡ fault → option_or fault (pairs_fault (volumes_in above) rest) ≡ None → (pairs_fault (volumes_in above) rest ≡ None → All (AreAlike above) rest) → All (AreAlike above) (pair ∷ rest)
+    by None is k further = All-cons (AreAlike above) pair rest (sizes_sound pair.first pair.second (tracks_in above pair.first) (tracks_in above pair.second) is) (further k)
+    by (Some reason) is k further = absurd cc
 
 pub pairs-complete : (above : List (List ℕ)) (pairs : List Item) → All (AreAlike above) pairs → pairs_fault (volumes_in above) pairs ≡ None
 pairs-complete above [] all = pairs-end (volumes_in above)
@@ -116,15 +117,15 @@ pub uses-few : (uses : List HostUse) (r : Ranges) (most : ℕ) → length uses �
 uses-few uses r most few e = by (has_use uses r.name) refl e
   where
     by : (has : Bool) → has_use uses r.name ≡ has → (has || nat_lt (length uses) most) ≡ true → length (with_ranges uses r) ≤ most
-    by true is h = let size = with_length uses r.name (pairs_of r) true is in omega (arith, size, few)
-    by false is h = let size = with_length uses r.name (pairs_of r) false is in let lt : length uses < most = grind (arith, nat_tests, h) in omega (arith, size, lt)
+    by true is h = let size : length (with_ranges uses r) ≡ length uses = with_length uses r.name (pairs_of r) true is in omega (arith, size, few)
+    by false is h = let size : length (with_ranges uses r) ≡ length uses + 1 = with_length uses r.name (pairs_of r) false is in let lt : length uses < most = grind (arith, nat_tests, h) in omega (arith, size, lt)
 
 grows : (uses : List HostUse) (r : Ranges) → length uses ≤ length (with_ranges uses r)
 grows uses r = by (has_use uses r.name) refl
   where
     by : (has : Bool) → has_use uses r.name ≡ has → length uses ≤ length (with_ranges uses r)
-    by true is = let size = with_length uses r.name (pairs_of r) true is in omega (arith, size)
-    by false is = let size = with_length uses r.name (pairs_of r) false is in omega (arith, size)
+    by true is = let size : length (with_ranges uses r) ≡ length uses = with_length uses r.name (pairs_of r) true is in omega (arith, size)
+    by false is = let size : length (with_ranges uses r) ≡ length uses + 1 = with_length uses r.name (pairs_of r) false is in omega (arith, size)
 
 all_grow : (uses : List HostUse) (more : List Ranges) → length uses ≤ length (fold with_ranges uses more)
 all_grow uses [] = omega arith
@@ -137,8 +138,8 @@ uses-room uses r more most few = by (has_use uses r.name) refl
     by : (has : Bool) → has_use uses r.name ≡ has → (has_use uses r.name || nat_lt (length uses) most) ≡ true
     by true is = ap (λ b. b || nat_lt (length uses) most) is
     by false is =
-        let size = with_length uses r.name (pairs_of r) false is in
-        let rest = all_grow (with_ranges uses r) more in
+        let size : length (with_ranges uses r) ≡ length uses + 1 = with_length uses r.name (pairs_of r) false is in
+        let rest : length (with_ranges uses r) ≤ length (fold with_ranges uses (r ∷ more)) = all_grow (with_ranges uses r) more in
         let lt : length uses < most = omega (arith, size, rest, few) in
         let room : nat_lt (length uses) most ≡ true = grind (arith, nat_tests, lt) in
         ap (λ b. b || nat_lt (length uses) most) is ∙ room

@@ -115,6 +115,7 @@ passes-of lines done [] waits cut read followed begins = by (cases_Bool waits)
     by (inl e) = absurd (begins e)
     by (inr e) = e
 passes-of lines done (line ∷ rest) waits cut read followed begins =
-    let first = read 0 line (omega arith) in
-    (record { steps = first.0; read = first.1; some = begins },
-    passes-of lines (done ++ line ∷ []) rest (is_refused line) (cut ∙ sym (append_assoc done (line ∷ []) rest)) (All-drop IsRead 1 (line ∷ rest) read) followed (λ e. followed done rest line cut (refused_mark line e)))
+    let first = read 0 line (omega arith) in (
+      record { steps = first.0; read = first.1; some = begins },
+      passes-of lines (done ++ line ∷ []) rest (is_refused line) (cut ∙ sym (append_assoc done (line ∷ []) rest)) (All-drop IsRead 1 (line ∷ rest) read) followed (λ e. followed done rest line cut (refused_mark line e)),
+    )

@@ -17,7 +17,7 @@ use Rattle.dr_plan.specs.Above.{unless, is_among, defines_server, servers_in, vo
 use Rattle.dr_plan.specs.Parts.{IsMark, marks_in, Ranges, use_mark, pairs_of, bound_marks, with_ranges, uses_of, StandsAfter, ComeOnce, AreAlike, IsSetup}
 use Rattle.dr_plan.specs.Reading.{announces, servers_fault, pairs_fault, has_use, with_pairs, lost_too, used_pairs, used_too}
 use Rattle.dr_plan.specs.Sweep.{Sweep, Use as HostUse, most_disasters, most_uses}
-use Rattle.dr_plan.proofs.FaultLaws.{ok-of, unless-of, OnceAfter, names-sound, pairs-sound, uses-more, uses-few}
+use Rattle.dr_plan.proofs.FaultLaws.{ok-of, unless-of, names-sound, pairs-sound, uses-more, uses-few}
 use Rattle.dr_plan.proofs.OwnLemmas.{marks-append, none-more, own-more, none-said, after-more}
 
 -- disasters, uses and the bound were said in this order
@@ -35,8 +35,8 @@ pub record Head (done : List (List ℕ)) (used : List Ranges) (plan : Sweep) : T
   pub recovery : plan.recovery ≡ []
 
 -- what stood after lines stands there, where the new line says something else
-after_other : {P : Type 0} (done : List (List ℕ)) (line : List ℕ) (above : List (List ℕ)) (mark : Mark) → (IsMark line mark → P) → (StandsAfter done above mark → P) → StandsAfter (done ++ line ∷ []) above mark → P
-after_other {P} done line above mark new old s = by (after-more done line above mark s)
+after_other : (P : Type 0) (done : List (List ℕ)) (line : List ℕ) (above : List (List ℕ)) (mark : Mark) → (IsMark line mark → P) → (StandsAfter done above mark → P) → StandsAfter (done ++ line ∷ []) above mark → P
+after_other P done line above mark new old s = by (after-more done line above mark s)
   where
     by : ((above ≡ done) × IsMark line mark) ⊎ StandsAfter done above mark → P
     by (inl p) = new p.1
@@ -51,9 +51,9 @@ head-none done line used plan announced none h = record {
   few = h.few;
   few_used = h.few_used;
   once = h.once;
-  servers = λ above names s. after_other done line above (Lose names) (none-said line (Lose names) refl none) (h.servers above names) s;
+  servers = λ above names s. after_other _ done line above (Lose names) (none-said line (Lose names) refl none) (h.servers above names) s;
   lengths = h.lengths;
-  volumes = λ above r s. after_other done line above (use_mark r) (none-said line (use_mark r) refl none) (h.volumes above r) s;
+  volumes = λ above r s. after_other _ done line above (use_mark r) (none-said line (use_mark r) refl none) (h.volumes above r) s;
   tried = h.tried;
   recovery = h.recovery;
 }
@@ -95,7 +95,6 @@ bound_more marks loses used bound n unbound so_far =
 
 lost : (done : List (List ℕ)) (line : List ℕ) (servers : List Name) (used : List Ranges) (plan : Sweep) → IsMark line (Lose servers) → Head done used plan → used ≡ [] → plan.bound ≡ None → length plan.loses < most_disasters
     → servers_fault (servers_in plan.setup) [] servers ≡ None → Head (done ++ line ∷ []) used (record plan { loses = plan.loses ++ servers ∷ []; setup = plan.setup ++ line ∷ [] })
-unfolding OnceAfter
 lost done line servers used plan m h none unbound room fault =
     let more : length (plan.loses ++ servers ∷ []) ≡ length plan.loses + 1 = grind (arith, common_steps) in
     let sound = names-sound (servers_in plan.setup) [] servers fault in
@@ -109,7 +108,7 @@ lost done line servers used plan m h none unbound room fault =
       once = All-push ComeOnce plan.loses servers h.once sound.1;
       servers = λ above names s. by above names known (after-more done line above (Lose names) s);
       lengths = h.lengths;
-      volumes = λ above r s. after_other done line above (use_mark r) (λ other. other_use r other) (h.volumes above r) s;
+      volumes = λ above r s. after_other _ done line above (use_mark r) (λ other. other_use r other) (h.volumes above r) s;
       tried = h.tried;
       recovery = h.recovery;
     }
@@ -149,7 +148,7 @@ used_more done line r used plan m h unbound room equal fault =
       few = h.few;
       few_used = uses-few plan.uses r most_uses h.few_used room;
       once = h.once;
-      servers = λ above names s. after_other done line above (Lose names) (λ other. other_lose names other) (h.servers above names) s;
+      servers = λ above names s. after_other _ done line above (Lose names) (λ other. other_lose names other) (h.servers above names) s;
       lengths = All-push (λ (r : Ranges). span_len r.first ≡ span_len r.second) used r h.lengths equal;
       volumes = λ above q s. by above q sound (after-more done line above (use_mark q) s);
       tried = h.tried;
@@ -190,9 +189,9 @@ head-bound done line n used plan m h unbound = record {
   few = h.few;
   few_used = h.few_used;
   once = h.once;
-  servers = λ above names s. after_other done line above (Lose names) (λ other. other_lose names other) (h.servers above names) s;
+  servers = λ above names s. after_other _ done line above (Lose names) (λ other. other_lose names other) (h.servers above names) s;
   lengths = h.lengths;
-  volumes = λ above r s. after_other done line above (use_mark r) (λ other. other_use r other) (h.volumes above r) s;
+  volumes = λ above r s. after_other _ done line above (use_mark r) (λ other. other_use r other) (h.volumes above r) s;
   tried = h.tried;
   recovery = h.recovery;
 }

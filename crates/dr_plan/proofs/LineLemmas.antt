@@ -1,16 +1,19 @@
 -- The first line of a text.
-use Rattle.std.proofs.Common.{ℕ, ◌≡◌, ◌<◌, ◌≤◌, ◌+◌, List, [], ◌∷◌, ◌++◌, length, take, drop, map, slice_get, refl, ap, sym, ◌∙◌, arith, append_assoc, cond, false, Some, None, nat_lt}
+use Rattle.std.proofs.Common.{ℕ, suc, ◌≡◌, ◌<◌, ◌≤◌, ◌+◌, List, [], ◌∷◌, ◌++◌, length, take, drop, drop-cons, slice_get, refl, ap, sym, ◌∙◌, arith, append_assoc, cond, false, Some, None, nat_lt}
 use Rattle.std.specs.Prelude.{◌==◌}
 use Rattle.std.specs.List.{position, position_or_len, slice_split}
 use Rattle.std.specs.Str.Lines.{lines, lines_of_parts, strip_carriage_return}
 use Rattle.std.proofs.lemmas.Bool.Decides.{nat_tests}
 use Rattle.std.proofs.lemmas.List.Splits.{length-slice_split, slice_split_first}
-use Rattle.std.proofs.lemmas.List.{map-append, take_more}
+use Rattle.std.proofs.Math.ListN.{drop_of_length-le}
+use Rattle.std.proofs.lemmas.List.{append-nil}
 use Rattle.std.proofs.lemmas.Option.{slice_get_within, get_or_from_slice_get}
 use Rattle.dr_model.specs.declared.step.Step.{Step}
 use Rattle.dr_model.specs.LineText.{step_text}
 use Rattle.dr_logic.proofs.Choices.{not_chosen, chosen}
 use Rattle.dr_logic.proofs.Lists.{uncut}
+use Rattle.dr_plan.specs.Reading.{parts_from}
+use Rattle.dr_plan.specs.Sweep.{Tried}
 
 -- a part before another is a line
 pub before-parts : (x : List ℕ) (ps : List (List ℕ)) → 1 ≤ length ps → lines_of_parts (x ∷ ps) ≡ strip_carriage_return x ∷ lines_of_parts ps
@@ -36,13 +39,19 @@ line-unended text h some =
     let past = not_chosen (nat_lt (position_or_len p text) (length text)) (position_or_len p text) h in
     ap lines_of_parts (uncut p text (grind (arith, nat_tests, past))) ∙ one-part text some
 
--- the line of one step more
-pub step-more : (old all new : List (List ℕ)) (steps : List Step) (i : ℕ) (step : Step) (text : List ℕ) → slice_get steps i ≡ Some step → text ≡ step_text step → new ≡ all ++ text ∷ [] → all ≡ old ++ map step_text (take i steps)
-    → new ≡ old ++ map step_text (take (i + 1) steps)
-step-more old all new steps i step text here is more so_far =
-    more
-    ∙ ap (λ t. all ++ t ∷ []) is
-    ∙ ap (λ ls. ls ++ step_text step ∷ []) so_far
-    ∙ append_assoc old (map step_text (take i steps)) (step_text step ∷ [])
-    ∙ ap (λ ls. old ++ ls) (sym (map-append step_text (take i steps) (step ∷ [])))
-    ∙ ap (λ ss. old ++ map step_text ss) (sym (take_more steps i step (slice_get_within steps i step here) ∙ ap (λ s. take i steps ++ s ∷ []) (get_or_from_slice_get steps i step step here)))
+-- the part of a line of several steps more
+pub parts-more : (number : ℕ) (all new total : List Tried) (steps : List Step) (i : ℕ) (step : Step) (text : List ℕ) → slice_get steps i ≡ Some step → text ≡ step_text step → new ≡ all ++ record { line = number; part = i + 1; text = text } ∷ []
+    → all ++ parts_from number (i + 1) (drop i steps) ≡ total → new ++ parts_from number (i + 1 + 1) (drop (i + 1) steps) ≡ total
+unfolding parts_from
+parts-more number all new total steps i step text here is more so_far =
+    let rest = parts_from number (i + 1 + 1) (drop (i + 1) steps) in
+    let cut : drop i steps ≡ step ∷ drop (i + 1) steps = drop-cons steps i step (slice_get_within steps i step here)
+    ∙ (let e : suc i ≡ i + 1 = omega arith in λ j. get_or_from_slice_get steps i step step here j ∷ drop (e j) steps) in
+    ap (λ ts. ts ++ rest) (more ∙ ap (λ t. all ++ record { line = number; part = i + 1; text = t } ∷ []) is)
+    ∙ append_assoc all (record { line = number; part = i + 1; text = step_text step } ∷ []) rest
+    ∙ sym (ap (λ ss. all ++ parts_from number (i + 1) ss) cut)
+    ∙ so_far
+
+pub parts-done : (number : ℕ) (all total : List Tried) (steps : List Step) (i : ℕ) → length steps ≤ i → all ++ parts_from number (i + 1) (drop i steps) ≡ total → all ≡ total
+unfolding parts_from
+parts-done number all total steps i past so_far = sym (append-nil all) ∙ sym (ap (λ ss. all ++ parts_from number (i + 1) ss) (drop_of_length-le steps past)) ∙ so_far

@@ -1,7 +1,7 @@
 -- Lines of the plan's own among others.
 use Rattle.std.proofs.Common.{ℕ, ◌≡◌, ◌+◌, List, [], ◌∷◌, ◌++◌, length, map, filter, refl, ap, sym, ◌∙◌, subst, arith, append_assoc, Bool, true, false, not, cond, nat_lt, Option, Some, None, ◌⊎◌, inl, inr}
 use Rattle.std.specs.Prelude.{Ok, Err, nat_eq, All, take, codes}
-use Rattle.std.specs.List.{pointwise}
+use Rattle.std.specs.Cmp.Lexicographic.{pointwise}
 use Rattle.std.proofs.lemmas.Bool.{and_parts, cases_Bool}
 use Rattle.std.proofs.lemmas.Bool.Decides.{nat_tests}
 use Rattle.std.proofs.lemmas.Grind.{common_steps}
@@ -109,8 +109,8 @@ split-end (z ∷ xs) x (a ∷ above) y below e = by (split-end xs x above y belo
 
     by : ((above ≡ xs) × (y ≡ x)) ⊎ ((rest : List A) × (xs ≡ above ++ y ∷ rest) × (below ≡ rest ++ x ∷ []))
         → ((a ∷ above ≡ z ∷ xs) × (y ≡ x)) ⊎ ((rest : List A) × (z ∷ xs ≡ a ∷ above ++ y ∷ rest) × (below ≡ rest ++ x ∷ []))
-    by (inl p) = inl (let e = p.0 in (cc, p.1))
-    by (inr p) = let e = p.1 in inr (p.0, cc, p.2)
+    by (inl p) = inl ((λ i. same i ∷ p.0 i), p.1)
+    by (inr p) = inr (p.0, (λ i. sym same i ∷ p.1 i), p.2)
 
 -- a line more: what stands after lines is the new one, or stood there
 pub after-more : (done : List (List ℕ)) (line : List ℕ) (above : List (List ℕ)) (mark : Mark) → StandsAfter (done ++ line ∷ []) above mark → ((above ≡ done) × IsMark line mark) ⊎ StandsAfter done above mark

@@ -27,7 +27,7 @@ use Rattle.dr_plan.proofs.FaultLaws.{ok-of, unless-of}
 use Rattle.dr_plan.proofs.FollowLemmas.{Passes, MayStand, is_refused, plain-not, says-not, refused-is, passes-none, passes-more, all-read, all-followed}
 use Rattle.dr_plan.proofs.HeadLaws.{Head, head-none, head-lose, head-use, head-bound, head-setup}
 use Rattle.dr_plan.proofs.OwnLemmas.{own-comment, plain-none, refused-none, only-refused, none-more, announced-more, announced-same, announced-none}
-use Rattle.dr_plan.proofs.ReadLemmas.{WasRead, OfSteps, OfMark, was-read, stood, stood-own, line-bad, line-more}
+use Rattle.dr_plan.proofs.ReadLemmas.{WasRead, OfSteps, OfMark, same-Ok, was-read, stood, stood-own, line-bad, line-more}
 
 -- ---- what was read of lines, by stage
 
@@ -192,9 +192,6 @@ lose_step : (done : List (List ℕ)) (line : List ℕ) (servers : List Name) (nu
 unfolding Fits
 lose_step done line servers number stage plan next used m h none unbound notes = let p = head-lose done line servers used plan next m h none unbound notes in record { used = used; head = p.0; fits = (p.1, none, p.2) }
 
-same_Ok : (a b : Sweep) → Ok {Sweep} {Reason} a ≡ Ok b → a ≡ b
-same_Ok a b e = cc
-
 use_step : (done : List (List ℕ)) (line : List ℕ) (mark : Mark) (r : Ranges) (number : ℕ) (stage : Stage) (plan next : Sweep) (used : List Ranges) → mark ≡ Use r.name r.first r.second → IsMark line mark → Head done used plan → 1 ≤ length plan.loses → plan.bound ≡ None
     → noted number stage mark line plan ≡ Ok next → Setup (done ++ line ∷ []) Using next
 unfolding Fits
@@ -227,16 +224,16 @@ mark_step done line (AtMost n) number Losing after plan next m own at goes notes
 mark_step done line (AtMost n) number Using after plan next m own at goes notes p =
     let now : Sweep = record plan { bound = Some n; setup = plan.setup ++ line ∷ [] } in
     let new : Setup (done ++ line ∷ []) Bounded now = record { used = p.used; head = head-bound done line n p.used plan m p.head p.fits.2; fits = (p.fits.0, p.fits.1, tt) } in
-    subst (λ stage. Part stage (done ++ line ∷ []) next) (same_Some Bounded after goes) (subst (Setup (done ++ line ∷ []) Bounded) (same_Ok now next notes) new)
+    subst (λ stage. Part stage (done ++ line ∷ []) next) (same_Some Bounded after goes) (subst (Setup (done ++ line ∷ []) Bounded) (same-Ok now next notes) new)
 mark_step done line (AtMost n) number Bounded after plan next m own at goes notes p = absurd cc
 mark_step done line (AtMost n) number Trying after plan next m own at goes notes p = absurd cc
 mark_step done line (AtMost n) number Recovering after plan next m own at goes notes p = absurd cc
 mark_step done line Here number Start after plan next m own at goes notes p = absurd cc
 mark_step done line Here number Losing after plan next m own at goes notes p = absurd cc
 mark_step done line Here number Using after plan next m own at goes notes p =
-    subst (λ stage. Part stage (done ++ line ∷ []) next) (same_Some Trying after goes) (subst (Middle (done ++ line ∷ [])) (same_Ok plan next notes) (middle done line plan p.used m p.head p.fits.0 p.fits.1))
+    subst (λ stage. Part stage (done ++ line ∷ []) next) (same_Some Trying after goes) (subst (Middle (done ++ line ∷ [])) (same-Ok plan next notes) (middle done line plan p.used m p.head p.fits.0 p.fits.1))
 mark_step done line Here number Bounded after plan next m own at goes notes p =
-    subst (λ stage. Part stage (done ++ line ∷ []) next) (same_Some Trying after goes) (subst (Middle (done ++ line ∷ [])) (same_Ok plan next notes) (middle done line plan p.used m p.head p.fits.0 p.fits.1))
+    subst (λ stage. Part stage (done ++ line ∷ []) next) (same_Some Trying after goes) (subst (Middle (done ++ line ∷ [])) (same-Ok plan next notes) (middle done line plan p.used m p.head p.fits.0 p.fits.1))
 mark_step done line Here number Trying after plan next m own at goes notes p = absurd cc
 mark_step done line Here number Recovering after plan next m own at goes notes p = absurd cc
 mark_step done line Then number Start after plan next m own at goes notes p = absurd cc
@@ -244,7 +241,7 @@ mark_step done line Then number Losing after plan next m own at goes notes p = a
 mark_step done line Then number Using after plan next m own at goes notes p = absurd cc
 mark_step done line Then number Bounded after plan next m own at goes notes p = absurd cc
 mark_step done line Then number Trying after plan next m own at goes notes p =
-    subst (λ stage. Part stage (done ++ line ∷ []) next) (same_Some Recovering after goes) (subst (Whole (done ++ line ∷ [])) (same_Ok (record plan { then_line = number }) next notes) (whole done line plan number m at p))
+    subst (λ stage. Part stage (done ++ line ∷ []) next) (same_Some Recovering after goes) (subst (Whole (done ++ line ∷ [])) (same-Ok (record plan { then_line = number }) next notes) (whole done line plan number m at p))
 mark_step done line Then number Recovering after plan next m own at goes notes p = absurd cc
 mark_step done line Refused number stage after plan next m own at goes notes p = absurd cc
 
@@ -261,9 +258,9 @@ noted_announced number stage (Use name first second) line plan next own notes =
     let b = ok-of (nat_eq (span_len first) (span_len second)) (used_pairs name (paired first second) line plan) UnequalRanges next a.1 in
     let d = unless-of (pairs_fault (volumes_in plan.setup) (paired first second)) made next b.1 in
     ap (λ (p : Sweep). p.announced) (sym d.1)
-noted_announced number stage (AtMost n) line plan next own notes = ap (λ (p : Sweep). p.announced) (sym (same_Ok (record plan { bound = Some n; setup = plan.setup ++ line ∷ [] }) next notes))
-noted_announced number stage Here line plan next own notes = ap (λ (p : Sweep). p.announced) (sym (same_Ok plan next notes))
-noted_announced number stage Then line plan next own notes = ap (λ (p : Sweep). p.announced) (sym (same_Ok (record plan { then_line = number }) next notes))
+noted_announced number stage (AtMost n) line plan next own notes = ap (λ (p : Sweep). p.announced) (sym (same-Ok (record plan { bound = Some n; setup = plan.setup ++ line ∷ [] }) next notes))
+noted_announced number stage Here line plan next own notes = ap (λ (p : Sweep). p.announced) (sym (same-Ok plan next notes))
+noted_announced number stage Then line plan next own notes = ap (λ (p : Sweep). p.announced) (sym (same-Ok (record plan { then_line = number }) next notes))
 noted_announced number stage Refused line plan next own notes = absurd cc
 
 -- ---- one line
@@ -309,7 +306,7 @@ read-step done line r next number at h so_far = by (was-read number r next line 
     refused mark after plan is m calm goes notes =
         let own : IsMark line Refused = subst (IsMark line) is m in
         let stays : r.stage ≡ after = same_Some _ _ (sym (ap (λ k. stage_after k r.stage) is) ∙ goes) in
-        let now : record (with_line r.stage line r.plan) { announced = r.plan.announced ++ (number + 1) ∷ [] } ≡ plan = same_Ok _ _ (sym (ap (λ k. noted number r.stage k line r.plan) is) ∙ notes) in
+        let now : record (with_line r.stage line r.plan) { announced = r.plan.announced ++ (number + 1) ∷ [] } ≡ plan = same-Ok _ _ (sym (ap (λ k. noted number r.stage k line r.plan) is) ∙ notes) in
         subst (Read (done ++ line ∷ [])) (λ i. record { stage = stays i; waits = announces (sym is i); plan = now i }) (refused_step done line r number at own calm so_far)
 
     says : (mark : Mark) (after : Stage) (plan : Sweep) → (announces mark ≡ true) ⊎ (announces mark ≡ false) → IsMark line mark → r.waits ≡ false → stage_after mark r.stage ≡ Some after → noted number r.stage mark line r.plan ≡ Ok plan

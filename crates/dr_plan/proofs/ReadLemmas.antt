@@ -2,6 +2,7 @@
 use Rattle.std.proofs.Common.{ℕ, ◌≡◌, ◌+◌, Bool, true, false, not, List, [], ◌∷◌, ◌++◌, length, refl, ap, sym, ◌∙◌, arith, cond, nat_eq, Option, Some, None, ◌⊎◌, inl, inr}
 use Rattle.std.specs.Prelude.{Result, Ok, Err, ◌&&◌}
 use Rattle.std.proofs.lemmas.Bool.{cases_Bool}
+use Rattle.std.proofs.lemmas.Bool.Decides.{nat_tests}
 use Rattle.dr_logic.proofs.Truth.{false_true}
 use Rattle.dr_model.specs.declared.step.Step.{Step}
 use Rattle.dr_model.specs.Grammar.{line_of}
@@ -46,7 +47,7 @@ read-plain number r line steps e is room =
 pub has-room : (waits : Bool) (line : List ℕ) (steps : List Step) → line_of line ≡ Ok steps → (waits ≡ true → BeginWithStep (line ∷ [])) → (waits && nat_eq (length steps) 0) ≡ false
 has-room false line steps is some = refl
 has-room true line [] is some = let s = some refl in let both : Ok [] ≡ Ok (s.0 ∷ s.1) = sym is ∙ s.2 in absurd cc
-has-room true line (step ∷ steps) is some = refl
+has-room true line (step ∷ steps) is some = let filled : nat_eq (length (step ∷ steps)) 0 ≡ false = grind (arith, nat_tests) in filled
 
 pub may-stand-room : (waits : Bool) (line : List ℕ) (m : MayStand waits line) → (waits && nat_eq (length m.steps) 0) ≡ false
 may-stand-room waits line m = has-room waits line m.steps m.read m.some
@@ -76,8 +77,8 @@ pub data WasRead (number : ℕ) (r : Reading) (line : List ℕ) (next : Reading)
   OfSteps : (steps : List Step) → is_mark line ≡ false → line_of line ≡ Ok steps → (r.waits && nat_eq (length steps) 0) ≡ false → next ≡ record r { waits = false; plan = kept r.stage number line steps r.plan } → WasRead number r line next
   OfMark : (mark : Mark) (after : Stage) (plan : Sweep) → IsMark line mark → r.waits ≡ false → stage_after mark r.stage ≡ Some after → noted number r.stage mark line r.plan ≡ Ok plan → next ≡ record { stage = after; waits = announces mark; plan = plan } → WasRead number r line next
 
-same_Ok : {A B : Type 0} (a b : A) → Ok {A} {B} a ≡ Ok b → a ≡ b
-same_Ok a b e = cc
+pub same-Ok : {A B : Type 0} (a b : A) → ◌≡◌ {A = Result A B} (Ok a) (Ok b) → a ≡ b
+same-Ok a b e = cc
 
 pub was-read : (number : ℕ) (r next : Reading) (line : List ℕ) → read_on number r line ≡ Ok next → WasRead number r line next
 unfolding read_on
@@ -85,7 +86,7 @@ was-read number r next line h = by (cases_Bool (is_mark line))
   where
     noted_as : (mark : Mark) (after : Stage) → is_mark line ≡ true → mark_of line ≡ Some mark → r.waits ≡ false → stage_after mark r.stage ≡ Some after → (n : Result Sweep Reason) → noted number r.stage mark line r.plan ≡ n → moved mark after n ≡ Ok next → WasRead number r line next
     noted_as mark after e is w goes (Err reason) notes k = absurd cc
-    noted_as mark after e is w goes (Ok plan) notes k = OfMark mark after plan (e, is) w goes notes (sym (same_Ok _ _ k))
+    noted_as mark after e is w goes (Ok plan) notes k = OfMark mark after plan (e, is) w goes notes (sym (same-Ok _ _ k))
 
     staged : (mark : Mark) → is_mark line ≡ true → mark_of line ≡ Some mark → r.waits ≡ false → (s : Option Stage) → stage_after mark r.stage ≡ s → marked_in number r line mark s ≡ Ok next → WasRead number r line next
     staged mark e is w None goes k = absurd cc
@@ -101,7 +102,7 @@ was-read number r next line h = by (cases_Bool (is_mark line))
 
     roomy : (steps : List Step) → is_mark line ≡ false → line_of line ≡ Ok steps → ((r.waits && nat_eq (length steps) 0) ≡ true) ⊎ ((r.waits && nat_eq (length steps) 0) ≡ false) → plain number r line (Ok steps) ≡ Ok next → WasRead number r line next
     roomy steps e is (inl b) k = let bad : Err NoLineFollows ≡ Ok next = sym (ap (λ b. cond b (Err NoLineFollows) (Ok (record r { waits = false; plan = kept r.stage number line steps r.plan }))) b) ∙ k in absurd cc
-    roomy steps e is (inr b) k = OfSteps steps e is b (sym (same_Ok _ _ (sym (ap (λ b. cond b (Err NoLineFollows) (Ok (record r { waits = false; plan = kept r.stage number line steps r.plan }))) b) ∙ k)))
+    roomy steps e is (inr b) k = OfSteps steps e is b (sym (same-Ok _ _ (sym (ap (λ b. cond b (Err NoLineFollows) (Ok (record r { waits = false; plan = kept r.stage number line steps r.plan }))) b) ∙ k)))
 
     steps_in : is_mark line ≡ false → (read : Result (List Step) ℕ) → line_of line ≡ read → plain number r line read ≡ Ok next → WasRead number r line next
     steps_in e (Err column) is k = absurd cc
@@ -113,11 +114,11 @@ was-read number r next line h = by (cases_Bool (is_mark line))
 
 -- a line that was read may stand there
 pub stood : (waits : Bool) (line : List ℕ) (steps : List Step) → line_of line ≡ Ok steps → (waits && nat_eq (length steps) 0) ≡ false → MayStand waits line
-stood waits line steps is room = record { steps = steps; read = is; some = λ w. some steps is w (sym (ap (λ b. b && nat_eq (length steps) 0) w) ∙ room) }
+stood waits line steps is room = record { steps = steps; read = is; some = λ w. begins steps is w (sym (ap (λ b. b && nat_eq (length steps) 0) w) ∙ room) }
   where
-    some : (steps : List Step) → line_of line ≡ Ok steps → waits ≡ true → nat_eq (length steps) 0 ≡ false → BeginWithStep (line ∷ [])
-    some [] is w e = absurd cc
-    some (step ∷ steps) is w e = (step, steps, is)
+    begins : (steps : List Step) → line_of line ≡ Ok steps → waits ≡ true → nat_eq (length steps) 0 ≡ false → BeginWithStep (line ∷ [])
+    begins [] is w e = absurd cc
+    begins (step ∷ steps) is w e = (step, steps, is)
 
 pub stood-own : (waits : Bool) (line : List ℕ) → is_mark line ≡ true → waits ≡ false → MayStand waits line
 stood-own waits line e w = record { steps = []; read = own-comment line e; some = λ t. false_true w t }
@@ -140,17 +141,19 @@ run-more number r mid line rest is = ap (λ o. elim o as (λ _. Option Reading) 
 pub run-then : (number k : ℕ) (r mid : Reading) (a b : List (List ℕ)) → k ≡ number + length a → run number r a ≡ Some mid → run number r (a ++ b) ≡ run k mid b
 unfolding run
 run-then number k r mid [] b e is = let same : r ≡ mid = cc in λ i. run ((let n : number ≡ k = omega arith in n) i) (same i) b
-run-then number k r mid (line ∷ a) b e is = by (read_on number r line) refl is
+run-then number k r mid (line ∷ a) b e is = by (read_on number r line) refl is (λ next ran. run-then (number + 1) k next mid a b (omega (arith, e)) ran)
   where
-    by : (o : Result Reading Reason) → read_on number r line ≡ o → (elim o as (λ _. Option Reading) [ Err reason ↦ None | Ok next ↦ run (number + 1) next a ]) ≡ Some mid → run number r (line ∷ a ++ b) ≡ run k mid b
-    by (Err reason) h ran = absurd cc
-    by (Ok next) h ran = run-more number r next line (a ++ b) h ∙ run-then (number + 1) k next mid a b (omega (arith, e)) ran
+    by : (o : Result Reading Reason) → read_on number r line ≡ o → (elim o as (λ _. Option Reading) [ Err reason ↦ None | Ok next ↦ run (number + 1) next a ]) ≡ Some mid → ((next : Reading) → run (number + 1) next a ≡ Some mid → run (number + 1) next (a ++ b) ≡ run k mid b)
+        → run number r (line ∷ a ++ b) ≡ run k mid b
+    by (Err reason) h ran further = absurd cc
+    by (Ok next) h ran further = run-more number r next line (a ++ b) h ∙ further next ran
 
 pub run-read : (number k : ℕ) (r next : Reading) (lines more : List (List ℕ)) → k ≡ number + length lines → run number r lines ≡ Some next → read_lines number r (lines ++ more) ≡ read_lines k next more
 unfolding run
 run-read number k r next [] more e is = let same : r ≡ next = cc in λ i. read_lines ((let n : number ≡ k = omega arith in n) i) (same i) more
-run-read number k r next (line ∷ rest) more e is = by (read_on number r line) refl is
+run-read number k r next (line ∷ rest) more e is = by (read_on number r line) refl is (λ mid ran. run-read (number + 1) k mid next rest more (omega (arith, e)) ran)
   where
-    by : (o : Result Reading Reason) → read_on number r line ≡ o → (elim o as (λ _. Option Reading) [ Err reason ↦ None | Ok mid ↦ run (number + 1) mid rest ]) ≡ Some next → read_lines number r (line ∷ rest ++ more) ≡ read_lines k next more
-    by (Err reason) h ran = absurd cc
-    by (Ok mid) h ran = line-more number r mid line (rest ++ more) h ∙ run-read (number + 1) k mid next rest more (omega (arith, e)) ran
+    by : (o : Result Reading Reason) → read_on number r line ≡ o → (elim o as (λ _. Option Reading) [ Err reason ↦ None | Ok mid ↦ run (number + 1) mid rest ]) ≡ Some next → ((mid : Reading) → run (number + 1) mid rest ≡ Some next → read_lines (number + 1) mid (rest ++ more) ≡ read_lines k next more)
+        → read_lines number r (line ∷ rest ++ more) ≡ read_lines k next more
+    by (Err reason) h ran further = absurd cc
+    by (Ok mid) h ran further = line-more number r mid line (rest ++ more) h ∙ further mid ran

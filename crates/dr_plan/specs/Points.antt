@@ -10,11 +10,12 @@ use Rattle.dr_model.specs.LineText.{step_text}
 use Rattle.dr_model.specs.LineWords.{◌>>=◌}
 use Rattle.dr_model.specs.Lines.{task, tasks_of, tasks_from}
 use Rattle.dr_model.specs.Runs.{Task}
+use Rattle.dr_plan.specs.declared.points.PlanPlace.{PlanPlace}
 use Rattle.dr_plan.specs.declared.points.Torn.{Torn}
 use Rattle.dr_plan.specs.declared.points.Torn.TheVariants.{Unchanged, Zeros, Ones}
 use Rattle.dr_plan.specs.declared.points.Point.{Point}
 use Rattle.dr_plan.specs.declared.points.Point.TheVariants.{Cut, Gap}
-use Rattle.dr_plan.specs.Sweep.{Sweep, texts}
+use Rattle.dr_plan.specs.Sweep.{Sweep, Tried, texts}
 
 -- `none`, `00` and `01`
 abbrev pub torn_word : Torn → TornWord
@@ -99,3 +100,13 @@ script_of plan point = option_map text_of (lines_at plan point)
 -- the script of the calm run
 abbrev pub calm_script : Sweep → List ℕ
 calm_script plan = text_of (calm_lines plan)
+
+-- the place of a tried step in the plan
+abbrev pub tried_place : Tried → PlanPlace
+tried_place t = record { line = t.line; part = t.part }
+
+-- the place in the plan of a line of the calm run, by its number: a line of the set-up has the same one
+abbrev pub calm_place : Sweep → ℕ → Option PlanPlace
+calm_place plan number =
+    if nat_le number (length plan.setup) then Some (record { line = number; part = 0 })
+    else option_map tried_place (slice_get plan.tried (number - length plan.setup - 1))

@@ -1,10 +1,10 @@
 //! What lines define: the servers and the volumes that their steps name.
 
-ghost use Rattle.std.specs.Prelude.{◌≡◌, ◌++◌, IfOk, OnOk, find};
+ghost use Rattle.std.specs.Prelude.{◌≡◌, ◌++◌, ◌∷◌, [], IfOk, OnOk, find};
 ghost use Rattle.std.specs.List.{filter_map};
 ghost use Rattle.std.specs.Option.{option_copied};
 ghost use Rattle.dr_model.specs.Grammar.{line_of};
-ghost use Rattle.dr_plan.specs.Above.{unless, server_in, volume_in, servers_in, volumes_in, is_size_of, tracks_of};
+ghost use Rattle.dr_plan.specs.Above.{unless, line_steps, server_in, volume_in, servers_in, volumes_in, is_size_of, tracks_of};
 
 use dr_ids::{Fault, Refusal, Text};
 use dr_model::{Name, Step};
@@ -56,30 +56,66 @@ fn volume_in(step: &Step) -> Option<VolumeSize>
     }
 }
 
+/// Adds the server that a step defines.
+fn push_server(found: &mut Vec<Name>, step: &Step) -> Result<(), AllocError>
+    ensures { OnOk result (found.new.items ≡ found.old.items ++ filter_map server_in (step.now ∷ [])) }
+{
+    if let Some(name) = server_in(step) {
+        found.push(name)?;
+    }
+    Ok(())
+}
+
+/// Adds the volume that a step defines.
+fn push_size(found: &mut Vec<VolumeSize>, step: &Step) -> Result<(), AllocError>
+    ensures { OnOk result (found.new.items ≡ found.old.items ++ filter_map volume_in (step.now ∷ [])) }
+{
+    if let Some(size) = volume_in(step) {
+        found.push(size)?;
+    }
+    Ok(())
+}
+
 /// Adds the servers that steps define.
 fn push_servers(found: &mut Vec<Name>, steps: &Line) -> Result<(), AllocError>
     ensures { OnOk result (found.new.items ≡ found.old.items ++ filter_map server_in steps.now) }
 {
     for i in 0..steps.len() {
-        let step = steps.step(i).unwrap();
-        if let Some(name) = server_in(step) {
-            found.push(name)?;
-        }
+        push_server(found, steps.step(i).unwrap())?;
     }
     Ok(())
 }
 
 /// Adds the volumes that steps define.
-fn push_volumes(found: &mut Vec<VolumeSize>, steps: &Line) -> Result<(), AllocError>
+fn push_sizes(found: &mut Vec<VolumeSize>, steps: &Line) -> Result<(), AllocError>
     ensures { OnOk result (found.new.items ≡ found.old.items ++ filter_map volume_in steps.now) }
 {
     for i in 0..steps.len() {
-        let step = steps.step(i).unwrap();
-        if let Some(size) = volume_in(step) {
-            found.push(size)?;
-        }
+        push_size(found, steps.step(i).unwrap())?;
     }
     Ok(())
+}
+
+/// Adds the servers that a line defines; a line with a fault defines none.
+fn push_servers_of(alloc: Global, found: &mut Vec<Name>, line: &[u8]) -> Result<(), AllocError>
+    ensures { OnOk result (found.new.items ≡ found.old.items ++ filter_map server_in (line_steps line.now)) }
+{
+    let mut steps = Line::new(alloc);
+    match read_steps(alloc, line, &mut steps)? {
+        None => push_servers(found, &steps),
+        Some(_) => Ok(()),
+    }
+}
+
+/// Adds the volumes that a line defines; a line with a fault defines none.
+fn push_sizes_of(alloc: Global, found: &mut Vec<VolumeSize>, line: &[u8]) -> Result<(), AllocError>
+    ensures { OnOk result (found.new.items ≡ found.old.items ++ filter_map volume_in (line_steps line.now)) }
+{
+    let mut steps = Line::new(alloc);
+    match read_steps(alloc, line, &mut steps)? {
+        None => push_sizes(found, &steps),
+        Some(_) => Ok(()),
+    }
 }
 
 /// The servers that lines define.
@@ -87,11 +123,8 @@ pub(crate) fn servers_in(alloc: Global, lines: &[Text]) -> Result<Vec<Name>, All
     ensures { IfOk result (λ found. found.items ≡ servers_in lines.now) }
 {
     let mut found = Vec::new(alloc);
-    let mut steps = Line::new(alloc);
     for line in lines {
-        if read_steps(alloc, line.bytes(), &mut steps)?.is_none() {
-            push_servers(&mut found, &steps)?;
-        }
+        push_servers_of(alloc, &mut found, line.bytes())?;
     }
     Ok(found)
 }
@@ -101,11 +134,8 @@ pub(crate) fn volumes_in(alloc: Global, lines: &[Text]) -> Result<Vec<VolumeSize
     ensures { IfOk result (λ found. found.items ≡ volumes_in lines.now) }
 {
     let mut found = Vec::new(alloc);
-    let mut steps = Line::new(alloc);
     for line in lines {
-        if read_steps(alloc, line.bytes(), &mut steps)?.is_none() {
-            push_volumes(&mut found, &steps)?;
-        }
+        push_sizes_of(alloc, &mut found, line.bytes())?;
     }
     Ok(found)
 }

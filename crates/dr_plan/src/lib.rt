@@ -7,7 +7,7 @@
 //! so far begin none, or the one after the last line where all begin one (`first`). `push_reason` writes why it is bad.
 //! `script_at` gives the script of a point, or none where the plan has no such point (`text`). Its lines are those of the
 //! point (`lines`), and its steps are those of these lines and the stops of the disaster's servers, with their numbers
-//! (`steps`). `calm_script` gives the script without a disaster. The script of a plan within the limits of a script may
+//! (`steps`). `calm_script` gives the script without a disaster, and `calm_place` the place in the plan of each of its lines. The script of a plan within the limits of a script may
 //! have more lines than these.
 #![tactic(auto)]
 
@@ -28,7 +28,7 @@ mod words;
 pub use fault::PlanFault;
 pub use names::{Disaster, is_same_name, name_bytes};
 pub use plan::{SweepPlan, Tried, Use};
-pub use points::{Point, Torn, calm_script, script_at};
+pub use points::{PlanPlace, Point, Torn, calm_place, calm_script, script_at};
 pub use reading::read_plan;
 pub use reason::{Lack, Reason, push_reason, push_volume};
 pub use stages::Stage;

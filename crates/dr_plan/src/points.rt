@@ -7,7 +7,7 @@ ghost use Rattle.std.specs.Str.Lines.{lines};
 ghost use Rattle.dr_model.specs.LineText.{name_fits};
 ghost use Rattle.dr_model.specs.Lines.{tasks};
 ghost use Rattle.dr_plan.specs.Parts.{IsSweep};
-ghost use Rattle.dr_plan.specs.Points.{torn_word, stop_line, fuse_line, others, lines_before, calm_lines, cut_lines, gap_lines, lines_at, cut_steps, gap_steps, steps_at, with_end, text_of, script_of, calm_script};
+ghost use Rattle.dr_plan.specs.Points.{torn_word, stop_line, fuse_line, others, lines_before, calm_lines, cut_lines, gap_lines, lines_at, cut_steps, gap_steps, steps_at, with_end, text_of, script_of, calm_script, calm_place};
 ghost use Rattle.dr_plan.specs.Sweep.{texts};
 
 use crate::names::Disaster;
@@ -45,6 +45,15 @@ pub enum Point {
         disaster: usize,
         place: usize,
     },
+}
+
+/// A line of a plan, or a part of one.
+#[derive(Clone, Copy)]
+pub struct PlanPlace {
+    /// The number of the line, counted from 1.
+    pub line: usize,
+    /// The place among the steps of the line, counted from 1; 0 where it is the whole line.
+    pub part: usize,
 }
 
 fn torn_word(torn: Torn) -> TornWord
@@ -199,7 +208,8 @@ fn cut_script(
     };
     let mut text = front(alloc, plan, place)?;
     push_fuse(alloc, &mut text, name, write, torn)?;
-    push_end(&mut text, tried.text())?;
+    let step = tried.text();
+    push_end(&mut text, step)?;
     push_others(alloc, &mut text, servers, server)?;
     push_lines(&mut text, &plan.recovery)?;
     Ok(Some(text))
@@ -263,4 +273,22 @@ pub fn calm_script(alloc: Global, plan: &SweepPlan) -> Result<Text, AllocError>
     push_lines(&mut text, &plan.setup)?;
     push_texts(&mut text, &plan.tried)?;
     Ok(text)
+}
+
+/// The place in the plan of a line of the calm run, by its number, counted from 1; none after its last line.
+pub fn calm_place(plan: &SweepPlan, number: usize) -> Option<PlanPlace>
+    ensures { result ≡ calm_place plan.now number }
+{
+    let plan = plan.draft();
+    if number <= plan.setup.len() {
+        return Some(PlanPlace {
+            line: number,
+            part: 0,
+        });
+    }
+    let tried = tried_at(plan, number - plan.setup.len() - 1)?;
+    Some(PlanPlace {
+        line: tried.line,
+        part: tried.part,
+    })
 }

@@ -653,12 +653,14 @@ fn printed_steps(rt: HostRuntime) -> Result<(), AllocError> {
 const PLAN: &[u8] = b"\
     @server A\n\
     @server B\n\
+    @volume 1000 A 1\n\
+    @volume 2000 B 1\n\
     #sweep lose A B\n\
     #sweep use 2000 for 1000\n\
     #sweep here\n\
-    @volume 1000 A 1\n\
+    @write 1000 0 0 41\n\
     # tried\n\
-    @volume 2000-2001 B 1\n\
+    @volume 2001-2002 B 1\n\
     #sweep then\n\
     @recover 01\n";
 
@@ -666,12 +668,14 @@ const PLAN: &[u8] = b"\
 const CUT: &[u8] = b"\
     @server A\n\
     @server B\n\
-    #sweep lose A B\n\
-    #sweep use 2000 for 1000\n\
     @volume 1000 A 1\n\
     @volume 2000 B 1\n\
-    @stop B after 7 torn 01\n\
+    #sweep lose A B\n\
+    #sweep use 2000 for 1000\n\
+    @write 1000 0 0 41\n\
     @volume 2001 B 1\n\
+    @stop B after 7 torn 01\n\
+    @volume 2002 B 1\n\
     @stop A\n\
     @recover 01\n";
 
@@ -697,7 +701,7 @@ fn sweeps(rt: HostRuntime) -> Result<(), AllocError> {
     };
     let cut = Point::Cut {
         disaster: 0,
-        line: 2,
+        place: 2,
         server: 1,
         write: 7,
         torn: Torn::Ones,
