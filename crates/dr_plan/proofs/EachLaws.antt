@@ -30,7 +30,7 @@ use Rattle.dr_plan.proofs.ApartLemmas.{tried-more}
 use Rattle.dr_plan.proofs.FaultLaws.{names-complete, pairs-complete, uses-room}
 use Rattle.dr_plan.proofs.FollowLemmas.{Passes, MayStand, is_refused, plain-not, says-not, refused-is, passes-parts, passes-first, passes-end, passes-of}
 use Rattle.dr_plan.proofs.OwnLemmas.{Kind, Plain, Announces, Says, Nothing, kind-of, own-comment, marks-append, announced-more, announced-same, announced-none}
-use Rattle.dr_plan.proofs.ReadLemmas.{read-plain, may-stand-room, not-waiting, read-mark, run, run-none, run-more, run-then, run-read, lines-done}
+use Rattle.dr_plan.proofs.ReadLemmas.{read-plain, may-stand-room, not-waiting, read-mark, run, run-none, run-more, run-then, run-read, lines-done, plan-not-bad}
 
 -- ---- announcements, one line more
 
@@ -515,4 +515,4 @@ plan-is-read lines plan p =
 
 pub no-plan : (lines : List (List ℕ)) (fault : PlanFault) → TellsFault (sweep_of lines) fault → IsNoPlan lines fault
 no-plan lines NoMemory h = tt
-no-plan lines (BadLine line reason) h = λ plan p. (let both : Ok plan ≡ Err (record { line = line; reason = reason }) = sym (plan-is-read lines plan p) ∙ h in cc)
+no-plan lines (BadLine line reason) h = λ plan p. plan-not-bad plan (record { line = line; reason = reason }) (sym (plan-is-read lines plan p) ∙ h)

@@ -18,7 +18,7 @@ use Rattle.dr_model.specs.declared.grammar.Item.{Item}
 use Rattle.dr_model.specs.declared.grammar.Span.{Span}
 use Rattle.dr_model.specs.Grammar.{line_of}
 use Rattle.dr_model.specs.LineSteps.{no_options, no_operands}
-use Rattle.dr_model.specs.LineTable.{form, settings, operands}
+use Rattle.dr_model.specs.LineTable.{form, settings, operands, may_end_with}
 use Rattle.dr_model.specs.LineText.{name_text, step_text, at_saying, operand_fits, said_count, is_written, IsWritten}
 use Rattle.dr_model.specs.LineWords.{name_of, paired, span_len}
 use Rattle.dr_script.proofs.StepLemmas.{reads}
@@ -42,7 +42,7 @@ use Rattle.dr_plan.proofs.EachLaws.{plan-is-read}
 use Rattle.dr_plan.proofs.FaultLaws.{names-complete, pairs-complete}
 use Rattle.dr_plan.proofs.OwnLemmas.{step-plain}
 use Rattle.dr_plan.proofs.PlanLaws.{Read, Part, Fits, read-begun, read-step, plan-read}
-use Rattle.dr_plan.proofs.ReadLemmas.{read-plain, read-mark, line-bad, lines-done, run, run-none, run-more, run-then, run-read}
+use Rattle.dr_plan.proofs.ReadLemmas.{read-plain, read-mark, line-bad, lines-done, plan-not-bad, run, run-none, run-more, run-then, run-read}
 
 -- ---- lines with which a plan goes on
 
@@ -77,11 +77,11 @@ one : Span
 one = record { low = 4096; high = 4096 }
 
 server_written : IsWritten server_step
-unfolding server_step a_server is_written at_saying settings operands form said_count operand_fits no_options no_operands
+unfolding server_step a_server is_written at_saying settings operands form said_count operand_fits no_options no_operands may_end_with
 server_written = refl
 
 volume_written : IsWritten volume_step
-unfolding volume_step a_server is_written at_saying settings operands form said_count operand_fits no_options no_operands
+unfolding volume_step a_server is_written at_saying settings operands form said_count operand_fits no_options no_operands may_end_with
 volume_written = refl
 
 server_reads : line_of server_line ≡ Ok (server_step ∷ [])
@@ -176,7 +176,6 @@ use_notes : (number : ℕ) (plan : Sweep) (tracks : ℕ) → plan.uses ≡ [] �
     → noted number Losing (Use None one one) use_line plan ≡ Ok (record plan { uses = with_pairs plan.uses None (paired one one); setup = plan.setup ++ use_line ∷ [] })
 unfolding one one_pair
 use_notes number plan tracks none known =
-    let made : Sweep = record plan { uses = with_pairs plan.uses None (paired one one); setup = plan.setup ++ use_line ∷ [] } in
     let alike : AreAlike plan.setup one_pair = (tracks, known, known) in
     let well : pairs_fault (volumes_in plan.setup) (paired one one) ≡ None = ap (pairs_fault (volumes_in plan.setup)) one_paired ∙ pairs-complete plan.setup (one_pair ∷ []) (All-cons (AreAlike plan.setup) one_pair [] alike (All-nil (AreAlike plan.setup))) in
     subst (λ (uses : List HostUse). noted number Losing (Use None one one) use_line (record plan { uses = uses }) ≡ Ok (record plan { uses = with_pairs uses None (paired one one); setup = plan.setup ++ use_line ∷ [] })) (sym none)
@@ -240,14 +239,12 @@ breaks : (number : ℕ) (done : List (List ℕ)) (r : Reading) (line : List ℕ)
 breaks number done r line reason at ran bad b =
     let ok = plan-is-read ((done ++ line ∷ []) ++ b.0) b.1 b.2 in
     let err = ap (read_lines 1 begun) (append_assoc done (line ∷ []) b.0) ∙ run-read 1 number begun r done (line ∷ b.0) at ran ∙ line-bad number r line b.0 reason bad in
-    let both : Err (record { line = number; reason = reason }) ≡ Ok b.1 = sym err ∙ ok in
-    cc
+    plan-not-bad b.1 (record { line = number; reason = reason }) (sym ok ∙ err)
 
 none_whole : (number : ℕ) (done : List (List ℕ)) (r : Reading) (bad : Bad) → number ≡ 1 + length done → run 1 begun done ≡ Some r → finished number r ≡ Err bad → IsNone done
 none_whole number done r bad at ran h = λ plan p.
     (let err = ap (read_lines 1 begun) (sym (append-nil done)) ∙ run-read 1 number begun r done [] at ran ∙ lines-done number r ∙ h in
-    let both : Err bad ≡ Ok plan = sym err ∙ plan-is-read done plan p in
-    cc)
+    plan-not-bad plan bad (sym (plan-is-read done plan p) ∙ err))
 
 end_line : (number : ℕ) (r : Reading) (bad : Bad) → finished number r ≡ Err bad → number ≡ bad.line
 end_line number r bad h = by (missing r) h

@@ -1,12 +1,14 @@
--- The first line of a text.
-use Rattle.std.proofs.Common.{ℕ, suc, ◌≡◌, ◌<◌, ◌≤◌, ◌+◌, List, [], ◌∷◌, ◌++◌, length, take, drop, drop-cons, slice_get, refl, ap, sym, ◌∙◌, arith, append_assoc, cond, false, Some, None, nat_lt}
+-- The first line of a text, and loops over lines, steps and uses.
+use Rattle.std.proofs.Common.{ℕ, suc, ◌≡◌, ◌<◌, ◌≤◌, ◌+◌, List, [], ◌∷◌, ◌++◌, length, take, drop, drop-cons, get_or, map, slice_get, slice_set, refl, ap, sym, ◌∙◌, arith, append_assoc, cond, false, Some, None, nat_lt}
 use Rattle.std.specs.Prelude.{◌==◌}
 use Rattle.std.specs.List.{position, position_or_len, slice_split}
 use Rattle.std.specs.Str.Lines.{lines, lines_of_parts, strip_carriage_return}
 use Rattle.std.proofs.lemmas.Bool.Decides.{nat_tests}
 use Rattle.std.proofs.lemmas.List.Splits.{length-slice_split, slice_split_first}
 use Rattle.std.proofs.Math.ListN.{drop_of_length-le}
-use Rattle.std.proofs.lemmas.List.{append-nil}
+use Rattle.std.proofs.lemmas.List.{append-nil, get_or_default}
+use Rattle.std.proofs.lemmas.List.Edits.{map_over_more}
+use Rattle.std.proofs.lemmas.Grind.{common_steps}
 use Rattle.std.proofs.lemmas.Option.{slice_get_within, get_or_from_slice_get}
 use Rattle.dr_model.specs.declared.step.Step.{Step}
 use Rattle.dr_model.specs.LineText.{step_text}
@@ -55,3 +57,11 @@ parts-more number all new total steps i step text here is more so_far =
 pub parts-done : (number : ℕ) (all total : List Tried) (steps : List Step) (i : ℕ) → length steps ≤ i → all ++ parts_from number (i + 1) (drop i steps) ≡ total → all ≡ total
 unfolding parts_from
 parts-done number all total steps i past so_far = sym (append-nil all) ∙ sym (ap (λ ss. all ++ parts_from number (i + 1) ss) (drop_of_length-le steps past)) ∙ so_far
+
+-- a list whose first elements were changed, and one more
+pub map-more : {X : Type 0} (f : X → X) (xs ys : List X) (i : ℕ) (d u : X) → i < length xs → ys ≡ map f (take i xs) ++ drop i xs → u ≡ f (get_or ys i d) → slice_set ys i u ≡ map f (take (i + 1) xs) ++ drop (i + 1) xs
+map-more f xs ys i d u lt so_far is =
+    let size : length (map f (take i xs) ++ drop i xs) ≡ length xs = grind (arith, common_steps, lt) in
+    let same : length ys ≡ length (map f (take i xs) ++ drop i xs) = ap length so_far in
+    let within : i < length ys = omega (arith, lt, size, same) in
+    ap (slice_set ys i) is ∙ map_over_more f xs ys i (get_or ys i d) lt so_far (get_or_default ys i d (get_or ys i d) within)

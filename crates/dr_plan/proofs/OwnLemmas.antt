@@ -102,7 +102,7 @@ split-end [] x [] y (b ∷ below) e = absurd cc
 split-end [] x (a ∷ []) y below e = absurd cc
 split-end [] x (a ∷ b ∷ above) y below e = absurd cc
 split-end (z ∷ xs) x [] y below e = inr (xs, cc, cc)
-split-end (z ∷ xs) x (a ∷ above) y below e = by (split-end xs x above y below (let tail : xs ++ x ∷ [] ≡ above ++ y ∷ below = cc in tail))
+split-end {A = A} (z ∷ xs) x (a ∷ above) y below e = by (split-end xs x above y below (let tail : xs ++ x ∷ [] ≡ above ++ y ∷ below = cc in tail))
   where
     same : a ≡ z
     same = cc

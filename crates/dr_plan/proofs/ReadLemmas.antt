@@ -123,6 +123,10 @@ stood waits line steps is room = record { steps = steps; read = is; some = λ w.
 pub stood-own : (waits : Bool) (line : List ℕ) → is_mark line ≡ true → waits ≡ false → MayStand waits line
 stood-own waits line e w = record { steps = []; read = own-comment line e; some = λ t. false_true w t }
 
+-- a plan is no bad line
+pub plan-not-bad : {P : Type 0} (plan : Sweep) (bad : Bad) → ◌≡◌ {A = Result Sweep Bad} (Ok plan) (Err bad) → P
+plan-not-bad plan bad e = absurd cc
+
 -- ---- a reading after lines
 
 unfoldable pub run : ℕ → Reading → List (List ℕ) → Option Reading

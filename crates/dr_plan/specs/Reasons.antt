@@ -1,5 +1,5 @@
 -- The text of each reason for which a line can't stand in a plan.
-use Rattle.std.specs.Prelude.{ℕ, List, ◌∷◌, ◌++◌, codes}
+use Rattle.std.specs.Prelude.{ℕ, List, [], ◌++◌, codes}
 use Rattle.std.specs.Fmt.{decimal}
 use Rattle.dr_ids.specs.Spelling.{hex4}
 use Rattle.dr_model.specs.LineText.{name_text}
@@ -26,16 +26,31 @@ lack_word Use = codes "use"
 lack_word Here = codes "here"
 lack_word Then = codes "then"
 
--- the text of a reason; volumes have four digits
+-- the words with which the text of a reason begins
+abbrev pub reason_words : Reason → List ℕ
+reason_words (HereMayStand stage) = codes "here may stand: "
+reason_words (ServerTwice name) = codes "server twice: "
+reason_words ManyDisasters = codes "more than 8 disasters"
+reason_words ManyUses = codes "more than 8 uses"
+reason_words (UnknownServer name) = codes "unknown server "
+reason_words UnequalRanges = codes "ranges of unequal length"
+reason_words (UnknownVolume volume) = codes "unknown volume "
+reason_words (OtherSize first second) = codes "other size: "
+reason_words (Syntax column) = codes "syntax "
+reason_words NoLineFollows = codes "refused, but no line follows"
+reason_words (Missing lack) = codes "missing: "
+
+-- what comes after these words; volumes have four digits
+abbrev pub reason_rest : Reason → List ℕ
+reason_rest (HereMayStand stage) = may_stand stage
+reason_rest (ServerTwice name) = name_text name
+reason_rest (UnknownServer name) = name_text name
+reason_rest (UnknownVolume volume) = hex4 volume
+reason_rest (OtherSize first second) = hex4 first ++ codes " " ++ hex4 second
+reason_rest (Syntax column) = decimal column
+reason_rest (Missing lack) = lack_word lack
+reason_rest _ = []
+
+-- the text of a reason
 abbrev pub reason_text : Reason → List ℕ
-reason_text (HereMayStand stage) = codes "here may stand: " ++ may_stand stage
-reason_text (ServerTwice name) = codes "server twice: " ++ name_text name
-reason_text ManyDisasters = codes "more than 8 disasters"
-reason_text ManyUses = codes "more than 8 uses"
-reason_text (UnknownServer name) = codes "unknown server " ++ name_text name
-reason_text UnequalRanges = codes "ranges of unequal length"
-reason_text (UnknownVolume volume) = codes "unknown volume " ++ hex4 volume
-reason_text (OtherSize first second) = codes "other size: " ++ hex4 first ++ codes " " ++ hex4 second
-reason_text (Syntax column) = codes "syntax " ++ decimal column
-reason_text NoLineFollows = codes "refused, but no line follows"
-reason_text (Missing lack) = codes "missing: " ++ lack_word lack
+reason_text reason = reason_words reason ++ reason_rest reason

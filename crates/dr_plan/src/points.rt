@@ -263,16 +263,22 @@ pub fn script_at(alloc: Global, plan: &SweepPlan, point: Point) -> Result<Option
     }
 }
 
-/// The script of the calm run: the set-up and all tried steps, without a disaster.
-pub fn calm_script(alloc: Global, plan: &SweepPlan) -> Result<Text, AllocError>
-    ensures text { IfOk result (λ script. script ≡ calm_script plan.now) }
-    ensures lines { IfOk result (λ script. lines script ≡ calm_lines plan.now) }
+/// The lines of the set-up, and all tried steps.
+fn calm_text(alloc: Global, plan: &Draft) -> Result<Text, AllocError>
+    ensures { IfOk result (λ text. text ≡ text_of (calm_lines plan.now)) }
 {
-    let plan = plan.draft();
     let mut text = Text::new(alloc);
     push_lines(&mut text, &plan.setup)?;
     push_texts(&mut text, &plan.tried)?;
     Ok(text)
+}
+
+/// The script of the calm run: the set-up and all tried steps, without a disaster. Fails where there is no memory.
+pub fn calm_script(alloc: Global, plan: &SweepPlan) -> Result<Text, AllocError>
+    ensures text { IfOk result (λ script. script ≡ calm_script plan.now) }
+    ensures lines { IfOk result (λ script. lines script ≡ calm_lines plan.now) }
+{
+    calm_text(alloc, plan.draft())
 }
 
 /// The place in the plan of a line of the calm run, by its number, counted from 1; none after its last line.

@@ -1,10 +1,9 @@
 //! Why a line can't stand in a plan where it stands.
 
-ghost use Rattle.std.specs.Prelude.{◌≡◌, ◌++◌, OnOk};
+ghost use Rattle.std.specs.Prelude.{◌≡◌, ◌++◌, OnOk, codes};
 ghost use Rattle.std.specs.Fmt.{decimal};
 ghost use Rattle.dr_ids.specs.Spelling.{hex4};
-ghost use Rattle.dr_model.specs.LineText.{name_text};
-ghost use Rattle.dr_plan.specs.Reasons.{may_stand, lack_word, reason_text};
+ghost use Rattle.dr_plan.specs.Reasons.{may_stand, lack_word, reason_words, reason_rest, reason_text};
 
 use crate::names::name_bytes;
 use crate::stages::Stage;
@@ -97,48 +96,57 @@ fn push_column(alloc: Global, text: &mut Text, column: u16) -> Result<(), AllocE
     text.append(digits.as_bytes())
 }
 
-/// Adds words, and a name after them.
-fn push_named(text: &mut Text, words: &[u8], name: &Name) -> Result<(), AllocError>
-    ensures { OnOk result (text.new ≡ text.old ++ (words.now ++ name_text name.now)) }
+/// Adds two volumes with a blank between them.
+fn push_volumes(text: &mut Text, first: u16, second: u16) -> Result<(), AllocError>
+    ensures { OnOk result (text.new ≡ text.old ++ (hex4 first ++ codes " " ++ hex4 second)) }
 {
-    text.append(words)?;
-    text.append(name_bytes(name))
+    push_volume(text, first)?;
+    text.append(b" ")?;
+    push_volume(text, second)
 }
 
-/// Adds two words one after another.
-fn push_both(text: &mut Text, words: &[u8], more: &[u8]) -> Result<(), AllocError>
-    ensures { OnOk result (text.new ≡ text.old ++ (words.now ++ more.now)) }
+/// The words with which the text of a reason begins.
+fn reason_words(reason: &Reason) -> &'static [u8]
+    ensures { result.now ≡ reason_words reason.now }
 {
-    text.append(words)?;
-    text.append(more)
+    match reason {
+        Reason::HereMayStand(_) => b"here may stand: ",
+        Reason::ServerTwice(_) => b"server twice: ",
+        Reason::ManyDisasters => b"more than 8 disasters",
+        Reason::ManyUses => b"more than 8 uses",
+        Reason::UnknownServer(_) => b"unknown server ",
+        Reason::UnequalRanges => b"ranges of unequal length",
+        Reason::UnknownVolume(_) => b"unknown volume ",
+        Reason::OtherSize(_, _) => b"other size: ",
+        Reason::Syntax(_) => b"syntax ",
+        Reason::NoLineFollows => b"refused, but no line follows",
+        Reason::Missing(_) => b"missing: ",
+    }
 }
 
-/// Adds the text of a reason.
+/// Adds what comes after these words.
+fn push_rest(alloc: Global, text: &mut Text, reason: &Reason) -> Result<(), AllocError>
+    ensures { OnOk result (text.new ≡ text.old ++ reason_rest reason.now) }
+{
+    match reason {
+        Reason::HereMayStand(stage) => text.append(may_stand(*stage)),
+        Reason::ServerTwice(name) => text.append(name_bytes(name)),
+        Reason::UnknownServer(name) => text.append(name_bytes(name)),
+        Reason::UnknownVolume(volume) => push_volume(text, *volume),
+        Reason::OtherSize(first, second) => push_volumes(text, *first, *second),
+        Reason::Syntax(column) => push_column(alloc, text, *column),
+        Reason::Missing(lack) => text.append(lack_word(*lack)),
+        Reason::ManyDisasters => Ok(()),
+        Reason::ManyUses => Ok(()),
+        Reason::UnequalRanges => Ok(()),
+        Reason::NoLineFollows => Ok(()),
+    }
+}
+
+/// Adds the text of a reason. Fails where there is no memory.
 pub fn push_reason(alloc: Global, text: &mut Text, reason: &Reason) -> Result<(), AllocError>
     ensures { OnOk result (text.new ≡ text.old ++ reason_text reason.now) }
 {
-    match reason {
-        Reason::HereMayStand(stage) => push_both(text, b"here may stand: ", may_stand(*stage)),
-        Reason::ServerTwice(name) => push_named(text, b"server twice: ", name),
-        Reason::ManyDisasters => text.append(b"more than 8 disasters"),
-        Reason::ManyUses => text.append(b"more than 8 uses"),
-        Reason::UnknownServer(name) => push_named(text, b"unknown server ", name),
-        Reason::UnequalRanges => text.append(b"ranges of unequal length"),
-        Reason::UnknownVolume(volume) => {
-            text.append(b"unknown volume ")?;
-            push_volume(text, *volume)
-        }
-        Reason::OtherSize(first, second) => {
-            text.append(b"other size: ")?;
-            push_volume(text, *first)?;
-            text.append(b" ")?;
-            push_volume(text, *second)
-        }
-        Reason::Syntax(column) => {
-            text.append(b"syntax ")?;
-            push_column(alloc, text, *column)
-        }
-        Reason::NoLineFollows => text.append(b"refused, but no line follows"),
-        Reason::Missing(lack) => push_both(text, b"missing: ", lack_word(*lack)),
-    }
+    text.append(reason_words(reason))?;
+    push_rest(alloc, text, reason)
 }

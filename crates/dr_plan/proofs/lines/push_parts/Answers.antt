@@ -1,4 +1,4 @@
-use Rattle.std.proofs.Common.{ap, sym, ◌∙◌, ◌++◌}
+use Rattle.std.proofs.Common.{ap, sym, ◌∙◌, ◌++◌, arith}
 use Rattle.std.specs.Option.{option_copied}
 use Rattle.dr_plan.specs.Reading.{parts_from}
 use Rattle.dr_plan.proofs.LineLemmas.{parts-more, parts-done}
