@@ -1,6 +1,6 @@
 -- Each plan is read.
-use Rattle.std.proofs.Common.{ℕ, ◌≡◌, ◌<◌, ◌≤◌, ◌+◌, Bool, true, false, cond, List, [], ◌∷◌, ◌++◌, length, map, refl, ap, sym, ◌∙◌, subst, arith, append_assoc, nat_eq, nat_lt, Option, Some, None, ◌⊎◌, inl, inr}
-use Rattle.std.specs.Prelude.{All, Result, Ok, Err, fold, ◌||◌}
+use Rattle.std.proofs.Common.{ℕ, ◌≡◌, ◌<◌, ◌≤◌, ◌+◌, Bool, true, false, cond, List, [], ◌∷◌, ◌++◌, length, map, refl, ap, sym, ◌∙◌, subst, arith, append_assoc, nat_eq, nat_lt, Option, Some, None}
+use Rattle.std.specs.Prelude.{All, Ok, Err, fold}
 use Rattle.std.proofs.lemmas.Bool.Decides.{nat_tests}
 use Rattle.std.proofs.lemmas.Grind.{common_steps}
 use Rattle.std.proofs.lemmas.List.{append-nil}
@@ -12,17 +12,16 @@ use Rattle.dr_model.specs.declared.step.Step.{Step}
 use Rattle.dr_model.specs.Grammar.{line_of}
 use Rattle.dr_model.specs.LineWords.{◌>>=◌, paired, span_len}
 use Rattle.dr_plan.specs.declared.marks.Mark.{Mark}
-use Rattle.dr_plan.specs.declared.marks.Mark.TheVariants.{Lose, Use, AtMost, Here, Then, Refused}
+use Rattle.dr_plan.specs.declared.marks.Mark.TheVariants.{Lose, AtMost, Here, Then, Refused}
 use Rattle.dr_plan.specs.declared.stages.Stage.{Stage}
 use Rattle.dr_plan.specs.declared.stages.Stage.TheVariants.{Start, Losing, Using, Bounded, Trying, Recovering}
 use Rattle.dr_plan.specs.declared.reading.Reading.{Reading}
-use Rattle.dr_plan.specs.declared.reason.Reason.{Reason}
 use Rattle.dr_plan.specs.declared.reason.Reason.TheVariants.{ManyDisasters, ManyUses, UnequalRanges}
 use Rattle.dr_plan.specs.Above.{unless, steps_read, servers_in, volumes_in}
 use Rattle.dr_plan.specs.Marks.{is_mark, mark_of}
 use Rattle.dr_plan.specs.Outcome.{TellsFault, IsNoPlan}
-use Rattle.dr_plan.specs.Parts.{IsMark, marks_in, Ranges, use_mark, pairs_of, bound_marks, with_ranges, uses_of, ComeOnce, AreAlike, IsSetup, IsPlan, tried_from, announced_by, announced_from}
-use Rattle.dr_plan.specs.Reading.{announces, stage_after, servers_fault, pairs_fault, has_use, with_line, kept, tried_steps, used_pairs, noted, read_on, read_lines, begun, sweep_of}
+use Rattle.dr_plan.specs.Parts.{IsMark, marks_in, Ranges, use_mark, pairs_of, bound_marks, with_ranges, ComeOnce, IsSetup, IsPlan, tried_from, announced_by, announced_from}
+use Rattle.dr_plan.specs.Reading.{announces, stage_after, servers_fault, pairs_fault, with_line, kept, tried_steps, used_pairs, noted, read_on, read_lines, begun, sweep_of}
 use Rattle.dr_plan.specs.Sweep.{Sweep, Use as HostUse, empty, most_disasters, most_uses}
 use Rattle.dr_plan.specs.declared.fault.PlanFault.{PlanFault}
 use Rattle.dr_plan.specs.declared.fault.PlanFault.TheVariants.{NoMemory, BadLine}

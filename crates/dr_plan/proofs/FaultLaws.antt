@@ -1,8 +1,8 @@
 -- Lines of `lose` and `use` in which nothing is wrong: what they name is defined, and agrees.
-use Rattle.std.proofs.Common.{ℕ, suc, ◌≡◌, ◌<◌, ◌≤◌, ◌+◌, Bool, true, false, cond, List, [], ◌∷◌, ◌++◌, length, map, refl, ap, sym, ◌∙◌, subst, arith, append_assoc, nat_eq, nat_lt, Option, Some, None, ◌⊎◌, inl, inr}
+use Rattle.std.proofs.Common.{ℕ, ◌≡◌, ◌<◌, ◌≤◌, ◌+◌, Bool, true, false, cond, List, [], ◌∷◌, ◌++◌, length, map, refl, ap, sym, ◌∙◌, arith, append_assoc, nat_eq, nat_lt, Option, Some, None, ◌⊎◌, inl, inr}
 use Rattle.std.specs.Prelude.{All, Result, Ok, Err, fold, ◌||◌}
 use Rattle.std.specs.Option.{option_or}
-use Rattle.std.proofs.lemmas.Bool.{cases_Bool, or_parts}
+use Rattle.std.proofs.lemmas.Bool.{cases_Bool}
 use Rattle.std.proofs.lemmas.Bool.Decides.{nat_tests}
 use Rattle.std.proofs.lemmas.Grind.{common_steps, fold-append}
 use Rattle.std.proofs.lemmas.List.{append-nil}
@@ -10,7 +10,7 @@ use Rattle.std.proofs.lemmas.List.Elements.{All-nil, All-cons, All-drop}
 use Rattle.dr_model.specs.declared.step.Name.{Name}
 use Rattle.dr_model.specs.declared.grammar.Item.{Item}
 use Rattle.dr_plan.specs.declared.reason.Reason.{Reason}
-use Rattle.dr_plan.specs.declared.reason.Reason.TheVariants.{ServerTwice, UnknownServer, UnknownVolume, OtherSize}
+use Rattle.dr_plan.specs.declared.reason.Reason.TheVariants.{ServerTwice, UnknownServer, OtherSize}
 use Rattle.dr_plan.specs.Above.{unless, is_among, tracks_in, volumes_in}
 use Rattle.dr_plan.specs.Parts.{AreAlike, Ranges, pairs_of, with_ranges, uses_of}
 use Rattle.dr_plan.specs.Reading.{servers_fault, sizes_fault, pair_fault, pairs_fault, has_use, joined, with_pairs}

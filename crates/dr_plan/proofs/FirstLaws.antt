@@ -1,10 +1,9 @@
 -- The line that is told is the first one that can't stand where it stands.
-use Rattle.std.proofs.Common.{ℕ, ◌≡◌, ◌+◌, Bool, true, false, cond, List, [], ◌∷◌, ◌++◌, length, refl, ap, sym, ◌∙◌, subst, arith, append_assoc, nat_eq, nat_lt, Option, Some, None}
-use Rattle.std.specs.Prelude.{All, Result, Ok, Err, codes, find, ◌||◌, ◌&&◌}
-use Rattle.std.specs.List.{filter_map, list_any}
+use Rattle.std.proofs.Common.{ℕ, ◌≡◌, ◌+◌, Bool, true, false, List, [], ◌∷◌, ◌++◌, length, refl, ap, sym, ◌∙◌, subst, arith, append_assoc, nat_eq, Option, Some, None}
+use Rattle.std.specs.Prelude.{Result, Ok, Err, codes, find, ◌||◌, ◌&&◌}
+use Rattle.std.specs.List.{filter_map}
 use Rattle.std.specs.Option.{option_map, option_or}
 use Rattle.std.specs.Str.{bytes_eq}
-use Rattle.std.proofs.lemmas.Bool.Decides.{nat_tests}
 use Rattle.std.proofs.lemmas.Grind.{common_steps, flat_map-append}
 use Rattle.std.proofs.lemmas.List.{append-nil}
 use Rattle.std.proofs.lemmas.List.Concat.{flat_map-cons}
@@ -20,24 +19,22 @@ use Rattle.dr_model.specs.Grammar.{line_of}
 use Rattle.dr_model.specs.LineSteps.{no_options, no_operands}
 use Rattle.dr_model.specs.LineTable.{form, settings, operands, may_end_with}
 use Rattle.dr_model.specs.LineText.{name_text, step_text, at_saying, operand_fits, said_count, is_written, IsWritten}
-use Rattle.dr_model.specs.LineWords.{name_of, paired, span_len}
+use Rattle.dr_model.specs.LineWords.{name_of, paired}
 use Rattle.dr_script.proofs.StepLemmas.{reads}
 use Rattle.dr_plan.specs.declared.above.VolumeSize.{VolumeSize}
 use Rattle.dr_plan.specs.declared.fault.PlanFault.{PlanFault}
 use Rattle.dr_plan.specs.declared.fault.PlanFault.TheVariants.{NoMemory, BadLine}
-use Rattle.dr_plan.specs.declared.marks.Mark.{Mark}
 use Rattle.dr_plan.specs.declared.marks.Mark.TheVariants.{Lose, Use, Here, Then}
 use Rattle.dr_plan.specs.declared.stages.Stage.{Stage}
 use Rattle.dr_plan.specs.declared.stages.Stage.TheVariants.{Start, Losing, Using, Bounded, Trying, Recovering}
 use Rattle.dr_plan.specs.declared.reading.Reading.{Reading}
 use Rattle.dr_plan.specs.declared.reason.Reason.{Reason}
-use Rattle.dr_plan.specs.declared.reason.Reason.TheVariants.{ManyDisasters}
 use Rattle.dr_plan.specs.Above.{unless, steps_read, line_steps, steps_of, server_in, volume_in, servers_in, volumes_in, is_among, is_size_of, tracks_in}
-use Rattle.dr_plan.specs.Marks.{is_mark, mark_of, names_said}
+use Rattle.dr_plan.specs.Marks.{mark_of, names_said}
 use Rattle.dr_plan.specs.Outcome.{TellsFault, IsNone, Begins, IsFirstBad, TellsFirst}
-use Rattle.dr_plan.specs.Parts.{IsMark, IsPlan, AreAlike, uses_of}
+use Rattle.dr_plan.specs.Parts.{IsMark, AreAlike, uses_of}
 use Rattle.dr_plan.specs.Reading.{Bad, servers_fault, pairs_fault, with_pairs, kept, noted, read_on, read_lines, missing, finished_by, finished, begun, sweep_of}
-use Rattle.dr_plan.specs.Sweep.{Sweep, Use as HostUse, most_disasters}
+use Rattle.dr_plan.specs.Sweep.{Sweep, Use as HostUse}
 use Rattle.dr_plan.proofs.EachLaws.{plan-is-read}
 use Rattle.dr_plan.proofs.FaultLaws.{names-complete, pairs-complete}
 use Rattle.dr_plan.proofs.OwnLemmas.{step-plain}

@@ -1,10 +1,8 @@
 -- Which lines may follow which: each is in the grammar, and after an announcement stands a line with a step.
-use Rattle.std.proofs.Common.{ℕ, suc, ◌≡◌, List, [], ◌∷◌, ◌++◌, refl, ap, sym, ◌∙◌, subst, arith, append_assoc, Bool, true, false, ◌⊎◌, inl, inr}
+use Rattle.std.proofs.Common.{ℕ, ◌≡◌, List, [], ◌∷◌, ◌++◌, refl, ap, sym, ◌∙◌, subst, arith, append_assoc, Bool, true, false, ◌⊎◌, inl, inr}
 use Rattle.std.specs.Prelude.{Ok, Option, Some, None, All}
 use Rattle.std.proofs.lemmas.Bool.{cases_Bool}
-use Rattle.std.proofs.lemmas.List.{append-nil}
 use Rattle.std.proofs.lemmas.List.Elements.{All-nil, All-cons, All-drop}
-use Rattle.dr_logic.proofs.Truth.{false_true}
 use Rattle.dr_model.specs.declared.step.Step.{Step}
 use Rattle.dr_model.specs.Grammar.{line_of}
 use Rattle.dr_plan.specs.declared.marks.Mark.{Mark}

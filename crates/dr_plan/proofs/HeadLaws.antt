@@ -1,22 +1,20 @@
 -- The set-up that was read so far, and one line more.
-use Rattle.std.proofs.Common.{ℕ, ◌≡◌, ◌<◌, ◌≤◌, ◌+◌, Bool, true, false, cond, List, [], ◌∷◌, ◌++◌, length, map, refl, ap, sym, ◌∙◌, subst, arith, append_assoc, nat_eq, nat_lt, Option, Some, None, ◌⊎◌, inl, inr}
-use Rattle.std.specs.Prelude.{All, Result, Ok, Err, ◌||◌}
+use Rattle.std.proofs.Common.{ℕ, ◌≡◌, ◌<◌, ◌≤◌, ◌+◌, true, false, cond, List, [], ◌∷◌, ◌++◌, length, map, refl, ap, sym, ◌∙◌, subst, arith, append_assoc, nat_eq, nat_lt, Option, Some, None, ◌⊎◌, inl, inr}
+use Rattle.std.specs.Prelude.{All, Ok, Err, ◌||◌}
 use Rattle.std.proofs.lemmas.Bool.Decides.{nat_tests}
 use Rattle.std.proofs.lemmas.Grind.{common_steps}
 use Rattle.std.proofs.lemmas.List.{append-nil, map-append}
-use Rattle.std.proofs.lemmas.List.Elements.{All-nil, All-push}
+use Rattle.std.proofs.lemmas.List.Elements.{All-push}
 use Rattle.dr_model.specs.declared.step.Name.{Name}
-use Rattle.dr_model.specs.declared.grammar.Item.{Item}
 use Rattle.dr_model.specs.declared.grammar.Span.{Span}
 use Rattle.dr_model.specs.LineWords.{paired, span_len}
 use Rattle.dr_plan.specs.declared.marks.Mark.{Mark}
 use Rattle.dr_plan.specs.declared.marks.Mark.TheVariants.{Lose, Use, AtMost}
-use Rattle.dr_plan.specs.declared.reason.Reason.{Reason}
 use Rattle.dr_plan.specs.declared.reason.Reason.TheVariants.{ManyDisasters, ManyUses, UnequalRanges}
-use Rattle.dr_plan.specs.Above.{unless, is_among, defines_server, servers_in, volumes_in}
+use Rattle.dr_plan.specs.Above.{unless, defines_server, servers_in, volumes_in}
 use Rattle.dr_plan.specs.Parts.{IsMark, marks_in, Ranges, use_mark, pairs_of, bound_marks, with_ranges, uses_of, StandsAfter, ComeOnce, AreAlike, IsSetup}
-use Rattle.dr_plan.specs.Reading.{announces, servers_fault, pairs_fault, has_use, with_pairs, lost_too, used_pairs, used_too}
-use Rattle.dr_plan.specs.Sweep.{Sweep, Use as HostUse, most_disasters, most_uses}
+use Rattle.dr_plan.specs.Reading.{announces, servers_fault, pairs_fault, has_use, lost_too, used_pairs, used_too}
+use Rattle.dr_plan.specs.Sweep.{Sweep, most_disasters, most_uses}
 use Rattle.dr_plan.proofs.FaultLaws.{ok-of, unless-of, names-sound, pairs-sound, uses-more, uses-few}
 use Rattle.dr_plan.proofs.OwnLemmas.{marks-append, none-more, own-more, none-said, after-more}
 

@@ -1,13 +1,11 @@
 -- Lines of the plan's own among others.
-use Rattle.std.proofs.Common.{ℕ, ◌≡◌, ◌+◌, List, [], ◌∷◌, ◌++◌, length, map, filter, refl, ap, sym, ◌∙◌, subst, arith, append_assoc, Bool, true, false, not, cond, nat_lt, Option, Some, None, ◌⊎◌, inl, inr}
-use Rattle.std.specs.Prelude.{Ok, Err, nat_eq, All, take, codes}
+use Rattle.std.proofs.Common.{ℕ, ◌≡◌, ◌+◌, List, [], ◌∷◌, ◌++◌, length, map, filter, refl, ap, sym, ◌∙◌, subst, arith, append_assoc, true, false, not, cond, nat_lt, Option, Some, None, ◌⊎◌, inl, inr}
+use Rattle.std.specs.Prelude.{Ok, Err, nat_eq, take, codes}
 use Rattle.std.specs.Cmp.Lexicographic.{pointwise}
 use Rattle.std.proofs.lemmas.Bool.{and_parts, cases_Bool}
 use Rattle.std.proofs.lemmas.Bool.Decides.{nat_tests}
-use Rattle.std.proofs.lemmas.Grind.{common_steps}
 use Rattle.std.proofs.lemmas.List.{append-nil, map-append}
 use Rattle.std.proofs.lemmas.List.Elements.{filter-append}
-use Rattle.dr_logic.proofs.Truth.{false_true}
 use Rattle.dr_model.specs.declared.step.Step.{Step}
 use Rattle.dr_model.specs.Grammar.{line_of, begins_comment, words_read, most_bytes}
 use Rattle.dr_model.specs.LineWords.{line_words}

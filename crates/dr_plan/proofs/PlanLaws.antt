@@ -1,6 +1,6 @@
 -- What is read is a plan.
 use Rattle.std.proofs.Common.{ℕ, ◌≡◌, ◌≤◌, ◌+◌, Bool, true, false, cond, List, [], ◌∷◌, ◌++◌, length, refl, ap, sym, ◌∙◌, subst, arith, append_assoc, nat_eq, nat_lt, Option, Some, None, ◌⊎◌, inl, inr}
-use Rattle.std.specs.Prelude.{All, Result, Ok, Err, ◌||◌}
+use Rattle.std.specs.Prelude.{Result, Ok, Err, ◌||◌}
 use Rattle.std.proofs.lemmas.Bool.{cases_Bool}
 use Rattle.std.proofs.lemmas.Grind.{common_steps}
 use Rattle.std.proofs.lemmas.List.{append-nil}
@@ -19,15 +19,15 @@ use Rattle.dr_plan.specs.declared.reason.Reason.{Reason}
 use Rattle.dr_plan.specs.declared.reason.Reason.TheVariants.{ManyDisasters, ManyUses, UnequalRanges, NoLineFollows}
 use Rattle.dr_plan.specs.Above.{unless, servers_in, volumes_in}
 use Rattle.dr_plan.specs.Marks.{is_mark, mark_of}
-use Rattle.dr_plan.specs.Parts.{IsMark, IsSetup, IsPlan, Ranges, StandsAfter, ComeOnce, Tries, marks_in, announced_by, announced_from}
+use Rattle.dr_plan.specs.Parts.{IsMark, IsSetup, IsPlan, Ranges, ComeOnce, Tries, marks_in, announced_by, announced_from}
 use Rattle.dr_plan.specs.Reading.{Bad, announces, servers_fault, pairs_fault, has_use, with_pairs, used_pairs, stage_after, with_line, kept, noted, read_on, read_lines, lacking, missing, finished_by, finished, begun, sweep_of, tried_steps}
 use Rattle.dr_plan.specs.Sweep.{Sweep, Tried, most_disasters, most_uses}
 use Rattle.dr_plan.proofs.ApartLemmas.{tries-none, tries-more}
 use Rattle.dr_plan.proofs.FaultLaws.{ok-of, unless-of}
-use Rattle.dr_plan.proofs.FollowLemmas.{Passes, MayStand, is_refused, plain-not, says-not, refused-is, passes-none, passes-more, all-read, all-followed}
+use Rattle.dr_plan.proofs.FollowLemmas.{Passes, MayStand, plain-not, says-not, refused-is, passes-none, passes-more, all-read, all-followed}
 use Rattle.dr_plan.proofs.HeadLaws.{Head, head-none, head-lose, head-use, head-bound, head-setup}
 use Rattle.dr_plan.proofs.OwnLemmas.{own-comment, plain-none, refused-none, only-refused, none-more, announced-more, announced-same, announced-none}
-use Rattle.dr_plan.proofs.ReadLemmas.{WasRead, OfSteps, OfMark, same-Ok, was-read, stood, stood-own, line-bad, line-more}
+use Rattle.dr_plan.proofs.ReadLemmas.{WasRead, OfSteps, OfMark, same-Ok, was-read, stood, stood-own}
 
 -- ---- what was read of lines, by stage
 

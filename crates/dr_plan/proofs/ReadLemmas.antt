@@ -1,5 +1,5 @@
 -- A plan that is read line by line.
-use Rattle.std.proofs.Common.{ℕ, ◌≡◌, ◌+◌, Bool, true, false, not, List, [], ◌∷◌, ◌++◌, length, refl, ap, sym, ◌∙◌, arith, cond, nat_eq, Option, Some, None, ◌⊎◌, inl, inr}
+use Rattle.std.proofs.Common.{ℕ, ◌≡◌, ◌+◌, Bool, true, false, List, [], ◌∷◌, ◌++◌, length, refl, ap, sym, ◌∙◌, arith, cond, nat_eq, Option, Some, None, ◌⊎◌, inl, inr}
 use Rattle.std.specs.Prelude.{Result, Ok, Err, ◌&&◌}
 use Rattle.std.proofs.lemmas.Bool.{cases_Bool}
 use Rattle.std.proofs.lemmas.Bool.Decides.{nat_tests}
@@ -16,7 +16,7 @@ use Rattle.dr_plan.specs.Parts.{IsMark, BeginWithStep}
 use Rattle.dr_plan.specs.Reading.{Bad, announces, stage_after, kept, noted, moved, marked_in, marked, plain, read_on, read_lines, finished}
 use Rattle.dr_plan.specs.Sweep.{Sweep}
 use Rattle.dr_plan.proofs.OwnLemmas.{own-comment}
-use Rattle.dr_plan.proofs.FollowLemmas.{MayStand, is_refused, plain-not}
+use Rattle.dr_plan.proofs.FollowLemmas.{MayStand}
 
 -- ---- lines
 

@@ -1,13 +1,13 @@
 -- The lines of a text have no line feeds, and lines that are written with their ends are the lines of their text.
 use Rattle.std.proofs.Common.{ℕ, zero, suc, ◌≡◌, ◌+◌, ◌-◌, List, [], ◌∷◌, ◌++◌, length, take, refl, ap, sym, ◌∙◌, subst, arith, append_assoc, Bool, true, false, not, ◌⊎◌, inl, inr, cond, nat_eq}
 use Rattle.std.specs.Prelude.{◌==◌, All, slice_index}
-use Rattle.std.specs.List.{flat_map, onto_first, slice_split}
+use Rattle.std.specs.List.{onto_first, slice_split}
 use Rattle.std.specs.Str.Lines.{lines, lines_of_parts, strip_carriage_return}
 use Rattle.std.proofs.lemmas.Bool.{and_parts, and_from, cases_Bool, not-true}
 use Rattle.std.proofs.lemmas.Bool.Decides.{nat_tests}
 use Rattle.std.proofs.lemmas.Grind.{common_steps}
 use Rattle.std.proofs.lemmas.List.Concat.{flat_map-cons}
-use Rattle.std.proofs.lemmas.List.Elements.{All-nil, All-cons, All-append, All-drop}
+use Rattle.std.proofs.lemmas.List.Elements.{All-nil, All-cons, All-drop}
 use Rattle.std.proofs.lemmas.List.Splits.{slice_split_at, length-slice_split}
 use Rattle.dr_plan.specs.Parts.{IsSweep, IsPlan, IsRead}
 use Rattle.dr_plan.specs.Points.{text_of, with_end}

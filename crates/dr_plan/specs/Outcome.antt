@@ -2,7 +2,6 @@
 use Rattle.std.specs.Prelude.{◌≡◌, ℕ, ◌+◌, List, [], ◌∷◌, ◌++◌, length, Result, Ok, Err}
 use Rattle.dr_plan.specs.declared.fault.PlanFault.{PlanFault}
 use Rattle.dr_plan.specs.declared.fault.PlanFault.TheVariants.{NoMemory, BadLine}
-use Rattle.dr_plan.specs.declared.reason.Reason.{Reason}
 use Rattle.dr_plan.specs.Parts.{IsPlan}
 use Rattle.dr_plan.specs.Reading.{Bad}
 use Rattle.dr_plan.specs.Sweep.{Sweep}
