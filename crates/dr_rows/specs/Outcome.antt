@@ -1,25 +1,19 @@
 -- What a point of a sweep comes to.
-use Rattle.std.specs.Prelude.{ℕ, Bool, ◌||◌, ◌&&◌, ◌%◌, not, List, filter, length, nat_eq, nat_lt, Option, is_some}
-use Rattle.std.specs.List.{list_any}
+use Rattle.std.specs.Prelude.{ℕ, Bool, ◌||◌, ◌&&◌, ◌%◌, not, List, filter, nat_eq, nat_lt, Option, is_some}
+use Rattle.std.specs.List.{list_any, slice_get}
+use Rattle.std.specs.Option.{option_map_or}
 use Rattle.dr_lost.specs.declared.broken.Broken.{Broken}
+use Rattle.dr_model.specs.LineWords.{◌>>=◌}
 use Rattle.dr_plan.specs.declared.points.Point.{Point}
 use Rattle.dr_rows.specs.declared.row.Answer.{Answer}
+use Rattle.dr_rows.specs.declared.row.Members.{Members}
+use Rattle.dr_rows.specs.declared.row.SessionPhase.{SessionPhase}
 
--- The phase of a session's master.
-pub record SessionPhase : Type 0 where
-  pub session : ℕ
-  pub phase : ℕ  -- its place among the phases, 0 where the session has no master
-
--- How many members of a session count in a recovery, and how many it has.
-pub record Members : Type 0 where
-  pub counted : ℕ
-  pub all : ℕ
-
--- What one use of volumes loses.
+-- What is lost to one use of volumes.
 pub record Loss : Type 0 where
   pub count : ℕ  -- how many writes are lost
   pub least : List ℕ  -- the numbers of the least of them, up to 16
-  pub age : ℕ  -- how many writes were acknowledged on the second volumes from the first lost one on
+  pub age : ℕ  -- from the first acknowledgement of a lost write on, how many were acknowledged on the second volumes
   pub broken : Option Broken  -- a write that is held and depends on a lost one
 
 -- What one point comes to.
@@ -47,14 +41,30 @@ is_refused a = not (is_kept a)
 abbrev pub groups_in : Outcome → List Answer
 groups_in row = filter gives_group row.answers
 
+-- some answer has a group
+abbrev pub has_group : Outcome → Bool
+has_group row = list_any gives_group row.answers
+
 -- some answer is a refusal
 abbrev pub has_refusal : Outcome → Bool
 has_refusal row = list_any is_refused row.answers
 
--- of some `@recover` fewer members count than the session has
-abbrev pub lacks_members : Outcome → Bool
-lacks_members row = list_any (λ (m : Members). nat_lt m.counted m.all) row.members
+-- fewer members count than the session has
+abbrev pub is_short : Members → Bool
+is_short m = nat_lt m.counted m.all
 
--- a write that is held depends on a lost one
-abbrev pub is_broken : Loss → Bool
-is_broken loss = is_some loss.broken
+-- so it is after some `@recover`
+abbrev pub lacks_members : Outcome → Bool
+lacks_members row = list_any is_short row.members
+
+-- how many writes are lost to the use at a place
+abbrev pub lost_count : ℕ → Outcome → ℕ
+lost_count which row = option_map_or (λ (l : Loss). l.count) (slice_get row.losses which) 0
+
+-- a write that is held and depends on one that is lost to the use at a place
+abbrev pub broken_at : ℕ → Outcome → Option Broken
+broken_at which row = slice_get row.losses which >>= λ (l : Loss). l.broken
+
+-- there is such a write
+abbrev pub is_broken : ℕ → Outcome → Bool
+is_broken which row = is_some (broken_at which row)
