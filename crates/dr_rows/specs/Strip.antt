@@ -108,7 +108,7 @@ disaster_strips plan asks rows = flat_map (disaster_strip plan asks rows) (range
 
 -- what the strip is
 unfoldable pub strip_head : List ℕ
-strip_head = codes "strip: a character for each device write that is cut short; between bars, the loss after the line" ++ 10 ∷ []
+strip_head = codes "strip: a character for each device write that is cut short; between bars, the loss behind the line" ++ 10 ∷ []
 
 -- what the characters say
 unfoldable pub characters_told : List ℕ
