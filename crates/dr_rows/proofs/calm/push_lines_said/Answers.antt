@@ -1,0 +1,17 @@
+use Rattle.std.proofs.Common.{◌≡◌, ℕ, ◌+◌, ◌-◌, ◌++◌, List, ap, ◌∙◌, arith}
+use Rattle.std.specs.List.{flat_map, range_with_len}
+use Rattle.dr_rows.specs.Calm.{line_said}
+use Rattle.dr_rows.proofs.RangeLemmas.{said-more}
+use Rattle.dr_rows.proofs.calm.push_lines_said.Goals as goal
+
+pub loop-number-preserved : goal.loop-number-preserved
+loop-number-preserved c =
+    let number = c.loop-number.number in
+    let from = c.loop-number.auto.number in
+    let says : ℕ → List ℕ = line_said c.args.plan.now c.args.calm.now in
+    let at : 1 + (number - 1) ≡ number = omega arith in
+    let next : number - 1 + 1 ≡ number + 1 - 1 = omega arith in
+    c.in_ok-push_line_said.ensures
+    ∙ ap (λ t. t ++ says number) c.loop-number.invariant
+    ∙ said-more says c.args.text.now 1 (number - 1) number at
+    ∙ ap (λ n. c.args.text.now ++ flat_map says (range_with_len 1 n)) next
