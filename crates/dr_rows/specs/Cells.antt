@@ -5,6 +5,7 @@ use Rattle.std.specs.List.{join_by, list_any, slice_get}
 use Rattle.std.specs.Option.{option_map_or}
 use Rattle.dr_ids.specs.Spelling.{hex2}
 use Rattle.dr_lost.specs.declared.broken.Broken.{Broken}
+use Rattle.dr_model.specs.declared.step.Name.{Name}
 use Rattle.dr_model.specs.LineText.{name_text, torn_text}
 use Rattle.dr_model.specs.LineWords.{◌>>=◌}
 use Rattle.dr_model.specs.Text.{group_decision, phase_word}
@@ -58,9 +59,13 @@ quoted cell = if list_any (λ b. nat_eq b 44) cell then 34 ∷ cell ++ 34 ∷ []
 abbrev pub server_name : Sweep → ℕ → ℕ → List ℕ
 server_name plan disaster server = option_map_or name_text (slice_get plan.loses disaster >>= λ names. slice_get names server) []
 
--- the name of the use at a place, or a dash
+-- the name of the use at a place, where it has one
+abbrev pub name_at : Sweep → ℕ → Option Name
+name_at plan which = slice_get plan.uses which >>= λ (u : HostUse). u.name
+
+-- the same as a text, or a dash
 abbrev pub use_name : Sweep → ℕ → List ℕ
-use_name plan which = option_map_or name_text (slice_get plan.uses which >>= λ (u : HostUse). u.name) (codes "-")
+use_name plan which = option_map_or name_text (name_at plan which) (codes "-")
 
 -- `none`, `00` or `01`
 abbrev pub torn_cell : Torn → List ℕ

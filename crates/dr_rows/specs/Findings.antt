@@ -53,7 +53,7 @@ wants_group plan place = recovers (slice_index_or plan.recovery place []) && not
 
 -- the number of that line in the recovery, if so
 abbrev pub wanted_at : Sweep → ℕ → List ℕ
-wanted_at plan place = if wants_group plan place then place + 1 ∷ [] else []
+wanted_at plan place = if wants_group plan place then (place + 1) ∷ [] else []
 
 -- the lines of the recovery, counted from 1, whose `@recover` is to be answered with a group
 abbrev pub wanted : Sweep → List ℕ

@@ -253,8 +253,8 @@ fn tried_text(plan: &SweepPlan, number: usize) -> &[u8]
 
 /// A line of the set-up by its place.
 fn setup_line(lines: &[Text], number: usize) -> &[u8]
-    requires { number ≤ length lines.now }
-    requires { 1 ≤ number }
+    requires within { number ≤ length lines.now }
+    requires counted { 1 ≤ number }
     ensures { result.now ≡ slice_index_or lines.now (number - 1) [] }
 {
     lines[number - 1].bytes()

@@ -2,11 +2,10 @@
 
 ghost use Rattle.std.specs.Prelude.{◌≡◌, ◌++◌, nat_eq, codes, find, OnOk, IfOk};
 ghost use Rattle.dr_ids.specs.Spelling.{hex2};
-ghost use Rattle.std.specs.List.{flat_map, list_any, slice_get};
+ghost use Rattle.std.specs.List.{flat_map, list_any};
 ghost use Rattle.std.specs.Option.{option_copied};
 ghost use Rattle.dr_rows.specs.Outcome.{groups_in, is_refused};
-ghost use Rattle.dr_rows.specs.Cells.{listed, group_said, decision_said, group_cell, decision_cell, no_group, kind_of, kind, quoted, server_name, use_name, torn_cell, phase_said, members_said, write_said, newest_cell, more_said, least_cell, broken_cell, refused_count, first_refused_cell, is_named, names_uses, use_head};
-ghost use Rattle.dr_model.specs.LineWords.{◌>>=◌};
+ghost use Rattle.dr_rows.specs.Cells.{listed, group_said, decision_said, group_cell, decision_cell, no_group, kind_of, kind, quoted, server_name, name_at, use_name, torn_cell, phase_said, members_said, write_said, newest_cell, more_said, least_cell, broken_cell, refused_count, first_refused_cell, is_named, names_uses, use_head};
 ghost use Rattle.dr_model.specs.Text.{one_number, two_numbers, decision_text, phase_word};
 
 use crate::pieces::{push_number, push_sum, push_write};
@@ -233,7 +232,7 @@ pub(crate) fn torn_cell(torn: Torn) -> &'static [u8]
 
 /// The use at a place has this name.
 fn name_at(plan: &SweepPlan, which: usize) -> Option<Name>
-    ensures { result ≡ (slice_get plan.now.uses which >>= λ u. u.name) }
+    ensures { result ≡ name_at plan.now which }
 {
     match plan.uses().get(which) {
         None => None,
