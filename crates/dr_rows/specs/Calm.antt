@@ -78,13 +78,17 @@ tried_text plan number = option_map_or (λ (t : Tried). t.text) (find (λ (t : T
 abbrev pub line_text : Sweep → ℕ → List ℕ
 line_text plan number = if nat_lt (length plan.setup) number then tried_text plan number else slice_index_or plan.setup (number - 1) []
 
+-- the line of an announcement without a refusal
+unfoldable pub unrefused_line : Sweep → ℕ → List ℕ
+unrefused_line plan number = numbered number (line_text plan number) ++ codes "not refused (announced)" ++ 10 ∷ []
+
 -- the line with that number was announced, and none of its steps was refused
 abbrev pub is_unrefused : Sweep → Calm → ℕ → Bool
 is_unrefused plan calm number = is_announced plan number && not (list_any (is_refusal_at number) calm.told)
 
 -- what is said of it if so
 abbrev pub unrefused_said : Sweep → Calm → ℕ → List ℕ
-unrefused_said plan calm number = if is_unrefused plan calm number then numbered number (line_text plan number) ++ codes "not refused (announced)" ++ 10 ∷ [] else []
+unrefused_said plan calm number = if is_unrefused plan calm number then unrefused_line plan number else []
 
 -- what is said of the line with that number
 abbrev pub line_said : Sweep → Calm → ℕ → List ℕ
@@ -98,9 +102,13 @@ lines_said plan calm = flat_map (line_said plan calm) (range_with_len 1 (plan.th
 abbrev pub use_word : Option Name → List ℕ
 use_word name = option_map_or (λ n. name_text n ++ codes " ") name []
 
--- the first volume was written
+-- a volume that was written
+unfoldable pub but_on : ℕ → List ℕ
+but_on volume = codes ", but on " ++ hex4 volume
+
+-- the first volume, if it was written
 abbrev pub first_word : Calm → Item → List ℕ
-first_word calm pair = if wrote calm pair.first then codes ", but on " ++ hex4 pair.first else []
+first_word calm pair = if wrote calm pair.first then but_on pair.first else []
 
 -- the line of a pair without a write on its second volume
 abbrev pub pair_line : Calm → Option Name → Item → List ℕ

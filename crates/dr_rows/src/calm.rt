@@ -3,7 +3,7 @@
 ghost use Rattle.std.specs.Prelude.{◌≡◌, ◌++◌, ◌-◌, ◌≤◌, [], length, count_by, find, nat_eq, OnOk};
 ghost use Rattle.std.specs.List.{flat_map, list_all, list_any, slice_index_or};
 ghost use Rattle.std.specs.Option.{option_copied};
-ghost use Rattle.dr_rows.specs.Calm.{is_announced, was_held, was_refused, wrote, calm_head, announced_word, was_announced, numbered, step_line, step_said, is_refusal_at, tried_text, line_text, is_unrefused, unrefused_said, line_said, lines_said, use_word, first_word, pair_line, pair_said, pairs_said, calm_told, is_unannounced, is_unwritten, is_turned, is_mistaken, is_calm_finding};
+ghost use Rattle.dr_rows.specs.Calm.{is_announced, was_held, was_refused, wrote, calm_head, announced_word, was_announced, numbered, step_line, step_said, is_refusal_at, tried_text, line_text, unrefused_line, is_unrefused, unrefused_said, line_said, lines_said, use_word, but_on, first_word, pair_line, pair_said, pairs_said, calm_told, is_unannounced, is_unwritten, is_turned, is_mistaken, is_calm_finding};
 
 use crate::pieces::push_number;
 use dr_ids::Text;
@@ -279,6 +279,16 @@ fn is_unrefused(plan: &SweepPlan, calm: &Calm, number: usize) -> bool
     is_announced(plan, number as u128) && !any_refused(calm.told(), number)
 }
 
+/// Adds the line of an announcement without a refusal.
+#[tactic(auto, unfolding(crate::specs::Calm::unrefused_line))]
+fn push_unrefused_line(text: &mut Text, plan: &SweepPlan, number: usize) -> Result<(), AllocError>
+    requires { 1 ≤ number }
+    ensures { OnOk result (text.new ≡ text.old ++ unrefused_line plan.now number) }
+{
+    push_numbered(text, number, line_text(plan, number))?;
+    text.append(b"not refused (announced)\n")
+}
+
 /// Adds the line with that number if it was announced and none of its steps was refused.
 fn push_unrefused(
     text: &mut Text,
@@ -292,8 +302,7 @@ fn push_unrefused(
     if !is_unrefused(plan, calm, number) {
         return Ok(());
     }
-    push_numbered(text, number, line_text(plan, number))?;
-    text.append(b"not refused (announced)\n")
+    push_unrefused_line(text, plan, number)
 }
 
 /// Adds what is said of the line with that number.
@@ -333,6 +342,15 @@ fn push_use_word(text: &mut Text, name: Option<Name>) -> Result<(), AllocError>
     }
 }
 
+/// Adds a volume that was written.
+#[tactic(auto, unfolding(crate::specs::Calm::but_on))]
+fn push_but_on(text: &mut Text, volume: u16) -> Result<(), AllocError>
+    ensures { OnOk result (text.new ≡ text.old ++ but_on volume) }
+{
+    text.append(b", but on ")?;
+    push_volume(text, volume)
+}
+
 /// Adds that the first volume of a pair was written, if so.
 fn push_first(text: &mut Text, calm: &Calm, pair: Item) -> Result<(), AllocError>
     ensures { OnOk result (text.new ≡ text.old ++ first_word calm.now pair) }
@@ -340,8 +358,7 @@ fn push_first(text: &mut Text, calm: &Calm, pair: Item) -> Result<(), AllocError
     if !calm.wrote(pair.first) {
         return Ok(());
     }
-    text.append(b", but on ")?;
-    push_volume(text, pair.first)
+    push_but_on(text, pair.first)
 }
 
 /// Adds the line of a pair without a write on its second volume.

@@ -116,7 +116,7 @@ fn wants_group(alloc: Global, plan: &SweepPlan, place: usize) -> Result<bool, Al
 /// Adds the number of that line in the recovery, if so.
 fn add_wanted(
     alloc: Global,
-    found: &mut Vec<usize>,
+    found: &mut Vec<u128>,
     plan: &SweepPlan,
     place: usize,
 ) -> Result<(), AllocError>
@@ -124,13 +124,13 @@ fn add_wanted(
     ensures { OnOk result (found.new.items ≡ found.old.items ++ wanted_at plan.now place) }
 {
     if wants_group(alloc, plan, place)? {
-        found.push(place + 1)?;
+        found.push(place as u128 + 1)?;
     }
     Ok(())
 }
 
 /// The lines of the recovery, counted from 1, whose `@recover` is to be answered with a group.
-fn wanted(alloc: Global, plan: &SweepPlan) -> Result<Vec<usize>, AllocError>
+fn wanted(alloc: Global, plan: &SweepPlan) -> Result<Vec<u128>, AllocError>
     ensures { IfOk result (λ found. found.items ≡ wanted plan.now) }
 {
     let mut found = Vec::new(alloc);
@@ -141,41 +141,41 @@ fn wanted(alloc: Global, plan: &SweepPlan) -> Result<Vec<usize>, AllocError>
 }
 
 /// The answer is of one of some lines.
-fn is_of_one(numbers: &[usize], a: Answer) -> bool
+fn is_of_one(numbers: &[u128], a: Answer) -> bool
     ensures { result ≡ is_of_one numbers.now a }
 {
-    numbers.iter().any(|n| a.line as usize == *n)
+    numbers.iter().any(|n| a.line as u128 == *n)
 }
 
 /// It is, and has no group.
-fn is_ungrouped(numbers: &[usize], a: Answer) -> bool
+fn is_ungrouped(numbers: &[u128], a: Answer) -> bool
     ensures { result ≡ is_ungrouped numbers.now a }
 {
     is_of_one(numbers, a) && !gives_group(a)
 }
 
 /// Some `@recover` of these lines wasn't answered with a group.
-fn lacks_group(numbers: &[usize], row: &Row) -> bool
+fn lacks_group(numbers: &[u128], row: &Row) -> bool
     ensures { result ≡ lacks_group numbers.now row.now }
 {
     row.answers().iter().any(|a| is_ungrouped(numbers, *a))
 }
 
 /// One of the row's losses is bad, or it lacks a group in these lines, or fewer members count than a session has.
-fn is_finding(plan: &SweepPlan, numbers: &[usize], row: &Row) -> bool
+fn is_finding(plan: &SweepPlan, numbers: &[u128], row: &Row) -> bool
     ensures { result ≡ is_finding plan.now numbers.now row.now }
 {
     any_bad(plan.bound(), row.losses()) || lacks_group(numbers, row) || row.lacks_members()
 }
 
-fn any_finding(plan: &SweepPlan, numbers: &[usize], rows: &[Row]) -> bool
+fn any_finding(plan: &SweepPlan, numbers: &[u128], rows: &[Row]) -> bool
     ensures { result ≡ list_any (is_finding plan.now numbers.now) rows.now }
 {
     rows.iter().any(|row| is_finding(plan, numbers, row))
 }
 
 /// Some row has the line of the recovery ok or held.
-fn any_keeps(rows: &[Row], number: usize) -> bool
+fn any_keeps(rows: &[Row], number: u128) -> bool
     ensures { result ≡ list_any (keeps_line number) rows.now }
 {
     rows.iter().any(|row| keeps_line(row, number))
@@ -183,10 +183,10 @@ fn any_keeps(rows: &[Row], number: usize) -> bool
 
 /// Some row has an answer of the line of the recovery at a place, in none it is ok or held, and no refusal is announced there.
 fn is_never_kept(plan: &SweepPlan, rows: &[Row], place: usize) -> bool
-    requires { place < length plan.now.recovery }
     ensures { result ≡ is_never_kept plan.now rows.now place }
 {
-    is_answered(rows, place + 1) && !any_keeps(rows, place + 1) && !is_announced_at(plan, place)
+    let number = place as u128 + 1;
+    is_answered(rows, number) && !any_keeps(rows, number) && !is_announced_at(plan, place)
 }
 
 /// There is such a line.
