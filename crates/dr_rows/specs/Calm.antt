@@ -80,7 +80,7 @@ line_text plan number = if nat_lt (length plan.setup) number then tried_text pla
 
 -- the line of an announcement without a refusal
 unfoldable pub unrefused_line : Sweep → ℕ → List ℕ
-unrefused_line plan number = numbered number (line_text plan number) ++ codes "not refused (announced)" ++ 10 ∷ []
+unrefused_line plan number = numbered number (line_text plan number) ++ (codes "not refused (announced)" ++ 10 ∷ [])
 
 -- the line with that number was announced, and none of its steps was refused
 abbrev pub is_unrefused : Sweep → Calm → ℕ → Bool
