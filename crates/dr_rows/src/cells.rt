@@ -142,8 +142,8 @@ fn push_decisions(text: &mut Text, found: &[Answer]) -> Result<(), AllocError>
     }
 }
 
-/// What is said where no group came back.
-pub(crate) fn no_group(asks: bool) -> &'static [u8]
+/// What is said where no group came back, by whether one was asked for.
+pub fn no_group(asks: bool) -> &'static [u8]
     ensures { result.now ≡ no_group asks }
 {
     if asks { b"no group" } else { b"no session asked" }

@@ -24,6 +24,7 @@ mod strip;
 mod words;
 
 pub use calm::{Calm, CalmStep};
+pub use cells::no_group;
 pub use findings::{asks_recovery, has_finding};
 pub use line::{heading, push_row};
 pub use picture::{Bar, bars};
