@@ -43,10 +43,13 @@ disaster_of (Gap disaster place) = disaster
 abbrev pub point_cells : Sweep → ℕ → Point → List ℕ
 point_cells plan which point = decimal (disaster_of point + 1) ++ cell (use_name plan which) ++ cut_cells plan point
 
--- what sessions did, the groups that came back with their decisions and members, and the newest write
+-- the groups that came back, and their decisions
 abbrev pub answer_cells : Outcome → List ℕ
-answer_cells row =
-    cell (listed phase_said row.phases) ++ cell (group_cell row) ++ cell (quoted (decision_cell row)) ++ cell (listed members_said row.members) ++ cell (newest_cell row.newest)
+answer_cells row = cell (group_cell row) ++ cell (quoted (decision_cell row))
+
+-- the members after each `@recover`, and the newest write
+abbrev pub member_cells : Outcome → List ℕ
+member_cells row = cell (listed members_said row.members) ++ cell (newest_cell row.newest)
 
 -- what is lost, and what is broken
 abbrev pub loss_cells : Loss → List ℕ
@@ -58,7 +61,7 @@ refusal_cells plan row = cell (decimal (refused_count row.answers)) ++ cell (fir
 
 -- the line of a row with one of its losses, of the use at a place
 abbrev pub loss_line : Sweep → Outcome → ℕ → Loss → List ℕ
-loss_line plan row which loss = point_cells plan which row.point ++ answer_cells row ++ loss_cells loss ++ refusal_cells plan row ++ 10 ∷ []
+loss_line plan row which loss = point_cells plan which row.point ++ cell (listed phase_said row.phases) ++ answer_cells row ++ member_cells row ++ loss_cells loss ++ refusal_cells plan row ++ 10 ∷ []
 
 -- the line of a row for the use at a place
 abbrev pub use_line : Sweep → Outcome → ℕ → List ℕ

@@ -442,11 +442,17 @@ fn is_named(of: &Use) -> bool
     of.name().is_some()
 }
 
+fn any_named(uses: &[Use]) -> bool
+    ensures { result ≡ list_any is_named uses.now }
+{
+    uses.iter().any(|of| is_named(of))
+}
+
 /// The plan has a use with a name, or more than one.
 fn names_uses(plan: &SweepPlan) -> bool
     ensures { result ≡ names_uses plan.now }
 {
-    1 < plan.uses().len() || plan.uses().iter().any(|of| is_named(of))
+    1 < plan.uses().len() || any_named(plan.uses())
 }
 
 /// Adds the line that stands before what is said of the use at a place, if the plan names uses.

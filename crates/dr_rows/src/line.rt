@@ -1,7 +1,7 @@
 //! The lines that are printed of a row.
 
 ghost use Rattle.std.specs.Prelude.{◌≡◌, ◌++◌, OnOk};
-ghost use Rattle.dr_rows.specs.Line.{heading, part_cell, place_cells, cut_cells, disaster_of, point_cells, answer_cells, loss_cells, refusal_cells, loss_line, use_line, row_lines};
+ghost use Rattle.dr_rows.specs.Line.{heading, part_cell, place_cells, cut_cells, disaster_of, point_cells, answer_cells, member_cells, loss_cells, refusal_cells, loss_line, use_line, row_lines};
 
 use crate::cells::{
     decision_cell, push_broken, push_first_refused, push_group_cell, push_least, push_member_list,
@@ -94,16 +94,20 @@ fn push_point(
     push_cut(text, plan, point)
 }
 
-/// Adds what sessions did, the groups that came back with their decisions and members, and the newest write.
+/// Adds the groups that came back, and their decisions.
 fn push_answers(alloc: Global, text: &mut Text, row: &Row) -> Result<(), AllocError>
     ensures { OnOk result (text.new ≡ text.old ++ answer_cells row.now) }
 {
     text.append(b",")?;
-    push_phase_list(text, row.phases())?;
-    text.append(b",")?;
     push_group_cell(alloc, text, row)?;
     text.append(b",")?;
-    push_quoted(text, decision_cell(alloc, row)?.bytes())?;
+    push_quoted(text, decision_cell(alloc, row)?.bytes())
+}
+
+/// Adds the members after each `@recover`, and the newest write.
+fn push_members(text: &mut Text, row: &Row) -> Result<(), AllocError>
+    ensures { OnOk result (text.new ≡ text.old ++ member_cells row.now) }
+{
     text.append(b",")?;
     push_member_list(text, row.members())?;
     text.append(b",")?;
@@ -146,7 +150,10 @@ fn push_loss_line(
     ensures { OnOk result (text.new ≡ text.old ++ loss_line plan.now row.now which loss.now) }
 {
     push_point(text, plan, which, row.point())?;
+    text.append(b",")?;
+    push_phase_list(text, row.phases())?;
     push_answers(alloc, text, row)?;
+    push_members(text, row)?;
     push_loss(text, loss)?;
     push_refusals(text, plan, row)?;
     text.append(b"\n")

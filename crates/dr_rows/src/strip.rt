@@ -1,6 +1,6 @@
 //! The strip: a character for each place of a sweep.
 
-ghost use Rattle.std.specs.Prelude.{◌≡◌, ◌++◌, ◌<◌, length, IfOk, OnOk};
+ghost use Rattle.std.specs.Prelude.{◌≡◌, ◌++◌, ◌+◌, ◌<◌, ◌^◌, IfOk, OnOk};
 ghost use Rattle.dr_rows.specs.Strip.{is_cut_at, is_gap_at, cut_signs, gap_signs, wide, gap_column, server_column, server_columns, step_text, line_strip, line_strips, signs_told, use_strip, use_strips, disaster_strip, disaster_strips, strip_head, characters_told, legend, strip_told};
 ghost use Rattle.dr_rows.specs.Words.{place_name};
 
@@ -163,7 +163,7 @@ fn push_line_strip(
     disaster: usize,
     place: usize,
 ) -> Result<(), AllocError>
-    requires { place < length plan.now.tried }
+    requires { place + 1 < 2 ^ 64 }
     ensures { OnOk result (text.new ≡ text.old ++ line_strip plan.now signs.now disaster place) }
 {
     push_gap_column(alloc, text, plan, signs, disaster, place + 1)?;

@@ -15,3 +15,13 @@ loop-number-preserved c =
     ∙ ap (λ t. t ++ says number) c.loop-number.invariant
     ∙ said-more says c.args.text.now 1 (number - 1) number at
     ∙ ap (λ n. c.args.text.now ++ flat_map says (range_with_len 1 n)) next
+
+pub returns : goal.returns
+returns c =
+    let says : ℕ → List ℕ = line_said c.args.plan.now c.args.calm.now in
+    let least = c.loop-number-test.false in
+    let most = c.loop-number.auto.number-end in
+    let from = c.loop-number.auto.number in
+    let end = c.then_line.ensures in
+    let all : c.loop-number.number - 1 ≡ c.args.plan.now.then_line - 1 = omega arith in
+    c.loop-number.invariant ∙ ap (λ n. c.args.text.now ++ flat_map says (range_with_len 1 n)) all
