@@ -22,6 +22,6 @@ returns c =
     let least = c.loop-number-test.false in
     let most = c.loop-number.auto.number-end in
     let from = c.loop-number.auto.number in
-    let end = c.then_line.ensures in
+    let end = c.then_line-number-end.ensures in
     let all : c.loop-number.number - 1 ≡ c.args.plan.now.then_line - 1 = omega arith in
     c.loop-number.invariant ∙ ap (λ n. c.args.text.now ++ flat_map says (range_with_len 1 n)) all
