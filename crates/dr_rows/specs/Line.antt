@@ -43,6 +43,10 @@ disaster_of (Gap disaster place) = disaster
 abbrev pub point_cells : Sweep → ℕ → Point → List ℕ
 point_cells plan which point = decimal (disaster_of point + 1) ++ cell (use_name plan which) ++ cut_cells plan point
 
+-- the phases of sessions
+abbrev pub phase_cells : Outcome → List ℕ
+phase_cells row = cell (listed phase_said row.phases)
+
 -- the groups that came back, and their decisions
 abbrev pub answer_cells : Outcome → List ℕ
 answer_cells row = cell (group_cell row) ++ cell (quoted (decision_cell row))
@@ -61,7 +65,7 @@ refusal_cells plan row = cell (decimal (refused_count row.answers)) ++ cell (fir
 
 -- the line of a row with one of its losses, of the use at a place
 abbrev pub loss_line : Sweep → Outcome → ℕ → Loss → List ℕ
-loss_line plan row which loss = point_cells plan which row.point ++ cell (listed phase_said row.phases) ++ answer_cells row ++ member_cells row ++ loss_cells loss ++ refusal_cells plan row ++ 10 ∷ []
+loss_line plan row which loss = point_cells plan which row.point ++ phase_cells row ++ answer_cells row ++ member_cells row ++ loss_cells loss ++ refusal_cells plan row ++ 10 ∷ []
 
 -- the line of a row for the use at a place
 abbrev pub use_line : Sweep → Outcome → ℕ → List ℕ

@@ -1,7 +1,7 @@
 //! The lines that are printed of a row.
 
 ghost use Rattle.std.specs.Prelude.{◌≡◌, ◌++◌, OnOk};
-ghost use Rattle.dr_rows.specs.Line.{heading, part_cell, place_cells, cut_cells, disaster_of, point_cells, answer_cells, member_cells, loss_cells, refusal_cells, loss_line, use_line, row_lines};
+ghost use Rattle.dr_rows.specs.Line.{heading, part_cell, place_cells, cut_cells, disaster_of, point_cells, phase_cells, answer_cells, member_cells, loss_cells, refusal_cells, loss_line, use_line, row_lines};
 
 use crate::cells::{
     decision_cell, push_broken, push_first_refused, push_group_cell, push_least, push_member_list,
@@ -94,6 +94,14 @@ fn push_point(
     push_cut(text, plan, point)
 }
 
+/// Adds the phases of sessions.
+fn push_phases(text: &mut Text, row: &Row) -> Result<(), AllocError>
+    ensures { OnOk result (text.new ≡ text.old ++ phase_cells row.now) }
+{
+    text.append(b",")?;
+    push_phase_list(text, row.phases())
+}
+
 /// Adds the groups that came back, and their decisions.
 fn push_answers(alloc: Global, text: &mut Text, row: &Row) -> Result<(), AllocError>
     ensures { OnOk result (text.new ≡ text.old ++ answer_cells row.now) }
@@ -150,8 +158,7 @@ fn push_loss_line(
     ensures { OnOk result (text.new ≡ text.old ++ loss_line plan.now row.now which loss.now) }
 {
     push_point(text, plan, which, row.point())?;
-    text.append(b",")?;
-    push_phase_list(text, row.phases())?;
+    push_phases(text, row)?;
     push_answers(alloc, text, row)?;
     push_members(text, row)?;
     push_loss(text, loss)?;
