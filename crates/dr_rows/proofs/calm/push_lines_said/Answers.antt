@@ -8,20 +8,25 @@ pub loop-number-preserved : goal.loop-number-preserved
 loop-number-preserved c =
     let number = c.loop-number.number in
     let from = c.loop-number.auto.number in
-    let says : ℕ → List ℕ = line_said c.args.plan.now c.args.calm.now in
+    let more = c.loop-number-test.true in
+    let end = c.then_line-number-end.ensures in
+    let lines : ℕ → List ℕ = line_said c.args.plan.now c.args.calm.now in
     let at : 1 + (number - 1) ≡ number = omega arith in
     let next : number - 1 + 1 ≡ number + 1 - 1 = omega arith in
-    c.in_ok-push_line_said.ensures
-    ∙ ap (λ t. t ++ says number) c.loop-number.invariant
-    ∙ said-more says c.args.text.now 1 (number - 1) number at
-    ∙ ap (λ n. c.args.text.now ++ flat_map says (range_with_len 1 n)) next
+    record {
+      within = omega arith;
+      says =
+          c.in_ok-push_line_said.ensures
+          ∙ ap (λ t. t ++ lines number) c.loop-number.invariant.says
+          ∙ said-more lines c.args.text.now 1 (number - 1) number at
+          ∙ ap (λ n. c.args.text.now ++ flat_map lines (range_with_len 1 n)) next;
+    }
 
 pub returns : goal.returns
 returns c =
-    let says : ℕ → List ℕ = line_said c.args.plan.now c.args.calm.now in
+    let lines : ℕ → List ℕ = line_said c.args.plan.now c.args.calm.now in
     let least = c.loop-number-test.false in
-    let most = c.loop-number.auto.number-end in
-    let from = c.loop-number.auto.number in
+    let within = c.loop-number.invariant.within in
     let end = c.then_line-number-end.ensures in
     let all : c.loop-number.number - 1 ≡ c.args.plan.now.then_line - 1 = omega arith in
-    c.loop-number.invariant ∙ ap (λ n. c.args.text.now ++ flat_map says (range_with_len 1 n)) all
+    c.loop-number.invariant.says ∙ ap (λ n. c.args.text.now ++ flat_map lines (range_with_len 1 n)) all
