@@ -1,191 +1,95 @@
 #!/usr/bin/env python3
-"""Makes the rows of a plan by itself, by runs of `DRSIM run`, and compares them with what `SWEEP rows` prints.
+"""Makes the rows and the report of plans by itself, by runs of `DRSIM run`, and compares them with what `SWEEP` prints.
 
-    tools/check_sweep.py PLAN SWEEP DRSIM
+    tools/check_sweep.py SWEEP DRSIM PLAN..
+    tools/check_sweep.py --report|--rows DRSIM PLAN
 
-It puts the script of each point together, runs it, and reads the row off what is printed: a point is reached where the tried line answers
-that its server was stopped, groups and refusals are answers, and a write is lost that was acknowledged before the servers were stopped and
-that the volume used behind the recovery doesn't show at the end. `SWEEP script` has to print a script with the same answers. In a plan that
-it takes the hosts write on the second volumes of `use`, each write leaves its track with other bytes than any other does, and the servers
-of the first volumes run at the end. Exit status 1 where a row differs, 2 where it can't take the plan.
+The first form compares the report, the rows, the exit status, and the script of each row with what `SWEEP` says. Of a text that is no plan
+it works out the first bad line and the reason. The second form prints the report or the rows that it has made, and ends with their status.
+How a row is made is told in `sweep_rows.py`, what is read of a plan in `plan_text.py`. Exit status 1 where something differs, 2 where a plan
+can't be taken: a track has more than 64 writes, or a run depends on what the hosts write.
 """
-import re
+import os
 import subprocess
 import sys
+import time
+from concurrent.futures import ThreadPoolExecutor
+from itertools import zip_longest
 
 sys.dont_write_bytecode = True
-from count_points import Fault, Runs, is_start, read_plan
+from plan_text import BadPlan, lines_of, read_plan, text_of
+from sweep_report import Calm, Report
+from sweep_rows import HEADING, Rows
+from sweep_runs import Drsim, Fault
 
-TORN = ("none", "00", "01")
-HEADING = "disaster,line,server,write,torn,group,decision,lost,first lost,broken,refused,first refused line"
-DROPPED = ("E05", "E08", "E09", "E11", "E21")  # of a write that was issued, and has its number
-VOLUMES = re.compile(r"[0-9A-Fa-f]{4}(-[0-9A-Fa-f]{4})?(:[0-9A-Fa-f]{4}(-[0-9A-Fa-f]{4})?)?$")
-
-
-def span(word):
-    """The volumes of a word: one, or a range."""
-    first, _, last = word.partition("-")
-    return [f"{v:04X}" for v in range(int(first, 16), int(last or first, 16) + 1)]
+NO_PLAN = 7
+MOST_TOLD = 30  # differences of a plan; all are counted
 
 
-def taken_apart(line):
-    """A line of several steps as lines of one step each. Of `mksession` and of commas nothing is known here."""
-    words = line.split()
-    names = [place for place, word in enumerate(words) if VOLUMES.match(word)]
-    if words[0] == "@volume":
-        names = names[:1]
-    elif words[0].startswith("@") or words[0] == "chsession" or not names:
-        return [line]
-    found = []
-    for place in names:
-        for pair in zip(*[span(side) for side in words[place].split(":")]):
-            found.append(" ".join(":".join(pair) if at == place else word for at, word in enumerate(words) if at == place or at not in names))
-    return found
+class Made:
+    """What a plan comes to: its report, its rows as text, the status, and the rows themselves."""
+
+    def __init__(self, drsim, text):
+        self.found = []
+        try:
+            plan = read_plan(lines_of(text), drsim.steps(text))
+        except BadPlan as bad:
+            self.report = self.rows = f"{bad}\n"
+            self.status = NO_PLAN
+            return
+        self.by_plan = Rows(plan, drsim)
+        self.found = self.by_plan.all(os.cpu_count())
+        report = Report(plan, self.by_plan, self.found, Calm(plan, drsim))
+        self.report, self.status = report.text(), int(report.has_finding())
+        self.rows = "".join(line + "\n" for line in [HEADING, *(line for row in self.found for line in self.by_plan.lines(row))])
+
+    def scripts(self):
+        """Of each row the words that show its script, and that script."""
+        return [(self.by_plan.words(row.point), text_of(row.script).decode("latin-1")) for row in self.found]
 
 
-class Write:
-    """A host write: where it goes, what it leaves there, and at which lines it was issued and acknowledged."""
-
-    def __init__(self, volume, track, offset, data, issued):
-        self.volume, self.track, self.offset, self.data, self.issued, self.acknowledged = volume, int(track), int(offset), bytes.fromhex(data), issued, None
-
-
-def writes_of(lines, answers):
-    """The writes of a run, by their numbers, by what its lines are answered."""
-    found = {}
-    for number, line in enumerate(lines, 1):
-        words = line.split()
-        for answer in answers.get(number, []):
-            if words[0] in ("@write", "@issue") and (told := re.match(r"(?:ok|held) w(\d+)", answer)):
-                found[int(told[1])] = Write(words[1].upper(), *words[2:5], number)
-            elif words[0] == "@write" and answer.startswith(DROPPED):
-                found[len(found) + 1] = Write(words[1].upper(), *words[2:5], number)
-            if words[0] in ("@write", "@apply", "@start") and answer.startswith("ok"):
-                for w in re.findall(r"w(\d+)", answer):
-                    found[int(w)].acknowledged = number
-    return found
+def differences(sweep, path, words, text, status):
+    """How what `SWEEP` says of a plan for these words isn't the text, or ends with another status."""
+    with open(path, "rb") as plan:
+        run = subprocess.run([sweep, *words], stdin=plan, stdout=subprocess.PIPE, stderr=subprocess.DEVNULL, check=False)
+    name = " ".join(["sweep", *words])
+    if run.returncode != status:
+        yield f"`{name}` ends with {run.returncode}, and not with {status}"
+    theirs, ours = run.stdout.decode("latin-1"), text
+    if theirs != ours:
+        for number, (line, wanted) in enumerate(zip_longest(theirs.split("\n"), ours.split("\n"), fillvalue="nothing"), 1):
+            if line != wanted:
+                yield f"`{name}`, line {number}: {line}\n  and not: {wanted}"
 
 
-def shown(answer):
-    """The bytes of a track, by the answer of `@show`."""
-    if not answer.startswith("ok"):
-        raise Fault(f"a track isn't shown: {answer}")
-    return bytes.fromhex(answer[3:] if answer != "ok -" else "").ljust(64, b"\0")
+def check(sweep, drsim, path):
+    """Compares all that is said of a plan, and prints what differs; how much that is."""
+    begun = time.monotonic()
+    with open(path, "rb") as file:
+        made = Made(drsim, file.read())
+    calls = [([], made.report, made.status), (["rows"], made.rows, made.status), *((words, script, 0) for words, script in made.scripts())]
+    with ThreadPoolExecutor(os.cpu_count()) as pool:
+        found = [text for texts in pool.map(lambda call: list(differences(sweep, path, *call)), calls) for text in texts]
+    print("".join(text + "\n" for text in found[:MOST_TOLD]), end="")
+    print(f"{path}: {len(made.found)} points, {len(found)} differences, {time.monotonic() - begun:.0f} s", flush=True)
+    return len(found)
 
 
-def held(writes, content, answer):
-    """How many of a track's writes it shows."""
-    now, found = bytearray(64), [0] if content == bytes(64) else []
-    for count, w in enumerate(writes, 1):
-        now[w.offset:w.offset + len(w.data)] = w.data
-        if bytes(now) == content:
-            found.append(count)
-    if len(found) != 1:
-        raise Fault(f"which writes a track shows can't be told: {answer}")
-    return found[0]
-
-
-class Plan:
-    def __init__(self, path, runs):
-        with open(path, encoding="utf-8") as file:
-            lines = file.read().splitlines()
-        self.disasters, self.setup, tried, self.recovery = read_plan(lines)
-        self.tried = [step for line in tried for step in taken_apart(line)]
-        self.runs = runs
-        marks = [line.split() for line in lines if line.startswith("#sweep use")]
-        self.pairs = {second: first for words in marks for first, second in zip(span(words[2]), span(words[4]))}
-        self.sizes = {v: int(line.split()[3]) for line in self.setup if line.startswith("@volume") for v in span(line.split()[1])}
-
-    def run(self, before, behind):
-        """A run, with the tracks of the first volumes shown at its end."""
-        script = before + behind
-        shows = [(second, track) for second, first in self.pairs.items() for track in range(self.sizes[first])]
-        answers = self.runs.answers(script + [f"@show {self.pairs[second]} {track}" for second, track in shows])
-        last = {place: answers[len(script) + 1 + at][0] for at, place in enumerate(shows)}
-        return script, answers, last
-
-    def cells(self, script, answers, last, stops):
-        """What a row says behind its point; the servers were stopped in the first lines, so many."""
-        behind = [(number - stops, answer) for number in sorted(answers) if stops < number <= len(script) for answer in answers[number]]
-        groups = [found for _, answer in behind if (found := re.match(r"ok group (\d+) (.*)", answer))]
-        refused = [number for number, answer in behind if answer.startswith("E")]
-        writes = writes_of(script, answers)
-        keeps = set()
-        for (second, track), answer in last.items():
-            here = [(w, found) for w, found in sorted(writes.items()) if (found.volume, found.track) == (second, track)]
-            keeps |= {w for w, _ in here[:held([found for _, found in here], shown(answer), answer)]}
-        had = {w for w, found in writes.items() if found.acknowledged and found.acknowledged <= stops and found.volume in self.pairs}
-        lost = [w for second in self.pairs for w in sorted(had - keeps, key=lambda w: (writes[w].track, w)) if writes[w].volume == second]
-        first = min(lost, key=lambda w: writes[w].acknowledged, default=None)
-        on = [w for w in sorted(had & keeps) if first and writes[w].issued > writes[first].acknowledged]
-        decision = " ".join(found[2] for found in groups) or "-"
-        return [" ".join(found[1] for found in groups) or "-", f'"{decision}"' if "," in decision else decision, str(len(lost)),
-                f"w{lost[0]}" if lost else "-", f"w{on[0]} on w{first}" if on else "-", str(len(refused)), str(refused[0]) if refused else "-"]
-
-    def rows(self):
-        """All rows in order, each with the words that show its script, and the answers of that."""
-        for disaster, servers in enumerate(self.disasters, 1):
-            yield self.gap(disaster, servers, 0)
-            for place, line in enumerate(self.tried):
-                for server in servers:
-                    yield from self.cuts(disaster, servers, place, line, server)
-                yield self.gap(disaster, servers, place + 1)
-
-    def row(self, point, words, before, stops):
-        script, answers, last = self.run(before + stops, self.recovery)
-        words += [str(point[0])]
-        return ",".join([str(cell) for cell in point] + self.cells(script, answers, last, len(before) + len(stops))), words, script
-
-    def gap(self, disaster, servers, place):
-        return self.row((disaster, place, "gap", "-", "-"), ["script", str(place), "gap"], self.setup + self.tried[:place], [f"@stop {name}" for name in servers])
-
-    def cuts(self, disaster, servers, place, line, server):
-        others = [f"@stop {name}" for name in servers if name != server]
-        for write in range(1 if is_start(line, server) else 0, 100_000):
-            found = 0
-            for torn in TORN:
-                before = self.setup + self.tried[:place] + [f"@stop {server} after {write} torn {torn}", line]
-                told = self.runs.answers(before).get(len(before), [])
-                if told and told[-1] == f"E21 stopped {server}":
-                    found += 1
-                    yield self.row((disaster, place + 1, server, write, torn), ["script", str(place + 1), server, str(write), torn], before, others)
-                elif torn == "none":
-                    return
-            if not found:
-                return
-
-
-def main(plan, sweep, drsim):
-    def said(words, status):
-        with open(plan, "rb") as file:
-            run = subprocess.run([sweep, *words], stdin=file, stdout=subprocess.PIPE, stderr=subprocess.DEVNULL, check=False)
-        if run.returncode not in status:
-            raise Fault(f"{sweep} {' '.join(words)} ended with {run.returncode}")
-        return run.stdout.decode().splitlines()
-
-    found, runs, wrong, count = said(["rows"], (0, 1)), Runs(drsim), 0, 0
-    if found[0] != HEADING:
-        raise Fault(f"another heading: {found[0]}")
-    for count, (row, words, script) in enumerate(Plan(plan, runs).rows(), 1):
-        given = found[count] if count < len(found) else "nothing"
-        if given != row:
-            wrong += 1
-            print(f"row {count}: {given}\n  and not: {row}")
-        if runs.answers(said(words, (0,))) != runs.answers(script):
-            wrong += 1
-            print(f"row {count}: `{' '.join(words)}` gives a script with other answers")
-    if len(found) != count + 1:
-        wrong += 1
-        print(f"{len(found) - 1} rows, and not {count}")
-    print(f"{plan}: {count} rows, {wrong} of them differ, by {runs.count} runs")
-    return 1 if wrong else 0
+def main(words):
+    if len(words) == 3 and words[0] in ("--report", "--rows"):
+        with open(words[2], "rb") as file:
+            made = Made(Drsim(words[1]), file.read())
+        sys.stdout.buffer.write((made.report if words[0] == "--report" else made.rows).encode("latin-1"))
+        return made.status
+    if len(words) < 3 or words[0].startswith("-"):
+        sys.exit(__doc__)
+    drsim = Drsim(words[1])
+    return int(sum(check(words[0], drsim, path) for path in words[2:]) > 0)
 
 
 if __name__ == "__main__":
-    if len(sys.argv) != 4:
-        sys.exit(__doc__)
     try:
-        sys.exit(main(*sys.argv[1:]))
+        sys.exit(main(sys.argv[1:]))
     except Fault as fault:
-        print(f"{sys.argv[1]}: {fault}", file=sys.stderr)
+        print(f"{sys.argv[-1]}: {fault}", file=sys.stderr)
         sys.exit(2)

@@ -15,7 +15,7 @@ import book
 ROOT = book.ROOT
 DOCUMENTS = ("README.md", "CONTRIBUTING.md", "CHANGELOG.md", "docs/*.md", "examples/README.md", "editors/README.md")
 NOTES = ("crates/*/src/lib.rt", "crates/*/src/main.rt", "crates/*/proofs/Lib.antt")
-SOURCES = ("crates/**/*.rt", "crates/**/*.antt", "crates/*/data/*", "crates/*/must-fail/*", "crates/*/edits/*", "crates/scenarios/std*", "examples/*",
+SOURCES = ("crates/**/*.rt", "crates/**/*.antt", "crates/*/data/*", "crates/*/must-fail/*", "crates/*/edits/*", "crates/scenarios/std*", "examples/*", "examples/sweeps/**/*",
            "bench/*", "tools/*", "tools/plain/*", "editors/**/*", ".ci/run", "crates.txt", "HANDLES")
 SIZES = {"README.md": 14_336, "docs/PROOFS.md": 20_000}
 ROWS = {"What it promises": 8}

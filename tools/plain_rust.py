@@ -24,6 +24,7 @@ STORED_TEST = "stored.rs"
 
 # The folders of scripts, in the package and in the repository.
 SCRIPTS = {"scenarios": "crates/scenarios/data", "examples": "examples"}
+PLANS = ("examples/sweeps", "examples/sweeps/mistakes")
 
 # What goes along for who reads answers.
 ALONG = ("LICENSE", "docs/ANSWERS.md", "docs/COMMANDS.md", "tools/explain.py", "tools/rows.py")
@@ -58,6 +59,7 @@ RENAMED = (
     (r"\bfn main\(rt: HostRuntime\)(.*)\{", r"fn main()\1{\n    let rt = HostRuntime;"),
     (r"= prove!", "= assert!"),
     (r" \+ Drop\b", ""),
+    (r"<(\w+): Drop>", r"<\1>"),
 )
 
 PACKAGE = """\
@@ -230,8 +232,9 @@ def stored_runs():
     for folder, place in SCRIPTS.items():
         found = sorted((ROOT / place).glob("*.dscli"))
         yield folder, "drsim", [Stored(it.stem, beside(it, ".out", ".words", ".status"), folder, "run") for it in found]
-    plans = sorted((ROOT / "examples" / "sweeps").glob("*.plan"))
-    sweeps = [Stored(it.stem, beside(it, ".report", ".words", ".status"), "examples/sweeps", "") for it in plans]
+    sweeps = []
+    for place in PLANS:
+        sweeps += [Stored(it.stem, beside(it, ".report", ".words", ".status"), place, "") for it in sorted((ROOT / place).glob("*.plan"))]
     pictures = sorted((ROOT / "docs" / "pictures").glob("*.svg"))
     for picture in pictures:
         plan = ROOT / "examples" / "sweeps" / f"{picture.stem}.plan"

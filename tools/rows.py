@@ -1,15 +1,18 @@
 #!/usr/bin/env python3
-"""Checks that what docs/COMMANDS.md and docs/ANSWERS.md show is what scenarios and examples print; exit status 1 where it isn't.
+"""Checks that what docs/COMMANDS.md, docs/ANSWERS.md and docs/SWEEPS.md show is what scenarios, examples and plans print; exit status 1 if it isn't.
 
 Each example of COMMANDS.md is a line of the scenario each-command-once, with its answers. What its table says that DSCLI has and this hasn't
 stands in a line of the scenario dscli-words-that-are-refused that answers E01. Each row of ANSWERS.md names a scenario or
-an example (in its last column) whose output has the answer that the row begins with; rows without one say so there.
+an example (in its last column) whose output has the answer that the row begins with; rows without one say so there. Each row of SWEEPS.md that
+names plans of examples/sweeps/mistakes there shows in its second column what the report of each has, and with which status it ends; and all plans there
+that are none stand in such a row.
 """
 import re
 import sys
 from pathlib import Path
 
 ROOT = Path(__file__).resolve().parent.parent
+MISTAKES = ROOT / "examples" / "sweeps" / "mistakes"
 SCRIPTS = [ROOT / "crates" / "scenarios" / "data", ROOT / "examples"]
 MISSING = "## DSCLI has it, this hasn't"
 VALUES = {"VOL": r"[0-9A-F]{4}", "NAME": r"[A-Za-z][\w.-]*", "SS": r"[0-9A-F]{2}", "BYTES": r"(?:[0-9A-F]{2})+", "wN": r"w\d+", "mN": r"m\d+",
@@ -76,9 +79,35 @@ def faults_in_answers(path):
                     yield f"{path.relative_to(ROOT)}:{number}: {name} doesn't print `{row[1]}`"
 
 
+def report_on(plan):
+    """What is stored of a plan with a mistake: the lines of its report, and its status."""
+    report, status = (MISTAKES / f"{plan}{ending}" for ending in (".report", ".status"))
+    return [line.strip() for line in report.read_text().splitlines()], int(status.read_text()) if status.exists() else 0
+
+
+def faults_in_sweeps(path):
+    plans, named = {file.stem for file in MISTAKES.glob("*.plan")}, set()
+    for number, line in enumerate(path.read_text(encoding="utf-8").split("\n"), 1):
+        cells = line.strip("| ").split(" | ")
+        here = plans.intersection(re.findall(r"`([\w-]+)`", cells[-1]))
+        if not here or not line.startswith("| "):
+            continue
+        text, wanted = re.search(r"`([^`]+)`(?:.* status (\d))?", cells[1]).groups()
+        pattern = re.sub(r"VVVV|NAME|COLUMN", r"[\\w.-]+", re.escape(text))
+        named |= here
+        for plan in sorted(here):
+            lines, status = report_on(plan)
+            if not any(re.match(f"(?:bad plan line \\d+: )?{pattern}", told) for told in lines) or status != int(wanted or 7):
+                yield f"{path.relative_to(ROOT)}:{number}: {plan} doesn't print `{text}`, or has another status"
+    for plan in sorted(plans - named):
+        if report_on(plan)[1] == 7:
+            yield f"{path.relative_to(ROOT)}:1: no row has the plan {plan}"
+
+
 def main():
     commands = ROOT / "docs" / "COMMANDS.md"
-    faults = [*faults_in_commands(commands), *faults_in_what_is_missing(commands), *faults_in_answers(ROOT / "docs" / "ANSWERS.md")]
+    faults = [*faults_in_commands(commands), *faults_in_what_is_missing(commands), *faults_in_answers(ROOT / "docs" / "ANSWERS.md"),
+              *faults_in_sweeps(ROOT / "docs" / "SWEEPS.md")]
     print("\n".join(faults), end="\n" if faults else "")
     return 1 if faults else 0
 

@@ -2,6 +2,7 @@
 use Rattle.std.specs.Prelude.{ℕ, ◌+◌, ◌-◌, ◌*◌, ◌%◌, Bool, List, [], ◌∷◌, ◌++◌, length, fold, max, nat_eq, codes, if◌then◌else◌}
 use Rattle.std.specs.Fmt.{decimal}
 use Rattle.dr_rows.specs.declared.picture.Bar.{Bar}
+use Rattle.dr_rows.specs.Cells.{no_group}
 
 -- the most writes that are lost at a place, and at least 1
 abbrev pub highest : List Bar → ℕ
@@ -86,13 +87,25 @@ view top count = view_begin ++ decimal count ++ codes " " ++ decimal (43 * top) 
 abbrev pub scale : ℕ → ℕ → List (List ℕ)
 scale top count = label high_begin top ∷ label wide_begin count ∷ view top count ∷ []
 
--- the end of the bars, the axes and the legend
-unfoldable pub tail : List (List ℕ)
-tail =
+-- the end of the bars, the axes, and the colour of no group
+unfoldable pub axes : List (List ℕ)
+axes =
     codes "</svg>" ∷
     codes "<path d='M59.5 46V255.5H884' fill='none' stroke='#333333'/>" ∷
     codes "<rect x='60' y='300' width='12' height='12' fill='#bbbbbb'/>" ∷
-    codes "<text x='78' y='311'>no group</text>" ∷
+    []
+
+-- what it says: where no session is asked, no group comes back
+unfoldable pub grey_begin : List ℕ
+grey_begin = codes "<text x='78' y='311'>"
+
+-- its line
+abbrev pub grey_text : Bool → List ℕ
+grey_text asks = grey_begin ++ no_group asks ++ codes "</text>"
+
+-- the other colours
+unfoldable pub tail : List (List ℕ)
+tail =
     codes "<rect x='160' y='300' width='12' height='12' fill='#4e79a7'/>" ∷
     codes "<rect x='174' y='300' width='12' height='12' fill='#59a14f'/>" ∷
     codes "<rect x='188' y='300' width='12' height='12' fill='#edc948'/>" ∷
@@ -107,6 +120,7 @@ tail =
     codes "</svg>" ∷
     []
 
--- the picture of bars, in their order
-abbrev pub picture_text : List Bar → List ℕ
-picture_text bars = ended head ++ ended (scale (highest bars) (length bars)) ++ bars_text (highest bars) 0 bars ++ ended tail
+-- the picture of bars, in their order, by whether an `@recover` stands in the recovery
+abbrev pub picture_text : Bool → List Bar → List ℕ
+picture_text asks bars =
+    ended head ++ ended (scale (highest bars) (length bars)) ++ bars_text (highest bars) 0 bars ++ ended axes ++ ended (grey_text asks ∷ []) ++ ended tail

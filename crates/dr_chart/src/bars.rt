@@ -2,11 +2,11 @@
 
 ghost use Rattle.std.specs.Prelude.{◌≡◌, ◌∷◌, ◌++◌, [], OnOk, IfOk};
 ghost use Rattle.std.specs.Fmt.{decimal};
-ghost use Rattle.dr_chart.specs.Picture.{bar_text, colour, ended, group_colour, highest, label, mark_text, palette, picture_text, rect_text, scale, view};
+ghost use Rattle.dr_chart.specs.Picture.{axes, bar_text, colour, ended, grey_text, group_colour, highest, label, mark_text, palette, picture_text, rect_text, scale, tail, view};
 
-use crate::frame::{head, high_begin, tail, view_begin, view_end, wide_begin};
+use crate::frame::{axes, grey_begin, head, high_begin, tail, view_begin, view_end, wide_begin};
 use dr_ids::Text;
-use dr_rows::Bar;
+use dr_rows::{Bar, no_group};
 use std::alloc::{AllocError, Global};
 
 /// The most writes that are lost at a place, and at least 1.
@@ -147,9 +147,27 @@ fn push_scale(alloc: Global, text: &mut Text, top: u32, count: usize) -> Result<
     push_view(alloc, text, top, count)
 }
 
-/// The picture of bars, in their order. Fails where there is no memory.
-pub fn picture(alloc: Global, bars: &[Bar]) -> Result<Text, AllocError>
-    ensures { IfOk result (λ text. text ≡ picture_text bars.now) }
+/// Adds what the colour of no group says.
+fn push_grey(text: &mut Text, asks: bool) -> Result<(), AllocError>
+    ensures { OnOk result (text.new ≡ text.old ++ ended (grey_text asks ∷ [])) }
+{
+    text.append(grey_begin())?;
+    text.append(no_group(asks))?;
+    text.append(b"</text>\n")
+}
+
+/// Adds the end of the bars, the axes and the legend.
+fn push_end(text: &mut Text, asks: bool) -> Result<(), AllocError>
+    ensures { OnOk result (text.new ≡ text.old ++ ended axes ++ ended (grey_text asks ∷ []) ++ ended tail) }
+{
+    text.append(axes())?;
+    push_grey(text, asks)?;
+    text.append(tail())
+}
+
+/// The picture of bars, in their order, by whether an `@recover` stands in the recovery. Fails where there is no memory.
+pub fn picture(alloc: Global, asks: bool, bars: &[Bar]) -> Result<Text, AllocError>
+    ensures { IfOk result (λ text. text ≡ picture_text asks bars.now) }
 {
     let top = highest(bars);
     let mut text = Text::new(alloc);
@@ -158,6 +176,6 @@ pub fn picture(alloc: Global, bars: &[Bar]) -> Result<Text, AllocError>
     for (place, bar) in bars.iter().enumerate() {
         push_bar(alloc, &mut text, top, place, *bar)?;
     }
-    text.append(tail())?;
+    push_end(&mut text, asks)?;
     Ok(text)
 }

@@ -1,7 +1,7 @@
 //! What stands around the bars.
 
 ghost use Rattle.std.specs.Prelude.{◌≡◌};
-ghost use Rattle.dr_chart.specs.Picture.{ended, head, high_begin, tail, view_begin, view_end, wide_begin};
+ghost use Rattle.dr_chart.specs.Picture.{axes, ended, grey_begin, head, high_begin, tail, view_begin, view_end, wide_begin};
 
 /// The size, the ground and the title of the picture.
 #[tactic(auto, unfolding(crate::specs::Picture::head))]
@@ -48,16 +48,31 @@ pub(crate) fn view_end() -> &'static [u8]
     b"' preserveAspectRatio='none' shape-rendering='crispEdges'>"
 }
 
-/// The end of the bars, the axes and the legend.
+/// The end of the bars, the axes, and the colour of no group.
+#[tactic(auto, unfolding(crate::specs::Picture::axes))]
+pub(crate) fn axes() -> &'static [u8]
+    ensures { result.now ≡ ended axes }
+{
+    b"\
+        </svg>\n\
+        <path d='M59.5 46V255.5H884' fill='none' stroke='#333333'/>\n\
+        <rect x='60' y='300' width='12' height='12' fill='#bbbbbb'/>\n"
+}
+
+/// What stands before the words of that colour.
+#[tactic(auto, unfolding(crate::specs::Picture::grey_begin))]
+pub(crate) fn grey_begin() -> &'static [u8]
+    ensures { result.now ≡ grey_begin }
+{
+    b"<text x='78' y='311'>"
+}
+
+/// The other colours.
 #[tactic(auto, unfolding(crate::specs::Picture::tail))]
 pub(crate) fn tail() -> &'static [u8]
     ensures { result.now ≡ ended tail }
 {
     b"\
-        </svg>\n\
-        <path d='M59.5 46V255.5H884' fill='none' stroke='#333333'/>\n\
-        <rect x='60' y='300' width='12' height='12' fill='#bbbbbb'/>\n\
-        <text x='78' y='311'>no group</text>\n\
         <rect x='160' y='300' width='12' height='12' fill='#4e79a7'/>\n\
         <rect x='174' y='300' width='12' height='12' fill='#59a14f'/>\n\
         <rect x='188' y='300' width='12' height='12' fill='#edc948'/>\n\

@@ -6,3 +6,4 @@ pub mod AmountLemmas
 pub mod Rises
 pub mod ReadingLemmas
 pub mod ReadingSteps
+pub mod LineLemmas

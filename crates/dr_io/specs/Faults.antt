@@ -1,5 +1,5 @@
 -- When a call is a fault.
-use Rattle.std.specs.Prelude.{ℕ, ◌+◌, ◌-◌, ◌^◌, ◌≤◌, min, Bool, true, ◌&&◌, nat_eq, nat_lt, Result, Ok, Err}
+use Rattle.std.specs.Prelude.{ℕ, Bool, true, ◌&&◌, nat_eq, nat_lt, Result, Ok, Err}
 
 -- Some bytes were wanted, and none were taken.
 abbrev pub takes_none : ℕ → ℕ → Bool

@@ -1,5 +1,5 @@
 -- What sources and sinks in memory hold, and what a call does to them.
-use Rattle.std.specs.Prelude.{ℕ, Option, None, ◌-◌, min, Bool, ◌||◌, nat_eq, if◌then◌else◌, List, ◌++◌, length, take, drop}
+use Rattle.std.specs.Prelude.{ℕ, ◌-◌, min, Bool, ◌||◌, nat_eq, if◌then◌else◌, List, ◌++◌, length, take, drop}
 use Rattle.std.specs.List.{list_any}
 use Rattle.dr_io.specs.Faults.{takes_none}
 use Rattle.dr_logic.specs.Counts.{risen}
@@ -7,14 +7,6 @@ use Rattle.dr_logic.specs.Counts.{risen}
 -- The number stands in the list.
 abbrev pub listed : List ℕ → ℕ → Bool
 listed numbers number = list_any (λ x. nat_eq x number) numbers
-
--- the count of faults of a stream whose calls never fail
-abbrev pub no_fault : ℕ
-no_fault = 0
-
--- what a sink tells that keeps nothing
-abbrev pub tells_none : Option (List ℕ)
-tells_none = None
 
 -- A source in memory.
 pub record Feed : Type 0 where

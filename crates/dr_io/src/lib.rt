@@ -9,9 +9,8 @@
 //! most one byte past that of bytes, or the source's fault (`next`). Sources and sinks fail exactly where their count of
 //! faults rises (`rose`, `steady`), the count never falls, and a call that failed took nothing (`untouched`) or wrote a
 //! front of its piece (`part`). `MemSource` gives exactly its bytes (`filled`, `state`), `MemSink` keeps exactly what it
-//! took (`taken`, `state`). `TextSource` gives exactly its text and `Unheard` takes all that it is given; neither ever fails.
-//! `line_count` says how many lines a text has. `StdSource` and `StdSink` count exactly the calls that failed, and those that took no byte of
-//! a piece (`counted`).
+//! took (`taken`, `state`). `line_count` says how many lines a text has, and `split_line` gives the first of them.
+//! `StdSource` and `StdSink` count exactly the calls that failed, and those that took no byte of a piece (`counted`).
 #![tactic(auto)]
 
 mod ahead;
@@ -27,8 +26,7 @@ mod piece_reader;
 mod std_sink;
 mod std_source;
 mod streams;
-mod text_source;
-mod unheard;
+mod text_lines;
 
 pub use amount::line_count;
 pub use limits::{Limits, SCRIPT_LIMITS};
@@ -39,5 +37,4 @@ pub use piece_reader::{PieceReader, TakenPiece};
 pub use std_sink::StdSink;
 pub use std_source::StdSource;
 pub use streams::{Failed, Sink, Source};
-pub use text_source::TextSource;
-pub use unheard::Unheard;
+pub use text_lines::split_line;

@@ -168,11 +168,7 @@ fn push_values(out: &mut Vec<u8>, told: &Heard, of: AnswerNumbers) -> Result<(),
 }
 
 /// Adds what an answer says.
-pub(crate) fn push_said(
-    out: &mut Vec<u8>,
-    told: &Heard,
-    of: AnswerNumbers,
-) -> Result<(), AllocError>
+pub fn push_said(out: &mut Vec<u8>, told: &Heard, of: AnswerNumbers) -> Result<(), AllocError>
     ensures { OnOk result (out.new.items ≡ out.old.items ++ said_text (heard_seen told.now) of.code of.a of.b of.c) }
 {
     match of.code {

@@ -8,7 +8,7 @@
 //! `lost` gives what the second volumes of pairs held at the stop and the first ones don't hold at the end, each write once, as a list in order
 //! (`writes`) and by its members (`members`), and `held` what volumes hold; `lost_at` speaks of one track. `first_broken` finds the first write
 //! by issue that is held and depends on a lost one, with the lost one that was acknowledged first (`found`), or says that none does (`none`).
-//! What fails, fails for want of memory.
+//! `set_of` gives the set of some writes. What fails, fails for want of memory.
 #![tactic(auto)]
 
 mod broken;
@@ -21,4 +21,4 @@ mod rows;
 
 pub use broken::{Broken, first_broken};
 pub use holdings::Holdings;
-pub use lost::Pair;
+pub use lost::{Pair, set_of};

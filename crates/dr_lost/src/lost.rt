@@ -29,8 +29,8 @@ fn add_all(set: &mut IndexSet<u32>, writes: &[u32]) -> Result<(), AllocError>
     Ok(())
 }
 
-// The set of some writes.
-fn set_of(alloc: Global, writes: &[u32]) -> Result<IndexSet<u32>, AllocError>
+/// The set of some writes. Fails for want of memory alone.
+pub fn set_of(alloc: Global, writes: &[u32]) -> Result<IndexSet<u32>, AllocError>
     ensures { IfOk result (λ r. r.keys ≡ each_once writes.now) }
 {
     let mut set = IndexSet::new(alloc);

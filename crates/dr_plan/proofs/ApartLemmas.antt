@@ -1,78 +1,93 @@
--- The lines of one step that stand for a line.
-use Rattle.std.proofs.Common.{ℕ, suc, ◌≡◌, List, [], ◌∷◌, ◌++◌, length, map, refl, ap, sym, ◌∙◌, arith, true}
-use Rattle.std.specs.Prelude.{Result, Ok, Err, All}
-use Rattle.std.specs.List.{flat_map}
+-- The steps that are tried of lines.
+use Rattle.std.proofs.Common.{ℕ, suc, ◌≡◌, ◌+◌, List, [], ◌∷◌, ◌++◌, length, refl, ap, sym, ◌∙◌, subst, arith, append_assoc, true}
+use Rattle.std.specs.Prelude.{Ok, All}
 use Rattle.std.proofs.lemmas.Grind.{flat_map-append}
-use Rattle.std.proofs.lemmas.List.{append-nil}
+use Rattle.std.proofs.lemmas.List.{append-nil, map-append}
 use Rattle.std.proofs.lemmas.List.Concat.{flat_map-cons}
-use Rattle.std.proofs.lemmas.List.Elements.{All-nil, All-cons, All-append}
+use Rattle.std.proofs.lemmas.List.Elements.{All-nil, All-cons, All-append, All-drop}
 use Rattle.dr_model.specs.declared.step.Step.{Step}
 use Rattle.dr_model.specs.Grammar.{line_of}
 use Rattle.dr_model.specs.LineText.{IsWritten, is_written, step_text}
-use Rattle.dr_model.specs.Lines.{task, tasks_of, tasks_read}
 use Rattle.dr_script.proofs.StepLemmas.{reads}
 use Rattle.dr_script.proofs.WrittenLemmas.{line_written}
-use Rattle.dr_plan.specs.Parts.{steps_in, IsOneStep, Tries}
-use Rattle.dr_plan.specs.Reading.{apart, taken_apart}
-use Rattle.dr_plan.specs.Sweep.{is_unbroken}
+use Rattle.dr_plan.specs.Above.{steps_read, line_steps, steps_of}
+use Rattle.dr_plan.specs.Parts.{IsOneStep, Tries, tried_from}
+use Rattle.dr_plan.specs.Reading.{parts_from, tried_steps}
+use Rattle.dr_plan.specs.Sweep.{Tried, texts, is_unbroken}
 use Rattle.dr_plan.proofs.PrintLemmas.{step-unbroken}
 
 -- what is tried for a line
-pub record Stand (line : List ℕ) (lines : List (List ℕ)) : Type 0 where
-  pub one : All IsOneStep lines
-  pub steps : steps_in lines ≡ tasks_of 0 line
-  pub unbroken : is_unbroken line ≡ true → All (λ l. is_unbroken l ≡ true) lines
+pub record Stand (line : List ℕ) (tried : List Tried) : Type 0 where
+  pub one : All (λ (t : Tried). IsOneStep t.text) tried
+  pub steps : steps_of (texts tried) ≡ line_steps line
+  pub unbroken : is_unbroken line ≡ true → All (λ (t : Tried). is_unbroken t.text ≡ true) tried
 
--- a line of one step stands for itself
-itself : (line : List ℕ) → length (tasks_of 0 line) ≡ 1 → Stand line (line ∷ [])
-itself line h = record {
-  one = All-cons IsOneStep line [] h (All-nil IsOneStep);
-  steps = flat_map-cons (tasks_of 0) line [] ∙ append-nil (tasks_of 0 line);
-  unbroken = λ u. All-cons (λ l. is_unbroken l ≡ true) line [] u (All-nil (λ l. is_unbroken l ≡ true));
-}
+-- the steps of a line of several
+record Printed (tried : List Tried) (steps : List Step) : Type 0 where
+  one : All (λ (t : Tried). IsOneStep t.text) tried
+  same : steps_of (texts tried) ≡ steps
+  unbroken : All (λ (t : Tried). is_unbroken t.text ≡ true) tried
 
--- the lines of steps
-record Printed (steps : List Step) : Type 0 where
-  one : All IsOneStep (map step_text steps)
-  same : steps_in (map step_text steps) ≡ map (λ s. task 0 (Ok s)) steps
-  unbroken : All (λ l. is_unbroken l ≡ true) (map step_text steps)
-
-printed : (steps : List Step) → All IsWritten steps → Printed steps
-printed [] all = record { one = All-nil IsOneStep; same = refl; unbroken = All-nil (λ l. is_unbroken l ≡ true) }
-printed (step ∷ steps) all =
+printed : (number part : ℕ) (steps : List Step) → All IsWritten steps → Printed (parts_from number part steps) steps
+unfolding parts_from
+printed number part [] all = record { one = All-nil (λ (t : Tried). IsOneStep t.text); same = refl; unbroken = All-nil (λ (t : Tried). is_unbroken t.text ≡ true) }
+printed number part (step ∷ steps) all =
     let written : is_written step ≡ true = all 0 step (omega arith) in
-    let rest = printed steps (λ k d lt. all (suc k) d (omega arith)) in
-    let is = ap (tasks_read 0) (reads step written) in
+    let rest = printed number (part + 1) steps (λ k d lt. all (suc k) d (omega arith)) in
+    let is = reads step written in
+    let first : Tried = record { line = number; part = part; text = step_text step } in
     record {
-      one = All-cons IsOneStep (step_text step) (map step_text steps) (ap length is) rest.one;
-      same = flat_map-cons (tasks_of 0) (step_text step) (map step_text steps) ∙ ap (λ ts. ts ++ steps_in (map step_text steps)) is ∙ ap (λ ts. task 0 (Ok step) ∷ ts) rest.same;
-      unbroken = All-cons (λ l. is_unbroken l ≡ true) (step_text step) (map step_text steps) (step-unbroken step written) rest.unbroken;
+      one = All-cons (λ (t : Tried). IsOneStep t.text) first (parts_from number (part + 1) steps) (step, is) rest.one;
+      same = ap (λ r. steps_read r ++ steps_of (texts (parts_from number (part + 1) steps))) is ∙ ap (λ ss. step ∷ ss) rest.same;
+      unbroken = All-cons (λ (t : Tried). is_unbroken t.text ≡ true) first (parts_from number (part + 1) steps) (step-unbroken step written) rest.unbroken;
     }
 
-stands : (line : List ℕ) (read : Result (List Step) ℕ) → line_of line ≡ read → Stand line (apart line read)
-stands line (Ok []) e = record { one = All-nil IsOneStep; steps = sym (ap (tasks_read 0) e); unbroken = λ u. All-nil (λ l. is_unbroken l ≡ true) }
-stands line (Ok (step ∷ [])) e = itself line (ap (λ r. length (tasks_read 0 r)) e)
-stands line (Ok (step ∷ next ∷ more)) e =
-    let p = printed (step ∷ next ∷ more) (line_written line (step ∷ next ∷ more) e) in
-    record { one = p.one; steps = p.same ∙ sym (ap (tasks_read 0) e); unbroken = λ u. p.unbroken }
-stands line (Err column) e = itself line (ap (λ r. length (tasks_read 0 r)) e)
+stands : (number : ℕ) (line : List ℕ) (steps : List Step) → line_of line ≡ Ok steps → Stand line (tried_steps number line steps)
+stands number line [] e = record { one = All-nil (λ (t : Tried). IsOneStep t.text); steps = sym (ap steps_read e); unbroken = λ u. All-nil (λ (t : Tried). is_unbroken t.text ≡ true) }
+stands number line (step ∷ []) e =
+    let it : Tried = record { line = number; part = 0; text = line } in
+    record {
+      one = All-cons (λ (t : Tried). IsOneStep t.text) it [] (step, e) (All-nil (λ (t : Tried). IsOneStep t.text));
+      steps = append-nil (line_steps line);
+      unbroken = λ u. All-cons (λ (t : Tried). is_unbroken t.text ≡ true) it [] u (All-nil (λ (t : Tried). is_unbroken t.text ≡ true));
+    }
+stands number line (step ∷ next ∷ more) e =
+    let p = printed number 1 (step ∷ next ∷ more) (line_written line (step ∷ next ∷ more) e) in
+    record { one = p.one; steps = p.same ∙ sym (ap steps_read e); unbroken = λ u. p.unbroken }
 
-pub stand-apart : (line : List ℕ) → Stand line (taken_apart line)
-unfolding taken_apart
-stand-apart line = stands line (line_of line) refl
+pub stand-apart : (number : ℕ) (line : List ℕ) (steps : List Step) → line_of line ≡ Ok steps → Stand line (tried_steps number line (line_steps line))
+stand-apart number line steps e = subst (λ ss. Stand line (tried_steps number line ss)) (sym (ap steps_read e)) (stands number line steps e)
 
-pub tries-none : Tries [] []
-tries-none = record { apart = refl; one = All-nil IsOneStep; steps = refl }
+pub tries-none : (number : ℕ) → Tries number [] []
+unfolding tried_from
+tries-none number = record { apart = refl; one = All-nil (λ (t : Tried). IsOneStep t.text); steps = refl }
 
-more_of : {X : Type 0} (f : List ℕ → List X) (between : List (List ℕ)) (line : List ℕ) → flat_map f (between ++ line ∷ []) ≡ flat_map f between ++ f line
-more_of f between line = flat_map-append f between (line ∷ []) ∙ ap (λ xs. flat_map f between ++ xs) (flat_map-cons f line [] ∙ append-nil (f line))
+pub tried-more : (number k : ℕ) (between : List (List ℕ)) (line : List ℕ) → k ≡ number + length between → tried_from number (between ++ line ∷ []) ≡ tried_from number between ++ tried_steps k line (line_steps line)
+unfolding tried_from
+tried-more number k [] line e = append-nil (tried_steps number line (line_steps line)) ∙ ap (λ n. tried_steps n line (line_steps line)) (let same : number ≡ k = omega arith in same)
+tried-more number k (first ∷ between) line e =
+    ap (λ ts. tried_steps number first (line_steps first) ++ ts) (tried-more (number + 1) k between line (omega arith))
+    ∙ sym (append_assoc (tried_steps number first (line_steps first)) (tried_from (number + 1) between) (tried_steps k line (line_steps line)))
 
 -- a line more between
-pub tries-more : (between tried : List (List ℕ)) (line : List ℕ) → Tries between tried → Tries (between ++ line ∷ []) (tried ++ taken_apart line)
-tries-more between tried line t =
-    let s = stand-apart line in
+pub tries-more : (number k : ℕ) (between : List (List ℕ)) (tried : List Tried) (line : List ℕ) (steps : List Step) → k ≡ number + length between → line_of line ≡ Ok steps → Tries number between tried
+    → Tries number (between ++ line ∷ []) (tried ++ tried_steps k line steps)
+tries-more number k between tried line steps at e t =
+    let s = stands k line steps e in
+    let new = tried_steps k line steps in
     record {
-      apart = ap (λ ls. ls ++ taken_apart line) t.apart ∙ sym (more_of taken_apart between line);
-      one = All-append IsOneStep tried (taken_apart line) t.one s.one;
-      steps = flat_map-append (tasks_of 0) tried (taken_apart line) ∙ ap (λ ts. ts ++ steps_in (taken_apart line)) t.steps ∙ ap (λ ts. steps_in between ++ ts) s.steps ∙ sym (more_of (tasks_of 0) between line);
+      apart = ap (λ ts. ts ++ new) t.apart ∙ sym (tried-more number k between line at ∙ ap (λ ss. tried_from number between ++ tried_steps k line ss) (ap steps_read e));
+      one = All-append (λ (t : Tried). IsOneStep t.text) tried new t.one s.one;
+      steps = ap steps_of (map-append (λ (t : Tried). t.text) tried new) ∙ flat_map-append line_steps (texts tried) (texts new) ∙ ap (λ ss. ss ++ steps_of (texts new)) t.steps ∙ ap (λ ss. steps_of between ++ ss) (s.steps ∙ sym (flat_map-cons line_steps line [] ∙ append-nil (line_steps line)))
+          ∙ sym (flat_map-append line_steps between (line ∷ []));
     }
+
+-- no line feed stands in what is tried
+pub apart-whole : (number : ℕ) (between : List (List ℕ)) → All (λ l. (steps : List Step) × (line_of l ≡ Ok steps)) between → All (λ l. is_unbroken l ≡ true) between → All (λ (t : Tried). is_unbroken t.text ≡ true) (tried_from number between)
+unfolding tried_from
+apart-whole number [] read all = All-nil (λ (t : Tried). is_unbroken t.text ≡ true)
+apart-whole number (line ∷ rest) read all =
+    let r = read 0 line (omega arith) in
+    let s = stand-apart number line r.0 r.1 in
+    All-append (λ (t : Tried). is_unbroken t.text ≡ true) (tried_steps number line (line_steps line)) (tried_from (number + 1) rest) (s.unbroken (all 0 line (omega arith)))
+    (apart-whole (number + 1) rest (All-drop (λ l. (steps : List Step) × (line_of l ≡ Ok steps)) 1 (line ∷ rest) read) (All-drop (λ l. is_unbroken l ≡ true) 1 (line ∷ rest) all))

@@ -1,48 +1,55 @@
--- The first line of a text.
-use Rattle.std.proofs.Common.{ℕ, ◌≡◌, ◌<◌, ◌≤◌, ◌+◌, List, [], ◌∷◌, ◌++◌, length, take, drop, map, slice_get, refl, ap, sym, ◌∙◌, arith, append_assoc, cond, false, Some, None, nat_lt}
-use Rattle.std.specs.Prelude.{◌==◌}
-use Rattle.std.specs.List.{position, position_or_len, slice_split}
-use Rattle.std.specs.Str.Lines.{lines, lines_of_parts, strip_carriage_return}
-use Rattle.std.proofs.lemmas.Bool.Decides.{nat_tests}
-use Rattle.std.proofs.lemmas.List.Splits.{length-slice_split, slice_split_first}
-use Rattle.std.proofs.lemmas.List.{map-append, take_more}
+-- Loops over lines, steps and uses.
+use Rattle.std.proofs.Common.{ℕ, suc, ◌≡◌, ◌<◌, ◌≤◌, ◌+◌, List, [], ◌∷◌, ◌++◌, length, take, drop, drop-cons, get_or, map, slice_get, slice_set, ap, sym, ◌∙◌, arith, append_assoc, Some}
+use Rattle.std.proofs.Math.ListN.{drop_of_length-le}
+use Rattle.std.proofs.lemmas.List.{append-nil, get_or_default}
+use Rattle.std.proofs.lemmas.List.Edits.{map_over_more}
+use Rattle.std.proofs.lemmas.Grind.{common_steps}
 use Rattle.std.proofs.lemmas.Option.{slice_get_within, get_or_from_slice_get}
 use Rattle.dr_model.specs.declared.step.Step.{Step}
 use Rattle.dr_model.specs.LineText.{step_text}
-use Rattle.dr_logic.proofs.Choices.{not_chosen, chosen}
-use Rattle.dr_logic.proofs.Lists.{uncut}
+use Rattle.dr_plan.specs.Above.{line_steps}
+use Rattle.dr_plan.specs.Parts.{tried_from}
+use Rattle.dr_plan.specs.Reading.{parts_from, tried_steps}
+use Rattle.dr_plan.specs.Sweep.{Tried}
 
--- a part before another is a line
-pub before-parts : (x : List ℕ) (ps : List (List ℕ)) → 1 ≤ length ps → lines_of_parts (x ∷ ps) ≡ strip_carriage_return x ∷ lines_of_parts ps
-before-parts x [] some = absurd (omega arith)
-before-parts x (p ∷ ps) some = refl
+-- the part of a line of several steps more
+pub parts-more : (number : ℕ) (all new total : List Tried) (steps : List Step) (i : ℕ) (step : Step) (text : List ℕ) → slice_get steps i ≡ Some step → text ≡ step_text step → new ≡ all ++ record { line = number; part = i + 1; text = text } ∷ []
+    → all ++ parts_from number (i + 1) (drop i steps) ≡ total → new ++ parts_from number (i + 1 + 1) (drop (i + 1) steps) ≡ total
+unfolding parts_from
+parts-more number all new total steps i step text here is more so_far =
+    let rest = parts_from number (i + 1 + 1) (drop (i + 1) steps) in
+    let cut : drop i steps ≡ step ∷ drop (i + 1) steps = drop-cons steps i step (slice_get_within steps i step here)
+    ∙ (let e : suc i ≡ i + 1 = omega arith in λ j. get_or_from_slice_get steps i step step here j ∷ drop (e j) steps) in
+    ap (λ ts. ts ++ rest) (more ∙ ap (λ t. all ++ record { line = number; part = i + 1; text = t } ∷ []) is)
+    ∙ append_assoc all (record { line = number; part = i + 1; text = step_text step } ∷ []) rest
+    ∙ sym (ap (λ ss. all ++ parts_from number (i + 1) ss) cut)
+    ∙ so_far
 
-pub line-ended : (text : List ℕ) (end : ℕ) → position (λ b. b == 10) text ≡ Some end → lines text ≡ strip_carriage_return (take end text) ∷ lines (drop (end + 1) text)
-line-ended text end h =
-    let p = λ (b : ℕ). b == 10 in
-    let at = chosen (nat_lt (position_or_len p text) (length text)) (position_or_len p text) end h in
-    let within = at.0 in
-    let cut = slice_split_first p text 0 (grind (arith, nat_tests, within)) ∙ ap (λ n. take n text ∷ slice_split p (drop (n + 1) text)) at.1 in
-    let more = length-slice_split p (drop (end + 1) text) in
-    ap lines_of_parts cut ∙ before-parts (take end text) (slice_split p (drop (end + 1) text)) (omega (arith, more))
+pub parts-done : (number : ℕ) (all total : List Tried) (steps : List Step) (i : ℕ) → length steps ≤ i → all ++ parts_from number (i + 1) (drop i steps) ≡ total → all ≡ total
+unfolding parts_from
+parts-done number all total steps i past so_far = sym (append-nil all) ∙ sym (ap (λ ss. all ++ parts_from number (i + 1) ss) (drop_of_length-le steps past)) ∙ so_far
 
-one-part : (text : List ℕ) → 0 < length text → lines_of_parts (text ∷ []) ≡ text ∷ []
-one-part [] some = absurd (omega arith)
-one-part (b ∷ bs) some = let filled : (length (b ∷ bs) == 0) ≡ false = grind (arith, nat_tests) in ap (λ e. cond e [] ((b ∷ bs) ∷ [])) filled
+-- the steps of a line more
+pub steps-more : (all new total : List Tried) (lines : List (List ℕ)) (i : ℕ) (d : List ℕ) → i < length lines → new ≡ all ++ tried_steps (i + 1) (get_or lines i d) (line_steps (get_or lines i d))
+    → all ++ tried_from (i + 1) (drop i lines) ≡ total → new ++ tried_from (i + 1 + 1) (drop (i + 1) lines) ≡ total
+unfolding tried_from
+steps-more all new total lines i d lt more so_far =
+    let line = get_or lines i d in
+    let rest = tried_from (i + 1 + 1) (drop (i + 1) lines) in
+    let cut : drop i lines ≡ line ∷ drop (i + 1) lines = drop-cons lines i d lt ∙ (let e : suc i ≡ i + 1 = omega arith in ap (λ n. line ∷ drop n lines) e) in
+    ap (λ ts. ts ++ rest) more
+    ∙ append_assoc all (tried_steps (i + 1) line (line_steps line)) rest
+    ∙ sym (ap (λ ls. all ++ tried_from (i + 1) ls) cut)
+    ∙ so_far
 
-pub line-unended : (text : List ℕ) → position (λ b. b == 10) text ≡ None → 0 < length text → lines text ≡ text ∷ []
-line-unended text h some =
-    let p = λ (b : ℕ). b == 10 in
-    let past = not_chosen (nat_lt (position_or_len p text) (length text)) (position_or_len p text) h in
-    ap lines_of_parts (uncut p text (grind (arith, nat_tests, past))) ∙ one-part text some
+pub steps-done : (all total : List Tried) (lines : List (List ℕ)) (i : ℕ) → length lines ≤ i → all ++ tried_from (i + 1) (drop i lines) ≡ total → all ≡ total
+unfolding tried_from
+steps-done all total lines i past so_far = sym (append-nil all) ∙ sym (ap (λ ls. all ++ tried_from (i + 1) ls) (drop_of_length-le lines past)) ∙ so_far
 
--- the line of one step more
-pub step-more : (old all new : List (List ℕ)) (steps : List Step) (i : ℕ) (step : Step) (text : List ℕ) → slice_get steps i ≡ Some step → text ≡ step_text step → new ≡ all ++ text ∷ [] → all ≡ old ++ map step_text (take i steps)
-    → new ≡ old ++ map step_text (take (i + 1) steps)
-step-more old all new steps i step text here is more so_far =
-    more
-    ∙ ap (λ t. all ++ t ∷ []) is
-    ∙ ap (λ ls. ls ++ step_text step ∷ []) so_far
-    ∙ append_assoc old (map step_text (take i steps)) (step_text step ∷ [])
-    ∙ ap (λ ls. old ++ ls) (sym (map-append step_text (take i steps) (step ∷ [])))
-    ∙ ap (λ ss. old ++ map step_text ss) (sym (take_more steps i step (slice_get_within steps i step here) ∙ ap (λ s. take i steps ++ s ∷ []) (get_or_from_slice_get steps i step step here)))
+-- a list whose first elements were changed, and one more
+pub map-more : {X : Type 0} (f : X → X) (xs ys : List X) (i : ℕ) (d u : X) → i < length xs → ys ≡ map f (take i xs) ++ drop i xs → u ≡ f (get_or ys i d) → slice_set ys i u ≡ map f (take (i + 1) xs) ++ drop (i + 1) xs
+map-more f xs ys i d u lt so_far is =
+    let size : length (map f (take i xs) ++ drop i xs) ≡ length xs = grind (arith, common_steps, lt) in
+    let same : length ys ≡ length (map f (take i xs) ++ drop i xs) = ap length so_far in
+    let within : i < length ys = omega (arith, lt, size, same) in
+    ap (slice_set ys i) is ∙ map_over_more f xs ys i (get_or ys i d) lt so_far (get_or_default ys i d (get_or ys i d) within)

@@ -1,53 +1,38 @@
 -- What is read is a plan.
-use Rattle.std.proofs.Common.{ℕ, ◌≡◌, ◌<◌, ◌≤◌, ◌+◌, List, [], ◌∷◌, ◌++◌, length, map, filter, refl, ap, sym, ◌∙◌, subst, arith, append_assoc, true, false, cond, nat_lt, Option, Some, None, ◌⊎◌, inl, inr}
-use Rattle.std.specs.Prelude.{Result, Ok, Err}
-use Rattle.std.specs.List.{flat_map}
+use Rattle.std.proofs.Common.{ℕ, ◌≡◌, ◌≤◌, ◌+◌, Bool, true, false, cond, List, [], ◌∷◌, ◌++◌, length, refl, ap, sym, ◌∙◌, subst, arith, append_assoc, nat_eq, nat_lt, Option, Some, None, ◌⊎◌, inl, inr}
+use Rattle.std.specs.Prelude.{Result, Ok, Err, ◌||◌}
 use Rattle.std.proofs.lemmas.Bool.{cases_Bool}
-use Rattle.std.proofs.lemmas.Bool.Decides.{nat_tests}
-use Rattle.std.proofs.lemmas.Grind.{common_steps, flat_map-append}
-use Rattle.std.proofs.lemmas.List.{append-nil, map-append}
-use Rattle.std.proofs.lemmas.List.Elements.{filter-append}
+use Rattle.std.proofs.lemmas.Grind.{common_steps}
+use Rattle.std.proofs.lemmas.List.{append-nil}
+use Rattle.std.proofs.lemmas.List.Elements.{All-nil}
 use Rattle.std.proofs.lemmas.Option.{same_Some}
-use Rattle.dr_logic.proofs.Choices.{chosen}
-use Rattle.dr_facts.proofs.Options.{bound}
-use Rattle.dr_model.specs.LineWords.{◌>>=◌}
 use Rattle.dr_model.specs.declared.step.Name.{Name}
-use Rattle.dr_model.specs.declared.grammar.Item.{Item}
+use Rattle.dr_model.specs.declared.step.Step.{Step}
+use Rattle.dr_model.specs.Grammar.{line_of}
+use Rattle.dr_model.specs.LineWords.{paired, span_len}
 use Rattle.dr_plan.specs.declared.marks.Mark.{Mark}
-use Rattle.dr_plan.specs.declared.marks.Mark.TheVariants.{Lose, Use, AtMost, Here, Then}
+use Rattle.dr_plan.specs.declared.marks.Mark.TheVariants.{Lose, Use, AtMost, Here, Then, Refused}
 use Rattle.dr_plan.specs.declared.stages.Stage.{Stage}
 use Rattle.dr_plan.specs.declared.stages.Stage.TheVariants.{Start, Losing, Using, Bounded, Trying, Recovering}
 use Rattle.dr_plan.specs.declared.reading.Reading.{Reading}
+use Rattle.dr_plan.specs.declared.reason.Reason.{Reason}
+use Rattle.dr_plan.specs.declared.reason.Reason.TheVariants.{ManyDisasters, ManyUses, UnequalRanges, NoLineFollows}
+use Rattle.dr_plan.specs.Above.{unless, servers_in, volumes_in}
 use Rattle.dr_plan.specs.Marks.{is_mark, mark_of}
-use Rattle.dr_plan.specs.Parts.{marks_in, bound_marks, IsSetup, Tries, IsPlan}
-use Rattle.dr_plan.specs.Reading.{stage_after, kept, noted, marked, read_on, finished, read_lines, begun, sweep_of}
-use Rattle.dr_plan.specs.Sweep.{Sweep, most_disasters}
+use Rattle.dr_plan.specs.Parts.{IsMark, IsSetup, IsPlan, Ranges, ComeOnce, Tries, marks_in, announced_by, announced_from}
+use Rattle.dr_plan.specs.Reading.{Bad, announces, servers_fault, pairs_fault, has_use, with_pairs, used_pairs, stage_after, with_line, kept, noted, read_on, read_lines, lacking, missing, finished_by, finished, begun, sweep_of, tried_steps}
+use Rattle.dr_plan.specs.Sweep.{Sweep, Tried, most_disasters, most_uses}
 use Rattle.dr_plan.proofs.ApartLemmas.{tries-none, tries-more}
+use Rattle.dr_plan.proofs.FaultLaws.{ok-of, unless-of}
+use Rattle.dr_plan.proofs.FollowLemmas.{Passes, MayStand, plain-not, says-not, refused-is, passes-none, passes-more, all-read, all-followed}
+use Rattle.dr_plan.proofs.HeadLaws.{Head, head-none, head-lose, head-use, head-bound, head-setup}
+use Rattle.dr_plan.proofs.OwnLemmas.{own-comment, plain-none, refused-none, only-refused, none-more, announced-more, announced-same, announced-none}
+use Rattle.dr_plan.proofs.ReadLemmas.{WasRead, OfSteps, OfMark, same-Ok, was-read, stood, stood-own}
 
--- the lines of its own, where one comes behind others
-plain : (done : List (List ℕ)) (line : List ℕ) → is_mark line ≡ false → marks_in (done ++ line ∷ []) ≡ marks_in done
-plain done line e = ap (map mark_of) (filter-append is_mark done (line ∷ []) ∙ ap (λ b. filter is_mark done ++ cond b (line ∷ []) []) e ∙ append-nil (filter is_mark done))
+-- ---- what was read of lines, by stage
 
-one_more : (done : List (List ℕ)) (line : List ℕ) (mark : Mark) → is_mark line ≡ true → mark_of line ≡ Some mark → marks_in (done ++ line ∷ []) ≡ marks_in done ++ Some mark ∷ []
-one_more done line mark e is =
-    ap (map mark_of) (filter-append is_mark done (line ∷ []) ∙ ap (λ b. filter is_mark done ++ cond b (line ∷ []) []) e)
-    ∙ map-append mark_of (filter is_mark done) (line ∷ [])
-    ∙ ap (λ m. marks_in done ++ m ∷ []) is
-
-alone : (line : List ℕ) (mark : Mark) → is_mark line ≡ true → mark_of line ≡ Some mark → marks_in (line ∷ []) ≡ Some mark ∷ []
-alone line mark e is = one_more [] line mark e is
-
--- the setup so far: disasters, volumes and the bound were said in this order
-pub record Head (done : List (List ℕ)) (used : List (List Item)) (plan : Sweep) : Type 0 where
-  pub setup : plan.setup ≡ done
-  pub marks : marks_in done ≡ map Some (map Lose plan.loses ++ map Use used ++ bound_marks plan.bound)
-  pub uses : plan.uses ≡ flat_map (λ pairs. pairs) used
-  pub few : length plan.loses ≤ most_disasters
-  pub tried : plan.tried ≡ []
-  pub recovery : plan.recovery ≡ []
-
--- what the stage says of it
-unfoldable pub Fits : Stage → List (List Item) → Sweep → Type 0
+-- what the stage says of a set-up
+unfoldable pub Fits : Stage → List Ranges → Sweep → Type 0
 Fits Start used plan = (plan.loses ≡ []) × (used ≡ []) × (plan.bound ≡ None)
 Fits Losing used plan = (1 ≤ length plan.loses) × (used ≡ []) × (plan.bound ≡ None)
 Fits Using used plan = (1 ≤ length plan.loses) × (1 ≤ length used) × (plan.bound ≡ None)
@@ -55,7 +40,7 @@ Fits Bounded used plan = (1 ≤ length plan.loses) × (1 ≤ length used) × Uni
 Fits _ used plan = ⊥ × ⊥ × ⊥
 
 pub record Setup (done : List (List ℕ)) (stage : Stage) (plan : Sweep) : Type 0 where
-  pub used : List (List Item)
+  pub used : List Ranges
   pub head : Head done used plan
   pub fits : Fits stage used plan
 
@@ -64,270 +49,359 @@ pub record Middle (done : List (List ℕ)) (plan : Sweep) : Type 0 where
   pub begin : List ℕ
   pub between : List (List ℕ)
   pub cut : done ≡ plan.setup ++ begin ∷ between
-  pub begins : marks_in (begin ∷ []) ≡ Some Here ∷ []
+  pub begins : IsMark begin Here
   pub setup : IsSetup plan
-  pub tries : Tries between plan.tried
+  pub tries : Tries (length plan.setup + 2) between plan.tried
   pub unmarked : marks_in between ≡ []
   pub recovery : plan.recovery ≡ []
 
--- what was read of these lines
-unfoldable pub Read : List (List ℕ) → Stage → Sweep → Type 0
-Read done Trying plan = Middle done plan
-Read done Recovering plan = IsPlan done plan
-Read done stage plan = Setup done stage plan
+-- the recovery has begun
+pub record Whole (done : List (List ℕ)) (plan : Sweep) : Type 0 where
+  pub begin : List ℕ
+  pub between : List (List ℕ)
+  pub end : List ℕ
+  pub cut : done ≡ (plan.setup ++ begin ∷ between) ++ end ∷ plan.recovery
+  pub begins : IsMark begin Here
+  pub ends : IsMark end Then
+  pub setup : IsSetup plan
+  pub unmarked : marks_in between ≡ []
+  pub unmarked_after : marks_in plan.recovery ≡ []
+  pub tries : Tries (length plan.setup + 2) between plan.tried
+  pub place : plan.then_line ≡ length plan.setup + 2 + length between
 
--- a line that isn't one of the plan's own
-head_plain : (done : List (List ℕ)) (line : List ℕ) (used : List (List Item)) (plan : Sweep) → is_mark line ≡ false → Head done used plan → Head (done ++ line ∷ []) used (record plan { setup = plan.setup ++ line ∷ [] })
-head_plain done line used plan e h = record {
-  setup = ap (λ ls. ls ++ line ∷ []) h.setup;
-  marks = plain done line e ∙ h.marks;
-  uses = h.uses;
-  few = h.few;
-  tried = h.tried;
-  recovery = h.recovery;
+unfoldable pub Part : Stage → List (List ℕ) → Sweep → Type 0
+Part Trying done plan = Middle done plan
+Part Recovering done plan = Whole done plan
+Part stage done plan = Setup done stage plan
+
+-- what was read of these lines
+pub record Read (done : List (List ℕ)) (r : Reading) : Type 0 where
+  pub passes : Passes false done r.waits
+  pub announced : r.plan.announced ≡ announced_from 1 done
+  pub part : Part r.stage done r.plan
+
+-- ---- a line that says no disaster, use or bound, nor begins a part
+
+-- a set-up stays, whatever is tried
+setup_stays : (plan : Sweep) (tried : List Tried) (then_line : ℕ) (recovery : List (List ℕ)) (announced : List ℕ) → IsSetup plan
+    → IsSetup (record plan { tried = tried; then_line = then_line; recovery = recovery; announced = announced })
+setup_stays plan tried then_line recovery announced s = record {
+  used = s.used;
+  marks = s.marks;
+  uses = s.uses;
+  some_lost = s.some_lost;
+  few_lost = s.few_lost;
+  some_used = s.some_used;
+  few_used = s.few_used;
+  once = s.once;
+  servers = s.servers;
+  lengths = s.lengths;
+  volumes = s.volumes;
 }
 
-plain_step : (done : List (List ℕ)) (line : List ℕ) (stage : Stage) (plan : Sweep) → is_mark line ≡ false → Read done stage plan → Read (done ++ line ∷ []) stage (kept stage line plan)
-unfolding Read Fits
-plain_step done line Start plan e r = record { used = r.used; head = head_plain done line r.used plan e r.head; fits = r.fits }
-plain_step done line Losing plan e r = record { used = r.used; head = head_plain done line r.used plan e r.head; fits = r.fits }
-plain_step done line Using plan e r = record { used = r.used; head = head_plain done line r.used plan e r.head; fits = r.fits }
-plain_step done line Bounded plan e r = record { used = r.used; head = head_plain done line r.used plan e r.head; fits = r.fits }
-plain_step done line Trying plan e r =
-    let s = r.setup in
-    record {
-      begin = r.begin;
-      between = r.between ++ line ∷ [];
-      cut = ap (λ ls. ls ++ line ∷ []) r.cut ∙ append_assoc plan.setup (r.begin ∷ r.between) (line ∷ []);
-      begins = r.begins;
-      setup = record { used = s.used; marks = s.marks; uses = s.uses; some_lost = s.some_lost; few_lost = s.few_lost; some_used = s.some_used };
-      tries = tries-more r.between plan.tried line r.tries;
-      unmarked = plain r.between line e ∙ r.unmarked;
-      recovery = r.recovery;
-    }
-plain_step done line Recovering plan e r =
-    let s = r.setup in
-    record {
-      begin = r.begin;
-      between = r.between;
-      end = r.end;
-      cut = ap (λ ls. ls ++ line ∷ []) r.cut ∙ append_assoc (plan.setup ++ r.begin ∷ r.between) (r.end ∷ plan.recovery) (line ∷ []);
-      begins = r.begins;
-      ends = r.ends;
-      setup = record { used = s.used; marks = s.marks; uses = s.uses; some_lost = s.some_lost; few_lost = s.few_lost; some_used = s.some_used };
-      tries = r.tries;
-      unmarked = r.unmarked;
-      unmarked_behind = plain plan.recovery line e ∙ r.unmarked_behind;
-    }
+-- the number of the line after those that are tried so far
+middle_length : (done setup between : List (List ℕ)) (begin : List ℕ) (number : ℕ) → done ≡ setup ++ begin ∷ between → number ≡ length done + 1 → number ≡ length setup + 2 + length between
+middle_length done setup between begin number cut at =
+    let all : length (setup ++ begin ∷ between) ≡ length setup + 1 + length between = grind (arith, common_steps) in
+    let same : length done ≡ length (setup ++ begin ∷ between) = ap length cut in
+    omega (arith, at, all, same)
 
--- a disaster more, where nothing else was said
-lose_marks : (marks : List (Option Mark)) (loses : List (List Name)) (servers : List Name) (used : List (List Item)) (bound : Option ℕ) → used ≡ [] → bound ≡ None → marks ≡ map Some (map Lose loses ++ map Use used ++ bound_marks bound)
-    → marks ++ Some (Lose servers) ∷ [] ≡ map Some (map Lose (loses ++ servers ∷ []) ++ map Use used ++ bound_marks bound)
-lose_marks marks loses servers used bound none unbound so_far =
-    let old : marks ≡ map Some (map Lose loses) = so_far ∙ (λ i. map Some (map Lose loses ++ map Use (none i) ++ bound_marks (unbound i))) ∙ ap (map Some) (append-nil (map Lose loses ++ []) ∙ append-nil (map Lose loses)) in
-    ap (λ ms. ms ++ Some (Lose servers) ∷ []) old
-    ∙ sym (map-append Some (map Lose loses) (Lose servers ∷ []))
-    ∙ ap (map Some) (sym (map-append Lose loses (servers ∷ [])) ∙ sym (append-nil (map Lose (loses ++ servers ∷ []) ++ []) ∙ append-nil (map Lose (loses ++ servers ∷ []))))
-    ∙ sym (λ i. map Some (map Lose (loses ++ servers ∷ []) ++ map Use (none i) ++ bound_marks (unbound i)))
+none_step : (done : List (List ℕ)) (line : List ℕ) (steps : List Step) (stage : Stage) (plan : Sweep) (number : ℕ) (announced : List ℕ) → marks_in (line ∷ []) ≡ [] → line_of line ≡ Ok steps → number ≡ length done + 1 → Part stage done plan
+    → Part stage (done ++ line ∷ []) (record (kept stage number line steps plan) { announced = announced })
+unfolding Part Fits
+none_step done line steps Start plan number announced none is at p = record { used = p.used; head = head-none done line p.used plan announced none p.head; fits = p.fits }
+none_step done line steps Losing plan number announced none is at p = record { used = p.used; head = head-none done line p.used plan announced none p.head; fits = p.fits }
+none_step done line steps Using plan number announced none is at p = record { used = p.used; head = head-none done line p.used plan announced none p.head; fits = p.fits }
+none_step done line steps Bounded plan number announced none is at p = record { used = p.used; head = head-none done line p.used plan announced none p.head; fits = p.fits }
+none_step done line steps Trying plan number announced none is at p = record {
+  begin = p.begin;
+  between = p.between ++ line ∷ [];
+  cut = ap (λ ls. ls ++ line ∷ []) p.cut ∙ append_assoc plan.setup (p.begin ∷ p.between) (line ∷ []);
+  begins = p.begins;
+  setup = setup_stays plan (plan.tried ++ tried_steps number line steps) plan.then_line plan.recovery announced p.setup;
+  tries = tries-more (length plan.setup + 2) number p.between plan.tried line steps (middle_length done plan.setup p.between p.begin number p.cut at) is p.tries;
+  unmarked = none-more p.between line none ∙ p.unmarked;
+  recovery = p.recovery;
+}
+none_step done line steps Recovering plan number announced none is at p = record {
+  begin = p.begin;
+  between = p.between;
+  end = p.end;
+  cut = ap (λ ls. ls ++ line ∷ []) p.cut ∙ append_assoc (plan.setup ++ p.begin ∷ p.between) (p.end ∷ plan.recovery) (line ∷ []);
+  begins = p.begins;
+  ends = p.ends;
+  setup = setup_stays plan plan.tried plan.then_line (plan.recovery ++ line ∷ []) announced p.setup;
+  unmarked = p.unmarked;
+  unmarked_after = none-more plan.recovery line none ∙ p.unmarked_after;
+  tries = p.tries;
+  place = p.place;
+}
 
--- pairs more, where no bound was said
-use_marks : (marks : List (Option Mark)) (loses : List (List Name)) (used : List (List Item)) (pairs : List Item) (bound : Option ℕ) → bound ≡ None → marks ≡ map Some (map Lose loses ++ map Use used ++ bound_marks bound)
-    → marks ++ Some (Use pairs) ∷ [] ≡ map Some (map Lose loses ++ map Use (used ++ pairs ∷ []) ++ bound_marks bound)
-use_marks marks loses used pairs bound unbound so_far =
-    let front = map Lose loses in
-    let old : marks ≡ map Some (front ++ map Use used) = so_far ∙ ap (λ b. map Some (front ++ map Use used ++ bound_marks b)) unbound ∙ ap (map Some) (append-nil (front ++ map Use used)) in
-    ap (λ ms. ms ++ Some (Use pairs) ∷ []) old
-    ∙ sym (map-append Some (front ++ map Use used) (Use pairs ∷ []))
-    ∙ ap (map Some) (append_assoc front (map Use used) (Use pairs ∷ []) ∙ ap (λ ms. front ++ ms) (sym (map-append Use used (pairs ∷ []))) ∙ sym (append-nil (front ++ map Use (used ++ pairs ∷ []))))
-    ∙ sym (ap (λ b. map Some (front ++ map Use (used ++ pairs ∷ []) ++ bound_marks b)) unbound)
+-- a line without steps is kept as a comment
+kept_nothing : (stage : Stage) (number : ℕ) (line : List ℕ) (plan : Sweep) → kept stage number line [] plan ≡ with_line stage line plan
+kept_nothing Start number line plan = refl
+kept_nothing Losing number line plan = refl
+kept_nothing Using number line plan = refl
+kept_nothing Bounded number line plan = refl
+kept_nothing Trying number line plan = λ i. record plan { tried = append-nil plan.tried i }
+kept_nothing Recovering number line plan = refl
 
-bound_more : (marks : List (Option Mark)) (loses : List (List Name)) (used : List (List Item)) (bound : Option ℕ) (n : ℕ) → bound ≡ None → marks ≡ map Some (map Lose loses ++ map Use used ++ bound_marks bound)
-    → marks ++ Some (AtMost n) ∷ [] ≡ map Some (map Lose loses ++ map Use used ++ bound_marks (Some n))
-bound_more marks loses used bound n unbound so_far =
-    let front = map Lose loses ++ map Use used in
-    let old : marks ≡ map Some front = so_far ∙ ap (λ b. map Some (front ++ bound_marks b)) unbound ∙ ap (map Some) (append-nil front) in
-    ap (λ ms. ms ++ Some (AtMost n) ∷ []) old ∙ sym (map-append Some front (AtMost n ∷ []))
+-- what is kept announces nothing
+kept_same : (stage : Stage) (number : ℕ) (line : List ℕ) (steps : List Step) (plan : Sweep) → record (kept stage number line steps plan) { announced = plan.announced } ≡ kept stage number line steps plan
+kept_same Start number line steps plan = refl
+kept_same Losing number line steps plan = refl
+kept_same Using number line steps plan = refl
+kept_same Bounded number line steps plan = refl
+kept_same Trying number line steps plan = refl
+kept_same Recovering number line steps plan = refl
 
--- a line of the plan's own that says this
-lost : (done : List (List ℕ)) (line : List ℕ) (servers : List Name) (plan : Sweep) → is_mark line ≡ true → mark_of line ≡ Some (Lose servers) → (used : List (List Item)) → Head done used plan → used ≡ [] → plan.bound ≡ None → length plan.loses < most_disasters
-    → Setup (done ++ line ∷ []) Losing (record plan { loses = plan.loses ++ servers ∷ []; setup = plan.setup ++ line ∷ [] })
-unfolding Fits
-lost done line servers plan e is used h none unbound room =
-    let more : length (plan.loses ++ servers ∷ []) ≡ length plan.loses + 1 = grind (arith, common_steps) in
-    record {
-      used = used;
-      head = record {
-        setup = ap (λ ls. ls ++ line ∷ []) h.setup;
-        marks = one_more done line (Lose servers) e is ∙ lose_marks (marks_in done) plan.loses servers used plan.bound none unbound h.marks;
-        uses = h.uses;
-        few = omega (arith, more, room);
-        tried = h.tried;
-        recovery = h.recovery;
-      };
-      fits = (omega (arith, more), none, unbound);
-    }
+kept_announced : (stage : Stage) (number : ℕ) (line : List ℕ) (steps : List Step) (plan : Sweep) → (kept stage number line steps plan).announced ≡ plan.announced
+kept_announced stage number line steps plan = ap (λ (p : Sweep). p.announced) (sym (kept_same stage number line steps plan))
 
-used_more : (done : List (List ℕ)) (line : List ℕ) (pairs : List Item) (plan : Sweep) → is_mark line ≡ true → mark_of line ≡ Some (Use pairs) → (used : List (List Item)) → Head done used plan → 1 ≤ length plan.loses → plan.bound ≡ None
-    → Setup (done ++ line ∷ []) Using (record plan { uses = plan.uses ++ pairs; setup = plan.setup ++ line ∷ [] })
-unfolding Fits
-used_more done line pairs plan e is used h some unbound =
-    let more : length (used ++ pairs ∷ []) ≡ length used + 1 = grind (arith, common_steps) in
-    record {
-      used = used ++ pairs ∷ [];
-      head = record {
-        setup = ap (λ ls. ls ++ line ∷ []) h.setup;
-        marks = one_more done line (Use pairs) e is ∙ use_marks (marks_in done) plan.loses used pairs plan.bound unbound h.marks;
-        uses = ap (λ us. us ++ pairs) h.uses ∙ sym (flat_map-append (λ pairs. pairs) used (pairs ∷ []) ∙ ap (λ us. flat_map (λ pairs. pairs) used ++ us) (append-nil pairs));
-        few = h.few;
-        tried = h.tried;
-        recovery = h.recovery;
-      };
-      fits = (some, omega (arith, more), unbound);
-    }
+-- ---- a line that says something
 
-is_setup : (done : List (List ℕ)) (used : List (List Item)) (plan : Sweep) → Head done used plan → 1 ≤ length plan.loses → 1 ≤ length used → IsSetup plan
-is_setup done used plan h some also = record { used = used; marks = ap marks_in h.setup ∙ h.marks; uses = h.uses; some_lost = some; few_lost = h.few; some_used = also }
-
-here : (done : List (List ℕ)) (line : List ℕ) (plan : Sweep) → is_mark line ≡ true → mark_of line ≡ Some Here → (used : List (List Item)) → Head done used plan → 1 ≤ length plan.loses → 1 ≤ length used → Middle (done ++ line ∷ []) plan
-here done line plan e is used h some also = record {
+middle : (done : List (List ℕ)) (line : List ℕ) (plan : Sweep) (used : List Ranges) → IsMark line Here → Head done used plan → 1 ≤ length plan.loses → 1 ≤ length used → Middle (done ++ line ∷ []) plan
+middle done line plan used m h some also = record {
   begin = line;
   between = [];
   cut = ap (λ ls. ls ++ line ∷ []) (sym h.setup);
-  begins = alone line Here e is;
-  setup = is_setup done used plan h some also;
-  tries = subst (λ tried. Tries [] tried) (sym h.tried) tries-none;
+  begins = m;
+  setup = head-setup done used plan h some also;
+  tries = subst (Tries (length plan.setup + 2) []) (sym h.tried) (tries-none (length plan.setup + 2));
   unmarked = refl;
   recovery = h.recovery;
 }
 
-behind : (done : List (List ℕ)) (line : List ℕ) (plan : Sweep) → is_mark line ≡ true → mark_of line ≡ Some Then → Middle done plan → IsPlan (done ++ line ∷ []) plan
-behind done line plan e is m = record {
-  begin = m.begin;
-  between = m.between;
+whole : (done : List (List ℕ)) (line : List ℕ) (plan : Sweep) (number : ℕ) → IsMark line Then → number ≡ length done + 1 → Middle done plan → Whole (done ++ line ∷ []) (record plan { then_line = number })
+whole done line plan number m at p = record {
+  begin = p.begin;
+  between = p.between;
   end = line;
-  cut = ap (λ ls. ls ++ line ∷ []) m.cut ∙ ap (λ ls. (plan.setup ++ m.begin ∷ m.between) ++ line ∷ ls) (sym m.recovery);
-  begins = m.begins;
-  ends = alone line Then e is;
-  setup = m.setup;
-  tries = m.tries;
-  unmarked = m.unmarked;
-  unmarked_behind = ap marks_in m.recovery;
+  cut = ap (λ ls. ls ++ line ∷ []) p.cut ∙ ap (λ ls. (plan.setup ++ p.begin ∷ p.between) ++ line ∷ ls) (sym p.recovery);
+  begins = p.begins;
+  ends = m;
+  setup = setup_stays plan plan.tried number plan.recovery plan.announced p.setup;
+  unmarked = p.unmarked;
+  unmarked_after = ap marks_in p.recovery;
+  tries = p.tries;
+  place = middle_length done plan.setup p.between p.begin number p.cut at;
 }
 
-bounded : (done : List (List ℕ)) (line : List ℕ) (n : ℕ) (plan : Sweep) → is_mark line ≡ true → mark_of line ≡ Some (AtMost n) → (used : List (List Item)) → Head done used plan → 1 ≤ length plan.loses → 1 ≤ length used → plan.bound ≡ None
-    → Setup (done ++ line ∷ []) Bounded (record plan { bound = Some n; setup = plan.setup ++ line ∷ [] })
-unfolding Fits
-bounded done line n plan e is used h some also unbound = record {
-  used = used;
-  head = record {
-    setup = ap (λ ls. ls ++ line ∷ []) h.setup;
-    marks = one_more done line (AtMost n) e is ∙ bound_more (marks_in done) plan.loses used plan.bound n unbound h.marks;
-    uses = h.uses;
-    few = h.few;
-    tried = h.tried;
-    recovery = h.recovery;
-  };
-  fits = (some, also, tt);
-}
-
--- where there is room for a disaster
-lose_step : (done : List (List ℕ)) (line : List ℕ) (servers : List Name) (plan next : Sweep) → is_mark line ≡ true → mark_of line ≡ Some (Lose servers) → noted (Lose servers) line plan ≡ Some next → (used : List (List Item)) → Head done used plan → used ≡ [] → plan.bound ≡ None
+lose_step : (done : List (List ℕ)) (line : List ℕ) (servers : List Name) (number : ℕ) (stage : Stage) (plan next : Sweep) (used : List Ranges) → IsMark line (Lose servers) → Head done used plan → used ≡ [] → plan.bound ≡ None → noted number stage (Lose servers) line plan ≡ Ok next
     → Setup (done ++ line ∷ []) Losing next
-lose_step done line servers plan next e is h used head none unbound =
-    let c = chosen (nat_lt (length plan.loses) most_disasters) (record plan { loses = plan.loses ++ servers ∷ []; setup = plan.setup ++ line ∷ [] }) next h in
-    let room = c.0 in
-    subst (Setup (done ++ line ∷ []) Losing) c.1 (lost done line servers plan e is used head none unbound (grind (arith, nat_tests, room)))
+unfolding Fits
+lose_step done line servers number stage plan next used m h none unbound notes = let p = head-lose done line servers used plan next m h none unbound notes in record { used = used; head = p.0; fits = (p.1, none, p.2) }
 
-mark_step : (done : List (List ℕ)) (line : List ℕ) (mark : Mark) (stage after : Stage) (plan next : Sweep) → is_mark line ≡ true → mark_of line ≡ Some mark → stage_after mark stage ≡ Some after → noted mark line plan ≡ Some next → Read done stage plan
-    → Read (done ++ line ∷ []) after next
-unfolding Read Fits
-mark_step done line (Lose servers) Start after plan next e is moves notes r =
-    let goes : Losing ≡ after = same_Some _ _ moves in
-    subst (λ stage. Read (done ++ line ∷ []) stage next) goes (lose_step done line servers plan next e is notes r.used r.head r.fits.1 r.fits.2)
-mark_step done line (Lose servers) Losing after plan next e is moves notes r =
-    let goes : Losing ≡ after = same_Some _ _ moves in
-    subst (λ stage. Read (done ++ line ∷ []) stage next) goes (lose_step done line servers plan next e is notes r.used r.head r.fits.1 r.fits.2)
-mark_step done line (Lose servers) Using after plan next e is moves notes r = absurd cc
-mark_step done line (Lose servers) Bounded after plan next e is moves notes r = absurd cc
-mark_step done line (Lose servers) Trying after plan next e is moves notes r = absurd cc
-mark_step done line (Lose servers) Recovering after plan next e is moves notes r = absurd cc
-mark_step done line (Use pairs) Start after plan next e is moves notes r = absurd cc
-mark_step done line (Use pairs) Losing after plan next e is moves notes r =
-    let goes : Using ≡ after = same_Some _ _ moves in
-    subst (λ stage. Read (done ++ line ∷ []) stage next) goes (subst (Setup (done ++ line ∷ []) Using) (same_Some _ _ notes) (used_more done line pairs plan e is r.used r.head r.fits.0 r.fits.2))
-mark_step done line (Use pairs) Using after plan next e is moves notes r =
-    let goes : Using ≡ after = same_Some _ _ moves in
-    subst (λ stage. Read (done ++ line ∷ []) stage next) goes (subst (Setup (done ++ line ∷ []) Using) (same_Some _ _ notes) (used_more done line pairs plan e is r.used r.head r.fits.0 r.fits.2))
-mark_step done line (Use pairs) Bounded after plan next e is moves notes r = absurd cc
-mark_step done line (Use pairs) Trying after plan next e is moves notes r = absurd cc
-mark_step done line (Use pairs) Recovering after plan next e is moves notes r = absurd cc
-mark_step done line (AtMost n) Start after plan next e is moves notes r = absurd cc
-mark_step done line (AtMost n) Losing after plan next e is moves notes r = absurd cc
-mark_step done line (AtMost n) Using after plan next e is moves notes r =
-    let goes : Bounded ≡ after = same_Some _ _ moves in
-    subst (λ stage. Read (done ++ line ∷ []) stage next) goes (subst (Setup (done ++ line ∷ []) Bounded) (same_Some _ _ notes) (bounded done line n plan e is r.used r.head r.fits.0 r.fits.1 r.fits.2))
-mark_step done line (AtMost n) Bounded after plan next e is moves notes r = absurd cc
-mark_step done line (AtMost n) Trying after plan next e is moves notes r = absurd cc
-mark_step done line (AtMost n) Recovering after plan next e is moves notes r = absurd cc
-mark_step done line Here Start after plan next e is moves notes r = absurd cc
-mark_step done line Here Losing after plan next e is moves notes r = absurd cc
-mark_step done line Here Using after plan next e is moves notes r =
-    let goes : Trying ≡ after = same_Some _ _ moves in
-    subst (λ stage. Read (done ++ line ∷ []) stage next) goes (subst (Middle (done ++ line ∷ [])) (same_Some _ _ notes) (here done line plan e is r.used r.head r.fits.0 r.fits.1))
-mark_step done line Here Bounded after plan next e is moves notes r =
-    let goes : Trying ≡ after = same_Some _ _ moves in
-    subst (λ stage. Read (done ++ line ∷ []) stage next) goes (subst (Middle (done ++ line ∷ [])) (same_Some _ _ notes) (here done line plan e is r.used r.head r.fits.0 r.fits.1))
-mark_step done line Here Trying after plan next e is moves notes r = absurd cc
-mark_step done line Here Recovering after plan next e is moves notes r = absurd cc
-mark_step done line Then Start after plan next e is moves notes r = absurd cc
-mark_step done line Then Losing after plan next e is moves notes r = absurd cc
-mark_step done line Then Using after plan next e is moves notes r = absurd cc
-mark_step done line Then Bounded after plan next e is moves notes r = absurd cc
-mark_step done line Then Trying after plan next e is moves notes r =
-    let goes : Recovering ≡ after = same_Some _ _ moves in
-    subst (λ stage. Read (done ++ line ∷ []) stage next) goes (subst (IsPlan (done ++ line ∷ [])) (same_Some _ _ notes) (behind done line plan e is r))
-mark_step done line Then Recovering after plan next e is moves notes r = absurd cc
+use_step : (done : List (List ℕ)) (line : List ℕ) (mark : Mark) (r : Ranges) (number : ℕ) (stage : Stage) (plan next : Sweep) (used : List Ranges) → mark ≡ Use r.name r.first r.second → IsMark line mark → Head done used plan → 1 ≤ length plan.loses → plan.bound ≡ None
+    → noted number stage mark line plan ≡ Ok next → Setup (done ++ line ∷ []) Using next
+unfolding Fits
+use_step done line mark r number stage plan next used says m h some unbound notes =
+    let p = head-use done line r.name r.first r.second used plan next (subst (IsMark line) says m) h unbound (sym (ap (λ k. noted number stage k line plan) says) ∙ notes) in
+    let more : length (used ++ p.0 ∷ []) ≡ length used + 1 = grind (arith, common_steps) in
+    record { used = used ++ p.0 ∷ []; head = p.1; fits = (subst (λ (ls : List (List Name)). 1 ≤ length ls) (sym p.2) some, omega (arith, more), p.3) }
 
--- a line of the plan's own
-marked_step : (done : List (List ℕ)) (line : List ℕ) (r next : Reading) (mark : Option Mark) → is_mark line ≡ true → mark_of line ≡ mark → marked r line mark ≡ Some next → Read done r.stage r.plan → Read (done ++ line ∷ []) next.stage next.plan
-marked_step done line r next None e is h so_far = absurd cc
-marked_step done line r next (Some mark) e is h so_far =
-    let a = bound (stage_after mark r.stage) (λ stage. noted mark line r.plan >>= λ plan. Some (record { stage = stage; plan = plan })) next h in
-    let b = bound (noted mark line r.plan) (λ plan. Some (record { stage = a.0; plan = plan })) next a.2 in
-    subst (λ (x : Reading). Read (done ++ line ∷ []) x.stage x.plan) (same_Some _ _ b.2) (mark_step done line mark r.stage a.0 r.plan b.0 e is a.1 b.1 so_far)
+mark_step : (done : List (List ℕ)) (line : List ℕ) (mark : Mark) (number : ℕ) (stage after : Stage) (plan next : Sweep) → IsMark line mark → announces mark ≡ false → number ≡ length done + 1 → stage_after mark stage ≡ Some after → noted number stage mark line plan ≡ Ok next
+    → Part stage done plan → Part after (done ++ line ∷ []) next
+unfolding Part Fits
+mark_step done line (Lose servers) number Start after plan next m own at goes notes p =
+    subst (λ stage. Part stage (done ++ line ∷ []) next) (same_Some Losing after goes) (lose_step done line servers number Start plan next p.used m p.head p.fits.1 p.fits.2 notes)
+mark_step done line (Lose servers) number Losing after plan next m own at goes notes p =
+    subst (λ stage. Part stage (done ++ line ∷ []) next) (same_Some Losing after goes) (lose_step done line servers number Losing plan next p.used m p.head p.fits.1 p.fits.2 notes)
+mark_step done line (Lose servers) number Using after plan next m own at goes notes p = absurd cc
+mark_step done line (Lose servers) number Bounded after plan next m own at goes notes p = absurd cc
+mark_step done line (Lose servers) number Trying after plan next m own at goes notes p = absurd cc
+mark_step done line (Lose servers) number Recovering after plan next m own at goes notes p = absurd cc
+mark_step done line (Use name first second) number Start after plan next m own at goes notes p = absurd cc
+mark_step done line (Use name first second) number Losing after plan next m own at goes notes p =
+    subst (λ stage. Part stage (done ++ line ∷ []) next) (same_Some Using after goes) (use_step done line (Use name first second) (record { name = name; first = first; second = second }) number Losing plan next p.used refl m p.head p.fits.0 p.fits.2 notes)
+mark_step done line (Use name first second) number Using after plan next m own at goes notes p =
+    subst (λ stage. Part stage (done ++ line ∷ []) next) (same_Some Using after goes) (use_step done line (Use name first second) (record { name = name; first = first; second = second }) number Using plan next p.used refl m p.head p.fits.0 p.fits.2 notes)
+mark_step done line (Use name first second) number Bounded after plan next m own at goes notes p = absurd cc
+mark_step done line (Use name first second) number Trying after plan next m own at goes notes p = absurd cc
+mark_step done line (Use name first second) number Recovering after plan next m own at goes notes p = absurd cc
+mark_step done line (AtMost n) number Start after plan next m own at goes notes p = absurd cc
+mark_step done line (AtMost n) number Losing after plan next m own at goes notes p = absurd cc
+mark_step done line (AtMost n) number Using after plan next m own at goes notes p =
+    let now : Sweep = record plan { bound = Some n; setup = plan.setup ++ line ∷ [] } in
+    let new : Setup (done ++ line ∷ []) Bounded now = record { used = p.used; head = head-bound done line n p.used plan m p.head p.fits.2; fits = (p.fits.0, p.fits.1, tt) } in
+    subst (λ stage. Part stage (done ++ line ∷ []) next) (same_Some Bounded after goes) (subst (Setup (done ++ line ∷ []) Bounded) (same-Ok now next notes) new)
+mark_step done line (AtMost n) number Bounded after plan next m own at goes notes p = absurd cc
+mark_step done line (AtMost n) number Trying after plan next m own at goes notes p = absurd cc
+mark_step done line (AtMost n) number Recovering after plan next m own at goes notes p = absurd cc
+mark_step done line Here number Start after plan next m own at goes notes p = absurd cc
+mark_step done line Here number Losing after plan next m own at goes notes p = absurd cc
+mark_step done line Here number Using after plan next m own at goes notes p =
+    subst (λ stage. Part stage (done ++ line ∷ []) next) (same_Some Trying after goes) (subst (Middle (done ++ line ∷ [])) (same-Ok plan next notes) (middle done line plan p.used m p.head p.fits.0 p.fits.1))
+mark_step done line Here number Bounded after plan next m own at goes notes p =
+    subst (λ stage. Part stage (done ++ line ∷ []) next) (same_Some Trying after goes) (subst (Middle (done ++ line ∷ [])) (same-Ok plan next notes) (middle done line plan p.used m p.head p.fits.0 p.fits.1))
+mark_step done line Here number Trying after plan next m own at goes notes p = absurd cc
+mark_step done line Here number Recovering after plan next m own at goes notes p = absurd cc
+mark_step done line Then number Start after plan next m own at goes notes p = absurd cc
+mark_step done line Then number Losing after plan next m own at goes notes p = absurd cc
+mark_step done line Then number Using after plan next m own at goes notes p = absurd cc
+mark_step done line Then number Bounded after plan next m own at goes notes p = absurd cc
+mark_step done line Then number Trying after plan next m own at goes notes p =
+    subst (λ stage. Part stage (done ++ line ∷ []) next) (same_Some Recovering after goes) (subst (Whole (done ++ line ∷ [])) (same-Ok (record plan { then_line = number }) next notes) (whole done line plan number m at p))
+mark_step done line Then number Recovering after plan next m own at goes notes p = absurd cc
+mark_step done line Refused number stage after plan next m own at goes notes p = absurd cc
 
-pub read_step : (done : List (List ℕ)) (line : List ℕ) (r next : Reading) → read_on r line ≡ Some next → Read done r.stage r.plan → Read (done ++ line ∷ []) next.stage next.plan
-unfolding read_on
-read_step done line r next h so_far = by (cases_Bool (is_mark line))
+-- any other line announces nothing
+noted_announced : (number : ℕ) (stage : Stage) (mark : Mark) (line : List ℕ) (plan next : Sweep) → announces mark ≡ false → noted number stage mark line plan ≡ Ok next → next.announced ≡ plan.announced
+noted_announced number stage (Lose servers) line plan next own notes =
+    let made : Sweep = record plan { loses = plan.loses ++ servers ∷ []; setup = plan.setup ++ line ∷ [] } in
+    let a = ok-of (nat_lt (length plan.loses) most_disasters) (unless (servers_fault (servers_in plan.setup) [] servers) made) ManyDisasters next notes in
+    let b = unless-of (servers_fault (servers_in plan.setup) [] servers) made next a.1 in
+    ap (λ (p : Sweep). p.announced) (sym b.1)
+noted_announced number stage (Use name first second) line plan next own notes =
+    let made : Sweep = record plan { uses = with_pairs plan.uses name (paired first second); setup = plan.setup ++ line ∷ [] } in
+    let a = ok-of (has_use plan.uses name || nat_lt (length plan.uses) most_uses) (cond (nat_eq (span_len first) (span_len second)) (used_pairs name (paired first second) line plan) (Err UnequalRanges)) ManyUses next notes in
+    let b = ok-of (nat_eq (span_len first) (span_len second)) (used_pairs name (paired first second) line plan) UnequalRanges next a.1 in
+    let d = unless-of (pairs_fault (volumes_in plan.setup) (paired first second)) made next b.1 in
+    ap (λ (p : Sweep). p.announced) (sym d.1)
+noted_announced number stage (AtMost n) line plan next own notes = ap (λ (p : Sweep). p.announced) (sym (same-Ok (record plan { bound = Some n; setup = plan.setup ++ line ∷ [] }) next notes))
+noted_announced number stage Here line plan next own notes = ap (λ (p : Sweep). p.announced) (sym (same-Ok plan next notes))
+noted_announced number stage Then line plan next own notes = ap (λ (p : Sweep). p.announced) (sym (same-Ok (record plan { then_line = number }) next notes))
+noted_announced number stage Refused line plan next own notes = absurd cc
+
+-- ---- one line
+
+steps_step : (done : List (List ℕ)) (line : List ℕ) (r : Reading) (steps : List Step) (number : ℕ) → number ≡ length done + 1 → is_mark line ≡ false → line_of line ≡ Ok steps → MayStand r.waits line → Read done r
+    → Read (done ++ line ∷ []) (record r { waits = false; plan = kept r.stage number line steps r.plan })
+steps_step done line r steps number at plain is stands so_far =
+    let nothing : announced_by number (is_mark line) (mark_of line) ≡ [] = ap (λ b. announced_by number b (mark_of line)) plain in
+    record {
+      passes = subst (Passes false (done ++ line ∷ [])) (plain-not line plain) (passes-more false r.waits done line so_far.passes stands);
+      announced =
+          kept_announced r.stage number line steps r.plan ∙ so_far.announced
+          ∙ sym (announced-more 1 number done line (omega (arith, at)) ∙ ap (λ ns. announced_from 1 done ++ ns) nothing ∙ append-nil (announced_from 1 done));
+      part = subst (Part r.stage (done ++ line ∷ [])) (kept_same r.stage number line steps r.plan) (none_step done line steps r.stage r.plan number r.plan.announced (plain-none line plain) is at so_far.part);
+    }
+
+refused_step : (done : List (List ℕ)) (line : List ℕ) (r : Reading) (number : ℕ) → number ≡ length done + 1 → IsMark line Refused → r.waits ≡ false → Read done r
+    → Read (done ++ line ∷ []) (record { stage = r.stage; waits = true; plan = record (with_line r.stage line r.plan) { announced = r.plan.announced ++ (number + 1) ∷ [] } })
+refused_step done line r number at m calm so_far =
+    record {
+      passes = subst (Passes false (done ++ line ∷ [])) (refused-is line m) (passes-more false r.waits done line so_far.passes (stood-own r.waits line m.0 calm));
+      announced = ap (λ ns. ns ++ (number + 1) ∷ []) so_far.announced ∙ sym (announced-more 1 number done line (omega (arith, at)) ∙ ap (λ ns. announced_from 1 done ++ ns) (announced-same number line (Some Refused) m.0 m.1));
+      part = subst (λ (p : Sweep). Part r.stage (done ++ line ∷ []) (record p { announced = r.plan.announced ++ (number + 1) ∷ [] })) (kept_nothing r.stage number line r.plan)
+          (none_step done line [] r.stage r.plan number (r.plan.announced ++ (number + 1) ∷ []) (refused-none line m) (own-comment line m.0) at so_far.part);
+    }
+
+says_step : (done : List (List ℕ)) (line : List ℕ) (r : Reading) (mark : Mark) (after : Stage) (next : Sweep) (number : ℕ) → number ≡ length done + 1 → IsMark line mark → announces mark ≡ false → r.waits ≡ false → stage_after mark r.stage ≡ Some after
+    → noted number r.stage mark line r.plan ≡ Ok next → Read done r → Read (done ++ line ∷ []) (record { stage = after; waits = announces mark; plan = next })
+says_step done line r mark after next number at m own calm goes notes so_far =
+    let nothing : announced_by number (is_mark line) (mark_of line) ≡ [] = announced-same number line (Some mark) m.0 m.1 ∙ announced-none number mark own in
+    record {
+      passes = subst (Passes false (done ++ line ∷ [])) (says-not line mark m own ∙ sym own) (passes-more false r.waits done line so_far.passes (stood-own r.waits line m.0 calm));
+      announced =
+          noted_announced number r.stage mark line r.plan next own notes ∙ so_far.announced
+          ∙ sym (announced-more 1 number done line (omega (arith, at)) ∙ ap (λ ns. announced_from 1 done ++ ns) nothing ∙ append-nil (announced_from 1 done));
+      part = mark_step done line mark number r.stage after r.plan next m own at goes notes so_far.part;
+    }
+
+pub read-step : (done : List (List ℕ)) (line : List ℕ) (r next : Reading) (number : ℕ) → number ≡ length done + 1 → read_on number r line ≡ Ok next → Read done r → Read (done ++ line ∷ []) next
+read-step done line r next number at h so_far = by (was-read number r next line h)
   where
-    by : (is_mark line ≡ true) ⊎ (is_mark line ≡ false) → Read (done ++ line ∷ []) next.stage next.plan
-    by (inl e) = marked_step done line r next (mark_of line) e refl (sym (ap (λ b. cond b (marked r line (mark_of line)) (Some (record r { plan = kept r.stage line r.plan }))) e) ∙ h) so_far
-    by (inr e) =
-        let is = sym (ap (λ b. cond b (marked r line (mark_of line)) (Some (record r { plan = kept r.stage line r.plan }))) e) ∙ h in
-        subst (λ (x : Reading). Read (done ++ line ∷ []) x.stage x.plan) (same_Some _ _ is) (plain_step done line r.stage r.plan e so_far)
+    refused : (mark : Mark) (after : Stage) (plan : Sweep) → mark ≡ Refused → IsMark line mark → r.waits ≡ false → stage_after mark r.stage ≡ Some after → noted number r.stage mark line r.plan ≡ Ok plan → Read (done ++ line ∷ []) (record { stage = after; waits = announces mark; plan = plan })
+    refused mark after plan is m calm goes notes =
+        let own : IsMark line Refused = subst (IsMark line) is m in
+        let stays : r.stage ≡ after = same_Some _ _ (sym (ap (λ k. stage_after k r.stage) is) ∙ goes) in
+        let now : record (with_line r.stage line r.plan) { announced = r.plan.announced ++ (number + 1) ∷ [] } ≡ plan = same-Ok _ _ (sym (ap (λ k. noted number r.stage k line r.plan) is) ∙ notes) in
+        subst (Read (done ++ line ∷ [])) (λ i. record { stage = stays i; waits = announces (sym is i); plan = now i }) (refused_step done line r number at own calm so_far)
+
+    says : (mark : Mark) (after : Stage) (plan : Sweep) → (announces mark ≡ true) ⊎ (announces mark ≡ false) → IsMark line mark → r.waits ≡ false → stage_after mark r.stage ≡ Some after → noted number r.stage mark line r.plan ≡ Ok plan
+        → Read (done ++ line ∷ []) (record { stage = after; waits = announces mark; plan = plan })
+    says mark after plan (inl a) m calm goes notes = refused mark after plan (only-refused mark a) m calm goes notes
+    says mark after plan (inr a) m calm goes notes = says_step done line r mark after plan number at m a calm goes notes so_far
+
+    by : WasRead number r line next → Read (done ++ line ∷ []) next
+    by (OfSteps steps plain is room same) = subst (Read (done ++ line ∷ [])) (sym same) (steps_step done line r steps number at plain is (stood r.waits line steps is room) so_far)
+    by (OfMark mark after plan m calm goes notes same) = subst (Read (done ++ line ∷ [])) (sym same) (says mark after plan (cases_Bool (announces mark)) m calm goes notes)
+
+-- ---- all lines
+
+-- before the first line nothing was read
+pub read-begun : Read [] begun
+unfolding Part Fits announced_from
+read-begun = record {
+  passes = passes-none false;
+  announced = refl;
+  part = record {
+    used = [];
+    head = record {
+      setup = refl;
+      marks = refl;
+      uses = refl;
+      few = omega arith;
+      few_used = omega arith;
+      once = All-nil ComeOnce;
+      servers = λ above names s. no_line above (s.0) (s.1) (s.2);
+      lengths = All-nil (λ (r : Ranges). span_len r.first ≡ span_len r.second);
+      volumes = λ above r s. no_line above (s.0) (s.1) (s.2);
+      tried = refl;
+      recovery = refl;
+    };
+    fits = (refl, refl, refl);
+  };
+}
+  where
+    no_line : {P : Type 0} (above : List (List ℕ)) (line : List ℕ) (below : List (List ℕ)) → [] ≡ above ++ line ∷ below → P
+    no_line [] line below e = absurd cc
+    no_line (l ∷ above) line below e = absurd cc
 
 -- a reading that has come to its end
-ended : (number : ℕ) (done : List (List ℕ)) (stage : Stage) (plan read : Sweep) → finished number stage plan ≡ Ok read → Read done stage plan → IsPlan done read
-unfolding Read
-ended number done Start plan read h so_far = absurd cc
-ended number done Losing plan read h so_far = absurd cc
-ended number done Using plan read h so_far = absurd cc
-ended number done Bounded plan read h so_far = absurd cc
-ended number done Trying plan read h so_far = absurd cc
-ended number done Recovering plan read h so_far = let is : plan ≡ read = cc in subst (IsPlan done) is so_far
+pub plan-whole : (done : List (List ℕ)) (plan : Sweep) → Whole done plan → Passes false done false → plan.announced ≡ announced_from 1 done → IsPlan done plan
+plan-whole done plan w passes announced = record {
+  begin = w.begin;
+  between = w.between;
+  end = w.end;
+  cut = w.cut;
+  begins = w.begins;
+  ends = w.ends;
+  setup = w.setup;
+  unmarked = w.unmarked;
+  unmarked_after = w.unmarked_after;
+  read = all-read false false done passes;
+  tries = w.tries;
+  place = w.place;
+  announced = announced;
+  followed = all-followed false done passes;
+}
 
-read_all : (number : ℕ) (r : Reading) (lines done : List (List ℕ)) (read : Sweep) → read_lines number r lines ≡ Ok read → Read done r.stage r.plan → IsPlan (done ++ lines) read
-unfolding read_lines
-read_all number r [] done read h so_far = subst (λ ls. IsPlan ls read) (sym (append-nil done)) (ended number done r.stage r.plan read h so_far)
-read_all number r (line ∷ rest) done read h so_far = by (read_on r line) refl h (λ next is k. read_all (number + 1) next rest (done ++ line ∷ []) read k (read_step done line r next is so_far))
+pub finished-plan : (done : List (List ℕ)) (r : Reading) → r.waits ≡ false → lacking r.stage ≡ None → Read done r → IsPlan done r.plan
+unfolding Part
+finished-plan done r calm whole_is so_far = by r.stage refl whole_is so_far.part
   where
-    by : (o : Option Reading) → read_on r line ≡ o → (elim o as (λ _. Result Sweep ℕ) [ None ↦ Err number | Some next ↦ read_lines (number + 1) next rest ]) ≡ Ok read
-        → ((next : Reading) → read_on r line ≡ Some next → read_lines (number + 1) next rest ≡ Ok read → IsPlan ((done ++ line ∷ []) ++ rest) read) → IsPlan (done ++ line ∷ rest) read
-    by None is k further = absurd cc
-    by (Some next) is k further = subst (λ ls. IsPlan ls read) (append_assoc done (line ∷ []) rest) (further next is k)
+    by : (stage : Stage) → r.stage ≡ stage → lacking stage ≡ None → Part stage done r.plan → IsPlan done r.plan
+    by Start e h p = absurd cc
+    by Losing e h p = absurd cc
+    by Using e h p = absurd cc
+    by Bounded e h p = absurd cc
+    by Trying e h p = absurd cc
+    by Recovering e h p = plan-whole done r.plan p (subst (Passes false done) calm so_far.passes) so_far.announced
+
+-- what is missing where a plan is finished
+pub finished-as : (number : ℕ) (r : Reading) (plan : Sweep) → finished number r ≡ Ok plan → (r.waits ≡ false) × (lacking r.stage ≡ None) × (r.plan ≡ plan)
+finished-as number r plan h = by r.waits refl (missing r) refl h
+  where
+    by : (waits : Bool) → r.waits ≡ waits → (m : Option Reason) → missing r ≡ m → finished_by number r.plan m ≡ Ok plan → (r.waits ≡ false) × (lacking r.stage ≡ None) × (r.plan ≡ plan)
+    by waits w (Some reason) is k = absurd cc
+    by true w None is k = let bad : Some NoLineFollows ≡ None = sym (ap (λ b. cond b (Some NoLineFollows) (lacking r.stage)) w) ∙ is in absurd cc
+    by false w None is k = (w, sym (ap (λ b. cond b (Some NoLineFollows) (lacking r.stage)) w) ∙ is, cc)
+
+read_all : (number : ℕ) (r : Reading) (lines done : List (List ℕ)) (plan : Sweep) → number ≡ length done + 1 → read_lines number r lines ≡ Ok plan → Read done r → IsPlan (done ++ lines) plan
+unfolding read_lines
+read_all number r [] done plan at h so_far =
+    let f = finished-as number r plan h in
+    subst (λ ls. IsPlan ls plan) (sym (append-nil done)) (subst (IsPlan done) f.2 (finished-plan done r f.0 f.1 so_far))
+read_all number r (line ∷ rest) done plan at h so_far =
+    by (read_on number r line) refl h
+    (λ next is k. read_all (number + 1) next rest (done ++ line ∷ []) plan (let size : length (done ++ line ∷ []) ≡ length done + 1 = grind (arith, common_steps) in omega (arith, at, size)) k (read-step done line r next number at is so_far))
+  where
+    by : (o : Result Reading Reason) → read_on number r line ≡ o → (elim o as (λ _. Result Sweep Bad) [ Err reason ↦ Err (record { line = number; reason = reason }) | Ok next ↦ read_lines (number + 1) next rest ]) ≡ Ok plan
+        → ((next : Reading) → read_on number r line ≡ Ok next → read_lines (number + 1) next rest ≡ Ok plan → IsPlan ((done ++ line ∷ []) ++ rest) plan) → IsPlan (done ++ line ∷ rest) plan
+    by (Err reason) is k further = absurd cc
+    by (Ok next) is k further = subst (λ ls. IsPlan ls plan) (append_assoc done (line ∷ []) rest) (further next is k)
 
 pub plan-read : (lines : List (List ℕ)) (plan : Sweep) → sweep_of lines ≡ Ok plan → IsPlan lines plan
-unfolding Read Fits
-plan-read lines plan h =
-    read_all 1 begun lines [] plan h
-    (record { used = []; head = record { setup = refl; marks = refl; uses = refl; few = omega arith; tried = refl; recovery = refl }; fits = (refl, refl, refl) })
+plan-read lines plan h = read_all 1 begun lines [] plan refl h read-begun

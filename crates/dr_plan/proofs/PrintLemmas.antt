@@ -1,14 +1,11 @@
 -- No line feed stands in the line that says a step.
-use Rattle.std.proofs.Common.{ℕ, ◌≡◌, ◌<◌, ◌≤◌, ◌/◌, ◌%◌, ◌^◌, List, [], ◌∷◌, ◌++◌, take, length, refl, ap, ◌∙◌, arith, Bool, true, false, not, ◌&&◌, ◌||◌, cond, Option, Some, None, nat_eq, nat_le}
-use Rattle.std.specs.Prelude.{codes}
-use Rattle.std.specs.Char.{digit_value}
-use Rattle.std.specs.Fmt.{decimal}
+use Rattle.std.proofs.Common.{ℕ, zero, suc, ◌≡◌, ◌+◌, ◌/◌, ◌%◌, List, [], ◌∷◌, ◌++◌, take, length, refl, ap, ◌∙◌, arith, Bool, true, false, not, ◌&&◌, ◌||◌, cond, Option, Some, None, nat_eq, nat_le, nat_lt}
+use Rattle.std.specs.Prelude.{◌==◌, codes}
+use Rattle.std.specs.Fmt.{decimal, digits, digits_onto, digit_glyph}
 use Rattle.std.specs.List.{list_all}
 use Rattle.std.specs.Option.{unwrap_or}
-use Rattle.std.specs.Str.Parse.{AllDigits}
 use Rattle.std.proofs.lemmas.Bool.{and_parts, and_from}
 use Rattle.std.proofs.lemmas.Bool.Decides.{nat_tests}
-use Rattle.std.proofs.lemmas.Fmt.{decimal_is_IsNumeral}
 use Rattle.std.proofs.lemmas.Grind.{common_steps}
 use Rattle.std.proofs.lemmas.List.Concat.{flat_map-cons}
 use Rattle.std.proofs.lemmas.List.Folds.{list_all-append}
@@ -27,12 +24,14 @@ use Rattle.dr_model.specs.declared.grammar.Options.{Options}
 use Rattle.dr_model.specs.declared.grammar.Operands.{Operands}
 use Rattle.dr_model.specs.declared.grammar.Item.{Item}
 use Rattle.dr_model.specs.declared.grammar.Saying.{Saying}
-use Rattle.dr_model.specs.LineTable.{form, command_word, setting_word, settings}
-use Rattle.dr_model.specs.LineSteps.{is_flag, has, lss_in, or_zero, no_name}
+use Rattle.dr_model.specs.LineTable.{form, command_word, setting_word, settings, operands}
+use Rattle.dr_model.specs.LineSteps.{is_flag, has, lss_in, or_zero, no_name, no_options, no_operands}
 use Rattle.dr_model.specs.LineWords.{is_name, is_name_byte, begins_with_letter}
-use Rattle.dr_model.specs.LineText.{hex8, unpadded, sequence_text, name_text, bytes_text, torn_text, most_text, setting_text, setting_words, settings_words, operand_text, operand_words, said_operands, spaced, said_text, name_fits, most_fits, setting_fits, operand_fits, settings_fit, operands_fit, said_fits, saying, step_text, is_written}
+use Rattle.dr_model.specs.LineText.{hex8, unpadded, sequence_text, name_text, bytes_text, torn_text, most_text, setting_text, setting_words, settings_words, operand_text, operand_words, said_operands, said_count, at_saying, spaced, said_text, name_fits, most_fits, setting_fits, operand_fits, settings_fit, operands_fit, said_fits, saying, step_text, is_written}
 use Rattle.dr_script.proofs.CutLemmas.{spaced-append}
 use Rattle.dr_script.proofs.TextLemmas.{upper_not}
+use Rattle.dr_plan.specs.declared.points.Torn.{Torn}
+use Rattle.dr_plan.specs.Points.{torn_word, fuse_line}
 use Rattle.dr_plan.specs.Sweep.{is_unbroken}
 
 pub unbroken-append : (a b : List ℕ) → is_unbroken a ≡ true → is_unbroken b ≡ true → is_unbroken (a ++ b) ≡ true
@@ -68,15 +67,26 @@ sequence_unbroken : (n : ℕ) → is_unbroken (sequence_text n) ≡ true
 sequence_unbroken n = unpadded_unbroken (hex8 n) (unbroken-append (hex4 (n / 65536)) (hex4 (n % 65536)) (hex4_unbroken (n / 65536)) (hex4_unbroken (n % 65536)))
 
 -- digits in decimal
-decimal_digit : (d : ℕ) → digit_value d < 10 → not (nat_eq d 10) ≡ true
-decimal_digit d lt = grind (arith, common_steps, nat_tests)
+glyph : (upper : Bool) (d : ℕ) → not (nat_eq (digit_glyph upper d) 10) ≡ true
+glyph upper d = by upper (nat_lt d 10)
+  where
+    by : (u b : Bool) → not (nat_eq (cond b (48 + d) (cond u (55 + d) (87 + d))) 10) ≡ true
+    by u true = grind (arith, nat_tests)
+    by true false = grind (arith, nat_tests)
+    by false false = grind (arith, nat_tests)
 
-digits_unbroken : (ds : List ℕ) → AllDigits 10 ds → is_unbroken ds ≡ true
-digits_unbroken [] all = refl
-digits_unbroken (d ∷ ds) all = both d ds (decimal_digit d all.0) (digits_unbroken ds all.1)
+digits_unbroken : (k n : ℕ) (ds : List ℕ) → is_unbroken ds ≡ true → is_unbroken (digits_onto k 10 false n ds) ≡ true
+digits_unbroken zero n ds e = e
+digits_unbroken (suc k) n ds e = by (n / 10 == 0) (both (digit_glyph false (n % 10)) ds (glyph false (n % 10)) e) (digits_unbroken k (n / 10) (digit_glyph false (n % 10) ∷ ds))
+  where
+    by : (b : Bool) → is_unbroken (digit_glyph false (n % 10) ∷ ds) ≡ true → (is_unbroken (digit_glyph false (n % 10) ∷ ds) ≡ true → is_unbroken (digits_onto k 10 false (n / 10) (digit_glyph false (n % 10) ∷ ds)) ≡ true)
+        → is_unbroken (cond b (digit_glyph false (n % 10) ∷ ds) (digits_onto k 10 false (n / 10) (digit_glyph false (n % 10) ∷ ds))) ≡ true
+    by true one more = one
+    by false one more = more one
 
-decimal_unbroken : (n : ℕ) → n < 2 ^ 32 → is_unbroken (decimal n) ≡ true
-decimal_unbroken n lt = let p = decimal_is_IsNumeral n (omega arith) in digits_unbroken (decimal n) p.0.1
+decimal_unbroken : (n : ℕ) → is_unbroken (decimal n) ≡ true
+unfolding digits
+decimal_unbroken n = digits_unbroken 64 n [] refl
 
 -- names
 name_byte : (b : ℕ) → is_name_byte b ≡ true → not (nat_eq b 10) ≡ true
@@ -105,7 +115,7 @@ torn_unbroken (Bytes bytes) = bytes_unbroken bytes
 
 most_unbroken : (m : Option ℕ) → most_fits m ≡ true → is_unbroken (most_text m) ≡ true
 most_unbroken None e = refl
-most_unbroken (Some n) e = decimal_unbroken n (grind (arith, nat_tests, e))
+most_unbroken (Some n) e = decimal_unbroken n
 
 command_unbroken : (c : Command) → is_unbroken (command_word c) ≡ true
 unfolding command_word form
@@ -204,9 +214,9 @@ value_unbroken OfLss o i e = hex2_unbroken (or_zero o.lss)
 value_unbroken Members o i e = hex4_unbroken i.first
 value_unbroken Action o i e = either_unbroken (unwrap_or o.adds true) (codes "add") (codes "remove") refl refl
 value_unbroken OfSession o i e = hex2_unbroken (or_zero o.session)
-value_unbroken Interval o i e = decimal_unbroken (or_zero o.cginterval) (let le : or_zero o.cginterval ≤ 65535 = grind (arith, nat_tests, e) in omega arith)
-value_unbroken Coordination o i e = decimal_unbroken (or_zero o.coordinate) (let le : or_zero o.coordinate ≤ 65535 = grind (arith, nat_tests, e) in omega arith)
-value_unbroken DrainTime o i e = decimal_unbroken (or_zero o.drain) (let le : or_zero o.drain ≤ 65535 = grind (arith, nat_tests, e) in omega arith)
+value_unbroken Interval o i e = decimal_unbroken (or_zero o.cginterval)
+value_unbroken Coordination o i e = decimal_unbroken (or_zero o.coordinate)
+value_unbroken DrainTime o i e = decimal_unbroken (or_zero o.drain)
 value_unbroken Quiet o i e = refl
 value_unbroken RemotePort o i e = refl
 value_unbroken ConsistencyGroup o i e = refl
@@ -230,9 +240,9 @@ word_unbroken TornMark p i e = refl
 word_unbroken TornBytes p i e = torn_unbroken p.torn
 word_unbroken OneVolume p i e = hex4_unbroken p.volume
 word_unbroken OtherVolume p i e = hex4_unbroken p.with
-word_unbroken Count p i e = decimal_unbroken p.count (grind (arith, nat_tests, e))
-word_unbroken TrackNumber p i e = decimal_unbroken p.track (grind (arith, nat_tests, e))
-word_unbroken Offset p i e = decimal_unbroken p.offset (let le : p.offset ≤ 63 = grind (arith, nat_tests, e) in omega arith)
+word_unbroken Count p i e = decimal_unbroken p.count
+word_unbroken TrackNumber p i e = decimal_unbroken p.track
+word_unbroken Offset p i e = decimal_unbroken p.offset
 word_unbroken WriteBytes p i e = bytes_unbroken (take p.len p.bytes)
 word_unbroken CountOrAll p i e = most_unbroken p.most e
 word_unbroken SessionNumber p i e = hex2_unbroken p.session
@@ -285,3 +295,14 @@ said_unbroken said e =
 pub step-unbroken : (step : Step) → is_written step ≡ true → is_unbroken (step_text step) ≡ true
 unfolding step_text is_written
 step-unbroken step e = said_unbroken (saying step) e
+
+-- the line that arms a fuse, after any number of writes
+pub fuse-unbroken : (server : Name) (writes : ℕ) (torn : Torn) → name_fits server ≡ true → is_unbroken (fuse_line server writes torn) ≡ true
+unfolding step_text at_saying settings operands form command_word said_count operand_text no_options no_operands
+fuse-unbroken server writes torn fits =
+    let torn_bytes = spaced_one (torn_text (torn_word torn)) [] (torn_unbroken (torn_word torn)) refl in
+    let marked = spaced_one (codes "torn") (torn_text (torn_word torn) ∷ []) refl torn_bytes in
+    let counted = spaced_one (decimal writes) (codes "torn" ∷ torn_text (torn_word torn) ∷ []) (decimal_unbroken writes) marked in
+    let after = spaced_one (codes "after") (decimal writes ∷ codes "torn" ∷ torn_text (torn_word torn) ∷ []) refl counted in
+    let words = name_text server ∷ codes "after" ∷ decimal writes ∷ codes "torn" ∷ torn_text (torn_word torn) ∷ [] in
+    unbroken-append (codes "@stop") (spaced words) refl (spaced_one (name_text server) (codes "after" ∷ decimal writes ∷ codes "torn" ∷ torn_text (torn_word torn) ∷ []) (name_unbroken server fits) after)

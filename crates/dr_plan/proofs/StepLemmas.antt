@@ -15,57 +15,37 @@ use Rattle.dr_model.specs.Lines.{task, tasks, tasks_of, tasks_from, tasks_read}
 use Rattle.dr_script.proofs.StepLemmas.{reads}
 use Rattle.dr_plan.specs.declared.points.Torn.{Torn}
 use Rattle.dr_plan.specs.Parts.{IsSweep}
-use Rattle.dr_plan.specs.Points.{torn_word, stop_line, fuse_line, others, cut_lines, gap_lines, stop_steps, cut_steps, gap_steps, text_of}
-use Rattle.dr_plan.specs.Sweep.{Sweep, is_unbroken}
+use Rattle.dr_plan.specs.Points.{torn_word, stop_line, fuse_line, others, lines_before, calm_lines, cut_lines, gap_lines, stop_steps, cut_steps, gap_steps, text_of}
+use Rattle.dr_plan.specs.Sweep.{Sweep, Tried, texts, is_unbroken}
 use Rattle.dr_plan.proofs.PrintLemmas.{step-unbroken}
 use Rattle.dr_plan.proofs.StopLemmas.{stop-written, fuse-written}
 use Rattle.dr_plan.proofs.WholeLemmas.{lines-text}
 
 -- the name and the line at a place
-name_at : (names : List Name) (i : ℕ) (name : Name) → All (λ name. name_fits name ≡ true) names → slice_get names i ≡ Some name → name_fits name ≡ true
+pub name_at : (names : List Name) (i : ℕ) (name : Name) → All (λ name. name_fits name ≡ true) names → slice_get names i ≡ Some name → name_fits name ≡ true
 name_at names i name all h = ap name_fits (sym (get_or_from_slice_get names i name name h)) ∙ all i name (slice_get_within names i name h)
 
-line_at : (ls : List (List ℕ)) (i : ℕ) (line : List ℕ) → All (λ l. is_unbroken l ≡ true) ls → slice_get ls i ≡ Some line → is_unbroken line ≡ true
-line_at ls i line all h = ap is_unbroken (sym (get_or_from_slice_get ls i line line h)) ∙ all i line (slice_get_within ls i line h)
+pub text_at : (tried : List Tried) (i : ℕ) (t : Tried) → All (λ (t : Tried). is_unbroken t.text ≡ true) tried → slice_get tried i ≡ Some t → is_unbroken t.text ≡ true
+text_at tried i t all h = ap (λ (t : Tried). is_unbroken t.text) (sym (get_or_from_slice_get tried i t t h)) ∙ all i t (slice_get_within tried i t h)
 
-others_fit : (server : ℕ) (names : List Name) → All (λ name. name_fits name ≡ true) names → All (λ name. name_fits name ≡ true) (others server names)
+-- the lines before a point have no line feeds
+texts_whole : (tried : List Tried) → All (λ (t : Tried). is_unbroken t.text ≡ true) tried → All (λ l. is_unbroken l ≡ true) (texts tried)
+texts_whole [] all = All-nil (λ l. is_unbroken l ≡ true)
+texts_whole (t ∷ tried) all = All-cons (λ l. is_unbroken l ≡ true) t.text (texts tried) (all 0 t (omega arith)) (texts_whole tried (All-drop (λ (t : Tried). is_unbroken t.text ≡ true) 1 (t ∷ tried) all))
+
+pub before_whole : (plan : Sweep) (place : ℕ) → IsSweep plan → All (λ l. is_unbroken l ≡ true) (lines_before plan place)
+before_whole plan place are =
+    All-append (λ l. is_unbroken l ≡ true) plan.setup (texts (take place plan.tried)) are.setup (texts_whole (take place plan.tried) (All-take (λ (t : Tried). is_unbroken t.text ≡ true) place plan.tried are.tried))
+
+pub others_fit : (server : ℕ) (names : List Name) → All (λ name. name_fits name ≡ true) names → All (λ name. name_fits name ≡ true) (others server names)
 others_fit server names fit =
     All-append (λ name. name_fits name ≡ true) (take server names) (drop (server + 1) names) (All-take (λ name. name_fits name ≡ true) server names fit) (All-drop (λ name. name_fits name ≡ true) (server + 1) names fit)
 
 -- the lines that are put in have no line feeds
-stops_whole : (names : List Name) → All (λ name. name_fits name ≡ true) names → All (λ l. is_unbroken l ≡ true) (map stop_line names)
+pub stops_whole : (names : List Name) → All (λ name. name_fits name ≡ true) names → All (λ l. is_unbroken l ≡ true) (map stop_line names)
 stops_whole [] fit = All-nil (λ l. is_unbroken l ≡ true)
 stops_whole (name ∷ names) fit =
     All-cons (λ l. is_unbroken l ≡ true) (stop_line name) (map stop_line names) (step-unbroken (Stop name) (stop-written name (fit 0 name (omega arith)))) (stops_whole names (All-drop (λ name. name_fits name ≡ true) 1 (name ∷ names) fit))
-
--- so the lines of the script are those of the point
-pub cut-read : (plan : Sweep) (names : List Name) (line server write : ℕ) (torn : Torn) → IsSweep plan → All (λ name. name_fits name ≡ true) names → write < 2 ^ 32
-    → option_map lines (option_map text_of (cut_lines plan names line server write torn)) ≡ cut_lines plan names line server write torn
-cut-read plan names line server write torn are fit few = by (slice_get names server) refl (slice_get plan.tried line) refl
-  where
-    by : (n : Option Name) → slice_get names server ≡ n → (t : Option (List ℕ)) → slice_get plan.tried line ≡ t
-        → option_map lines (option_map text_of (n >>= λ name. t >>= λ tried. Some ((plan.setup ++ take line plan.tried ++ fuse_line name write torn ∷ tried ∷ map stop_line (others server names)) ++ plan.recovery)))
-        ≡ (n >>= λ name. t >>= λ tried. Some ((plan.setup ++ take line plan.tried ++ fuse_line name write torn ∷ tried ∷ map stop_line (others server names)) ++ plan.recovery))
-    by None is t at = refl
-    by (Some name) is None at = refl
-    by (Some name) is (Some tried) at =
-        let whole = λ (l : List ℕ). is_unbroken l ≡ true in
-        let fuse = step-unbroken (StopAfter name write (torn_word torn)) (fuse-written name write torn (name_at names server name fit is) few) in
-        let middle = All-cons whole (fuse_line name write torn) (tried ∷ map stop_line (others server names)) fuse (All-cons whole tried (map stop_line (others server names)) (line_at plan.tried line tried are.tried at) (stops_whole (others server names) (others_fit server names fit))) in
-        let front = All-append whole plan.setup (take line plan.tried) are.setup (All-take whole line plan.tried are.tried) in
-        let all = All-append whole (plan.setup ++ take line plan.tried ++ fuse_line name write torn ∷ tried ∷ map stop_line (others server names)) plan.recovery (All-append whole (plan.setup ++ take line plan.tried) (fuse_line name write torn ∷ tried ∷ map stop_line (others server names)) front middle) are.recovery in
-        ap Some (lines-text ((plan.setup ++ take line plan.tried ++ fuse_line name write torn ∷ tried ∷ map stop_line (others server names)) ++ plan.recovery) all)
-
-pub gap-read : (plan : Sweep) (names : List Name) (line : ℕ) → IsSweep plan → All (λ name. name_fits name ≡ true) names → option_map lines (option_map text_of (gap_lines plan names line)) ≡ gap_lines plan names line
-gap-read plan names line are fit = by (nat_le line (length plan.tried))
-  where
-    by : (b : Bool) → option_map lines (option_map text_of (cond b (Some (plan.setup ++ take line plan.tried ++ map stop_line names ++ plan.recovery)) None)) ≡ cond b (Some (plan.setup ++ take line plan.tried ++ map stop_line names ++ plan.recovery)) None
-    by false = refl
-    by true =
-        let whole = λ (l : List ℕ). is_unbroken l ≡ true in
-        let front = All-append whole plan.setup (take line plan.tried) are.setup (All-take whole line plan.tried are.tried) in
-        let stopped = All-append whole (plan.setup ++ take line plan.tried) (map stop_line names) front (stops_whole names fit) in
-        ap Some (lines-text (plan.setup ++ take line plan.tried ++ map stop_line names ++ plan.recovery) (All-append whole (plan.setup ++ take line plan.tried ++ map stop_line names) plan.recovery stopped are.recovery))
 
 -- the steps of lines in two parts, of which the second begins with line k
 tasks_both : (number k : ℕ) (a b : List (List ℕ)) → k ≡ number + length a → tasks_from number (a ++ b) ≡ tasks_from number a ++ tasks_from k b
@@ -79,7 +59,7 @@ stops_read number (name ∷ names) fit =
     ap (λ ts. ts ++ tasks_from (number + 1) (map stop_line names)) (ap (tasks_read number) (reads (Stop name) (stop-written name (fit 0 name (omega arith)))))
     ∙ ap (λ ts. task number (Ok (Stop name)) ∷ ts) (stops_read (number + 1) names (All-drop (λ name. name_fits name ≡ true) 1 (name ∷ names) fit))
 
--- two lines and more between what stands before and behind
+-- two lines and more between what stands before and after
 pieces : (front stops last : List (List ℕ)) (fuse tried : List ℕ) (m n k j : ℕ) → m ≡ length front + 1 → n ≡ m + 1 → k ≡ m + 2 → j ≡ k + length stops
     → tasks_from 1 ((front ++ fuse ∷ tried ∷ stops) ++ last) ≡ (tasks_from 1 front ++ (tasks_of m fuse ++ tasks_of n tried) ++ tasks_from k stops) ++ tasks_from j last
 pieces front stops last fuse tried m n k j em en ek ej =
@@ -91,42 +71,42 @@ pieces front stops last fuse tried m n k j em en ek ej =
     ∙ sym (append_assoc (tasks_of m fuse) (tasks_of n tried) (tasks_from k stops)))
     ∙ sym (append_assoc (tasks_from 1 front) (tasks_of m fuse ++ tasks_of n tried) (tasks_from k stops)))
 
-front_length : (setup tried : List (List ℕ)) (line : ℕ) → line ≤ length tried → length (setup ++ take line tried) ≡ length setup + line
-front_length setup tried line within = grind (arith, common_steps)
+front_length : (setup : List (List ℕ)) (tried : List Tried) (place : ℕ) → place ≤ length tried → length (setup ++ texts (take place tried)) ≡ length setup + place
+front_length setup tried place within = grind (arith, common_steps)
 
-cut_tasks : (plan : Sweep) (names : List Name) (line server write : ℕ) (torn : Torn) → All (λ name. name_fits name ≡ true) names → write < 2 ^ 32
-    → option_map (tasks_from 1) (cut_lines plan names line server write torn) ≡ cut_steps plan names line server write torn
-cut_tasks plan names line server write torn fit few = by (slice_get names server) refl (slice_get plan.tried line) refl
+cut_tasks : (plan : Sweep) (names : List Name) (place server write : ℕ) (torn : Torn) → All (λ name. name_fits name ≡ true) names → write < 2 ^ 32
+    → option_map (tasks_from 1) (cut_lines plan names place server write torn) ≡ cut_steps plan names place server write torn
+cut_tasks plan names place server write torn fit few = by (slice_get names server) refl (slice_get plan.tried place) refl
   where
-    by : (n : Option Name) → slice_get names server ≡ n → (t : Option (List ℕ)) → slice_get plan.tried line ≡ t
-        → option_map (tasks_from 1) (n >>= λ name. t >>= λ tried. Some ((plan.setup ++ take line plan.tried ++ fuse_line name write torn ∷ tried ∷ map stop_line (others server names)) ++ plan.recovery))
-        ≡ (n >>= λ name. t >>= λ tried. Some (tasks_from 1 (plan.setup ++ take line plan.tried) ++ task (length plan.setup + line + 1) (Ok (StopAfter name write (torn_word torn))) ∷ tasks_of (length plan.setup + line + 2) tried ++ stop_steps (length plan.setup + line + 3) (others server names)
-        ++ tasks_from (length plan.setup + line + 3 + length (others server names)) plan.recovery))
+    by : (n : Option Name) → slice_get names server ≡ n → (t : Option Tried) → slice_get plan.tried place ≡ t
+        → option_map (tasks_from 1) (n >>= λ name. t >>= λ tried. Some ((lines_before plan place ++ fuse_line name write torn ∷ tried.text ∷ map stop_line (others server names)) ++ plan.recovery))
+        ≡ (n >>= λ name. t >>= λ tried. Some (tasks_from 1 (lines_before plan place) ++ task (length plan.setup + place + 1) (Ok (StopAfter name write (torn_word torn))) ∷ tasks_of (length plan.setup + place + 2) tried.text ++ stop_steps (length plan.setup + place + 3) (others server names)
+        ++ tasks_from (length plan.setup + place + 3 + length (others server names)) plan.recovery))
     by None is t at = refl
     by (Some name) is None at = refl
     by (Some name) is (Some tried) at =
-        let b : ℕ = length plan.setup + line in
+        let b : ℕ = length plan.setup + place in
         let o = others server names in
-        let front = plan.setup ++ take line plan.tried in
-        let within = slice_get_within plan.tried line tried at in
-        let size : length front ≡ b = front_length plan.setup plan.tried line (omega arith) in
+        let front = lines_before plan place in
+        let within = slice_get_within plan.tried place tried at in
+        let size : length front ≡ b = front_length plan.setup plan.tried place (omega arith) in
         let count : length (map stop_line o) ≡ length o = grind (arith, common_steps) in
         let fuse = reads (StopAfter name write (torn_word torn)) (fuse-written name write torn (name_at names server name fit is) few) in
         ap Some
-        (pieces front (map stop_line o) plan.recovery (fuse_line name write torn) tried (b + 1) (b + 2) (b + 3) (b + 3 + length o) (omega (arith, size)) (omega arith) (omega arith) (omega (arith, count))
-        ∙ (λ i. (tasks_from 1 front ++ (tasks_read (b + 1) (fuse i) ++ tasks_of (b + 2) tried) ++ stops_read (b + 3) o (others_fit server names fit) i) ++ tasks_from (b + 3 + length o) plan.recovery))
+        (pieces front (map stop_line o) plan.recovery (fuse_line name write torn) tried.text (b + 1) (b + 2) (b + 3) (b + 3 + length o) (omega (arith, size)) (omega arith) (omega arith) (omega (arith, count))
+        ∙ (λ i. (tasks_from 1 front ++ (tasks_read (b + 1) (fuse i) ++ tasks_of (b + 2) tried.text) ++ stops_read (b + 3) o (others_fit server names fit) i) ++ tasks_from (b + 3 + length o) plan.recovery))
 
-gap_tasks : (plan : Sweep) (names : List Name) (line : ℕ) → All (λ name. name_fits name ≡ true) names → option_map (tasks_from 1) (gap_lines plan names line) ≡ gap_steps plan names line
-gap_tasks plan names line fit = by (nat_le line (length plan.tried)) refl
+gap_tasks : (plan : Sweep) (names : List Name) (place : ℕ) → All (λ name. name_fits name ≡ true) names → option_map (tasks_from 1) (gap_lines plan names place) ≡ gap_steps plan names place
+gap_tasks plan names place fit = by (nat_le place (length plan.tried)) refl
   where
-    by : (b : Bool) → nat_le line (length plan.tried) ≡ b
-        → option_map (tasks_from 1) (cond b (Some (plan.setup ++ take line plan.tried ++ map stop_line names ++ plan.recovery)) None)
-        ≡ cond b (Some (tasks_from 1 (plan.setup ++ take line plan.tried) ++ stop_steps (length plan.setup + line + 1) names ++ tasks_from (length plan.setup + line + 1 + length names) plan.recovery)) None
+    by : (b : Bool) → nat_le place (length plan.tried) ≡ b
+        → option_map (tasks_from 1) (cond b (Some (lines_before plan place ++ map stop_line names ++ plan.recovery)) None)
+        ≡ cond b (Some (tasks_from 1 (lines_before plan place) ++ stop_steps (length plan.setup + place + 1) names ++ tasks_from (length plan.setup + place + 1 + length names) plan.recovery)) None
     by false e = refl
     by true e =
-        let b : ℕ = length plan.setup + line in
-        let front = plan.setup ++ take line plan.tried in
-        let size : length front ≡ b = front_length plan.setup plan.tried line (grind (arith, nat_tests, e)) in
+        let b : ℕ = length plan.setup + place in
+        let front = lines_before plan place in
+        let size : length front ≡ b = front_length plan.setup plan.tried place (grind (arith, nat_tests, e)) in
         let count : length (front ++ map stop_line names) ≡ length front + length names = grind (arith, common_steps) in
         ap Some
         (tasks_both 1 (b + 1 + length names) (front ++ map stop_line names) plan.recovery (omega (arith, size, count))
@@ -137,11 +117,13 @@ tasks_lines : (script : Option (List ℕ)) → option_map tasks script ≡ optio
 tasks_lines None = refl
 tasks_lines (Some text) = refl
 
-pub cut-steps : (plan : Sweep) (names : List Name) (line server write : ℕ) (torn : Torn) (script : Option (List ℕ)) → IsSweep plan → All (λ name. name_fits name ≡ true) names → write < 2 ^ 32
-    → script ≡ option_map text_of (cut_lines plan names line server write torn) → option_map tasks script ≡ cut_steps plan names line server write torn
-cut-steps plan names line server write torn script are fit few is =
-    tasks_lines script ∙ ap (λ s. option_map (tasks_from 1) (option_map lines s)) is ∙ ap (option_map (tasks_from 1)) (cut-read plan names line server write torn are fit few) ∙ cut_tasks plan names line server write torn fit few
+pub cut-steps : (plan : Sweep) (names : List Name) (place server write : ℕ) (torn : Torn) (script : Option (List ℕ)) → All (λ name. name_fits name ≡ true) names → write < 2 ^ 32
+    → option_map lines script ≡ cut_lines plan names place server write torn → option_map tasks script ≡ cut_steps plan names place server write torn
+cut-steps plan names place server write torn script fit few read = tasks_lines script ∙ ap (option_map (tasks_from 1)) read ∙ cut_tasks plan names place server write torn fit few
 
-pub gap-steps : (plan : Sweep) (names : List Name) (line : ℕ) (script : Option (List ℕ)) → IsSweep plan → All (λ name. name_fits name ≡ true) names → script ≡ option_map text_of (gap_lines plan names line) → option_map tasks script ≡ gap_steps plan names line
-gap-steps plan names line script are fit is =
-    tasks_lines script ∙ ap (λ s. option_map (tasks_from 1) (option_map lines s)) is ∙ ap (option_map (tasks_from 1)) (gap-read plan names line are fit) ∙ gap_tasks plan names line fit
+pub gap-steps : (plan : Sweep) (names : List Name) (place : ℕ) (script : Option (List ℕ)) → All (λ name. name_fits name ≡ true) names → option_map lines script ≡ gap_lines plan names place → option_map tasks script ≡ gap_steps plan names place
+gap-steps plan names place script fit read = tasks_lines script ∙ ap (option_map (tasks_from 1)) read ∙ gap_tasks plan names place fit
+
+-- the lines of the calm run
+pub calm-read : (plan : Sweep) → IsSweep plan → lines (text_of (calm_lines plan)) ≡ calm_lines plan
+calm-read plan are = lines-text (calm_lines plan) (All-append (λ l. is_unbroken l ≡ true) plan.setup (texts plan.tried) are.setup (texts_whole plan.tried are.tried))

@@ -1,20 +1,22 @@
 -- The lines of a text have no line feeds, and lines that are written with their ends are the lines of their text.
-use Rattle.std.proofs.Common.{ℕ, zero, suc, ◌≡◌, ◌-◌, List, [], ◌∷◌, ◌++◌, length, take, refl, ap, sym, ◌∙◌, subst, arith, append_assoc, Bool, true, false, not, ◌⊎◌, inl, inr, cond, nat_eq}
+use Rattle.std.proofs.Common.{ℕ, zero, suc, ◌≡◌, ◌+◌, ◌-◌, List, [], ◌∷◌, ◌++◌, length, map, take, refl, ap, sym, ◌∙◌, subst, arith, append_assoc, Bool, true, false, not, ◌⊎◌, inl, inr, cond, nat_eq, Some}
 use Rattle.std.specs.Prelude.{◌==◌, All, slice_index}
-use Rattle.std.specs.List.{flat_map, onto_first, slice_split}
+use Rattle.std.specs.List.{onto_first, slice_split}
 use Rattle.std.specs.Str.Lines.{lines, lines_of_parts, strip_carriage_return}
 use Rattle.std.proofs.lemmas.Bool.{and_parts, and_from, cases_Bool, not-true}
 use Rattle.std.proofs.lemmas.Bool.Decides.{nat_tests}
 use Rattle.std.proofs.lemmas.Grind.{common_steps}
+use Rattle.std.proofs.lemmas.List.{append-nil}
 use Rattle.std.proofs.lemmas.List.Concat.{flat_map-cons}
-use Rattle.std.proofs.lemmas.List.Elements.{All-nil, All-cons, All-append, All-drop}
+use Rattle.std.proofs.lemmas.List.Elements.{All-nil, All-cons, All-drop}
 use Rattle.std.proofs.lemmas.List.Splits.{slice_split_at, length-slice_split}
-use Rattle.dr_plan.specs.Parts.{IsSweep, IsPlan}
+use Rattle.dr_plan.specs.declared.marks.Mark.TheVariants.{Lose}
+use Rattle.dr_plan.specs.Parts.{IsSweep, IsPlan, IsRead, use_mark, bound_marks}
 use Rattle.dr_plan.specs.Points.{text_of, with_end}
-use Rattle.dr_plan.specs.Reading.{taken_apart}
-use Rattle.dr_plan.specs.Sweep.{Sweep, is_unbroken}
-use Rattle.dr_plan.proofs.ApartLemmas.{stand-apart}
-use Rattle.dr_plan.proofs.LineLemmas.{before-parts}
+use Rattle.dr_plan.specs.Sweep.{Sweep, Tried, is_unbroken}
+use Rattle.dr_plan.proofs.ApartLemmas.{apart-whole}
+use Rattle.dr_io.proofs.LineLemmas.{before-parts}
+use Rattle.dr_plan.proofs.FitLemmas.{loses-fit}
 use Rattle.dr_plan.proofs.PrintLemmas.{unbroken-append}
 
 -- the front of a line
@@ -57,37 +59,32 @@ lines_whole (x ∷ y ∷ more) all =
 text_whole : (text : List ℕ) → All (λ l. is_unbroken l ≡ true) (lines text)
 text_whole text = lines_whole (slice_split (λ b. b == 10) text) (parts_whole text)
 
--- what is tried for lines
-apart_whole : (between : List (List ℕ)) → All (λ l. is_unbroken l ≡ true) between → All (λ l. is_unbroken l ≡ true) (flat_map taken_apart between)
-apart_whole [] all = all
-apart_whole (line ∷ rest) all =
-    let s = stand-apart line in
-    subst (All (λ l. is_unbroken l ≡ true)) (sym (flat_map-cons taken_apart line rest))
-    (All-append (λ l. is_unbroken l ≡ true) (taken_apart line) (flat_map taken_apart rest) (s.unbroken (all 0 line (omega arith))) (apart_whole rest (All-drop (λ l. is_unbroken l ≡ true) 1 (line ∷ rest) all)))
-
 -- two parts of a list
-first_of : (xs ys : List (List ℕ)) → All (λ l. is_unbroken l ≡ true) (xs ++ ys) → All (λ l. is_unbroken l ≡ true) xs
-first_of [] ys all = All-nil (λ l. is_unbroken l ≡ true)
-first_of (x ∷ xs) ys all = All-cons (λ l. is_unbroken l ≡ true) x xs (all 0 x (omega arith)) (first_of xs ys (All-drop (λ l. is_unbroken l ≡ true) 1 (x ∷ xs ++ ys) all))
+first_all : (P : List ℕ → Type 0) (xs ys : List (List ℕ)) → All P (xs ++ ys) → All P xs
+first_all P [] ys all = All-nil P
+first_all P (x ∷ xs) ys all = All-cons P x xs (all 0 x (omega arith)) (first_all P xs ys (All-drop P 1 (x ∷ xs ++ ys) all))
 
-second_of : (xs ys : List (List ℕ)) → All (λ l. is_unbroken l ≡ true) (xs ++ ys) → All (λ l. is_unbroken l ≡ true) ys
-second_of [] ys all = all
-second_of (x ∷ xs) ys all = second_of xs ys (All-drop (λ l. is_unbroken l ≡ true) 1 (x ∷ xs ++ ys) all)
+second_all : (P : List ℕ → Type 0) (xs ys : List (List ℕ)) → All P (xs ++ ys) → All P ys
+second_all P [] ys all = all
+second_all P (x ∷ xs) ys all = second_all P xs ys (All-drop P 1 (x ∷ xs ++ ys) all)
 
 pub plan-sweep : (text : List ℕ) (plan : Sweep) → IsPlan (lines text) plan → IsSweep plan
 plan-sweep text plan p =
     let all = subst (All (λ l. is_unbroken l ≡ true)) p.cut (text_whole text) in
-    let front = first_of (plan.setup ++ p.begin ∷ p.between) (p.end ∷ plan.recovery) all in
-    let back = second_of (plan.setup ++ p.begin ∷ p.between) (p.end ∷ plan.recovery) all in
-    let middle = second_of plan.setup (p.begin ∷ p.between) front in
+    let front = first_all (λ l. is_unbroken l ≡ true) (plan.setup ++ p.begin ∷ p.between) (p.end ∷ plan.recovery) all in
+    let back = second_all (λ l. is_unbroken l ≡ true) (plan.setup ++ p.begin ∷ p.between) (p.end ∷ plan.recovery) all in
+    let middle = second_all (λ l. is_unbroken l ≡ true) plan.setup (p.begin ∷ p.between) front in
+    let read = All-drop IsRead 1 (p.begin ∷ p.between) (second_all IsRead plan.setup (p.begin ∷ p.between) (first_all IsRead (plan.setup ++ p.begin ∷ p.between) (p.end ∷ plan.recovery) (subst (All IsRead) p.cut p.read))) in
     let t = p.tries in
     let s = p.setup in
     record {
       some_lost = s.some_lost;
       few_lost = s.few_lost;
+      fit = loses-fit plan.setup plan.loses (map use_mark s.used ++ bound_marks plan.bound) (s.marks ∙ ap (map Some) (append_assoc (map Lose plan.loses) (map use_mark s.used) (bound_marks plan.bound)));
+      few_used = s.few_used;
+      setup = first_all (λ l. is_unbroken l ≡ true) plan.setup (p.begin ∷ p.between) front;
+      tried = subst (All (λ (t : Tried). is_unbroken t.text ≡ true)) (sym t.apart) (apart-whole (length plan.setup + 2) p.between read (All-drop (λ l. is_unbroken l ≡ true) 1 (p.begin ∷ p.between) middle));
       one = t.one;
-      setup = first_of plan.setup (p.begin ∷ p.between) front;
-      tried = subst (All (λ l. is_unbroken l ≡ true)) (sym t.apart) (apart_whole p.between (All-drop (λ l. is_unbroken l ≡ true) 1 (p.begin ∷ p.between) middle));
       recovery = All-drop (λ l. is_unbroken l ≡ true) 1 (p.end ∷ plan.recovery) back;
     }
 
@@ -101,7 +98,7 @@ cut_line line rest e =
     let more = length-slice_split (λ (b : ℕ). b == 10) rest in
     ap lines_of_parts (slice_split_at (λ b. b == 10) line 10 rest (no_feeds line e) refl) ∙ before-parts line (slice_split (λ b. b == 10) rest) (omega (arith, more))
 
--- a carriage return behind a line is dropped
+-- a carriage return after a line is dropped
 returned : (line : List ℕ) → strip_carriage_return (line ++ 13 ∷ []) ≡ line
 returned line =
     let last : slice_index (line ++ 13 ∷ []) (length (line ++ 13 ∷ []) - 1) ≡ 13 = grind (arith, common_steps) in
@@ -123,6 +120,9 @@ line_ended line rest e = by (cases_Bool (slice_index line (length line - 1) == 1
         ∙ ap lines (append_assoc line (10 ∷ []) rest)
         ∙ cut_line line rest e
         ∙ ap (λ b. cond b (take (length line - 1) line) line ∷ lines rest) is
+
+pub line-text : (line : List ℕ) → is_unbroken line ≡ true → lines (with_end line) ≡ line ∷ []
+line-text line e = ap lines (sym (append-nil (with_end line))) ∙ line_ended line [] e
 
 pub lines-text : (ls : List (List ℕ)) → All (λ l. is_unbroken l ≡ true) ls → lines (text_of ls) ≡ ls
 lines-text [] all = refl

@@ -10,11 +10,12 @@ use Rattle.dr_model.specs.LineText.{step_text}
 use Rattle.dr_model.specs.LineWords.{◌>>=◌}
 use Rattle.dr_model.specs.Lines.{task, tasks_of, tasks_from}
 use Rattle.dr_model.specs.Runs.{Task}
+use Rattle.dr_plan.specs.declared.points.PlanPlace.{PlanPlace}
 use Rattle.dr_plan.specs.declared.points.Torn.{Torn}
 use Rattle.dr_plan.specs.declared.points.Torn.TheVariants.{Unchanged, Zeros, Ones}
 use Rattle.dr_plan.specs.declared.points.Point.{Point}
 use Rattle.dr_plan.specs.declared.points.Point.TheVariants.{Cut, Gap}
-use Rattle.dr_plan.specs.Sweep.{Sweep}
+use Rattle.dr_plan.specs.Sweep.{Sweep, Tried, texts}
 
 -- `none`, `00` and `01`
 abbrev pub torn_word : Torn → TornWord
@@ -30,51 +31,59 @@ stop_line server = step_text (Stop server)
 abbrev pub fuse_line : Name → ℕ → Torn → List ℕ
 fuse_line server writes torn = step_text (StopAfter server writes (torn_word torn))
 
--- the servers but the one at that place
+-- the servers except the one at that place
 abbrev pub others : ℕ → List Name → List Name
 others server names = take server names ++ drop (server + 1) names
 
--- a stop within a tried line: it comes behind those before it, with the server's fuse armed, and then the other servers are lost
-abbrev pub cut_lines : Sweep → List Name → ℕ → ℕ → ℕ → Torn → Option (List (List ℕ))
-cut_lines plan names line server write torn =
-    slice_get names server >>= λ name. slice_get plan.tried line >>= λ tried.
-    Some (plan.setup ++ take line plan.tried ++ fuse_line name write torn ∷ tried ∷ map stop_line (others server names) ++ plan.recovery)
+-- the lines of the set-up, and the first tried steps, that many
+abbrev pub lines_before : Sweep → ℕ → List (List ℕ)
+lines_before plan place = plan.setup ++ texts (take place plan.tried)
 
--- a stop behind so many tried lines
+-- the lines of the calm run: the set-up and all tried steps
+abbrev pub calm_lines : Sweep → List (List ℕ)
+calm_lines plan = plan.setup ++ texts plan.tried
+
+-- a stop within a tried step: it comes after those before it, with the server's fuse armed, and then the other servers are lost
+abbrev pub cut_lines : Sweep → List Name → ℕ → ℕ → ℕ → Torn → Option (List (List ℕ))
+cut_lines plan names place server write torn =
+    slice_get names server >>= λ name. slice_get plan.tried place >>= λ tried.
+    Some (lines_before plan place ++ fuse_line name write torn ∷ tried.text ∷ map stop_line (others server names) ++ plan.recovery)
+
+-- a stop after that many tried steps
 abbrev pub gap_lines : Sweep → List Name → ℕ → Option (List (List ℕ))
-gap_lines plan names line =
-    if nat_le line (length plan.tried) then Some (plan.setup ++ take line plan.tried ++ map stop_line names ++ plan.recovery) else None
+gap_lines plan names place =
+    if nat_le place (length plan.tried) then Some (lines_before plan place ++ map stop_line names ++ plan.recovery) else None
 
 -- the steps that stop servers at once, in lines from that number on
 abbrev pub stop_steps : ℕ → List Name → List Task
 stop_steps number [] = []
 stop_steps number (name ∷ names) = task number (Ok (Stop name)) ∷ stop_steps (number + 1) names
 
--- the steps of a stop within a tried line, with the numbers of their lines
+-- the steps of a stop within a tried step, with the numbers of their lines
 abbrev pub cut_steps : Sweep → List Name → ℕ → ℕ → ℕ → Torn → Option (List Task)
-cut_steps plan names line server write torn =
-    slice_get names server >>= λ name. slice_get plan.tried line >>= λ tried.
-    let before : ℕ = length plan.setup + line in
-    Some (tasks_from 1 (plan.setup ++ take line plan.tried) ++ task (before + 1) (Ok (StopAfter name write (torn_word torn))) ∷ tasks_of (before + 2) tried ++ stop_steps (before + 3) (others server names)
+cut_steps plan names place server write torn =
+    slice_get names server >>= λ name. slice_get plan.tried place >>= λ tried.
+    let before : ℕ = length plan.setup + place in
+    Some (tasks_from 1 (lines_before plan place) ++ task (before + 1) (Ok (StopAfter name write (torn_word torn))) ∷ tasks_of (before + 2) tried.text ++ stop_steps (before + 3) (others server names)
     ++ tasks_from (before + 3 + length (others server names)) plan.recovery)
 
--- the steps of a stop behind so many tried lines
+-- the steps of a stop after that many tried steps
 abbrev pub gap_steps : Sweep → List Name → ℕ → Option (List Task)
-gap_steps plan names line =
-    let before : ℕ = length plan.setup + line in
-    if nat_le line (length plan.tried)
-    then Some (tasks_from 1 (plan.setup ++ take line plan.tried) ++ stop_steps (before + 1) names ++ tasks_from (before + 1 + length names) plan.recovery)
+gap_steps plan names place =
+    let before : ℕ = length plan.setup + place in
+    if nat_le place (length plan.tried)
+    then Some (tasks_from 1 (lines_before plan place) ++ stop_steps (before + 1) names ++ tasks_from (before + 1 + length names) plan.recovery)
     else None
 
 -- the lines of the script of a point; none where the plan has no such point
 unfoldable pub lines_at : Sweep → Point → Option (List (List ℕ))
-lines_at plan (Cut disaster line server write torn) = slice_get plan.loses disaster >>= λ names. cut_lines plan names line server write torn
-lines_at plan (Gap disaster line) = slice_get plan.loses disaster >>= λ names. gap_lines plan names line
+lines_at plan (Cut disaster place server write torn) = slice_get plan.loses disaster >>= λ names. cut_lines plan names place server write torn
+lines_at plan (Gap disaster place) = slice_get plan.loses disaster >>= λ names. gap_lines plan names place
 
 -- the steps of the script of a point
 unfoldable pub steps_at : Sweep → Point → Option (List Task)
-steps_at plan (Cut disaster line server write torn) = slice_get plan.loses disaster >>= λ names. cut_steps plan names line server write torn
-steps_at plan (Gap disaster line) = slice_get plan.loses disaster >>= λ names. gap_steps plan names line
+steps_at plan (Cut disaster place server write torn) = slice_get plan.loses disaster >>= λ names. cut_steps plan names place server write torn
+steps_at plan (Gap disaster place) = slice_get plan.loses disaster >>= λ names. gap_steps plan names place
 
 -- a line with its line feed; before it, a carriage return that is the line's own is kept by a second one
 abbrev pub with_end : List ℕ → List ℕ
@@ -87,3 +96,11 @@ text_of lines = flat_map with_end lines
 -- the script of a point
 abbrev pub script_of : Sweep → Point → Option (List ℕ)
 script_of plan point = option_map text_of (lines_at plan point)
+
+-- the script of the calm run
+abbrev pub calm_script : Sweep → List ℕ
+calm_script plan = text_of (calm_lines plan)
+
+-- the place of a tried step in the plan
+abbrev pub tried_place : Tried → PlanPlace
+tried_place t = record { line = t.line; part = t.part }

@@ -1,11 +1,9 @@
-use thiserror::Error;
+use crate::reason::Reason;
 
 /// Why a text gave no plan.
-#[derive(Debug, Clone, Copy, PartialEq, Eq, Error)]
+#[derive(Clone, Copy)]
 pub enum PlanFault {
-    #[error("no memory")]
     NoMemory,
-    /// The first bad line, counted from 1; where a line is missing, the number behind the last one.
-    #[error("bad plan line {line}")]
-    BadLine { line: usize },
+    /// The first bad line, counted from 1, and why it is bad; where a line is missing, the number after the last one.
+    BadLine { line: usize, reason: Reason },
 }

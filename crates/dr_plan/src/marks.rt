@@ -1,12 +1,13 @@
 //! What a line of a plan says that begins with `#sweep`.
 
-ghost use Rattle.std.specs.Prelude.{◌≡◌, [], map, IfOk};
-ghost use Rattle.dr_plan.specs.Marks.{is_mark, lose_said, use_said, bound_said, alone, mark_said, mark_in, mark_of};
+ghost use Rattle.std.specs.Prelude.{◌≡◌, ◌∷◌, [], map, IfOk};
+ghost use Rattle.dr_plan.specs.Marks.{is_mark, lose_said, ranges_said, use_said, bound_said, alone, mark_said, mark_in, mark_of};
 
 use crate::names::{Disaster, read_names};
-use crate::ranges::{Pairs, read_pairs};
+use crate::ranges::read_span;
 use crate::words::{is_word, words};
-use dr_script::read_decimal;
+use dr_model::{Name, Span};
+use dr_script::{read_decimal, read_name};
 use std::alloc::{AllocError, Global};
 
 /// What such a line says.
@@ -14,14 +15,16 @@ use std::alloc::{AllocError, Global};
 pub(crate) enum Mark {
     /// These servers are lost at once.
     Lose(Disaster),
-    /// The first volume of each pair is used in place of the second.
-    Use(Pairs),
+    /// After the recovery the host uses the volumes of the first range in place of those of the second.
+    Use(Option<Name>, Span, Span),
     /// More lost writes are a finding.
     AtMost(u32),
     /// From here on each line is tried.
     Here,
     /// From here on stands the recovery.
     Then,
+    /// In the next line a refusal is announced.
+    Refused,
 }
 
 /// The line is one of the plan's own.
@@ -44,21 +47,34 @@ fn read_lose(alloc: Global, words: &[&[u8]]) -> Result<Option<Mark>, AllocError>
     }
 }
 
-/// `use RANGE for RANGE`
-fn read_use(alloc: Global, words: &[&[u8]]) -> Result<Option<Mark>, AllocError>
-    ensures { IfOk result (λ mark. mark ≡ use_said (map (λ word. word.now) words.now)) }
+/// `RANGE for RANGE`, under a name or none.
+fn read_ranges(name: Option<Name>, first: &[u8], between: &[u8], second: &[u8]) -> Option<Mark>
+    ensures { result ≡ ranges_said name first.now between.now second.now }
+{
+    if !is_word(between, b"for") {
+        return None;
+    }
+    let first = read_span(first)?;
+    let second = read_span(second)?;
+    Some(Mark::Use(name, first, second))
+}
+
+/// `RANGE for RANGE` under the name that a word says.
+fn read_named(word: &[u8], first: &[u8], between: &[u8], second: &[u8]) -> Option<Mark>
+    ensures { result ≡ use_said (word.now ∷ first.now ∷ between.now ∷ second.now ∷ []) }
+{
+    let name = read_name(word)?;
+    read_ranges(Some(name), first, between, second)
+}
+
+/// `use RANGE for RANGE`, or `use NAME RANGE for RANGE`
+fn read_use(words: &[&[u8]]) -> Option<Mark>
+    ensures { result ≡ use_said (map (λ word. word.now) words.now) }
 {
     match words {
-        [first, between, second] => {
-            if !is_word(between, b"for") {
-                return Ok(None);
-            }
-            match read_pairs(alloc, first, second)? {
-                Some(pairs) => Ok(Some(Mark::Use(pairs))),
-                None => Ok(None),
-            }
-        }
-        _ => Ok(None),
+        [first, between, second] => read_ranges(None, first, between, second),
+        [word, first, between, second] => read_named(word, first, between, second),
+        _ => None,
     }
 }
 
@@ -78,14 +94,14 @@ fn read_bound(words: &[&[u8]]) -> Option<Mark>
     }
 }
 
-/// A word with nothing behind it.
+/// A word with nothing after it.
 fn alone(mark: Mark, words: &[&[u8]]) -> Option<Mark>
     ensures { result ≡ alone mark (map (λ word. word.now) words.now) }
 {
     if words.is_empty() { Some(mark) } else { None }
 }
 
-/// What the words behind `#sweep` say.
+/// What the words after `#sweep` say.
 fn read_said(alloc: Global, words: &[&[u8]]) -> Result<Option<Mark>, AllocError>
     ensures { IfOk result (λ mark. mark ≡ mark_said (map (λ word. word.now) words.now)) }
 {
@@ -94,13 +110,15 @@ fn read_said(alloc: Global, words: &[&[u8]]) -> Result<Option<Mark>, AllocError>
             if is_word(word, b"lose") {
                 read_lose(alloc, rest)
             } else if is_word(word, b"use") {
-                read_use(alloc, rest)
+                Ok(read_use(rest))
             } else if is_word(word, b"at") {
                 Ok(read_bound(rest))
             } else if is_word(word, b"here") {
                 Ok(alone(Mark::Here, rest))
             } else if is_word(word, b"then") {
                 Ok(alone(Mark::Then, rest))
+            } else if is_word(word, b"refused") {
+                Ok(alone(Mark::Refused, rest))
             } else {
                 Ok(None)
             }

@@ -1,17 +1,20 @@
 //! Names of servers that are lost at once.
 
-ghost use Rattle.std.specs.Prelude.{◌≡◌, [], map, Some, None, true, IfOk, All};
+ghost use Rattle.std.specs.Prelude.{◌≡◌, [], map, true, IfOk, All};
 ghost use Rattle.std.specs.Str.{bytes_eq};
 ghost use Rattle.dr_model.specs.LineText.{name_text, name_fits};
-ghost use Rattle.dr_plan.specs.Marks.{is_among, names_onto};
+ghost use Rattle.dr_plan.specs.Above.{is_among};
+ghost use Rattle.dr_plan.specs.Marks.{names_said};
+ghost use Rattle.dr_plan.specs.Reading.{servers_fault};
 
+use crate::reason::Reason;
 use crate::words::is_word;
 use dr_model::Name;
 use dr_script::read_name;
 use std::alloc::{AllocError, Global};
 use std::marker::Model;
 
-/// The servers that a disaster takes, each of which comes once.
+/// The servers that a disaster takes.
 #[derive(Drop)]
 pub struct Disaster {
     servers: Vec<Name>,
@@ -59,19 +62,32 @@ fn is_among(name: &Name, names: &[Name]) -> bool
     names.iter().any(|other| is_same_name(other, name))
 }
 
-/// The servers that words name; none where a word is no name, or names a server twice.
+/// The servers that words name; none where a word is no name.
 pub(crate) fn read_names(alloc: Global, words: &[&[u8]]) -> Result<Option<Disaster>, AllocError>
-    ensures { IfOk result (λ read. read ≡ names_onto [] (map (λ word. word.now) words.now)) }
+    ensures { IfOk result (λ read. read ≡ names_said (map (λ word. word.now) words.now)) }
 {
     let mut servers = Vec::new(alloc);
     for word in words {
         let Some(name) = read_name(word) else {
             return Ok(None);
         };
-        if is_among(&name, &servers) {
-            return Ok(None);
-        }
         servers.push(name)?;
     }
     Ok(Some(Disaster { servers }))
+}
+
+/// The first fault of a disaster's names: one that comes twice, or is none of the servers that are known.
+pub(crate) fn servers_fault(known: &[Name], names: &[Name]) -> Option<Reason>
+    ensures { result ≡ servers_fault known.now [] names.now }
+{
+    for i in 0..names.len() {
+        let name = &names[i];
+        if is_among(name, &names[..i]) {
+            return Some(Reason::ServerTwice(*name));
+        }
+        if !is_among(name, known) {
+            return Some(Reason::UnknownServer(*name));
+        }
+    }
+    None
 }

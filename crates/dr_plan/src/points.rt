@@ -1,16 +1,15 @@
-//! The points of a sweep, and their scripts.
+//! The points of a sweep, and the lines of their scripts.
 
 ghost use Rattle.std.specs.Prelude.{◌≡◌, ◌++◌, ◌≤◌, ◌<◌, ◌+◌, map, take, length, OnOk, IfOk, Some, None, true, All};
 ghost use Rattle.std.specs.List.{slice_get};
-ghost use Rattle.std.specs.Option.{option_copied, option_map};
+ghost use Rattle.std.specs.Option.{option_copied};
 ghost use Rattle.std.specs.Str.Lines.{lines};
 ghost use Rattle.dr_model.specs.LineText.{name_fits};
-ghost use Rattle.dr_model.specs.Lines.{tasks};
-ghost use Rattle.dr_plan.specs.Parts.{IsSweep};
-ghost use Rattle.dr_plan.specs.Points.{torn_word, stop_line, fuse_line, others, cut_lines, gap_lines, lines_at, cut_steps, gap_steps, steps_at, with_end, text_of, script_of};
+ghost use Rattle.dr_plan.specs.Points.{torn_word, stop_line, fuse_line, others, lines_before, calm_lines, with_end, text_of, calm_script};
+ghost use Rattle.dr_plan.specs.Sweep.{texts};
 
 use crate::names::Disaster;
-use crate::plan::{Draft, SweepPlan};
+use crate::plan::{Draft, SweepPlan, Tried};
 use dr_ids::Text;
 use dr_model::{Name, Step, TornWord};
 use dr_script::print_step;
@@ -27,23 +26,32 @@ pub enum Torn {
     Ones,
 }
 
-/// A place of a plan at which a disaster comes. All places are counted from 0.
+/// A place of a plan at which a disaster comes. All places are counted from 0, those of tried steps in all that are tried.
 #[derive(Clone, Copy)]
 pub enum Point {
-    /// In a tried line: after so many device writes in it one of a server of the disaster is cut short, and behind the
-    /// line the disaster's other servers are lost.
+    /// In a tried step: after that many device writes in it one of a server of the disaster is cut short, and after the
+    /// step the disaster's other servers are lost.
     Cut {
         disaster: usize,
-        line: usize,
+        place: usize,
         server: usize,
         write: u32,
         torn: Torn,
     },
-    /// Behind so many tried lines all servers of the disaster are lost.
+    /// After that many tried steps all servers of the disaster are lost.
     Gap {
         disaster: usize,
-        line: usize,
+        place: usize,
     },
+}
+
+/// A line of a plan, or a part of one.
+#[derive(Clone, Copy)]
+pub struct PlanPlace {
+    /// The number of the line, counted from 1.
+    pub line: usize,
+    /// The place among the steps of the line, counted from 1; 0 where it is the whole line.
+    pub part: usize,
 }
 
 fn torn_word(torn: Torn) -> TornWord
@@ -57,7 +65,7 @@ fn torn_word(torn: Torn) -> TornWord
 }
 
 /// Adds a line, which ends so that it reads as it is.
-fn push_end(text: &mut Text, line: &[u8]) -> Result<(), AllocError>
+pub(crate) fn push_end(text: &mut Text, line: &[u8]) -> Result<(), AllocError>
     ensures { OnOk result (text.new ≡ text.old ++ with_end line.now) }
 {
     text.append(line)?;
@@ -68,7 +76,7 @@ fn push_end(text: &mut Text, line: &[u8]) -> Result<(), AllocError>
 }
 
 /// Adds lines.
-fn push_lines(text: &mut Text, lines: &[Text]) -> Result<(), AllocError>
+pub(crate) fn push_lines(text: &mut Text, lines: &[Text]) -> Result<(), AllocError>
     ensures { OnOk result (text.new ≡ text.old ++ text_of lines.now) }
 {
     for line in lines {
@@ -87,7 +95,7 @@ fn push_stop(alloc: Global, text: &mut Text, server: &Name) -> Result<(), AllocE
 }
 
 /// Adds the lines that stop servers at once.
-fn push_stops(alloc: Global, text: &mut Text, servers: &[Name]) -> Result<(), AllocError>
+pub(crate) fn push_stops(alloc: Global, text: &mut Text, servers: &[Name]) -> Result<(), AllocError>
     requires { All (λ name. name_fits name ≡ true) servers.now }
     ensures { OnOk result (text.new ≡ text.old ++ text_of (map stop_line servers.now)) }
 {
@@ -98,7 +106,7 @@ fn push_stops(alloc: Global, text: &mut Text, servers: &[Name]) -> Result<(), Al
 }
 
 /// Adds the line that arms a server's fuse.
-fn push_fuse(
+pub(crate) fn push_fuse(
     alloc: Global,
     text: &mut Text,
     server: &Name,
@@ -117,8 +125,18 @@ fn push_fuse(
     push_end(text, line.bytes())
 }
 
-/// Adds the lines that stop all servers at once but the one at that place.
-fn push_others(
+/// Adds the lines of steps that are tried.
+fn push_texts(text: &mut Text, tried: &[Tried]) -> Result<(), AllocError>
+    ensures { OnOk result (text.new ≡ text.old ++ text_of (texts tried.now)) }
+{
+    for step in tried {
+        push_end(text, step.text())?;
+    }
+    Ok(())
+}
+
+/// Adds the lines that stop all servers at once except the one at that place.
+pub(crate) fn push_others(
     alloc: Global,
     text: &mut Text,
     servers: &[Name],
@@ -132,112 +150,52 @@ fn push_others(
     push_stops(alloc, text, &servers[server + 1..])
 }
 
-/// The lines of the setup, and so many tried ones.
-fn front(alloc: Global, plan: &Draft, line: usize) -> Result<Text, AllocError>
-    requires { line ≤ length plan.now.tried }
-    ensures { IfOk result (λ text. text ≡ text_of (plan.now.setup ++ take line plan.now.tried)) }
+/// The lines of the set-up, and the first tried steps, that many.
+pub(crate) fn front(alloc: Global, plan: &Draft, place: usize) -> Result<Text, AllocError>
+    requires { place ≤ length plan.now.tried }
+    ensures { IfOk result (λ text. text ≡ text_of (lines_before plan.now place)) }
 {
     let mut text = Text::new(alloc);
     push_lines(&mut text, &plan.setup)?;
-    push_lines(&mut text, &plan.tried[..line])?;
+    push_texts(&mut text, &plan.tried[..place])?;
     Ok(text)
 }
 
 /// The disaster at a place.
-fn lost_at(plan: &Draft, disaster: usize) -> Option<&Disaster>
+pub(crate) fn lost_at(plan: &Draft, disaster: usize) -> Option<&Disaster>
     ensures { option_copied result ≡ slice_get plan.now.loses disaster }
 {
     plan.loses.get(disaster)
 }
 
 /// The server at a place.
-fn server_at(servers: &[Name], server: usize) -> Option<&Name>
+pub(crate) fn server_at(servers: &[Name], server: usize) -> Option<&Name>
     ensures { option_copied result ≡ slice_get servers.now server }
 {
     servers.get(server)
 }
 
-/// The tried line at a place.
-fn tried_at(plan: &Draft, line: usize) -> Option<&Text>
-    ensures { option_copied result ≡ slice_get plan.now.tried line }
+/// The tried step at a place.
+pub(crate) fn tried_at(plan: &Draft, place: usize) -> Option<&Tried>
+    ensures { option_copied result ≡ slice_get plan.now.tried place }
 {
-    plan.tried.get(line)
+    plan.tried.get(place)
 }
 
-/// The script in which a tried line is cut short.
-fn cut_script(
-    alloc: Global,
-    plan: &Draft,
-    servers: &[Name],
-    line: usize,
-    server: usize,
-    write: u32,
-    torn: Torn,
-) -> Result<Option<Text>, AllocError>
-    requires fit { All (λ name. name_fits name ≡ true) servers.now }
-    requires sweep { IsSweep plan.now }
-    ensures text { IfOk result (λ script. script ≡ option_map text_of (cut_lines plan.now servers.now line server write torn)) }
-    ensures lines { IfOk result (λ script. option_map lines script ≡ cut_lines plan.now servers.now line server write torn) }
-    ensures steps { IfOk result (λ script. option_map tasks script ≡ cut_steps plan.now servers.now line server write torn) }
+/// The lines of the set-up, and all tried steps.
+fn calm_text(alloc: Global, plan: &Draft) -> Result<Text, AllocError>
+    ensures { IfOk result (λ text. text ≡ text_of (calm_lines plan.now)) }
 {
-    let Some(name) = server_at(servers, server) else {
-        return Ok(None);
-    };
-    let Some(tried) = tried_at(plan, line) else {
-        return Ok(None);
-    };
-    let mut text = front(alloc, plan, line)?;
-    push_fuse(alloc, &mut text, name, write, torn)?;
-    push_end(&mut text, tried.bytes())?;
-    push_others(alloc, &mut text, servers, server)?;
-    push_lines(&mut text, &plan.recovery)?;
-    Ok(Some(text))
+    let mut text = Text::new(alloc);
+    push_lines(&mut text, &plan.setup)?;
+    push_texts(&mut text, &plan.tried)?;
+    Ok(text)
 }
 
-/// The script in which all servers are lost behind so many tried lines.
-fn gap_script(
-    alloc: Global,
-    plan: &Draft,
-    servers: &[Name],
-    line: usize,
-) -> Result<Option<Text>, AllocError>
-    requires fit { All (λ name. name_fits name ≡ true) servers.now }
-    requires sweep { IsSweep plan.now }
-    ensures text { IfOk result (λ script. script ≡ option_map text_of (gap_lines plan.now servers.now line)) }
-    ensures lines { IfOk result (λ script. option_map lines script ≡ gap_lines plan.now servers.now line) }
-    ensures steps { IfOk result (λ script. option_map tasks script ≡ gap_steps plan.now servers.now line) }
+/// The script of the calm run: the set-up and all tried steps, without a disaster. Fails where there is no memory.
+pub fn calm_script(alloc: Global, plan: &SweepPlan) -> Result<Text, AllocError>
+    ensures text { IfOk result (λ script. script ≡ calm_script plan.now) }
+    ensures lines { IfOk result (λ script. lines script ≡ calm_lines plan.now) }
 {
-    if plan.tried.len() < line {
-        return Ok(None);
-    }
-    let mut text = front(alloc, plan, line)?;
-    push_stops(alloc, &mut text, servers)?;
-    push_lines(&mut text, &plan.recovery)?;
-    Ok(Some(text))
-}
-
-/// The script of a point; none where the plan has no such point. Fails where there is no memory.
-#[tactic(auto, unfolding(crate::specs::Points::lines_at, crate::specs::Points::steps_at))]
-pub fn script_at(alloc: Global, plan: &SweepPlan, point: Point) -> Result<Option<Text>, AllocError>
-    ensures text { IfOk result (λ script. script ≡ script_of plan.now point) }
-    ensures lines { IfOk result (λ script. option_map lines script ≡ lines_at plan.now point) }
-    ensures steps { IfOk result (λ script. option_map tasks script ≡ steps_at plan.now point) }
-{
-    let plan = plan.draft();
-    match point {
-        Point::Cut {
-            disaster,
-            line,
-            server,
-            write,
-            torn,
-        } => match lost_at(plan, disaster) {
-            Some(lost) => cut_script(alloc, plan, lost.servers(), line, server, write, torn),
-            None => Ok(None),
-        },
-        Point::Gap { disaster, line } => match lost_at(plan, disaster) {
-            Some(lost) => gap_script(alloc, plan, lost.servers(), line),
-            None => Ok(None),
-        },
-    }
+    calm_text(alloc, plan.draft())
 }

@@ -1,36 +1,15 @@
 //! Ranges of volumes, and the pairs of two.
 
-ghost use Rattle.std.specs.Prelude.{◌≡◌, ◌<◌, ◌++◌, ◌+◌, length, OnOk, IfOk, IfSome};
-ghost use Rattle.dr_plan.specs.Marks.{pairs_said};
+ghost use Rattle.std.specs.Prelude.{◌≡◌, ◌<◌, ◌++◌, ◌+◌, [], length, OnOk, IfOk, IfSome};
 ghost use Rattle.dr_model.specs.LineWords.{mark_at, before, behind, span_between, span_word, span_len, paired};
+ghost use Rattle.dr_plan.specs.Above.{tracks_of};
+ghost use Rattle.dr_plan.specs.Reading.{sizes_fault, pair_fault, pairs_fault};
 
+use crate::above::{VolumeSize, tracks_of};
+use crate::reason::Reason;
 use dr_ids::{VOLUMES_OF_LSS, VolumeId, read_volume};
 use dr_model::{Item, Span};
 use std::alloc::{AllocError, Global};
-use std::marker::Model;
-
-/// Pairs of volumes.
-#[derive(Drop)]
-pub(crate) struct Pairs {
-    items: Vec<Item>,
-}
-
-impl Model for Pairs {
-    ghost use Rattle.std.specs.Prelude.{List};
-    ghost use Rattle.dr_model.specs.declared.grammar.Item.{Item};
-
-    ghost Value = { List Item };
-
-    ghost view = { λ p. p.items.items };
-}
-
-impl Pairs {
-    pub(crate) fn items(&self) -> &[Item]
-        ensures { result.now ≡ self.now }
-    {
-        &self.items
-    }
-}
 
 /// The place of the first dash of a word.
 fn find_dash(word: &[u8]) -> Option<usize>
@@ -48,7 +27,7 @@ fn before(word: &[u8], place: usize) -> &[u8]
     &word[..place]
 }
 
-/// The bytes of a word behind the byte at a place.
+/// The bytes of a word after the byte at a place.
 fn behind(word: &[u8], place: usize) -> &[u8]
     requires { place < length word.now }
     ensures { result.now ≡ behind place word.now }
@@ -71,7 +50,7 @@ fn span_between(low: VolumeId, high: VolumeId) -> Option<Span>
 }
 
 /// One volume, or two with a dash between them.
-fn read_span(word: &[u8]) -> Option<Span>
+pub(crate) fn read_span(word: &[u8]) -> Option<Span>
     ensures { result ≡ span_word word.now }
 {
     match find_dash(word) {
@@ -91,7 +70,7 @@ fn read_span(word: &[u8]) -> Option<Span>
 }
 
 /// How many volumes a range has.
-fn span_len(span: Span) -> u32
+pub(crate) fn span_len(span: Span) -> u32
     ensures { result ≡ span_len span }
 {
     (u32::from(span.high) + 1).saturating_sub(u32::from(span.low))
@@ -111,24 +90,50 @@ fn push_pairs(pairs: &mut Vec<Item>, a: Span, b: Span) -> Result<(), AllocError>
     Ok(())
 }
 
-/// The pairs of the ranges that two words name; none where they aren't of equal length.
-pub(crate) fn read_pairs(
-    alloc: Global,
-    first: &[u8],
-    second: &[u8],
-) -> Result<Option<Pairs>, AllocError>
-    ensures { IfOk result (λ pairs. pairs ≡ pairs_said first.now second.now) }
+/// The pairs of two ranges of equal length.
+pub(crate) fn paired(alloc: Global, a: Span, b: Span) -> Result<Vec<Item>, AllocError>
+    requires { span_len a ≡ span_len b }
+    ensures { IfOk result (λ pairs. pairs.items ≡ paired a b) }
 {
-    let Some(a) = read_span(first) else {
-        return Ok(None);
-    };
-    let Some(b) = read_span(second) else {
-        return Ok(None);
-    };
-    if span_len(a) != span_len(b) {
-        return Ok(None);
+    let mut pairs = Vec::new(alloc);
+    push_pairs(&mut pairs, a, b)?;
+    Ok(pairs)
+}
+
+/// The fault of two volumes, by how many tracks lines above give them.
+fn sizes_fault(first: u16, second: u16, a: Option<u32>, b: Option<u32>) -> Option<Reason>
+    ensures { result ≡ sizes_fault first second a b }
+{
+    match (a, b) {
+        (None, _) => Some(Reason::UnknownVolume(first)),
+        (Some(_), None) => Some(Reason::UnknownVolume(second)),
+        (Some(m), Some(n)) => {
+            if m == n {
+                None
+            } else {
+                Some(Reason::OtherSize(first, second))
+            }
+        }
     }
-    let mut items = Vec::new(alloc);
-    push_pairs(&mut items, a, b)?;
-    Ok(Some(Pairs { items }))
+}
+
+/// The fault of a pair: a volume that no line above defines, or two volumes of different sizes.
+fn pair_fault(sizes: &[VolumeSize], pair: Item) -> Option<Reason>
+    ensures { result ≡ pair_fault sizes.now pair }
+{
+    let first = tracks_of(sizes, pair.first);
+    let second = tracks_of(sizes, pair.second);
+    sizes_fault(pair.first, pair.second, first, second)
+}
+
+/// The first fault of pairs.
+pub(crate) fn pairs_fault(sizes: &[VolumeSize], pairs: &[Item]) -> Option<Reason>
+    ensures { result ≡ pairs_fault sizes.now pairs.now }
+{
+    for pair in pairs {
+        if let Some(reason) = pair_fault(sizes, *pair) {
+            return Some(reason);
+        }
+    }
+    None
 }

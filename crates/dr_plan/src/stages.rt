@@ -1,18 +1,19 @@
 //! The order in which the lines of a plan's own stand.
 
-ghost use Rattle.std.specs.Prelude.{◌≡◌, Some, None};
-ghost use Rattle.dr_plan.specs.Reading.{stage_after};
+ghost use Rattle.std.specs.Prelude.{◌≡◌};
+ghost use Rattle.dr_plan.specs.Reading.{stage_after, announces, lacking};
 
 use crate::marks::Mark;
+use crate::reason::{Lack, Reason};
 
 /// How far a plan is.
 #[derive(Clone, Copy)]
-pub(crate) enum Stage {
+pub enum Stage {
     /// Nothing is said yet.
     Start,
     /// A disaster was named.
     Losing,
-    /// Volumes were named that are used behind the recovery.
+    /// Volumes were named that are used after the recovery.
     Using,
     /// The bound was named.
     Bounded,
@@ -22,7 +23,7 @@ pub(crate) enum Stage {
     Recovering,
 }
 
-/// How far it is behind this line; none where the line can't stand here.
+/// How far it is after this line; none where the line can't stand here.
 pub(crate) fn stage_after(mark: &Mark, stage: Stage) -> Option<Stage>
     ensures { result ≡ stage_after mark.now stage }
 {
@@ -31,7 +32,7 @@ pub(crate) fn stage_after(mark: &Mark, stage: Stage) -> Option<Stage>
             Stage::Start | Stage::Losing => Some(Stage::Losing),
             _ => None,
         },
-        Mark::Use(_) => match stage {
+        Mark::Use(_, _, _) => match stage {
             Stage::Losing | Stage::Using => Some(Stage::Using),
             _ => None,
         },
@@ -47,5 +48,29 @@ pub(crate) fn stage_after(mark: &Mark, stage: Stage) -> Option<Stage>
             Stage::Trying => Some(Stage::Recovering),
             _ => None,
         },
+        Mark::Refused => Some(stage),
+    }
+}
+
+/// Whether the line announces a refusal in the next one.
+pub(crate) fn announces(mark: &Mark) -> bool
+    ensures { result ≡ announces mark.now }
+{
+    match mark {
+        Mark::Refused => true,
+        _ => false,
+    }
+}
+
+/// What is missing after the last line.
+pub(crate) fn lacking(stage: Stage) -> Option<Reason>
+    ensures { result ≡ lacking stage }
+{
+    match stage {
+        Stage::Start => Some(Reason::Missing(Lack::Lose)),
+        Stage::Losing => Some(Reason::Missing(Lack::Use)),
+        Stage::Using | Stage::Bounded => Some(Reason::Missing(Lack::Here)),
+        Stage::Trying => Some(Reason::Missing(Lack::Then)),
+        Stage::Recovering => None,
     }
 }

@@ -6,10 +6,10 @@ use Rattle.std.proofs.lemmas.List.Folds.{flat_map-map}
 use Rattle.std.proofs.lemmas.List.FromFn.{map-range_with_len_more}
 
 -- a text with what is said of one number more, which is k
-pub said-more : (f : ℕ → List ℕ) (text : List ℕ) (a n k : ℕ) → a + n ≡ k → (text ++ flat_map f (range_with_len a n)) ++ f k ≡ text ++ flat_map f (range_with_len a (n + 1))
-said-more f text a n k is =
+pub said-more : {X : Type 0} (f : ℕ → List X) (text : List X) (a n k : ℕ) → a + n ≡ k → (text ++ flat_map f (range_with_len a n)) ++ f k ≡ text ++ flat_map f (range_with_len a (n + 1))
+said-more {X} f text a n k is =
     let id : ℕ → ℕ = λ x. x in
-    let before : List ℕ = flat_map f (range_with_len a n) in
+    let before : List X = flat_map f (range_with_len a n) in
     let more : flat_map f (range_with_len a (n + 1)) ≡ before ++ f k =
     sym (flat_map-map f id (range_with_len a (n + 1)))
     ∙ (ap (flat_map f) (map-range_with_len_more id a n k is)

@@ -1,11 +1,14 @@
--- Which rows are findings.
-use Rattle.std.specs.Prelude.{ℕ, Bool, ◌&&◌, ◌||◌, true, false, not, List, nat_lt, Option, Some, None, Result, Ok, Err}
-use Rattle.std.specs.List.{list_any}
+-- Which rows are findings, and what else is one.
+use Rattle.std.specs.Prelude.{ℕ, Bool, ◌+◌, ◌&&◌, ◌||◌, true, false, not, List, [], ◌∷◌, length, nat_eq, nat_lt, Option, Some, None, is_some, Result, Ok, Err, if◌then◌else◌}
+use Rattle.std.specs.List.{flat_map, list_any, range_with_len, slice_index_or}
 use Rattle.dr_model.specs.declared.step.Step.{Step}
 use Rattle.dr_model.specs.declared.step.Step.TheVariants.{Recover}
 use Rattle.dr_model.specs.Grammar.{line_of}
 use Rattle.dr_plan.specs.Sweep.{Sweep}
-use Rattle.dr_rows.specs.Outcome.{Outcome, has_group, is_broken, lost_count}
+use Rattle.dr_rows.specs.declared.row.Answer.{Answer}
+use Rattle.dr_rows.specs.Outcome.{Outcome, Loss, gives_group, has_group, lacks_members}
+use Rattle.dr_rows.specs.Calm.{Calm, is_announced, is_calm_finding}
+use Rattle.dr_rows.specs.Refusals.{answers_line, keeps_line}
 
 -- the step is an `@recover`
 abbrev pub is_recovery : Step → Bool
@@ -25,19 +28,65 @@ recovers line = recovers_in (line_of line)
 abbrev pub asks_recovery : Sweep → Bool
 asks_recovery plan = list_any recovers plan.recovery
 
--- so many lost writes are more than the bound, where there is one
+-- no group came back, though one was asked for
+abbrev pub has_no_group : Bool → Outcome → Bool
+has_no_group asks row = asks && not (has_group row)
+
+-- ---- rows
+
+-- that many lost writes are more than the bound, where there is one
 abbrev pub is_above : Option ℕ → ℕ → Bool
 is_above None n = false
 is_above (Some bound) n = nat_lt bound n
 
--- no group came back, though it was asked for
-abbrev pub lacks_group : Bool → Outcome → Bool
-lacks_group asks row = asks && not (has_group row)
+-- something is broken, or more is lost than the bound
+abbrev pub is_bad : Option ℕ → Loss → Bool
+is_bad bound loss = is_some loss.broken || is_above bound loss.count
 
--- the row is broken, or lacks a group, or loses more than the bound
-abbrev pub is_finding : Sweep → Bool → Outcome → Bool
-is_finding plan asks row = is_broken row || lacks_group asks row || is_above plan.bound (lost_count row)
+-- a refusal is announced in the line of the recovery at a place
+abbrev pub is_announced_at : Sweep → ℕ → Bool
+is_announced_at plan place = is_announced plan (plan.then_line + place + 1)
 
--- some row is a finding
-abbrev pub has_finding : Sweep → List Outcome → Bool
-has_finding plan rows = list_any (is_finding plan (asks_recovery plan)) rows
+-- an `@recover` stands in the line of the recovery at a place, and no refusal is announced there
+abbrev pub wants_group : Sweep → ℕ → Bool
+wants_group plan place = recovers (slice_index_or plan.recovery place []) && not (is_announced_at plan place)
+
+-- the number of that line in the recovery, if so
+abbrev pub wanted_at : Sweep → ℕ → List ℕ
+wanted_at plan place = if wants_group plan place then (place + 1) ∷ [] else []
+
+-- the lines of the recovery, counted from 1, whose `@recover` is to be answered with a group
+abbrev pub wanted : Sweep → List ℕ
+wanted plan = flat_map (wanted_at plan) (range_with_len 0 (length plan.recovery))
+
+-- the answer is of one of these lines
+abbrev pub is_of_one : List ℕ → Answer → Bool
+is_of_one numbers a = list_any (λ n. nat_eq a.line n) numbers
+
+-- it is, and has no group
+abbrev pub is_ungrouped : List ℕ → Answer → Bool
+is_ungrouped numbers a = is_of_one numbers a && not (gives_group a)
+
+-- some `@recover` of these lines wasn't answered with a group
+abbrev pub lacks_group : List ℕ → Outcome → Bool
+lacks_group numbers row = list_any (is_ungrouped numbers) row.answers
+
+-- one of its losses is bad, or it lacks a group, or fewer members count than the session has
+abbrev pub is_finding : Sweep → List ℕ → Outcome → Bool
+is_finding plan numbers row = list_any (is_bad plan.bound) row.losses || lacks_group numbers row || lacks_members row
+
+-- ---- lines of the recovery
+
+-- some row has an answer of the line of the recovery at a place, in none it is ok or held, and no refusal is announced there
+abbrev pub is_never_kept : Sweep → List Outcome → ℕ → Bool
+is_never_kept plan rows place = list_any (answers_line (place + 1)) rows && not (list_any (keeps_line (place + 1)) rows) && not (is_announced_at plan place)
+
+-- there is such a line
+abbrev pub has_never_kept : Sweep → List Outcome → Bool
+has_never_kept plan rows = list_any (is_never_kept plan rows) (range_with_len 0 (length plan.recovery))
+
+-- ---- all
+
+-- the calm run, a line of the recovery or a row is a finding
+abbrev pub has_finding : Sweep → Calm → List Outcome → Bool
+has_finding plan calm rows = is_calm_finding plan calm || has_never_kept plan rows || list_any (is_finding plan (wanted plan)) rows

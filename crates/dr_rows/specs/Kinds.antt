@@ -8,17 +8,11 @@ use Rattle.dr_lost.specs.declared.broken.Broken.{Broken}
 use Rattle.dr_model.specs.declared.step.Name.{Name}
 use Rattle.dr_model.specs.LineText.{name_text}
 use Rattle.dr_plan.specs.Sweep.{Sweep}
-use Rattle.dr_plan.specs.declared.points.Point.{Point}
-use Rattle.dr_plan.specs.declared.points.Point.TheVariants.{Cut, Gap}
-use Rattle.dr_rows.specs.Outcome.{Outcome, has_refusal, is_broken, lost_count}
-use Rattle.dr_rows.specs.Cells.{kind, write_said}
+use Rattle.dr_rows.specs.Outcome.{Outcome, broken_at, has_refusal, is_broken, lost_count}
+use Rattle.dr_rows.specs.Cells.{kind, use_head, write_said}
+use Rattle.dr_rows.specs.Line.{disaster_of}
 use Rattle.dr_rows.specs.Places.{most_lost}
 use Rattle.dr_rows.specs.Words.{point_words}
-
--- the disaster of a point
-abbrev pub disaster_of : Point → ℕ
-disaster_of (Cut disaster line server write torn) = disaster
-disaster_of (Gap disaster line) = disaster
 
 -- the rows of a disaster
 abbrev pub rows_of : ℕ → List Outcome → List Outcome
@@ -29,16 +23,16 @@ abbrev pub with_kind : List (List ℕ) → List ℕ → List (List ℕ)
 with_kind found said = if list_any (bytes_eq said) found then found else found ++ said ∷ []
 
 -- the kinds of rows, each once, in the order in which they first come
-unfoldable pub kinds : List Outcome → List (List ℕ)
-kinds rows = fold (λ found row. with_kind found (kind row)) [] rows
+unfoldable pub kinds : Bool → List Outcome → List (List ℕ)
+kinds asks rows = fold (λ found row. with_kind found (kind asks row)) [] rows
 
 -- the row is of a kind
-abbrev pub is_like : List ℕ → Outcome → Bool
-is_like said row = bytes_eq said (kind row)
+abbrev pub is_like : Bool → List ℕ → Outcome → Bool
+is_like asks said row = bytes_eq said (kind asks row)
 
 -- the rows of a kind
-abbrev pub rows_like : List ℕ → List Outcome → List Outcome
-rows_like said rows = filter (is_like said) rows
+abbrev pub rows_like : Bool → List ℕ → List Outcome → List Outcome
+rows_like asks said rows = filter (is_like asks said) rows
 
 -- a count and what is counted
 abbrev pub counted : ℕ → List ℕ → List ℕ
@@ -50,41 +44,41 @@ counts points most broken refused =
     codes ": " ++ counted points (codes " points, at most ") ++ counted most (codes " lost, ") ++ counted broken (codes " broken, ")
     ++ counted refused (codes " with refusals" ++ 10 ∷ [])
 
--- what is said of rows of one kind
-abbrev pub tally : List Outcome → List ℕ
-tally rows = counts (length rows) (most_lost rows) (count_by is_broken rows) (count_by has_refusal rows)
+-- what is said of rows of one kind, for the use at a place
+abbrev pub tally : ℕ → List Outcome → List ℕ
+tally which rows = counts (length rows) (most_lost which rows) (count_by (is_broken which) rows) (count_by has_refusal rows)
 
 -- the line of a kind
-abbrev pub kind_line : List Outcome → List ℕ → List ℕ
-kind_line rows said = codes "  " ++ said ++ tally (rows_like said rows)
+abbrev pub kind_line : Bool → ℕ → List Outcome → List ℕ → List ℕ
+kind_line asks which rows said = codes "  " ++ said ++ tally which (rows_like asks said rows)
 
 -- the words that show a point, at the end of a line
 unfoldable pub shown_by : Sweep → Outcome → List ℕ
 shown_by plan row = codes ", shown by: " ++ point_words plan row.point ++ 10 ∷ []
 
--- so many writes are lost, and some are
-abbrev pub loses_most : ℕ → Outcome → Bool
-loses_most most row = nat_lt 0 most && nat_eq (lost_count row) most
+-- that many writes are lost, and some are
+abbrev pub loses_most : ℕ → ℕ → Outcome → Bool
+loses_most which most row = nat_lt 0 most && nat_eq (lost_count which row) most
 
 -- the line of the worst point
-abbrev pub worst_said : Sweep → Outcome → List ℕ
-worst_said plan row = codes "  worst: " ++ decimal (lost_count row) ++ codes " lost" ++ shown_by plan row
+abbrev pub worst_said : Sweep → ℕ → Outcome → List ℕ
+worst_said plan which row = codes "  worst: " ++ decimal (lost_count which row) ++ codes " lost" ++ shown_by plan row
 
 -- the first row with the most lost writes, where some are lost
-abbrev pub worst_line : Sweep → List Outcome → List ℕ
-worst_line plan rows = option_map_or (worst_said plan) (find (loses_most (most_lost rows)) rows) []
+abbrev pub worst_line : Sweep → ℕ → List Outcome → List ℕ
+worst_line plan which rows = option_map_or (worst_said plan which) (find (loses_most which (most_lost which rows)) rows) []
 
 -- the line of a broken point
 abbrev pub break_said : Sweep → Outcome → Broken → List ℕ
 break_said plan row b = codes "  broken: " ++ write_said b.held ++ codes " is held and depends on " ++ write_said b.lost ++ codes ", which is lost" ++ shown_by plan row
 
 -- the same of a row
-abbrev pub broken_said_of : Sweep → Outcome → List ℕ
-broken_said_of plan row = option_map_or (break_said plan row) row.broken []
+abbrev pub broken_said_of : Sweep → ℕ → Outcome → List ℕ
+broken_said_of plan which row = option_map_or (break_said plan row) (broken_at which row) []
 
 -- the first broken row, where there is one
-abbrev pub broken_line : Sweep → List Outcome → List ℕ
-broken_line plan rows = option_map_or (broken_said_of plan) (find is_broken rows) []
+abbrev pub broken_line : Sweep → ℕ → List Outcome → List ℕ
+broken_line plan which rows = option_map_or (broken_said_of plan which) (find (is_broken which) rows) []
 
 -- the servers of a disaster
 abbrev pub servers_of : Sweep → ℕ → List Name
@@ -94,14 +88,18 @@ servers_of plan disaster = slice_index_or plan.loses disaster []
 unfoldable pub lost_at_once : List Name → List ℕ
 lost_at_once servers = codes "lost at once:" ++ flat_map (λ name. 32 ∷ name_text name) servers ++ 10 ∷ []
 
--- what is said of the rows of one disaster
-abbrev pub told : Sweep → List Outcome → List ℕ
-told plan rows = flat_map (kind_line rows) (kinds rows) ++ worst_line plan rows ++ broken_line plan rows
+-- what is said of the rows of one disaster, for the use at a place
+abbrev pub told : Sweep → Bool → List Outcome → ℕ → List ℕ
+told plan asks rows which = use_head plan which ++ flat_map (kind_line asks which rows) (kinds asks rows) ++ worst_line plan which rows ++ broken_line plan which rows
+
+-- the same for each use
+abbrev pub uses_told : Sweep → Bool → List Outcome → List ℕ
+uses_told plan asks rows = flat_map (told plan asks rows) (range_with_len 0 (length plan.uses))
 
 -- what is said of a disaster
-unfoldable pub disaster_told : Sweep → List Outcome → ℕ → List ℕ
-disaster_told plan rows disaster = lost_at_once (servers_of plan disaster) ++ told plan (rows_of disaster rows)
+unfoldable pub disaster_told : Sweep → Bool → List Outcome → ℕ → List ℕ
+disaster_told plan asks rows disaster = lost_at_once (servers_of plan disaster) ++ uses_told plan asks (rows_of disaster rows)
 
 -- what is said of all disasters
-unfoldable pub disasters_told : Sweep → List Outcome → List ℕ
-disasters_told plan rows = flat_map (disaster_told plan rows) (range_with_len 0 (length plan.loses))
+unfoldable pub disasters_told : Sweep → Bool → List Outcome → List ℕ
+disasters_told plan asks rows = flat_map (disaster_told plan asks rows) (range_with_len 0 (length plan.loses))

@@ -1,10 +1,11 @@
 pub mod Outcome
 pub mod Cells
+pub mod Words
 pub mod Line
+pub mod Calm
+pub mod Refusals
 pub mod Findings
 pub mod Places
-pub mod Words
 pub mod Kinds
-pub mod Refusals
 pub mod Strip
 pub mod Report

@@ -1,17 +1,19 @@
 //! The cells of a row.
 
 ghost use Rattle.std.specs.Prelude.{◌≡◌, ◌++◌, nat_eq, codes, find, OnOk, IfOk};
+ghost use Rattle.dr_ids.specs.Spelling.{hex2};
 ghost use Rattle.std.specs.List.{flat_map, list_any};
 ghost use Rattle.std.specs.Option.{option_copied};
 ghost use Rattle.dr_rows.specs.Outcome.{groups_in, is_refused};
-ghost use Rattle.dr_rows.specs.Cells.{listed, group_said, decision_said, group_cell, decision_cell, kind_of, kind, quoted, server_name, torn_cell, first_lost_cell, broken_cell, refused_count, first_refused_cell};
-ghost use Rattle.dr_model.specs.Text.{one_number, two_numbers, decision_text};
+ghost use Rattle.dr_rows.specs.Cells.{listed, group_said, decision_said, group_cell, decision_cell, no_group, kind_of, kind, quoted, server_name, name_at, use_name, torn_cell, phase_said, members_said, write_said, newest_cell, more_said, least_cell, broken_cell, refused_count, first_refused_cell, is_named, names_uses, use_head};
+ghost use Rattle.dr_model.specs.Text.{one_number, two_numbers, decision_text, phase_word};
 
-use crate::pieces::{name_bytes, push_number, push_write};
-use crate::row::{Answer, Row, gives_group, is_refused};
-use dr_ids::Text;
+use crate::pieces::{push_number, push_sum, push_write};
+use crate::row::{Answer, Loss, Members, Row, SessionPhase, gives_group, is_refused};
+use dr_ids::{Text, upper_hex};
 use dr_lost::Broken;
-use dr_plan::{SweepPlan, Torn};
+use dr_model::Name;
+use dr_plan::{SweepPlan, Torn, Use, name_bytes};
 use std::alloc::{AllocError, Global};
 
 /// The answers of a row that have a group.
@@ -92,7 +94,7 @@ fn push_decision_said(text: &mut Text, a: Answer) -> Result<(), AllocError>
     }
 }
 
-/// Adds the groups of answers, each behind a space.
+/// Adds the groups of answers, each after a space.
 fn push_more_groups(text: &mut Text, more: &[Answer]) -> Result<(), AllocError>
     ensures { OnOk result (text.new ≡ text.old ++ flat_map (λ a. codes " " ++ group_said a) more.now) }
 {
@@ -116,7 +118,7 @@ fn push_groups(text: &mut Text, found: &[Answer]) -> Result<(), AllocError>
     }
 }
 
-/// Adds the decisions of answers, each behind a space.
+/// Adds the decisions of answers, each after a space.
 fn push_more_decisions(text: &mut Text, more: &[Answer]) -> Result<(), AllocError>
     ensures { OnOk result (text.new ≡ text.old ++ flat_map (λ a. codes " " ++ decision_said a) more.now) }
 {
@@ -140,12 +142,23 @@ fn push_decisions(text: &mut Text, found: &[Answer]) -> Result<(), AllocError>
     }
 }
 
+/// What is said where no group came back, by whether one was asked for.
+pub fn no_group(asks: bool) -> &'static [u8]
+    ensures { result.now ≡ no_group asks }
+{
+    if asks {
+        b"no group"
+    } else {
+        b"no session asked"
+    }
+}
+
 /// Adds what came back.
-fn push_kind_of(text: &mut Text, found: &[Answer]) -> Result<(), AllocError>
-    ensures { OnOk result (text.new ≡ text.old ++ kind_of found.now) }
+fn push_kind_of(text: &mut Text, asks: bool, found: &[Answer]) -> Result<(), AllocError>
+    ensures { OnOk result (text.new ≡ text.old ++ kind_of asks found.now) }
 {
     if found.is_empty() {
-        return text.append(b"no group");
+        return text.append(no_group(asks));
     }
     text.append(b"group ")?;
     push_groups(text, found)?;
@@ -155,11 +168,11 @@ fn push_kind_of(text: &mut Text, found: &[Answer]) -> Result<(), AllocError>
 
 /// What came back at a point.
 #[tactic(auto, unfolding(crate::specs::Cells::kind))]
-pub(crate) fn kind(alloc: Global, row: &Row) -> Result<Text, AllocError>
-    ensures { IfOk result (λ said. said ≡ kind row.now) }
+pub(crate) fn kind(alloc: Global, asks: bool, row: &Row) -> Result<Text, AllocError>
+    ensures { IfOk result (λ said. said ≡ kind asks row.now) }
 {
     let mut said = Text::new(alloc);
-    push_kind_of(&mut said, &groups_in(alloc, row)?)?;
+    push_kind_of(&mut said, asks, &groups_in(alloc, row)?)?;
     Ok(said)
 }
 
@@ -221,14 +234,168 @@ pub(crate) fn torn_cell(torn: Torn) -> &'static [u8]
     }
 }
 
-/// Adds the first of some lost writes, or a dash.
-pub(crate) fn push_first_lost(text: &mut Text, lost: &[u32]) -> Result<(), AllocError>
-    ensures { OnOk result (text.new ≡ text.old ++ first_lost_cell lost.now) }
+/// The use at a place has this name.
+fn name_at(plan: &SweepPlan, which: usize) -> Option<Name>
+    ensures { result ≡ name_at plan.now which }
 {
-    match lost {
-        [] => text.append(b"-"),
-        [w, ..] => push_write(text, *w),
+    match plan.uses().get(which) {
+        None => None,
+        Some(of) => of.name(),
     }
+}
+
+/// Adds the name of the use at a place, or a dash.
+pub(crate) fn push_use_name(
+    text: &mut Text,
+    plan: &SweepPlan,
+    which: usize,
+) -> Result<(), AllocError>
+    ensures { OnOk result (text.new ≡ text.old ++ use_name plan.now which) }
+{
+    match name_at(plan, which) {
+        None => text.append(b"-"),
+        Some(name) => text.append(name_bytes(&name)),
+    }
+}
+
+/// The word of a phase by its place.
+fn phase_word(phase: u8) -> &'static [u8]
+    ensures { result.now ≡ phase_word phase }
+{
+    match phase {
+        0 => b"none",
+        1 => b"Idle",
+        2 => b"Coordinating",
+        3 => b"Releasing",
+        4 => b"Draining",
+        5 => b"Flashing",
+        6 => b"Committing",
+        7 => b"Reverting",
+        8 => b"Finishing",
+        9 => b"Lost",
+        _ => b"",
+    }
+}
+
+/// Adds a session in two hexadecimal digits.
+fn push_session(text: &mut Text, session: u8) -> Result<(), AllocError>
+    ensures { OnOk result (text.new ≡ text.old ++ hex2 session) }
+{
+    text.append(&[upper_hex(session / 16), upper_hex(session % 16)])
+}
+
+/// Adds a session and the phase of its master.
+fn push_phase(text: &mut Text, p: SessionPhase) -> Result<(), AllocError>
+    ensures { OnOk result (text.new ≡ text.old ++ phase_said p) }
+{
+    push_session(text, p.session)?;
+    text.append(b":")?;
+    text.append(phase_word(p.phase))
+}
+
+/// Adds the phases of sessions, each after a space.
+fn push_more_phases(text: &mut Text, more: &[SessionPhase]) -> Result<(), AllocError>
+    ensures { OnOk result (text.new ≡ text.old ++ flat_map (λ p. codes " " ++ phase_said p) more.now) }
+{
+    for p in more {
+        text.append(b" ")?;
+        push_phase(text, *p)?;
+    }
+    Ok(())
+}
+
+/// Adds the phases of sessions, or a dash.
+pub(crate) fn push_phase_list(text: &mut Text, found: &[SessionPhase]) -> Result<(), AllocError>
+    ensures { OnOk result (text.new ≡ text.old ++ listed phase_said found.now) }
+{
+    match found {
+        [] => text.append(b"-"),
+        [first, more @ ..] => {
+            push_phase(text, *first)?;
+            push_more_phases(text, more)
+        }
+    }
+}
+
+/// Adds how many members count, and how many there are.
+fn push_members(text: &mut Text, m: Members) -> Result<(), AllocError>
+    ensures { OnOk result (text.new ≡ text.old ++ members_said m) }
+{
+    push_number(text, m.counted)?;
+    text.append(b"/")?;
+    push_number(text, m.all)
+}
+
+/// Adds the members of sessions, each after a space.
+fn push_more_members(text: &mut Text, more: &[Members]) -> Result<(), AllocError>
+    ensures { OnOk result (text.new ≡ text.old ++ flat_map (λ m. codes " " ++ members_said m) more.now) }
+{
+    for m in more {
+        text.append(b" ")?;
+        push_members(text, *m)?;
+    }
+    Ok(())
+}
+
+/// Adds the members of sessions, or a dash.
+pub(crate) fn push_member_list(text: &mut Text, found: &[Members]) -> Result<(), AllocError>
+    ensures { OnOk result (text.new ≡ text.old ++ listed members_said found.now) }
+{
+    match found {
+        [] => text.append(b"-"),
+        [first, more @ ..] => {
+            push_members(text, *first)?;
+            push_more_members(text, more)
+        }
+    }
+}
+
+/// Adds the newest write, or a dash.
+pub(crate) fn push_newest(text: &mut Text, newest: Option<u32>) -> Result<(), AllocError>
+    ensures { OnOk result (text.new ≡ text.old ++ newest_cell newest) }
+{
+    match newest {
+        None => text.append(b"-"),
+        Some(w) => push_write(text, w),
+    }
+}
+
+/// Adds writes, each after a space.
+fn push_more_writes(text: &mut Text, more: &[u32]) -> Result<(), AllocError>
+    ensures { OnOk result (text.new ≡ text.old ++ flat_map (λ w. codes " " ++ write_said w) more.now) }
+{
+    for w in more {
+        text.append(b" ")?;
+        push_write(text, *w)?;
+    }
+    Ok(())
+}
+
+/// Adds writes, or a dash.
+fn push_writes(text: &mut Text, found: &[u32]) -> Result<(), AllocError>
+    ensures { OnOk result (text.new ≡ text.old ++ listed write_said found.now) }
+{
+    match found {
+        [] => text.append(b"-"),
+        [first, more @ ..] => {
+            push_write(text, *first)?;
+            push_more_writes(text, more)
+        }
+    }
+}
+
+fn more_said(more: bool) -> &'static [u8]
+    ensures { result.now ≡ more_said more }
+{
+    if more { b" .." } else { b"" }
+}
+
+/// Adds the least of the lost writes, or a dash.
+pub(crate) fn push_least(text: &mut Text, loss: &Loss) -> Result<(), AllocError>
+    ensures { OnOk result (text.new ≡ text.old ++ least_cell loss.now) }
+{
+    push_writes(text, loss.least())?;
+    text.append(more_said(loss.least().len() < loss.count()))
 }
 
 /// Adds the write that is held, and the lost one on which it depends, or a dash.
@@ -259,12 +426,51 @@ fn first_refused(answers: &[Answer]) -> Option<&Answer>
     answers.iter().find(|a| is_refused(**a))
 }
 
-/// Adds the line of the first refusal, or a dash.
-pub(crate) fn push_first_refused(text: &mut Text, answers: &[Answer]) -> Result<(), AllocError>
-    ensures { OnOk result (text.new ≡ text.old ++ first_refused_cell answers.now) }
+/// Adds the line of the first refusal, by its number in the plan, or a dash.
+pub(crate) fn push_first_refused(
+    text: &mut Text,
+    plan: &SweepPlan,
+    answers: &[Answer],
+) -> Result<(), AllocError>
+    ensures { OnOk result (text.new ≡ text.old ++ first_refused_cell plan.now answers.now) }
 {
     match first_refused(answers) {
         None => text.append(b"-"),
-        Some(a) => push_number(text, a.line as usize),
+        Some(a) => push_sum(text, plan.then_line(), a.line as usize),
     }
+}
+
+fn is_named(of: &Use) -> bool
+    ensures { result ≡ is_named of.now }
+{
+    of.name().is_some()
+}
+
+fn any_named(uses: &[Use]) -> bool
+    ensures { result ≡ list_any is_named uses.now }
+{
+    uses.iter().any(|of| is_named(of))
+}
+
+/// The plan has a use with a name, or more than one.
+fn names_uses(plan: &SweepPlan) -> bool
+    ensures { result ≡ names_uses plan.now }
+{
+    1 < plan.uses().len() || any_named(plan.uses())
+}
+
+/// Adds the line that stands before what is said of the use at a place, if the plan names uses.
+pub(crate) fn push_use_head(
+    text: &mut Text,
+    plan: &SweepPlan,
+    which: usize,
+) -> Result<(), AllocError>
+    ensures { OnOk result (text.new ≡ text.old ++ use_head plan.now which) }
+{
+    if !names_uses(plan) {
+        return Ok(());
+    }
+    text.append(b"use ")?;
+    push_use_name(text, plan, which)?;
+    text.append(b"\n")
 }

@@ -7,26 +7,18 @@ ghost use Rattle.std.specs.Str.{bytes_eq};
 ghost use Rattle.dr_model.specs.LineText.{name_text};
 ghost use Rattle.dr_rows.specs.Outcome.{has_refusal, is_broken};
 ghost use Rattle.dr_rows.specs.Places.{most_lost};
-ghost use Rattle.dr_rows.specs.Kinds.{disaster_of, rows_of, with_kind, kinds, is_like, rows_like, counted, counts, tally, kind_line, shown_by, loses_most, worst_said, worst_line, break_said, broken_said_of, broken_line, servers_of, lost_at_once, told, disaster_told};
+ghost use Rattle.dr_rows.specs.Kinds.{rows_of, with_kind, kinds, is_like, rows_like, counted, counts, tally, kind_line, shown_by, loses_most, worst_said, worst_line, break_said, broken_said_of, broken_line, servers_of, lost_at_once, told, uses_told, disaster_told, disasters_told};
 
-use crate::cells::kind;
-use crate::pieces::{name_bytes, push_number, push_write};
+use crate::cells::{kind, push_use_head};
+use crate::line::disaster_of;
+use crate::pieces::{push_number, push_write};
 use crate::row::Row;
 use crate::words::push_words;
 use dr_ids::Text;
 use dr_lost::Broken;
 use dr_model::Name;
-use dr_plan::{Point, SweepPlan};
+use dr_plan::{SweepPlan, name_bytes};
 use std::alloc::{AllocError, Global};
-
-fn disaster_of(point: Point) -> usize
-    ensures { result ≡ disaster_of point }
-{
-    match point {
-        Point::Cut { disaster, .. } => disaster,
-        Point::Gap { disaster, .. } => disaster,
-    }
-}
 
 /// The rows of a disaster.
 fn rows_of(alloc: Global, rows: &[Row], disaster: usize) -> Result<Vec<&Row>, AllocError>
@@ -64,52 +56,57 @@ fn add_kind(found: &mut Vec<Text>, said: Text) -> Result<(), AllocError>
 
 /// The kinds of rows, each once, in the order in which they first come.
 #[tactic(auto, unfolding(crate::specs::Kinds::kinds))]
-fn kinds(alloc: Global, rows: &[&Row]) -> Result<Vec<Text>, AllocError>
-    ensures { IfOk result (λ found. found.items ≡ kinds (map (λ row. row.now) rows.now)) }
+fn kinds(alloc: Global, asks: bool, rows: &[&Row]) -> Result<Vec<Text>, AllocError>
+    ensures { IfOk result (λ found. found.items ≡ kinds asks (map (λ row. row.now) rows.now)) }
 {
     let mut found = Vec::new(alloc);
     for row in rows {
-        add_kind(&mut found, kind(alloc, row)?)?;
+        add_kind(&mut found, kind(alloc, asks, row)?)?;
     }
     Ok(found)
 }
 
-fn is_like(alloc: Global, said: &[u8], row: &Row) -> Result<bool, AllocError>
-    ensures { IfOk result (λ like. like ≡ is_like said.now row.now) }
+fn is_like(alloc: Global, asks: bool, said: &[u8], row: &Row) -> Result<bool, AllocError>
+    ensures { IfOk result (λ like. like ≡ is_like asks said.now row.now) }
 {
-    let other = kind(alloc, row)?;
+    let other = kind(alloc, asks, row)?;
     Ok(is_same(said, other.bytes()))
 }
 
 /// The rows of a kind.
-fn rows_like<'a>(alloc: Global, said: &[u8], rows: &[&'a Row]) -> Result<Vec<&'a Row>, AllocError>
-    ensures { IfOk result (λ found. map (λ row. row.now) found.items ≡ rows_like said.now (map (λ row. row.now) rows.now)) }
+fn rows_like<'a>(
+    alloc: Global,
+    asks: bool,
+    said: &[u8],
+    rows: &[&'a Row],
+) -> Result<Vec<&'a Row>, AllocError>
+    ensures { IfOk result (λ found. map (λ row. row.now) found.items ≡ rows_like asks said.now (map (λ row. row.now) rows.now)) }
 {
     let mut found = Vec::new(alloc);
     for row in rows {
-        if is_like(alloc, said, row)? {
+        if is_like(alloc, asks, said, row)? {
             found.push(*row)?;
         }
     }
     Ok(found)
 }
 
-/// The most writes that are lost in one of some rows.
-fn most_of(rows: &[&Row]) -> usize
-    ensures { result ≡ most_lost (map (λ row. row.now) rows.now) }
+/// The most writes that are lost to a use in one of some rows.
+fn most_of(which: usize, rows: &[&Row]) -> usize
+    ensures { result ≡ most_lost which (map (λ row. row.now) rows.now) }
 {
     let mut most = 0;
     for row in rows {
-        most = most.max(row.lost().len());
+        most = most.max(row.lost_count(which));
     }
     most
 }
 
 /// How many rows are broken.
-fn broken_count(rows: &[&Row]) -> usize
-    ensures { result ≡ count_by is_broken (map (λ row. row.now) rows.now) }
+fn broken_count(which: usize, rows: &[&Row]) -> usize
+    ensures { result ≡ count_by (is_broken which) (map (λ row. row.now) rows.now) }
 {
-    rows.iter().filter(|row| row.is_broken()).count()
+    rows.iter().filter(|row| row.is_broken(which)).count()
 }
 
 /// How many rows have a refusal.
@@ -151,15 +148,15 @@ fn push_counts(
     push_count(text, refused, b" with refusals\n")
 }
 
-/// Adds what is said of rows of one kind.
-fn push_tally(text: &mut Text, rows: &[&Row]) -> Result<(), AllocError>
-    ensures { OnOk result (text.new ≡ text.old ++ tally (map (λ row. row.now) rows.now)) }
+/// Adds what is said of rows of one kind, for a use.
+fn push_tally(text: &mut Text, which: usize, rows: &[&Row]) -> Result<(), AllocError>
+    ensures { OnOk result (text.new ≡ text.old ++ tally which (map (λ row. row.now) rows.now)) }
 {
     push_counts(
         text,
         row_count(rows),
-        most_of(rows),
-        broken_count(rows),
+        most_of(which, rows),
+        broken_count(which, rows),
         refusal_count(rows),
     )
 }
@@ -168,27 +165,31 @@ fn push_tally(text: &mut Text, rows: &[&Row]) -> Result<(), AllocError>
 fn push_kind_line(
     alloc: Global,
     text: &mut Text,
+    asks: bool,
+    which: usize,
     rows: &[&Row],
     said: &[u8],
 ) -> Result<(), AllocError>
-    ensures { OnOk result (text.new ≡ text.old ++ kind_line (map (λ row. row.now) rows.now) said.now) }
+    ensures { OnOk result (text.new ≡ text.old ++ kind_line asks which (map (λ row. row.now) rows.now) said.now) }
 {
     text.append(b"  ")?;
     text.append(said)?;
-    push_tally(text, &rows_like(alloc, said, rows)?)
+    push_tally(text, which, &rows_like(alloc, asks, said, rows)?)
 }
 
 /// Adds the lines of kinds.
 fn push_kind_lines(
     alloc: Global,
     text: &mut Text,
+    asks: bool,
+    which: usize,
     rows: &[&Row],
     kinds: &[Text],
 ) -> Result<(), AllocError>
-    ensures { OnOk result (text.new ≡ text.old ++ flat_map (kind_line (map (λ row. row.now) rows.now)) kinds.now) }
+    ensures { OnOk result (text.new ≡ text.old ++ flat_map (kind_line asks which (map (λ row. row.now) rows.now)) kinds.now) }
 {
     for said in kinds {
-        push_kind_line(alloc, text, rows, said.bytes())?;
+        push_kind_line(alloc, text, asks, which, rows, said.bytes())?;
     }
     Ok(())
 }
@@ -202,19 +203,19 @@ fn push_shown_by(text: &mut Text, plan: &SweepPlan, row: &Row) -> Result<(), All
     text.append(b"\n")
 }
 
-/// So many writes are lost, and some are.
-fn loses_most(most: usize, row: &Row) -> bool
-    ensures { result ≡ loses_most most row.now }
+/// That many writes are lost to a use, and some are.
+fn loses_most(which: usize, most: usize, row: &Row) -> bool
+    ensures { result ≡ loses_most which most row.now }
 {
-    0 < most && row.lost().len() == most
+    0 < most && row.lost_count(which) == most
 }
 
-/// The first row that loses so many writes.
-fn first_worst<'a>(rows: &[&'a Row], most: usize) -> Option<&'a Row>
-    ensures { option_copied result ≡ find (loses_most most) (map (λ row. row.now) rows.now) }
+/// The first row that loses that many writes.
+fn first_worst<'a>(rows: &[&'a Row], which: usize, most: usize) -> Option<&'a Row>
+    ensures { option_copied result ≡ find (loses_most which most) (map (λ row. row.now) rows.now) }
 {
     for row in rows {
-        if loses_most(most, row) {
+        if loses_most(which, most, row) {
             return Some(*row);
         }
     }
@@ -222,31 +223,41 @@ fn first_worst<'a>(rows: &[&'a Row], most: usize) -> Option<&'a Row>
 }
 
 /// Adds the line of a worst point.
-fn push_worst_said(text: &mut Text, plan: &SweepPlan, row: &Row) -> Result<(), AllocError>
-    ensures { OnOk result (text.new ≡ text.old ++ worst_said plan.now row.now) }
+fn push_worst_said(
+    text: &mut Text,
+    plan: &SweepPlan,
+    which: usize,
+    row: &Row,
+) -> Result<(), AllocError>
+    ensures { OnOk result (text.new ≡ text.old ++ worst_said plan.now which row.now) }
 {
     text.append(b"  worst: ")?;
-    push_number(text, row.lost().len())?;
+    push_number(text, row.lost_count(which))?;
     text.append(b" lost")?;
     push_shown_by(text, plan, row)
 }
 
 /// Adds the line of the worst point, where some writes are lost.
-fn push_worst(text: &mut Text, plan: &SweepPlan, rows: &[&Row]) -> Result<(), AllocError>
-    ensures { OnOk result (text.new ≡ text.old ++ worst_line plan.now (map (λ row. row.now) rows.now)) }
+fn push_worst(
+    text: &mut Text,
+    plan: &SweepPlan,
+    which: usize,
+    rows: &[&Row],
+) -> Result<(), AllocError>
+    ensures { OnOk result (text.new ≡ text.old ++ worst_line plan.now which (map (λ row. row.now) rows.now)) }
 {
-    match first_worst(rows, most_of(rows)) {
+    match first_worst(rows, which, most_of(which, rows)) {
         None => Ok(()),
-        Some(row) => push_worst_said(text, plan, row),
+        Some(row) => push_worst_said(text, plan, which, row),
     }
 }
 
 /// The first broken row.
-fn first_broken<'a>(rows: &[&'a Row]) -> Option<&'a Row>
-    ensures { option_copied result ≡ find is_broken (map (λ row. row.now) rows.now) }
+fn first_broken<'a>(rows: &[&'a Row], which: usize) -> Option<&'a Row>
+    ensures { option_copied result ≡ find (is_broken which) (map (λ row. row.now) rows.now) }
 {
     for row in rows {
-        if row.is_broken() {
+        if row.is_broken(which) {
             return Some(*row);
         }
     }
@@ -266,22 +277,32 @@ fn push_break(text: &mut Text, plan: &SweepPlan, row: &Row, b: Broken) -> Result
 }
 
 /// Adds the line of a row, where it is broken.
-fn push_break_of(text: &mut Text, plan: &SweepPlan, row: &Row) -> Result<(), AllocError>
-    ensures { OnOk result (text.new ≡ text.old ++ broken_said_of plan.now row.now) }
+fn push_break_of(
+    text: &mut Text,
+    plan: &SweepPlan,
+    which: usize,
+    row: &Row,
+) -> Result<(), AllocError>
+    ensures { OnOk result (text.new ≡ text.old ++ broken_said_of plan.now which row.now) }
 {
-    match row.broken() {
+    match row.broken_at(which) {
         None => Ok(()),
         Some(b) => push_break(text, plan, row, b),
     }
 }
 
 /// Adds the line of the first broken point, where there is one.
-fn push_first_broken(text: &mut Text, plan: &SweepPlan, rows: &[&Row]) -> Result<(), AllocError>
-    ensures { OnOk result (text.new ≡ text.old ++ broken_line plan.now (map (λ row. row.now) rows.now)) }
+fn push_first_broken(
+    text: &mut Text,
+    plan: &SweepPlan,
+    which: usize,
+    rows: &[&Row],
+) -> Result<(), AllocError>
+    ensures { OnOk result (text.new ≡ text.old ++ broken_line plan.now which (map (λ row. row.now) rows.now)) }
 {
-    match first_broken(rows) {
+    match first_broken(rows, which) {
         None => Ok(()),
-        Some(row) => push_break_of(text, plan, row),
+        Some(row) => push_break_of(text, plan, which, row),
     }
 }
 
@@ -295,7 +316,7 @@ pub(crate) fn servers_of(plan: &SweepPlan, disaster: usize) -> &[Name]
     }
 }
 
-/// Adds names, each behind a space.
+/// Adds names, each after a space.
 fn push_names(text: &mut Text, servers: &[Name]) -> Result<(), AllocError>
     ensures { OnOk result (text.new ≡ text.old ++ flat_map (λ name. 32 ∷ name_text name) servers.now) }
 {
@@ -315,31 +336,68 @@ pub(crate) fn push_lost_at_once(text: &mut Text, servers: &[Name]) -> Result<(),
     text.append(b"\n")
 }
 
-/// Adds what is said of the rows of one disaster.
+/// Adds what is said of the rows of one disaster, for the use at a place.
 fn push_told(
     alloc: Global,
     text: &mut Text,
     plan: &SweepPlan,
+    asks: bool,
+    rows: &[&Row],
+    which: usize,
+) -> Result<(), AllocError>
+    ensures { OnOk result (text.new ≡ text.old ++ told plan.now asks (map (λ row. row.now) rows.now) which) }
+{
+    push_use_head(text, plan, which)?;
+    push_kind_lines(alloc, text, asks, which, rows, &kinds(alloc, asks, rows)?)?;
+    push_worst(text, plan, which, rows)?;
+    push_first_broken(text, plan, which, rows)
+}
+
+/// Adds the same for each use.
+fn push_uses_told(
+    alloc: Global,
+    text: &mut Text,
+    plan: &SweepPlan,
+    asks: bool,
     rows: &[&Row],
 ) -> Result<(), AllocError>
-    ensures { OnOk result (text.new ≡ text.old ++ told plan.now (map (λ row. row.now) rows.now)) }
+    ensures { OnOk result (text.new ≡ text.old ++ uses_told plan.now asks (map (λ row. row.now) rows.now)) }
 {
-    push_kind_lines(alloc, text, rows, &kinds(alloc, rows)?)?;
-    push_worst(text, plan, rows)?;
-    push_first_broken(text, plan, rows)
+    for which in 0..plan.uses().len() {
+        push_told(alloc, text, plan, asks, rows, which)?;
+    }
+    Ok(())
 }
 
 /// Adds what is said of a disaster.
 #[tactic(auto, unfolding(crate::specs::Kinds::disaster_told))]
-pub(crate) fn push_disaster_told(
+fn push_disaster_told(
     alloc: Global,
     text: &mut Text,
     plan: &SweepPlan,
+    asks: bool,
     rows: &[Row],
     disaster: usize,
 ) -> Result<(), AllocError>
-    ensures { OnOk result (text.new ≡ text.old ++ disaster_told plan.now rows.now disaster) }
+    ensures { OnOk result (text.new ≡ text.old ++ disaster_told plan.now asks rows.now disaster) }
 {
     push_lost_at_once(text, servers_of(plan, disaster))?;
-    push_told(alloc, text, plan, &rows_of(alloc, rows, disaster)?)
+    push_uses_told(alloc, text, plan, asks, &rows_of(alloc, rows, disaster)?)
+}
+
+/// Adds what is said of all disasters.
+#[tactic(auto, unfolding(crate::specs::Kinds::disasters_told))]
+pub(crate) fn push_disasters(
+    alloc: Global,
+    text: &mut Text,
+    plan: &SweepPlan,
+    asks: bool,
+    rows: &[Row],
+) -> Result<(), AllocError>
+    ensures { OnOk result (text.new ≡ text.old ++ disasters_told plan.now asks rows.now) }
+{
+    for disaster in 0..plan.disasters().len() {
+        push_disaster_told(alloc, text, plan, asks, rows, disaster)?;
+    }
+    Ok(())
 }

@@ -1,10 +1,13 @@
-//! Which rows are findings.
+//! Which rows are findings, and what else is one.
 
-ghost use Rattle.std.specs.Prelude.{◌≡◌, IfOk};
+ghost use Rattle.std.specs.Prelude.{◌≡◌, ◌++◌, ◌<◌, length, nat_eq, IfOk, OnOk};
 ghost use Rattle.std.specs.List.{list_any};
-ghost use Rattle.dr_rows.specs.Findings.{is_recovery, recovers, asks_recovery, is_above, lacks_group, is_finding, has_finding};
+ghost use Rattle.dr_rows.specs.Findings.{is_recovery, recovers, asks_recovery, has_no_group, is_above, is_bad, is_announced_at, wants_group, wanted_at, wanted, is_of_one, is_ungrouped, lacks_group, is_finding, is_never_kept, has_never_kept, has_finding};
+ghost use Rattle.dr_rows.specs.Refusals.{keeps_line};
 
-use crate::row::Row;
+use crate::calm::{Calm, is_announced, is_calm_finding};
+use crate::recovery::{is_answered, keeps_line};
+use crate::row::{Answer, Loss, Row, gives_group};
 use dr_ids::{Fault, Text};
 use dr_model::Step;
 use dr_plan::SweepPlan;
@@ -64,7 +67,14 @@ pub fn asks_recovery(alloc: Global, plan: &SweepPlan) -> Result<bool, AllocError
     any_recovers(alloc, plan.recovery())
 }
 
-/// So many lost writes are more than the bound, where there is one.
+/// No group came back, though one was asked for.
+pub(crate) fn has_no_group(asks: bool, row: &Row) -> bool
+    ensures { result ≡ has_no_group asks row.now }
+{
+    asks && !row.has_group()
+}
+
+/// That many lost writes are more than the bound, where there is one.
 fn is_above(bound: Option<u32>, n: usize) -> bool
     ensures { result ≡ is_above bound n }
 {
@@ -74,25 +84,131 @@ fn is_above(bound: Option<u32>, n: usize) -> bool
     }
 }
 
-/// No group came back, though it was asked for.
-pub(crate) fn lacks_group(asks: bool, row: &Row) -> bool
-    ensures { result ≡ lacks_group asks row.now }
+/// Something is broken, or more is lost than the bound.
+fn is_bad(bound: Option<u32>, loss: &Loss) -> bool
+    ensures { result ≡ is_bad bound loss.now }
 {
-    asks && !row.has_group()
+    loss.broken().is_some() || is_above(bound, loss.count())
 }
 
-/// Whether a row is a finding, where `asks` says that an `@recover` stands in the recovery: it is broken, or has no group though it was
-/// asked for, or loses more than the plan's bound.
-pub fn is_finding(plan: &SweepPlan, asks: bool, row: &Row) -> bool
-    ensures { result ≡ is_finding plan.now asks row.now }
+fn any_bad(bound: Option<u32>, losses: &[Loss]) -> bool
+    ensures { result ≡ list_any (is_bad bound) losses.now }
 {
-    row.is_broken() || lacks_group(asks, row) || is_above(plan.bound(), row.lost().len())
+    losses.iter().any(|loss| is_bad(bound, loss))
 }
 
-/// Whether some row is a finding.
-pub fn has_finding(alloc: Global, plan: &SweepPlan, rows: &[Row]) -> Result<bool, AllocError>
-    ensures { IfOk result (λ found. found ≡ has_finding plan.now rows.now) }
+/// A refusal is announced in the line of the recovery at a place.
+fn is_announced_at(plan: &SweepPlan, place: usize) -> bool
+    ensures { result ≡ is_announced_at plan.now place }
 {
-    let asks = asks_recovery(alloc, plan)?;
-    Ok(rows.iter().any(|row| is_finding(plan, asks, row)))
+    is_announced(plan, plan.then_line() as u128 + place as u128 + 1)
+}
+
+/// An `@recover` stands in the line of the recovery at a place, and no refusal is announced there.
+fn wants_group(alloc: Global, plan: &SweepPlan, place: usize) -> Result<bool, AllocError>
+    requires { place < length plan.now.recovery }
+    ensures { IfOk result (λ found. found ≡ wants_group plan.now place) }
+{
+    let found = recovers(alloc, plan.recovery()[place].bytes())?;
+    Ok(found && !is_announced_at(plan, place))
+}
+
+/// Adds the number of that line in the recovery, if so.
+fn add_wanted(
+    alloc: Global,
+    found: &mut Vec<u128>,
+    plan: &SweepPlan,
+    place: usize,
+) -> Result<(), AllocError>
+    requires { place < length plan.now.recovery }
+    ensures { OnOk result (found.new.items ≡ found.old.items ++ wanted_at plan.now place) }
+{
+    if wants_group(alloc, plan, place)? {
+        found.push(place as u128 + 1)?;
+    }
+    Ok(())
+}
+
+/// The lines of the recovery, counted from 1, whose `@recover` is to be answered with a group.
+fn wanted(alloc: Global, plan: &SweepPlan) -> Result<Vec<u128>, AllocError>
+    ensures { IfOk result (λ found. found.items ≡ wanted plan.now) }
+{
+    let mut found = Vec::new(alloc);
+    for place in 0..plan.recovery().len() {
+        add_wanted(alloc, &mut found, plan, place)?;
+    }
+    Ok(found)
+}
+
+/// The answer is of one of some lines.
+fn is_of_one(numbers: &[u128], a: Answer) -> bool
+    ensures { result ≡ is_of_one numbers.now a }
+{
+    numbers.iter().any(|n| a.line as u128 == *n)
+}
+
+/// It is, and has no group.
+fn is_ungrouped(numbers: &[u128], a: Answer) -> bool
+    ensures { result ≡ is_ungrouped numbers.now a }
+{
+    is_of_one(numbers, a) && !gives_group(a)
+}
+
+/// Some `@recover` of these lines wasn't answered with a group.
+fn lacks_group(numbers: &[u128], row: &Row) -> bool
+    ensures { result ≡ lacks_group numbers.now row.now }
+{
+    row.answers().iter().any(|a| is_ungrouped(numbers, *a))
+}
+
+/// One of the row's losses is bad, or it lacks a group in these lines, or fewer members count than a session has.
+fn is_finding(plan: &SweepPlan, numbers: &[u128], row: &Row) -> bool
+    ensures { result ≡ is_finding plan.now numbers.now row.now }
+{
+    any_bad(plan.bound(), row.losses()) || lacks_group(numbers, row) || row.lacks_members()
+}
+
+fn any_finding(plan: &SweepPlan, numbers: &[u128], rows: &[Row]) -> bool
+    ensures { result ≡ list_any (is_finding plan.now numbers.now) rows.now }
+{
+    rows.iter().any(|row| is_finding(plan, numbers, row))
+}
+
+/// Some row has the line of the recovery ok or held.
+fn any_keeps(rows: &[Row], number: u128) -> bool
+    ensures { result ≡ list_any (keeps_line number) rows.now }
+{
+    rows.iter().any(|row| keeps_line(row, number))
+}
+
+/// Some row has an answer of the line of the recovery at a place, in none it is ok or held, and no refusal is announced there.
+fn is_never_kept(plan: &SweepPlan, rows: &[Row], place: usize) -> bool
+    ensures { result ≡ is_never_kept plan.now rows.now place }
+{
+    let number = place as u128 + 1;
+    is_answered(rows, number) && !any_keeps(rows, number) && !is_announced_at(plan, place)
+}
+
+/// There is such a line.
+fn has_never_kept(plan: &SweepPlan, rows: &[Row]) -> bool
+    ensures { result ≡ has_never_kept plan.now rows.now }
+{
+    (0..plan.recovery().len()).any(|place| is_never_kept(plan, rows, place))
+}
+
+/// Whether the calm run, a line of the recovery or a row is a finding. Fails where there is no memory.
+pub fn has_finding(
+    alloc: Global,
+    plan: &SweepPlan,
+    calm: &Calm,
+    rows: &[Row],
+) -> Result<bool, AllocError>
+    ensures { IfOk result (λ found. found ≡ has_finding plan.now calm.now rows.now) }
+{
+    let numbers = wanted(alloc, plan)?;
+    Ok(
+        is_calm_finding(plan, calm)
+            || has_never_kept(plan, rows)
+            || any_finding(plan, &numbers, rows),
+    )
 }

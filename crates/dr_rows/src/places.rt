@@ -10,7 +10,7 @@ use crate::row::Row;
 use dr_plan::Point;
 use std::alloc::{AllocError, Global};
 
-/// Both stop the same servers behind as many lines and writes, whatever is torn.
+/// Both stop the same servers after as many tried steps and writes, whatever is torn.
 fn is_beside(a: Point, b: Point) -> bool
     ensures { result ≡ is_beside a b }
 {
@@ -18,31 +18,31 @@ fn is_beside(a: Point, b: Point) -> bool
         (
             Point::Cut {
                 disaster,
-                line,
+                place,
                 server,
                 write,
                 ..
             },
             Point::Cut {
                 disaster: other_disaster,
-                line: other_line,
+                place: other_place,
                 server: other_server,
                 write: other_write,
                 ..
             },
         ) => {
             disaster == other_disaster
-                && line == other_line
+                && place == other_place
                 && server == other_server
                 && write == other_write
         }
         (
-            Point::Gap { disaster, line },
+            Point::Gap { disaster, place },
             Point::Gap {
                 disaster: other_disaster,
-                line: other_line,
+                place: other_place,
             },
-        ) => disaster == other_disaster && line == other_line,
+        ) => disaster == other_disaster && place == other_place,
         _ => false,
     }
 }
@@ -78,39 +78,51 @@ pub(crate) fn places(alloc: Global, rows: &[Row]) -> Result<Vec<&[Row]>, AllocEr
     Ok(found)
 }
 
-/// The most writes that are lost in one of some rows.
-pub(crate) fn most_lost(rows: &[Row]) -> usize
-    ensures { result ≡ most_lost rows.now }
+/// The most writes that are lost to a use in one of some rows.
+pub(crate) fn most_lost(which: usize, rows: &[Row]) -> usize
+    ensures { result ≡ most_lost which rows.now }
 {
     let mut most = 0;
     for row in rows {
-        most = most.max(row.lost().len());
+        most = most.max(row.lost_count(which));
     }
     most
 }
 
 /// A row is broken.
-pub(crate) fn any_broken(rows: &[Row]) -> bool
-    ensures { result ≡ list_any is_broken rows.now }
+pub(crate) fn any_broken(which: usize, rows: &[Row]) -> bool
+    ensures { result ≡ list_any (is_broken which) rows.now }
 {
-    rows.iter().any(|row| row.is_broken())
+    rows.iter().any(|row| row.is_broken(which))
 }
 
 /// Other groups came back, or with other decisions, or more or fewer writes are lost.
-fn differs(alloc: Global, first: &Row, row: &Row) -> Result<bool, AllocError>
-    ensures { IfOk result (λ found. found ≡ differs first.now row.now) }
+fn differs(
+    alloc: Global,
+    asks: bool,
+    which: usize,
+    first: &Row,
+    row: &Row,
+) -> Result<bool, AllocError>
+    ensures { IfOk result (λ found. found ≡ differs asks which first.now row.now) }
 {
-    let first_kind = kind(alloc, first)?;
-    let row_kind = kind(alloc, row)?;
-    Ok(first_kind.bytes() != row_kind.bytes() || first.lost().len() != row.lost().len())
+    let first_kind = kind(alloc, asks, first)?;
+    let row_kind = kind(alloc, asks, row)?;
+    Ok(first_kind.bytes() != row_kind.bytes() || first.lost_count(which) != row.lost_count(which))
 }
 
 /// One of some rows differs from a first one.
-fn any_differs(alloc: Global, first: &Row, more: &[Row]) -> Result<bool, AllocError>
-    ensures { IfOk result (λ found. found ≡ list_any (differs first.now) more.now) }
+fn any_differs(
+    alloc: Global,
+    asks: bool,
+    which: usize,
+    first: &Row,
+    more: &[Row],
+) -> Result<bool, AllocError>
+    ensures { IfOk result (λ found. found ≡ list_any (differs asks which first.now) more.now) }
 {
     for row in more {
-        let is_other = differs(alloc, first, row)?;
+        let is_other = differs(alloc, asks, which, first, row)?;
         if is_other {
             return Ok(true);
         }
@@ -119,11 +131,16 @@ fn any_differs(alloc: Global, first: &Row, more: &[Row]) -> Result<bool, AllocEr
 }
 
 /// What is torn decides.
-pub(crate) fn decides(alloc: Global, rows: &[Row]) -> Result<bool, AllocError>
-    ensures { IfOk result (λ found. found ≡ decides rows.now) }
+pub(crate) fn decides(
+    alloc: Global,
+    asks: bool,
+    which: usize,
+    rows: &[Row],
+) -> Result<bool, AllocError>
+    ensures { IfOk result (λ found. found ≡ decides asks which rows.now) }
 {
     match rows {
         [] => Ok(false),
-        [first, more @ ..] => any_differs(alloc, first, more),
+        [first, more @ ..] => any_differs(alloc, asks, which, first, more),
     }
 }

@@ -2,10 +2,10 @@
 
 ghost use Rattle.std.specs.Prelude.{◌≡◌, map, IfOk};
 ghost use Rattle.std.specs.List.{list_any};
-ghost use Rattle.dr_rows.specs.Findings.{lacks_group};
+ghost use Rattle.dr_rows.specs.Findings.{has_no_group};
 ghost use Rattle.dr_rows.specs.Strip.{digit, character, point_of, sign_of, signs};
 
-use crate::findings::lacks_group;
+use crate::findings::has_no_group;
 use crate::places::{any_broken, decides, most_lost, places};
 use crate::row::Row;
 use dr_plan::Point;
@@ -27,23 +27,23 @@ fn digit(n: usize) -> u8
 
 /// No group came back at some point, though it was asked for.
 fn any_lacks(asks: bool, rows: &[Row]) -> bool
-    ensures { result ≡ list_any (lacks_group asks) rows.now }
+    ensures { result ≡ list_any (has_no_group asks) rows.now }
 {
-    rows.iter().any(|row| lacks_group(asks, row))
+    rows.iter().any(|row| has_no_group(asks, row))
 }
 
-/// The character of a place.
-fn character(alloc: Global, asks: bool, rows: &[Row]) -> Result<u8, AllocError>
-    ensures { IfOk result (λ shown. shown ≡ character asks rows.now) }
+/// The character of a place, for a use.
+fn character(alloc: Global, asks: bool, which: usize, rows: &[Row]) -> Result<u8, AllocError>
+    ensures { IfOk result (λ shown. shown ≡ character asks which rows.now) }
 {
-    if any_broken(rows) {
+    if any_broken(which, rows) {
         Ok(b'!')
-    } else if decides(alloc, rows)? {
+    } else if decides(alloc, asks, which, rows)? {
         Ok(b'*')
     } else if any_lacks(asks, rows) {
         Ok(b'-')
     } else {
-        Ok(digit(most_lost(rows)))
+        Ok(digit(most_lost(which, rows)))
     }
 }
 
@@ -54,36 +54,46 @@ fn point_of(rows: &[Row]) -> Point
     match rows {
         [] => Point::Gap {
             disaster: 0,
-            line: 0,
+            place: 0,
         },
         [first, ..] => first.point(),
     }
 }
 
 /// A place with its character.
-fn sign_of(alloc: Global, asks: bool, rows: &[Row]) -> Result<Sign, AllocError>
-    ensures { IfOk result (λ found. found ≡ sign_of asks rows.now) }
+fn sign_of(alloc: Global, asks: bool, which: usize, rows: &[Row]) -> Result<Sign, AllocError>
+    ensures { IfOk result (λ found. found ≡ sign_of asks which rows.now) }
 {
     Ok(Sign {
         point: point_of(rows),
-        shown: character(alloc, asks, rows)?,
+        shown: character(alloc, asks, which, rows)?,
     })
 }
 
 /// Places with their characters.
-fn signs_of(alloc: Global, asks: bool, places: &[&[Row]]) -> Result<Vec<Sign>, AllocError>
-    ensures { IfOk result (λ found. found.items ≡ map (sign_of asks) (map (λ place. place.now) places.now)) }
+fn signs_of(
+    alloc: Global,
+    asks: bool,
+    which: usize,
+    places: &[&[Row]],
+) -> Result<Vec<Sign>, AllocError>
+    ensures { IfOk result (λ found. found.items ≡ map (sign_of asks which) (map (λ place. place.now) places.now)) }
 {
     let mut found = Vec::new(alloc);
     for place in places {
-        found.push(sign_of(alloc, asks, place)?)?;
+        found.push(sign_of(alloc, asks, which, place)?)?;
     }
     Ok(found)
 }
 
-/// All places with their characters, in order.
-pub(crate) fn signs(alloc: Global, asks: bool, rows: &[Row]) -> Result<Vec<Sign>, AllocError>
-    ensures { IfOk result (λ found. found.items ≡ signs asks rows.now) }
+/// All places with their characters, in order, for a use.
+pub(crate) fn signs(
+    alloc: Global,
+    asks: bool,
+    which: usize,
+    rows: &[Row],
+) -> Result<Vec<Sign>, AllocError>
+    ensures { IfOk result (λ found. found.items ≡ signs asks which rows.now) }
 {
-    signs_of(alloc, asks, &places(alloc, rows)?)
+    signs_of(alloc, asks, which, &places(alloc, rows)?)
 }

@@ -1,56 +1,58 @@
 //! The strip: a character for each place of a sweep.
 
-ghost use Rattle.std.specs.Prelude.{◌≡◌, ◌++◌, ◌+◌, ◌<◌, length, OnOk};
-ghost use Rattle.dr_rows.specs.Strip.{is_cut_at, is_gap_at, cut_signs, gap_signs, wide, gap_column, server_column, server_columns, line_strip, line_strips, disaster_strip, disaster_strips, legend, strip_told};
+ghost use Rattle.std.specs.Prelude.{◌≡◌, ◌++◌, ◌+◌, ◌<◌, ◌^◌, IfOk, OnOk};
+ghost use Rattle.dr_rows.specs.Strip.{is_cut_at, is_gap_at, cut_signs, gap_signs, wide, gap_column, server_column, server_columns, step_text, line_strip, line_strips, signs_told, use_strip, use_strips, disaster_strip, disaster_strips, strip_head, characters_told, legend, strip_told};
+ghost use Rattle.dr_rows.specs.Words.{place_name};
 
-use crate::cells::server_name;
+use crate::cells::{no_group, push_use_head, server_name};
 use crate::disasters::{push_lost_at_once, servers_of};
-use crate::signs::Sign;
+use crate::row::Row;
+use crate::signs::{Sign, signs};
+use crate::words::{gap_place, push_place_name};
 use dr_ids::Text;
-use dr_plan::{Point, SweepPlan};
-use itoa::Buffer;
-use std::alloc::AllocError;
+use dr_plan::{PlanPlace, Point, SweepPlan};
+use std::alloc::{AllocError, Global};
 
-/// The place is in that line, at that server.
-fn is_cut_at(point: Point, disaster: usize, line: usize, server: usize) -> bool
-    ensures { result ≡ is_cut_at disaster line server point }
+/// The place is in that tried step, at that server.
+fn is_cut_at(point: Point, disaster: usize, place: usize, server: usize) -> bool
+    ensures { result ≡ is_cut_at disaster place server point }
 {
     match point {
         Point::Cut {
             disaster: d,
-            line: l,
+            place: p,
             server: s,
             ..
-        } => d == disaster && l == line && s == server,
+        } => d == disaster && p == place && s == server,
         _ => false,
     }
 }
 
-/// The place is behind so many lines.
-fn is_gap_at(point: Point, disaster: usize, line: usize) -> bool
-    ensures { result ≡ is_gap_at disaster line point }
+/// The place is after that many tried steps.
+fn is_gap_at(point: Point, disaster: usize, place: usize) -> bool
+    ensures { result ≡ is_gap_at disaster place point }
 {
     match point {
         Point::Gap {
             disaster: d,
-            line: l,
-        } => d == disaster && l == line,
+            place: p,
+        } => d == disaster && p == place,
         _ => false,
     }
 }
 
-/// Adds the characters of a server in a line.
+/// Adds the characters of a server in a tried step.
 fn push_cut_signs(
     text: &mut Text,
     signs: &[Sign],
     disaster: usize,
-    line: usize,
+    place: usize,
     server: usize,
 ) -> Result<(), AllocError>
-    ensures { OnOk result (text.new ≡ text.old ++ cut_signs signs.now disaster line server) }
+    ensures { OnOk result (text.new ≡ text.old ++ cut_signs signs.now disaster place server) }
 {
     for sign in signs {
-        if is_cut_at(sign.point, disaster, line, server) {
+        if is_cut_at(sign.point, disaster, place, server) {
             text.append(&[sign.shown])?;
         }
     }
@@ -62,40 +64,49 @@ fn push_gap_signs(
     text: &mut Text,
     signs: &[Sign],
     disaster: usize,
-    line: usize,
+    place: usize,
 ) -> Result<(), AllocError>
-    ensures { OnOk result (text.new ≡ text.old ++ gap_signs signs.now disaster line) }
+    ensures { OnOk result (text.new ≡ text.old ++ gap_signs signs.now disaster place) }
 {
     for sign in signs {
-        if is_gap_at(sign.point, disaster, line) {
+        if is_gap_at(sign.point, disaster, place) {
             text.append(&[sign.shown])?;
         }
     }
     Ok(())
 }
 
-/// Adds a number in four columns.
-fn push_wide(text: &mut Text, n: usize) -> Result<(), AllocError>
-    ensures { OnOk result (text.new ≡ text.old ++ wide n) }
+/// The name of a line or part.
+fn name_of(alloc: Global, p: PlanPlace) -> Result<Text, AllocError>
+    ensures { IfOk result (λ text. text ≡ place_name p) }
 {
-    let mut buffer = Buffer::new();
-    let digits = buffer.format(n).as_bytes();
-    text.append(&b"    "[digits.len().min(4)..])?;
-    text.append(digits)
+    let mut text = Text::new(alloc);
+    push_place_name(&mut text, p)?;
+    Ok(text)
 }
 
-/// Adds so many lines, and what comes of a loss behind them.
+/// Adds a name in six columns.
+fn push_wide(text: &mut Text, name: &[u8]) -> Result<(), AllocError>
+    ensures { OnOk result (text.new ≡ text.old ++ wide name.now) }
+{
+    text.append(&b"      "[name.len().min(6)..])?;
+    text.append(name)
+}
+
+/// Adds the name of a gap, and what comes of a loss there.
 fn push_gap_column(
+    alloc: Global,
     text: &mut Text,
+    plan: &SweepPlan,
     signs: &[Sign],
     disaster: usize,
-    line: usize,
+    place: usize,
 ) -> Result<(), AllocError>
-    ensures { OnOk result (text.new ≡ text.old ++ gap_column signs.now disaster line) }
+    ensures { OnOk result (text.new ≡ text.old ++ gap_column plan.now signs.now disaster place) }
 {
-    push_wide(text, line)?;
+    push_wide(text, name_of(alloc, gap_place(plan, place))?.bytes())?;
     text.append(b" |")?;
-    push_gap_signs(text, signs, disaster, line)?;
+    push_gap_signs(text, signs, disaster, place)?;
     text.append(b"|")
 }
 
@@ -105,15 +116,15 @@ fn push_server_column(
     plan: &SweepPlan,
     signs: &[Sign],
     disaster: usize,
-    line: usize,
+    place: usize,
     server: usize,
 ) -> Result<(), AllocError>
-    ensures { OnOk result (text.new ≡ text.old ++ server_column plan.now signs.now disaster line server) }
+    ensures { OnOk result (text.new ≡ text.old ++ server_column plan.now signs.now disaster place server) }
 {
     text.append(b" ")?;
     text.append(server_name(plan, disaster, server))?;
     text.append(b" ")?;
-    push_cut_signs(text, signs, disaster, line, server)
+    push_cut_signs(text, signs, disaster, place, server)
 }
 
 /// Adds those of all servers of the disaster.
@@ -122,99 +133,181 @@ fn push_server_columns(
     plan: &SweepPlan,
     signs: &[Sign],
     disaster: usize,
-    line: usize,
+    place: usize,
 ) -> Result<(), AllocError>
-    ensures { OnOk result (text.new ≡ text.old ++ server_columns plan.now signs.now disaster line) }
+    ensures { OnOk result (text.new ≡ text.old ++ server_columns plan.now signs.now disaster place) }
 {
     for server in 0..servers_of(plan, disaster).len() {
-        push_server_column(text, plan, signs, disaster, line, server)?;
+        push_server_column(text, plan, signs, disaster, place, server)?;
     }
     Ok(())
 }
 
-/// Adds the strip of a tried line.
+/// The tried step at a place.
+fn step_text(plan: &SweepPlan, place: usize) -> &[u8]
+    ensures { result.now ≡ step_text plan.now place }
+{
+    match plan.tried().get(place) {
+        None => b"",
+        Some(tried) => tried.text(),
+    }
+}
+
+/// Adds the strip of a tried step.
 #[tactic(auto, unfolding(crate::specs::Strip::line_strip))]
 fn push_line_strip(
+    alloc: Global,
     text: &mut Text,
     plan: &SweepPlan,
-    lines: &[Text],
     signs: &[Sign],
     disaster: usize,
-    line: usize,
+    place: usize,
 ) -> Result<(), AllocError>
-    requires { line < length lines.now }
-    ensures { OnOk result (text.new ≡ text.old ++ line_strip plan.now lines.now signs.now disaster line) }
+    requires { place + 1 < 2 ^ 64 }
+    ensures { OnOk result (text.new ≡ text.old ++ line_strip plan.now signs.now disaster place) }
 {
-    push_gap_column(text, signs, disaster, line + 1)?;
-    push_server_columns(text, plan, signs, disaster, line)?;
+    push_gap_column(alloc, text, plan, signs, disaster, place + 1)?;
+    push_server_columns(text, plan, signs, disaster, place)?;
     text.append(b"  ")?;
-    text.append(lines[line].bytes())?;
+    text.append(step_text(plan, place))?;
     text.append(b"\n")
 }
 
-/// Adds the strips of all tried lines.
+/// Adds the strips of all tried steps.
 fn push_line_strips(
+    alloc: Global,
     text: &mut Text,
     plan: &SweepPlan,
-    lines: &[Text],
     signs: &[Sign],
     disaster: usize,
 ) -> Result<(), AllocError>
-    ensures { OnOk result (text.new ≡ text.old ++ line_strips plan.now lines.now signs.now disaster) }
+    ensures { OnOk result (text.new ≡ text.old ++ line_strips plan.now signs.now disaster) }
 {
-    for line in 0..lines.len() {
-        push_line_strip(text, plan, lines, signs, disaster, line)?;
+    for place in 0..plan.tried().len() {
+        push_line_strip(alloc, text, plan, signs, disaster, place)?;
     }
     Ok(())
 }
 
-/// Adds the strip of a disaster.
-#[tactic(auto, unfolding(crate::specs::Strip::disaster_strip))]
-fn push_disaster_strip(
+/// Adds the strips of a disaster and a use.
+#[tactic(auto, unfolding(crate::specs::Strip::signs_told))]
+fn push_signs_told(
+    alloc: Global,
     text: &mut Text,
     plan: &SweepPlan,
     signs: &[Sign],
     disaster: usize,
 ) -> Result<(), AllocError>
-    ensures { OnOk result (text.new ≡ text.old ++ disaster_strip plan.now signs.now disaster) }
+    ensures { OnOk result (text.new ≡ text.old ++ signs_told plan.now signs.now disaster) }
 {
-    push_lost_at_once(text, servers_of(plan, disaster))?;
-    push_gap_column(text, signs, disaster, 0)?;
+    push_gap_column(alloc, text, plan, signs, disaster, 0)?;
     text.append(b"\n")?;
-    push_line_strips(text, plan, plan.tried(), signs, disaster)
+    push_line_strips(alloc, text, plan, signs, disaster)
 }
 
-/// Adds what the characters say.
-fn push_legend(text: &mut Text) -> Result<(), AllocError>
-    ensures { OnOk result (text.new ≡ text.old ++ legend) }
+/// Adds the same with the name of the use at a place.
+fn push_use_strip(
+    alloc: Global,
+    text: &mut Text,
+    plan: &SweepPlan,
+    asks: bool,
+    rows: &[Row],
+    disaster: usize,
+    which: usize,
+) -> Result<(), AllocError>
+    ensures { OnOk result (text.new ≡ text.old ++ use_strip plan.now asks rows.now disaster which) }
 {
-    text.append(
-        b"strip: a character for each device write that is cut short; between bars, the loss behind the line\n",
-    )?;
-    text.append(
-        b"0 to 9 or + writes are lost at most; ! one that is held depends on a lost one; * torn bytes decide; - no group\n",
-    )
+    push_use_head(text, plan, which)?;
+    let found = signs(alloc, asks, which, rows)?;
+    push_signs_told(alloc, text, plan, &found, disaster)
+}
+
+/// Adds the strips of all uses.
+fn push_use_strips(
+    alloc: Global,
+    text: &mut Text,
+    plan: &SweepPlan,
+    asks: bool,
+    rows: &[Row],
+    disaster: usize,
+) -> Result<(), AllocError>
+    ensures { OnOk result (text.new ≡ text.old ++ use_strips plan.now asks rows.now disaster) }
+{
+    for which in 0..plan.uses().len() {
+        push_use_strip(alloc, text, plan, asks, rows, disaster, which)?;
+    }
+    Ok(())
+}
+
+/// Adds the strips of a disaster.
+#[tactic(auto, unfolding(crate::specs::Strip::disaster_strip))]
+fn push_disaster_strip(
+    alloc: Global,
+    text: &mut Text,
+    plan: &SweepPlan,
+    asks: bool,
+    rows: &[Row],
+    disaster: usize,
+) -> Result<(), AllocError>
+    ensures { OnOk result (text.new ≡ text.old ++ disaster_strip plan.now asks rows.now disaster) }
+{
+    push_lost_at_once(text, servers_of(plan, disaster))?;
+    push_use_strips(alloc, text, plan, asks, rows, disaster)
+}
+
+/// What the strip is.
+#[tactic(auto, unfolding(crate::specs::Strip::strip_head))]
+fn strip_head() -> &'static [u8]
+    ensures { result.now ≡ strip_head }
+{
+    b"strip: a character for each device write that is cut short; between bars, the loss behind the line\n"
+}
+
+/// What the characters say.
+#[tactic(auto, unfolding(crate::specs::Strip::characters_told))]
+fn characters_told() -> &'static [u8]
+    ensures { result.now ≡ characters_told }
+{
+    b"0 to 9 or + writes are lost at most; ! one that is held depends on a lost one; * torn bytes decide; - "
+}
+
+/// Adds both.
+fn push_legend(text: &mut Text, asks: bool) -> Result<(), AllocError>
+    ensures { OnOk result (text.new ≡ text.old ++ legend asks) }
+{
+    text.append(strip_head())?;
+    text.append(characters_told())?;
+    text.append(no_group(asks))?;
+    text.append(b"\n")
 }
 
 /// Adds the strips of all disasters.
-fn push_disaster_strips(text: &mut Text, plan: &SweepPlan, signs: &[Sign]) -> Result<(), AllocError>
-    ensures { OnOk result (text.new ≡ text.old ++ disaster_strips plan.now signs.now) }
+fn push_disaster_strips(
+    alloc: Global,
+    text: &mut Text,
+    plan: &SweepPlan,
+    asks: bool,
+    rows: &[Row],
+) -> Result<(), AllocError>
+    ensures { OnOk result (text.new ≡ text.old ++ disaster_strips plan.now asks rows.now) }
 {
     for disaster in 0..plan.disasters().len() {
-        push_disaster_strip(text, plan, signs, disaster)?;
+        push_disaster_strip(alloc, text, plan, asks, rows, disaster)?;
     }
     Ok(())
 }
 
-/// Adds all strips, behind what their characters say.
+/// Adds all strips, after what their characters say.
 #[tactic(auto, unfolding(crate::specs::Strip::strip_told))]
 pub(crate) fn push_strip_told(
+    alloc: Global,
     text: &mut Text,
     plan: &SweepPlan,
-    signs: &[Sign],
+    asks: bool,
+    rows: &[Row],
 ) -> Result<(), AllocError>
-    ensures { OnOk result (text.new ≡ text.old ++ strip_told plan.now signs.now) }
+    ensures { OnOk result (text.new ≡ text.old ++ strip_told plan.now asks rows.now) }
 {
-    push_legend(text)?;
-    push_disaster_strips(text, plan, signs)
+    push_legend(text, asks)?;
+    push_disaster_strips(alloc, text, plan, asks, rows)
 }

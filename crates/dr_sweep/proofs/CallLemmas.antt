@@ -6,6 +6,7 @@ use Rattle.dr_logic.specs.Counts.{Counted}
 use Rattle.dr_plan.specs.declared.points.Point.{Point}
 use Rattle.dr_plan.specs.Points.{script_of}
 use Rattle.dr_plan.specs.Sweep.{Sweep}
+use Rattle.dr_rows.specs.Calm.{Calm}
 use Rattle.dr_rows.specs.Findings.{has_finding}
 use Rattle.dr_rows.specs.Outcome.{Outcome}
 use Rattle.dr_sweep.specs.declared.call.Reply.{Reply}
@@ -15,7 +16,7 @@ use Rattle.dr_sweep.specs.declared.printing.Asked.{Asked}
 use Rattle.dr_sweep.specs.declared.printing.Asked.TheVariants.{Rows, Script}
 use Rattle.dr_sweep.specs.declared.printing.View.{View}
 use Rattle.dr_sweep.specs.Ending.{is_write_fault, finding_ending}
-use Rattle.dr_sweep.specs.Calls.{IsAnswer, IsReply, IsScript, IsShown, Puts, EndsOn, EndsText, OfText, IsSweep, usage_line}
+use Rattle.dr_sweep.specs.Calls.{IsAnswer, IsCalm, IsReply, IsScript, IsShown, Puts, EndsOn, EndsText, OfText, IsSweep, usage_line}
 use Rattle.dr_sweep.specs.Parts.{AreSwept, parts_of}
 use Rattle.dr_top.specs.Offline.{IsTaken, HasTakenSome}
 use Rattle.dr_words.specs.declared.sweep.SweepCommand.{SweepCommand}
@@ -44,13 +45,13 @@ module _ {K : Type 0} (written : K → Option (List ℕ)) (faults : K → ℕ) (
     answer-put text end is answered TooLong put = absurd (let same = put.0 in let other = ap is_answered same in cc)
     answer-put text end is answered BadPlan put = absurd (let same = put.0 in let other = ap is_answered same in cc)
 
-  -- what is put of rows
-  module _ (plan : Sweep) (view : View) (rows : List Outcome) (are : AreSwept plan (parts_of plan) rows) (reply : Reply) (is : IsReply plan view rows reply) where
+  -- what is put of the calm run and rows
+  module _ (plan : Sweep) (view : View) (calm : Calm) (before : IsCalm plan calm) (rows : List Outcome) (are : AreSwept plan (parts_of plan) rows) (reply : Reply) (is : IsReply plan view calm rows reply) where
     shown-so : IsShown plan view reply.text reply.ending
-    shown-so = record { rows = rows; are = are; says_so = is.0; ends = is.1 }
+    shown-so = record { calm = calm; before = before; rows = rows; are = are; says_so = is.0; ends = is.1 }
 
     found-so : is_answered reply.ending ≡ true
-    found-so = ap is_answered is.1 ∙ found-answered (has_finding plan rows)
+    found-so = ap is_answered is.1 ∙ found-answered (has_finding plan calm rows)
 
     pub reply-put : (bytes : List ℕ) → bytes ≡ reply.text → (result : Ending) → Puts written k k' faults bytes reply.ending result → EndsOn written k k' faults plan (Rows view) result
     reply-put bytes same result put = answer-put plan (Rows view) reply.text reply.ending shown-so found-so result (subst (λ text. Puts written k k' faults text reply.ending result) same put)

@@ -1,9 +1,12 @@
--- Read first: `PlaceLemmas.antt`: the last event of a kind, event by event; `TellLemmas.antt`: names and answers, event by event;
--- `RowLemmas.antt`: rows that are added one after another.
-pub mod PlaceLemmas
+-- Read first: `RunLemmas.antt`: the pieces of a script are carried out one after another; `TellLemmas.antt`: names, answers and acknowledgements,
+-- event by event; `RowLemmas.antt`: rows that are added one after another.
 pub mod TellLemmas
+pub mod MemberLemmas
+pub mod ReadLemmas
+pub mod RunLemmas
+pub mod PointLemmas
 pub mod ComesLemmas
 pub mod PartLemmas
 pub mod RowLemmas
-pub mod FateLemmas
+pub mod LossLemmas
 pub mod CallLemmas

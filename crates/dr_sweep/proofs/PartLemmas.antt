@@ -1,16 +1,14 @@
 -- The parts of a plan, and that each of their points has a script.
-use Rattle.std.proofs.Common.{ℕ, suc, ◌≡◌, ◌<◌, ◌≤◌, ◌+◌, ◌⊎◌, inl, inr, List, [], ◌∷◌, ◌++◌, length, map, refl, ap, ◌∙◌, sym, subst, arith, Bool, true, false, cond, nat_le, Option, Some, None}
-use Rattle.std.specs.Prelude.{IsSome, slice_get}
-use Rattle.std.specs.List.{flat_map, range_with_len}
-use Rattle.std.specs.Option.{option_map, option_map_or}
-use Rattle.std.proofs.lemmas.Bool.{leb-true, le-leb}
-use Rattle.std.proofs.lemmas.List.FromFn.{map-range_with_len_more}
+use Rattle.std.proofs.Common.{ℕ, ◌≡◌, ◌<◌, ◌+◌, ◌⊎◌, inl, inr, List, [], ◌∷◌, length, refl, ap, sym, subst, arith, Option}
+use Rattle.std.specs.Prelude.{IsSome}
+use Rattle.std.specs.List.{range_with_len}
+use Rattle.std.specs.Option.{option_map_or}
+use Rattle.std.proofs.lemmas.Bool.{le-leb}
 use Rattle.dr_config.proofs.Lists.{element-at}
 use Rattle.dr_facts.proofs.Lists.{in-joined, from-map}
-use Rattle.dr_lost.proofs.SetLemmas.{from-flat, range-below, range-more}
+use Rattle.dr_lost.proofs.SetLemmas.{from-flat, range-below}
 use Rattle.dr_model.specs.Groups.{In}
 use Rattle.dr_model.specs.declared.step.Name.{Name}
-use Rattle.dr_plan.specs.declared.points.Point.{Point}
 use Rattle.dr_plan.specs.declared.points.Point.TheVariants.{Cut, Gap}
 use Rattle.dr_plan.specs.declared.points.Torn.{Torn}
 use Rattle.dr_plan.specs.Points.{script_of, lines_at}
@@ -18,7 +16,7 @@ use Rattle.dr_plan.specs.Sweep.{Sweep}
 use Rattle.dr_sweep.specs.declared.parts.Part.{Part}
 use Rattle.dr_sweep.specs.declared.parts.Part.TheVariants.{Between, Within}
 use Rattle.dr_sweep.specs.Comes.{servers_lost}
-use Rattle.dr_sweep.specs.Parts.{IsOf, server_parts, line_parts, disaster_parts, parts_of}
+use Rattle.dr_sweep.specs.Parts.{IsOf, server_parts, step_parts, disaster_parts, parts_of}
 
 module _ (plan : Sweep) where
   in-servers : (d l servers : ℕ) (part : Part) → d < length plan.loses → l < length plan.tried → servers ≡ servers_lost plan d → In part (server_parts d l servers) → IsOf plan part
@@ -27,7 +25,7 @@ module _ (plan : Sweep) where
       let below = range-below servers 0 image.from image.here in
       subst (λ (p : Part). IsOf plan p) (sym image.is) (low, within, (let lt = below in omega (arith, lt, is)))
 
-  in-line : (d l : ℕ) (part : Part) → d < length plan.loses → l < length plan.tried → In part (line_parts plan d l) → IsOf plan part
+  in-line : (d l : ℕ) (part : Part) → d < length plan.loses → l < length plan.tried → In part (step_parts plan d l) → IsOf plan part
   in-line d l part low within h = by (in-joined (server_parts d l (servers_lost plan d)) (Between d (l + 1) ∷ []) part h)
     where
       by : In part (server_parts d l (servers_lost plan d)) ⊎ In part (Between d (l + 1) ∷ []) → IsOf plan part
@@ -38,7 +36,7 @@ module _ (plan : Sweep) where
   in-disaster : (d : ℕ) (part : Part) → d < length plan.loses → In part (disaster_parts plan d) → IsOf plan part
   in-disaster d part low (inl is) = subst (λ (p : Part). IsOf plan p) (sym is) (low, omega arith)
   in-disaster d part low (inr later) =
-      let line = from-flat (line_parts plan d) (range_with_len 0 (length plan.tried)) part later in
+      let line = from-flat (step_parts plan d) (range_with_len 0 (length plan.tried)) part later in
       let below = range-below (length plan.tried) 0 line.0 line.1.0 in
       in-line d line.0 part low (omega (arith, below)) line.1.1
 

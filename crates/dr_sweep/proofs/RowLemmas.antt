@@ -1,23 +1,24 @@
 -- The rows of points, of a server's device writes and of parts, one after another.
-use Rattle.std.proofs.Common.{ℕ, suc, ◌≡◌, ◌<◌, ◌≤◌, ◌+◌, ◌-◌, ◌^◌, ◌⊎◌, inl, inr, List, [], ◌∷◌, ◌++◌, length, get_or, refl, ap, ◌∙◌, sym, subst, arith, append_assoc, Bool, true, false, Option, Some, None}
+use Rattle.std.proofs.Common.{ℕ, ◌≡◌, ◌<◌, ◌≤◌, ◌+◌, ◌-◌, ◌^◌, ◌⊎◌, inl, inr, List, [], ◌∷◌, ◌++◌, length, get_or, refl, ap, ◌∙◌, sym, subst, arith, append_assoc, Bool, true, false, Option, Some, None}
 use Rattle.std.specs.Prelude.{is_some}
-use Rattle.std.specs.List.{cons_option, flat_map, range_with_len}
+use Rattle.std.specs.List.{cons_option}
 use Rattle.std.proofs.lemmas.List.{append-nil}
 use Rattle.std.proofs.lemmas.Option.{slice_get-get_or}
 use Rattle.dr_listing.proofs.TakenLemmas.{in-at}
 use Rattle.dr_lost.proofs.SetLemmas.{range-more}
-use Rattle.dr_model.specs.declared.event.Event.{Event}
 use Rattle.dr_plan.specs.declared.points.Point.{Point}
 use Rattle.dr_plan.specs.declared.points.Point.TheVariants.{Cut, Gap}
+use Rattle.dr_plan.specs.declared.points.Torn.{Torn}
 use Rattle.dr_plan.specs.declared.points.Torn.TheVariants.{Unchanged, Zeros, Ones}
 use Rattle.dr_plan.specs.Sweep.{Sweep}
 use Rattle.dr_rows.specs.Outcome.{Outcome}
 use Rattle.dr_model.specs.Groups.{In}
 use Rattle.dr_sweep.specs.declared.parts.Part.{Part}
-use Rattle.dr_sweep.specs.declared.point.PointFault.{PointFault}
-use Rattle.dr_sweep.specs.declared.point.PointFault.TheVariants.{NoMemory, TooLong}
-use Rattle.dr_sweep.specs.Comes.{ComesTo}
-use Rattle.dr_sweep.specs.Parts.{IsRowOf, Reaches, AreRowsOf, AreWithin, AreRows, AreSwept, FailsIn, FailsAtPart, IsRowWhereReached, Gives, Adds, AddsWhereReached, AddsWrite, first_write, is_reached, write_points, points_from, parts_of}
+use Rattle.dr_sweep.specs.declared.parts.Part.TheVariants.{Between, Within}
+use Rattle.dr_sweep.specs.declared.fault.PointFault.{PointFault}
+use Rattle.dr_sweep.specs.declared.fault.PointFault.TheVariants.{NoMemory, TooLong}
+use Rattle.dr_sweep.specs.Comes.{PointTold, ComesTo, Reaches, FailsAt}
+use Rattle.dr_sweep.specs.Parts.{AreRowsOf, AreWithin, AreRows, AreSwept, IsTriedTorn, FailsWrite, FailsIn, FailsAtPart, Tells, Gives, Adds, AddsWhereReached, AddsWrite, first_write, write_points, points_from, parts_of}
 use Rattle.dr_sweep.specs.Rows.{IsRow}
 
 -- rows that are such, and then rows that are such, where both together are so
@@ -41,7 +42,7 @@ pub adds-all : (p : List Outcome → Type 0) (b : List Outcome) → Adds p [] b 
 adds-all p b adds = subst p (sym adds.cut) adds.are
 
 module _ (plan : Sweep) where
-  -- rows of points, and those of points behind them
+  -- rows of points, and those of points after them
   pub rows-append : (ps qs : List Point) (xs ys : List Outcome) → AreRowsOf plan ps xs → AreRowsOf plan qs ys → AreRowsOf plan (ps ++ qs) (xs ++ ys)
   rows-append [] qs xs ys are more = subst (λ (zs : List Outcome). AreRowsOf plan qs (zs ++ ys)) (sym are) more
   rows-append (p ∷ ps) qs xs ys (inl begins) more =
@@ -57,25 +58,24 @@ module _ (plan : Sweep) where
 
   -- a point's row alone
   one-row : (p : Point) (row : Outcome) → Gives plan p (Some row) → AreRowsOf plan (p ∷ []) (row ∷ [])
-  one-row p row gives =
-      inl (record {
-        first = row;
-        rest = [];
-        cut = refl;
-        point_is = gives.is.1.point_is;
-        is = record {
-          events = gives.events;
-          comes = subst (λ (q : Point). ComesTo plan q gives.events) (sym gives.is.1.point_is) gives.comes;
-          reached = ap (λ (q : Point). is_reached plan q gives.events) gives.is.1.point_is ∙ gives.is.0;
-          is = subst (λ (q : Point). IsRow plan q gives.events row) (sym gives.is.1.point_is) gives.is.1;
-        };
-        others = refl;
-      })
+  one-row p row gives = inl (record { first = row; rest = []; cut = refl; point_is = gives.1; is = gives.2; others = refl })
 
   -- what a point came to was added
   pub gives-adds : (p : Point) (row : Option Outcome) (a b : List Outcome) → Gives plan p row → b ≡ a ++ cons_option row [] → AddsWhereReached plan p (p ∷ []) a b (is_some row)
-  gives-adds p (Some row) a b gives cut = (record { more = row ∷ []; cut = cut; are = one-row p row gives }, record { events = gives.events; comes = gives.comes; is = gives.is.0 })
-  gives-adds p None a b gives cut = (cut ∙ append-nil a, record { events = gives.events; comes = gives.comes; is = gives.is })
+  gives-adds p (Some row) a b gives cut = (record { more = row ∷ []; cut = cut; are = one-row p row gives }, gives.0)
+  gives-adds p None a b gives cut = (cut ∙ append-nil a, gives)
+
+  -- the row of a point of whose run this was told
+  pub told-gives : (p : Point) (told : PointTold) (row : Outcome) → Tells plan p (Some told) → IsRow plan p told row → Gives plan p (Some row)
+  told-gives p told row tells is = (
+    tells.0,
+    is.point_is,
+    record {
+      told = told;
+      comes = subst (λ (q : Point). ComesTo plan q told) (sym is.point_is) tells.1;
+      is = subst (λ (q : Point). IsRow plan q told row) (sym is.point_is) is;
+    },
+  )
 
   -- reached or not, its rows were
   pub adds-either : (p : Point) (a b : List Outcome) (reached : Bool) → AddsWhereReached plan p (p ∷ []) a b reached → Adds (AreRowsOf plan (p ∷ [])) a b
@@ -102,16 +102,16 @@ module _ (plan : Sweep) where
     others = swept-more part parts are.rest more are.others is;
   }
 
-  module _ (disaster line server : ℕ) where
+  module _ (disaster place server : ℕ) where
     abbrev first : ℕ
-    first = first_write plan disaster line server
+    first = first_write plan disaster place server
 
     -- the rows of a server's device writes from the first one up to one
     pub record AreUpTo (write : ℕ) (rows : List Outcome) : Type 0 where
       pub writes : ℕ
       pub count : write ≡ first + writes
-      pub are : AreRowsOf plan (points_from disaster line server first writes) rows
-      pub reached : (w : ℕ) → first ≤ w → w < write → Reaches plan (Cut disaster line server w Unchanged) true
+      pub are : AreRowsOf plan (points_from disaster place server first writes) rows
+      pub reached : (w : ℕ) → first ≤ w → w < write → Reaches plan (Cut disaster place server w Unchanged) true
 
     none-yet : (write : ℕ) → write ≡ first → AreUpTo write []
     none-yet write is = record { writes = 0; count = is ∙ (let same : first ≡ first + 0 = omega arith in same); are = refl; reached = λ w from below. absurd (omega (arith, is, from, below)) }
@@ -124,39 +124,39 @@ module _ (plan : Sweep) where
       at_most : (w : ℕ) → w < write + 1 → (w < write) ⊎ (w ≡ write)
       at_most w below = grind (arith, below)
 
-      points_more : (writes : ℕ) → write ≡ first + writes → points_from disaster line server first (writes + 1) ≡ points_from disaster line server first writes ++ write_points disaster line server write
+      points_more : (writes : ℕ) → write ≡ first + writes → points_from disaster place server first (writes + 1) ≡ points_from disaster place server first writes ++ write_points disaster place server write
       points_more writes count =
-          range-more (write_points disaster line server) first writes
-          ∙ ap (λ w. points_from disaster line server first writes ++ write_points disaster line server w) (sym count)
+          range-more (write_points disaster place server) first writes
+          ∙ ap (λ w. points_from disaster place server first writes ++ write_points disaster place server w) (sym count)
 
-      one-more : Reaches plan (Cut disaster line server write Unchanged) true → (rows more : List Outcome) → AreUpTo write rows → AreRowsOf plan (write_points disaster line server write) more → AreUpTo (write + 1) (rows ++ more)
+      one-more : Reaches plan (Cut disaster place server write Unchanged) true → (rows more : List Outcome) → AreUpTo write rows → AreRowsOf plan (write_points disaster place server write) more → AreUpTo (write + 1) (rows ++ more)
       one-more reaches rows more so_far are = record {
         writes = so_far.writes + 1;
         count = let is = so_far.count in omega (arith, is);
-        are = subst (λ (ps : List Point). AreRowsOf plan ps (rows ++ more)) (sym (points_more so_far.writes so_far.count)) (rows-append (points_from disaster line server first so_far.writes) (write_points disaster line server write) rows more so_far.are are);
+        are = subst (λ (ps : List Point). AreRowsOf plan ps (rows ++ more)) (sym (points_more so_far.writes so_far.count)) (rows-append (points_from disaster place server first so_far.writes) (write_points disaster place server write) rows more so_far.are are);
         reached = λ w from below. elim (at_most w below) [
           | inl earlier ↦ so_far.reached w from earlier
-          | inr same ↦ subst (λ n. Reaches plan (Cut disaster line server n Unchanged) true) (sym same) reaches
+          | inr same ↦ subst (λ n. Reaches plan (Cut disaster place server n Unchanged) true) (sym same) reaches
         ];
       }
 
       -- one device write more
-      pub write-more : (a b c : List Outcome) → Adds (AreUpTo write) a b → AddsWrite plan disaster line server write b c true → Adds (AreUpTo (write + 1)) a c
-      write-more a b c so_far adds = adds-then (AreUpTo write) (AreRowsOf plan (write_points disaster line server write)) (AreUpTo (write + 1)) a b c (one-more adds.1) so_far adds.0
+      pub write-more : (a b c : List Outcome) → Adds (AreUpTo write) a b → AddsWrite plan disaster place server write b c true → Adds (AreUpTo (write + 1)) a c
+      write-more a b c so_far adds = adds-then (AreUpTo write) (AreRowsOf plan (write_points disaster place server write)) (AreUpTo (write + 1)) a b c (one-more adds.1) so_far adds.0
 
-      ends-here : Reaches plan (Cut disaster line server write Unchanged) false → (rows : List Outcome) → AreUpTo write rows → AreWithin plan disaster line server rows
+      ends-here : Reaches plan (Cut disaster place server write Unchanged) false → (rows : List Outcome) → AreUpTo write rows → AreWithin plan disaster place server rows
       ends-here misses rows so_far = record {
         writes = so_far.writes;
         are = so_far.are;
         reached = λ w from below. so_far.reached w from (let is = so_far.count in omega (arith, is, below));
-        end = inl (subst (λ n. Reaches plan (Cut disaster line server n Unchanged) false) so_far.count misses);
+        end = inl (subst (λ n. Reaches plan (Cut disaster place server n Unchanged) false) so_far.count misses);
       }
 
       -- the next one isn't reached
-      pub write-ends : (a b c : List Outcome) → Adds (AreUpTo write) a b → AddsWrite plan disaster line server write b c false → Adds (AreWithin plan disaster line server) a c
-      write-ends a b c so_far none = subst (λ (rows : List Outcome). Adds (AreWithin plan disaster line server) a rows) (sym none.0) (adds-as (AreUpTo write) (AreWithin plan disaster line server) a b (ends-here none.1) so_far)
+      pub write-ends : (a b c : List Outcome) → Adds (AreUpTo write) a b → AddsWrite plan disaster place server write b c false → Adds (AreWithin plan disaster place server) a c
+      write-ends a b c so_far none = subst (λ (rows : List Outcome). Adds (AreWithin plan disaster place server) a rows) (sym none.0) (adds-as (AreUpTo write) (AreWithin plan disaster place server) a b (ends-here none.1) so_far)
 
-      counted-out : write ≡ 2 ^ 32 - 1 → (rows : List Outcome) → AreUpTo write rows → AreWithin plan disaster line server rows
+      counted-out : write ≡ 2 ^ 32 - 1 → (rows : List Outcome) → AreUpTo write rows → AreWithin plan disaster place server rows
       counted-out last rows so_far = record {
         writes = so_far.writes;
         are = so_far.are;
@@ -165,14 +165,39 @@ module _ (plan : Sweep) where
       }
 
       -- no fuse counts more
-      pub writes-out : (a b : List Outcome) → Adds (AreUpTo write) a b → write ≡ 2 ^ 32 - 1 → Adds (AreWithin plan disaster line server) a b
-      writes-out a b so_far last = adds-as (AreUpTo write) (AreWithin plan disaster line server) a b (counted-out last) so_far
+      pub writes-out : (a b : List Outcome) → Adds (AreUpTo write) a b → write ≡ 2 ^ 32 - 1 → Adds (AreWithin plan disaster place server) a b
+      writes-out a b so_far last = adds-as (AreUpTo write) (AreWithin plan disaster place server) a b (counted-out last) so_far
 
 -- ---- what fails
 
 -- the part at a place
 pub part-at : (parts : List Part) (i : ℕ) (d : Part) → i < length parts → In (get_or parts i d) parts
 part-at parts i d low = in-at parts i (get_or parts i d) (slice_get-get_or parts i d low)
+
+-- a point of a device write has none
+pub write-fails : (plan : Sweep) (d l x w : ℕ) (torn : Torn) (p : Point) (fault : PointFault) → p ≡ Cut d l x w torn → IsTriedTorn plan d l x w torn → FailsAt plan p fault → FailsWrite plan d l x w fault
+write-fails plan d l x w torn p fault is here fails = record { torn = torn; here = here; fails = subst (λ (q : Point). FailsAt plan q fault) is fails }
+
+-- so one of the part has none
+pub within-fails : (plan : Sweep) (d l x w : ℕ) (fault : PointFault) (rows : List Outcome) → AreUpTo plan d l x w rows → FailsWrite plan d l x w fault → FailsIn plan (Within d l x) fault
+within-fails plan d l x w NoMemory rows so_far fails = tt
+within-fails plan d l x w TooLong rows so_far fails = record {
+  point = Cut d l x w fails.torn;
+  tried = record {
+    write = w;
+    torn = fails.torn;
+    is = refl;
+    from = (let count = so_far.count in omega (arith, count));
+    earlier = so_far.reached;
+    here = fails.here;
+  };
+  fails = fails.fails;
+}
+
+-- the point of a gap has none
+pub between-fails : (plan : Sweep) (d l : ℕ) (fault : PointFault) → FailsAt plan (Gap d l) fault → FailsIn plan (Between d l) fault
+between-fails plan d l NoMemory fails = tt
+between-fails plan d l TooLong fails = record { point = Gap d l; tried = refl; fails = fails }
 
 -- a plan fails at one of its parts
 pub part-fails : (plan : Sweep) (part : Part) (fault : PointFault) → In part (parts_of plan) → FailsIn plan part fault → FailsAtPart plan fault

@@ -1,17 +1,24 @@
 -- How a call of the program ends.
-use Rattle.std.specs.Prelude.{◌≡◌, ℕ, ◌⊎◌, List, [], ◌∷◌, ◌++◌, codes, Option, Some, None}
+use Rattle.std.specs.Prelude.{◌≡◌, ℕ, ◌⊎◌, List, [], ◌∷◌, ◌++◌, codes, Option, Some, None, Err}
 use Rattle.std.specs.Fmt.{decimal}
 use Rattle.std.specs.Option.{option_and_then}
 use Rattle.std.specs.Str.Lines.{lines}
 use Rattle.dr_logic.specs.Counts.{Counted, Rose}
 use Rattle.dr_io.specs.Given.{Gave, GavePart}
-use Rattle.dr_plan.specs.Outcome.{IsFirstBad}
+use Rattle.dr_model.specs.declared.event.Event.{Event}
+use Rattle.dr_plan.specs.declared.reason.Reason.{Reason}
+use Rattle.dr_plan.specs.Outcome.{IsFirstBad, IsNone}
 use Rattle.dr_plan.specs.Parts.{IsPlan}
-use Rattle.dr_plan.specs.Points.{script_of}
+use Rattle.dr_plan.specs.Points.{script_of, calm_script}
+use Rattle.dr_plan.specs.Reading.{sweep_of}
+use Rattle.dr_plan.specs.Reasons.{reason_text}
 use Rattle.dr_plan.specs.Sweep.{Sweep}
+use Rattle.dr_rows.specs.Calm.{Calm}
 use Rattle.dr_rows.specs.Findings.{has_finding}
 use Rattle.dr_rows.specs.Outcome.{Outcome}
 use Rattle.dr_sweep.specs.declared.call.Reply.{Reply}
+use Rattle.dr_sweep.specs.Calm.{calm_of}
+use Rattle.dr_sweep.specs.Comes.{RunsWhole}
 use Rattle.dr_sweep.specs.declared.ending.Ending.{Ending}
 use Rattle.dr_sweep.specs.declared.ending.Ending.TheVariants.{Done, Finding, Usage, ReadFault, WriteFault, NoMemory, TooLong, BadPlan}
 use Rattle.dr_sweep.specs.declared.printing.Asked.{Asked}
@@ -25,22 +32,30 @@ use Rattle.dr_words.specs.declared.sweep.SweepCommand.{SweepCommand}
 
 -- the usage line, with its line feed
 abbrev pub usage_line : List ℕ
-usage_line = codes "usage: sweep [rows | picture | script LINE SERVER WRITE TORN [DISASTER] | script LINE gap [DISASTER]]" ++ 10 ∷ []
+usage_line = codes "usage: sweep [rows | picture | script LINE[.PART] SERVER WRITE TORN [DISASTER] | script LINE[.PART] gap [DISASTER]]" ++ 10 ∷ []
 
 -- what is put of a text that is no plan
-abbrev pub bad_line_text : ℕ → List ℕ
-bad_line_text line = codes "bad plan line " ++ decimal line ++ 10 ∷ []
+abbrev pub bad_line_text : ℕ → Reason → List ℕ
+bad_line_text line reason = codes "bad plan line " ++ decimal line ++ codes ": " ++ reason_text reason ++ 10 ∷ []
 
--- the text on all rows of a plan; a sweep ends as its findings say
+-- what the calm run of a plan comes to
+pub record IsCalm (plan : Sweep) (calm : Calm) : Type 0 where
+  pub events : List Event
+  pub runs : RunsWhole (calm_script plan) events
+  pub is : calm ≡ calm_of plan events
+
+-- the text on the calm run and all rows of a plan; a sweep ends as its findings say
 pub record IsShown (plan : Sweep) (view : View) (text : List ℕ) (ending : Ending) : Type 0 where
+  pub calm : Calm
+  pub before : IsCalm plan calm
   pub rows : List Outcome
   pub are : AreSwept plan (parts_of plan) rows
-  pub says_so : text ≡ says view plan rows
-  pub ends : ending ≡ finding_ending (has_finding plan rows)
+  pub says_so : text ≡ says view plan calm rows
+  pub ends : ending ≡ finding_ending (has_finding plan calm rows)
 
--- a text to be put of rows, and how a call ends that has put it
-abbrev pub IsReply : Sweep → View → List Outcome → Reply → Type 0
-IsReply plan view rows reply = (reply.text ≡ says view plan rows) × (reply.ending ≡ finding_ending (has_finding plan rows))
+-- a text to be put of the calm run and rows, and how a call ends that has put it
+abbrev pub IsReply : Sweep → View → Calm → List Outcome → Reply → Type 0
+IsReply plan view calm rows reply = (reply.text ≡ says view plan calm rows) × (reply.ending ≡ finding_ending (has_finding plan calm rows))
 
 -- the script of a point, or the usage line
 abbrev pub IsScript : Option (List ℕ) → List ℕ → Ending → Type 0
@@ -78,11 +93,11 @@ module _ {K : Type 0} (written : K → Option (List ℕ)) (sink sink' : K) where
   AnswersBy plan asked BadPlan = ⊥
 
   -- of a text that is no plan the line was put that says so, or a front of it
-  abbrev pub BadBy : ℕ → Ending → Type 0
-  BadBy line BadPlan = Gave written sink sink' (bad_line_text line)
-  BadBy line WriteFault = GavePart written sink sink' (bad_line_text line)
-  BadBy line NoMemory = sink' ≡ sink
-  BadBy line _ = ⊥
+  abbrev pub BadBy : ℕ → Reason → Ending → Type 0
+  BadBy line reason BadPlan = Gave written sink sink' (bad_line_text line reason)
+  BadBy line reason WriteFault = GavePart written sink sink' (bad_line_text line reason)
+  BadBy line reason NoMemory = sink' ≡ sink
+  BadBy line reason _ = ⊥
 
   module _ (faults : K → ℕ) where
     -- a text was put, and the call ends so; or a front of it was, where the sink failed
@@ -103,9 +118,9 @@ module _ {K : Type 0} (written : K → Option (List ℕ)) (sink sink' : K) where
     abbrev pub EndsOn : Sweep → Asked → Ending → Type 0
     EndsOn plan asked result = AnswersBy plan asked result × CountsSink result
 
-    -- how one ends that has read a text whose first bad line that is
-    abbrev pub EndsBad : ℕ → Ending → Type 0
-    EndsBad line result = BadBy line result × CountsSink result
+    -- how one ends that has read a text whose first bad line that is, for this reason
+    abbrev pub EndsBad : ℕ → Reason → Ending → Type 0
+    EndsBad line reason result = BadBy line reason result × CountsSink result
 
     -- lines are a plan, and this is what became of it
     pub record OfPlan (lines : List (List ℕ)) (command : SweepCommand) (result : Ending) : Type 0 where
@@ -113,11 +128,14 @@ module _ {K : Type 0} (written : K → Option (List ℕ)) (sink sink' : K) where
       pub is : IsPlan lines plan
       pub ends : EndsOn plan (asked_of plan command) result
 
-    -- lines are none
+    -- lines are none: with this line the lines so far begin no plan, and the reason is that of the lines up to it
     pub record OfBadLine (lines : List (List ℕ)) (result : Ending) : Type 0 where
       pub line : ℕ
+      pub reason : Reason
       pub first : IsFirstBad lines line
-      pub ends : EndsBad line result
+      pub reads : sweep_of lines ≡ Err (record { line = line; reason = reason })
+      pub none : IsNone lines
+      pub ends : EndsBad line reason result
 
     -- lines are a plan or none, or there was no memory to read them
     abbrev pub EndsText : List (List ℕ) → SweepCommand → Ending → Type 0
@@ -130,7 +148,7 @@ module _ {S K : Type 0} (left : S → Option (List ℕ)) (written : K → Option
     pub taken : IsTaken left source source' text
     pub ends : EndsText written sink sink' write_faults (lines text) command result
 
-  -- by the ending: where the text wasn't read to its end nothing was put
+  -- by the ending: if the text wasn't read to its end, nothing was put
   abbrev pub EndsSweep : SweepCommand → Ending → Type 0
   EndsSweep command ReadFault = HasTakenSome left source source' × (sink' ≡ sink)
   EndsSweep command NoMemory = HasTakenSome left source source' × (sink' ≡ sink)

@@ -2,8 +2,8 @@
 use Rattle.std.specs.Prelude.{ℕ, Bool, true, false}
 use Rattle.dr_sweep.specs.declared.ending.Ending.{Ending}
 use Rattle.dr_sweep.specs.declared.ending.Ending.TheVariants.{Done, Finding, Usage, ReadFault, WriteFault, NoMemory, TooLong, BadPlan}
-use Rattle.dr_sweep.specs.declared.point.PointFault.{PointFault}
-use Rattle.dr_sweep.specs.declared.point.PointFault.TheVariants.{NoMemory as PointMemory, TooLong as PointLong}
+use Rattle.dr_sweep.specs.declared.fault.PointFault.{PointFault}
+use Rattle.dr_sweep.specs.declared.fault.PointFault.TheVariants.{NoMemory as PointMemory, TooLong as PointLong}
 use Rattle.dr_top.specs.declared.offline.NotRead.{NotRead}
 use Rattle.dr_top.specs.declared.offline.NotRead.TheVariants.{ReadFault as OnSource, TooLong as PastLimit, NoMemory as OnMemory}
 

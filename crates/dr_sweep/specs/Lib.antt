@@ -1,9 +1,13 @@
-pub mod Places
+pub mod Acks
+pub mod Losses
 pub mod Reach
 pub mod Answers
+pub mod Moments
 pub mod Comes
 pub mod Rows
 pub mod Parts
+pub mod Calm
+pub mod Seen
 pub mod Ending
 pub mod Printing
 pub mod Calls

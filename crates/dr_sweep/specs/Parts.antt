@@ -1,9 +1,8 @@
 -- The parts of a sweep, and their rows.
 use Rattle.std.specs.Prelude.{◌≡◌, ℕ, ◌+◌, ◌-◌, ◌^◌, ◌<◌, ◌≤◌, ◌⊎◌, Bool, true, false, List, [], ◌∷◌, ◌++◌, length, map, slice_get, Option, Some, None, Result, Ok, if◌then◌else◌}
 use Rattle.std.specs.List.{flat_map, range_with_len}
-use Rattle.std.specs.Option.{option_map_or, option_and_then}
+use Rattle.std.specs.Option.{option_map_or}
 use Rattle.std.specs.Str.{bytes_eq}
-use Rattle.dr_model.specs.declared.event.Event.{Event}
 use Rattle.dr_model.specs.declared.step.Name.{Name}
 use Rattle.dr_model.specs.declared.step.Step.{Step}
 use Rattle.dr_model.specs.declared.step.Step.TheVariants.{Start, Stop}
@@ -14,39 +13,35 @@ use Rattle.dr_plan.specs.declared.points.Point.{Point}
 use Rattle.dr_plan.specs.declared.points.Point.TheVariants.{Cut, Gap}
 use Rattle.dr_plan.specs.declared.points.Torn.{Torn}
 use Rattle.dr_plan.specs.declared.points.Torn.TheVariants.{Unchanged, Zeros, Ones}
-use Rattle.dr_plan.specs.Sweep.{Sweep}
+use Rattle.dr_plan.specs.Points.{calm_script}
+use Rattle.dr_plan.specs.Sweep.{Sweep, Tried}
 use Rattle.dr_rows.specs.Outcome.{Outcome}
 use Rattle.dr_sweep.specs.declared.parts.Part.{Part}
 use Rattle.dr_sweep.specs.declared.parts.Part.TheVariants.{Between, Within}
-use Rattle.dr_sweep.specs.declared.point.PointFault.{PointFault}
-use Rattle.dr_sweep.specs.declared.point.PointFault.TheVariants.{NoMemory, TooLong}
-use Rattle.dr_sweep.specs.Comes.{ComesTo, IsTooLong, servers_lost}
-use Rattle.dr_sweep.specs.Reach.{stops_in}
+use Rattle.dr_sweep.specs.declared.fault.PointFault.{PointFault}
+use Rattle.dr_sweep.specs.declared.fault.PointFault.TheVariants.{NoMemory, TooLong}
+use Rattle.dr_sweep.specs.Comes.{PointTold, ComesTo, Reaches, FailsAt, RunsTooLong, name_at, servers_lost}
 use Rattle.dr_sweep.specs.Rows.{IsRow}
 
 -- ---- parts
 
--- the servers of a disaster in a tried line
+-- the servers of a disaster in a tried step
 abbrev pub server_parts : ℕ → ℕ → ℕ → List Part
-server_parts disaster line servers = map (λ server. Within disaster line server) (range_with_len 0 servers)
+server_parts disaster place servers = map (λ server. Within disaster place server) (range_with_len 0 servers)
 
--- with the gap behind the line
-abbrev pub line_parts : Sweep → ℕ → ℕ → List Part
-line_parts plan disaster line = server_parts disaster line (servers_lost plan disaster) ++ Between disaster (line + 1) ∷ []
+-- with the gap after the step
+abbrev pub step_parts : Sweep → ℕ → ℕ → List Part
+step_parts plan disaster place = server_parts disaster place (servers_lost plan disaster) ++ Between disaster (place + 1) ∷ []
 
--- the gap before the first tried line, and the parts of each
+-- the gap before the first tried step, and the parts of each
 abbrev pub disaster_parts : Sweep → ℕ → List Part
-disaster_parts plan disaster = Between disaster 0 ∷ flat_map (line_parts plan disaster) (range_with_len 0 (length plan.tried))
+disaster_parts plan disaster = Between disaster 0 ∷ flat_map (step_parts plan disaster) (range_with_len 0 (length plan.tried))
 
 -- the parts of each disaster, in the order of the plan
 abbrev pub parts_of : Sweep → List Part
 parts_of plan = flat_map (disaster_parts plan) (range_with_len 0 (length plan.loses))
 
 -- ---- points
-
--- the server of a disaster
-abbrev pub name_at : Sweep → ℕ → ℕ → Option Name
-name_at plan disaster server = option_and_then (λ names. slice_get names server) (slice_get plan.loses disaster)
 
 -- By the steps of a line: the count of the first device write of that server that a fuse can cut short. A start takes away a fuse that is at 0. A line
 -- that stops the server itself has no such write, so the count is one that no fuse has.
@@ -59,73 +54,60 @@ first_by name _ = 0
 abbrev pub first_in : Name → List ℕ → ℕ
 first_in name line = first_by name (line_of line)
 
--- of a server of a disaster in a tried line
+-- of a server of a disaster in a tried step
 abbrev pub first_write : Sweep → ℕ → ℕ → ℕ → ℕ
-first_write plan disaster line server = option_map_or (λ name. option_map_or (first_in name) (slice_get plan.tried line) 0) (name_at plan disaster server) 0
-
--- in the run of a point that left these events its server was stopped in the tried line, which comes behind the line that arms the fuse
-abbrev pub is_reached : Sweep → Point → List Event → Bool
-is_reached plan (Cut disaster line server write torn) events =
-    option_map_or (λ name. stops_in (name_text name) (length plan.setup + line + 2) events) (name_at plan disaster server) false
-is_reached plan (Gap disaster line) events = true
+first_write plan disaster place server = option_map_or (λ name. option_map_or (λ (t : Tried). first_in name t.text) (slice_get plan.tried place) 0) (name_at plan disaster server) 0
 
 -- the points of a device write
 abbrev pub write_points : ℕ → ℕ → ℕ → ℕ → List Point
-write_points disaster line server write = Cut disaster line server write Unchanged ∷ Cut disaster line server write Zeros ∷ Cut disaster line server write Ones ∷ []
+write_points disaster place server write = Cut disaster place server write Unchanged ∷ Cut disaster place server write Zeros ∷ Cut disaster place server write Ones ∷ []
 
--- those of so many device writes from one on
+-- those of that many device writes from one on
 abbrev pub points_from : ℕ → ℕ → ℕ → ℕ → ℕ → List Point
-points_from disaster line server first writes = flat_map (write_points disaster line server) (range_with_len first writes)
+points_from disaster place server first writes = flat_map (write_points disaster place server) (range_with_len first writes)
 
 -- ---- rows
 
 -- a row is that of its point
 pub record IsRowOf (plan : Sweep) (row : Outcome) : Type 0 where
-  pub events : List Event
-  pub comes : ComesTo plan row.point events
-  pub reached : is_reached plan row.point events ≡ true
-  pub is : IsRow plan row.point events row
+  pub told : PointTold
+  pub comes : ComesTo plan row.point told
+  pub is : IsRow plan row.point told row
 
--- whether the server of a point is stopped in the tried line
-pub record Reaches (plan : Sweep) (point : Point) (reached : Bool) : Type 0 where
-  pub events : List Event
-  pub comes : ComesTo plan point events
-  pub is : is_reached plan point events ≡ reached
-
--- the first rows are that of a point, the others those behind it
-pub record BeginsWith (plan : Sweep) (point : Point) (behind : List Outcome → Type 0) (rows : List Outcome) : Type 0 where
+-- the first rows are that of a point, the others those after it
+pub record BeginsWith (plan : Sweep) (point : Point) (after : List Outcome → Type 0) (rows : List Outcome) : Type 0 where
   pub first : Outcome
   pub rest : List Outcome
   pub cut : rows ≡ first ∷ rest
   pub point_is : first.point ≡ point
   pub is : IsRowOf plan first
-  pub others : behind rest
+  pub others : after rest
 
 -- the rows of points in order, without the points that aren't reached
 abbrev pub AreRowsOf : Sweep → List Point → List Outcome → Type 0
 AreRowsOf plan [] rows = rows ≡ []
 AreRowsOf plan (point ∷ points) rows = BeginsWith plan point (AreRowsOf plan points) rows ⊎ (Reaches plan point false × AreRowsOf plan points rows)
 
--- The rows of a server's device writes in a tried line: from the first that can be cut short, as long as one is reached where its block stays as
--- it was. One write further the server isn't stopped in the line, or no fuse counts as many.
-pub record AreWithin (plan : Sweep) (disaster line server : ℕ) (rows : List Outcome) : Type 0 where
+-- The rows of a server's device writes in a tried step: from the first that can be cut short, as long as one is reached where its block stays as
+-- it was. One write further the server isn't stopped in the step, or no fuse counts as many.
+pub record AreWithin (plan : Sweep) (disaster place server : ℕ) (rows : List Outcome) : Type 0 where
   pub writes : ℕ
-  pub are : AreRowsOf plan (points_from disaster line server (first_write plan disaster line server) writes) rows
-  pub reached : (write : ℕ) → first_write plan disaster line server ≤ write → write < first_write plan disaster line server + writes → Reaches plan (Cut disaster line server write Unchanged) true
-  pub end : Reaches plan (Cut disaster line server (first_write plan disaster line server + writes) Unchanged) false ⊎ (first_write plan disaster line server + writes ≡ 2 ^ 32 - 1)
+  pub are : AreRowsOf plan (points_from disaster place server (first_write plan disaster place server) writes) rows
+  pub reached : (write : ℕ) → first_write plan disaster place server ≤ write → write < first_write plan disaster place server + writes → Reaches plan (Cut disaster place server write Unchanged) true
+  pub end : Reaches plan (Cut disaster place server (first_write plan disaster place server + writes) Unchanged) false ⊎ (first_write plan disaster place server + writes ≡ 2 ^ 32 - 1)
 
 -- the rows of a part
 abbrev pub AreRows : Sweep → Part → List Outcome → Type 0
-AreRows plan (Between disaster line) rows = AreRowsOf plan (Gap disaster line ∷ []) rows
-AreRows plan (Within disaster line server) rows = AreWithin plan disaster line server rows
+AreRows plan (Between disaster place) rows = AreRowsOf plan (Gap disaster place ∷ []) rows
+AreRows plan (Within disaster place server) rows = AreWithin plan disaster place server rows
 
--- the first rows are those of a part, the others those behind it
-pub record BeginsPart (plan : Sweep) (part : Part) (behind : List Outcome → Type 0) (rows : List Outcome) : Type 0 where
+-- the first rows are those of a part, the others those after it
+pub record BeginsPart (plan : Sweep) (part : Part) (after : List Outcome → Type 0) (rows : List Outcome) : Type 0 where
   pub first : List Outcome
   pub rest : List Outcome
   pub cut : rows ≡ first ++ rest
   pub are : AreRows plan part first
-  pub others : behind rest
+  pub others : after rest
 
 -- the rows of parts, in order
 abbrev pub AreSwept : Sweep → List Part → List Outcome → Type 0
@@ -134,44 +116,77 @@ AreSwept plan (part ∷ parts) rows = BeginsPart plan part (AreSwept plan parts)
 
 -- ---- why there are none
 
--- the point belongs to the part
-abbrev pub BelongsTo : Part → Point → Type 0
-BelongsTo (Between disaster line) point = point ≡ Gap disaster line
-BelongsTo (Within disaster line server) point = (write : ℕ) × (torn : Torn) × (point ≡ Cut disaster line server write torn)
+-- the block stays as it was, or the device write is reached where it does
+abbrev pub IsTriedTorn : Sweep → ℕ → ℕ → ℕ → ℕ → Torn → Type 0
+IsTriedTorn plan disaster place server write torn = (torn ≡ Unchanged) ⊎ Reaches plan (Cut disaster place server write Unchanged) true
 
--- why a part has no rows: the script of one of its points is past a script's limits, or finds the journal full
+-- The point of a device write that is tried: each one before it from the first on is reached.
+pub record IsTriedWrite (plan : Sweep) (disaster place server : ℕ) (point : Point) : Type 0 where
+  pub write : ℕ
+  pub torn : Torn
+  pub is : point ≡ Cut disaster place server write torn
+  pub from : first_write plan disaster place server ≤ write
+  pub earlier : (w : ℕ) → first_write plan disaster place server ≤ w → w < write → Reaches plan (Cut disaster place server w Unchanged) true
+  pub here : IsTriedTorn plan disaster place server write torn
+
+-- the point of a part that is tried
+abbrev pub IsTriedPoint : Sweep → Part → Point → Type 0
+IsTriedPoint plan (Between disaster place) point = point ≡ Gap disaster place
+IsTriedPoint plan (Within disaster place server) point = IsTriedWrite plan disaster place server point
+
+-- one of the points of a device write that are tried has no row
+pub record FailsWrite (plan : Sweep) (disaster place server write : ℕ) (fault : PointFault) : Type 0 where
+  pub torn : Torn
+  pub here : IsTriedTorn plan disaster place server write torn
+  pub fails : FailsAt plan (Cut disaster place server write torn) fault
+
+-- a point of the part is tried, and has no row
+pub record FailsTried (plan : Sweep) (part : Part) (fault : PointFault) : Type 0 where
+  pub point : Point
+  pub tried : IsTriedPoint plan part point
+  pub fails : FailsAt plan point fault
+
+-- why a part has no rows
 abbrev pub FailsIn : Sweep → Part → PointFault → Type 0
 FailsIn plan part NoMemory = Unit {0}
-FailsIn plan part TooLong = (point : Point) × BelongsTo part point × IsTooLong plan point
+FailsIn plan part TooLong = FailsTried plan part TooLong
 
--- why a plan has no rows: in one of its parts a point has none
-pub record FailsLong (plan : Sweep) : Type 0 where
+-- in one of a plan's parts a point has none
+pub record FailsPart (plan : Sweep) : Type 0 where
   pub part : Part
   pub among : In part (parts_of plan)
-  pub fails : FailsIn plan part TooLong
+  pub fails : FailsTried plan part TooLong
 
 -- by the fault
 abbrev pub FailsAtPart : Sweep → PointFault → Type 0
 FailsAtPart plan NoMemory = Unit {0}
-FailsAtPart plan TooLong = FailsLong plan
+FailsAtPart plan TooLong = FailsPart plan
+
+-- why there is nothing to print of a plan: the calm run, or a point that is tried
+abbrev pub FailsLong : Sweep → Type 0
+FailsLong plan = RunsTooLong (calm_script plan) ⊎ FailsPart plan
+
+-- by the fault
+abbrev pub FailsSweep : Sweep → PointFault → Type 0
+FailsSweep plan NoMemory = Unit {0}
+FailsSweep plan TooLong = FailsLong plan
 
 -- the part is one of the plan's
 abbrev pub IsOf : Sweep → Part → Type 0
-IsOf plan (Between disaster line) = (disaster < length plan.loses) × (line ≤ length plan.tried)
-IsOf plan (Within disaster line server) = (disaster < length plan.loses) × (line < length plan.tried) × (server < servers_lost plan disaster)
+IsOf plan (Between disaster place) = (disaster < length plan.loses) × (place ≤ length plan.tried)
+IsOf plan (Within disaster place server) = (disaster < length plan.loses) × (place < length plan.tried) × (server < servers_lost plan disaster)
 
 -- ---- one step of the way
 
--- by what a point's run left: it was reached and this is its row, or it wasn't
-abbrev pub IsRowWhereReached : Sweep → Point → List Event → Option Outcome → Type 0
-IsRowWhereReached plan point events (Some row) = (is_reached plan point events ≡ true) × IsRow plan point events row
-IsRowWhereReached plan point events None = is_reached plan point events ≡ false
+-- what the run of a point came to: its server was stopped in the tried step, and this is told of the run; or it wasn't
+abbrev pub Tells : Sweep → Point → Option PointTold → Type 0
+Tells plan point (Some told) = Reaches plan point true × ComesTo plan point told
+Tells plan point None = Reaches plan point false
 
 -- what a point came to: a row, or none where it wasn't reached
-pub record Gives (plan : Sweep) (point : Point) (row : Option Outcome) : Type 0 where
-  pub events : List Event
-  pub comes : ComesTo plan point events
-  pub is : IsRowWhereReached plan point events row
+abbrev pub Gives : Sweep → Point → Option Outcome → Type 0
+Gives plan point (Some row) = Reaches plan point true × (row.point ≡ point) × IsRowOf plan row
+Gives plan point None = Reaches plan point false
 
 -- rows that are such were added
 pub record Adds (are_such : List Outcome → Type 0) (old new : List Outcome) : Type 0 where
@@ -186,5 +201,5 @@ AddsWhereReached plan point points old new false = (new ≡ old) × Reaches plan
 
 -- those of a device write were, where it is reached with its block as it was
 abbrev pub AddsWrite : Sweep → ℕ → ℕ → ℕ → ℕ → List Outcome → List Outcome → Bool → Type 0
-AddsWrite plan disaster line server write old new reached =
-    AddsWhereReached plan (Cut disaster line server write Unchanged) (write_points disaster line server write) old new reached
+AddsWrite plan disaster place server write old new reached =
+    AddsWhereReached plan (Cut disaster place server write Unchanged) (write_points disaster place server write) old new reached

@@ -1,5 +1,5 @@
 -- What is printed of a sweep.
-use Rattle.std.specs.Prelude.{ℕ, zero, suc, List, ◌++◌, position, slice_get, Option, Some, None}
+use Rattle.std.specs.Prelude.{ℕ, zero, suc, ◌+◌, Bool, ◌&&◌, List, ◌++◌, length, nat_eq, position, slice_get, Option, Some, None, option_map, if◌then◌else◌}
 use Rattle.std.specs.List.{flat_map}
 use Rattle.std.specs.Str.{bytes_eq}
 use Rattle.dr_model.specs.declared.step.Name.{Name}
@@ -10,8 +10,10 @@ use Rattle.dr_plan.specs.declared.points.Point.{Point}
 use Rattle.dr_plan.specs.declared.points.Point.TheVariants.{Cut, Gap}
 use Rattle.dr_plan.specs.declared.points.Torn.{Torn}
 use Rattle.dr_plan.specs.declared.points.Torn.TheVariants.{Unchanged, Zeros, Ones}
-use Rattle.dr_plan.specs.Sweep.{Sweep}
-use Rattle.dr_rows.specs.Line.{heading, row_line}
+use Rattle.dr_plan.specs.Sweep.{Sweep, Tried}
+use Rattle.dr_rows.specs.Calm.{Calm}
+use Rattle.dr_rows.specs.Findings.{asks_recovery}
+use Rattle.dr_rows.specs.Line.{heading, row_lines}
 use Rattle.dr_rows.specs.Outcome.{Outcome}
 use Rattle.dr_rows.specs.Places.{bars}
 use Rattle.dr_rows.specs.Report.{report}
@@ -19,20 +21,21 @@ use Rattle.dr_sweep.specs.declared.printing.Asked.{Asked}
 use Rattle.dr_sweep.specs.declared.printing.Asked.TheVariants.{Rows, Script}
 use Rattle.dr_sweep.specs.declared.printing.View.{View}
 use Rattle.dr_sweep.specs.declared.printing.View.TheVariants.{Report, Table, Picture}
+use Rattle.dr_words.specs.declared.sweep.PlanLine.{PlanLine}
 use Rattle.dr_words.specs.declared.sweep.SweepCommand.{SweepCommand}
 use Rattle.dr_words.specs.declared.sweep.SweepCommand.TheVariants.{Report as OnReport, Rows as OnRows, Picture as OnPicture, CutScript, GapScript}
 use Rattle.dr_words.specs.declared.sweep.TornBytes.{TornBytes}
 use Rattle.dr_words.specs.declared.sweep.TornBytes.TheVariants.{Unchanged as Stays, Zeros as Fills0, Ones as Fills1}
 
--- a heading and a line for each row
+-- a heading, and a line for each loss of each row
 abbrev pub rows_text : Sweep → List Outcome → List ℕ
-rows_text plan rows = heading ++ flat_map (row_line plan) rows
+rows_text plan rows = heading ++ flat_map (row_lines plan) rows
 
--- what is printed of the rows of a plan
-abbrev pub says : View → Sweep → List Outcome → List ℕ
-says Report plan rows = report plan rows
-says Table plan rows = rows_text plan rows
-says Picture plan rows = picture_text (bars rows)
+-- what is printed of a plan's calm run and rows
+abbrev pub says : View → Sweep → Calm → List Outcome → List ℕ
+says Report plan calm rows = report plan calm rows
+says Table plan calm rows = rows_text plan rows
+says Picture plan calm rows = picture_text (asks_recovery plan) (bars plan (asks_recovery plan) rows)
 
 -- the place of what is counted from 1
 abbrev pub place_of : ℕ → Option ℕ
@@ -49,14 +52,30 @@ torn_of Fills1 = Ones
 abbrev pub server_of : List Name → List ℕ → Option ℕ
 server_of names server = position (λ name. bytes_eq (name_text name) server) names
 
--- the point of the words `LINE SERVER WRITE TORN DISASTER`: disasters and lines are counted from 1
-abbrev pub cut_of : Sweep → ℕ → ℕ → List ℕ → ℕ → TornBytes → Option Point
-cut_of plan disaster line server write torn =
-    place_of disaster >>= λ d. place_of line >>= λ l. slice_get plan.loses d >>= λ names. server_of names server >>= λ x. Some (Cut d l x write (torn_of torn))
+-- the tried step is the line of the plan that was named, or the part of it
+abbrev pub is_at : PlanLine → Tried → Bool
+is_at line t = nat_eq t.line line.line && nat_eq t.part line.part
 
--- the point of the words `LINE gap DISASTER`: behind so many lines
-abbrev pub gap_of : ℕ → ℕ → Option Point
-gap_of disaster line = place_of disaster >>= λ d. Some (Gap d line)
+-- the place among the tried steps of the line that was named, or of the part
+abbrev pub tried_at : Sweep → PlanLine → Option ℕ
+tried_at plan line = position (is_at line) plan.tried
+
+-- the line is that from which on steps are tried
+abbrev pub is_here : Sweep → PlanLine → Bool
+is_here plan line = nat_eq line.line (length plan.setup + 1) && nat_eq line.part 0
+
+-- how many tried steps come before the gap that the line names: none before the first gap, else those up to the step of that name
+abbrev pub gap_at : Sweep → PlanLine → Option ℕ
+gap_at plan line = if is_here plan line then Some 0 else option_map (λ n. n + 1) (tried_at plan line)
+
+-- the point of the words `LINE SERVER WRITE TORN DISASTER`: disasters are counted from 1
+abbrev pub cut_of : Sweep → ℕ → PlanLine → List ℕ → ℕ → TornBytes → Option Point
+cut_of plan disaster line server write torn =
+    place_of disaster >>= λ d. tried_at plan line >>= λ p. slice_get plan.loses d >>= λ names. server_of names server >>= λ x. Some (Cut d p x write (torn_of torn))
+
+-- the point of the words `LINE gap DISASTER`
+abbrev pub gap_of : Sweep → ℕ → PlanLine → Option Point
+gap_of plan disaster line = place_of disaster >>= λ d. gap_at plan line >>= λ p. Some (Gap d p)
 
 -- what a command asks for
 abbrev pub asked_of : Sweep → SweepCommand → Asked
@@ -64,4 +83,4 @@ asked_of plan OnReport = Rows Report
 asked_of plan OnRows = Rows Table
 asked_of plan OnPicture = Rows Picture
 asked_of plan (CutScript disaster line server write torn) = Script (cut_of plan disaster line server write torn)
-asked_of plan (GapScript disaster line) = Script (gap_of disaster line)
+asked_of plan (GapScript disaster line) = Script (gap_of plan disaster line)

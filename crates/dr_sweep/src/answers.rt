@@ -8,7 +8,7 @@ use dr_model::{Event, Journal};
 use dr_rows::Answer;
 use std::alloc::{AllocError, Global};
 
-/// The answer that an event is, where its line is behind that one. Lines are counted from there on.
+/// The answer that an event is, if its line comes after that one. Lines are counted from there on.
 fn answer_in(event: &Event, before: u128) -> Option<Answer>
     ensures { result ≡ answer_in before event.now }
 {
@@ -43,7 +43,7 @@ fn answer_at(journal: &Journal, place: usize, before: u128) -> Option<Answer>
     answer_in(journal.event(place)?, before)
 }
 
-/// Adds an answer, where there is one.
+/// Adds an answer, if there is one.
 fn push_answer(answers: &mut Vec<Answer>, answer: Option<Answer>) -> Result<(), AllocError>
     ensures { OnOk result (answers.new.items ≡ answers.old.items ++ cons_option answer []) }
 {
@@ -53,8 +53,12 @@ fn push_answer(answers: &mut Vec<Answer>, answer: Option<Answer>) -> Result<(), 
     Ok(())
 }
 
-/// The answers of the steps in the lines behind that one, in order.
-pub fn answers_of(alloc: Global, journal: &Journal, before: u128) -> Result<Vec<Answer>, AllocError>
+/// The answers of the steps in the lines after that one, in order.
+pub(crate) fn answers_of(
+    alloc: Global,
+    journal: &Journal,
+    before: u128,
+) -> Result<Vec<Answer>, AllocError>
     ensures { IfOk result (λ answers. answers.items ≡ answers_of before journal.now.events) }
 {
     let mut answers = Vec::new(alloc);

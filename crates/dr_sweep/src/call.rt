@@ -1,30 +1,33 @@
 //! The call that the program `sweep` makes.
 
-ghost use Rattle.std.specs.Prelude.{◌≡◌, Some, None, IfOk, false, string_bytes};
+ghost use Rattle.std.specs.Prelude.{◌≡◌, Some, None, IfOk, IfErr, false};
 ghost use Rattle.std.specs.Str.Lines.{lines};
-ghost use Rattle.dr_sweep.specs.Calls.{bad_line_text, usage_line, IsReply, Puts, EndsOn, EndsBad, EndsText, IsSweep, EndsUsage};
+ghost use Rattle.dr_sweep.specs.Calls.{bad_line_text, usage_line, IsCalm, IsReply, Puts, EndsOn, EndsBad, EndsText, IsSweep, EndsUsage};
 ghost use Rattle.dr_sweep.specs.Ending.{is_write_fault};
-ghost use Rattle.dr_sweep.specs.Parts.{AreSwept, parts_of};
+ghost use Rattle.dr_sweep.specs.Parts.{AreSwept, FailsSweep, parts_of};
 ghost use Rattle.dr_sweep.specs.declared.ending.Ending.TheVariants.{Usage};
 ghost use Rattle.dr_sweep.specs.declared.printing.Asked.TheVariants.{Rows, Script};
 ghost use Rattle.dr_words.specs.Sweep.{sweep_command_of};
 ghost use Rattle.dr_words.specs.declared.sweep.SweepCommand.{SweepCommand};
 
+use crate::calm::calm_of;
 use crate::ending::{Ending, ending_of, fault_ending, finding_ending};
+use crate::fault::PointFault;
+use crate::point::run_calm;
 use crate::printing::{Asked, View, asked_of, says, script_of};
 use crate::walk::all_rows;
 use dr_ids::Text;
 use dr_io::{Sink, Source};
-use dr_plan::{PlanFault, Point, SweepPlan, read_plan};
-use dr_rows::{Row, has_finding};
+use dr_plan::{PlanFault, Point, Reason, SweepPlan, push_reason, read_plan};
+use dr_rows::{Calm, Row, has_finding};
 use dr_top::{put_all, read_text};
 use dr_words::{SweepCommand, sweep_command_of};
 use std::alloc::{AllocError, Global};
 
 const USAGE: &[u8] =
-    b"usage: sweep [rows | picture | script LINE SERVER WRITE TORN [DISASTER] | script LINE gap [DISASTER]]\n";
+    b"usage: sweep [rows | picture | script LINE[.PART] SERVER WRITE TORN [DISASTER] | script LINE[.PART] gap [DISASTER]]\n";
 
-/// Puts a text, and ends so where the sink took all of it.
+/// Puts a text, and ends so if the sink took all of it.
 fn put_text<K: Sink>(sink: &mut K, text: &[u8], ending: Ending) -> Ending
     requires { is_write_fault ending ≡ false }
     ensures { Puts K.written sink.old sink.new K.faults text.now ending result }
@@ -42,36 +45,56 @@ struct Reply {
     ending: Ending,
 }
 
-/// What is put of the rows of a plan.
-fn reply_of(alloc: Global, plan: &SweepPlan, view: View, rows: &[Row]) -> Result<Reply, AllocError>
-    ensures { IfOk result (IsReply plan.now view rows.now) }
+/// What is put of the calm run and the rows of a plan.
+fn reply_of(
+    alloc: Global,
+    plan: &SweepPlan,
+    view: View,
+    calm: &Calm,
+    rows: &[Row],
+) -> Result<Reply, AllocError>
+    ensures { IfOk result (IsReply plan.now view calm.now rows.now) }
 {
-    let text = says(alloc, view, plan, rows)?;
-    let found = has_finding(alloc, plan, rows)?;
+    let text = says(alloc, view, plan, calm, rows)?;
+    let found = has_finding(alloc, plan, calm, rows)?;
     Ok(Reply {
         text,
         ending: finding_ending(found),
     })
 }
 
-/// Puts what is asked for of the rows of a plan.
+/// Puts what is asked for of the calm run and the rows of a plan.
 fn put_rows<K: Sink>(
     alloc: Global,
     plan: &SweepPlan,
     view: View,
+    calm: &Calm,
     rows: &[Row],
     sink: &mut K,
 ) -> Ending
-    requires { AreSwept plan.now (parts_of plan.now) rows.now }
+    requires calm { IsCalm plan.now calm.now }
+    requires swept { AreSwept plan.now (parts_of plan.now) rows.now }
     ensures { EndsOn K.written sink.old sink.new K.faults plan.now (Rows view) result }
 {
-    match reply_of(alloc, plan, view, rows) {
+    match reply_of(alloc, plan, view, calm, rows) {
         Ok(reply) => put_text(sink, reply.text.bytes(), reply.ending),
         Err(_) => Ending::NoMemory,
     }
 }
 
-/// Sweeps over a plan, and puts what is asked for of its rows.
+/// What the calm run of a plan comes to.
+fn calm_run(alloc: Global, plan: &SweepPlan) -> Result<Calm, PointFault>
+    ensures calm { IfOk result (IsCalm plan.now) }
+    ensures fails { IfErr result (FailsSweep plan.now) }
+{
+    let journal = run_calm(alloc, plan)?;
+    match calm_of(alloc, plan, &journal) {
+        Ok(calm) => Ok(calm),
+        Err(_) => Err(PointFault::NoMemory),
+    }
+}
+
+/// Sweeps over a plan, and puts what is asked for of its calm run and its rows.
 fn show<K: Sink, Q: Sink>(
     alloc: Global,
     plan: &SweepPlan,
@@ -81,13 +104,17 @@ fn show<K: Sink, Q: Sink>(
 ) -> Ending
     ensures { EndsOn K.written sink.old sink.new K.faults plan.now (Rows view) result }
 {
+    let calm = match calm_run(alloc, plan) {
+        Ok(calm) => calm,
+        Err(fault) => return fault_ending(fault),
+    };
     match all_rows(alloc, plan, progress) {
-        Ok(rows) => put_rows(alloc, plan, view, &rows, sink),
+        Ok(rows) => put_rows(alloc, plan, view, &calm, &rows, sink),
         Err(fault) => fault_ending(fault),
     }
 }
 
-/// Puts the script of a point, or the usage line where the plan has no such point.
+/// Puts the script of a point, or the usage line if the plan has no such point.
 fn put_script<K: Sink>(
     alloc: Global,
     plan: &SweepPlan,
@@ -120,18 +147,23 @@ fn answer<K: Sink, Q: Sink>(
 }
 
 /// What is put of a text that is no plan.
-fn bad_line_text(alloc: Global, line: usize) -> Result<String, AllocError>
-    ensures { IfOk result (λ text. string_bytes text ≡ bad_line_text line) }
+fn bad_line_text(alloc: Global, line: usize, reason: &Reason) -> Result<Text, AllocError>
+    ensures { IfOk result (λ text. text ≡ bad_line_text line reason.now) }
 {
-    format!(in alloc; "bad plan line {line}\n")
+    let mut text = Text::new(alloc);
+    let says = format!(in alloc; "bad plan line {line}: ")?;
+    text.append(says.as_bytes())?;
+    push_reason(alloc, &mut text, reason)?;
+    text.append(b"\n")?;
+    Ok(text)
 }
 
-/// Puts the line that says which line of a text makes it no plan.
-fn put_bad_line<K: Sink>(alloc: Global, sink: &mut K, line: usize) -> Ending
-    ensures { EndsBad K.written sink.old sink.new K.faults line result }
+/// Puts the line that says which line of a text makes it no plan, and why.
+fn put_bad_line<K: Sink>(alloc: Global, sink: &mut K, line: usize, reason: &Reason) -> Ending
+    ensures { EndsBad K.written sink.old sink.new K.faults line reason.now result }
 {
-    match bad_line_text(alloc, line) {
-        Ok(says) => put_text(sink, says.as_bytes(), Ending::BadPlan),
+    match bad_line_text(alloc, line, reason) {
+        Ok(says) => put_text(sink, says.bytes(), Ending::BadPlan),
         Err(_) => Ending::NoMemory,
     }
 }
@@ -148,7 +180,7 @@ fn answer_text<K: Sink, Q: Sink>(
 {
     match read_plan(alloc, text) {
         Ok(plan) => answer(alloc, &plan, asked_of(&plan, command), sink, progress),
-        Err(PlanFault::BadLine { line }) => put_bad_line(alloc, sink, line),
+        Err(PlanFault::BadLine { line, reason }) => put_bad_line(alloc, sink, line, &reason),
         Err(PlanFault::NoMemory) => Ending::NoMemory,
     }
 }

@@ -3,15 +3,15 @@
 ghost use Rattle.std.specs.Prelude.{◌≡◌};
 ghost use Rattle.dr_sweep.specs.Ending.{code_of, ending_of, fault_ending, finding_ending};
 
-use crate::point::PointFault;
+use crate::fault::PointFault;
 use dr_top::NotRead;
 
 /// How a call of the program ends.
 #[derive(Clone, Copy)]
 pub enum Ending {
-    /// What was asked for was printed, and no row is a finding.
+    /// What was asked for was printed, and nothing is a finding.
     Done,
-    /// The sweep was printed, and a row is a finding.
+    /// The sweep was printed, and the calm run, a line of the recovery or a row is a finding.
     Finding,
     /// The words are no command, or name a point that the plan doesn't have.
     Usage,
@@ -21,7 +21,7 @@ pub enum Ending {
     WriteFault,
     /// There is no memory.
     NoMemory,
-    /// The plan, or the script of one of its points, has more bytes or lines than a script may have, or a step found the journal full.
+    /// The plan, or a script of the sweep, has more bytes or lines than a script may have, or a step found the journal full.
     TooLong,
     /// The input is no plan.
     BadPlan,
@@ -56,7 +56,7 @@ pub(crate) fn ending_of(fault: NotRead) -> Ending
     }
 }
 
-/// How a call ends where a point has no row.
+/// How a call ends if a script of the sweep wasn't carried out.
 pub(crate) fn fault_ending(fault: PointFault) -> Ending
     ensures { result ≡ fault_ending fault }
 {
@@ -66,7 +66,7 @@ pub(crate) fn fault_ending(fault: PointFault) -> Ending
     }
 }
 
-/// How a call ends that printed a sweep, by whether a row is a finding.
+/// How a call ends that printed a sweep, by whether there is a finding.
 pub(crate) fn finding_ending(found: bool) -> Ending
     ensures { result ≡ finding_ending found }
 {

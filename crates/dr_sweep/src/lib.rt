@@ -1,29 +1,28 @@
 //! Sweeps over a plan: runs each of its points, and prints what these runs came to, by their journals.
 //!
-//! `sweep` is the call that the program makes (`sweep`, `usage`); `usage` puts the usage line.
-//!
-//! `try_point` runs the script of a point to its end on a plant of its own and gives its journal (`comes`), or says why there is none
-//! (`fails`). `parts_of` lists the parts of a sweep in order: the gaps between tried lines, and the servers whose device writes are cut short
-//! in a line. `stops_in` says whether the journal tells of a server's stop in a line, `stop_of` where the last stop before a line is, and
-//! `answers_of` gives the answers of the lines behind one, which are those of the recovery behind `lines_before`.
+//! `sweep` is the call that the program makes (`sweep`, `usage`); `usage` puts the usage line. Before any point the calm run is carried out: the
+//! set-up and all tried steps, without a disaster (`calm.rt`). `parts_of` lists the parts of a sweep in order: the gaps between tried steps, and
+//! the servers whose device writes are cut short in a step. The script of a point is carried out in pieces on a plant of its own (`run.rt`,
+//! `point.rt`), so that phases and members are read between them; its row is read off the journal (`row.rt`, `losses.rt`, `acks.rt`).
 #![tactic(auto)]
 
+mod acks;
 mod answers;
 mod call;
+mod calm;
 mod ending;
+mod fault;
+mod losses;
 mod parts;
-mod places;
 mod point;
 mod printing;
 mod reach;
 mod row;
 mod rows;
+mod run;
 mod walk;
 
-pub use answers::answers_of;
 pub use call::{sweep, usage};
 pub use ending::Ending;
+pub use fault::PointFault;
 pub use parts::{Part, parts_of};
-pub use places::stop_of;
-pub use point::{PointFault, lines_before, try_point};
-pub use reach::stops_in;

@@ -1,7 +1,7 @@
 //! The parts of a sweep, in order.
 
 ghost use Rattle.std.specs.Prelude.{◌≡◌, ◌<◌, ◌++◌, ◌^◌, ◌-◌, IfOk, OnOk};
-ghost use Rattle.dr_sweep.specs.Parts.{line_parts, disaster_parts, parts_of, server_parts};
+ghost use Rattle.dr_sweep.specs.Parts.{step_parts, disaster_parts, parts_of, server_parts};
 
 use crate::point::servers_lost;
 use dr_plan::SweepPlan;
@@ -10,52 +10,52 @@ use std::alloc::{AllocError, Global};
 /// A part of a sweep. All places are counted from 0.
 #[derive(Clone, Copy)]
 pub enum Part {
-    /// The gap behind so many tried lines.
+    /// The gap after that many tried steps.
     Between {
         disaster: usize,
-        line: usize,
+        place: usize,
     },
-    /// The device writes of a server in a tried line.
+    /// The device writes of a server in a tried step.
     Within {
         disaster: usize,
-        line: usize,
+        place: usize,
         server: usize,
     },
 }
 
-/// Adds the parts of the servers of a disaster in a tried line.
+/// Adds the parts of the servers of a disaster in a tried step.
 fn push_servers(
     parts: &mut Vec<Part>,
     servers: usize,
     disaster: usize,
-    line: usize,
+    place: usize,
 ) -> Result<(), AllocError>
-    ensures { OnOk result (parts.new.items ≡ parts.old.items ++ server_parts disaster line servers) }
+    ensures { OnOk result (parts.new.items ≡ parts.old.items ++ server_parts disaster place servers) }
 {
     for server in 0..servers {
         parts.push(Part::Within {
             disaster,
-            line,
+            place,
             server,
         })?;
     }
     Ok(())
 }
 
-/// Adds the parts of a tried line, and the gap behind it.
-fn push_line(
+/// Adds the parts of a tried step, and the gap after it.
+fn push_step(
     parts: &mut Vec<Part>,
     plan: &SweepPlan,
     disaster: usize,
-    line: usize,
+    place: usize,
 ) -> Result<(), AllocError>
-    requires { line < 2 ^ 64 - 1 }
-    ensures { OnOk result (parts.new.items ≡ parts.old.items ++ line_parts plan.now disaster line) }
+    requires { place < 2 ^ 64 - 1 }
+    ensures { OnOk result (parts.new.items ≡ parts.old.items ++ step_parts plan.now disaster place) }
 {
-    push_servers(parts, servers_lost(plan, disaster), disaster, line)?;
+    push_servers(parts, servers_lost(plan, disaster), disaster, place)?;
     parts.push(Part::Between {
         disaster,
-        line: line + 1,
+        place: place + 1,
     })?;
     Ok(())
 }
@@ -64,9 +64,9 @@ fn push_line(
 fn push_disaster(parts: &mut Vec<Part>, plan: &SweepPlan, disaster: usize) -> Result<(), AllocError>
     ensures { OnOk result (parts.new.items ≡ parts.old.items ++ disaster_parts plan.now disaster) }
 {
-    parts.push(Part::Between { disaster, line: 0 })?;
-    for line in 0..plan.tried().len() {
-        push_line(parts, plan, disaster, line)?;
+    parts.push(Part::Between { disaster, place: 0 })?;
+    for place in 0..plan.tried().len() {
+        push_step(parts, plan, disaster, place)?;
     }
     Ok(())
 }

@@ -1,32 +1,79 @@
-//! The run of one point's script, on a plant of its own.
+//! The run of one point's script, and the calm run.
 
-ghost use Rattle.std.specs.Prelude.{◌≡◌, ◌<◌, ◌^◌, IfOk, IfErr, IsSome};
-ghost use Rattle.dr_plan.specs.Points.{script_of};
-ghost use Rattle.dr_sweep.specs.Comes.{ComesTo, FailsAt, FailsOn, RunsWhole, lines_before, servers_lost};
-ghost use Rattle.dr_sweep.specs.declared.point.PointFault.TheVariants.{NoMemory};
+ghost use Rattle.std.specs.Prelude.{ℕ, List, [], ◌≡◌, ◌≤◌, ◌+◌, ◌⊎◌, Some, true, false, length, option_map, IfOk, IfErr, OnOk, IsSome};
+ghost use Rattle.std.specs.Option.{option_copied};
+ghost use Rattle.std.specs.Str.Lines.{lines};
+ghost use Rattle.dr_plan.specs.Parts.{IsSweep};
+ghost use Rattle.dr_plan.specs.Pieces.{AreTexts, IsCutUp, IsTextOf, Pieces, pieces_of};
+ghost use Rattle.dr_plant.specs.State.{PlantState, IsFresh};
+ghost use Rattle.dr_model.specs.Runs.{Task};
+ghost use Rattle.dr_plan.specs.Points.{script_of, calm_script};
+ghost use Rattle.dr_sweep.specs.Comes.{Approaches, Carries, Fails, FailsAfter, FailsAt, FailsOn, IsRun, Ran, RunsWhole, Settles, is_struck, name_at, seen, servers_at, servers_lost};
+ghost use Rattle.dr_sweep.specs.Moments.{any_runs};
+ghost use Rattle.dr_sweep.specs.Seen.{run_seen};
+ghost use Rattle.dr_sweep.specs.declared.fault.PointFault.TheVariants.{TooLong};
+ghost use Rattle.dr_sweep.specs.Parts.{Tells};
 
-use dr_model::Journal;
-use dr_plan::{Point, SweepPlan, script_at};
+use crate::fault::PointFault;
+use crate::reach::stops_since;
+use crate::run::PointRun;
+use dr_io::line_count;
+use dr_model::{Journal, Name};
+use dr_plan::{PieceTexts, Point, SweepPlan, calm_script, pieces_at};
 use dr_plant::ModelPlant;
+use dr_rows::{Members, SessionPhase};
 use dr_top::{Status, try_script};
-use std::alloc::{AllocError, Global};
+use std::alloc::Global;
+use std::marker::Model;
 
-/// Why a point has no row.
-#[derive(Clone, Copy)]
-pub enum PointFault {
-    /// There is no memory.
-    NoMemory,
-    /// Its script is past a script's limits, or a step of it found the journal full.
-    TooLong,
+/// What is told of the run of a point.
+#[derive(Drop)]
+pub(crate) struct PointTold {
+    journal: Journal,
+    before: u128,
+    begin: usize,
+    phases: Vec<SessionPhase>,
+    members: Vec<Members>,
 }
 
-impl From<AllocError> for PointFault {
-    ghost from_gives = { λ _ fault. fault ≡ NoMemory };
+impl Model for PointTold {
+    ghost use Rattle.dr_sweep.specs.Comes.{PointTold as RunTold};
+    ghost use Rattle.std.specs.Prelude.{◌≤◌, length};
 
-    fn from(_: AllocError) -> PointFault
-        ensures { result ≡ NoMemory }
+    ghost Value = { RunTold };
+
+    ghost view = { λ t. record { events = t.journal.events; before = t.before; begin = t.begin; phases = t.phases.items; members = t.members.items } };
+
+    ghost invariant = { λ t. t.begin ≤ length t.journal.events };
+}
+
+impl PointTold {
+    /// What happened.
+    pub(crate) fn journal(&self) -> &Journal
+        ensures { result.now.events ≡ self.now.events }
     {
-        PointFault::NoMemory
+        &self.journal
+    }
+
+    /// How many lines of its script come before those of the recovery.
+    pub(crate) fn before(&self) -> u128
+        ensures { result ≡ self.now.before }
+    {
+        self.before
+    }
+
+    /// How many events there were as the recovery began.
+    pub(crate) fn begin(&self) -> usize
+        ensures { result ≡ self.now.begin }
+    {
+        self.begin
+    }
+
+    /// The phase of each session as the disaster came, and the members after each `@recover` that was answered with a group.
+    pub(crate) fn into_lists(self) -> (Vec<SessionPhase>, Vec<Members>)
+        ensures { (result.0.items ≡ self.phases) × (result.1.items ≡ self.members) }
+    {
+        (self.phases, self.members)
     }
 }
 
@@ -40,19 +87,201 @@ pub(crate) fn servers_lost(plan: &SweepPlan, disaster: usize) -> usize
     }
 }
 
-/// How many lines of a point's script stand before those of the recovery.
-pub fn lines_before(plan: &SweepPlan, point: Point) -> u128
-    ensures bound { result < 2 ^ 66 }
-    ensures value { result ≡ lines_before plan.now point }
+/// The server of a disaster.
+pub(crate) fn name_at(plan: &SweepPlan, disaster: usize, server: usize) -> Option<&Name>
+    ensures { option_copied result ≡ name_at plan.now disaster server }
 {
-    let setup = plan.setup().len() as u128;
+    plan.disasters().get(disaster)?.servers().get(server)
+}
+
+/// The servers that are lost at a point.
+fn servers_at(plan: &SweepPlan, point: Point) -> &[Name]
+    ensures servers { result.now ≡ servers_at plan.now point }
+    ensures sweep { IsSweep plan.now }
+{
+    let (Point::Cut { disaster, .. } | Point::Gap { disaster, .. }) = point;
+    match plan.disasters().get(disaster) {
+        Some(lost) => lost.servers(),
+        None => &[],
+    }
+}
+
+/// Whether the journal tells after its first events, that many, that the server of a point was stopped.
+fn is_struck(plan: &SweepPlan, point: Point, journal: &Journal, from: usize) -> bool
+    requires { from ≤ length journal.now.events }
+    ensures { result ≡ is_struck plan.now point from journal.now.events }
+{
     match point {
-        Point::Cut { disaster, line, .. } => {
-            setup + line as u128 + servers_lost(plan, disaster) as u128 + 1
-        }
-        Point::Gap { disaster, line } => {
-            setup + line as u128 + servers_lost(plan, disaster) as u128
-        }
+        Point::Cut {
+            disaster,
+            server,
+            ..
+        } => match name_at(plan, disaster, server) {
+            Some(name) => stops_since(journal, name, from),
+            None => false,
+        },
+        Point::Gap { .. } => true,
+    }
+}
+
+/// How many lines three texts have.
+fn lines_of(pieces: &PieceTexts) -> u128
+    ensures { result ≡ length (lines pieces.now.front) + length (lines pieces.now.strike) + length (lines pieces.now.stops) }
+{
+    let front = line_count(pieces.front()) as u128;
+    let strike = line_count(pieces.strike()) as u128;
+    let stops = line_count(pieces.stops()) as u128;
+    front + strike + stops
+}
+
+/// Carries out a tried step, and says whether the server of the point was stopped in it.
+fn strike(
+    alloc: Global,
+    plan: &SweepPlan,
+    point: Point,
+    text: &[u8],
+    run: &mut PointRun,
+) -> Result<bool, PointFault>
+    requires { IsRun (run_seen run.old) }
+    ensures stays { IsRun (run_seen run.new) }
+    ensures goes { OnOk result (Carries (run_seen run.old) (run_seen run.new) text.now) }
+    ensures struck { IfOk result (λ struck. struck ≡ is_struck plan.now point (length (run_seen run.old).events) (run_seen run.new).events) }
+    ensures fails { IfErr result (Fails (run_seen run.old) (run_seen run.new) text.now) }
+{
+    let from = run.event_count();
+    run.carry(alloc, text)?;
+    Ok(is_struck(plan, point, run.journal(), from))
+}
+
+/// Carries out the lines before the disaster, and the tried step. Gives the phases before that step, if the point's server was stopped in it.
+fn approach(
+    alloc: Global,
+    plan: &SweepPlan,
+    point: Point,
+    pieces: &PieceTexts,
+    run: &mut PointRun,
+) -> Result<Option<Vec<SessionPhase>>, PointFault>
+    requires run { IsRun (run_seen run.old) }
+    requires fresh { IsFresh (run_seen run.old).plant }
+    requires begins { Ran (run_seen run.old).plant [] (run_seen run.old) [] }
+    requires sweep { IsSweep plan.now }
+    ensures stays { IsRun (run_seen run.new) }
+    ensures comes { IfOk result (λ phases. (p : Pieces) → pieces_of plan.now point ≡ Some p → AreTexts pieces.now.front pieces.now.strike pieces.now.stops p → Approaches plan.now point p (run_seen run.old).plant (run_seen run.new) (option_map (λ v. v.items) phases)) }
+    ensures fails { IfErr result (λ fault. (p : Pieces) → pieces_of plan.now point ≡ Some p → AreTexts pieces.now.front pieces.now.strike pieces.now.stops p → FailsAt plan.now point fault) }
+{
+    let phases = run.carry_to(alloc, pieces.front())?;
+    match strike(alloc, plan, point, pieces.strike(), run) {
+        Ok(true) => Ok(Some(phases)),
+        Ok(false) => Ok(None),
+        Err(fault) => Err(fault),
+    }
+}
+
+/// Carries out the stops of servers. Fails, too, if one of these servers runs after them.
+fn lose(alloc: Global, servers: &[Name], text: &[u8], run: &mut PointRun) -> Result<(), PointFault>
+    requires { IsRun (run_seen run.old) }
+    ensures stays { IsRun (run_seen run.new) }
+    ensures goes { OnOk result (Carries (run_seen run.old) (run_seen run.new) text.now) }
+    ensures off { OnOk result (any_runs (seen (run_seen run.new)).control servers.now ≡ false) }
+    ensures fails { IfErr result (λ fault. Fails (run_seen run.old) (run_seen run.new) text.now fault
+        ⊎ (Carries (run_seen run.old) (run_seen run.new) text.now × (any_runs (seen (run_seen run.new)).control servers.now ≡ true) × (fault ≡ TooLong))) }
+{
+    run.carry(alloc, text)?;
+    if run.any_runs(servers) {
+        return Err(PointFault::TooLong);
+    }
+    Ok(())
+}
+
+/// What is told of stops and recovery.
+#[derive(Drop)]
+struct Settled {
+    begin: usize,
+    members: Vec<Members>,
+}
+
+/// Carries out the stops of the other servers and the recovery.
+fn settle(
+    alloc: Global,
+    plan: &SweepPlan,
+    servers: &[Name],
+    text: &[u8],
+    run: &mut PointRun,
+) -> Result<Settled, PointFault>
+    requires run { IsRun (run_seen run.old) }
+    requires sweep { IsSweep plan.now }
+    ensures within { IfOk result (λ s. s.begin ≤ length (run_seen run.new).events) }
+    ensures goes { IfOk result (λ s. (began : PlantState) (ls stops : List (List ℕ)) (steps : List Task) → Ran began ls (run_seen run.old) steps → IsTextOf stops text.now
+        → Settles began ls stops plan.now.recovery servers.now (run_seen run.new) steps s.begin s.members.items) }
+    ensures fails { IfErr result (λ fault. (began : PlantState) (ls stops : List (List ℕ)) (steps : List Task) → Ran began ls (run_seen run.old) steps → IsTextOf stops text.now
+        → FailsAfter began ls stops plan.now.recovery servers.now (run_seen run.new) steps fault) }
+{
+    lose(alloc, servers, text, run)?;
+    let begin = run.event_count();
+    match run.recover(alloc, plan) {
+        Ok(members) => Ok(Settled { begin, members }),
+        Err(fault) => Err(fault),
+    }
+}
+
+/// What is told of a point's run whose server was stopped.
+fn told_of(
+    pieces: &PieceTexts,
+    phases: Vec<SessionPhase>,
+    settled: Settled,
+    run: PointRun,
+) -> PointTold
+    requires { settled.begin ≤ length (run_seen run).events }
+    ensures events { result.events ≡ (run_seen run).events }
+    ensures before { result.before ≡ length (lines pieces.now.front) + length (lines pieces.now.strike) + length (lines pieces.now.stops) }
+    ensures begin { result.begin ≡ settled.begin }
+    ensures phases { result.phases ≡ phases.items }
+    ensures members { result.members ≡ settled.members.items }
+{
+    PointTold {
+        journal: run.into_journal(),
+        before: lines_of(pieces),
+        begin: settled.begin,
+        phases,
+        members: settled.members,
+    }
+}
+
+/// Runs the script of a point whose pieces these are: none if its server isn't stopped in the tried step, and then no further.
+fn run_pieces(
+    alloc: Global,
+    plan: &SweepPlan,
+    point: Point,
+    pieces: &PieceTexts,
+) -> Result<Option<PointTold>, PointFault>
+    requires { IsCutUp plan.now point (Some pieces.now) }
+    ensures tells { IfOk result (Tells plan.now point) }
+    ensures fails { IfErr result (FailsAt plan.now point) }
+{
+    let servers = servers_at(plan, point);
+    let mut run = PointRun::new(alloc);
+    let Some(phases) = approach(alloc, plan, point, pieces, &mut run)? else {
+        return Ok(None);
+    };
+    match settle(alloc, plan, servers, pieces.stops(), &mut run) {
+        Ok(settled) => Ok(Some(told_of(pieces, phases, settled, run))),
+        Err(fault) => Err(fault),
+    }
+}
+
+/// Runs the script of a point.
+pub(crate) fn run_point(
+    alloc: Global,
+    plan: &SweepPlan,
+    point: Point,
+) -> Result<Option<PointTold>, PointFault>
+    requires { IsSome (script_of plan.now point) }
+    ensures tells { IfOk result (Tells plan.now point) }
+    ensures fails { IfErr result (FailsAt plan.now point) }
+{
+    match pieces_at(alloc, plan, point)? {
+        Some(pieces) => run_pieces(alloc, plan, point, &pieces),
+        None => Err(PointFault::NoMemory),
     }
 }
 
@@ -70,14 +299,11 @@ fn run_script(alloc: Global, script: &[u8]) -> Result<Journal, PointFault>
     }
 }
 
-/// Runs the script of a point to its end, and gives its journal.
-pub fn try_point(alloc: Global, plan: &SweepPlan, point: Point) -> Result<Journal, PointFault>
-    requires { IsSome (script_of plan.now point) }
-    ensures comes { IfOk result (λ journal. ComesTo plan.now point journal.events) }
-    ensures fails { IfErr result (FailsAt plan.now point) }
+/// Runs the set-up and all tried steps of a plan, and gives the journal.
+pub(crate) fn run_calm(alloc: Global, plan: &SweepPlan) -> Result<Journal, PointFault>
+    ensures runs { IfOk result (λ journal. RunsWhole (calm_script plan.now) journal.events) }
+    ensures fails { IfErr result (FailsOn (calm_script plan.now)) }
 {
-    match script_at(alloc, plan, point) {
-        Ok(Some(script)) => run_script(alloc, script.bytes()),
-        _ => Err(PointFault::NoMemory),
-    }
+    let script = calm_script(alloc, plan)?;
+    run_script(alloc, script.bytes())
 }

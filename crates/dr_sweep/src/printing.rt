@@ -1,19 +1,22 @@
 //! What is printed of a sweep.
 
-ghost use Rattle.std.specs.Prelude.{◌≡◌, IfOk};
+ghost use Rattle.std.specs.Prelude.{◌≡◌, ◌<◌, ◌+◌, ◌^◌, IfOk, IfSome, length};
 ghost use Rattle.std.specs.Option.{option_and_then};
 ghost use Rattle.dr_plan.specs.Points.{script_of};
-ghost use Rattle.dr_sweep.specs.Printing.{rows_text, says, place_of, torn_of, server_of, cut_of, gap_of, asked_of};
+ghost use Rattle.dr_chart.specs.Picture.{picture_text};
+ghost use Rattle.dr_rows.specs.Findings.{asks_recovery};
+ghost use Rattle.dr_rows.specs.Places.{bars};
+ghost use Rattle.dr_sweep.specs.Printing.{rows_text, says, place_of, torn_of, server_of, is_at, tried_at, is_here, gap_at, cut_of, gap_of, asked_of};
 
 use dr_chart::picture;
 use dr_ids::Text;
 use dr_model::Name;
-use dr_plan::{Point, SweepPlan, Torn, name_bytes, script_at};
-use dr_rows::{Row, bars, heading, push_row, report};
-use dr_words::{SweepCommand, TornBytes};
+use dr_plan::{Point, SweepPlan, Torn, Tried, name_bytes, script_at};
+use dr_rows::{Calm, Row, asks_recovery, bars, heading, push_row, report};
+use dr_words::{PlanLine, SweepCommand, TornBytes};
 use std::alloc::{AllocError, Global};
 
-/// A heading and a line for each row.
+/// A heading, and a line for each loss of each row.
 fn rows_text(alloc: Global, plan: &SweepPlan, rows: &[Row]) -> Result<Text, AllocError>
     ensures { IfOk result (λ text. text ≡ rows_text plan.now rows.now) }
 {
@@ -23,6 +26,15 @@ fn rows_text(alloc: Global, plan: &SweepPlan, rows: &[Row]) -> Result<Text, Allo
         push_row(alloc, &mut text, plan, row)?;
     }
     Ok(text)
+}
+
+/// The picture of all rows.
+fn picture_text(alloc: Global, plan: &SweepPlan, rows: &[Row]) -> Result<Text, AllocError>
+    ensures { IfOk result (λ text. text ≡ picture_text (asks_recovery plan.now) (bars plan.now (asks_recovery plan.now) rows.now)) }
+{
+    let asks = asks_recovery(alloc, plan)?;
+    let bars = bars(alloc, plan, asks, rows)?;
+    picture(alloc, asks, &bars)
 }
 
 /// What is printed of all rows of a plan.
@@ -41,23 +53,24 @@ pub(crate) enum View {
 pub(crate) enum Asked {
     /// Something on all rows of the plan.
     Rows(View),
-    /// The script of a point; none where the words name a point that the plan doesn't have.
+    /// The script of a point; none if the words name a point that the plan doesn't have.
     Script(Option<Point>),
 }
 
-/// What is printed of the rows of a plan.
+/// What is printed of a plan's calm run and rows.
 pub(crate) fn says(
     alloc: Global,
     view: View,
     plan: &SweepPlan,
+    calm: &Calm,
     rows: &[Row],
 ) -> Result<Text, AllocError>
-    ensures { IfOk result (λ text. text ≡ says view plan.now rows.now) }
+    ensures { IfOk result (λ text. text ≡ says view plan.now calm.now rows.now) }
 {
     match view {
-        View::Report => report(alloc, plan, rows),
+        View::Report => report(alloc, plan, calm, rows),
         View::Table => rows_text(alloc, plan, rows),
-        View::Picture => picture(alloc, &bars(alloc, rows)?),
+        View::Picture => picture_text(alloc, plan, rows),
     }
 }
 
@@ -85,11 +98,45 @@ fn server_of(names: &[Name], server: &[u8]) -> Option<usize>
     names.iter().position(|name| name_bytes(name) == server)
 }
 
+/// Whether a tried step is the line of the plan that was named, or the part of it.
+fn is_at(step: &Tried, line: PlanLine) -> bool
+    ensures { result ≡ is_at line step.now }
+{
+    step.line() as u128 == line.line as u128 && step.part() as u128 == line.part as u128
+}
+
+/// The place among the tried steps of the line that was named, or of the part.
+fn tried_at(plan: &SweepPlan, line: PlanLine) -> Option<usize>
+    ensures place { result ≡ tried_at plan.now line }
+    ensures within { IfSome result (λ place. place < length plan.now.tried) }
+    ensures few { IfSome result (λ place. place + 1 < 2 ^ 64) }
+{
+    plan.tried().iter().position(|step| is_at(step, line))
+}
+
+/// Whether the line is that from which on steps are tried.
+fn is_here(plan: &SweepPlan, line: PlanLine) -> bool
+    ensures { result ≡ is_here plan.now line }
+{
+    line.line as u128 == plan.setup().len() as u128 + 1 && line.part == 0
+}
+
+/// How many tried steps come before the gap that the line names.
+fn gap_at(plan: &SweepPlan, line: PlanLine) -> Option<usize>
+    ensures { result ≡ gap_at plan.now line }
+{
+    if is_here(plan, line) {
+        return Some(0);
+    }
+    let place = tried_at(plan, line)?;
+    Some(place + 1)
+}
+
 /// The point of the words `LINE SERVER WRITE TORN DISASTER`.
 fn cut_of(
     plan: &SweepPlan,
     disaster: u32,
-    line: u32,
+    line: PlanLine,
     server: &[u8],
     write: u32,
     torn: TornBytes,
@@ -97,11 +144,11 @@ fn cut_of(
     ensures { result ≡ cut_of plan.now disaster line server.now write torn }
 {
     let disaster = place_of(disaster)?;
-    let line = place_of(line)?;
+    let place = tried_at(plan, line)?;
     let server = server_of(plan.disasters().get(disaster)?.servers(), server)?;
     Some(Point::Cut {
         disaster,
-        line,
+        place,
         server,
         write,
         torn: torn_of(torn),
@@ -109,15 +156,15 @@ fn cut_of(
 }
 
 /// The point of the words `LINE gap DISASTER`.
-fn gap_of(disaster: u32, line: u32) -> Option<Point>
-    ensures { result ≡ gap_of disaster line }
+fn gap_of(plan: &SweepPlan, disaster: u32, line: PlanLine) -> Option<Point>
+    ensures { result ≡ gap_of plan.now disaster line }
 {
     let disaster = place_of(disaster)?;
-    let line = line as usize;
-    Some(Point::Gap { disaster, line })
+    let place = gap_at(plan, line)?;
+    Some(Point::Gap { disaster, place })
 }
 
-/// The script of a point, where there is one and the plan has it.
+/// The script of a point, if there is one and the plan has it.
 pub(crate) fn script_of(
     alloc: Global,
     plan: &SweepPlan,
@@ -146,6 +193,6 @@ pub(crate) fn asked_of(plan: &SweepPlan, command: &SweepCommand) -> Asked
             write,
             torn,
         } => Asked::Script(cut_of(plan, *disaster, *line, server.bytes(), *write, *torn)),
-        SweepCommand::GapScript { disaster, line } => Asked::Script(gap_of(*disaster, *line)),
+        SweepCommand::GapScript { disaster, line } => Asked::Script(gap_of(plan, *disaster, *line)),
     }
 }

@@ -1,19 +1,18 @@
-//! Whether a server stopped in a line.
+//! Whether a server stopped in a step.
 
-ghost use Rattle.std.specs.Prelude.{◌≡◌, ◌<◌, ◌^◌};
-ghost use Rattle.std.specs.List.{fold};
+ghost use Rattle.std.specs.Prelude.{◌≡◌, ◌≤◌, length, drop};
+ghost use Rattle.std.specs.List.{fold, list_any};
 ghost use Rattle.std.specs.Option.{option_copied, option_map_or};
 ghost use Rattle.dr_model.specs.LineText.{name_text};
 ghost use Rattle.dr_model.specs.Text.{heard, untold};
 ghost use Rattle.dr_list.specs.Seen.{heard_seen};
-ghost use Rattle.dr_sweep.specs.Reach.{stops_named, stops_at, stops_in};
+ghost use Rattle.dr_sweep.specs.Reach.{stops_named, stops_at, stops_since};
 
-use crate::places::begin_of;
 use dr_list::Heard;
 use dr_model::{Event, Journal, Name};
 use dr_plan::name_bytes;
 
-/// Hears an event, where there is one.
+/// Hears an event, if there is one.
 fn hear_at(told: &mut Heard, event: Option<&Event>)
     ensures { heard_seen told.new ≡ option_map_or (λ e. heard (heard_seen told.old) e) (option_copied event.entry) (heard_seen told.old) }
 {
@@ -53,13 +52,11 @@ fn stops_at(journal: &Journal, told: &Heard, name: &Name, place: usize) -> bool
     }
 }
 
-/// Whether the journal tells of the server's stop among the events of a line's steps.
-pub fn stops_in(journal: &Journal, name: &Name, line: u128) -> bool
-    requires { line < 2 ^ 66 }
-    ensures { result ≡ stops_in (name_text name.now) line journal.now.events }
+/// Whether the journal tells of the server's stop from a place on.
+pub(crate) fn stops_since(journal: &Journal, name: &Name, from: usize) -> bool
+    requires { from ≤ length journal.now.events }
+    ensures { result ≡ stops_since (name_text name.now) from journal.now.events }
 {
     let told = heard_all(journal);
-    let from = begin_of(journal, line);
-    let to = begin_of(journal, line + 1);
-    (from..to).any(|place| stops_at(journal, &told, name, place))
+    (from..journal.len()).any(|place| stops_at(journal, &told, name, place))
 }

@@ -3,32 +3,24 @@
 ghost use Rattle.std.specs.Prelude.{◌≡◌, ◌++◌, ◌∷◌, [], IfOk, IfErr, OnOk, IsSome, is_some, Ok, if◌then◌else◌};
 ghost use Rattle.std.specs.Str.{bytes_eq};
 ghost use Rattle.std.specs.List.{cons_option};
-ghost use Rattle.std.specs.Option.{option_copied};
 ghost use Rattle.dr_model.specs.Groups.{In};
 ghost use Rattle.dr_model.specs.LineText.{name_text};
 ghost use Rattle.dr_plan.specs.declared.points.Point.TheVariants.{Cut};
 ghost use Rattle.dr_plan.specs.Points.{script_of};
 ghost use Rattle.dr_sweep.specs.Comes.{FailsAt};
-ghost use Rattle.dr_sweep.specs.Parts.{name_at, first_by, first_in, first_write, is_reached, IsRowWhereReached, Gives, Adds, AddsWhereReached, AddsWrite, AreWithin, AreRows, FailsIn, IsOf, parts_of};
+ghost use Rattle.dr_sweep.specs.Parts.{first_by, first_in, first_write, Tells, Gives, Adds, AddsWhereReached, AddsWrite, AreWithin, AreRows, FailsWrite, FailsIn, IsOf, parts_of};
 ghost use Rattle.dr_sweep.specs.declared.parts.Part.TheVariants.{Within};
 
+use crate::fault::PointFault;
 use crate::parts::Part;
-use crate::point::{PointFault, try_point};
-use crate::reach::stops_in;
+use crate::point::{PointTold, name_at, run_point};
 use crate::row::row_of;
 use dr_ids::Fault;
-use dr_model::{Journal, Name, Step};
+use dr_model::{Name, Step};
 use dr_plan::{Point, SweepPlan, Torn, is_same_name};
 use dr_rows::Row;
 use dr_script::{Line, read_line};
 use std::alloc::{AllocError, Global};
-
-/// The server of a disaster.
-fn name_at(plan: &SweepPlan, disaster: usize, server: usize) -> Option<&Name>
-    ensures { option_copied result ≡ name_at plan.now disaster server }
-{
-    plan.disasters().get(disaster)?.servers().get(server)
-}
 
 /// That count where the step is about that server, and else 0.
 fn count_if(server: &Name, name: &Name, count: u32) -> u32
@@ -64,75 +56,55 @@ fn first_in(alloc: Global, line: &[u8], name: &Name) -> Result<u32, AllocError>
     }
 }
 
-/// The count of the first device write of a server in a tried line that a fuse can cut short.
+/// The count of the first device write of a server in a tried step that a fuse can cut short.
 fn first_write(
     alloc: Global,
     plan: &SweepPlan,
     disaster: usize,
-    line: usize,
+    place: usize,
     server: usize,
 ) -> Result<u32, AllocError>
-    ensures { IfOk result (λ first. first ≡ first_write plan.now disaster line server) }
+    ensures { IfOk result (λ first. first ≡ first_write plan.now disaster place server) }
 {
     let Some(name) = name_at(plan, disaster, server) else {
         return Ok(0);
     };
-    match plan.tried().get(line) {
-        Some(tried) => first_in(alloc, tried.bytes(), name),
+    match plan.tried().get(place) {
+        Some(tried) => first_in(alloc, tried.text(), name),
         None => Ok(0),
     }
 }
 
-/// Whether in the run of a point its server was stopped in the tried line.
-fn is_reached(plan: &SweepPlan, point: Point, journal: &Journal) -> bool
-    ensures { result ≡ is_reached plan.now point journal.now.events }
-{
-    match point {
-        Point::Cut {
-            disaster,
-            line,
-            server,
-            ..
-        } => match name_at(plan, disaster, server) {
-            Some(name) => stops_in(journal, name, plan.setup().len() as u128 + line as u128 + 2),
-            None => false,
-        },
-        Point::Gap { .. } => true,
-    }
-}
-
-/// The row of a point whose run left that journal, where it was reached.
-fn row_where_reached(
+/// The row of a point of whose run this was told, if its server was stopped.
+fn row_told(
     alloc: Global,
     plan: &SweepPlan,
     point: Point,
-    journal: &Journal,
+    told: Option<PointTold>,
 ) -> Result<Option<Row>, AllocError>
-    ensures { IfOk result (IsRowWhereReached plan.now point journal.now.events) }
+    requires { Tells plan.now point told }
+    ensures { IfOk result (Gives plan.now point) }
 {
-    if !is_reached(plan, point, journal) {
-        return Ok(None);
-    }
-    match row_of(alloc, plan, point, journal) {
-        Ok(row) => Ok(Some(row)),
-        Err(fault) => Err(fault),
+    match told {
+        Some(told) => Ok(Some(row_of(alloc, plan, point, told)?)),
+        None => Ok(None),
     }
 }
 
-/// Runs the script of a point, and gives its row, where the point is reached.
+/// Runs the script of a point, and gives its row, if the point is reached.
 fn row_at(alloc: Global, plan: &SweepPlan, point: Point) -> Result<Option<Row>, PointFault>
     requires { IsSome (script_of plan.now point) }
     ensures gives { IfOk result (Gives plan.now point) }
     ensures fails { IfErr result (FailsAt plan.now point) }
 {
-    let journal = try_point(alloc, plan, point)?;
-    match row_where_reached(alloc, plan, point, &journal) {
+    let told = run_point(alloc, plan, point)?;
+    match row_told(alloc, plan, point, told) {
         Ok(row) => Ok(row),
         Err(_) => Err(PointFault::NoMemory),
     }
 }
 
-/// Adds a row, where there is one, and says whether there is.
+/// Adds a row, if there is one, and says whether there is.
 fn push_some(rows: &mut Vec<Row>, row: Option<Row>) -> Result<bool, AllocError>
     ensures pushed { OnOk result (rows.new.items ≡ rows.old.items ++ cons_option row []) }
     ensures says { IfOk result (λ some. some ≡ is_some row) }
@@ -146,7 +118,7 @@ fn push_some(rows: &mut Vec<Row>, row: Option<Row>) -> Result<bool, AllocError>
     }
 }
 
-/// Adds the row of a point where it is reached, and says whether it is.
+/// Adds the row of a point if it is reached, and says whether it is.
 fn add_row(
     alloc: Global,
     plan: &SweepPlan,
@@ -162,35 +134,35 @@ fn add_row(
 }
 
 /// The point of a device write.
-fn cut_at(disaster: usize, line: usize, server: usize, write: u32, torn: Torn) -> Point
-    ensures { result ≡ Cut disaster line server write torn }
+fn cut_at(disaster: usize, place: usize, server: usize, write: u32, torn: Torn) -> Point
+    ensures { result ≡ Cut disaster place server write torn }
 {
     Point::Cut {
         disaster,
-        line,
+        place,
         server,
         write,
         torn,
     }
 }
 
-/// Adds the rows of a device write where it is reached, and says whether it is.
+/// Adds the rows of a device write if it is reached, and says whether it is.
 fn add_write(
     alloc: Global,
     plan: &SweepPlan,
     disaster: usize,
-    line: usize,
+    place: usize,
     server: usize,
     write: u32,
     rows: &mut Vec<Row>,
 ) -> Result<bool, PointFault>
-    requires is_of { IsOf plan.now (Within disaster line server) }
-    ensures adds { IfOk result (AddsWrite plan.now disaster line server write rows.old.items rows.new.items) }
-    ensures fails { IfErr result (FailsIn plan.now (Within disaster line server)) }
+    requires is_of { IsOf plan.now (Within disaster place server) }
+    ensures adds { IfOk result (AddsWrite plan.now disaster place server write rows.old.items rows.new.items) }
+    ensures fails { IfErr result (FailsWrite plan.now disaster place server write) }
 {
-    let unchanged = cut_at(disaster, line, server, write, Torn::Unchanged);
-    let zeros = cut_at(disaster, line, server, write, Torn::Zeros);
-    let ones = cut_at(disaster, line, server, write, Torn::Ones);
+    let unchanged = cut_at(disaster, place, server, write, Torn::Unchanged);
+    let zeros = cut_at(disaster, place, server, write, Torn::Zeros);
+    let ones = cut_at(disaster, place, server, write, Torn::Ones);
     if !add_row(alloc, plan, unchanged, rows)? {
         return Ok(false);
     }
@@ -199,22 +171,22 @@ fn add_write(
     Ok(true)
 }
 
-/// Adds the rows of a server's device writes in a tried line.
+/// Adds the rows of a server's device writes in a tried step.
 fn add_within(
     alloc: Global,
     plan: &SweepPlan,
     disaster: usize,
-    line: usize,
+    place: usize,
     server: usize,
     rows: &mut Vec<Row>,
 ) -> Result<(), PointFault>
-    requires is_of { IsOf plan.now (Within disaster line server) }
-    ensures adds { OnOk result (Adds (AreWithin plan.now disaster line server) rows.old.items rows.new.items) }
-    ensures fails { IfErr result (FailsIn plan.now (Within disaster line server)) }
+    requires is_of { IsOf plan.now (Within disaster place server) }
+    ensures adds { OnOk result (Adds (AreWithin plan.now disaster place server) rows.old.items rows.new.items) }
+    ensures fails { IfErr result (FailsIn plan.now (Within disaster place server)) }
 {
-    let first = first_write(alloc, plan, disaster, line, server)?;
+    let first = first_write(alloc, plan, disaster, place, server)?;
     for write in first..u32::MAX {
-        if !add_write(alloc, plan, disaster, line, server, write, rows)? {
+        if !add_write(alloc, plan, disaster, place, server, write, rows)? {
             return Ok(());
         }
     }
@@ -233,14 +205,14 @@ pub(crate) fn add_part(
     ensures fails { IfErr result (FailsIn plan.now part) }
 {
     match part {
-        Part::Between { disaster, line } => {
-            add_row(alloc, plan, Point::Gap { disaster, line }, rows)?;
+        Part::Between { disaster, place } => {
+            add_row(alloc, plan, Point::Gap { disaster, place }, rows)?;
             Ok(())
         }
         Part::Within {
             disaster,
-            line,
+            place,
             server,
-        } => add_within(alloc, plan, disaster, line, server, rows),
+        } => add_within(alloc, plan, disaster, place, server, rows),
     }
 }

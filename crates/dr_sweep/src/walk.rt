@@ -3,37 +3,41 @@
 ghost use Rattle.std.specs.Prelude.{◌≡◌, IfOk, IfErr, OnOk};
 ghost use Rattle.dr_sweep.specs.Parts.{Adds, AreSwept, FailsAtPart, parts_of};
 
+use crate::fault::PointFault;
 use crate::parts::{Part, parts_of};
-use crate::point::PointFault;
 use crate::rows::add_part;
+use dr_ids::Text;
 use dr_io::Sink;
 use dr_plan::SweepPlan;
-use dr_rows::Row;
+use dr_rows::{Row, gap_place, push_place_name};
 use dr_top::put_all;
 use std::alloc::{AllocError, Global};
 
-/// What is told behind the rows of a gap: how far the sweep is.
+/// What is told after the rows of a gap: how far the sweep is.
 fn told(
     alloc: Global,
     plan: &SweepPlan,
     disaster: usize,
-    line: usize,
+    place: usize,
     points: usize,
-) -> Result<String, AllocError> {
+) -> Result<Text, AllocError> {
     let (disaster, disasters) = (disaster.saturating_add(1), plan.disasters().len());
-    let lines = plan.tried().len();
-    format!(in alloc;
-        "disaster {disaster} of {disasters}, line {line} of {lines}: {points} points\n"
-    )
+    let mut text = Text::new(alloc);
+    let begin = format!(in alloc; "disaster {disaster} of {disasters}, line ")?;
+    text.append(begin.as_bytes())?;
+    push_place_name(&mut text, gap_place(plan, place))?;
+    let end = format!(in alloc; ": {points} points\n")?;
+    text.append(end.as_bytes())?;
+    Ok(text)
 }
 
-/// Tells how far a sweep is, behind the rows of a part. What fails is passed over.
+/// Tells how far a sweep is, after the rows of a part. What fails is passed over.
 fn tell<Q: Sink>(alloc: Global, progress: &mut Q, plan: &SweepPlan, part: Part, points: usize) {
-    let Part::Between { disaster, line } = part else {
+    let Part::Between { disaster, place } = part else {
         return;
     };
-    if let Ok(says) = told(alloc, plan, disaster, line, points) {
-        let _ = put_all(progress, says.as_bytes());
+    if let Ok(says) = told(alloc, plan, disaster, place, points) {
+        let _ = put_all(progress, says.bytes());
     }
 }
 

@@ -4,6 +4,9 @@
 --   were carried out, and what lies ahead (`IsUpTo` without its printing). `TakenLemmas.antt` has what the reader's
 --   clause makes of it, `LineLemmas.antt` how the lines of joined bytes are those of the parts (`IsClosed` is the
 --   premise), `EndLemmas.antt` a lemma for each exit.
+-- - **A text in memory line by line**: the invariant of the loop of `carry_text` says which lines were carried out (`Through` of
+--   `TextLemmas.antt`), with a lemma for one line more, for the end and for a halt; `OpenLemmas.antt` makes of it what a call of a run that
+--   goes on leaves (`GoesOn`).
 -- - **A world that is reached** (`Reached w`: some steps lead to it) is the one premise that the step functions need of
 --   all laws: soundness, the count of issued writes, and the limits come from it by one lemma each (`ReachLemmas.antt`).
 -- - **A fault that rose or stayed** is `Counted test before now`, over any count: the clause of a call is proved for
@@ -26,12 +29,13 @@ pub mod LineLemmas
 pub mod TaskLemmas
 pub mod ReachLemmas
 pub mod LeadLemmas
+pub mod TextLemmas
+pub mod OpenLemmas
 pub mod RunLemmas
 pub mod TakenLemmas
 pub mod EndLemmas
 pub mod RefusalLemmas
 pub mod TopLemmas
 pub mod SummaryLemmas
-pub mod TriedLemmas
 pub mod WantLemmas
 pub mod TrialLemmas

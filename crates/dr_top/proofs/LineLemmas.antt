@@ -1,5 +1,5 @@
 -- How bytes are cut into lines.
-use Rattle.std.proofs.Common.{ℕ, suc, ◌≡◌, ◌<◌, ◌≤◌, ◌+◌, List, [], ◌∷◌, ◌++◌, map, length, refl, ap, ◌∙◌, sym, arith, true, false, cond, not, Bool, inl, inr, nat_lt}
+use Rattle.std.proofs.Common.{ℕ, suc, ◌≡◌, ◌≤◌, ◌+◌, List, [], ◌∷◌, ◌++◌, map, length, refl, ap, ◌∙◌, sym, arith, true, false, cond, not, Bool, inl, inr, nat_lt}
 use Rattle.std.specs.Prelude.{◌==◌}
 use Rattle.std.proofs.lemmas.Bool.Decides.{nat_tests}
 use Rattle.std.proofs.lemmas.List.{append-nil}
@@ -103,28 +103,3 @@ lines-last text no_end some = ap lines_of_parts (open-part text no_end) ∙ fill
     filled : (text : List ℕ) → 1 ≤ length text → lines_of_parts (text ∷ []) ≡ text ∷ []
     filled [] some = absurd (omega arith)
     filled (b ∷ bs) some = let filled : (length (b ∷ bs) == 0) ≡ false = grind (arith, nat_tests) in ap (λ e. cond e [] ((b ∷ bs) ∷ [])) filled
-
--- bytes have a line
-pub some-line : (text : List ℕ) → 0 < length text → 1 ≤ length (lines text)
-some-line [] some = absurd (omega arith)
-some-line (x ∷ xs) some =
-    elim (is_line_end x) as (λ b. is_line_end x ≡ b → 1 ≤ length (lines (x ∷ xs))) [
-      | true ↦ λ e.
-          let cut : slice_split is_line_end (x ∷ xs) ≡ [] ∷ slice_split is_line_end xs = ap (λ b. cond b ([] ∷ slice_split is_line_end xs) (onto_first x (slice_split is_line_end xs))) e in
-          let same = ap (λ ps. length (lines_of_parts ps)) cut in
-          let more = ended (slice_split is_line_end xs) (some_part xs) in
-          omega (arith, same, more)
-      | false ↦ λ e.
-          let same = ap (λ ps. length (lines_of_parts ps)) (slice_split-cons_no is_line_end x xs e) in
-          let one = begun (slice_split is_line_end xs) (some_part xs) in
-          omega (arith, same, one)
-    ] refl
-  where
-    ended : (ps : List (List ℕ)) → 1 ≤ length ps → 1 ≤ length (lines_of_parts ([] ∷ ps))
-    ended [] few = absurd (omega arith)
-    ended (p ∷ ps) few = omega arith
-
-    begun : (ps : List (List ℕ)) → 1 ≤ length ps → 1 ≤ length (lines_of_parts (onto_first x ps))
-    begun [] few = absurd (omega arith)
-    begun (p ∷ []) few = let filled : (length (x ∷ p) == 0) ≡ false = grind (arith, nat_tests) in let same = ap (λ e. length (cond e [] ((x ∷ p) ∷ []))) filled in omega (arith, same)
-    begun (p ∷ q ∷ ps) few = omega arith

@@ -1,5 +1,5 @@
 -- What a trial puts, by what its script comes to.
-use Rattle.std.proofs.Common.{ℕ, ◌≡◌, ◌≢◌, ◌⊎◌, ◌<◌, List, [], length, refl, ◌∙◌, sym, subst, arith, inl, inr, Option}
+use Rattle.std.proofs.Common.{ℕ, ◌≡◌, ◌≢◌, ◌⊎◌, List, [], length, refl, ◌∙◌, sym, subst, arith, inl, inr, Option}
 use Rattle.std.proofs.Math.Seq.{take-length}
 use Rattle.std.specs.Str.Lines.{lines}
 use Rattle.dr_logic.specs.Counts.{Counted}
@@ -15,7 +15,6 @@ use Rattle.dr_io.specs.Pieces.{IsPast}
 use Rattle.dr_io.proofs.AmountLemmas.{few-lines}
 use Rattle.dr_top.specs.Offline.{Reports, script_limits}
 use Rattle.dr_top.specs.Outcome.{is_write_fault}
-use Rattle.dr_top.specs.Stands.{Stands}
 use Rattle.dr_top.specs.Tried.{AreAll, AreBeforeFull, AreBeforeLimit, TriedBy, IsTried}
 use Rattle.dr_top.specs.Trials.{EndsTrial, IsTrial, trial_text, summary_report}
 use Rattle.dr_top.specs.declared.report.Report.{Report}

@@ -1,5 +1,5 @@
 -- A step of a line that wants memory.
-use Rattle.std.proofs.Common.{ℕ, ◌≡◌, ◌<◌, ◌≤◌, ◌+◌, List, length, refl, ap, ◌∙◌, sym, subst, arith, nat_le, true, Some, Ok, Err, Result, inl, inr}
+use Rattle.std.proofs.Common.{ℕ, ◌≡◌, ◌<◌, ◌+◌, List, length, refl, ap, ◌∙◌, sym, subst, arith, nat_le, true, Some, Ok, Err, Result, inl, inr}
 use Rattle.std.specs.Prelude.{slice_get}
 use Rattle.std.specs.Option.{option_map}
 use Rattle.std.proofs.lemmas.Bool.{le-leb}
@@ -11,7 +11,7 @@ use Rattle.dr_model.specs.Limits.{most_events}
 use Rattle.dr_model.specs.Lines.{task, tasks_read}
 use Rattle.dr_model.specs.Log.{memory_for}
 use Rattle.dr_model.proofs.MemoryLemmas.{memory-grows}
-use Rattle.dr_steps.specs.Wants.{WantsMemory, AsksRow, room_taken}
+use Rattle.dr_steps.specs.Wants.{WantsMemory, room_taken}
 use Rattle.dr_top.specs.Followed.{StepWants}
 
 less : (len spare n : ℕ) → memory_for (len + spare) < n → memory_for len < n

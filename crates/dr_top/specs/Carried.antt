@@ -3,8 +3,9 @@ use Rattle.std.specs.Prelude.{◌≡◌, ℕ, ◌≤◌, ◌⊎◌, List, [], le
 use Rattle.dr_model.specs.Layout.{Blocks}
 use Rattle.dr_model.specs.Control.{World}
 use Rattle.dr_model.specs.Listed.{ListsAlong, ImagesDevices, as_asked}
+use Rattle.dr_model.specs.Lines.{tasks_from}
 use Rattle.dr_model.specs.Runs.{Task, after_tasks, run}
-use Rattle.dr_top.specs.Followed.{IsFull, StepWants}
+use Rattle.dr_top.specs.Followed.{IsFull, StepWants, LacksWithin}
 use Rattle.dr_top.specs.declared.carry.Bar.{Bar}
 use Rattle.dr_top.specs.declared.carry.Bar.TheVariants.{Full, NoMemory}
 
@@ -35,3 +36,18 @@ pub record GoesTo (w : World) (before : ℕ → Blocks) (tasks : List Task) (u :
   pub led : StepsLead w (take done tasks) u after
   pub still : take done tasks ≡ [] → after ≡ before
   pub ends : EndsBy done tasks u result
+
+-- all steps of some lines, or those before one that found the journal full, or before the place where memory was wanting
+abbrev pub EndsThrough : ℕ → ℕ → List (List ℕ) → World → Result (Unit {0}) Bar → Type 0
+EndsThrough done number ls u (Ok x) = done ≡ length (tasks_from number ls)
+EndsThrough done number ls u (Err Full) = IsFull done (tasks_from number ls) u
+EndsThrough done number ls u (Err NoMemory) = LacksWithin number ls done u
+
+-- The first steps of some lines, of which the first has this number, lead from a world to another; where there are none, the devices are as
+-- they were.
+pub record GoesThrough (w : World) (before : ℕ → Blocks) (number : ℕ) (ls : List (List ℕ)) (u : World) (after : ℕ → Blocks) (result : Result (Unit {0}) Bar) : Type 0 where
+  pub done : ℕ
+  pub within : done ≤ length (tasks_from number ls)
+  pub led : StepsLead w (take done (tasks_from number ls)) u after
+  pub still : take done (tasks_from number ls) ≡ [] → after ≡ before
+  pub ends : EndsThrough done number ls u result

@@ -1,5 +1,5 @@
 -- Where a run stands that ended within a line, and what was printed.
-use Rattle.std.specs.Prelude.{◌≡◌, ℕ, ◌+◌, ◌<◌, ◌≤◌, ◌⊎◌, List, [], ◌++◌, length, map, take, drop, slice_get, Option, Some}
+use Rattle.std.specs.Prelude.{◌≡◌, ℕ, ◌+◌, ◌<◌, ◌≤◌, ◌⊎◌, List, [], ◌∷◌, ◌++◌, length, map, take, drop, slice_get, Option, Some}
 use Rattle.std.specs.List.{fold}
 use Rattle.std.specs.Str.Lines.{lines}
 use Rattle.dr_model.specs.declared.event.Event.{Event}
@@ -65,6 +65,18 @@ pub record StepWants (done : ℕ) (tasks : List Task) (w : World) : Type 0 where
   pub task : Task
   pub next : slice_get tasks done ≡ Some task
   pub wants : WantsMemory w task.asked (length w.events)
+
+-- These are all steps of those lines that stand before the next one, where the first has this number.
+pub record IsNextLine (number : ℕ) (ls : List (List ℕ)) (done : ℕ) : Type 0 where
+  pub before : List (List ℕ)
+  pub line : List ℕ
+  pub later : List (List ℕ)
+  pub cut : ls ≡ before ++ line ∷ later
+  pub carried : done ≡ length (tasks_from number before)
+
+-- The place in some lines where memory was wanting: the next step, or the reading of the next line.
+abbrev pub LacksWithin : ℕ → List (List ℕ) → ℕ → World → Type 0
+LacksWithin number ls done w = StepWants done (tasks_from number ls) w ⊎ IsNextLine number ls done
 
 -- The place where memory was wanting: the next step; or the reading of the line, of which no step was carried out; or the text of the
 -- line's answers, where all its steps were carried out, or those before one that found the journal full.

@@ -7,5 +7,6 @@ pub mod Outcome
 pub mod Statuses
 pub mod Reports
 pub mod Offline
+pub mod OpenRuns
 pub mod Tried
 pub mod Trials

@@ -1,14 +1,13 @@
 -- What a run of a script comes to that stands in memory, and whose answers nobody hears.
-use Rattle.std.specs.Prelude.{◌≡◌, ℕ, ◌≤◌, ◌⊎◌, true, false, List, length, map, take}
+use Rattle.std.specs.Prelude.{◌≡◌, ℕ, ◌⊎◌, true, false, List}
 use Rattle.dr_plant.specs.State.{PlantState}
 use Rattle.dr_model.specs.declared.event.Event.{Event}
 use Rattle.dr_model.specs.Control.{World}
-use Rattle.dr_model.specs.Listed.{as_asked}
 use Rattle.dr_model.specs.Lines.{tasks}
 use Rattle.dr_model.specs.Runs.{Task}
 use Rattle.dr_io.specs.Pieces.{IsPast}
-use Rattle.dr_top.specs.Followed.{IsFull}
 use Rattle.dr_top.specs.Offline.{script_limits}
+use Rattle.dr_top.specs.OpenRuns.{AllOf, FirstOf, BeforeFull}
 use Rattle.dr_top.specs.Outcome.{has_refusal}
 use Rattle.dr_top.specs.Stands.{Stands}
 use Rattle.dr_top.specs.declared.status.Status.{Status}
@@ -17,18 +16,15 @@ use Rattle.dr_top.specs.declared.status.Status.TheVariants.{Done, DoneRefused, N
 module _ (script : List ℕ) where
   -- all steps of the script
   abbrev pub AreAll : List Task → Type 0
-  AreAll steps = map as_asked steps ≡ tasks script
+  AreAll steps = AllOf (tasks script) steps
 
   -- the first steps of it
-  pub record AreFirst (steps : List Task) : Type 0 where
-    pub done : ℕ
-    pub within : done ≤ length (tasks script)
-    pub same : map as_asked steps ≡ take done (tasks script)
+  abbrev pub AreFirst : List Task → Type 0
+  AreFirst steps = FirstOf (tasks script) steps
 
   -- those before one that found the journal full
-  pub record AreBeforeFull (steps : List Task) (w : World) : Type 0 where
-    pub first : AreFirst steps
-    pub full : IsFull first.done (tasks script) w
+  abbrev pub AreBeforeFull : List Task → World → Type 0
+  AreBeforeFull steps w = BeforeFull (tasks script) steps w
 
   -- the first ones, where the script is past a limit
   pub record AreBeforeLimit (steps : List Task) : Type 0 where

@@ -1,5 +1,6 @@
-//! Carries out the steps of one line of a script.
+//! Carries out the steps of one line of a script, and of the lines of a text.
 
+ghost use Rattle.std.specs.Str.Lines.{lines};
 ghost use Rattle.std.specs.Prelude.{◌≡◌, ℕ, ◌+◌, ◌<◌, ◌≤◌, ◌++◌, ◌^◌, [], ◌∷◌, length, nat_le, Ok, Err, OnOk, OnErr, All};
 ghost use Rattle.dr_logic.specs.Counts.{Counted};
 ghost use Rattle.dr_model.specs.Answers.{answer};
@@ -12,13 +13,14 @@ ghost use Rattle.dr_model.specs.Limits.{most_events};
 ghost use Rattle.dr_model.specs.Lines.{tasks_of, tasks_read};
 ghost use Rattle.dr_model.specs.LineText.{IsWritten};
 ghost use Rattle.dr_model.specs.Runs.{after_task};
-ghost use Rattle.dr_top.specs.Carried.{Reached, GoesTo};
+ghost use Rattle.dr_top.specs.Carried.{Reached, GoesTo, GoesThrough};
 ghost use Rattle.dr_steps.specs.Faults.{told_stop};
 ghost use Rattle.dr_steps.specs.declared.tables.Tables.{Tables};
 ghost use Rattle.dr_steps.specs.Here.{here, IsTold, IsReady};
 
 use dr_config::Config;
 use dr_ids::{Fault, MOST_EVENTS, Refusal};
+use dr_io::split_line;
 use dr_model::Journal;
 use dr_plant::Plant;
 use dr_script::{Line, read_line};
@@ -115,4 +117,38 @@ pub fn carry_line<P: Plant>(
         Err(Fault::Refused(Refusal::Syntax { column })) => carry_fault(journal, number, column),
         Err(_) => Err(Bar::NoMemory),
     }
+}
+
+/// Carries out the lines of a text in order, of which the first has this number. The end of the text ends a line, too.
+pub fn carry_text<P: Plant>(
+    alloc: Global,
+    plant: &mut P,
+    config: &mut Config,
+    tables: &mut Tables,
+    journal: &mut Journal,
+    first: u32,
+    text: &[u8],
+) -> Result<(), Bar>
+    requires ready { IsReady (P.state plant.old) config.old tables.old journal.old.events }
+    requires reached { Reached (here (P.state plant.old) config.old tables.old journal.old.events) }
+    requires room { length journal.old.events ≤ most_events }
+    requires few { first + length (lines text.now) < 2 ^ 32 }
+    ensures goes { GoesThrough (here (P.state plant.old) config.old tables.old journal.old.events) (P.state plant.old).block first (lines text.now)
+        (here (P.state plant.new) config.new tables.new journal.new.events) (P.state plant.new).block result }
+    ensures ready { IsReady (P.state plant.new) config.new tables.new journal.new.events }
+    ensures faults { (f : ℕ) → Counted (told_stop journal.old.events) f (P.state plant.old).faults → Counted (told_stop journal.new.events) f (P.state plant.new).faults }
+    ensures room { length journal.new.events ≤ most_events }
+{
+    let mut steps = Line::new(alloc);
+    let mut number = first;
+    let mut rest = text;
+    while !rest.is_empty() {
+        let (line, behind) = split_line(rest);
+        carry_line(
+            alloc, plant, config, tables, journal, number, line, &mut steps,
+        )?;
+        number += 1;
+        rest = behind;
+    }
+    Ok(())
 }

@@ -170,7 +170,7 @@ pub fn run_lines<P: Plant, S: Source, K: Sink>(
                     Err(halt) => return halt.status(),
                 }
             }
-            Ok(Taken::End) => return whole_status(journal),
+            Ok(Taken::End) => return whole_status(journal, 0),
             Ok(Taken::TooLong) => return Status::TooLong,
             Err(_) => return Status::ReadFault,
         }

@@ -1,4 +1,4 @@
-ghost use Rattle.std.specs.Prelude.{◌≡◌};
+ghost use Rattle.std.specs.Prelude.{◌≡◌, ◌≤◌, drop, length};
 ghost use Rattle.dr_top.specs.Outcome.{code_of, is_refusal, has_refusal};
 ghost use Rattle.dr_top.specs.Statuses.{refusal_at, whole_status};
 
@@ -69,10 +69,12 @@ pub fn is_refusal_at(journal: &Journal, place: usize) -> bool
     }
 }
 
-fn has_refusal(journal: &Journal) -> bool
-    ensures { result ≡ has_refusal journal.now.events }
+/// Whether an event from a place on is a refusal.
+fn has_refusal(journal: &Journal, from: usize) -> bool
+    requires { from ≤ length journal.now.events }
+    ensures { result ≡ has_refusal (drop from journal.now.events) }
 {
-    for i in 0..journal.len() {
+    for i in from..journal.len() {
         if is_refusal_at(journal, i) {
             return true;
         }
@@ -80,11 +82,12 @@ fn has_refusal(journal: &Journal) -> bool
     false
 }
 
-/// How a run ends whose input was read to its end.
-pub fn whole_status(journal: &Journal) -> Status
-    ensures { result ≡ whole_status (has_refusal journal.now.events) }
+/// How a run ends whose input was read to its end, by the events from a place on.
+pub fn whole_status(journal: &Journal, from: usize) -> Status
+    requires { from ≤ length journal.now.events }
+    ensures { result ≡ whole_status (has_refusal (drop from journal.now.events)) }
 {
-    if has_refusal(journal) {
+    if has_refusal(journal, from) {
         Status::DoneRefused
     } else {
         Status::Done

@@ -4,17 +4,15 @@ ghost use Rattle.std.specs.Prelude.{◌≡◌, []};
 ghost use Rattle.dr_plant.specs.State.{IsFresh};
 ghost use Rattle.dr_top.specs.Tried.{IsTried};
 
-use crate::run::run_lines;
+use crate::open_run::OpenRun;
 use crate::status::Status;
-use dr_config::Config;
-use dr_io::{TextSource, Unheard};
 use dr_model::Journal;
 use dr_plant::Plant;
-use dr_steps::Tables;
 use std::alloc::Global;
 
-/// Carries out the steps of a script on the plant, and keeps what happens in the journal. Ends with `Done` or `DoneRefused` where all of them
-/// were carried out; with `NoMemory`; or with `TooLong`, where a step found the journal full or the script is past a script's limits.
+/// Carries out the steps of a script on the plant, and keeps what happens in the journal: the only text of a run. Ends with `Done` or
+/// `DoneRefused` where all of them were carried out; with `NoMemory`; or with `TooLong`, where a step found the journal full or the script
+/// is past a script's limits.
 pub fn try_script<P: Plant>(
     alloc: Global,
     script: &[u8],
@@ -25,17 +23,6 @@ pub fn try_script<P: Plant>(
     requires empty { journal.old.events ≡ [] }
     ensures { IsTried script.now result journal.new.events (P.state plant.old) (P.state plant.new) }
 {
-    let mut config = Config::new(alloc);
-    let mut tables = Tables::new(alloc);
-    let mut source = TextSource::new(script);
-    let mut nobody = Unheard;
-    run_lines(
-        alloc,
-        plant,
-        &mut config,
-        &mut tables,
-        journal,
-        &mut source,
-        &mut nobody,
-    )
+    let mut run = OpenRun::new(alloc);
+    run.carry_out(alloc, script, plant, journal)
 }

@@ -9,5 +9,5 @@ mod sweep;
 mod sweep_line;
 mod words;
 
-pub use sweep::{SweepCommand, TornBytes, sweep_command_of};
+pub use sweep::{PlanLine, SweepCommand, TornBytes, sweep_command_of};
 pub use words::{Command, command_of};

@@ -1,6 +1,7 @@
-ghost use Rattle.std.specs.Prelude.{◌≡◌, IfOk, map};
+ghost use Rattle.std.specs.Prelude.{◌≡◌, ◌<◌, IfOk, IfSome, length, map, nat_eq};
+ghost use Rattle.std.specs.List.{position};
 ghost use Rattle.clap.specs.Words.{found_of, rows_of, subcommand_rows_of};
-ghost use Rattle.dr_words.specs.Sweep.{counted, cut_said, gap_said, has_option, point_said, sweep_command_of, torn_said};
+ghost use Rattle.dr_words.specs.Sweep.{after_dot, before_dot, counted, cut_said, gap_said, has_option, ordinal, plan_line_said, point_said, sweep_command_of, torn_said};
 ghost use Rattle.dr_words.specs.SweepLine.{has_form, is_point, is_view, met_command, named_command, point_in};
 
 use crate::sweep_line::{POINT, sweep_line};
@@ -21,7 +22,16 @@ pub enum TornBytes {
     Ones,
 }
 
-/// A command of the program of sweeps. Disasters, and the tried line in which a disaster comes, are counted from 1.
+/// A line of a plan, or a part of one.
+#[derive(Clone, Copy)]
+pub struct PlanLine {
+    /// The number of the line in the plan, counted from 1.
+    pub line: u32,
+    /// The place among the steps of the line, counted from 1; 0 where none was named.
+    pub part: u32,
+}
+
+/// A command of the program of sweeps. Disasters are counted from 1.
 #[derive(Drop)]
 pub enum SweepCommand {
     /// Says what was found.
@@ -30,18 +40,18 @@ pub enum SweepCommand {
     Rows,
     /// Draws what is lost at each point.
     Picture,
-    /// Prints the script of a point in a tried line: after so many device writes in it one of that server is cut short.
+    /// Prints the script of a point in a tried step: after that many device writes in it one of that server is cut short.
     CutScript {
         disaster: u32,
-        line: u32,
+        line: PlanLine,
         server: Text,
         write: u32,
         torn: TornBytes,
     },
-    /// Prints the script of a point behind so many tried lines.
+    /// Prints the script of a point after a tried step, or after the line from which on steps are tried.
     GapScript {
         disaster: u32,
-        line: u32,
+        line: PlanLine,
     },
 }
 
@@ -129,7 +139,8 @@ fn point_in(alloc: Global, values: &ArgMatches<'_>) -> Result<Option<SweepComman
     }
 }
 
-/// What the words of a point say: `LINE gap` or `LINE SERVER WRITE TORN`, and behind them `DISASTER`, or the first one.
+/// What the words of a point say: `LINE[.PART] gap` or `LINE[.PART] SERVER WRITE TORN`, and after them `DISASTER`, or the
+/// first one.
 fn point_said(alloc: Global, words: &[&str]) -> Result<Option<SweepCommand>, AllocError>
     ensures { IfOk result (λ command. command ≡ point_said (map (λ word. word.now) words.now)) }
 {
@@ -144,19 +155,19 @@ fn point_said(alloc: Global, words: &[&str]) -> Result<Option<SweepCommand>, All
     }
 }
 
-/// What the words of a point behind a line say.
+/// What the words of a point after a step say.
 fn gap_said(line: &str, gap: &str, disaster: &str) -> Option<SweepCommand>
     ensures { result ≡ gap_said line.now gap.now disaster.now }
 {
     if gap != "gap" {
         return None;
     }
-    let line = counted(line)?;
+    let line = plan_line_said(line.as_bytes())?;
     let disaster = counted(disaster)?;
     Some(SweepCommand::GapScript { disaster, line })
 }
 
-/// What the words of a point in a line say.
+/// What the words of a point in a step say.
 fn cut_said(
     alloc: Global,
     line: &str,
@@ -167,7 +178,7 @@ fn cut_said(
 ) -> Result<Option<SweepCommand>, AllocError>
     ensures { IfOk result (λ command. command ≡ cut_said line.now server.now write.now torn.now disaster.now) }
 {
-    let Some(line) = counted(line) else {
+    let Some(line) = plan_line_said(line.as_bytes()) else {
         return Ok(None);
     };
     let Some(write) = counted(write) else {
@@ -195,6 +206,57 @@ fn counted(word: &str) -> Option<u32>
     ensures { result ≡ counted word.now }
 {
     read_number(word.as_bytes(), u32::MAX)
+}
+
+/// The number from 1 on of a word in one to ten decimal digits.
+fn ordinal(word: &[u8]) -> Option<u32>
+    ensures { result ≡ ordinal word.now }
+{
+    match read_number(word, u32::MAX) {
+        Some(0) | None => None,
+        Some(n) => Some(n),
+    }
+}
+
+/// The place of the first dot of a word.
+fn find_dot(word: &[u8]) -> Option<usize>
+    ensures value { result ≡ position (λ b. nat_eq b 46) word.now }
+    ensures within { IfSome result (λ dot. dot < length word.now) }
+{
+    word.iter().position(|b| *b == b'.')
+}
+
+/// The bytes of a word before its dot.
+fn before_dot(word: &[u8], dot: usize) -> &[u8]
+    requires { dot < length word.now }
+    ensures { result.now ≡ before_dot dot word.now }
+{
+    &word[..dot]
+}
+
+/// The bytes of a word after its dot.
+fn after_dot(word: &[u8], dot: usize) -> &[u8]
+    requires { dot < length word.now }
+    ensures { result.now ≡ after_dot dot word.now }
+{
+    &word[dot + 1..]
+}
+
+/// The line of a plan that a word names, or the part of it after a dot.
+fn plan_line_said(word: &[u8]) -> Option<PlanLine>
+    ensures { result ≡ plan_line_said word.now }
+{
+    match find_dot(word) {
+        None => {
+            let line = ordinal(word)?;
+            Some(PlanLine { line, part: 0 })
+        }
+        Some(dot) => {
+            let line = ordinal(before_dot(word, dot))?;
+            let part = ordinal(after_dot(word, dot))?;
+            Some(PlanLine { line, part })
+        }
+    }
 }
 
 /// The torn bytes of a word.

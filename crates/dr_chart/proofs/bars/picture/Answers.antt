@@ -1,5 +1,5 @@
-use Rattle.std.proofs.Common.{◌++◌, length, ap, sym, ◌∙◌, arith}
-use Rattle.dr_chart.specs.Picture.{bars_text, ended, head, scale, tail}
+use Rattle.std.proofs.Common.{◌∷◌, [], ◌++◌, length, ap, sym, ◌∙◌, arith}
+use Rattle.dr_chart.specs.Picture.{axes, bars_text, ended, grey_text, head, scale, tail}
 use Rattle.dr_chart.proofs.BarLemmas.{added, none_left}
 use Rattle.dr_chart.proofs.bars.picture.Goals as goal
 
@@ -9,6 +9,6 @@ loop-place-preserved c =
 
 pub returns : goal.returns
 returns c =
-    c.in_ok-append-2.ensures.ok ∙ ap (λ u. c.loop-place.text ++ u) c.tail.ensures
-    ∙ ap (λ t. t ++ ended tail) (sym (none_left c.highest-top.result c.loop-place.place c.args.bars.now c.loop-place.text (omega arith)) ∙ c.loop-place.invariant)
-    ∙ ap (λ top. ((ended head ++ ended (scale top (length c.args.bars.now))) ++ bars_text top 0 c.args.bars.now) ++ ended tail) c.highest-top.ensures
+    c.in_ok-push_end.ensures
+    ∙ ap (λ t. t ++ ended axes ++ ended (grey_text c.args.asks ∷ []) ++ ended tail) (sym (none_left c.highest-top.result c.loop-place.place c.args.bars.now c.loop-place.text (omega arith)) ∙ c.loop-place.invariant)
+    ∙ ap (λ top. ((ended head ++ ended (scale top (length c.args.bars.now))) ++ bars_text top 0 c.args.bars.now) ++ ended axes ++ ended (grey_text c.args.asks ∷ []) ++ ended tail) c.highest-top.ensures

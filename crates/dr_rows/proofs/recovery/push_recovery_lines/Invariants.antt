@@ -4,4 +4,4 @@ use Rattle.dr_rows.specs.Refusals.{recovery_line}
 use Rattle.dr_rows.proofs.recovery.push_recovery_lines.Given as goal
 
 abbrev pub invariant-loop-place : goal.invariant-loop-place
-invariant-loop-place l = l.text ≡ l.fn.text ++ flat_map (recovery_line l.lines l.rows) (range_with_len 0 l.place)
+invariant-loop-place l = l.text ≡ l.fn.text ++ flat_map (recovery_line l.before l.lines l.rows) (range_with_len 0 l.place)

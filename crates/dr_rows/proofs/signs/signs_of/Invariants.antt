@@ -3,4 +3,4 @@ use Rattle.dr_rows.specs.Strip.{sign_of}
 use Rattle.dr_rows.proofs.signs.signs_of.Given as goal
 
 abbrev pub invariant-loop-place : goal.invariant-loop-place
-invariant-loop-place l = l.found.items ≡ map (sign_of l.asks) (map (λ place. place.now) (take l.place-index l.places))
+invariant-loop-place l = l.found.items ≡ map (sign_of l.asks l.which) (map (λ place. place.now) (take l.place-index l.places))

@@ -6,5 +6,5 @@ use Rattle.dr_rows.proofs.strip.push_disaster_strips.Goals as goal
 pub loop-disaster-preserved : goal.loop-disaster-preserved
 loop-disaster-preserved c =
     let at = c.loop-disaster.disaster in
-    let says : ℕ → List ℕ = disaster_strip c.args.plan.now c.args.signs.now in
+    let says : ℕ → List ℕ = disaster_strip c.args.plan.now c.args.asks c.args.rows.now in
     c.in_ok-push_disaster_strip.ensures ∙ ap (λ t. t ++ says at) c.loop-disaster.invariant ∙ said-more says c.args.text.now 0 at at (omega arith)

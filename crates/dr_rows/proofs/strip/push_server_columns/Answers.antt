@@ -6,5 +6,5 @@ use Rattle.dr_rows.proofs.strip.push_server_columns.Goals as goal
 pub loop-server-preserved : goal.loop-server-preserved
 loop-server-preserved c =
     let at = c.loop-server.server in
-    let says : ℕ → List ℕ = server_column c.args.plan.now c.args.signs.now c.args.disaster c.args.line in
+    let says : ℕ → List ℕ = server_column c.args.plan.now c.args.signs.now c.args.disaster c.args.place in
     c.in_ok-push_server_column.ensures ∙ ap (λ t. t ++ says at) c.loop-server.invariant ∙ said-more says c.args.text.now 0 at at (omega arith)

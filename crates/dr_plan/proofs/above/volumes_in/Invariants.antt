@@ -1,0 +1,6 @@
+use Rattle.std.proofs.Common.{◌≡◌, take}
+use Rattle.dr_plan.specs.Above.{volumes_in}
+use Rattle.dr_plan.proofs.above.volumes_in.Given as goal
+
+abbrev pub invariant-loop-line : goal.invariant-loop-line
+invariant-loop-line l = l.found.items ≡ volumes_in (take l.line-index l.lines)

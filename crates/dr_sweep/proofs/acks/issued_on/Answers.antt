@@ -1,0 +1,12 @@
+use Rattle.std.proofs.Common.{◌++◌, [], ap, sym, ◌∙◌}
+use Rattle.std.specs.List.{cons_option}
+use Rattle.std.specs.Option.{option_copied}
+use Rattle.dr_sweep.specs.Acks.{issued_by}
+use Rattle.dr_sweep.proofs.TellLemmas.{told-more}
+use Rattle.dr_sweep.proofs.acks.issued_on.Goals as goal
+
+pub loop-place-preserved : goal.loop-place-preserved
+loop-place-preserved c =
+    c.in_ok-push_some.ensures
+    ∙ ap (λ xs. xs ++ cons_option c.issued_by.result []) c.loop-place.invariant
+    ∙ sym (told-more (issued_by c.args.volumes.now) c.args.journal.now.events c.loop-place.place c.unwrap.result.now (cons_option c.issued_by.result []) (sym c.event.ensures ∙ ap option_copied c.unwrap.ensures) (ap (λ o. cons_option o []) c.issued_by.ensures))

@@ -1,0 +1,188 @@
+"""The report on a plan of a sweep, and whether it has a finding, by its rows and the calm run."""
+import re
+from dataclasses import dataclass
+
+from plan_text import steps_of, words_of
+from sweep_runs import Writes
+
+LEGEND = ("strip: a character for each device write that is cut short; between bars, the loss behind the line\n"
+          "0 to 9 or + writes are lost at most; ! one that is held depends on a lost one; * torn bytes decide; - ")
+
+
+@dataclass
+class CalmStep:
+    """A step of the calm run: the number of its line in the plan, the line that it is, and its answer."""
+
+    line: int
+    text: str
+    answer: str
+
+    @property
+    def refused(self):
+        return self.answer.startswith("E")
+
+    @property
+    def held(self):
+        return self.answer.startswith("held")
+
+
+class Calm:
+    """The calm run: set-up and tried steps, without a disaster."""
+
+    def __init__(self, plan, drsim):
+        self.plan = plan
+        lines = plan.setup + [tried.text for tried in plan.tried]
+        answers = drsim.run(lines).answers
+        writes = Writes(lines, answers)
+        self.written = {writes.by_number[w].volume for w, _ in writes.acknowledged}
+        self.steps = []
+        for number, line in enumerate(plan.setup, 1):
+            found = answers.get(number, [])
+            texts = steps_of(line) if len(found) > 1 else [line] * len(found)
+            self.steps += [CalmStep(number, text, answer) for text, answer in zip(texts, found, strict=True)]
+        for number, tried in enumerate(plan.tried, len(plan.setup) + 1):
+            self.steps += [CalmStep(tried.line, tried.text, answer) for answer in answers[number]]
+
+    def told(self):
+        """What the report says of it."""
+        count = [sum(found) for found in ([s.refused for s in self.steps], [s.held for s in self.steps])]
+        yield f"calm run: {len(self.steps)} steps, {count[0]} refused, {count[1]} held"
+        for number in dict.fromkeys(step.line for step in self.steps):
+            yield from self.line_told(number, [step for step in self.steps if step.line == number])
+        for use in self.plan.uses:
+            for first, second in use.pairs:
+                if second not in self.written:
+                    but = f", but on {first}" if first in self.written else ""
+                    yield f"use {use.name + ' ' if use.name else ''}{first} for {second}: no write on {second}{but}"
+
+    def line_told(self, number, steps):
+        announced = number in self.plan.announced
+        for step in steps:
+            if step.refused or step.held:
+                yield f"  {number} {step.text}: {step.answer}" + (" (announced)" if announced and step.refused else "")
+        if announced and not any(step.refused for step in steps):
+            # Of several tried steps the first stands for the line; a line of the set-up stands as it is.
+            text = self.plan.setup[number - 1] if number <= len(self.plan.setup) else steps[0].text
+            yield f"  {number} {text}: not refused (announced)"
+
+    def has_finding(self):
+        def mistaken(pairs):
+            unwritten = [second not in self.written for _, second in pairs]
+            return all(unwritten) or any(missing and first in self.written for missing, (first, _) in zip(unwritten, pairs))
+
+        return any(s.refused and s.line not in self.plan.announced for s in self.steps) or any(mistaken(use.pairs) for use in self.plan.uses)
+
+
+class Report:
+    def __init__(self, plan, rows, found, calm):
+        self.plan, self.rows, self.found, self.calm = plan, rows, found, calm
+        self.recovers = [words_of(line)[:1] == ["@recover"] for line in plan.recovery]
+        self.no_group = "no group" if any(self.recovers) else "no session asked"
+        self.names_uses = len(plan.uses) > 1 or plan.uses[0].name is not None
+
+    def text(self):
+        lines = [*self.calm.told(), *self.disasters(), "recovery", *self.recovery(), LEGEND + self.no_group, *self.strips()]
+        return "".join(line + "\n" for line in lines)
+
+    def of(self, disaster):
+        return [row for row in self.found if row.point.disaster == disaster]
+
+    def each(self):
+        """The disasters and uses, with the lines that stand over what is said of them."""
+        for disaster, servers in enumerate(self.plan.loses):
+            for which, use in enumerate(self.plan.uses):
+                head = ["lost at once: " + " ".join(servers)] if which == 0 else []
+                yield disaster, which, head + ([f"use {use.name or '-'}"] if self.names_uses else [])
+
+    # ---- disasters
+
+    def kind(self, row):
+        if not row.groups:
+            return self.no_group
+        return f"group {' '.join(n for n, _ in row.groups)} {' '.join(decision for _, decision in row.groups)}"
+
+    def disasters(self):
+        for disaster, which, head in self.each():
+            rows = self.of(disaster)
+            yield from head
+            for kind in dict.fromkeys(map(self.kind, rows)):
+                like = [row for row in rows if self.kind(row) == kind]
+                most = max(len(row.losses[which].lost) for row in like)
+                broken = sum(row.losses[which].broken is not None for row in like)
+                yield f"  {kind}: {len(like)} points, at most {most} lost, {broken} broken, {sum(bool(row.refused) for row in like)} with refusals"
+            worst = max(rows, key=lambda row: len(row.losses[which].lost))
+            if worst.losses[which].lost:
+                yield f"  worst: {len(worst.losses[which].lost)} lost, {self.shown_by(worst)}"
+            broken = next((row for row in rows if row.losses[which].broken), None)
+            if broken:
+                held, lost = broken.losses[which].broken
+                yield f"  broken: w{held} is held and depends on w{lost}, which is lost, {self.shown_by(broken)}"
+
+    def shown_by(self, row):
+        return "shown by: " + " ".join(self.rows.words(row.point))
+
+    # ---- the recovery
+
+    @staticmethod
+    def answers_of(row, place):
+        return [answer for line, answer in row.answers if line == place]
+
+    def kept_at(self, place):
+        """At how many points all steps of a line of the recovery are ok or held."""
+        answers = [self.answers_of(row, place) for row in self.found]
+        return sum(bool(found) and not any(answer.startswith("E") for answer in found) for found in answers)
+
+    def is_answered(self, place):
+        return any(self.answers_of(row, place) for row in self.found)
+
+    def recovery(self):
+        for place, line in enumerate(self.plan.recovery, 1):
+            if self.is_answered(place):
+                codes = [{answer[:3] for answer in self.answers_of(row, place) if answer.startswith("E")} for row in self.found]
+                refused = [f", {code} at {sum(code in found for found in codes)}" for code in sorted(set().union(*codes))]
+                yield f"  {self.plan.then_line + place} {line}: ok at {self.kept_at(place)}{''.join(refused)}"
+
+    # ---- the strip
+
+    def strips(self):
+        for disaster, which, head in self.each():
+            signs = self.signs(disaster, which)
+            yield from head
+            yield f"{self.plan.place(0):>6} |{signs[0, None]}|"
+            for place, tried in enumerate(self.plan.tried):
+                servers = "".join(f" {name} {signs.get((place, name), '')}" for name in self.plan.loses[disaster])
+                yield f"{self.plan.place(place + 1):>6} |{signs[place + 1, None]}|{servers}  {tried.text}"
+
+    def signs(self, disaster, which):
+        """The characters of each server in a tried step, and of each gap."""
+        places, signs = {}, {}
+        for row in self.of(disaster):
+            places.setdefault((row.point.place, row.point.server, row.point.write), []).append(row)
+        for (place, server, _), rows in places.items():
+            signs[place, server] = signs.get((place, server), "") + self.sign(rows, which)
+        return signs
+
+    def sign(self, rows, which):
+        lost = [len(row.losses[which].lost) for row in rows]
+        if any(row.losses[which].broken for row in rows):
+            return "!"
+        if len(set(zip(map(self.kind, rows), lost))) > 1:
+            return "*"
+        if any(self.recovers) and not all(row.groups for row in rows):
+            return "-"
+        return str(max(lost)) if max(lost) < 10 else "+"
+
+    # ---- findings
+
+    def is_announced(self, place):
+        return self.plan.then_line + place in self.plan.announced
+
+    def is_finding(self, row):
+        wanted = {place for place, recovers in enumerate(self.recovers, 1) if recovers and not self.is_announced(place)}
+        return (any(loss.broken or self.plan.bound is not None and len(loss.lost) > self.plan.bound for loss in row.losses)
+                or any(line in wanted and not re.match("ok group ", answer) for line, answer in row.answers)
+                or any(counted < every for counted, every in row.members))
+
+    def has_finding(self):
+        never = any(self.is_answered(place) and not self.kept_at(place) and not self.is_announced(place) for place in range(1, len(self.plan.recovery) + 1))
+        return self.calm.has_finding() or never or any(map(self.is_finding, self.found))
