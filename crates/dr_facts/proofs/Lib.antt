@@ -16,3 +16,4 @@ pub mod Sets
 pub mod Lawful
 pub mod Joined
 pub mod Heard
+pub mod Emits
