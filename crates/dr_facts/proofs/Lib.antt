@@ -17,3 +17,4 @@ pub mod Lawful
 pub mod Joined
 pub mod Heard
 pub mod Emits
+pub mod Entries
