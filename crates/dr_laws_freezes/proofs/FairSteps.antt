@@ -1,5 +1,6 @@
 -- Each step's plan is fair, and so the law of freeze windows holds of every run.
-use Rattle.std.proofs.Common.{ℕ, refl, Bool, true, false, List, [], ◌∷◌, None}
+use Rattle.std.proofs.Common.{ℕ, refl, Bool, true, false, List, [], ◌∷◌, None, Result}
+use Rattle.dr_model.specs.declared.step.Step.{Step}
 use Rattle.dr_ids.specs.declared.names.Member.{Member}
 use Rattle.dr_model.specs.Phases as phases
 use Rattle.dr_model.specs.Messages as messages
@@ -61,64 +62,64 @@ between-nothing = record {
 alone : (w : World) → Sound w → (entries : List Entry) (says : Control → Said) → Along (as_begun w) entries → Orders w (leaving entries same says)
 alone w s entries says a = record { ends = Sound; complete = λ v y. y; begins = sound-begun w s; entries = a; follows = λ q v y. over v y; last = λ v y. y; turns = λ v y. regroups-same v.control.sessions; adds = λ v y. adds-same v.control.sessions v.control.flight v.control.flight refl; goes = λ v y. goes-same v.control }
 
-pub fair-case : (w : World) (k : Between w) (line : ℕ) (p : Plan) → Case w.control w.events line p → Fair w p
-fair-case w k line _ (Says a) = fair-says w k line a
-fair-case w k line _ (DefinesServer name free) = fair-defines w k line name free
-fair-case w k line _ (DefinesVolume v s tracks here free) = fair-adds w k line v s tracks here free
-fair-case w k line _ (SetsLink a b up) = fair-links w k line a b up
-fair-case w k line _ (Issues v t offset len bytes free) = fair-issues w k line v t offset len bytes free
-fair-case w k line _ (Writes v t offset len bytes free) = fair-writes w k v t offset len bytes free
-fair-case w k line _ (Applies n p found) = fair-applies w k n p found
-fair-case w k line _ (Lists told ls few) = fair-lists w k line told ls (case-holds w k.sound line _ (Lists told ls few))
-fair-case w k line _ (Shows v t there) = fair-shows w k line v t there
-fair-case w k line _ (Stops x on) = fair-stops w k line x on
-fair-case w k line _ (Arms writes torn x) = fair-arms w k line writes torn x
-fair-case w k line _ (Starts x off) = fair-start x w k
-fair-case w k line _ (MakesFlash dev v t freeze choices) = fair-flash w k dev v t freeze choices
-fair-case w k line _ (RemovesFlash dev v t) = fair-withdraw w k dev v t
-fair-case w k line _ (ResyncsFlash dev v t sequence) = fair-resync w k dev v t sequence
-fair-case w k line _ (ReversesFlash dev v t) = fair-reverse w k dev v t
-fair-case w k line _ (Copies t most) = fair-copy w k t most
-fair-case w k line _ (Destages v) = fair-destage w k v
-fair-case w k line _ (MakesPath src tgt group) = fair-paths w k line src tgt group
-fair-case w k line _ (RemovesPath src tgt) = fair-unpaths w k line src tgt
-fair-case w k line _ (MakesPair devs a b kind choices part) = fair-pair w k devs a b kind choices part
-fair-case w k line _ (RemovesPair devs a b source_only) = fair-remove w k devs a b source_only
-fair-case w k line _ (PausesPair devs a b) = fair-pause w k devs a b
-fair-case w k line _ (ResumesPair devs a b kind) = fair-resume w k devs a b kind
-fair-case w k line _ (FailsOver devs b a kind) = fair-failover w k devs b a kind
-fair-case w k line _ (FailsBack devs x y kind) = fair-failback w k devs x y kind
-fair-case w k line _ (Compares contents v u) = fair-compare w k contents v u
-fair-case w k line _ (Drains a most) = fair-drain w k a most
-fair-case w k line _ (Expires x on) = fair-expire w k x on
-fair-case w k line _ (Freezes l m) = fair-freeze w k l m
-fair-case w k line _ (Unfreezes l m) = fair-thaw w k l m
-fair-case w k line _ (Releases l) = fair-release w k l
-fair-case w k line _ (MakesSession l i free) = fair-sessions w k (joined i l) (λ k. k.flight) (always (Done Alone)) (case-holds w k.sound line _ (MakesSession l i free))
-fair-case w k line _ (RemovesSession l i x found free) = fair-sessions w k (left i l) (λ k. messages.left i l x k.flight) (always (Done Alone)) (case-holds w k.sound line _ (RemovesSession l i x found free))
-fair-case w k line _ (MakesMirror owner i x found free l owned) = fair-sessions w k (changed i (mirrored_by owner)) (λ k. messages.raised i k.flight) (always (Done Alone)) (case-holds w k.sound line _ (MakesMirror owner i x found free l owned))
-fair-case w k line _ (PausesMirror i on) = fair-sessions w k (changed i (paused on)) (λ k. k.flight) (always (Done Alone)) (case-holds w k.sound line _ (PausesMirror i on))
-fair-case w k line _ (RemovesMirror i x found free) = fair-sessions w k (changed i unmirrored) (λ k. k.flight) (always (Done Alone)) (case-holds w k.sound line _ (RemovesMirror i x found free))
-fair-case w k line _ (Aborts i x found free) = fair-sessions w k (changed i (with_master phases.aborted)) (λ k. messages.aborted i x.mirror k.flight) (says_phase i) (case-holds w k.sound line _ (Aborts i x found free))
-fair-case w k line _ (Sends i server x r o posts) = fair-sent w k i (is_idle r.master.phase) server o (case-holds w k.sound line _ (Sends i server x r o posts))
-fair-case w k line _ (TakesReply n m reply x r returns) =
+pub fair-case : (w : World) (k : Between w) (line : ℕ) (asked : Result Step ℕ) (p : Plan) → Case w.control w.events line asked p → Fair w p
+fair-case w k line _ _ (Says a waits) = fair-says w k line a
+fair-case w k line _ _ (DefinesServer name free) = fair-defines w k line name free
+fair-case w k line _ _ (DefinesVolume v s tracks here free) = fair-adds w k line v s tracks here free
+fair-case w k line _ _ (SetsLink a b up) = fair-links w k line a b up
+fair-case w k line _ _ (Issues v t offset len bytes free) = fair-issues w k line v t offset len bytes free
+fair-case w k line _ _ (Writes v t offset len bytes free) = fair-writes w k v t offset len bytes free
+fair-case w k line _ _ (Applies n p found) = fair-applies w k n p found
+fair-case w k line _ _ (Lists told ls few) = fair-lists w k line told ls (case-holds w k.sound line _ (Lists told ls few))
+fair-case w k line _ _ (Shows v t there) = fair-shows w k line v t there
+fair-case w k line _ _ (Stops x on) = fair-stops w k line x on
+fair-case w k line _ _ (Arms writes torn x) = fair-arms w k line writes torn x
+fair-case w k line _ _ (Starts x off) = fair-start x w k
+fair-case w k line _ _ (MakesFlash dev v t freeze choices) = fair-flash w k dev v t freeze choices
+fair-case w k line _ _ (RemovesFlash dev v t) = fair-withdraw w k dev v t
+fair-case w k line _ _ (ResyncsFlash dev v t sequence) = fair-resync w k dev v t sequence
+fair-case w k line _ _ (ReversesFlash dev v t) = fair-reverse w k dev v t
+fair-case w k line _ _ (Copies t most) = fair-copy w k t most
+fair-case w k line _ _ (Destages v) = fair-destage w k v
+fair-case w k line _ _ (MakesPath src tgt group) = fair-paths w k line src tgt group
+fair-case w k line _ _ (RemovesPath src tgt) = fair-unpaths w k line src tgt
+fair-case w k line _ _ (MakesPair devs a b kind choices part) = fair-pair w k devs a b kind choices part
+fair-case w k line _ _ (RemovesPair devs a b source_only) = fair-remove w k devs a b source_only
+fair-case w k line _ _ (PausesPair devs a b) = fair-pause w k devs a b
+fair-case w k line _ _ (ResumesPair devs a b kind) = fair-resume w k devs a b kind
+fair-case w k line _ _ (FailsOver devs b a kind) = fair-failover w k devs b a kind
+fair-case w k line _ _ (FailsBack devs x y kind) = fair-failback w k devs x y kind
+fair-case w k line _ _ (Compares contents v u) = fair-compare w k contents v u
+fair-case w k line _ _ (Drains a most) = fair-drain w k a most
+fair-case w k line _ _ (Expires x on) = fair-expire w k x on
+fair-case w k line _ _ (Freezes l m) = fair-freeze w k l m
+fair-case w k line _ _ (Unfreezes l m) = fair-thaw w k l m
+fair-case w k line _ _ (Releases l) = fair-release w k l
+fair-case w k line _ _ (MakesSession l i free) = fair-sessions w k (joined i l) (λ k. k.flight) (always (Done Alone)) (case-holds w k.sound line _ (MakesSession l i free))
+fair-case w k line _ _ (RemovesSession l i x found free) = fair-sessions w k (left i l) (λ k. messages.left i l x k.flight) (always (Done Alone)) (case-holds w k.sound line _ (RemovesSession l i x found free))
+fair-case w k line _ _ (MakesMirror owner i x found free l owned) = fair-sessions w k (changed i (mirrored_by owner)) (λ k. messages.raised i k.flight) (always (Done Alone)) (case-holds w k.sound line _ (MakesMirror owner i x found free l owned))
+fair-case w k line _ _ (PausesMirror i on) = fair-sessions w k (changed i (paused on)) (λ k. k.flight) (always (Done Alone)) (case-holds w k.sound line _ (PausesMirror i on))
+fair-case w k line _ _ (RemovesMirror i x found free) = fair-sessions w k (changed i unmirrored) (λ k. k.flight) (always (Done Alone)) (case-holds w k.sound line _ (RemovesMirror i x found free))
+fair-case w k line _ _ (Aborts i x found free) = fair-sessions w k (changed i (with_master phases.aborted)) (λ k. messages.aborted i x.mirror k.flight) (says_phase i) (case-holds w k.sound line _ (Aborts i x found free))
+fair-case w k line _ _ (Sends i server x r o posts) = fair-sent w k i (is_idle r.master.phase) server o (case-holds w k.sound line _ (Sends i server x r o posts))
+fair-case w k line _ _ (TakesReply n m reply x r returns) =
     fair-sessions w k (changed m.session (with_master (λ q. phases.taken q m.server reply))) (λ k. k.flight) (says_phase m.session) (case-holds w k.sound line _ (TakesReply n m reply x r returns))
-fair-case w k line _ (Delivers n m starts x r reaches) =
+fair-case w k line _ _ (Delivers n m starts x r reaches) =
     let ms : List Member = members_on m.server x.members in
     fair-leaving w k (order_entries m.order.work m.session m.order.number ms) (order_done m ms).last (order_done m ms).says (λ k. record { sessions = _; flight = _; is = refl }) (orders-delivered w k.sound n m starts x r reaches) (easy-order m.order.work m.session m.order.number ms)
-fair-case w k line _ (Loses n) = fair-sessions w k (λ ss. ss) (λ k. messages.lost n k.flight) (always (Done Alone)) (case-holds w k.sound line _ (Loses n))
-fair-case w k line _ (AddsMember i a c x joins) =
+fair-case w k line _ _ (Loses n) = fair-sessions w k (λ ss. ss) (λ k. messages.lost n k.flight) (always (Done Alone)) (case-holds w k.sound line _ (Loses n))
+fair-case w k line _ _ (AddsMember i a c x joins) =
     let m : Member = member_with w.control a c in
     let n : ℕ = first_number w.control x.last m in
     fair-leaving w k (add_entries m n) (added w.control i x m).last (added w.control i x m).says (λ k. record { sessions = _; flight = k.flight; is = refl }) (orders-added w k.sound i a c x joins) (easy-add m n)
-fair-case w k line _ (RemovesMember i a x m found is idle on) = fair-leaving w k (expel_entries i m) (expelled i m).last (expelled i m).says (λ k. record { sessions = _; flight = k.flight; is = refl }) (orders-expelled w k.sound i a x m found is idle on) (easy-expel i m)
-fair-case w k line _ (Recovers i x found on) =
+fair-case w k line _ _ (RemovesMember i a x m found is idle on) = fair-leaving w k (expel_entries i m) (expelled i m).last (expelled i m).says (λ k. record { sessions = _; flight = k.flight; is = refl }) (orders-expelled w k.sound i a x m found is idle on) (easy-expel i m)
+fair-case w k line _ _ (Recovers i x found on) =
     let d : Decision = decided_in i w.control in
     fair-leaving w k (recover_entries i d x.members) same (says_recovered i d) retabled-none (alone w k.sound (recover_entries i d x.members) (says_recovered i d) (along-recover w k.sound i x found on)) (easy-recover i d x.members)
-fair-case w k line _ (Settles i x m found here on free) =
+fair-case w k line _ _ (Settles i x m found here on free hand) =
     let d : Decision = decided_in i w.control in
     fair-leaving w k (settle_on i d m ∷ []) same (always (Done Alone)) retabled-none (alone w k.sound (settle_on i d m ∷ []) (always (Done Alone)) (along-settle w k.sound i x found on free m here)) (easy-settle i d m)
-fair-case w k line _ (Exchanges i server reply x r o allowed) =
+fair-case w k line _ _ (Exchanges i server reply x r o allowed) =
     let ms : List Member = members_on server x.members in
     fair-leaving w k (order_entries o.work i o.number ms) (ordered i server reply ms o).last (ordered i server reply ms o).says (by reply) (orders-ordered w k.sound i server x r o allowed reply) (easy-order o.work i o.number ms)
   where
@@ -127,7 +128,7 @@ fair-case w k line _ (Exchanges i server reply x r o allowed) =
     by false k = record { sessions = _; flight = _; is = refl }
 
 pub fair-ending : (w : World) (k : Between w) (line : ℕ) (p : Plan) → Ending w.control w.events line p → Fair w p
-fair-ending w k line _ (OnePlan p c) = fair-case w k line p c
+fair-ending w k line _ (OnePlan asked p c) = fair-case w k line p c
 fair-ending w k line _ (Imaged vs) = fair-lists w k line (image_told vs) (image-lines vs) (ending-holds w k.sound line _ (Imaged vs))
 
 -- the moments of a run

@@ -1,5 +1,6 @@
 -- Steps that only change tables and tell events are fair.
-use Rattle.std.proofs.Common.{ℕ, ◌≡◌, ◌≢◌, ◌<◌, ◌+◌, refl, ap, sym, ◌∙◌, subst, Bool, true, false, cond, ◌&&◌, ◌||◌, nat_eq, List, [], ◌∷◌, ◌++◌, length, None, arith}
+use Rattle.std.proofs.Common.{ℕ, ◌≡◌, ◌≢◌, ◌<◌, ◌+◌, refl, ap, sym, ◌∙◌, subst, Bool, true, false, cond, ◌&&◌, ◌||◌, nat_eq, List, [], ◌∷◌, ◌++◌, length, None, arith, Result}
+use Rattle.dr_model.specs.declared.step.Step.{Step}
 use Rattle.std.proofs.lemmas.List.{append-nil}
 use Rattle.std.proofs.lemmas.Bool.{false≢true, ne_eqb, or_left}
 use Rattle.std.specs.List.{list_any}
@@ -72,7 +73,7 @@ module _ (w : World) (k : Between w) where
       (tidy-same w u volume volumes on (fresh-told w u told refl issued (subst (AllPending (λ p. Unacked w p.w)) (sym pending) k.tidy.fresh.unacked) acks k.tidy.fresh) k.tidy)
 
   module _ (line : ℕ) where
-    abbrev holds : (p : Plan) → Case w.control w.events line p → StepHolds w p
+    abbrev holds : (asked : Result Step ℕ) (p : Plan) → Case w.control w.events line asked p → StepHolds w p
     holds = case-holds w k.sound line
 
     none-told : histories (w.events ++ []) ≡ histories w.events

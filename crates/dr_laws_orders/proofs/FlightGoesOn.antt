@@ -1,5 +1,6 @@
 -- A flight only goes on, over every step: no count and no fence falls, and no number of a message comes again.
-use Rattle.std.proofs.Common.{ℕ, max, ◌≡◌, ◌≤◌, ◌<◌, ◌+◌, ◌⊎◌, inl, inr, refl, ap, sym, ◌∙◌, subst, arith, Bool, true, false, cond, not, ◌==◌, List, [], ◌∷◌, filter, Option, Some, None}
+use Rattle.std.proofs.Common.{ℕ, max, ◌≡◌, ◌≤◌, ◌<◌, ◌+◌, ◌⊎◌, inl, inr, refl, ap, sym, ◌∙◌, subst, arith, Bool, true, false, cond, not, ◌==◌, List, [], ◌∷◌, filter, Option, Some, None, Result}
+use Rattle.dr_model.specs.declared.step.Step.{Step}
 use Rattle.dr_ids.specs.declared.refusal.Refusal.{Refusal}
 use Rattle.dr_ids.specs.declared.refusal.Refusal.TheVariants.{Stopped as StoppedIn}
 use Rattle.dr_ids.specs.declared.names.Member.{Member}
@@ -181,63 +182,63 @@ module _ (k : Control) where
   begins : (p : Plan) → FlightGoesOn k.flight (p.first k).flight → ((j : Control) → (p.last j).flight ≡ j.flight) → Going k p
   begins p first last = record { first = first; last = λ j. goes-equal _ _ (last j) }
 
-  case-goes : (events : List Event) (line : ℕ) (p : Plan) → Case k events line p → Going k p
-  case-goes events line _ (Says a) = calm _ refl (λ j. refl)
-  case-goes events line _ (DefinesServer name free) = calm _ refl (λ j. refl)
-  case-goes events line _ (DefinesVolume v x tracks here free) = calm _ refl (λ j. refl)
-  case-goes events line _ (SetsLink a b up) = calm _ refl (λ j. refl)
-  case-goes events line _ (Issues v t offset len bytes free) = calm _ refl (λ j. refl)
-  case-goes events line _ (Writes v t offset len bytes free) = calm _ refl (λ j. refl)
-  case-goes events line _ (Applies n p found) = calm _ refl (λ j. refl)
-  case-goes events line _ (Lists told ls few) = calm _ refl (λ j. refl)
-  case-goes events line _ (Shows v t there) = calm _ refl (λ j. refl)
-  case-goes events line _ (Arms writes torn x) = calm _ refl (λ j. refl)
-  case-goes events line _ (MakesFlash dev v t freeze choices) = calm _ refl (λ j. refl)
-  case-goes events line _ (RemovesFlash dev v t) = calm _ refl (λ j. refl)
-  case-goes events line _ (ResyncsFlash dev v t sequence) = calm _ refl (λ j. refl)
-  case-goes events line _ (ReversesFlash dev v t) = calm _ refl (λ j. refl)
-  case-goes events line _ (Copies t most) = calm _ refl (λ j. refl)
-  case-goes events line _ (Destages v) = calm _ refl (λ j. refl)
-  case-goes events line _ (MakesPath src tgt group) = calm _ refl (λ j. refl)
-  case-goes events line _ (RemovesPath src tgt) = calm _ refl (λ j. refl)
-  case-goes events line _ (MakesPair devs a b kind choices part) = calm _ refl (λ j. refl)
-  case-goes events line _ (RemovesPair devs a b source_only) = calm _ refl (λ j. refl)
-  case-goes events line _ (PausesPair devs a b) = calm _ refl (λ j. refl)
-  case-goes events line _ (ResumesPair devs a b kind) = calm _ refl (λ j. refl)
-  case-goes events line _ (FailsOver devs b a kind) = calm _ refl (λ j. refl)
-  case-goes events line _ (FailsBack devs x y kind) = calm _ refl (λ j. refl)
-  case-goes events line _ (Compares contents v u) = calm _ refl (λ j. refl)
-  case-goes events line _ (Drains a most) = calm _ refl (λ j. refl)
-  case-goes events line _ (Expires x on) = calm _ refl (λ j. refl)
-  case-goes events line _ (Freezes l m) = calm _ refl (λ j. refl)
-  case-goes events line _ (Unfreezes l m) = calm _ refl (λ j. refl)
-  case-goes events line _ (Releases l) = calm _ refl (λ j. refl)
-  case-goes events line _ (MakesSession l i free) = calm _ refl (λ j. refl)
-  case-goes events line _ (PausesMirror i on) = calm _ refl (λ j. refl)
-  case-goes events line _ (RemovesMirror i x found free) = calm _ refl (λ j. refl)
-  case-goes events line _ (AddsMember i a c x joins) = calm _ refl (λ j. refl)
-  case-goes events line _ (RemovesMember i a x m found is idle on) = calm _ refl (λ j. refl)
-  case-goes events line _ (Recovers i x found on) = calm _ refl (λ j. refl)
-  case-goes events line _ (Settles i x m found here on free) = calm _ refl (λ j. refl)
-  case-goes events line _ (Stops x on) = calm _ refl (λ j. refl)
-  case-goes events line _ (Starts x off) = begins _ (goes-started x k.flight) (λ j. refl)
-  case-goes events line _ (RemovesSession l i x found free) = begins _ (goes-left i l x k.flight) (λ j. refl)
-  case-goes events line _ (MakesMirror owner i x found free l owned) = begins _ (goes-raised i k.flight) (λ j. refl)
-  case-goes events line _ (Aborts i x found free) = begins _ (goes-aborted i x.mirror k.flight) (λ j. refl)
-  case-goes events line _ (Sends i server x r o posts) = begins _ (goes-made i (k.flight.epoch i) server o (Asks (k.flight.starts server)) k.flight) (λ j. refl)
-  case-goes events line _ (TakesReply n m reply x r returns) = calm _ refl (λ j. refl)
-  case-goes events line _ (Delivers q m starts x r reaches) = record {
+  case-goes : (events : List Event) (line : ℕ) (asked : Result Step ℕ) (p : Plan) → Case k events line asked p → Going k p
+  case-goes events line _ _ (Says a waits) = calm _ refl (λ j. refl)
+  case-goes events line _ _ (DefinesServer name free) = calm _ refl (λ j. refl)
+  case-goes events line _ _ (DefinesVolume v x tracks here free) = calm _ refl (λ j. refl)
+  case-goes events line _ _ (SetsLink a b up) = calm _ refl (λ j. refl)
+  case-goes events line _ _ (Issues v t offset len bytes free) = calm _ refl (λ j. refl)
+  case-goes events line _ _ (Writes v t offset len bytes free) = calm _ refl (λ j. refl)
+  case-goes events line _ _ (Applies n p found) = calm _ refl (λ j. refl)
+  case-goes events line _ _ (Lists told ls few) = calm _ refl (λ j. refl)
+  case-goes events line _ _ (Shows v t there) = calm _ refl (λ j. refl)
+  case-goes events line _ _ (Arms writes torn x) = calm _ refl (λ j. refl)
+  case-goes events line _ _ (MakesFlash dev v t freeze choices) = calm _ refl (λ j. refl)
+  case-goes events line _ _ (RemovesFlash dev v t) = calm _ refl (λ j. refl)
+  case-goes events line _ _ (ResyncsFlash dev v t sequence) = calm _ refl (λ j. refl)
+  case-goes events line _ _ (ReversesFlash dev v t) = calm _ refl (λ j. refl)
+  case-goes events line _ _ (Copies t most) = calm _ refl (λ j. refl)
+  case-goes events line _ _ (Destages v) = calm _ refl (λ j. refl)
+  case-goes events line _ _ (MakesPath src tgt group) = calm _ refl (λ j. refl)
+  case-goes events line _ _ (RemovesPath src tgt) = calm _ refl (λ j. refl)
+  case-goes events line _ _ (MakesPair devs a b kind choices part) = calm _ refl (λ j. refl)
+  case-goes events line _ _ (RemovesPair devs a b source_only) = calm _ refl (λ j. refl)
+  case-goes events line _ _ (PausesPair devs a b) = calm _ refl (λ j. refl)
+  case-goes events line _ _ (ResumesPair devs a b kind) = calm _ refl (λ j. refl)
+  case-goes events line _ _ (FailsOver devs b a kind) = calm _ refl (λ j. refl)
+  case-goes events line _ _ (FailsBack devs x y kind) = calm _ refl (λ j. refl)
+  case-goes events line _ _ (Compares contents v u) = calm _ refl (λ j. refl)
+  case-goes events line _ _ (Drains a most) = calm _ refl (λ j. refl)
+  case-goes events line _ _ (Expires x on) = calm _ refl (λ j. refl)
+  case-goes events line _ _ (Freezes l m) = calm _ refl (λ j. refl)
+  case-goes events line _ _ (Unfreezes l m) = calm _ refl (λ j. refl)
+  case-goes events line _ _ (Releases l) = calm _ refl (λ j. refl)
+  case-goes events line _ _ (MakesSession l i free) = calm _ refl (λ j. refl)
+  case-goes events line _ _ (PausesMirror i on) = calm _ refl (λ j. refl)
+  case-goes events line _ _ (RemovesMirror i x found free) = calm _ refl (λ j. refl)
+  case-goes events line _ _ (AddsMember i a c x joins) = calm _ refl (λ j. refl)
+  case-goes events line _ _ (RemovesMember i a x m found is idle on) = calm _ refl (λ j. refl)
+  case-goes events line _ _ (Recovers i x found on) = calm _ refl (λ j. refl)
+  case-goes events line _ _ (Settles i x m found here on free hand) = calm _ refl (λ j. refl)
+  case-goes events line _ _ (Stops x on) = calm _ refl (λ j. refl)
+  case-goes events line _ _ (Starts x off) = begins _ (goes-started x k.flight) (λ j. refl)
+  case-goes events line _ _ (RemovesSession l i x found free) = begins _ (goes-left i l x k.flight) (λ j. refl)
+  case-goes events line _ _ (MakesMirror owner i x found free l owned) = begins _ (goes-raised i k.flight) (λ j. refl)
+  case-goes events line _ _ (Aborts i x found free) = begins _ (goes-aborted i x.mirror k.flight) (λ j. refl)
+  case-goes events line _ _ (Sends i server x r o posts) = begins _ (goes-made i (k.flight.epoch i) server o (Asks (k.flight.starts server)) k.flight) (λ j. refl)
+  case-goes events line _ _ (TakesReply n m reply x r returns) = calm _ refl (λ j. refl)
+  case-goes events line _ _ (Delivers q m starts x r reaches) = record {
     first = goes-same k.flight;
     last = λ j.
         let reply : phases.Reply = reply_after m.session m.order.work (members_on m.server x.members) j in
         let heard : Flight = messages.heard m.session m.server m.epoch m.order.work j.flight in
         goes-then _ heard _ (goes-heard m.session m.server m.epoch m.order.work j.flight) (goes-made m.session m.epoch m.server m.order (Replies reply) heard);
   }
-  case-goes events line _ (Loses n) = begins _ (goes-fewer (λ (q : Message). not (q.number == n)) k.flight) (λ j. refl)
-  case-goes events line _ (Exchanges i server reply x r o allowed) = record { first = goes-same k.flight; last = exchanged-goes i server reply o.work (members_on server x.members) }
+  case-goes events line _ _ (Loses n) = begins _ (goes-fewer (λ (q : Message). not (q.number == n)) k.flight) (λ j. refl)
+  case-goes events line _ _ (Exchanges i server reply x r o allowed) = record { first = goes-same k.flight; last = exchanged-goes i server reply o.work (members_on server x.members) }
 
   ending-goes : (events : List Event) (line : ℕ) (p : Plan) → Ending k events line p → Going k p
-  ending-goes events line _ (OnePlan p c) = case-goes events line p c
+  ending-goes events line _ (OnePlan asked p c) = case-goes events line asked p c
   ending-goes events line _ (Imaged vs) = calm _ refl (λ j. refl)
 
   asks-goes : (i server : ℕ) (m : Option Mirror) (ms : List Member) → Going k (exchange_on k i m server true ms)

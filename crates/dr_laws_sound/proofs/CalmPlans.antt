@@ -1,5 +1,6 @@
 -- No entry of a step ends its plan with a refusal that says a stop, or that the step isn't built.
-use Rattle.std.proofs.Common.{ℕ, ◌≡◌, ◌+◌, not, ◌&&◌, ◌||◌, nat_eq, nat_lt, List, [], ◌∷◌, ◌++◌, refl, ap, ◌∙◌, sym, Bool, true, false, cond, Option, Some, None}
+use Rattle.std.proofs.Common.{ℕ, ◌≡◌, ◌+◌, not, ◌&&◌, ◌||◌, nat_eq, nat_lt, List, [], ◌∷◌, ◌++◌, refl, ap, ◌∙◌, sym, Bool, true, false, cond, Option, Some, None, Result}
+use Rattle.dr_model.specs.declared.step.Step.{Step}
 use Rattle.std.specs.Prelude.{is_some, option_map}
 use Rattle.std.specs.Option.{option_or}
 use Rattle.dr_ids.specs.declared.refusal.Refusal.{Refusal}
@@ -239,63 +240,63 @@ compare-calm k contents v u =
     checked-calm (is_defined v) _ _ refl (checked-calm (is_defined u) _ _ refl (checked-calm (is_running v) _ _ refl (checked-calm (is_running u) _ _ refl (checked-calm (share_size v u) _ _ refl
     (refused-calm (differs_at (first_differing contents (k.volume v).tracks v u)) _ (differs-mild v u (first_differing contents (k.volume v).tracks v u)) none-calm)))))
 
-pub case-calm : (k : Control) (events : List Event) (line : ℕ) (p : Plan) → Case k events line p → Unstopped p.entries
-case-calm k events line _ (Writes v t offset len bytes free) = landing-calm k (k.issued + 1) v t
-case-calm k events line _ (Applies n p found) = landing-calm k p.w p.volume p.track
-case-calm k events line _ (Starts s off) = endless-calm _ (start-endless s k.volumes)
-case-calm k events line _ (Says a) = none-calm
-case-calm k events line _ (DefinesServer name free) = none-calm
-case-calm k events line _ (DefinesVolume v s tracks here free) = none-calm
-case-calm k events line _ (SetsLink a b up) = none-calm
-case-calm k events line _ (Issues v t offset len bytes free) = none-calm
-case-calm k events line _ (Lists told ls few) = none-calm
-case-calm k events line _ (Shows v t there) = none-calm
-case-calm k events line _ (Stops s on) = none-calm
-case-calm k events line _ (Arms writes torn s) = none-calm
-case-calm k events line _ (MakesFlash dev s t freeze choices) = named-calm k dev s t _
+pub case-calm : (k : Control) (events : List Event) (line : ℕ) (asked : Result Step ℕ) (p : Plan) → Case k events line asked p → Unstopped p.entries
+case-calm k events line _ _ (Writes v t offset len bytes free) = landing-calm k (k.issued + 1) v t
+case-calm k events line _ _ (Applies n p found) = landing-calm k p.w p.volume p.track
+case-calm k events line _ _ (Starts s off) = endless-calm _ (start-endless s k.volumes)
+case-calm k events line _ _ (Says a waits) = none-calm
+case-calm k events line _ _ (DefinesServer name free) = none-calm
+case-calm k events line _ _ (DefinesVolume v s tracks here free) = none-calm
+case-calm k events line _ _ (SetsLink a b up) = none-calm
+case-calm k events line _ _ (Issues v t offset len bytes free) = none-calm
+case-calm k events line _ _ (Lists told ls few) = none-calm
+case-calm k events line _ _ (Shows v t there) = none-calm
+case-calm k events line _ _ (Stops s on) = none-calm
+case-calm k events line _ _ (Arms writes torn s) = none-calm
+case-calm k events line _ _ (MakesFlash dev s t freeze choices) = named-calm k dev s t _
     (checked-calm (differ s t) _ _ refl (checked-calm (share_server s t) _ _ refl (checked-calm (share_size s t) _ _ refl
     (checked-calm (is_no_target t) (relation_state k t) _ refl (checked-calm (is_no_source t) (relation_state k t) _ refl (checked-calm (is_no_target s) (relation_state k s) _ refl
     (checked-calm (stands_free t) (pair_state k t) _ refl (checked-calm (has_few_targets s) _ _ refl (endless-calm _ (relate-endless freeze s (Relate t s choices)))))))))))
-case-calm k events line _ (RemovesFlash dev s t) = named-calm k dev s t _ (refused-calm (counted_refusal t) _ (counted-mild t) (checked-calm (is_plain_target s t) (relation_state k t) _ refl (now-calm (Withdraw t))))
-case-calm k events line _ (ResyncsFlash dev s t sequence) = named-calm k dev s t _ (refused-calm (counted_refusal t) _ (counted-mild t) (checked-calm (is_recorded_target s t) (relation_state k t) _ refl (now-calm (Resync t sequence))))
-case-calm k events line _ (ReversesFlash dev s t) =
+case-calm k events line _ _ (RemovesFlash dev s t) = named-calm k dev s t _ (refused-calm (counted_refusal t) _ (counted-mild t) (checked-calm (is_plain_target s t) (relation_state k t) _ refl (now-calm (Withdraw t))))
+case-calm k events line _ _ (ResyncsFlash dev s t sequence) = named-calm k dev s t _ (refused-calm (counted_refusal t) _ (counted-mild t) (checked-calm (is_recorded_target s t) (relation_state k t) _ refl (now-calm (Resync t sequence))))
+case-calm k events line _ _ (ReversesFlash dev s t) =
     named-calm k dev s t _ (refused-calm (restore_refusal t) _ (restore-mild t) (checked-calm (is_recorded_target s t) (relation_state k t) _ refl (checked-calm (is_lone_restore s t) (relation_state k s) _ refl (checked-calm (may_return s) (pair_state k s) _ refl (now-calm (Reverse t (left_by k t)))))))
-case-calm k events line _ (Copies t most) =
+case-calm k events line _ _ (Copies t most) =
     checked-calm (is_defined t) _ _ refl (checked-calm (is_running t) _ _ refl (checked-calm (may_copy t) (relation_state k t) _ refl (checked-calm (may_give_back t) (pair_state k (fields_at k t).source) _ refl
     (endless-calm _ (times-endless (at_most most (left_to_copy k t)) _ (copy-endless k t (fields_at k t).reversing))))))
-case-calm k events line _ (Destages v) = checked-calm (is_defined v) _ _ refl (checked-calm (is_running v) _ _ refl (endless-calm _ (destage-endless (k.volume v).staged v)))
-case-calm k events line _ (MakesPath src tgt group) = none-calm
-case-calm k events line _ (RemovesPath src tgt) = none-calm
-case-calm k events line _ (MakesPair devs a b kind choices part) = pair-calm a b k devs kind choices.full _
-case-calm k events line _ (RemovesPair devs a b source_only) = remove-calm a b k devs source_only
-case-calm k events line _ (PausesPair devs a b) = pause-calm a b k devs
-case-calm k events line _ (ResumesPair devs a b kind) = resume-calm a b k devs kind
-case-calm k events line _ (FailsOver devs b a kind) = failover-calm b a k devs kind
-case-calm k events line _ (FailsBack devs x y kind) = failback-calm k devs x y kind
-case-calm k events line _ (Compares contents v u) = compare-calm k contents v u
-case-calm k events line _ (Drains a most) =
+case-calm k events line _ _ (Destages v) = checked-calm (is_defined v) _ _ refl (checked-calm (is_running v) _ _ refl (endless-calm _ (destage-endless (k.volume v).staged v)))
+case-calm k events line _ _ (MakesPath src tgt group) = none-calm
+case-calm k events line _ _ (RemovesPath src tgt) = none-calm
+case-calm k events line _ _ (MakesPair devs a b kind choices part) = pair-calm a b k devs kind choices.full _
+case-calm k events line _ _ (RemovesPair devs a b source_only) = remove-calm a b k devs source_only
+case-calm k events line _ _ (PausesPair devs a b) = pause-calm a b k devs
+case-calm k events line _ _ (ResumesPair devs a b kind) = resume-calm a b k devs kind
+case-calm k events line _ _ (FailsOver devs b a kind) = failover-calm b a k devs kind
+case-calm k events line _ _ (FailsBack devs x y kind) = failback-calm k devs x y kind
+case-calm k events line _ _ (Compares contents v u) = compare-calm k contents v u
+case-calm k events line _ _ (Drains a most) =
     checked-calm (is_defined a) _ _ refl (checked-calm (is_running a) _ _ refl (checked-calm (is_copying a) (pair_state k a) _ refl
     (sends-calm a (fields_at k a).primary_partner k.volumes (tracks_to_send most (k.volume a).tracks (fields_at k a).out_of_sync))))
-case-calm k events line _ (Expires s on) = endless-calm _ (expire-endless s k.volumes)
-case-calm k events line _ (Freezes l m) = endless-calm _ (freeze-endless l m k.volumes)
-case-calm k events line _ (Unfreezes l m) = endless-calm _ (thaw-endless l m k.volumes)
-case-calm k events line _ (Releases l) = endless-calm _ (release-endless l k.volumes)
-case-calm k events line _ (MakesSession l s free) = none-calm
-case-calm k events line _ (RemovesSession l s x found free) = none-calm
-case-calm k events line _ (MakesMirror owner s x found free l owned) = none-calm
-case-calm k events line _ (PausesMirror s on) = none-calm
-case-calm k events line _ (RemovesMirror s x found free) = none-calm
-case-calm k events line _ (Aborts s x found free) = none-calm
-case-calm k events line _ (Loses n) = none-calm
-case-calm k events line _ (Sends s server x r o posts) = none-calm
-case-calm k events line _ (TakesReply n m reply x r returns) = none-calm
-case-calm k events line _ (Delivers n m starts x r reaches) = order-calm m.session m.order.number m.order.work (members_on m.server x.members)
-case-calm k events line _ (AddsMember s a c x joins) = endless-calm _ (add-endless (member_with k a c) _)
-case-calm k events line _ (RemovesMember s a x m found is idle on) = now-calm (Leave m.c.0 m.a.0 s)
-case-calm k events line _ (Recovers s x found on) = endless-calm _ (recover-endless s (decided_in s k) x.members)
-case-calm k events line _ (Settles s x m found here on free) = last-calm (settle_on s (decided_in s k) m) (settle-goes s (decided_in s k) m)
-case-calm k events line _ (Exchanges s server reply x r o allowed) = order-calm s o.number o.work (members_on server x.members)
+case-calm k events line _ _ (Expires s on) = endless-calm _ (expire-endless s k.volumes)
+case-calm k events line _ _ (Freezes l m) = endless-calm _ (freeze-endless l m k.volumes)
+case-calm k events line _ _ (Unfreezes l m) = endless-calm _ (thaw-endless l m k.volumes)
+case-calm k events line _ _ (Releases l) = endless-calm _ (release-endless l k.volumes)
+case-calm k events line _ _ (MakesSession l s free) = none-calm
+case-calm k events line _ _ (RemovesSession l s x found free) = none-calm
+case-calm k events line _ _ (MakesMirror owner s x found free l owned) = none-calm
+case-calm k events line _ _ (PausesMirror s on) = none-calm
+case-calm k events line _ _ (RemovesMirror s x found free) = none-calm
+case-calm k events line _ _ (Aborts s x found free) = none-calm
+case-calm k events line _ _ (Loses n) = none-calm
+case-calm k events line _ _ (Sends s server x r o posts) = none-calm
+case-calm k events line _ _ (TakesReply n m reply x r returns) = none-calm
+case-calm k events line _ _ (Delivers n m starts x r reaches) = order-calm m.session m.order.number m.order.work (members_on m.server x.members)
+case-calm k events line _ _ (AddsMember s a c x joins) = endless-calm _ (add-endless (member_with k a c) _)
+case-calm k events line _ _ (RemovesMember s a x m found is idle on) = now-calm (Leave m.c.0 m.a.0 s)
+case-calm k events line _ _ (Recovers s x found on) = endless-calm _ (recover-endless s (decided_in s k) x.members)
+case-calm k events line _ _ (Settles s x m found here on free hand) = last-calm (settle_on s (decided_in s k) m) (settle-goes s (decided_in s k) m)
+case-calm k events line _ _ (Exchanges s server reply x r o allowed) = order-calm s o.number o.work (members_on server x.members)
 
 pub ending-calm : (k : Control) (events : List Event) (line : ℕ) (p : Plan) → Ending k events line p → Unstopped p.entries
-ending-calm k events line _ (OnePlan p c) = case-calm k events line p c
+ending-calm k events line _ (OnePlan asked p c) = case-calm k events line asked p c
 ending-calm k events line _ (Imaged vs) = none-calm

@@ -39,6 +39,7 @@ use Rattle.dr_model.specs.MessagePlans.{with_flight, on_message, says_posted, se
 use Rattle.dr_model.specs.SessionPlans.{is_idle, with_sessions, table_plan, leaving, appointed, mirror_phase, session_phase, says_phase, name_refusal, off_refusal, on_volume, on_both, add_plan, add_to, add_target, member_target, expel_plan, expel_done, expel_found, outside_refusal, master_refusal, place_refusal, taken_refusal, copy_refusal, member_with, exchange_refusal, exchange_done, exchange_on, order_of}
 use Rattle.dr_model.specs.Plans.{Plan, plan_of, same, none_follow, always, tables_plan, entries_plan, only_says, refuses, unless, on_named, on_owner, on_session, is_defined, is_owner, server_named, name_bytes, counted_refusal, restore_refusal, yield_refusal, left_by, member_refusal, found_volumes, found_pair, differ, is_no_source, has_few_targets, is_plain_target, is_recorded_target, is_lone_restore, may_return, may_give_back, may_copy, at_most, left_to_copy, drain_plan, stop_on, stop_done, arm_on, expire_on, link_between, link_done, on_server, owner_of, server_refusal, server_done, volume_refusal, volume_done, issue_refusal, issue_done, show_refusal, show_done, expire_plan, path_refusal, make_path_done, unpath_refusal, remove_path_done, freeze_refusal, freeze_done, thaw_refusal, unfreeze_done, compare_plan, hold_first, release_refusal, release_done, redo_now, destage_entries}
 use Rattle.dr_laws_sound.specs.Acknowledged.{acknowledgements}
+pub use Rattle.dr_laws_sound.proofs.Cases.{NotHeld, done-not, refused-not}
 use Rattle.dr_laws_sound.proofs.RecoveryEntries.{settle-cases}
 use Rattle.dr_model.specs.Listings.{pair_lines, flash_lines, member_lines, mirror_lines, sessions_of, lists, listing_refusal}
 use Rattle.dr_laws_sound.proofs.Listed.{AllLines, Plain, lines-plain, pair-lines, flash-lines, session-lines, mirrors-lines}
@@ -215,16 +216,6 @@ add-hush m n =
     (last-hush (raise_floor_on m.c.0 n) (λ k. choice-hush false (nat_lt (fields_at k m.c.0).floor n) (Do (Make (RaiseFloor m.c.0 n))) Pass tt tt))
 
 -- ---- plans
-
--- an answer that says of no write that it waits
-abbrev pub NotHeld : Said → Type 0
-NotHeld said = (n : ℕ) → said ≡ Held n → ⊥
-
-pub done-not : (x : Addition) → NotHeld (Done x)
-done-not x n e = cc
-
-pub refused-not : (r : Refusal) → NotHeld (Refused r)
-refused-not r n e = cc
 
 pub record HushedPlan (p : Plan) : Type 0 where
   pub told : Unheard false p.told

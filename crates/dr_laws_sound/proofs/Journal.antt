@@ -1,5 +1,6 @@
 -- What acts and steps leave of a world: the writes issued so far, what is within limits, and the journal, which only grows.
-use Rattle.std.proofs.Common.{ℕ, ◌≡◌, ◌≤◌, ◌<◌, ◌+◌, List, [], ◌∷◌, ◌++◌, length, map, refl, ap, ◌∙◌, sym, arith, Bool, true, false, ◌||◌, cond, Option, Some, None, append_assoc, subst}
+use Rattle.std.proofs.Common.{ℕ, ◌≡◌, ◌≤◌, ◌<◌, ◌+◌, List, [], ◌∷◌, ◌++◌, length, map, refl, ap, ◌∙◌, sym, arith, Bool, true, false, ◌||◌, cond, Option, Some, None, append_assoc, subst, Result}
+use Rattle.dr_model.specs.declared.step.Step.{Step}
 use Rattle.std.specs.List.{list_any}
 use Rattle.std.proofs.lemmas.List.Sums.{fold-append}
 use Rattle.std.proofs.lemmas.List.Folds.{list_any-append}
@@ -333,60 +334,60 @@ module _ (k : Control) where
   sizes-within : (v s tracks : ℕ) → tracks ≤ most_tracks → IsWithin k → (u : ℕ) → (at k.volume v (new_volume s tracks) u).tracks ≤ most_tracks
   sizes-within v s tracks small h = at_cases (λ u (x : Volume). x.tracks ≤ most_tracks) k.volume v (new_volume s tracks) small (λ q ne. h.tracks q)
 
-  case-modest : (events : List Event) (line : ℕ) (p : Plan) → Case k events line p → Modest k p
-  case-modest events line _ (Says a) = quiet same [] [] (always a) refl unmoved refl
-  case-modest events line _ (DefinesServer name free) =
+  case-modest : (events : List Event) (line : ℕ) (asked : Result Step ℕ) (p : Plan) → Case k events line asked p → Modest k p
+  case-modest events line _ _ (Says a waits) = quiet same [] [] (always a) refl unmoved refl
+  case-modest events line _ _ (DefinesServer name free) =
       modest (server_done k name).first (server_done k name).told [] (always (Done Alone)) (omega arith)
       (λ h. record { servers = room-more k.servers (name_bytes name) most_servers (servers-left k (name_bytes name) free); volumes = h.volumes; pending = h.pending; tracks = h.tracks; sessions = h.sessions }) refl
-  case-modest events line _ (DefinesVolume v s tracks here free) =
+  case-modest events line _ _ (DefinesVolume v s tracks here free) =
       let new = is-new k v s tracks free in
       modest (volume_done v s tracks).first (volume_done v s tracks).told [] (always (Done Alone)) (omega arith)
       (λ h. record { servers = h.servers; volumes = room-more k.volumes v most_volumes new.left; pending = h.pending; tracks = sizes-within v s tracks new.small h; sessions = h.sessions }) refl
-  case-modest events line _ (SetsLink a b up) = quiet (link_done a b up).first [] [] (always (Done Alone)) refl unmoved refl
-  case-modest events line _ (Issues v t offset len bytes free) = issue-modest v t offset len bytes (may-issue k v t free).1
-  case-modest events line _ (Writes v t offset len bytes free) =
+  case-modest events line _ _ (SetsLink a b up) = quiet (link_done a b up).first [] [] (always (Done Alone)) refl unmoved refl
+  case-modest events line _ _ (Issues v t offset len bytes free) = issue-modest v t offset len bytes (may-issue k v t free).1
+  case-modest events line _ _ (Writes v t offset len bytes free) =
       let issues : Modest k (issue_done k v t offset len bytes) = issue-modest v t offset len bytes (may-issue k v t free).1 in record { one = issues.one; within = issues.within; last = issues.last; silent = issues.silent }
-  case-modest events line _ (Applies n p found) = record { one = omega arith; within = λ h. h; last = stays-same; silent = refl }
-  case-modest events line _ (Lists told ls few) = quiet same told [] (always (Done Alone)) refl unmoved (lines-plain told ls).silent
-  case-modest events line _ (Shows v t there) = quiet same (show_done events line v t).told [] (always (Done Showed)) refl unmoved refl
-  case-modest events line _ (Stops s on) = quiet (stop_done s).first (Stopped s 0 ∷ []) [] (always (Done Alone)) refl unmoved refl
-  case-modest events line _ (Arms writes torn s) = quiet (arm_on writes torn s).first [] [] (always (Done Alone)) refl unmoved refl
-  case-modest events line _ (Starts s off) = quiet (starting s) (Started s ∷ []) (start_plan k s).entries (start_plan k s).says refl unmoved refl
-  case-modest events line _ (MakesFlash dev s t freeze choices) = entries-modest _ _
-  case-modest events line _ (RemovesFlash dev s t) = entries-modest _ _
-  case-modest events line _ (ResyncsFlash dev s t sequence) = entries-modest _ _
-  case-modest events line _ (ReversesFlash dev s t) = entries-modest _ _
-  case-modest events line _ (Copies t most) = entries-modest _ _
-  case-modest events line _ (Destages v) = entries-modest _ _
-  case-modest events line _ (MakesPath src tgt group) = quiet (make_path_done src tgt group).first [] [] (always (Done Alone)) refl unmoved refl
-  case-modest events line _ (RemovesPath src tgt) = quiet (remove_path_done src tgt).first [] [] (always (Done Alone)) refl unmoved refl
-  case-modest events line _ (MakesPair devs a b kind choices part) = entries-modest _ _
-  case-modest events line _ (RemovesPair devs a b source_only) = entries-modest _ _
-  case-modest events line _ (PausesPair devs a b) = entries-modest _ _
-  case-modest events line _ (ResumesPair devs a b kind) = entries-modest _ _
-  case-modest events line _ (FailsOver devs b a kind) = entries-modest _ _
-  case-modest events line _ (FailsBack devs x y kind) = entries-modest _ _
-  case-modest events line _ (Compares contents v u) = entries-modest _ _
-  case-modest events line _ (Drains a most) = record { one = omega arith; within = λ h. h; last = stays-same; silent = refl }
-  case-modest events line _ (Expires s on) = entries-modest _ _
-  case-modest events line _ (Freezes l m) = entries-modest _ _
-  case-modest events line _ (Unfreezes l m) = entries-modest _ _
-  case-modest events line _ (Releases l) = entries-modest _ _
-  case-modest events line _ (MakesSession l s free) = modest (table_plan (joined s l)).first [] [] (always (Done Alone)) (omega arith)
+  case-modest events line _ _ (Applies n p found) = record { one = omega arith; within = λ h. h; last = stays-same; silent = refl }
+  case-modest events line _ _ (Lists told ls few) = quiet same told [] (always (Done Alone)) refl unmoved (lines-plain told ls).silent
+  case-modest events line _ _ (Shows v t there) = quiet same (show_done events line v t).told [] (always (Done Showed)) refl unmoved refl
+  case-modest events line _ _ (Stops s on) = quiet (stop_done s).first (Stopped s 0 ∷ []) [] (always (Done Alone)) refl unmoved refl
+  case-modest events line _ _ (Arms writes torn s) = quiet (arm_on writes torn s).first [] [] (always (Done Alone)) refl unmoved refl
+  case-modest events line _ _ (Starts s off) = quiet (starting s) (Started s ∷ []) (start_plan k s).entries (start_plan k s).says refl unmoved refl
+  case-modest events line _ _ (MakesFlash dev s t freeze choices) = entries-modest _ _
+  case-modest events line _ _ (RemovesFlash dev s t) = entries-modest _ _
+  case-modest events line _ _ (ResyncsFlash dev s t sequence) = entries-modest _ _
+  case-modest events line _ _ (ReversesFlash dev s t) = entries-modest _ _
+  case-modest events line _ _ (Copies t most) = entries-modest _ _
+  case-modest events line _ _ (Destages v) = entries-modest _ _
+  case-modest events line _ _ (MakesPath src tgt group) = quiet (make_path_done src tgt group).first [] [] (always (Done Alone)) refl unmoved refl
+  case-modest events line _ _ (RemovesPath src tgt) = quiet (remove_path_done src tgt).first [] [] (always (Done Alone)) refl unmoved refl
+  case-modest events line _ _ (MakesPair devs a b kind choices part) = entries-modest _ _
+  case-modest events line _ _ (RemovesPair devs a b source_only) = entries-modest _ _
+  case-modest events line _ _ (PausesPair devs a b) = entries-modest _ _
+  case-modest events line _ _ (ResumesPair devs a b kind) = entries-modest _ _
+  case-modest events line _ _ (FailsOver devs b a kind) = entries-modest _ _
+  case-modest events line _ _ (FailsBack devs x y kind) = entries-modest _ _
+  case-modest events line _ _ (Compares contents v u) = entries-modest _ _
+  case-modest events line _ _ (Drains a most) = record { one = omega arith; within = λ h. h; last = stays-same; silent = refl }
+  case-modest events line _ _ (Expires s on) = entries-modest _ _
+  case-modest events line _ _ (Freezes l m) = entries-modest _ _
+  case-modest events line _ _ (Unfreezes l m) = entries-modest _ _
+  case-modest events line _ _ (Releases l) = entries-modest _ _
+  case-modest events line _ _ (MakesSession l s free) = modest (table_plan (joined s l)).first [] [] (always (Done Alone)) (omega arith)
       (λ h. record { servers = h.servers; volumes = h.volumes; pending = h.pending; tracks = h.tracks; sessions = joined-few k.sessions s l h.sessions free }) refl
-  case-modest events line _ (RemovesSession l s x found free) = quiet (leaving s l x) [] [] (always (Done Alone)) refl (retabled (left s l) (length-left k.sessions s l)) refl
-  case-modest events line _ (MakesMirror owner s x found free l owned) = quiet (appointed s owner) [] [] (always (Done Alone)) refl (retabled (changed s (mirrored_by owner)) (length-changed s (mirrored_by owner) k.sessions)) refl
-  case-modest events line _ (PausesMirror s on) = quiet (table_plan (changed s (paused on))).first [] [] (always (Done Alone)) refl (retabled (changed s (paused on)) (length-changed s (paused on) k.sessions)) refl
-  case-modest events line _ (RemovesMirror s x found free) = quiet (table_plan (changed s unmirrored)).first [] [] (always (Done Alone)) refl (retabled (changed s unmirrored) (length-changed s unmirrored k.sessions)) refl
-  case-modest events line _ (Aborts s x found free) = quiet (aborting s x.mirror) [] [] (says_phase s) refl (retabled (changed s (with_master phases.aborted)) (length-changed s (with_master phases.aborted) k.sessions)) refl
-  case-modest events line _ (AddsMember s a c x joins) =
+  case-modest events line _ _ (RemovesSession l s x found free) = quiet (leaving s l x) [] [] (always (Done Alone)) refl (retabled (left s l) (length-left k.sessions s l)) refl
+  case-modest events line _ _ (MakesMirror owner s x found free l owned) = quiet (appointed s owner) [] [] (always (Done Alone)) refl (retabled (changed s (mirrored_by owner)) (length-changed s (mirrored_by owner) k.sessions)) refl
+  case-modest events line _ _ (PausesMirror s on) = quiet (table_plan (changed s (paused on))).first [] [] (always (Done Alone)) refl (retabled (changed s (paused on)) (length-changed s (paused on) k.sessions)) refl
+  case-modest events line _ _ (RemovesMirror s x found free) = quiet (table_plan (changed s unmirrored)).first [] [] (always (Done Alone)) refl (retabled (changed s unmirrored) (length-changed s unmirrored k.sessions)) refl
+  case-modest events line _ _ (Aborts s x found free) = quiet (aborting s x.mirror) [] [] (says_phase s) refl (retabled (changed s (with_master phases.aborted)) (length-changed s (with_master phases.aborted) k.sessions)) refl
+  case-modest events line _ _ (AddsMember s a c x joins) =
       let m : Member = member_with k a c in
       let n : ℕ = first_number k x.last m in
       record { one = omega arith; within = λ h. h; last = λ j. stays-sessions (λ ss. changed s (with_member m) (changed s (raised n) ss)) j (changed-twice s (with_member m) (raised n) j.sessions); silent = refl }
-  case-modest events line _ (RemovesMember s a x m found is idle on) = record { one = omega arith; within = λ h. h; last = λ j. stays-sessions (changed s (without_member m.a.0)) j (length-changed s (without_member m.a.0) j.sessions); silent = refl }
-  case-modest events line _ (Recovers s x found on) = quiet same [] (recover_done s (decided_in s k) x.members).entries (recover_done s (decided_in s k) x.members).says refl unmoved refl
-  case-modest events line _ (Settles s x m found here on free) = entries-modest _ _
-  case-modest events line _ (Sends s server x r o posts) =
+  case-modest events line _ _ (RemovesMember s a x m found is idle on) = record { one = omega arith; within = λ h. h; last = λ j. stays-sessions (changed s (without_member m.a.0)) j (length-changed s (without_member m.a.0) j.sessions); silent = refl }
+  case-modest events line _ _ (Recovers s x found on) = quiet same [] (recover_done s (decided_in s k) x.members).entries (recover_done s (decided_in s k) x.members).says refl unmoved refl
+  case-modest events line _ _ (Settles s x m found here on free hand) = entries-modest _ _
+  case-modest events line _ _ (Sends s server x r o posts) =
       quiet (sending s (is_idle r.master.phase) server o) (told_begun (is_idle r.master.phase) s o.number) [] says_posted refl (few (is_idle r.master.phase), (refl, (refl, (refl, λ v. refl)))) (silent (is_idle r.master.phase))
     where
       few : (b : Bool) → length (sending s b server o k).sessions ≤ length k.sessions
@@ -396,19 +397,19 @@ module _ (k : Control) where
       silent : (b : Bool) → Silent (told_begun b s o.number)
       silent true = refl
       silent false = refl
-  case-modest events line _ (Delivers n m starts x r reaches) =
+  case-modest events line _ _ (Delivers n m starts x r reaches) =
       record { one = omega arith; within = λ h. h; last = λ j. record { servers = refl; tracks = λ v. refl; volumes = refl; issued = refl; pending = omega arith; sessions = omega arith }; silent = refl }
-  case-modest events line _ (TakesReply n m reply x r returns) =
+  case-modest events line _ _ (TakesReply n m reply x r returns) =
       let f : Session → Session = with_master (λ q. phases.taken q m.server reply) in quiet (taking m reply) [] [] (says_phase m.session) refl (retabled (changed m.session f) (length-changed m.session f k.sessions)) refl
-  case-modest events line _ (Loses n) = quiet (with_flight (lost n)) [] [] (always (Done Alone)) refl unmoved refl
-  case-modest events line _ (Exchanges s server reply x r o allowed) = record { one = omega arith; within = λ h. h; last = by reply; silent = refl }
+  case-modest events line _ _ (Loses n) = quiet (with_flight (lost n)) [] [] (always (Done Alone)) refl unmoved refl
+  case-modest events line _ _ (Exchanges s server reply x r o allowed) = record { one = omega arith; within = λ h. h; last = by reply; silent = refl }
     where
       by : (b : Bool) (j : Control) → Stays j (exchanged s server b o.work (members_on server x.members) j)
       by true j = record { servers = refl; tracks = λ v. refl; volumes = refl; issued = refl; pending = omega arith; sessions = length-changed s (with_master (λ m. phases.taken m server (reply_after s o.work (members_on server x.members) j))) j.sessions }
       by false j = record { servers = refl; tracks = λ v. refl; volumes = refl; issued = refl; pending = omega arith; sessions = omega arith }
 
 pub ending-modest : (k : Control) (events : List Event) (line : ℕ) (p : Plan) → Ending k events line p → Modest k p
-ending-modest k events line _ (OnePlan p c) = case-modest k events line p c
+ending-modest k events line _ (OnePlan asked p c) = case-modest k events line asked p c
 ending-modest k events line _ (Imaged vs) = quiet k same (image_told vs) [] (always (Done Alone)) refl (unmoved k) (lines-plain (image_told vs) (image-lines vs)).silent
 
 -- masters are lost as a step ends, and sessions are as many
@@ -418,7 +419,7 @@ few-lost w u k le = let e : length (masters_lost w u).control.sessions ≡ lengt
 -- a plan before the last one of its step adds to the journal, and no answer
 pub onward-part : (w : World) (p : Plan) → Comes w p → Onward w (after_part w p)
 onward-part w p comes =
-    let goes : Onward (begun w p) (carried_out w p).0 = carried_out-onward w p (case-modest w.control w.events 0 p (comes.case 0)) in
+    let goes : Onward (begun w p) (carried_out w p).0 = carried_out-onward w p (case-modest w.control w.events 0 comes.asked p (comes.case 0)) in
     record {
       stays = subst (λ k. Stays k (after_part w p).control) (comes.first w.control) (record { servers = goes.stays.servers; tracks = goes.stays.tracks; volumes = goes.stays.volumes; issued = goes.stays.issued; pending = goes.stays.pending; sessions = few-lost w (carried_out w p).0 (begun w p).control goes.stays.sessions });
       added = goes.added;

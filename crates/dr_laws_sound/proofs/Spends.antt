@@ -1,5 +1,6 @@
 -- What each step tells: with its answer it is no more than a step has room for.
-use Rattle.std.proofs.Common.{ℕ, zero, suc, ◌≡◌, ◌≢◌, ◌≤◌, ◌<◌, ◌+◌, ◌-◌, List, [], ◌∷◌, ◌++◌, length, refl, ap, sym, ◌∙◌, arith, Bool, true, false, cond, Option, Some, None}
+use Rattle.std.proofs.Common.{ℕ, zero, suc, ◌≡◌, ◌≢◌, ◌≤◌, ◌<◌, ◌+◌, ◌-◌, List, [], ◌∷◌, ◌++◌, length, refl, ap, sym, ◌∙◌, arith, Bool, true, false, cond, Option, Some, None, Result}
+use Rattle.dr_model.specs.declared.step.Step.{Step}
 use Rattle.std.proofs.lemmas.List.{length-append}
 use Rattle.std.proofs.Math.Nat.{min-le_right}
 use Rattle.std.specs.Cmp.{nat_cmp_total}
@@ -165,54 +166,54 @@ module _ (w : World) (x : Sound w) (h : IsWithin w.control) where
   posted true s n = omega arith
   posted false s n = omega arith
 
-  pub case-spends : (line : ℕ) (p : Plan) → Case w.control w.events line p → Spends w p
-  case-spends line _ (Says a) = tables-spends _ _ _ (omega arith)
-  case-spends line _ (DefinesServer name free) = tables-spends _ _ _ (omega arith)
-  case-spends line _ (DefinesVolume v s tracks here free) = tables-spends _ _ _ (omega arith)
-  case-spends line _ (SetsLink a b up) = tables-spends _ _ _ (omega arith)
-  case-spends line _ (Issues v t offset len bytes free) = record { spends = 0; costs = costs-nil 0 _; after = 0; follows = none-adds; few = omega arith }
-  case-spends line _ (Writes v t offset len bytes free) = record {
+  pub case-spends : (line : ℕ) (asked : Result Step ℕ) (p : Plan) → Case w.control w.events line asked p → Spends w p
+  case-spends line _ _ (Says a waits) = tables-spends _ _ _ (omega arith)
+  case-spends line _ _ (DefinesServer name free) = tables-spends _ _ _ (omega arith)
+  case-spends line _ _ (DefinesVolume v s tracks here free) = tables-spends _ _ _ (omega arith)
+  case-spends line _ _ (SetsLink a b up) = tables-spends _ _ _ (omega arith)
+  case-spends line _ _ (Issues v t offset len bytes free) = record { spends = 0; costs = costs-nil 0 _; after = 0; follows = none-adds; few = omega arith }
+  case-spends line _ _ (Writes v t offset len bytes free) = record {
     spends = 139;
     costs = brief-costs 139 _ (brief-landing most_volumes w.control h.volumes (w.control.issued + 1) v t) _;
     after = 2;
     follows = λ s u. after_write-few w.control v t s u;
     few = omega arith;
   }
-  case-spends line _ (Applies n p found) =
+  case-spends line _ _ (Applies n p found) =
       record { spends = 139; costs = brief-costs 139 _ (brief-landing most_volumes w.control h.volumes p.w p.volume p.track) _; after = 2; follows = λ s u. after_write-few w.control p.volume p.track s u; few = omega arith }
-  case-spends line _ (Lists told ls few) = let le : length told ≤ 256 = few x.groups h.sessions h.volumes in tables-spends _ _ _ (omega arith)
-  case-spends line _ (Shows v t there) = tables-spends _ _ _ (omega arith)
-  case-spends line _ (Stops s on) = tables-spends _ _ _ (omega arith)
-  case-spends line _ (Arms writes torn s) = tables-spends _ _ _ (omega arith)
-  case-spends line _ (Starts s off) = record { spends = 129; costs = brief-costs 129 _ (brief-start most_volumes w.control.volumes h.volumes s) _; after = 0; follows = none-adds; few = omega arith }
-  case-spends line _ (MakesFlash dev s t freeze choices) = entries-spends _ _ 2
+  case-spends line _ _ (Lists told ls few) = let le : length told ≤ 256 = few x.groups h.sessions h.volumes in tables-spends _ _ _ (omega arith)
+  case-spends line _ _ (Shows v t there) = tables-spends _ _ _ (omega arith)
+  case-spends line _ _ (Stops s on) = tables-spends _ _ _ (omega arith)
+  case-spends line _ _ (Arms writes torn s) = tables-spends _ _ _ (omega arith)
+  case-spends line _ _ (Starts s off) = record { spends = 129; costs = brief-costs 129 _ (brief-start most_volumes w.control.volumes h.volumes s) _; after = 0; follows = none-adds; few = omega arith }
+  case-spends line _ _ (MakesFlash dev s t freeze choices) = entries-spends _ _ 2
       (named-costs 2 _ w.control dev s t _ (costs-check 2 _ (differ s t) _ _ (costs-check 2 _ (share_server s t) _ _ (costs-check 2 _ (share_size s t) _ _ (costs-check 2 _ (is_no_target t) _ _
       (costs-check 2 _ (is_no_source t) _ _ (costs-check 2 _ (is_no_target s) _ _ (costs-check 2 _ (stands_free t) _ _ (costs-check 2 _ (has_few_targets s) _ _ (brief-costs 2 _ (brief-relate freeze s t choices) _)))))))))) (omega arith)
-  case-spends line _ (RemovesFlash dev s t) =
+  case-spends line _ _ (RemovesFlash dev s t) =
       let u = w.control.volume t in
       let small : u.tracks ≤ most_tracks = h.tracks t in
       let le = blanks-few t u.tracks u.fields.own in
       entries-spends _ _ 256 (named-costs 256 _ w.control dev s t _ (costs-refused 256 _ (counted_refusal t) _ (costs-check 256 _ (is_plain_target s t) _ _ (costs-last 256 _ (Withdraw t) (omega arith))))) (omega arith)
-  case-spends line _ (ResyncsFlash dev s t sequence) = entries-spends _ _ 1 (named-costs 1 _ w.control dev s t _ (costs-refused 1 _ (counted_refusal t) _ (costs-check 1 _ (is_recorded_target s t) _ _ (costs-last 1 _ (Resync t sequence) (omega arith))))) (omega arith)
-  case-spends line _ (ReversesFlash dev s t) =
+  case-spends line _ _ (ResyncsFlash dev s t sequence) = entries-spends _ _ 1 (named-costs 1 _ w.control dev s t _ (costs-refused 1 _ (counted_refusal t) _ (costs-check 1 _ (is_recorded_target s t) _ _ (costs-last 1 _ (Resync t sequence) (omega arith))))) (omega arith)
+  case-spends line _ _ (ReversesFlash dev s t) =
       let u = w.control.volume t in
       let small : u.tracks ≤ most_tracks = h.tracks t in
       let le = restored-few t u.fields.source u.tracks (turned u.fields).own in
       entries-spends _ _ 258 (named-costs 258 _ w.control dev s t _ (costs-refused 258 _ (restore_refusal t) _ (costs-check 258 _ (is_recorded_target s t) _ _ (costs-check 258 _ (is_lone_restore s t) _ _ (costs-check 258 _ (may_return s) _ _ (costs-last 258 _ (Reverse t (left_by w.control t)) (one-more (left_by w.control t) u.fields.session _ 257 (omega arith)))))))) (omega arith)
-  case-spends line _ (Copies t most) = entries-spends _ _ 3585
+  case-spends line _ _ (Copies t most) = entries-spends _ _ 3585
       (costs-check 3585 _ (is_defined t) _ _ (costs-check 3585 _ (is_running t) _ _ (costs-check 3585 _ (may_copy t) _ _ (costs-check 3585 _ (may_give_back t) _ _
       (copy-costs (at_most most (left_to_copy w.control t)) t (copied-few w.control t most_tracks most (left-few t)) _ refl))))) (omega arith)
-  case-spends line _ (Destages v) = entries-spends _ _ 2 (costs-check 2 _ (is_defined v) _ _ (costs-check 2 _ (is_running v) _ _ (brief-costs 2 _ (brief-destage (w.control.volume v).staged v) _))) (omega arith)
-  case-spends line _ (MakesPath src tgt group) = tables-spends _ _ _ (omega arith)
-  case-spends line _ (RemovesPath src tgt) = tables-spends _ _ _ (omega arith)
-  case-spends line _ (MakesPair devs a b kind choices part) = entries-spends _ _ 20 (light-costs _ (light-pair w.control devs a b kind choices.full _) 20 _ (omega arith)) (omega arith)
-  case-spends line _ (RemovesPair devs a b source_only) = entries-spends _ _ 20 (light-costs _ (light-remove w.control devs a b source_only) 20 _ (length-remove w.control devs a b source_only)) (omega arith)
-  case-spends line _ (PausesPair devs a b) = entries-spends _ _ 20 (light-costs _ (light-pause w.control devs a b) 20 _ (omega arith)) (omega arith)
-  case-spends line _ (ResumesPair devs a b kind) = entries-spends _ _ 20 (light-costs _ (light-resume w.control devs a b kind) 20 _ (omega arith)) (omega arith)
-  case-spends line _ (FailsOver devs b a kind) = entries-spends _ _ 20 (light-costs _ (light-failover w.control devs b a kind) 20 _ (omega arith)) (omega arith)
-  case-spends line _ (FailsBack devs v u kind) = entries-spends _ _ 20 (light-costs _ (light-failback w.control devs v u (yield_refusal u) kind) 20 _ (omega arith)) (omega arith)
-  case-spends line _ (Compares contents v u) = entries-spends _ _ 20 (light-costs _ (light-compare w.control contents v u) 20 _ (omega arith)) (omega arith)
-  case-spends line _ (Drains a most) =
+  case-spends line _ _ (Destages v) = entries-spends _ _ 2 (costs-check 2 _ (is_defined v) _ _ (costs-check 2 _ (is_running v) _ _ (brief-costs 2 _ (brief-destage (w.control.volume v).staged v) _))) (omega arith)
+  case-spends line _ _ (MakesPath src tgt group) = tables-spends _ _ _ (omega arith)
+  case-spends line _ _ (RemovesPath src tgt) = tables-spends _ _ _ (omega arith)
+  case-spends line _ _ (MakesPair devs a b kind choices part) = entries-spends _ _ 20 (light-costs _ (light-pair w.control devs a b kind choices.full _) 20 _ (omega arith)) (omega arith)
+  case-spends line _ _ (RemovesPair devs a b source_only) = entries-spends _ _ 20 (light-costs _ (light-remove w.control devs a b source_only) 20 _ (length-remove w.control devs a b source_only)) (omega arith)
+  case-spends line _ _ (PausesPair devs a b) = entries-spends _ _ 20 (light-costs _ (light-pause w.control devs a b) 20 _ (omega arith)) (omega arith)
+  case-spends line _ _ (ResumesPair devs a b kind) = entries-spends _ _ 20 (light-costs _ (light-resume w.control devs a b kind) 20 _ (omega arith)) (omega arith)
+  case-spends line _ _ (FailsOver devs b a kind) = entries-spends _ _ 20 (light-costs _ (light-failover w.control devs b a kind) 20 _ (omega arith)) (omega arith)
+  case-spends line _ _ (FailsBack devs v u kind) = entries-spends _ _ 20 (light-costs _ (light-failback w.control devs v u (yield_refusal u) kind) 20 _ (omega arith)) (omega arith)
+  case-spends line _ _ (Compares contents v u) = entries-spends _ _ 20 (light-costs _ (light-compare w.control contents v u) 20 _ (omega arith)) (omega arith)
+  case-spends line _ _ (Drains a most) =
       let f : Fields = fields_at w.control a in
       let n : ℕ = (w.control.volume a).tracks in
       let ts : List ℕ = tracks_to_send most n f.out_of_sync in
@@ -226,32 +227,32 @@ module _ (w : World) (x : Sound w) (h : IsWithin w.control) where
         follows = λ s v. suspend_after-few a s v;
         few = omega arith;
       }
-  case-spends line _ (Expires s on) = entries-spends _ _ 64 (brief-costs 64 _ (brief-expire most_volumes w.control.volumes h.volumes s) _) (omega arith)
-  case-spends line _ (Freezes l m) = entries-spends _ _ 65 (brief-costs 65 _ (brief-freeze most_volumes w.control.volumes h.volumes l m) _) (omega arith)
-  case-spends line _ (Releases l) = entries-spends _ _ 64 (brief-costs 64 _ (brief-release most_volumes w.control.volumes h.volumes l) _) (omega arith)
-  case-spends line _ (Unfreezes l m) = entries-spends _ _ 65 (brief-costs 65 _ (brief-thaw most_volumes w.control.volumes h.volumes l m) _) (omega arith)
-  case-spends line _ (MakesSession l s free) = tables-spends _ _ _ (omega arith)
-  case-spends line _ (RemovesSession l s y found free) = tables-spends _ _ _ (omega arith)
-  case-spends line _ (MakesMirror owner s y found free l owned) = tables-spends _ _ _ (omega arith)
-  case-spends line _ (PausesMirror s on) = tables-spends _ _ _ (omega arith)
-  case-spends line _ (RemovesMirror s y found free) = tables-spends _ _ _ (omega arith)
-  case-spends line _ (Sends s server y r o posts) =
+  case-spends line _ _ (Expires s on) = entries-spends _ _ 64 (brief-costs 64 _ (brief-expire most_volumes w.control.volumes h.volumes s) _) (omega arith)
+  case-spends line _ _ (Freezes l m) = entries-spends _ _ 65 (brief-costs 65 _ (brief-freeze most_volumes w.control.volumes h.volumes l m) _) (omega arith)
+  case-spends line _ _ (Releases l) = entries-spends _ _ 64 (brief-costs 64 _ (brief-release most_volumes w.control.volumes h.volumes l) _) (omega arith)
+  case-spends line _ _ (Unfreezes l m) = entries-spends _ _ 65 (brief-costs 65 _ (brief-thaw most_volumes w.control.volumes h.volumes l m) _) (omega arith)
+  case-spends line _ _ (MakesSession l s free) = tables-spends _ _ _ (omega arith)
+  case-spends line _ _ (RemovesSession l s y found free) = tables-spends _ _ _ (omega arith)
+  case-spends line _ _ (MakesMirror owner s y found free l owned) = tables-spends _ _ _ (omega arith)
+  case-spends line _ _ (PausesMirror s on) = tables-spends _ _ _ (omega arith)
+  case-spends line _ _ (RemovesMirror s y found free) = tables-spends _ _ _ (omega arith)
+  case-spends line _ _ (Sends s server y r o posts) =
       let le : length (told_begun (is_idle r.master.phase) s o.number) ≤ 1 = posted (is_idle r.master.phase) s o.number in record { spends = 0; costs = costs-nil 0 _; after = 0; follows = none-adds; few = omega arith }
-  case-spends line _ (Delivers n m starts y r reaches) =
+  case-spends line _ _ (Delivers n m starts y r reaches) =
       let few : length y.members ≤ length w.control.volumes = members-few w.control m.session y x.groups reaches.arrives.found in
       let room : length w.control.volumes ≤ most_volumes = h.volumes in
       record { spends = 384; costs = order-costs m.order.work m.session m.order.number m.server y.members 64 (omega arith) 384 (omega arith) _; after = 0; follows = none-adds; few = omega arith }
-  case-spends line _ (TakesReply n m reply y r returns) = record { spends = 0; costs = costs-nil 0 _; after = 0; follows = none-adds; few = omega arith }
-  case-spends line _ (Loses n) = tables-spends _ _ _ (omega arith)
-  case-spends line _ (Aborts s y found free) = record { spends = 0; costs = costs-nil 0 _; after = 0; follows = none-adds; few = omega arith }
-  case-spends line _ (AddsMember s a c y joins) = record { spends = 2; costs = add-costs (member_with w.control a c) _ _; after = 0; follows = none-adds; few = omega arith }
-  case-spends line _ (RemovesMember s a y m found is idle on) = record { spends = 1; costs = costs-last 1 _ (Leave m.c.0 m.a.0 s) (omega arith); after = 0; follows = none-adds; few = omega arith }
-  case-spends line _ (Recovers s y found on) =
+  case-spends line _ _ (TakesReply n m reply y r returns) = record { spends = 0; costs = costs-nil 0 _; after = 0; follows = none-adds; few = omega arith }
+  case-spends line _ _ (Loses n) = tables-spends _ _ _ (omega arith)
+  case-spends line _ _ (Aborts s y found free) = record { spends = 0; costs = costs-nil 0 _; after = 0; follows = none-adds; few = omega arith }
+  case-spends line _ _ (AddsMember s a c y joins) = record { spends = 2; costs = add-costs (member_with w.control a c) _ _; after = 0; follows = none-adds; few = omega arith }
+  case-spends line _ _ (RemovesMember s a y m found is idle on) = record { spends = 1; costs = costs-last 1 _ (Leave m.c.0 m.a.0 s) (omega arith); after = 0; follows = none-adds; few = omega arith }
+  case-spends line _ _ (Recovers s y found on) =
       let few : length y.members ≤ length w.control.volumes = members-few w.control s y x.groups found in
       let room : length w.control.volumes ≤ most_volumes = h.volumes in
       record { spends = 129; costs = recover-costs s (decided_in s w.control) y.members 64 (omega arith) 129 (omega arith) _; after = 0; follows = none-adds; few = omega arith }
-  case-spends line _ (Settles s y m found here on free) = entries-spends _ _ 1 (light-costs _ (light-then (settle_on s (decided_in s w.control) m) [] (light-settle s (decided_in s w.control) m) light-none) 1 _ (omega arith)) (omega arith)
-  case-spends line _ (Exchanges s server reply y r o allowed) =
+  case-spends line _ _ (Settles s y m found here on free hand) = entries-spends _ _ 1 (light-costs _ (light-then (settle_on s (decided_in s w.control) m) [] (light-settle s (decided_in s w.control) m) light-none) 1 _ (omega arith)) (omega arith)
+  case-spends line _ _ (Exchanges s server reply y r o allowed) =
       let few : length y.members ≤ length w.control.volumes = members-few w.control s y x.groups allowed.found in
       let room : length w.control.volumes ≤ most_volumes = h.volumes in
       record { spends = 384; costs = order-costs o.work s o.number server y.members 64 (omega arith) 384 (omega arith) _; after = 0; follows = none-adds; few = omega arith }
