@@ -162,3 +162,73 @@ module _ (K J : World → Type 0) (Ok More : World → Act → Type 0) (Why Much
   unfolding AllFine
   fine-wider [] fine = tt
   fine-wider (d ∷ ds) fine = λ w j. next-wider w (d w.control) (AllFine K Ok Why ds) (AllFine J More Much ds) j (fine w (known w j)) (λ rest. fine-wider ds rest)
+
+-- ---- entries from a world on: what comes before the first act is seen in that world, and refuses for reasons of its own
+
+module _ (K : World → Type 0) (Ok : World → Act → Type 0) (First Why : Refusal → Type 0) where
+  abbrev pub FromThen : World → Next → Type 0 → Type 0 → Type 0
+  FromThen w Pass here later = here
+  FromThen w (End r) here later = First r
+  FromThen w (Do a) here later = Ok w a × later
+
+  unfoldable pub FineFrom : World → List Entry → Type 0
+  FineFrom w [] = Unit {0}
+  FineFrom w (d ∷ ds) = FromThen w (d w.control) (FineFrom w ds) (AllFine K Ok Why ds)
+
+  pub from-none : (w : World) → FineFrom w []
+  unfolding FineFrom
+  from-none w = tt
+
+  pub from-check : (w : World) (ok : Control → Bool) (r : Refusal) (ds : List Entry) → First r → (ok w.control ≡ true → FineFrom w ds) → FineFrom w (check ok r ∷ ds)
+  unfolding FineFrom
+  from-check w ok r ds first rest = by (ok w.control) rest
+    where
+      by : (b : Bool) → (b ≡ true → FineFrom w ds) → FromThen w (cond b Pass (End r)) (FineFrom w ds) (AllFine K Ok Why ds)
+      by true rest = rest refl
+      by false rest = first
+
+  pub from-refuse : (w : World) (reason : Control → Option Refusal) (ds : List Entry) → WhyNot K Ok First (reason w.control) → FineFrom w ds → FineFrom w (refuse_if reason ∷ ds)
+  unfolding FineFrom
+  from-refuse w reason ds first rest = by (reason w.control) first
+    where
+      by : (o : Option Refusal) → WhyNot K Ok First o → FromThen w (end_if o) (FineFrom w ds) (AllFine K Ok Why ds)
+      by None first = rest
+      by (Some r) first = first
+
+  -- entries that are fine wherever they come
+  pub from-all : ((r : Refusal) → Why r → First r) → (w : World) → K w → (ds : List Entry) → AllFine K Ok Why ds → FineFrom w ds
+  unfolding FineFrom AllFine
+  from-all reasons w k [] fine = tt
+  from-all reasons w k (d ∷ ds) fine = by (d w.control) (from-all reasons w k ds) (fine w k)
+    where
+      by : (x : Next) → (AllFine K Ok Why ds → FineFrom w ds) → FineThen K Ok Why w x (AllFine K Ok Why ds) → FromThen w x (FineFrom w ds) (AllFine K Ok Why ds)
+      by Pass on fine = on fine
+      by (End r) on fine = reasons r fine
+      by (Do a) on fine = fine
+
+  module _ (J : World → Type 0) (known : (w : World) → J w → K w) (keeps : (w : World) (a : Act) → Ok w a → J w → J (act w a).0) where
+    pub from-kept : (ds : List Entry) (w : World) → FineFrom w ds → J w → J (carry w ds).0
+    unfolding carry FineFrom
+    from-kept [] w fine j = j
+    from-kept (d ∷ ds) w fine j = by (d w.control) (λ fine. from-kept ds w fine j) fine
+      where
+        by : (x : Next) → (FineFrom w ds → J (carry w ds).0) → FromThen w x (FineFrom w ds) (AllFine K Ok Why ds) → J (go w x (λ v. carry v ds)).0
+        by Pass on fine = on fine
+        by (End r) on fine = j
+        by (Do a) on fine = turn-kept K Ok Why J known keeps (act w a) (λ v. carry v ds) (keeps w a fine.0 j) (λ v i. carry-kept K Ok Why J known keeps ds fine.1 v i)
+
+    pub plan-from : (w : World) (p : Plan) → J (begun w p) → FineFrom (begun w p) p.entries → ((s : ℕ) → AllFine K Ok Why (p.follows s)) → ((v : World) → J v → J (record v { control = p.last v.control })) → J (carried_out w p).0
+    plan-from w p j entries follows last =
+        finish-kept K Ok Why J known keeps p (carry (begun w p) p.entries).0 (carry (begun w p) p.entries).1 follows last (from-kept p.entries (begun w p) entries j)
+
+module _ (K J : World → Type 0) (Ok More : World → Act → Type 0) (Early First Why Much : Refusal → Type 0) (known : (w : World) → J w → K w) (wider : (w : World) (a : Act) → J w → Ok w a → More w a)
+    (early : (r : Refusal) → Early r → First r) (reasons : (r : Refusal) → Why r → Much r) where
+  pub from-wider : (ds : List Entry) (w : World) → J w → FineFrom K Ok Early Why w ds → FineFrom J More First Much w ds
+  unfolding FineFrom
+  from-wider [] w j fine = tt
+  from-wider (d ∷ ds) w j fine = by (d w.control) (from-wider ds w j) fine
+    where
+      by : (x : Next) → (FineFrom K Ok Early Why w ds → FineFrom J More First Much w ds) → FromThen K Ok Early Why w x (FineFrom K Ok Early Why w ds) (AllFine K Ok Why ds) → FromThen J More First Much w x (FineFrom J More First Much w ds) (AllFine J More Much ds)
+      by Pass on fine = on fine
+      by (End r) on fine = early r fine
+      by (Do a) on fine = (wider w a j fine.0, fine-wider K J Ok More Why Much known wider reasons ds fine.1)
