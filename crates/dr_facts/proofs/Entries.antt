@@ -1,6 +1,7 @@
 -- Lists of entries of which each comes to acts that are so, in worlds that are so, and ends a plan for reasons that are so.
 use Rattle.std.proofs.Common.{ℕ, zero, suc, ◌≡◌, inl, inr, refl, ap, sym, ◌∙◌, subst, Bool, true, false, cond, List, [], ◌∷◌, ◌++◌, map, Option, Some, None}
 use Rattle.std.specs.List.{flat_map}
+use Rattle.std.specs.Option.{option_or}
 use Rattle.dr_model.specs.Groups.{In}
 use Rattle.dr_ids.specs.declared.refusal.Refusal.{Refusal}
 use Rattle.dr_ids.specs.declared.refusal.Refusal.TheVariants.{Stopped as StoppedIn}
@@ -19,6 +20,23 @@ anywhere w = Unit {0}
 abbrev pub whatever : Refusal → Type 0
 whatever r = Unit {0}
 
+-- what is asked of a reason, if there is one
+abbrev pub WhyNot : (Refusal → Type 0) → Option Refusal → Type 0
+WhyNot Why None = Unit {0}
+WhyNot Why (Some r) = Why r
+
+pub why-if : (Why : Refusal → Type 0) (b : Bool) (x y : Option Refusal) → WhyNot Why x → WhyNot Why y → WhyNot Why (cond b x y)
+why-if Why true x y p q = p
+why-if Why false x y p q = q
+
+pub why-or : (Why : Refusal → Type 0) (x y : Option Refusal) → WhyNot Why x → WhyNot Why y → WhyNot Why (option_or x y)
+why-or Why None y p q = q
+why-or Why (Some r) y p q = p
+
+pub why-wider : (Why Much : Refusal → Type 0) → ((r : Refusal) → Why r → Much r) → (o : Option Refusal) → WhyNot Why o → WhyNot Much o
+why-wider Why Much wider None why = tt
+why-wider Why Much wider (Some r) why = wider r why
+
 -- `K` is what is known of the worlds in which entries come, `Ok` what is asked of the acts there, and `Why` of the refusals.
 module _ (K : World → Type 0) (Ok : World → Act → Type 0) (Why : Refusal → Type 0) where
   -- what an entry comes to
@@ -26,10 +44,6 @@ module _ (K : World → Type 0) (Ok : World → Act → Type 0) (Why : Refusal �
   Fine w Pass = Unit {0}
   Fine w (End r) = Why r
   Fine w (Do a) = Ok w a
-
-  abbrev pub WhyNot : Option Refusal → Type 0
-  WhyNot None = Unit {0}
-  WhyNot (Some r) = Why r
 
   -- and what comes behind it, where its plan goes on
   abbrev pub FineThen : World → Next → Type 0 → Type 0
@@ -115,10 +129,10 @@ module _ (K : World → Type 0) (Ok : World → Act → Type 0) (Why : Refusal �
   pub fine-check : (ok : Control → Bool) (r : Refusal) (ds : List Entry) → Why r → AllFine ds → AllFine (check ok r ∷ ds)
   fine-check ok r ds why rest = fine-where ok r ds why (λ w k h. rest)
 
-  pub fine-refuse : (reason : Control → Option Refusal) (ds : List Entry) → ((k : Control) → WhyNot (reason k)) → AllFine ds → AllFine (refuse_if reason ∷ ds)
+  pub fine-refuse : (reason : Control → Option Refusal) (ds : List Entry) → ((k : Control) → WhyNot Why (reason k)) → AllFine ds → AllFine (refuse_if reason ∷ ds)
   fine-refuse reason ds why rest = fine-then (refuse_if reason) ds (λ w k. by w (reason w.control) (why w.control)) rest
     where
-      by : (w : World) (o : Option Refusal) → WhyNot o → Fine w (end_if o)
+      by : (w : World) (o : Option Refusal) → WhyNot Why o → Fine w (end_if o)
       by w None why = tt
       by w (Some r) why = why
 
@@ -187,11 +201,11 @@ module _ (K : World → Type 0) (Ok : World → Act → Type 0) (First Why : Ref
       by true rest = rest refl
       by false rest = first
 
-  pub from-refuse : (w : World) (reason : Control → Option Refusal) (ds : List Entry) → WhyNot K Ok First (reason w.control) → FineFrom w ds → FineFrom w (refuse_if reason ∷ ds)
+  pub from-refuse : (w : World) (reason : Control → Option Refusal) (ds : List Entry) → WhyNot First (reason w.control) → FineFrom w ds → FineFrom w (refuse_if reason ∷ ds)
   unfolding FineFrom
   from-refuse w reason ds first rest = by (reason w.control) first
     where
-      by : (o : Option Refusal) → WhyNot K Ok First o → FromThen w (end_if o) (FineFrom w ds) (AllFine K Ok Why ds)
+      by : (o : Option Refusal) → WhyNot First o → FromThen w (end_if o) (FineFrom w ds) (AllFine K Ok Why ds)
       by None first = rest
       by (Some r) first = first
 

@@ -18,3 +18,5 @@ pub mod Joined
 pub mod Heard
 pub mod Emits
 pub mod Entries
+pub mod SharedEntries
+pub mod Reasons
