@@ -111,6 +111,11 @@ module _ (K : World → Type 0) (Ok : World → Act → Type 0) (Why : Refusal �
   fine-if w true x y p q = p
   fine-if w false x y p q = q
 
+  -- an act that comes where its test passes
+  pub fine-when : (w : World) (b : Bool) (a : Act) → (b ≡ true → Ok w a) → Fine w (cond b (Do a) Pass)
+  fine-when w true a one = one refl
+  fine-when w false a one = tt
+
   pub fine-found : (w : World) (o : Option ℕ) (d : ℕ → Entry) → ((t : ℕ) → Fine w (d t w.control)) → Fine w (on_found o d w.control)
   fine-found w None d one = tt
   fine-found w (Some t) d one = one t

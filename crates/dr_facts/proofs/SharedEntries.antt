@@ -19,7 +19,7 @@ use Rattle.dr_model.specs.WriteEntries.{partner_of, is_grouped, land_mirrored, l
 use Rattle.dr_model.specs.Plans.{acknowledge_if, acknowledge_on, landed_on, hold_first, redo_now, destage_entries}
 use Rattle.dr_model.specs.SessionEntries.{last_of, hold_refusal, stale_refusal, hold_on, void_refusal, free_on, is_drained, seal_refusal, seal_on, is_flashed, flash_refusal, flash_on, is_committed, commit_refusal, commit_on, revert_on, is_past, finish_on, member_entries, order_entries, raise_attempt_on, raise_floor_on, add_entries}
 use Rattle.dr_model.specs.RecoveryPlans.{lets_commit, take_over_on, settle_on, end_recovery, recover_entries}
-use Rattle.dr_facts.proofs.Entries.{Fine, WhyNot, AllFine, fine-none, fine-then, fine-one, fine-now, fine-append, fine-each, fine-map, fine-flat, fine-choice, fine-if, fine-found, fine-refuse}
+use Rattle.dr_facts.proofs.Entries.{Fine, WhyNot, AllFine, fine-none, fine-then, fine-one, fine-now, fine-append, fine-each, fine-map, fine-flat, fine-choice, fine-if, fine-when, fine-found, fine-refuse}
 
 module _ (K : World → Type 0) (Ok : World → Act → Type 0) (Why : Refusal → Type 0) where
   abbrev All : List Entry → Type 0
@@ -32,8 +32,8 @@ module _ (K : World → Type 0) (Ok : World → Act → Type 0) (Why : Refusal �
   abbrev pub May : Act → Type 0
   May a = (w : World) → K w → Ok w a
 
-  pub where-fine : (so : Control → Bool) (a : Act) → May a → One (λ k. cond (so k) (Do a) Pass)
-  where-fine so a may w k = fine-if K Ok Why w (so w.control) (Do a) Pass (may w k) tt
+  pub where-fine : (so : Control → Bool) (a : Act) → ((w : World) → K w → so w.control ≡ true → Ok w a) → One (λ k. cond (so k) (Do a) Pass)
+  where-fine so a may w k = fine-when K Ok Why w (so w.control) a (may w k)
 
   pub unless-fine : (so : Control → Bool) (a : Act) → May a → One (λ k. cond (so k) Pass (Do a))
   unless-fine so a may w k = fine-if K Ok Why w (so w.control) Pass (Do a) tt (may w k)
@@ -43,7 +43,7 @@ module _ (K : World → Type 0) (Ok : World → Act → Type 0) (Why : Refusal �
 
   -- what follows the stop of a server
   pub after-fine : (a s : ℕ) → May (Make (Suspend a false)) → All (suspend_after a s)
-  after-fine a s may = fine-one K Ok Why (suspend_running a) (where-fine (λ k. is_part (fields_at k a).primary && is_running a k) (Make (Suspend a false)) may)
+  after-fine a s may = fine-one K Ok Why (suspend_running a) (where-fine (λ k. is_part (fields_at k a).primary && is_running a k) (Make (Suspend a false)) (λ w h so. may w h))
 
   pub after_write-fine : (k : Control) (v t s : ℕ) → ((busy : Bool) → May (Make (Suspend v busy))) → All (after_write k v t s)
   after_write-fine k v t s may = fine-choice K Ok Why (collides (fields_at k v) t) (suspend_after v s) (part_after v s) (λ c. after-fine v s (may false))
@@ -59,16 +59,16 @@ module _ (K : World → Type 0) (Ok : World → Act → Type 0) (Why : Refusal �
   destage-fine (Some t) v redo unstage = fine-then K Ok Why (redo_now v) _ redo (last-move (Unstage v) unstage)
 
   -- a server that starts
-  pub start-fine : (s : ℕ) (vs : List ℕ) → ((v : ℕ) → May (Redo v)) → ((v : ℕ) → May (Make (Restart v))) → ((n : ℕ) → May (Acknowledge n)) → All (start_entries s vs ++ acknowledge_on s ∷ [])
+  pub start-fine : (s : ℕ) (vs : List ℕ) → ((v : ℕ) → May (Redo v)) → ((v : ℕ) → May (Make (Restart v))) → ((n : ℕ) (w : World) → K w → landed_on w.control s ≡ Some n → Ok w (Acknowledge n)) → All (start_entries s vs ++ acknowledge_on s ∷ [])
   start-fine s vs redo restart acknowledge =
       fine-append K Ok Why (start_entries s vs) _
-      (fine-flat K Ok Why _ vs (λ v here. fine-then K Ok Why (redo_on s v) _ (where-fine (λ k. belongs k s v) (Redo v) (redo v))
-      (fine-one K Ok Why (restart_on s v) (where-fine (λ k. belongs k s v && must_restart (fields_at k v)) (Make (Restart v)) (restart v)))))
-      (fine-one K Ok Why (acknowledge_on s) (λ w k. by w k (landed_on w.control s)))
+      (fine-flat K Ok Why _ vs (λ v here. fine-then K Ok Why (redo_on s v) _ (where-fine (λ k. belongs k s v) (Redo v) (λ w h so. redo v w h))
+      (fine-one K Ok Why (restart_on s v) (where-fine (λ k. belongs k s v && must_restart (fields_at k v)) (Make (Restart v)) (λ w h so. restart v w h)))))
+      (fine-one K Ok Why (acknowledge_on s) (λ w k. by w k (landed_on w.control s) refl))
     where
-      by : (w : World) → K w → (o : Option ℕ) → Fine K Ok Why w (acknowledge_if o)
-      by w k None = tt
-      by w k (Some n) = acknowledge n w k
+      by : (w : World) → K w → (o : Option ℕ) → landed_on w.control s ≡ o → Fine K Ok Why w (acknowledge_if o)
+      by w k None is = tt
+      by w k (Some n) is = acknowledge n w k is
 
   -- ---- tracks that targets keep first
 
@@ -98,7 +98,7 @@ module _ (K : World → Type 0) (Ok : World → Act → Type 0) (Why : Refusal �
       sends-fine why flashed [] = fine-none K Ok Why
       sends-fine why flashed (t ∷ ts) =
           fine-append K Ok Why (send_entries volumes a b t) (sends volumes a b ts)
-          (fine-then K Ok Why (suspend_where (send_refusal a b) a) _ (where-fine (λ k. is_some (send_refusal a b k)) (Make (Suspend a false)) suspend)
+          (fine-then K Ok Why (suspend_where (send_refusal a b) a) _ (where-fine (λ k. is_some (send_refusal a b k)) (Make (Suspend a false)) (λ w h so. suspend w h))
           (fine-refuse K Ok Why (send_refusal a b) _ why (fine-refuse K Ok Why (flashed_refusal b) _ flashed
           (fine-append K Ok Why (copy_first volumes b t) _ (copies-fine volumes b t)
           (fine-then K Ok Why (store_on a b t) _ (λ w k. store t _ w k) (fine-one K Ok Why (strike_on a t) (λ w k. strike t _ w k)))))))
@@ -151,7 +151,7 @@ module _ (K : World → Type 0) (Ok : World → Act → Type 0) (Why : Refusal �
       collided-fine met =
           let u : ℕ = partner_of k v in
           fine-append K Ok Why (send_first k.volumes v u t) (land_alone k.volumes n v t)
-          (fine-then K Ok Why (suspend_where (send_refusal v u) v) _ (where-fine (λ j. is_some (send_refusal v u j)) (Make (Suspend v false)) (may.suspend false)) (sent-fine met k.volumes)) alone-fine
+          (fine-then K Ok Why (suspend_where (send_refusal v u) v) _ (where-fine (λ j. is_some (send_refusal v u j)) (Make (Suspend v false)) (λ w h so. may.suspend false w h)) (sent-fine met k.volumes)) alone-fine
 
       pub lands-fine : All (land_entries k n v t)
       lands-fine =
@@ -192,7 +192,7 @@ module _ (K : World → Type 0) (Ok : World → Act → Type 0) (Why : Refusal �
       by : (w : World) → K w → (b : Bool) → Ok w (cond b (OpenAttempt m.a.0 s n) (Make (Hold m.a.0 s n false)))
       by w k true = may.open_attempt w k
       by w k false = may.hold w k
-  member-fine phases.Release s n m may why = fine-refuse K Ok Why (void_refusal m.a.0 n) _ why.void (fine-one K Ok Why (free_on m.a.0) (where-fine (λ k. (fields_at k m.a.0).coordination) (Make (Free m.a.0)) may.free))
+  member-fine phases.Release s n m may why = fine-refuse K Ok Why (void_refusal m.a.0 n) _ why.void (fine-one K Ok Why (free_on m.a.0) (where-fine (λ k. (fields_at k m.a.0).coordination) (Make (Free m.a.0)) (λ w h so. may.free w h)))
   member-fine phases.Seal s n m may why =
       fine-refuse K Ok Why (void_refusal m.a.0 n) _ why.void (fine-refuse K Ok Why (seal_refusal m.a.0 m.b.0) _ why.seal
       (fine-one K Ok Why (seal_on s m.a.0 m.b.0 n) (λ w k. fine-if K Ok Why w _ (Do (Make (Seal m.b.0 m.a.0 s n))) Pass (may.seal w k) tt)))
@@ -216,19 +216,19 @@ module _ (K : World → Type 0) (Ok : World → Act → Type 0) (Why : Refusal �
 
   pub add-fine : (m : Member) (n : ℕ) → May (Make (RaiseAttempt m.a.0 n)) → May (Make (RaiseFloor m.c.0 n)) → All (add_entries m n)
   add-fine m n attempt floor =
-      fine-then K Ok Why (raise_attempt_on m.a.0 n) _ (where-fine (λ k. nat_lt (fields_at k m.a.0).attempt n) (Make (RaiseAttempt m.a.0 n)) attempt)
-      (fine-one K Ok Why (raise_floor_on m.c.0 n) (where-fine (λ k. nat_lt (fields_at k m.c.0).floor n) (Make (RaiseFloor m.c.0 n)) floor))
+      fine-then K Ok Why (raise_attempt_on m.a.0 n) _ (where-fine (λ k. nat_lt (fields_at k m.a.0).attempt n) (Make (RaiseAttempt m.a.0 n)) (λ w h so. attempt w h))
+      (fine-one K Ok Why (raise_floor_on m.c.0 n) (where-fine (λ k. nat_lt (fields_at k m.c.0).floor n) (Make (RaiseFloor m.c.0 n)) (λ w h so. floor w h)))
 
   -- a target is committed or reverted, as was decided
   pub settle-fine : (s : ℕ) (d : Decision) (m : Member) → ((n : ℕ) → May (Make (Commit m.c.0 m.a.0 s n))) → (lets_commit d ≡ false → (n : ℕ) → May (Make (Revert m.c.0 m.a.0 s n))) → One (settle_on s d m)
-  settle-fine s (CommitRest n) m commit revert = where-fine (λ k. is_flashed n (fields_at k m.c.0)) (Make (Commit m.c.0 m.a.0 s n)) (commit n)
-  settle-fine s (RevertAll n) m commit revert = where-fine (λ k. is_flashed n (fields_at k m.c.0)) (Make (Revert m.c.0 m.a.0 s n)) (revert refl n)
-  settle-fine s (RevertSome o n) m commit revert = where-fine (λ k. is_flashed n (fields_at k m.c.0)) (Make (Revert m.c.0 m.a.0 s n)) (revert refl n)
+  settle-fine s (CommitRest n) m commit revert = where-fine (λ k. is_flashed n (fields_at k m.c.0)) (Make (Commit m.c.0 m.a.0 s n)) (λ w h so. commit n w h)
+  settle-fine s (RevertAll n) m commit revert = where-fine (λ k. is_flashed n (fields_at k m.c.0)) (Make (Revert m.c.0 m.a.0 s n)) (λ w h so. revert refl n w h)
+  settle-fine s (RevertSome o n) m commit revert = where-fine (λ k. is_flashed n (fields_at k m.c.0)) (Make (Revert m.c.0 m.a.0 s n)) (λ w h so. revert refl n w h)
   settle-fine s NoMember m commit revert = λ w k. tt
   settle-fine s (Nothing n) m commit revert = λ w k. tt
   settle-fine s (Impossible a b) m commit revert = λ w k. tt
 
-  pub recover-fine : (s : ℕ) (d : Decision) (ms : List Member) → ((m : Member) → May (Make (TakeOver m.b.0))) → ((m : Member) → In m ms → (n : ℕ) → May (Make (Commit m.c.0 m.a.0 s n)))
+  pub recover-fine : (s : ℕ) (d : Decision) (ms : List Member) → ((m : Member) (w : World) → K w → is_part (fields_at w.control m.b.0).secondary ≡ true → Ok w (Make (TakeOver m.b.0))) → ((m : Member) → In m ms → (n : ℕ) → May (Make (Commit m.c.0 m.a.0 s n)))
       → ((m : Member) → In m ms → (n : ℕ) → May (Make (Revert m.c.0 m.a.0 s n))) → ((n : ℕ) → May (EndRecovery s n)) → All (recover_entries s d ms)
   recover-fine s d ms take commit revert end =
       fine-append K Ok Why (map take_over_on ms) _ (fine-map K Ok Why take_over_on ms (λ m. where-fine (λ k. is_part (fields_at k m.b.0).secondary) (Make (TakeOver m.b.0)) (take m)))
