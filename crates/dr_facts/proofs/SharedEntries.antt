@@ -153,12 +153,15 @@ module _ (K : World → Type 0) (Ok : World → Act → Type 0) (Why : Refusal �
           fine-append K Ok Why (send_first k.volumes v u t) (land_alone k.volumes n v t)
           (fine-then K Ok Why (suspend_where (send_refusal v u) v) _ (where-fine (λ j. is_some (send_refusal v u j)) (Make (Suspend v false)) (λ w h so. may.suspend false w h)) (sent-fine met k.volumes)) alone-fine
 
-      pub lands-fine : All (land_entries k n v t)
-      lands-fine =
-          fine-choice K Ok Why (held (fields_at k v)) [] _ (λ h. fine-none K Ok Why) (λ h.
+      free-fine : All (cond (goes_over (fields_at k v) t) (land_over k n v t) (cond (collides (fields_at k v) t) (land_collided k n v t) (land_alone k.volumes n v t)))
+      free-fine =
           fine-choice K Ok Why (goes_over (fields_at k v) t) (land_over k n v t) _
           (λ over. fine-choice K Ok Why (is_parted k v) (land_parted k n v t) (land_mirrored k.volumes n v t (partner_of k v)) (λ p. parted-fine) (λ p. mirrored-fine over))
-          (λ o. fine-choice K Ok Why (collides (fields_at k v) t) (land_collided k n v t) (land_alone k.volumes n v t) collided-fine (λ c. alone-fine)))
+          (λ o. fine-choice K Ok Why (collides (fields_at k v) t) (land_collided k n v t) (land_alone k.volumes n v t) collided-fine (λ c. alone-fine))
+
+    -- on a held volume nothing is done
+    pub lands-fine : (k : Control) (n v t : ℕ) → (held (fields_at k v) ≡ false → WriteMay k n v t) → All (land_entries k n v t)
+    lands-fine k n v t may = fine-choice K Ok Why (held (fields_at k v)) [] _ (λ h. fine-none K Ok Why) (λ free. free-fine k n v t (may free))
 
   -- ---- orders
 

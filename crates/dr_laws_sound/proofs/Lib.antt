@@ -75,6 +75,8 @@
 -- - **A set of numbers below n has no more than n** (`len-low`, `Spends.antt`): by `len-remove` and `same_set`.
 pub mod Listed
 pub mod Cases
+pub mod Does
+pub mod DoesPlans
 pub mod Turns
 pub mod Due
 pub mod RowsAfter
