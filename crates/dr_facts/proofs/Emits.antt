@@ -255,7 +255,7 @@ by_moves Answers = false
 by_moves Others = false
 by_moves k = true
 
-emitted : (m : Move) → all_tags by_moves (emits m) ≡ true
+pub emitted : (m : Move) → all_tags by_moves (emits m) ≡ true
 emitted (Land n v t) = refl
 emitted m = refl
 

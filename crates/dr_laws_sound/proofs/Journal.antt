@@ -29,7 +29,7 @@ use Rattle.dr_model.specs.SessionEntries.{members_on, first_number, reply_after}
 use Rattle.dr_model.specs.Messages.{lost}
 use Rattle.dr_model.specs.MessagePlans.{with_flight, says_posted, sending, told_begun, taking}
 use Rattle.dr_model.specs.SessionPlans.{with_sessions, table_plan, appointed, leaving, aborting, exchanged, says_phase, is_idle, member_with}
-use Rattle.dr_facts.proofs.Emits.{Of, Lists as ByEvents, by_moves, any-lists, all-told, all-stop}
+use Rattle.dr_facts.proofs.Emits.{Of, Lists as ByEvents, by_moves, any-lists, emitted, stop-onto, all-told}
 use Rattle.dr_laws_sound.specs.Limits.{IsWithin}
 use Rattle.dr_facts.proofs.Sessions.{length-changed, changed-twice, length-left, joined-few}
 use Rattle.dr_model.specs.RecoveryPlans.{decided_in, recover_done}
@@ -142,7 +142,7 @@ counts-onward w (Make m) = λ f.
       stays = record { servers = refl; tracks = move-tracks w m _ refl; volumes = refl; issued = refl; pending = stop-fewer m w.control.pending; sessions = omega arith };
       added = told_in_stop m u ++ Stopped u.server (landed m) ∷ [];
       events = refl;
-      silent = none-append (told_in_stop m u) (Stopped u.server (landed m) ∷ []) (all-stop _ unanswered m u) refl;
+      silent = stop-onto by_moves _ unanswered m u (Stopped u.server (landed m) ∷ []) (emitted m) refl;
     }
 counts-onward w (OpenAttempt v s n) = λ f.
     let m : Move = Hold v s n true in
@@ -151,7 +151,7 @@ counts-onward w (OpenAttempt v s n) = λ f.
       stays = record { servers = refl; tracks = move-tracks w m _ refl; volumes = refl; issued = refl; pending = omega arith; sessions = length-changed s attempted w.control.sessions };
       added = told_in_stop m u ++ Stopped u.server 0 ∷ [];
       events = refl;
-      silent = none-append (told_in_stop m u) (Stopped u.server 0 ∷ []) (all-stop _ unanswered m u) refl;
+      silent = stop-onto by_moves _ unanswered m u (Stopped u.server 0 ∷ []) (emitted m) refl;
     }
 counts-onward w (Redo v) = tt
 counts-onward w (Acknowledge n) = tt
