@@ -265,3 +265,15 @@ module _ (L : List Event → Type 0) (lists : Lists (Of by_moves) L) where
 
   pub all-stop : (m : Move) (u : Volume) → L (told_in_stop m u)
   all-stop m u = each-stop by_moves L lists m u (emitted m)
+
+-- ---- a stop acknowledges nothing
+
+abbrev pub acks_none : Tag → Bool
+acks_none Acks = false
+acks_none k = true
+
+pub unacked-stop : (L : List Event → Type 0) → Lists (Of acks_none) L → (m : Move) (u : Volume) (es : List Event) → L es → L (told_in_stop m u ++ es)
+unacked-stop L lists (Land n v t) u es behind = behind
+unacked-stop L lists (Overwrite n v t) u es behind = behind
+unacked-stop L lists (LandBoth n v t) u es behind = behind
+unacked-stop L lists m u es behind = told-onto acks_none L lists m u es refl behind

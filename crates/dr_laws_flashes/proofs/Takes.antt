@@ -1,23 +1,19 @@
 -- The step in which a target takes its source's tracks: it holds what the source holds, and no write waits on it.
-use Rattle.std.proofs.Common.{ℕ, ◌≡◌, refl, ap, sym, ◌∙◌, subst, Bool, true, false, cond, ◌||◌, nat_eq, List, [], ◌∷◌, ◌++◌, map, Option, Some, None}
+use Rattle.std.proofs.Common.{ℕ, ◌≡◌, refl, ap, sym, ◌∙◌, subst, Bool, true, false, cond, nat_eq, List, [], ◌∷◌, ◌++◌, Option}
 use Rattle.std.proofs.lemmas.List.{append_cancel_left}
-use Rattle.std.proofs.lemmas.List.Folds.{list_any-append}
 use Rattle.std.specs.List.{list_any, fold}
 use Rattle.dr_model.specs.declared.event.Event.{Event}
-use Rattle.dr_model.specs.declared.event.Event.TheVariants.{Ack, Set, Stopped, Blanked, Restored, Suspended, Begin, Cut}
-use Rattle.dr_model.specs.Layout.{Tracks}
-use Rattle.dr_model.specs.Relations.{rest, in_order, is_bare, turned, given_up}
-use Rattle.dr_model.specs.Pairs.{is_suspended}
+use Rattle.dr_model.specs.declared.event.Event.TheVariants.{Ack, Set, Stopped}
 use Rattle.dr_model.specs.Histories.{Histories, histories, lists, after_event}
 use Rattle.dr_model.specs.Control.{Volume, World, Fuse, is_volume}
-use Rattle.dr_model.specs.Moves.{Move, Land, Overwrite, LandBoth, Relate, Withdraw, Resync, Reverse, Release, Suspend, Lift, Hold, target, told, told_in_stop, told_blank, told_restored, told_freed, landed}
+use Rattle.dr_model.specs.Moves.{Move, Relate, Resync, target, told, told_in_stop, landed}
 use Rattle.dr_model.specs.Table.{table, waiting}
 use Rattle.dr_model.proofs.Images.{histories-append}
 use Rattle.dr_facts.proofs.Emits.{Tag, Sets, Of, any-lists, each-told, stop-onto}
 use Rattle.dr_laws_sound.proofs.RowsAfter.{calm}
 use Rattle.dr_laws_sound.proofs.Turns.{done, done_in_stop}
 use Rattle.dr_laws_freezes.proofs.Fair.{MayCome}
-use Rattle.dr_laws_freezes.proofs.KeepsWindow.{AllPassing}
+use Rattle.dr_laws_freezes.proofs.KeepsWindow.{TakesNone}
 use Rattle.dr_laws_freezes.proofs.KeepsStep.{Step, Does, Stops, Acks, Others, Passes}
 use Rattle.std.proofs.lemmas.Bool.{eq-eqb}
 use Rattle.dr_model.specs.Laws.{SoundRows}
@@ -113,4 +109,4 @@ step-takes tag w rows _ _ (Stops m f may fair) s t behind is =
 step-takes tag w rows _ _ (Acks n a) s t behind is = never t s (Ack n ∷ []) behind refl (append_cancel_left w.events (Ack n ∷ []) (Set t s ∷ behind) is)
 step-takes tag w rows _ _ (Others next u ss step) s t behind is = let x = step-takes tag w rows next u step s t behind is in record { target = x.target; source = x.source; waits = x.waits; defined = x.defined }
 step-takes tag w rows _ _ (Passes next u es x less) s t behind is =
-    absurd (subst AllPassing (append_cancel_left w.events es (Set t s ∷ behind) (sym x.events ∙ is)) x.silent).0
+    let no = (subst TakesNone (append_cancel_left w.events es (Set t s ∷ behind) (sym x.events ∙ is)) x.takes).0 in absurd cc

@@ -1,5 +1,5 @@
 -- A freeze window lasts from each moment of a run to the next.
-use Rattle.std.proofs.Common.{ℕ, ◌≡◌, ◌≢◌, ◌<◌, ◌+◌, ◌⊎◌, inl, inr, refl, ap, sym, ◌∙◌, subst, Bool, true, false, cond, not, ◌||◌, List, [], ◌∷◌, ◌++◌, filter, Option, Some, None}
+use Rattle.std.proofs.Common.{ℕ, ◌≡◌, ◌≢◌, ◌<◌, ◌+◌, ◌⊎◌, inl, inr, refl, ap, sym, ◌∙◌, subst, true, false, cond, not, ◌||◌, List, [], ◌∷◌, ◌++◌, filter, Option, Some, None}
 use Rattle.std.proofs.Math.Bool.{or-false}
 use Rattle.std.proofs.lemmas.List.{append-nil}
 use Rattle.std.proofs.lemmas.List.Sums.{fold-append}
@@ -27,8 +27,9 @@ use Rattle.dr_laws_sound.proofs.Due.{waiting-marked_else, waiting-marked_here}
 use Rattle.dr_facts.proofs.Issued.{told-writes, stop-writes, with-told}
 use Rattle.dr_laws_freezes.proofs.WindowTracks.{unacked, still-waits, Stays, Holds, Window, Quiet, window-quiet, unacked-told}
 use Rattle.dr_laws_freezes.proofs.Fair.{MayCome, Fair, tag_after}
-use Rattle.dr_laws_freezes.proofs.KeepsWindow.{AllPassing, passing-silent, locked, Deaf, deaf-silent, Else, deaf-told, deaf-stop, waits-done, waits-stop, quiet-changed}
-use Rattle.dr_laws_freezes.proofs.KeepsLists.{ListGrows, NoRestore, silent-none, grows-apart, apart-told, apart-stop}
+use Rattle.dr_facts.proofs.Emits.{Of, of-all}
+use Rattle.dr_laws_freezes.proofs.KeepsWindow.{takes_none, TakesNone, locked, Deaf, deaf, Else, deaf-told, deaf-stop, waits-done, waits-stop, quiet-changed}
+use Rattle.dr_laws_freezes.proofs.KeepsLists.{ListGrows, NoRestore, acked-none, grows-apart, apart-told, apart-stop}
 use Rattle.dr_laws_freezes.proofs.KeepsMirror.{off-track, on-track, acked, acked-here, just-acked, still-unacked, window-mirrored, window-landed}
 use Rattle.dr_logic.proofs.Choices.{chosen}
 
@@ -46,7 +47,7 @@ pub record Acknowledges (w : World) (n : ℕ) : Type 0 where
 -- from w to u no volume changes that is defined, and no write lands; these events are told
 pub record Unchanged (w u : World) (es : List Event) : Type 0 where
   pub events : u.events ≡ w.events ++ es
-  pub silent : AllPassing es
+  pub takes : TakesNone es
   pub writes : (n : ℕ) → n < w.control.issued + 1 → (histories u.events).write n ≡ (histories w.events).write n
   pub issued : (n : ℕ) → n < w.control.issued + 1 → n < u.control.issued + 1
   pub waits : (v t : ℕ) → waiting u.control.pending v t ≡ waiting w.control.pending v t
@@ -246,13 +247,13 @@ module _ (v q : ℕ) where
     unchanged u es x =
         let there_v : is_volume w.control v ≡ true = (rows.parts.primary q v st.takes).defined in
         let there_q : is_volume w.control q ≡ true = (rows.parts.secondary v q st.to).defined in
-        let deaf : Deaf q g es = deaf-silent q g es (passing-silent es x.silent) in
+        let hears : Deaf q g es = of-all (Of takes_none) (Deaf q g) (deaf takes_none refl refl q g) es x.takes in
         record {
           events = x.events;
           writes = x.writes;
           issued = x.issued;
-          last = deaf.last;
-          acks = deaf.acks;
+          last = hears.last;
+          acks = hears.acks;
           waits = x.waits v;
           size = ap (λ (y : Volume). y.tracks) (x.volume v there_v);
           primary = λ t lt. x.contents v there_v t;
@@ -267,7 +268,7 @@ module _ (v q : ℕ) where
 
     unchanged-list : (u : World) (es : List Event) → Unchanged w u es → ListGrows v w u es
     unchanged-list u es x = record {
-      list = λ t. x.lists v (rows.parts.primary q v st.takes).defined t ∙ sym (append-nil (lists w.events v t)) ∙ ap (λ ns. lists w.events v t ++ ns) (sym (silent-none (histories u.events).write v t es (passing-silent es x.silent)));
+      list = λ t. x.lists v (rows.parts.primary q v st.takes).defined t ∙ sym (append-nil (lists w.events v t)) ∙ ap (λ ns. lists w.events v t ++ ns) (sym (acked-none (histories u.events).write v t es x.takes));
       writes = x.acked;
     }
 
