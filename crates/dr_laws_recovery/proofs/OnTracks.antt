@@ -1,17 +1,13 @@
 -- Each write of a list was issued for the track whose list it is, at every place of a run's journal.
-use Rattle.std.proofs.Common.{ℕ, ◌≡◌, ◌≢◌, ◌<◌, ◌+◌, ◌⊎◌, inl, inr, refl, ap, sym, ◌∙◌, subst, append_assoc, arith, Bool, true, false, cond, ◌||◌, List, [], ◌∷◌, ◌++◌, map, Option, Some, None}
+use Rattle.std.proofs.Common.{ℕ, ◌≡◌, ◌≢◌, ◌<◌, ◌+◌, ◌⊎◌, inl, inr, refl, ap, sym, ◌∙◌, subst, append_assoc, arith, Bool, true, false, List, [], ◌∷◌, ◌++◌, Option}
 use Rattle.std.specs.List.{list_any}
 use Rattle.std.proofs.lemmas.List.{append-nil}
 use Rattle.std.proofs.lemmas.Bool.{or_parts}
-use Rattle.std.proofs.lemmas.List.Folds.{list_any-append}
 use Rattle.dr_model.specs.declared.event.Event.{Event}
-use Rattle.dr_model.specs.declared.event.Event.TheVariants.{Issue, Ack, Mirrored, Blanked, Restored, Stopped, Suspended, Frozen, Thawed, Recovered, Begin, Cut}
+use Rattle.dr_model.specs.declared.event.Event.TheVariants.{Issue, Ack, Mirrored, Stopped, Frozen, Thawed, Recovered, Begin, Cut}
 use Rattle.dr_model.specs.Histories.{Write, Histories, joined, after_event, histories}
-use Rattle.dr_model.specs.Layout.{Tracks}
-use Rattle.dr_model.specs.Relations.{is_bare, in_order, rest, turned, given_up}
-use Rattle.dr_model.specs.Pairs.{is_suspended}
-use Rattle.dr_model.specs.Control.{Fuse, Volume, World, nothing}
-use Rattle.dr_model.specs.Moves.{Move, Land, Overwrite, Withdraw, Reverse, Release, Suspend, LandBoth, Hold, target, told, told_in_stop, told_blank, told_restored, landed, Lift, told_freed}
+use Rattle.dr_model.specs.Control.{Fuse, World, nothing}
+use Rattle.dr_model.specs.Moves.{Move, Hold, target, told, told_in_stop, landed}
 use Rattle.dr_model.specs.Carry.{Act, Make, OpenAttempt, Redo, Acknowledge, Drop, EndFreeze, EndThaw, EndRecovery}
 use Rattle.dr_model.specs.Groups.{In}
 use Rattle.dr_model.specs.Laws.{Below, Sound}
