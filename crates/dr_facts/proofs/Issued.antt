@@ -1,7 +1,6 @@
 -- No act of a step issues a write: however entries end, the writes that the journal tells of are as before.
 use Rattle.std.proofs.Common.{ℕ, ◌≡◌, inl, inr, List, [], ◌∷◌, ◌++◌, refl, ap, ◌∙◌, Bool, true, false, not, cond, Option, Some, None}
 use Rattle.std.specs.List.{fold}
-use Rattle.std.proofs.lemmas.List.Sums.{fold-append}
 use Rattle.dr_ids.specs.declared.refusal.Refusal.{Refusal}
 use Rattle.dr_model.specs.declared.event.Event.{Event}
 use Rattle.dr_model.specs.declared.event.Event.TheVariants.{Issue, Stopped, Ack, Frozen, Thawed, Recovered}
@@ -11,7 +10,7 @@ use Rattle.dr_model.specs.Control.{Volume, World}
 use Rattle.dr_model.specs.Moves.{Move, Carried, Hold, target, next_fields, carried, told, told_in_stop, landed, keeps_staged}
 use Rattle.dr_model.specs.Carry.{Act, Make, OpenAttempt, Redo, Acknowledge, Drop, EndFreeze, EndThaw, EndRecovery, Next, Pass, Do, End, Entry, Turn, Ended, ended, update_keeping, spent, off, pass, turn, finished, cut_short, redo, redo_writes, act, equal, attempt_begun}
 use Rattle.dr_model.specs.ReadStops.{GoesOff, IsEnd, EndsTurn, EndsNext, Ends}
-use Rattle.dr_facts.proofs.Emits.{Of, Lists, by_moves, all-told, all-stop}
+use Rattle.dr_facts.proofs.Emits.{Of, Lists, by_moves, emitted, all-told, stop-onto}
 use Rattle.dr_model.proofs.CarryLemmas.{update-cases}
 use Rattle.dr_model.proofs.Images.{histories-append}
 
@@ -28,8 +27,8 @@ writes-stay = record { none = λ h. refl; more = λ e es by behind h. behind (af
 pub told-writes : (h : Histories) (m : Move) (u : Volume) → (after h (told m u)).write ≡ h.write
 told-writes h m u = all-told _ writes-stay m u h
 
-pub stop-writes : (h : Histories) (m : Move) (u : Volume) → (after h (told_in_stop m u)).write ≡ h.write
-stop-writes h m u = all-stop _ writes-stay m u h
+pub stop-writes : (h : Histories) (m : Move) (u : Volume) (s n : ℕ) → (after h (told_in_stop m u ++ Stopped s n ∷ [])).write ≡ h.write
+stop-writes h m u s n = stop-onto by_moves _ writes-stay m u (Stopped s n ∷ []) (emitted m) (λ h. refl) h
 
 -- the writes of one world are those of another
 abbrev pub Alike : World → World → Type 0
@@ -44,8 +43,7 @@ update-events keeps w v f c = update-cases keeps w v f c (λ e. e.world.events �
 
 cut-writes : (w x : World) (m : Move) (u : Volume) → x.events ≡ w.events → (done : Bool) → Alike (cut_short x m u done) w
 cut-writes w x m u same true =
-    with-told x (told_in_stop m u ++ Stopped u.server (landed m) ∷ []) (ap (λ (y : Histories). y.write) (fold-append after_event (histories x.events) (told_in_stop m u) (Stopped u.server (landed m) ∷ [])) ∙ stop-writes (histories x.events) m u)
-    ∙ ap (λ es. (histories es).write) same
+    with-told x (told_in_stop m u ++ Stopped u.server (landed m) ∷ []) (stop-writes (histories x.events) m u u.server (landed m)) ∙ ap (λ es. (histories es).write) same
 cut-writes w x m u same false = with-told x (Stopped u.server 0 ∷ []) refl ∙ ap (λ es. (histories es).write) same
 
 turn_by-writes : (w x : World) (m : Move) (u : Volume) → x.events ≡ w.events → (on stopped done : Bool)

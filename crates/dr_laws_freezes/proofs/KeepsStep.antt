@@ -24,7 +24,8 @@ use Rattle.dr_facts.proofs.Tables.{IsOrNot, at_part}
 use Rattle.dr_laws_sound.proofs.Turns.{done, done_in_stop}
 use Rattle.dr_laws_sound.proofs.RowsAfter.{calm}
 use Rattle.dr_laws_sound.proofs.Due.{waiting-marked_else, waiting-marked_here}
-use Rattle.dr_facts.proofs.Issued.{told-writes, stop-writes, with-told}
+use Rattle.dr_facts.proofs.Issued.{told-writes, with-told}
+use Rattle.dr_laws_sound.proofs.Unissued.{stopped-writes}
 use Rattle.dr_laws_freezes.proofs.WindowTracks.{unacked, still-waits, Stays, Holds, Window, Quiet, window-quiet, unacked-told}
 use Rattle.dr_laws_freezes.proofs.Fair.{MayCome, Fair, tag_after}
 use Rattle.dr_facts.proofs.Emits.{Of, of-all}
@@ -168,31 +169,26 @@ module _ (v q : ℕ) where
     abbrev stop-told : Move → List Event
     stop-told m = told_in_stop m (w.control.volume (target m)) ++ Stopped (w.control.volume (target m)).server (landed m) ∷ []
 
-    stop-same : (m : Move) → (histories (w.events ++ stop-told m)).write ≡ write
-    stop-same m =
-        let u : Volume = w.control.volume (target m) in
-        with-told w (stop-told m) (ap (λ (h : Histories). h.write) (fold-append after_event (histories w.events) (told_in_stop m u) (Stopped u.server (landed m) ∷ [])) ∙ stop-writes (histories w.events) m u)
-
     stop-quiet : (m : Move) (f : Option Fuse) → MayCome w m → Fair tag w m → Other m → Stays v q (done_in_stop w m f) → Window v q None (fold (later_mirrored q) g (stop-told m)) (done_in_stop w m f)
     stop-quiet m f may fair else st2 =
         let u : Volume = w.control.volume (target m) in
         window-quiet v q w (done_in_stop w m f) (stop-told m) tag g win
-        (quiet-changed v q w rows st tag g win m may fair else (done_in_stop w m f).control.on (done_in_stop w m f).control.fuse (settled_in_stop m w.control.pending) (stop-told m) (stop-same m) (deaf-stop v q w rows st tag g win m may fair else u u.server (landed m))
+        (quiet-changed v q w rows st tag g win m may fair else (done_in_stop w m f).control.on (done_in_stop w m f).control.fuse (settled_in_stop m w.control.pending) (stop-told m) (stopped-writes w m) (deaf-stop v q w rows st tag g win m may fair else u u.server (landed m))
         (waits-stop v q w rows st tag g win m may fair else) st2) None (λ k h. absurd cc)
 
     stops-by : (m : Move) (f : Option Fuse) → MayCome w m → Fair tag w m → Stays v q (done_in_stop w m f) → Kind m → Window v q None (fold (later_mirrored q) g (stop-told m)) (done_in_stop w m f)
     stops-by _ f may fair st2 (Own t n) =
         let m : Move = Mirror q t v n in
         subst (λ g. Window v q None g (done_in_stop w m f)) (sym (q-mirrored n))
-        (window-mirrored v q w rows st tag g win t n may (fair.0 (locked v q w rows st tag g win)) fair.1 (done_in_stop w m f).control.on (done_in_stop w m f).control.fuse (stop-told m) (stop-same m) refl None (λ k h. absurd cc))
+        (window-mirrored v q w rows st tag g win t n may (fair.0 (locked v q w rows st tag g win)) fair.1 (done_in_stop w m f).control.on (done_in_stop w m f).control.fuse (stop-told m) (stopped-writes w m) refl None (λ k h. absurd cc))
     stops-by _ f may fair st2 (Lands t n) =
         let m : Move = LandBoth n v t in
         let last : g ≡ Some n = win.goes_on n fair.0 may.ready.volume in
         let ps : List Pending = w.control.pending in
         let here : waiting (marked n ps) v t ≡ n ∷ [] = waiting-marked_here n v t ps may.ready.coming (calm w v may.ready.idle t) ∙ may.ready.one in
-        let stored : unacked (w.events ++ stop-told m) t (Some n) ≡ n ∷ [] = on-track (w.events ++ stop-told m) t n (ap (λ (g : ℕ → Write). (g n).track) (stop-same m) ∙ may.ready.track) (still-unacked w.events (stop-told m) n fair.1 refl) in
+        let stored : unacked (w.events ++ stop-told m) t (Some n) ≡ n ∷ [] = on-track (w.events ++ stop-told m) t n (ap (λ (g : ℕ → Write). (g n).track) (stopped-writes w m) ∙ may.ready.track) (still-unacked w.events (stop-told m) n fair.1 refl) in
         subst (λ g. Window v q None g (done_in_stop w m f)) (sym last)
-        (window-landed v q w rows st tag g win t n may last (done_in_stop w m f).control.on (done_in_stop w m f).control.fuse (settled_in_stop m ps) (stop-told m) (stop-same m)
+        (window-landed v q w rows st tag g win t n may last (done_in_stop w m f).control.on (done_in_stop w m f).control.fuse (settled_in_stop m ps) (stop-told m) (stopped-writes w m)
         (stored ∙ sym here) (λ j ne. waiting-marked_else n v t v j ps (inr ne) may.ready.coming))
     stops-by _ f may fair st2 (Plain m else less) = stop-quiet m f may fair else st2
     stops-by _ f may fair st2 (Mirrors x t u n ne other) = stop-quiet (Mirror x t u n) f may fair ne st2

@@ -8,7 +8,6 @@ use Rattle.std.specs.List.{fold, list_any, range_with_len}
 use Rattle.std.specs.FinSet.{contains}
 use Rattle.dr_logic.specs.Bytes.{zeros}
 use Rattle.dr_logic.specs.Tables.{at}
-use Rattle.dr_model.specs.declared.event.Event.{Event}
 use Rattle.dr_model.specs.declared.event.Event.TheVariants.{Ack, Mirrored, Set, Back, Blanked, Restored}
 use Rattle.dr_model.specs.Contents.{image, with_write}
 use Rattle.dr_model.specs.Layout.{Tracks}
@@ -129,11 +128,6 @@ module _ (h : Histories) (ps : List Pending) where
 
   pub due-same : (v u q : ℕ) → old u q ≡ at old v (old v) u q
   due-same v u q = sym (ap (λ f. f q) (at_id old v u))
-
-  -- an event that no list hears of may be told
-  pub due-told : (v : ℕ) (e : Event) → ((h : Histories) → after_event h e ≡ h) → (none : Bool) (u q : ℕ) → due_by (fold after_event h (cond none [] (e ∷ []))) ps u q ≡ at old v (old v) u q
-  due-told v e unheard true u q = due-same v u q
-  due-told v e unheard false u q = ap (λ (h : Histories). due_by h ps u q) (unheard h) ∙ due-same v u q
 
   -- other lists of one volume, and other writes that wait on it
   pub due-at : (v : ℕ) (l d : ℕ → List ℕ) (more : ℕ → ℕ → List ℕ) (u q : ℕ) → image h.write (l q ++ more v q) ≡ d q → (u ≢ v → more u q ≡ waiting ps u q)
