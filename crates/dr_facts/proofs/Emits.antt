@@ -1,6 +1,6 @@
 -- Which kinds of events each kind of move, and each act, emits: one row a kind. What holds of each event of these kinds holds of all that
 -- a move tells, also where the server stops in it.
-use Rattle.std.proofs.Common.{ℕ, ◌≡◌, refl, ap, ◌∙◌, sym, subst, Bool, true, false, cond, ◌||◌, ◌&&◌, List, [], ◌∷◌, ◌++◌, map, Option, Some, None}
+use Rattle.std.proofs.Common.{ℕ, ◌≡◌, refl, ap, ◌∙◌, sym, subst, Bool, true, false, cond, ◌||◌, List, [], ◌∷◌, ◌++◌, map, Some, None}
 use Rattle.std.proofs.lemmas.List.{append-nil, append_assoc}
 use Rattle.std.specs.List.{list_any, flat_map, fold}
 use Rattle.dr_model.specs.declared.event.Event.{Event}
@@ -236,3 +236,44 @@ module _ (p : Tag → Bool) (L : List Event → Type 0) (lists : Lists (Of p) L)
 
   pub each-stop : (m : Move) (u : Volume) → all_tags p (emits m) ≡ true → L (told_in_stop m u)
   each-stop m u h = subst L (append-nil (told_in_stop m u)) (stop-onto m u [] h lists.none)
+
+-- the end of a restore that a reversal tells, where it takes no volume out of a session
+pub each-ended : (p : Tag → Bool) (L : List Event → Type 0) → Lists (Of p) L → (v : ℕ) (u : Volume) → all_tags p (Blanks ∷ Restores ∷ []) ≡ true → L (told (Reverse v None) u)
+each-ended p L lists v u h = subst L (append-nil (told (Reverse v None) u)) (ended p L lists v u.fields.source u.tracks (turned u.fields).own [] h lists.none)
+
+-- ---- what any move emits
+
+-- kinds of events that some move emits
+abbrev pub by_moves : Tag → Bool
+by_moves Defines = false
+by_moves Issues = false
+by_moves Freezes = false
+by_moves Thaws = false
+by_moves Recovers = false
+by_moves Stops = false
+by_moves Answers = false
+by_moves Others = false
+by_moves k = true
+
+pub emitted : (m : Move) → all_tags by_moves (emits m) ≡ true
+emitted (Land n v t) = refl
+emitted m = refl
+
+module _ (L : List Event → Type 0) (lists : Lists (Of by_moves) L) where
+  pub all-told : (m : Move) (u : Volume) → L (told m u)
+  all-told m u = each-told by_moves L lists m u (emitted m)
+
+  pub all-stop : (m : Move) (u : Volume) → L (told_in_stop m u)
+  all-stop m u = each-stop by_moves L lists m u (emitted m)
+
+-- ---- a stop acknowledges nothing
+
+abbrev pub acks_none : Tag → Bool
+acks_none Acks = false
+acks_none k = true
+
+pub unacked-stop : (L : List Event → Type 0) → Lists (Of acks_none) L → (m : Move) (u : Volume) (es : List Event) → L es → L (told_in_stop m u ++ es)
+unacked-stop L lists (Land n v t) u es behind = behind
+unacked-stop L lists (Overwrite n v t) u es behind = behind
+unacked-stop L lists (LandBoth n v t) u es behind = behind
+unacked-stop L lists m u es behind = told-onto acks_none L lists m u es refl behind

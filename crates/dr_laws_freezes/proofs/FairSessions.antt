@@ -20,10 +20,9 @@ use Rattle.dr_model.specs.MessagePlans.{send_order}
 use Rattle.dr_model.specs.Plans.{Plan, same, none_follow, tables_plan}
 use Rattle.dr_model.specs.Runs.{begun}
 use Rattle.dr_model.specs.Laws.{Sound, AllPending}
-use Rattle.std.specs.List.{list_any}
 use Rattle.dr_model.proofs.Images.{histories-append}
-use Rattle.dr_laws_freezes.specs.Windows.{is_ack}
-use Rattle.dr_laws_freezes.proofs.KeepsWindow.{AllPassing}
+use Rattle.dr_laws_freezes.proofs.KeepsWindow.{takes_none, TakesNone, unacked}
+use Rattle.dr_facts.proofs.Emits.{Of, of-all}
 use Rattle.dr_laws_freezes.proofs.Fair.{Unacked}
 use Rattle.dr_model.specs.Moves.{Hold as HoldMove, Free, Seal as SealMove, Finish as FinishMove, RaiseAttempt, RaiseFloor, Flash as FlashMove, Commit as CommitMove, Revert as RevertMove, TakeOver}
 use Rattle.dr_model.specs.Layout.{is_part}
@@ -73,21 +72,21 @@ module _ (w : World) (k : Between w) where
   unfolding carry
   sent-sound i b server o holds = along.plan-keeps Sound RowsAt MayDo keeps-sound (λ v s. s.rows) w (send_order i b server (Some o)) holds
 
-  sent-fair : (i : ℕ) (b : Bool) (server : ℕ) (o : Order) → let p : Plan = send_order i b server (Some o) in Sound (begun w p) → AllPassing p.told → histories (w.events ++ p.told) ≡ histories w.events → ((n : ℕ) → list_any (is_ack n) p.told ≡ false) → Fair w p
-  sent-fair i b server o sound passing lists acks =
+  sent-fair : (i : ℕ) (b : Bool) (server : ℕ) (o : Order) → let p : Plan = send_order i b server (Some o) in Sound (begun w p) → TakesNone p.told → histories (w.events ++ p.told) ≡ histories w.events → Fair w p
+  sent-fair i b server o sound takes lists =
       let p : Plan = send_order i b server (Some o) in
       let u : World = begun w p in
-      let g : Between u = record { sound = sound; tidy = tidy-same w u refl refl (λ j h. h) (fresh-told w u p.told refl refl k.tidy.fresh.unacked acks k.tidy.fresh) k.tidy } in
+      let g : Between u = record { sound = sound; tidy = tidy-same w u refl refl (λ j h. h) (fresh-told w u p.told refl refl k.tidy.fresh.unacked (λ n. of-all (Of takes_none) _ (unacked takes_none refl n) p.told takes) k.tidy.fresh) k.tidy } in
       record {
         told = p.told;
-        begins = told-unchanged w u p.told refl passing lists refl refl refl refl (λ v t. refl);
+        begins = told-unchanged w u p.told refl takes lists refl refl refl refl (λ v t. refl);
         entries = fairly-nil (PlanFin Between rows-between answers-between p) None u (good-none u g.sound.rows) g;
         last = retabled-none;
       }
 
   pub fair-sent : (i : ℕ) (b : Bool) (server : ℕ) (o : Order) → StepHolds w (send_order i b server (Some o)) → Fair w (send_order i b server (Some o))
-  fair-sent i true server o holds = sent-fair i true server o (sent-sound i true server o holds) (tt, tt) (histories-append w.events (Begin i o.number ∷ [])) (λ n. refl)
-  fair-sent i false server o holds = sent-fair i false server o (sent-sound i false server o holds) tt (ap histories (append-nil w.events)) (λ n. refl)
+  fair-sent i true server o holds = sent-fair i true server o (sent-sound i true server o holds) (refl, tt) (histories-append w.events (Begin i o.number ∷ []))
+  fair-sent i false server o holds = sent-fair i false server o (sent-sound i false server o holds) tt (ap histories (append-nil w.events))
 
   module _ (entries : List Entry) (last : Control → Control) (says : Control → Said) (leaves : Leaving (leaving entries last says)) (orders : Orders w (leaving entries last says)) where
     abbrev q : Plan

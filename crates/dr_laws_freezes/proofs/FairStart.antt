@@ -193,7 +193,7 @@ module _ (s : ℕ) where
         let u : World = begun w0 p in
         record {
           told = Started s ∷ [];
-          begins = told-unchanged w0 u (Started s ∷ []) refl (tt, tt) (histories-append w0.events (Started s ∷ [])) refl refl refl refl (λ v t. refl);
+          begins = told-unchanged w0 u (Started s ∷ []) refl (refl, tt) (histories-append w0.events (Started s ∷ [])) refl refl refl refl (λ v t. refl);
           entries = volumes-go w0.control.volumes u (record {
             inner = starts.begins s w0 k.sound;
             clean = λ v there runs none. elim (eqb_tells (servers w0.control v) s) [

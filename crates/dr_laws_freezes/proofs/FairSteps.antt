@@ -21,7 +21,7 @@ use Rattle.dr_model.specs.Runs.{Task}
 use Rattle.dr_laws_freezes.specs.Moments.{moments_from}
 use Rattle.dr_laws_freezes.specs.Windows.{FreezeCut}
 use Rattle.dr_laws_closed.proofs.Regroups.{regroups-same}
-use Rattle.dr_laws_sound.proofs.Cases.{Case, Says, DefinesServer, DefinesVolume, SetsLink, Issues, Writes, Applies, Lists, Shows, Stops, Arms, Starts, MakesFlash, RemovesFlash, ResyncsFlash, ReversesFlash, Copies, Destages, MakesPath, RemovesPath, MakesPair, RemovesPair, PausesPair, ResumesPair, FailsOver, FailsBack, Compares, Drains, Expires, Freezes, Unfreezes, MakesSession, RemovesSession, MakesMirror, PausesMirror, RemovesMirror, Aborts, AddsMember, RemovesMember, Exchanges, Sends, Delivers, TakesReply, Loses, Recovers, Settles, added, expelled, aborted, ordered, Releases}
+use Rattle.dr_laws_sound.proofs.Cases.{Case, Says, DefinesServer, DefinesVolume, SetsLink, Issues, Writes, Applies, Lists, Shows, Stops, Arms, Starts, MakesFlash, RemovesFlash, ResyncsFlash, ReversesFlash, Copies, Destages, MakesPath, RemovesPath, MakesPair, RemovesPair, PausesPair, ResumesPair, FailsOver, FailsBack, Compares, Drains, Expires, Freezes, Unfreezes, MakesSession, RemovesSession, MakesMirror, PausesMirror, RemovesMirror, Aborts, AddsMember, RemovesMember, Exchanges, Sends, Delivers, TakesReply, Loses, Recovers, Settles, added, expelled, ordered, Releases}
 use Rattle.dr_laws_sound.proofs.Steps.{sound-nothing, case-holds, ending-holds}
 use Rattle.dr_laws_sound.proofs.FitsMembers.{orders-added, orders-expelled}
 use Rattle.dr_laws_sound.proofs.FitsExchanges.{orders-ordered}

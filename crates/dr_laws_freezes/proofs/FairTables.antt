@@ -27,9 +27,10 @@ use Rattle.dr_laws_sound.proofs.Steps.{case-holds}
 use Rattle.dr_laws_freezes.proofs.Fair.{Unacked}
 use Rattle.dr_model.specs.declared.said.Addition.TheVariants.{Alone}
 use Rattle.dr_model.specs.declared.said.Said.TheVariants.{Done}
-use Rattle.dr_laws_freezes.proofs.KeepsWindow.{Passing, AllPassing}
+use Rattle.dr_laws_freezes.proofs.KeepsWindow.{takes_none, TakesNone, unacked}
+use Rattle.dr_facts.proofs.Emits.{Of, of-all}
 use Rattle.dr_model.specs.Listings.{lists as listing_plan}
-use Rattle.dr_laws_sound.proofs.Listed.{IsLine, AllLines, each-line, all-lines, lines-lists}
+use Rattle.dr_laws_sound.proofs.Listed.{AllLines, each-line, all-lines, lines-lists}
 use Rattle.dr_laws_freezes.proofs.KeepsStep.{Unchanged}
 use Rattle.dr_laws_freezes.proofs.KeepsMirror.{still-unacked}
 use Rattle.dr_laws_freezes.proofs.Tidy.{Clean, Free, Fresh, Tidy, tidy-same, fresh-told}
@@ -64,13 +65,13 @@ not-new (y ∷ ys) x v ne h = by (nat_eq x y) (not-new ys x v ne) h
 
 -- an event that no list hears of
 module _ (w : World) (k : Between w) where
-  fair-told : (first : Control → Control) (told : List Event) (a : Said) → StepHolds w (tables_plan first told a) → AllPassing told → histories (w.events ++ told) ≡ histories w.events → ((n : ℕ) → list_any (is_ack n) told ≡ false) → (first w.control).volume ≡ w.control.volume → (first w.control).volumes ≡ w.control.volumes
+  fair-told : (first : Control → Control) (told : List Event) (a : Said) → StepHolds w (tables_plan first told a) → TakesNone told → histories (w.events ++ told) ≡ histories w.events → (first w.control).volume ≡ w.control.volume → (first w.control).volumes ≡ w.control.volumes
       → (first w.control).issued ≡ w.control.issued → (first w.control).pending ≡ w.control.pending → ((j : ℕ) → (first w.control).on j ≡ true → w.control.on j ≡ true) → Fair w (tables_plan first told a)
-  fair-told first told a holds silent lists acks volume volumes issued pending on =
+  fair-told first told a holds takes lists volume volumes issued pending on =
       let u : World = begun w (tables_plan first told a) in
       fair-tables w first told a holds
-      (told-unchanged w u told refl silent lists volume refl issued volumes (λ v t. ap (λ ps. waiting ps v t) pending))
-      (tidy-same w u volume volumes on (fresh-told w u told refl issued (subst (AllPending (λ p. Unacked w p.w)) (sym pending) k.tidy.fresh.unacked) acks k.tidy.fresh) k.tidy)
+      (told-unchanged w u told refl takes lists volume refl issued volumes (λ v t. ap (λ ps. waiting ps v t) pending))
+      (tidy-same w u volume volumes on (fresh-told w u told refl issued (subst (AllPending (λ p. Unacked w p.w)) (sym pending) k.tidy.fresh.unacked) (λ n. of-all (Of takes_none) _ (unacked takes_none refl n) told takes) k.tidy.fresh) k.tidy)
 
   module _ (line : ℕ) where
     abbrev holds : (asked : Result Step ℕ) (p : Plan) → Case w.control w.events line asked p → StepHolds w p
@@ -80,43 +81,37 @@ module _ (w : World) (k : Between w) where
     none-told = ap histories (append-nil w.events)
 
     pub fair-says : (a : Said) → Fair w (only_says a)
-    fair-says a = fair-told same [] a (holds _ (Says a)) tt none-told (λ n. refl) refl refl refl refl (λ j h. h)
+    fair-says a = fair-told same [] a (holds _ (Says a)) tt none-told refl refl refl refl (λ j h. h)
 
     pub fair-defines : (name : Name) → (free : server_refusal w.control (name_bytes name) ≡ None) → Fair w (server_done w.control name)
     fair-defines name free = let e : Event = ServerDefined (length w.control.servers) name.len name.bytes in
-        fair-told _ (e ∷ []) _ (holds _ (DefinesServer name free)) (tt, tt) (histories-append w.events (e ∷ [])) (λ n. refl) refl refl refl refl (λ j h. h)
+        fair-told _ (e ∷ []) _ (holds _ (DefinesServer name free)) (refl, tt) (histories-append w.events (e ∷ [])) refl refl refl refl (λ j h. h)
 
     pub fair-links : (a b : ℕ) (up : Bool) → Fair w (link_done a b up)
-    fair-links a b up = fair-told _ [] _ (holds _ (SetsLink a b up)) tt none-told (λ n. refl) refl refl refl refl (λ j h. h)
+    fair-links a b up = fair-told _ [] _ (holds _ (SetsLink a b up)) tt none-told refl refl refl refl (λ j h. h)
 
-    lines-silent : (told : List Event) → AllLines told → AllPassing told
-    lines-silent = all-lines AllPassing tt (λ e es l rest. (each-line Passing (λ line v u state kind k. tt) (λ line s t sequence previous state flags own. tt) (λ line s a b c state. tt) (λ line s server phase n paused. tt) tt (λ v server tracks. tt) (λ v index bytes. tt) tt e l, rest))
-
-    lines-unacked : (n : ℕ) (told : List Event) → AllLines told → list_any (is_ack n) told ≡ false
-    lines-unacked n = all-lines (λ es. list_any (is_ack n) es ≡ false) refl (λ e es l rest. ap (λ b. b || list_any (is_ack n) es) (none e l) ∙ rest)
-      where
-        none : (e : Event) → IsLine e → is_ack n e ≡ false
-        none = each-line (λ e. is_ack n e ≡ false) (λ line v u state kind k. refl) (λ line s t sequence previous state flags own. refl) (λ line s a b c state. refl) (λ line s server phase n paused. refl) refl (λ v server tracks. refl) (λ v index bytes. refl) refl
+    lines-take : (told : List Event) → AllLines told → TakesNone told
+    lines-take = all-lines TakesNone tt (λ e es l rest. (each-line (Of takes_none) (λ line v u state kind k. refl) (λ line s t sequence previous state flags own. refl) (λ line s a b c state. refl) (λ line s server phase n paused. refl) refl (λ v server tracks. refl) (λ v index bytes. refl) refl e l, rest))
 
     pub fair-lists : (told : List Event) → AllLines told → StepHolds w (listing_plan told) → Fair w (listing_plan told)
-    fair-lists told ls holds = fair-told same told (Done Alone) holds (lines-silent told ls) (lines-lists w.events told ls) (λ n. lines-unacked n told ls) refl refl refl refl (λ j h. h)
+    fair-lists told ls holds = fair-told same told (Done Alone) holds (lines-take told ls) (lines-lists w.events told ls) refl refl refl refl (λ j h. h)
 
     pub fair-shows : (v t : ℕ) → (there : show_refusal w.control v t ≡ None) → Fair w (show_done w.events line v t)
-    fair-shows v t there = let e : Event = Shown line v t (image_at w.events v t) in fair-told same (e ∷ []) _ (holds _ (Shows v t there)) (tt, tt) (histories-append w.events (e ∷ [])) (λ n. refl) refl refl refl refl (λ j h. h)
+    fair-shows v t there = let e : Event = Shown line v t (image_at w.events v t) in fair-told same (e ∷ []) _ (holds _ (Shows v t there)) (refl, tt) (histories-append w.events (e ∷ [])) refl refl refl refl (λ j h. h)
 
     pub fair-stops : (s : ℕ) → (on : w.control.on s ≡ true) → Fair w (stop_done s)
     fair-stops s on =
-        fair-told _ (Stopped s 0 ∷ []) _ (holds _ (Stops s on)) (tt, tt) (histories-append w.events (Stopped s 0 ∷ [])) (λ n. refl) refl refl refl refl
+        fair-told _ (Stopped s 0 ∷ []) _ (holds _ (Stops s on)) (refl, tt) (histories-append w.events (Stopped s 0 ∷ [])) refl refl refl refl
         (λ j h. at_cases (λ j b. b ≡ true → w.control.on j ≡ true) w.control.on s false (λ h. absurd cc) (λ j ne h. h) j h)
 
     pub fair-arms : (writes : ℕ) (torn : TornWord) (s : ℕ) → Fair w (arm_on writes torn s)
-    fair-arms writes torn s = fair-told _ [] _ (holds _ (Arms writes torn s)) tt none-told (λ n. refl) refl refl refl refl (λ j h. h)
+    fair-arms writes torn s = fair-told _ [] _ (holds _ (Arms writes torn s)) tt none-told refl refl refl refl (λ j h. h)
 
     pub fair-paths : (src tgt : ℕ) (group : Bool) → Fair w (make_path_done src tgt group)
-    fair-paths src tgt group = fair-told _ [] _ (holds _ (MakesPath src tgt group)) tt none-told (λ n. refl) refl refl refl refl (λ j h. h)
+    fair-paths src tgt group = fair-told _ [] _ (holds _ (MakesPath src tgt group)) tt none-told refl refl refl refl (λ j h. h)
 
     pub fair-unpaths : (src tgt : ℕ) → Fair w (remove_path_done src tgt)
-    fair-unpaths src tgt = fair-told _ [] _ (holds _ (RemovesPath src tgt)) tt none-told (λ n. refl) refl refl refl refl (λ j h. h)
+    fair-unpaths src tgt = fair-told _ [] _ (holds _ (RemovesPath src tgt)) tt none-told refl refl refl refl (λ j h. h)
 
     -- a new volume is no primary
     pub fair-adds : (v s tracks : ℕ) → (here : s < length w.control.servers) → (free : volume_refusal w.control v s tracks ≡ None) → Fair w (volume_done v s tracks)
@@ -127,7 +122,7 @@ module _ (w : World) (k : Between w) where
         fair-tables w _ (e ∷ []) _ (holds _ (DefinesVolume v s tracks here free))
         (record {
           events = refl;
-          silent = (tt, tt);
+          takes = (refl, tt);
           writes = λ n lt. ap (λ (h : Histories). h.write n) (histories-append w.events (e ∷ []));
           issued = λ n lt. lt;
           waits = λ x t. refl;
@@ -166,7 +161,7 @@ module _ (w : World) (tidy : Tidy w) (v t offset len : ℕ) (bytes : List ℕ) w
   pub issued-unchanged : Unchanged w issued (e ∷ [])
   issued-unchanged = record {
     events = refl;
-    silent = (tt, tt);
+    takes = (refl, tt);
     writes = λ n lt. ap (λ (h : Histories). h.write n) (histories-append w.events (e ∷ [])) ∙ at_other (histories w.events).write (w.control.issued + 1) _ n (λ is. absurd (let h : n ≡ w.control.issued + 1 = is in omega arith));
     issued = λ n lt. omega arith;
     waits = λ x q. waiting-new w.control.pending _ x q refl;

@@ -1,18 +1,17 @@
 -- Where a step is refused because a server stopped, its acts told that stop, and the other way round. That is so where no entry
 -- ends a plan with such a refusal.
-use Rattle.std.proofs.Common.{ℕ, ◌≡◌, List, [], ◌∷◌, ◌++◌, refl, ap, ◌∙◌, sym, append_assoc, Bool, true, false, cond, map, Option, Some, None}
+use Rattle.std.proofs.Common.{ℕ, ◌≡◌, List, [], ◌∷◌, ◌++◌, refl, ap, ◌∙◌, sym, append_assoc, Bool, true, false, Option, Some, None}
 use Rattle.std.proofs.lemmas.List.{append-nil}
 use Rattle.std.specs.Option.{option_or}
 use Rattle.dr_ids.specs.declared.refusal.Refusal.{Refusal}
 use Rattle.dr_ids.specs.declared.refusal.Refusal.TheVariants.{NotBuilt, Stopped as StoppedIn}
 use Rattle.dr_model.specs.declared.event.Event.{Event}
-use Rattle.dr_model.specs.declared.event.Event.TheVariants.{Ack, Blanked, Restored, Stopped, Suspended, Frozen, Thawed, Recovered, Begin, Cut}
+use Rattle.dr_model.specs.declared.event.Event.TheVariants.{Ack, Stopped, Frozen, Thawed, Recovered}
 use Rattle.dr_model.specs.Control.{Control, Fuse, Volume as VolumeRow, World}
-use Rattle.dr_model.specs.Layout.{Tracks}
-use Rattle.dr_model.specs.Relations.{is_bare, in_order, rest}
-use Rattle.dr_model.specs.Pairs.{is_suspended}
-use Rattle.dr_model.specs.Moves.{Move, Land, Overwrite, Keep, Note, Relate, Withdraw, Fetch, Resync, Reverse, Restore, Release, Store, Strike, Suspend, MakeSecondary, MakePrimary, DropPrimary, DropSecondary, Follow, Resume, TakeOver, FallBack, Yield, Unsync, Mirror, LandBoth, Thaw, Lift, Restart, Hold, Free, Seal, Finish, RaiseAttempt, RaiseFloor, Leave, Flash, Commit, Revert, told_blank, told_restored, told, told_in_stop, landed, target, FlashHold, FlashFree, told_freed, Unstage}
+use Rattle.dr_model.specs.Relations.{rest}
+use Rattle.dr_model.specs.Moves.{Move, Hold, told, told_in_stop, landed, target}
 use Rattle.dr_model.specs.Carry.{Act, Make, OpenAttempt, Redo, Acknowledge, Drop, EndFreeze, EndThaw, EndRecovery, act, Turn, Next, Pass, Do, End, Entry, Outcome, carry, continue, go}
+use Rattle.dr_facts.proofs.Emits.{Of, Lists, by_moves, all-told, all-stop}
 use Rattle.dr_laws_sound.specs.Stops.{first_stop, stop_in, refused_stop, StopsTold}
 use Rattle.dr_laws_sound.proofs.Turns.{act-cases, Counts, after_act, server_of}
 
@@ -25,87 +24,23 @@ first-append (e ∷ es) fs = ap (λ o. option_or (stop_in e) o) (first-append es
     grouped (Some x) b c = refl
 
 -- what a move tells is no stop
-blanks-calm : (v : ℕ) (ts : List ℕ) → first_stop (map (Blanked v) ts) ≡ None
-blanks-calm v [] = refl
-blanks-calm v (t ∷ ts) = blanks-calm v ts
+is-no-stop : (e : Event) → Of by_moves e → stop_in e ≡ None
+is-no-stop (Stopped s n) by = absurd cc
+is-no-stop e by = refl
 
-restored-calm : (v s n : ℕ) (own : Tracks) → first_stop (told_restored v s n own) ≡ None
-restored-calm v s n own = by (is_bare own)
-  where
-    by : (b : Bool) → first_stop (cond b (told_blank v n own ++ Restored s v ∷ []) []) ≡ None
-    by true = first-append (told_blank v n own) (Restored s v ∷ []) ∙ ap (λ o. option_or o None) (blanks-calm v (in_order n (rest n own)))
-    by false = refl
+no-stop : Lists (Of by_moves) (λ es. first_stop es ≡ None)
+no-stop = record { none = refl; more = λ e es by behind i. option_or (is-no-stop e by i) (behind i) }
 
-suspended-calm : (none : Bool) (v : ℕ) → first_stop (cond none [] (Suspended v ∷ [])) ≡ None
-suspended-calm true v = refl
-suspended-calm false v = refl
-
-freed-calm : (v : ℕ) (had : Bool) → first_stop (told_freed v had) ≡ None
-freed-calm v true = refl
-freed-calm v false = refl
-
-held-calm : (first : Bool) (v s n : ℕ) → first_stop (cond first (Begin s n ∷ Cut s n v ∷ []) (Cut s n v ∷ [])) ≡ None
-held-calm true v s n = refl
-held-calm false v s n = refl
-
-told-calm : (m : Move) (u : VolumeRow) → first_stop (told m u) ≡ None
-told-calm (Land n v t) u = refl
-told-calm (Overwrite n v t) u = refl
-told-calm (Keep v t) u = refl
-told-calm (Note v t) u = refl
-told-calm (Flash v from a s n) u = refl
-told-calm (Commit v a s n) u = refl
-told-calm (Revert v a s n) u = refl
-told-calm (Relate v s choices) u = refl
-told-calm (Withdraw v) u = blanks-calm v (in_order u.tracks (rest u.tracks u.fields.own))
-told-calm (Fetch v t) u = refl
-told-calm (Resync v sequence) u = refl
-told-calm (Reverse v None) u = restored-calm v _ _ _
-told-calm (Reverse v (Some p)) u = restored-calm v _ _ _
-told-calm (Restore v t from) u = refl
-told-calm (Release v t) u = restored-calm v _ _ _
-told-calm (Store v t from last) u = refl
-told-calm (Strike v t last) u = refl
-told-calm (Suspend v busy) u = suspended-calm (is_suspended u.fields.primary_state) v
-told-calm (MakeSecondary v a kind state) u = refl
-told-calm (MakePrimary v b kind state full) u = refl
-told-calm (DropPrimary v) u = refl
-told-calm (DropSecondary v) u = refl
-told-calm (Follow v state) u = refl
-told-calm (Resume v state) u = refl
-told-calm (TakeOver v) u = refl
-told-calm (FallBack v more state) u = refl
-told-calm (Yield v a kind state) u = refl
-told-calm (Unsync v t) u = refl
-told-calm (Mirror v t from n) u = refl
-told-calm (LandBoth n v t) u = refl
-told-calm (Thaw v) u = refl
-told-calm (FlashHold v) u = refl
-told-calm (FlashFree v) u = refl
-told-calm (Lift v) u = freed-calm v u.fields.flash_hold
-told-calm (Restart v) u = refl
-told-calm (Hold v s n first) u = held-calm first v s n
-told-calm (Free v) u = refl
-told-calm (Seal v a s n) u = refl
-told-calm (Finish v n) u = refl
-told-calm (RaiseAttempt v n) u = refl
-told-calm (RaiseFloor v n) u = refl
-told-calm (Leave v a s) u = refl
-told-calm (Unstage v) u = refl
+tells-no-stop : (m : Move) (u : VolumeRow) → first_stop (told m u) ≡ None
+tells-no-stop = all-told _ no-stop
 
 -- and the stop that it tells is the first
-in_stop-calm : (m : Move) (u : VolumeRow) → first_stop (told_in_stop m u) ≡ None
-in_stop-calm (Land n v t) u = refl
-in_stop-calm (Overwrite n v t) u = refl
-in_stop-calm (LandBoth n v t) u = refl
-in_stop-calm m u = told-calm m u
-
 stop-told : (m : Move) (u : VolumeRow) → first_stop (told_in_stop m u ++ Stopped u.server (landed m) ∷ []) ≡ Some u.server
-stop-told m u = first-append (told_in_stop m u) (Stopped u.server (landed m) ∷ []) ∙ ap (λ o. option_or o (Some u.server)) (in_stop-calm m u)
+stop-told m u = first-append (told_in_stop m u) (Stopped u.server (landed m) ∷ []) ∙ ap (λ o. option_or o (Some u.server)) (all-stop _ no-stop m u)
 
 done-tells : (w : World) (a : Act) (f : Option Fuse) → StopsTold w (after_act w a f) None
-done-tells w (Make m) f = record { events = told m (w.control.volume (target m)); told = refl; tells = told-calm m _ }
-done-tells w (OpenAttempt v s n) f = record { events = told (Hold v s n true) (w.control.volume v); told = refl; tells = told-calm (Hold v s n true) (w.control.volume v) }
+done-tells w (Make m) f = record { events = told m (w.control.volume (target m)); told = refl; tells = tells-no-stop m _ }
+done-tells w (OpenAttempt v s n) f = record { events = told (Hold v s n true) (w.control.volume v); told = refl; tells = tells-no-stop (Hold v s n true) (w.control.volume v) }
 done-tells w (Redo v) f = record { events = []; told = sym (append-nil w.events); tells = refl }
 done-tells w (Acknowledge n) f = record { events = Ack n ∷ []; told = refl; tells = refl }
 done-tells w (Drop n) f = record { events = []; told = sym (append-nil w.events); tells = refl }
