@@ -401,7 +401,7 @@ module _ (k : Control) (events : List Event) (line : ℕ) where
     settle-case dev = where-volume b _ (λ there.
         where-none (option_or (name_refusal k dev (k.volume b).server) (off_refusal k (k.volume b).server)) (settle_target k lets b (revertible_target k b)) (λ named. settle-by (revertible_target k b) refl))
 
-  of-case : (step : Step) → Is (Ok step) (plan_of k events line step)
+  pub of-case : (step : Step) → Is (Ok step) (plan_of k events line step)
   of-case (Server name) = where-none (server_refusal k (name_bytes name)) (server_done k name) (DefinesServer name)
   of-case (Volume v name tracks) =
       where-placed (server_named k (name_bytes name)) (λ s. unless (volume_refusal k v s tracks) (volume_done v s tracks))

@@ -153,7 +153,7 @@ counts-on w (EndRecovery s n) = tt
 act-on : (w : World) (a : Act) → StaysOn w (act w a)
 act-on w a = act-cases w a (StaysOn w) (λ d off none. refl) (λ f none. on-after w a f) (counts-on w a) (λ d f none. cc)
 
-abbrev EndsOn : World → Outcome → Type 0
+abbrev pub EndsOn : World → Outcome → Type 0
 EndsOn w o = o.1 ≡ None → o.0.control.on ≡ w.control.on
 
 continue-on : (w : World) (t : Turn) (next : World → Outcome) → StaysOn w t → ((v : World) → EndsOn v (next v)) → EndsOn w (continue t.0 t.1 next)
@@ -165,7 +165,7 @@ go-on w Pass next rest = rest w
 go-on w (End r) next rest = λ none. refl
 go-on w (Do a) next rest = continue-on w (act w a) next (act-on w a) rest
 
-carry-on : (w : World) (ds : List Entry) → EndsOn w (carry w ds)
+pub carry-on : (w : World) (ds : List Entry) → EndsOn w (carry w ds)
 unfolding carry
 carry-on w [] = λ none. refl
 carry-on w (d ∷ ds) = go-on w (d w.control) (λ v. carry v ds) (λ v. carry-on v ds)

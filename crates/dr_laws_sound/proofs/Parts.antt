@@ -26,7 +26,7 @@ use Rattle.dr_model.specs.Plans.{drain_plan, has_room, has_room_for, compare_pla
 use Rattle.dr_model.specs.Forming.{Part, Way, stays, ends, goes_on, unless_refused, after_part, part_refusal, part, drains, is_draining, ask, next_asked, master_in, phase_in, has_committed, still_left, turn_by, turns, most_turns, form_refusal, form_in, formed, form_answer}
 use Rattle.dr_model.specs.Runs.{Task, own_course, course_of, course, plans_of, OwnCourse, Groups, Volumes, Devices, compared, image_plan, imaged}
 use Rattle.dr_laws_sound.proofs.Cases.{Case, Says, Drains, on-case, plan-case, Compares, NotHeld, refused-not}
-use Rattle.dr_laws_sound.proofs.HushedPlans.{HushedPlan, drain-hush, exchange-hush, phase-not}
+use Rattle.dr_laws_sound.proofs.HushedPlans.{acknowledges, phase-not}
 
 -- the drain of a primary, or what a master asks of a server
 pub data IsTurn : Control → Plan → Type 0 where
@@ -42,7 +42,7 @@ pub record Comes (w : World) (p : Plan) : Type 0 where
   pub case : (line : ℕ) → Case w.control w.events line asked p
   pub first : (k : Control) → p.first k ≡ k
   pub told : p.told ≡ []
-  pub hushed : HushedPlan p
+  pub other : acknowledges asked ≡ false
 
 -- such plans lead from a world to another
 pub data Goes : World → List Part → World → Type 0 where
@@ -93,16 +93,16 @@ unnamed = record { len = 0; bytes = [] }
 
 -- the plans of an `@run`
 pub comes-drain : (w : World) (a : ℕ) → has_room w.events ≡ true → Comes w (drain_plan w.control a None)
-comes-drain w a room = record { turn = Drained w.control a; room = room; asked = Ok (Drain a None); case = λ line. Drains a None; first = λ k. refl; told = refl; hushed = drain-hush w.control a None }
+comes-drain w a room = record { turn = Drained w.control a; room = room; asked = Ok (Drain a None); case = λ line. Drains a None; first = λ k. refl; told = refl; other = refl }
 
 pub comes-asking : (w : World) (s server : ℕ) → has_room w.events ≡ true → Comes w (asking w.control s server true)
 comes-asking w s server room = by (session_in w.control.sessions s) refl
   where
     by : (o : Option Session) → session_in w.control.sessions s ≡ o → Comes w (exchange_on w.control s (mirror_in o) server true (members_in o))
-    by None none = record { turn = Asked w.control s server None []; room = room; asked = Ok (Exchange s unnamed true); case = λ line. Says (Refused (OutOfOrder phase.None)) (refused-not _); first = λ k. refl; told = refl; hushed = exchange-hush w.control s server None true [] }
+    by None none = record { turn = Asked w.control s server None []; room = room; asked = Ok (Exchange s unnamed true); case = λ line. Says (Refused (OutOfOrder phase.None)) (refused-not _); first = λ k. refl; told = refl; other = refl }
     by (Some x) there =
         let plain : Plain (exchange_on w.control s x.mirror server true x.members) = plain-exchange w.control s server x.mirror x.members in
-        record { turn = Asked w.control s server x.mirror x.members; room = room; asked = Ok (Exchange s unnamed true); case = λ line. on-case w.control w.events line s server true x x.mirror there refl; first = plain.first; told = plain.told; hushed = exchange-hush w.control s server x.mirror true x.members }
+        record { turn = Asked w.control s server x.mirror x.members; room = room; asked = Ok (Exchange s unnamed true); case = λ line. on-case w.control w.events line s server true x x.mirror there refl; first = plain.first; told = plain.told; other = refl }
 
 -- What holds of a way that has no plan, of one that has one plan, and of one that goes on, holds of the whole line.
 pub record Ways (P : World → Way → Type 0) : Type 0 where
