@@ -137,7 +137,6 @@ pub mod Texts
 pub mod Agree
 pub mod ReadStops
 pub mod StopsTold
-pub mod Endless
 pub mod ChecksFirst
 pub mod RefusedPlans
 pub mod RefusedWrites
@@ -145,7 +144,6 @@ pub mod RefusedSteps
 pub mod RefusedRuns
 pub mod RefusedExamples
 pub mod TurnedExample
-pub mod CalmPlans
 pub mod Hushed
 pub mod HushedPlans
 pub mod Acknowledged

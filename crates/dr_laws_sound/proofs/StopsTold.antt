@@ -10,6 +10,14 @@ use Rattle.dr_model.specs.declared.event.Event.TheVariants.{Ack, Stopped, Frozen
 use Rattle.dr_model.specs.Control.{Control, Fuse, Volume as VolumeRow, World}
 use Rattle.dr_model.specs.Relations.{rest}
 use Rattle.dr_model.specs.Moves.{Move, Hold, told, told_in_stop, landed, target}
+use Rattle.dr_model.specs.Carried.{begun}
+use Rattle.dr_model.specs.PlanParts.{Plan}
+use Rattle.dr_model.specs.Runs.{image_plan}
+use Rattle.dr_facts.proofs.Reasons.{NoStop}
+use Rattle.dr_facts.proofs.Entries.{anywhere, AllFine, FineThen, FineFrom, FromThen, from-none}
+use Rattle.dr_laws_sound.proofs.Does.{Acts, Late}
+use Rattle.dr_laws_sound.proofs.DoesPlans.{case-does}
+use Rattle.dr_laws_sound.proofs.Parts.{Ending, OnePlan, Imaged}
 use Rattle.dr_model.specs.Carry.{Act, Make, OpenAttempt, Redo, Acknowledge, Drop, EndFreeze, EndThaw, EndRecovery, act, Turn, Next, Pass, Do, End, Entry, Outcome, carry, continue, go}
 use Rattle.dr_facts.proofs.Emits.{Of, Lists, by_moves, all-told, all-stop}
 use Rattle.dr_laws_sound.specs.Stops.{first_stop, stop_in, refused_stop, StopsTold}
@@ -62,31 +70,9 @@ act-tells : (w : World) (a : Act) → StopsTold w (act w a).0 (act w a).1
 act-tells w a = act-cases w a (λ t. StopsTold w t.0 t.1) (λ d off. record { events = []; told = sym (append-nil w.events); tells = refl })
     (done-tells w a) (counts-tells w a) (λ d f. record { events = Stopped (server_of w a) 0 ∷ []; told = refl; tells = refl })
 
--- a refusal that says neither a stop, nor that a step isn't built
-abbrev pub is_calm : Refusal → Bool
-is_calm (StoppedIn s) = false
-is_calm NotBuilt = false
-is_calm _ = true
-
-calm-stops : (r : Refusal) → is_calm r ≡ true → refused_stop (Some r) ≡ None
-calm-stops (StoppedIn s) e = absurd cc
-calm-stops r e = refl
-
--- entries that end a plan with such refusals alone
-abbrev pub Calm : Entry → Type 0
-Calm d = (k : Control) (r : Refusal) → d k ≡ End r → is_calm r ≡ true
-
-unfoldable pub Unstopped : List Entry → Type 0
-Unstopped [] = Unit {0}
-Unstopped (d ∷ ds) = Calm d × Unstopped ds
-
-pub none-calm : Unstopped []
-unfolding Unstopped
-none-calm = tt
-
-pub then-calm : (d : Entry) (ds : List Entry) → Calm d → Unstopped ds → Unstopped (d ∷ ds)
-unfolding Unstopped
-then-calm d ds first rest = (first, rest)
+no-stop-refused : (r : Refusal) → NoStop r → refused_stop (Some r) ≡ None
+no-stop-refused (StoppedIn s) e = absurd cc
+no-stop-refused r e = refl
 
 tells-then : (w v u : World) (stop : Option ℕ) → StopsTold w v None → StopsTold v u stop → StopsTold w u stop
 tells-then w v u stop a b = record {
@@ -95,18 +81,40 @@ tells-then w v u stop a b = record {
   tells = first-append a.events b.events ∙ ap (λ o. option_or o (first_stop b.events)) a.tells ∙ b.tells;
 }
 
-continue-tells : (w : World) (t : Turn) (next : World → Outcome) → StopsTold w t.0 t.1 → ((v : World) → StopsTold v (next v).0 (refused_stop (next v).1))
-    → StopsTold w (continue t.0 t.1 next).0 (refused_stop (continue t.0 t.1 next).1)
+-- an outcome tells the stop for which it is refused
+abbrev pub Tells : World → Outcome → Type 0
+Tells w o = StopsTold w o.0 (refused_stop o.1)
+
+continue-tells : (w : World) (t : Turn) (next : World → Outcome) → StopsTold w t.0 t.1 → ((v : World) → Tells v (next v)) → Tells w (continue t.0 t.1 next)
 continue-tells w (v, None) next first rest = tells-then w v _ _ first (rest v)
 continue-tells w (v, Some s) next first rest = first
 
-go-tells : (w : World) (x : Next) (next : World → Outcome) → ((r : Refusal) → x ≡ End r → is_calm r ≡ true) → ((v : World) → StopsTold v (next v).0 (refused_stop (next v).1))
-    → StopsTold w (go w x next).0 (refused_stop (go w x next).1)
-go-tells w Pass next other rest = rest w
-go-tells w (End r) next other rest = record { events = []; told = sym (append-nil w.events); tells = sym (calm-stops r (other r refl)) }
-go-tells w (Do a) next other rest = continue-tells w (act w a) next (act-tells w a) rest
+-- of entries that end a plan for no stop
+module _ (Ok : World → Act → Type 0) (First Why : Refusal → Type 0) (first : (r : Refusal) → First r → NoStop r) (why : (r : Refusal) → Why r → NoStop r) where
+  end-tells : (w : World) (r : Refusal) → NoStop r → Tells w (w, Some r)
+  end-tells w r other = record { events = []; told = sym (append-nil w.events); tells = sym (no-stop-refused r other) }
 
-pub carry-tells : (w : World) (ds : List Entry) → Unstopped ds → StopsTold w (carry w ds).0 (refused_stop (carry w ds).1)
-unfolding carry Unstopped
-carry-tells w [] calm = record { events = []; told = sym (append-nil w.events); tells = refl }
-carry-tells w (d ∷ ds) calm = go-tells w (d w.control) (λ v. carry v ds) (calm.0 w.control) (λ v. carry-tells v ds calm.1)
+  next-tells : (w : World) (x : Next) (next : World → Outcome) (more : Type 0) → FineThen anywhere Ok Why w x more → (more → (v : World) → Tells v (next v)) → Tells w (go w x next)
+  next-tells w Pass next more fine rest = rest fine w
+  next-tells w (End r) next more fine rest = end-tells w r (why r fine)
+  next-tells w (Do a) next more fine rest = continue-tells w (act w a) next (act-tells w a) (rest fine.1)
+
+  carry-tells : (w : World) (ds : List Entry) → AllFine anywhere Ok Why ds → Tells w (carry w ds)
+  unfolding carry AllFine
+  carry-tells w [] fine = record { events = []; told = sym (append-nil w.events); tells = refl }
+  carry-tells w (d ∷ ds) fine = next-tells w (d w.control) (λ v. carry v ds) (AllFine anywhere Ok Why ds) (fine w tt) (λ rest v. carry-tells v ds rest)
+
+  from-next : (w : World) (x : Next) (ds : List Entry) → FromThen anywhere Ok First Why w x (FineFrom anywhere Ok First Why w ds) (AllFine anywhere Ok Why ds) → (FineFrom anywhere Ok First Why w ds → Tells w (carry w ds)) → Tells w (go w x (λ v. carry v ds))
+  from-next w Pass ds fine rest = rest fine
+  from-next w (End r) ds fine rest = end-tells w r (first r fine)
+  from-next w (Do a) ds fine rest = continue-tells w (act w a) (λ v. carry v ds) (act-tells w a) (λ v. carry-tells v ds fine.1)
+
+  pub from-tells : (w : World) (ds : List Entry) → FineFrom anywhere Ok First Why w ds → Tells w (carry w ds)
+  unfolding carry FineFrom
+  from-tells w [] fine = record { events = []; told = sym (append-nil w.events); tells = refl }
+  from-tells w (d ∷ ds) fine = from-next w (d w.control) ds fine (from-tells w ds)
+
+-- the entries of each plan
+pub ending-tells : (w : World) (line : ℕ) (p : Plan) → Ending w.control w.events line p → Tells (begun w p) (carry (begun w p) p.entries)
+ending-tells w line _ (OnePlan asked p c) = from-tells (Acts w.control asked) NoStop (Late asked) (λ r e. e) (λ r late. late.why) (begun w p) p.entries (case-does w line asked p c).entries
+ending-tells w line _ (Imaged vs) = from-tells (λ u a. Unit {0}) NoStop NoStop (λ r e. e) (λ r e. e) (begun w (image_plan vs)) [] (from-none anywhere (λ u a. Unit {0}) NoStop NoStop _)
