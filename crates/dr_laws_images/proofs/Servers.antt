@@ -208,7 +208,7 @@ task-one : (w : World) (t : Task) → One w → One (after_task w t)
 task-one w t one =
     let x : Part = (course w t).last in
     plan-one x.world x.plan t.line (ending-one x.world.control x.world.events t.line x.plan (course-case w t))
-    (last-plan One (λ u p comes one. carried-one u p 0 (case-one u.control u.events 0 p (comes.case 0)) one) w t one)
+    (last-plan One (λ u p comes one. carried-one u p 0 (case-one u.control u.events 0 comes.asked p (comes.case 0)) one) w t one)
 
 tasks-one : (w : World) (tasks : List Task) → One w → One (after_tasks w tasks)
 unfolding after_tasks
