@@ -66,17 +66,18 @@ no-change g (Reverted s n a c) quiet = absurd quiet
 no-change g (Left s a) quiet = absurd quiet
 no-change g e quiet = refl
 
-fold-still : (g : Standing) (es : List Event) → AllStill es → fold standing_event g es ≡ g
-fold-still g [] quiet = refl
-fold-still g (e ∷ es) quiet = fold-still (standing_event g e) es quiet.1 ∙ no-change g e quiet.0
+-- a fold that passes over them
+pub fold-still : (f : Standing → Event → Standing) → ((g : Standing) (e : Event) → Still e → f g e ≡ g) → (g : Standing) (es : List Event) → AllStill es → fold f g es ≡ g
+fold-still f same g [] quiet = refl
+fold-still f same g (e ∷ es) quiet = fold-still f same (f g e) es quiet.1 ∙ same g e quiet.0
 
 pub standing-still : (events more : List Event) → AllStill more → standing (events ++ more) ≡ standing events
-standing-still events more quiet = standing-append events more ∙ fold-still (standing events) more quiet
+standing-still events more quiet = standing-append events more ∙ fold-still standing_event no-change (standing events) more quiet
 
 module _ (events : List Event) where
   pub standing-told : (m : Move) (u : Volume) → standing (events ++ told m u) ≡ next_standing m u (standing events)
   standing-told (Reverse v None) u = standing-still events _ (still-ended v u)
-  standing-told (Reverse v (Some a)) u = standing-append events (told (Reverse v (Some a)) u) ∙ fold-still (standing_event (standing events) (Left u.fields.session a)) _ (still-ended v u)
+  standing-told (Reverse v (Some a)) u = standing-append events (told (Reverse v (Some a)) u) ∙ fold-still standing_event no-change _ _ (still-ended v u)
   standing-told (Leave v a s) u = standing-append events _
   standing-told (Flash v from a s n) u = standing-append events _
   standing-told (Commit v a s n) u = standing-append events _

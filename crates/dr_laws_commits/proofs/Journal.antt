@@ -10,8 +10,8 @@ use Rattle.dr_model.specs.Moves.{Move, Land, Overwrite, Keep, Relate, Withdraw, 
 use Rattle.dr_model.specs.Groups.{In}
 use Rattle.dr_model.specs.Attempts.{InAttempt}
 use Rattle.dr_facts.proofs.Lists.{in-joined}
-use Rattle.dr_facts.proofs.Emits.{Lists as ByEvents, Tag, Begins, Of, each-told, stop-onto}
-use Rattle.dr_laws_sound.proofs.Listed.{NoBegin, NoBegins}
+use Rattle.dr_facts.proofs.Emits.{Lists as ByEvents, Of, each-told, stop-onto}
+use Rattle.dr_laws_sound.proofs.Listed.{begins_none, NoBegins}
 use Rattle.dr_laws_commits.specs.Flashed.{FlashedIn}
 use Rattle.dr_logic.proofs.Truth.{false_true}
 
@@ -23,7 +23,7 @@ NoneOf s more = (k : ℕ) → In (Begin s k) more → ⊥
 
 pub none-of : (s : ℕ) (more : List Event) → NoBegins more → NoneOf s more
 none-of s [] none k h = h
-none-of s (e ∷ es) none k (inl is) = subst NoBegin (sym is) none.0
+none-of s (e ∷ es) none k (inl is) = let no = subst (Of begins_none) (sym is) none.0 in absurd cc
 none-of s (e ∷ es) none k (inr more) = none-of s es none.1 k more
 
 -- a flash stands with more events behind it
@@ -47,23 +47,15 @@ comes events more s n a b c none = record { before = events; behind = more; from
 
 -- ---- what moves tell
 
-abbrev begins_none : Tag → Bool
-begins_none Begins = false
-begins_none k = true
-
-no-begin : (e : Event) → Of begins_none e → NoBegin e
-no-begin (Begin s n) h = absurd cc
-no-begin e h = tt
-
 no-begins : ByEvents (Of begins_none) NoBegins
-no-begins = record { none = tt; more = λ e es h behind. (no-begin e h, behind) }
+no-begins = record { none = tt; more = λ e es h behind. (h, behind) }
 
 pub told-none : (k : Control) (m : Move) (u : Volume) → InAttempt k m → NoBegins (told m u)
 told-none k (Hold v s n true) u a = false_true a.1.1 refl
-told-none k (Hold v s n false) u a = (tt, tt)
+told-none k (Hold v s n false) u a = (refl, tt)
 told-none k m u a = each-told begins_none NoBegins no-begins m u refl
 
-pub stopped-none : (k : Control) (m : Move) (u : Volume) (e : Event) → InAttempt k m → NoBegin e → NoBegins (told_in_stop m u ++ e ∷ [])
+pub stopped-none : (k : Control) (m : Move) (u : Volume) (e : Event) → InAttempt k m → Of begins_none e → NoBegins (told_in_stop m u ++ e ∷ [])
 stopped-none k (Hold v s n true) u e a none = false_true a.1.1 refl
-stopped-none k (Hold v s n false) u e a none = (tt, (none, tt))
+stopped-none k (Hold v s n false) u e a none = (refl, (none, tt))
 stopped-none k m u e a none = stop-onto begins_none NoBegins no-begins m u (e ∷ []) refl (none, tt)
