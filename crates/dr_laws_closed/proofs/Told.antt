@@ -99,21 +99,11 @@ apart-fold h (e ∷ es) v t a =
     apart-fold (after_event h e) es v t (subst (λ (f : ℕ → Write). AllApart f v es) (sym (unheard-write (OfOther h.write v) h e v a.0)) a.1) ∙ apart-event h e v t a.0
 
 told-apart : (write : ℕ → Write) (m : Move) (u : Volume) (v : ℕ) → Untouched write m v → AllApart write v (told m u)
-told-apart write (Land n x t) u v ne = (ne, tt)
-told-apart write (Overwrite n x t) u v ne = (ne, tt)
-told-apart write (LandBoth n x t) u v ne = (ne, tt)
-told-apart write (Relate x s choices) u v ne = (ne, tt)
 told-apart write (Withdraw x) u v ne = unheard-blanked (OfOther write v) v x _ ne
-told-apart write (Resync x sequence) u v ne = (ne, tt)
 told-apart write (Reverse x None) u v ne = unheard-restored (OfOther write v) v x _ _ _ ne
 told-apart write (Reverse x (Some p)) u v ne = (tt, unheard-restored (OfOther write v) v x _ _ _ ne)
-told-apart write (Restore x t from) u v ne = (ne, tt)
 told-apart write (Release x t) u v ne = unheard-restored (OfOther write v) v x _ _ _ ne
-told-apart write (Store x t from last) u v ne = (ne, tt)
-told-apart write (Mirror x t from n) u v ne = (ne, tt)
-told-apart write (Flash x from a s n) u v ne = (ne, tt)
-told-apart write (Revert x a s n) u v ne = (ne, tt)
-told-apart write m u v ne = unheard-told (OfOther write v) v m u refl
+told-apart write m u v ne = first_of (assumption, search (unheard-told (OfOther write v) v m u))
 
 pub lists-apart : (events more : List Event) (v t : ℕ) → AllApart (histories events).write v more → lists (events ++ more) v t ≡ lists events v t
 lists-apart events more v t a = ap (λ (h : Histories). h.now v t) (histories-append events more) ∙ apart-fold (histories events) more v t a

@@ -201,16 +201,11 @@ module _ (starts : Option ℕ) (w : World) (old : Queue starts w) where
   -- what a move tells
   told-quiet : (m : Move) → Ready w m → AllQuiet n (told m (w.control.volume (target m)))
   told-quiet (Land k v t) ready = (ready.number, tt)
-  told-quiet (Overwrite k v t) ready = (ready.number, tt)
-  told-quiet (Mirror v t u k) ready = (ready.number, tt)
-  told-quiet (LandBoth k v t) ready = (ready.number, tt)
-  told-quiet m ready = each-told adds_none (AllQuiet n) (record { none = tt; more = λ e es h behind. (quiet-kind n e h, behind) }) m (w.control.volume (target m)) refl
+  told-quiet m ready = first_of (assumption, search (each-told adds_none (AllQuiet n) (record { none = tt; more = λ e es h behind. (quiet-kind n e h, behind) }) m (w.control.volume (target m))))
 
   stop-quiet : (m : Move) → Ready w m → AllQuiet n (told_in_stop m (w.control.volume (target m)))
   stop-quiet (Land k v t) ready = tt
-  stop-quiet (Overwrite k v t) ready = tt
-  stop-quiet (LandBoth k v t) ready = tt
-  stop-quiet m ready = told-quiet m ready
+  stop-quiet m ready = first_of (assumption, search (told-quiet m ready))
 
   -- a move leaves each volume its server
   same-server : (m : Move) (f : Option Fuse) (v : ℕ) → servers (done w m f).control v ≡ servers w.control v

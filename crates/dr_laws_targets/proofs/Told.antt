@@ -40,9 +40,7 @@ module _ (events : List Event) where
 
   told-stopping : (m : Move) (u : Volume) → committeds (events ++ told_in_stop m u) ≡ next_committed m u (committeds events)
   told-stopping (Land n v t) u = committeds-append events []
-  told-stopping (Overwrite n v t) u = committeds-append events []
-  told-stopping (LandBoth n v t) u = committeds-append events []
-  told-stopping m u = committeds-told m u
+  told-stopping m u = first_of (assumption (committeds-told m u), assumption (committeds-append events []))
 
 pub committeds-stopped : (events more : List Event) (m : Move) (u : Volume) → Silent more → committeds (events ++ (told_in_stop m u ++ more)) ≡ next_committed m u (committeds events)
 committeds-stopped events more m u silent =
