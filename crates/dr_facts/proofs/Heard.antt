@@ -12,7 +12,7 @@ use Rattle.dr_model.specs.Control.{Volume as VolumeRow}
 use Rattle.dr_model.specs.Moves.{Move, told, told_restored}
 use Rattle.dr_facts.specs.Heard.{Unheard, AllUnheard}
 use Rattle.dr_facts.proofs.Tables.{at_cases, at2_cases}
-use Rattle.dr_facts.proofs.Emits.{Lists as ByEvents, Tag, Copies, Restores, Suspends, Takes, Holds, Frees, Begins, Cuts, Seals, Leaves, Commits, Of, all_tags, emits, restored-onto, each-told}
+use Rattle.dr_facts.proofs.Emits.{Lists as ByEvents, Tag, Suspends, Frees, Begins, Cuts, Of, all_tags, emits, restored-onto, each-told}
 
 pub elsewhere : {X : Type 0} (v x : ℕ) (new old : X) → v ≢ x → cond (nat_eq v x) new old ≡ old
 elsewhere v x new old ne = ap (λ b. cond b new old) (ne_eqb v x ne)

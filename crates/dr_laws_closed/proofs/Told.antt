@@ -6,7 +6,7 @@ use Rattle.dr_model.specs.declared.event.Event.{Event}
 use Rattle.dr_model.specs.declared.event.Event.TheVariants.{Begin, Cut, Flashed, Reverted, Left}
 use Rattle.dr_model.specs.Histories.{Histories, Write, histories, after_event, lists}
 use Rattle.dr_model.specs.Control.{Volume}
-use Rattle.dr_model.specs.Moves.{Move, Land, Overwrite, Relate, Withdraw, Resync, Reverse, Restore, Release, Store, Mirror, LandBoth, Hold, Leave, Flash, Revert, Commit, told, told_in_stop}
+use Rattle.dr_model.specs.Moves.{Move, Land, Overwrite, Withdraw, Reverse, Release, LandBoth, Hold, Leave, Flash, Revert, Commit, told, told_in_stop}
 use Rattle.dr_model.proofs.Images.{histories-append}
 use Rattle.dr_facts.proofs.Heard.{elsewhere, unheard-event, unheard-write, unheard-blanked, unheard-restored, unheard-told}
 use Rattle.dr_facts.proofs.Emits.{Lists as ByEvents, Tag, Flashes, Commits, Reverts, Leaves, Of, all_tags, emits, each-told, each-ended}

@@ -1,12 +1,10 @@
 -- What was flashed stays so in the journal, until an attempt of the session begins; and of moves only the first hold of an attempt begins one.
-use Rattle.std.proofs.Common.{ℕ, ◌⊎◌, inl, inr, refl, ap, sym, ◌∙◌, subst, Bool, true, false, cond, List, [], ◌∷◌, ◌++◌, map, Some, None}
+use Rattle.std.proofs.Common.{ℕ, ◌⊎◌, inl, inr, refl, ap, sym, ◌∙◌, subst, true, false, List, [], ◌∷◌, ◌++◌}
 use Rattle.std.proofs.lemmas.List.{append_assoc}
 use Rattle.dr_model.specs.declared.event.Event.{Event}
-use Rattle.dr_model.specs.declared.event.Event.TheVariants.{Blanked, Restored, Suspended, Begin, Flashed}
-use Rattle.dr_model.specs.Layout.{Tracks}
-use Rattle.dr_model.specs.Relations.{rest, in_order, turned, given_up}
+use Rattle.dr_model.specs.declared.event.Event.TheVariants.{Begin, Flashed}
 use Rattle.dr_model.specs.Control.{Control, Volume}
-use Rattle.dr_model.specs.Moves.{Move, Land, Overwrite, Keep, Relate, Withdraw, Fetch, Resync, Reverse, Restore, Release, Store, Suspend, TakeOver, Mirror, LandBoth, FlashHold, FlashFree, Lift, Hold, Seal, Leave, Flash, Commit, Revert, told, told_in_stop, told_blank, told_freed}
+use Rattle.dr_model.specs.Moves.{Move, Hold, told, told_in_stop}
 use Rattle.dr_model.specs.Groups.{In}
 use Rattle.dr_model.specs.Attempts.{InAttempt}
 use Rattle.dr_facts.proofs.Lists.{in-joined}

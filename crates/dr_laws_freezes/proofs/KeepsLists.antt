@@ -10,7 +10,7 @@ use Rattle.dr_model.specs.declared.event.Event.TheVariants.{Ack, Stopped}
 use Rattle.dr_model.specs.Histories.{Write, Histories, histories, lists, joined, after_event}
 use Rattle.dr_model.specs.Layout.{is_part}
 use Rattle.dr_model.specs.Control.{Volume, World}
-use Rattle.dr_model.specs.Moves.{Move, Land, Overwrite, Relate, Withdraw, Resync, Reverse, Restore, Release, Store, Mirror, LandBoth, Flash, Revert, told, told_in_stop}
+use Rattle.dr_model.specs.Moves.{Move, Land, Relate, Withdraw, Resync, Reverse, Restore, Release, Store, Mirror, Flash, Revert, told, told_in_stop}
 use Rattle.dr_model.specs.Entries.{fields_at}
 use Rattle.dr_model.specs.Table.{table}
 use Rattle.dr_model.specs.Laws.{SoundRows, source}

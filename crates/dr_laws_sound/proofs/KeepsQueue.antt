@@ -7,7 +7,7 @@ use Rattle.dr_model.specs.declared.event.Event.{Event}
 use Rattle.dr_model.specs.declared.event.Event.TheVariants.{Issue, Ack, Mirrored, Stopped}
 use Rattle.dr_model.specs.Histories.{Write, Histories, histories, after_event}
 use Rattle.dr_model.specs.Control.{Control, Pending, Fuse, Volume, World, is_volume}
-use Rattle.dr_model.specs.Moves.{Move, Land, Overwrite, Mirror, LandBoth, target, told, told_in_stop, settled, settled_in_stop, is_write, is_other, marked, landed}
+use Rattle.dr_model.specs.Moves.{Move, Land, Overwrite, LandBoth, target, told, told_in_stop, settled, settled_in_stop, is_write, is_other, marked, landed}
 use Rattle.dr_model.specs.Laws.{Lone, Together, servers, sizes, Below, Numbered, Queue, Waits, AllPending, Apart}
 use Rattle.dr_model.specs.Entries.{is_at}
 use Rattle.dr_model.specs.Allowed.{Coming, Ready}

@@ -1,12 +1,12 @@
 -- What events make of who stands committed: those of which no group hears, those of a move, and those of one in a stop.
-use Rattle.std.proofs.Common.{◌≡◌, refl, ap, sym, ◌∙◌, List, [], ◌∷◌, ◌++◌, Some, None}
+use Rattle.std.proofs.Common.{◌≡◌, refl, ap, sym, ◌∙◌, List, [], ◌++◌, Some, None}
 use Rattle.std.specs.List.{fold}
 use Rattle.std.proofs.lemmas.List.{append_assoc}
 use Rattle.std.proofs.lemmas.List.Sums.{fold-append}
 use Rattle.dr_model.specs.declared.event.Event.{Event}
 use Rattle.dr_model.specs.declared.event.Event.TheVariants.{Committed, Left}
 use Rattle.dr_model.specs.Control.{Volume}
-use Rattle.dr_model.specs.Moves.{Move, Land, Overwrite, Reverse, LandBoth, Leave, Flash, Commit, Revert, told, told_in_stop}
+use Rattle.dr_model.specs.Moves.{Move, Land, Reverse, Leave, Flash, Commit, Revert, told, told_in_stop}
 use Rattle.dr_laws_closed.specs.Moments.{Standing, none_stands}
 use Rattle.dr_laws_closed.specs.Silent.{Still, AllStill, Silent}
 use Rattle.dr_laws_closed.proofs.Told.{fold-still, still-told, still-ended}
