@@ -178,17 +178,23 @@ module _ (P : Event → Type 0) (L : List Event → Type 0) (lists : Lists P L) 
       by false = behind
 
 module _ (p : Tag → Bool) (L : List Event → Type 0) (lists : Lists (Of p) L) where
+  -- events that are known
+  known : (ks es : List Event) → all_tags p (map tag ks) ≡ true → L es → L (ks ++ es)
+  known [] es h behind = behind
+  known (k ∷ ks) es h behind = lists.more k (ks ++ es) (first-tag p (tag k) (map tag ks) h) (known ks es (rest-tags p (tag k) (map tag ks) h) behind)
+
+  -- none of these, or they
+  known-if : (b : Bool) (ks es : List Event) → all_tags p (map tag ks) ≡ true → L es → L (cond b ks [] ++ es)
+  known-if true ks es h behind = known ks es h behind
+  known-if false ks es h behind = behind
+
   suspended-onto : (none : Bool) (v : ℕ) (es : List Event) → p Suspends ≡ true → L es → L (cond none [] (Suspended v ∷ []) ++ es)
   suspended-onto true v es h behind = behind
   suspended-onto false v es h behind = lists.more (Suspended v) es h behind
 
-  freed-onto : (v : ℕ) (held : Bool) (es : List Event) → p Frees ≡ true → L es → L (told_freed v held ++ es)
-  freed-onto v true es h behind = lists.more (FlashFreed v) es h behind
-  freed-onto v false es h behind = behind
-
-  held-onto : (first : Bool) (v s n : ℕ) (es : List Event) → p Begins ≡ true → p Cuts ≡ true → L es → L (cond first (Begin s n ∷ Cut s n v ∷ []) (Cut s n v ∷ []) ++ es)
-  held-onto true v s n es begins cuts behind = lists.more (Begin s n) _ begins (lists.more (Cut s n v) es cuts behind)
-  held-onto false v s n es begins cuts behind = lists.more (Cut s n v) es cuts behind
+  held-onto : (first : Bool) (v s n : ℕ) (es : List Event) → all_tags p (Begins ∷ Cuts ∷ []) ≡ true → L es → L (cond first (Begin s n ∷ Cut s n v ∷ []) (Cut s n v ∷ []) ++ es)
+  held-onto true v s n es h behind = known (Begin s n ∷ Cut s n v ∷ []) es h behind
+  held-onto false v s n es h behind = known (Cut s n v ∷ []) es (rest-tags p Begins (Cuts ∷ []) h) behind
 
   ended : (v s n : ℕ) (own : Tracks) (es : List Event) → all_tags p (Blanks ∷ Restores ∷ []) ≡ true → L es → L (told_restored v s n own ++ es)
   ended v s n own es h behind =
@@ -196,33 +202,15 @@ module _ (p : Tag → Bool) (L : List Event → Type 0) (lists : Lists (Of p) L)
 
   -- what a move tells, and other events behind it
   pub told-onto : (m : Move) (u : Volume) (es : List Event) → all_tags p (emits m) ≡ true → L es → L (told m u ++ es)
-  told-onto (Land n v t) u es h behind = lists.more _ es (first-tag p Acks [] h) behind
-  told-onto (Overwrite n v t) u es h behind = lists.more _ es (first-tag p Acks [] h) behind
-  told-onto (Keep v t) u es h behind = lists.more _ es (first-tag p Copies [] h) behind
-  told-onto (Relate v s choices) u es h behind = lists.more _ es (first-tag p Sets [] h) behind
   told-onto (Withdraw v) u es h behind = blanked-onto (Of p) L lists v (in_order u.tracks (rest u.tracks u.fields.own)) es (λ t. first-tag p Blanks [] h) behind
-  told-onto (Fetch v t) u es h behind = lists.more _ es (first-tag p Copies [] h) behind
-  told-onto (Resync v sequence) u es h behind = lists.more _ es (first-tag p Sets [] h) behind
   told-onto (Reverse v None) u es h behind = ended v u.fields.source u.tracks (turned u.fields).own es (rest-tags p Leaves (Blanks ∷ Restores ∷ []) h) behind
   told-onto (Reverse v (Some a)) u es h behind =
       lists.more _ _ (first-tag p Leaves (Blanks ∷ Restores ∷ []) h) (ended v u.fields.source u.tracks (turned u.fields).own es (rest-tags p Leaves (Blanks ∷ Restores ∷ []) h) behind)
-  told-onto (Restore v t from) u es h behind = lists.more _ es (first-tag p Backs [] h) behind
   told-onto (Release v t) u es h behind = ended v u.fields.source u.tracks (given_up u.fields t).own es h behind
-  told-onto (Store v t from last) u es h behind = lists.more _ es (first-tag p Sends [] h) behind
   told-onto (Suspend v busy) u es h behind = suspended-onto (is_suspended u.fields.primary_state) v es (first-tag p Suspends [] h) behind
-  told-onto (TakeOver v) u es h behind = lists.more _ es (first-tag p Takes [] h) behind
-  told-onto (Mirror v t from n) u es h behind = lists.more _ es (first-tag p Mirrors [] h) behind
-  told-onto (LandBoth n v t) u es h behind = lists.more _ es (first-tag p Acks [] h) behind
-  told-onto (FlashHold v) u es h behind = lists.more _ es (first-tag p Holds [] h) behind
-  told-onto (FlashFree v) u es h behind = lists.more _ es (first-tag p Frees [] h) behind
-  told-onto (Lift v) u es h behind = freed-onto v u.fields.flash_hold es (first-tag p Frees [] h) behind
-  told-onto (Hold v s n first) u es h behind = held-onto first v s n es (first-tag p Begins (Cuts ∷ []) h) (first-tag p Cuts [] (rest-tags p Begins (Cuts ∷ []) h)) behind
-  told-onto (Seal v a s n) u es h behind = lists.more _ es (first-tag p Seals [] h) behind
-  told-onto (Leave v a s) u es h behind = lists.more _ es (first-tag p Leaves [] h) behind
-  told-onto (Flash v from a s n) u es h behind = lists.more _ es (first-tag p Flashes [] h) behind
-  told-onto (Commit v a s n) u es h behind = lists.more _ es (first-tag p Commits [] h) behind
-  told-onto (Revert v a s n) u es h behind = lists.more _ es (first-tag p Reverts [] h) behind
-  told-onto m u es h behind = behind
+  told-onto (Lift v) u es h behind = known-if u.fields.flash_hold (FlashFreed v ∷ []) es h behind
+  told-onto (Hold v s n first) u es h behind = held-onto first v s n es h behind
+  told-onto m u es h behind = known (told m u) es h behind
 
   -- and what it tells where its server stops
   pub stop-onto : (m : Move) (u : Volume) (es : List Event) → all_tags p (emits m) ≡ true → L es → L (told_in_stop m u ++ es)

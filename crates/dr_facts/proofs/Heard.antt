@@ -12,25 +12,18 @@ use Rattle.dr_model.specs.Control.{Volume as VolumeRow}
 use Rattle.dr_model.specs.Moves.{Move, told, told_restored}
 use Rattle.dr_facts.specs.Heard.{Unheard, AllUnheard}
 use Rattle.dr_facts.proofs.Tables.{at_cases, at2_cases}
-use Rattle.dr_facts.proofs.Emits.{Lists as ByEvents, Tag, Copies, Restores, Suspends, Takes, Holds, Frees, Begins, Cuts, Seals, Leaves, Commits, Of, all_tags, emits, restored-onto, each-told}
+use Rattle.dr_facts.proofs.Emits.{Lists as ByEvents, Tag, Suspends, Frees, Begins, Cuts, Of, all_tags, emits, restored-onto, each-told}
 
 pub elsewhere : {X : Type 0} (v x : ℕ) (new old : X) → v ≢ x → cond (nat_eq v x) new old ≡ old
 elsewhere v x new old ne = ap (λ b. cond b new old) (ne_eqb v x ne)
 
--- kinds of events of which no list hears
-abbrev pub heard_by_none : Tag → Bool
-heard_by_none Copies = true
-heard_by_none Restores = true
-heard_by_none Suspends = true
-heard_by_none Takes = true
-heard_by_none Holds = true
-heard_by_none Frees = true
-heard_by_none Begins = true
-heard_by_none Cuts = true
-heard_by_none Seals = true
-heard_by_none Leaves = true
-heard_by_none Commits = true
-heard_by_none k = false
+-- kinds of events that change no history, and that a move tells or doesn't by what it finds
+abbrev pub changes_none : Tag → Bool
+changes_none Suspends = true
+changes_none Frees = true
+changes_none Begins = true
+changes_none Cuts = true
+changes_none k = false
 
 -- ---- lists that hear nothing stay
 
@@ -71,12 +64,12 @@ module _ (P : ℕ → Type 0) where
   pub unheard-restored : (v x s n : ℕ) (own : Tracks) → v ≢ x → AllUnheard P v (told_restored x s n own)
   unheard-restored v x s n own ne = subst (AllUnheard P v) (append-nil _) (restored-onto (Unheard P v) (AllUnheard P v) (unheard-lists v) x s n own [] (λ t. ne) tt tt)
 
-  unheard-kind : (v : ℕ) (e : Event) → Of heard_by_none e → Unheard P v e
+  unheard-kind : (v : ℕ) (e : Event) → Of changes_none e → Unheard P v e
   unheard-kind v (Ack n) h = absurd cc
   unheard-kind v e h = first_of (assumption, cc)
 
-  pub unheard-told : (v : ℕ) (m : Move) (u : VolumeRow) → all_tags heard_by_none (emits m) ≡ true → AllUnheard P v (told m u)
-  unheard-told v = each-told heard_by_none (AllUnheard P v) (record { none = tt; more = λ e es h behind. (unheard-kind v e h, behind) })
+  pub unheard-told : (v : ℕ) (m : Move) (u : VolumeRow) → all_tags changes_none (emits m) ≡ true → AllUnheard P v (told m u)
+  unheard-told v = each-told changes_none (AllUnheard P v) (record { none = tt; more = λ e es h behind. (unheard-kind v e h, behind) })
 
 -- ---- what holds of each list goes on to hold
 

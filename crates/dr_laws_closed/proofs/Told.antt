@@ -6,7 +6,7 @@ use Rattle.dr_model.specs.declared.event.Event.{Event}
 use Rattle.dr_model.specs.declared.event.Event.TheVariants.{Begin, Cut, Flashed, Reverted, Left}
 use Rattle.dr_model.specs.Histories.{Histories, Write, histories, after_event, lists}
 use Rattle.dr_model.specs.Control.{Volume}
-use Rattle.dr_model.specs.Moves.{Move, Land, Overwrite, Relate, Withdraw, Resync, Reverse, Restore, Release, Store, Mirror, LandBoth, Hold, Leave, Flash, Revert, Commit, told, told_in_stop}
+use Rattle.dr_model.specs.Moves.{Move, Land, Overwrite, Withdraw, Reverse, Release, LandBoth, Hold, Leave, Flash, Revert, Commit, told, told_in_stop}
 use Rattle.dr_model.proofs.Images.{histories-append}
 use Rattle.dr_facts.proofs.Heard.{elsewhere, unheard-event, unheard-write, unheard-blanked, unheard-restored, unheard-told}
 use Rattle.dr_facts.proofs.Emits.{Lists as ByEvents, Tag, Flashes, Commits, Reverts, Leaves, Of, all_tags, emits, each-told, each-ended}
@@ -66,17 +66,18 @@ no-change g (Reverted s n a c) quiet = absurd quiet
 no-change g (Left s a) quiet = absurd quiet
 no-change g e quiet = refl
 
-fold-still : (g : Standing) (es : List Event) → AllStill es → fold standing_event g es ≡ g
-fold-still g [] quiet = refl
-fold-still g (e ∷ es) quiet = fold-still (standing_event g e) es quiet.1 ∙ no-change g e quiet.0
+-- a fold that passes over them
+pub fold-still : (f : Standing → Event → Standing) → ((g : Standing) (e : Event) → Still e → f g e ≡ g) → (g : Standing) (es : List Event) → AllStill es → fold f g es ≡ g
+fold-still f same g [] quiet = refl
+fold-still f same g (e ∷ es) quiet = fold-still f same (f g e) es quiet.1 ∙ same g e quiet.0
 
 pub standing-still : (events more : List Event) → AllStill more → standing (events ++ more) ≡ standing events
-standing-still events more quiet = standing-append events more ∙ fold-still (standing events) more quiet
+standing-still events more quiet = standing-append events more ∙ fold-still standing_event no-change (standing events) more quiet
 
 module _ (events : List Event) where
   pub standing-told : (m : Move) (u : Volume) → standing (events ++ told m u) ≡ next_standing m u (standing events)
   standing-told (Reverse v None) u = standing-still events _ (still-ended v u)
-  standing-told (Reverse v (Some a)) u = standing-append events (told (Reverse v (Some a)) u) ∙ fold-still (standing_event (standing events) (Left u.fields.session a)) _ (still-ended v u)
+  standing-told (Reverse v (Some a)) u = standing-append events (told (Reverse v (Some a)) u) ∙ fold-still standing_event no-change _ _ (still-ended v u)
   standing-told (Leave v a s) u = standing-append events _
   standing-told (Flash v from a s n) u = standing-append events _
   standing-told (Commit v a s n) u = standing-append events _
@@ -98,21 +99,11 @@ apart-fold h (e ∷ es) v t a =
     apart-fold (after_event h e) es v t (subst (λ (f : ℕ → Write). AllApart f v es) (sym (unheard-write (OfOther h.write v) h e v a.0)) a.1) ∙ apart-event h e v t a.0
 
 told-apart : (write : ℕ → Write) (m : Move) (u : Volume) (v : ℕ) → Untouched write m v → AllApart write v (told m u)
-told-apart write (Land n x t) u v ne = (ne, tt)
-told-apart write (Overwrite n x t) u v ne = (ne, tt)
-told-apart write (LandBoth n x t) u v ne = (ne, tt)
-told-apart write (Relate x s choices) u v ne = (ne, tt)
 told-apart write (Withdraw x) u v ne = unheard-blanked (OfOther write v) v x _ ne
-told-apart write (Resync x sequence) u v ne = (ne, tt)
 told-apart write (Reverse x None) u v ne = unheard-restored (OfOther write v) v x _ _ _ ne
 told-apart write (Reverse x (Some p)) u v ne = (tt, unheard-restored (OfOther write v) v x _ _ _ ne)
-told-apart write (Restore x t from) u v ne = (ne, tt)
 told-apart write (Release x t) u v ne = unheard-restored (OfOther write v) v x _ _ _ ne
-told-apart write (Store x t from last) u v ne = (ne, tt)
-told-apart write (Mirror x t from n) u v ne = (ne, tt)
-told-apart write (Flash x from a s n) u v ne = (ne, tt)
-told-apart write (Revert x a s n) u v ne = (ne, tt)
-told-apart write m u v ne = unheard-told (OfOther write v) v m u refl
+told-apart write m u v ne = first_of (assumption, search (unheard-told (OfOther write v) v m u))
 
 pub lists-apart : (events more : List Event) (v t : ℕ) → AllApart (histories events).write v more → lists (events ++ more) v t ≡ lists events v t
 lists-apart events more v t a = ap (λ (h : Histories). h.now v t) (histories-append events more) ∙ apart-fold (histories events) more v t a

@@ -1,17 +1,15 @@
 -- What was flashed stays so in the journal, until an attempt of the session begins; and of moves only the first hold of an attempt begins one.
-use Rattle.std.proofs.Common.{ℕ, ◌⊎◌, inl, inr, refl, ap, sym, ◌∙◌, subst, Bool, true, false, cond, List, [], ◌∷◌, ◌++◌, map, Some, None}
+use Rattle.std.proofs.Common.{ℕ, ◌⊎◌, inl, inr, refl, ap, sym, ◌∙◌, subst, true, false, List, [], ◌∷◌, ◌++◌}
 use Rattle.std.proofs.lemmas.List.{append_assoc}
 use Rattle.dr_model.specs.declared.event.Event.{Event}
-use Rattle.dr_model.specs.declared.event.Event.TheVariants.{Blanked, Restored, Suspended, Begin, Flashed}
-use Rattle.dr_model.specs.Layout.{Tracks}
-use Rattle.dr_model.specs.Relations.{rest, in_order, turned, given_up}
+use Rattle.dr_model.specs.declared.event.Event.TheVariants.{Begin, Flashed}
 use Rattle.dr_model.specs.Control.{Control, Volume}
-use Rattle.dr_model.specs.Moves.{Move, Land, Overwrite, Keep, Relate, Withdraw, Fetch, Resync, Reverse, Restore, Release, Store, Suspend, TakeOver, Mirror, LandBoth, FlashHold, FlashFree, Lift, Hold, Seal, Leave, Flash, Commit, Revert, told, told_in_stop, told_blank, told_freed}
+use Rattle.dr_model.specs.Moves.{Move, Hold, told, told_in_stop}
 use Rattle.dr_model.specs.Groups.{In}
 use Rattle.dr_model.specs.Attempts.{InAttempt}
 use Rattle.dr_facts.proofs.Lists.{in-joined}
-use Rattle.dr_facts.proofs.Emits.{Lists as ByEvents, Tag, Begins, Of, each-told, stop-onto}
-use Rattle.dr_laws_sound.proofs.Listed.{NoBegin, NoBegins}
+use Rattle.dr_facts.proofs.Emits.{Lists as ByEvents, Of, each-told, stop-onto}
+use Rattle.dr_laws_sound.proofs.Listed.{begins_none, NoBegins}
 use Rattle.dr_laws_commits.specs.Flashed.{FlashedIn}
 use Rattle.dr_logic.proofs.Truth.{false_true}
 
@@ -23,7 +21,7 @@ NoneOf s more = (k : ℕ) → In (Begin s k) more → ⊥
 
 pub none-of : (s : ℕ) (more : List Event) → NoBegins more → NoneOf s more
 none-of s [] none k h = h
-none-of s (e ∷ es) none k (inl is) = subst NoBegin (sym is) none.0
+none-of s (e ∷ es) none k (inl is) = let no = subst (Of begins_none) (sym is) none.0 in absurd cc
 none-of s (e ∷ es) none k (inr more) = none-of s es none.1 k more
 
 -- a flash stands with more events behind it
@@ -47,23 +45,15 @@ comes events more s n a b c none = record { before = events; behind = more; from
 
 -- ---- what moves tell
 
-abbrev begins_none : Tag → Bool
-begins_none Begins = false
-begins_none k = true
-
-no-begin : (e : Event) → Of begins_none e → NoBegin e
-no-begin (Begin s n) h = absurd cc
-no-begin e h = tt
-
 no-begins : ByEvents (Of begins_none) NoBegins
-no-begins = record { none = tt; more = λ e es h behind. (no-begin e h, behind) }
+no-begins = record { none = tt; more = λ e es h behind. (h, behind) }
 
 pub told-none : (k : Control) (m : Move) (u : Volume) → InAttempt k m → NoBegins (told m u)
 told-none k (Hold v s n true) u a = false_true a.1.1 refl
-told-none k (Hold v s n false) u a = (tt, tt)
+told-none k (Hold v s n false) u a = (refl, tt)
 told-none k m u a = each-told begins_none NoBegins no-begins m u refl
 
-pub stopped-none : (k : Control) (m : Move) (u : Volume) (e : Event) → InAttempt k m → NoBegin e → NoBegins (told_in_stop m u ++ e ∷ [])
+pub stopped-none : (k : Control) (m : Move) (u : Volume) (e : Event) → InAttempt k m → Of begins_none e → NoBegins (told_in_stop m u ++ e ∷ [])
 stopped-none k (Hold v s n true) u e a none = false_true a.1.1 refl
-stopped-none k (Hold v s n false) u e a none = (tt, (none, tt))
+stopped-none k (Hold v s n false) u e a none = (refl, (none, tt))
 stopped-none k m u e a none = stop-onto begins_none NoBegins no-begins m u (e ∷ []) refl (none, tt)

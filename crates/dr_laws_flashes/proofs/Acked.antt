@@ -26,7 +26,7 @@ abbrev Elsewhere : World → ℕ → ℕ → Type 0
 Elsewhere w v n = (n < w.control.issued + 1) × (((histories w.events).write n).volume ≢ v)
 
 none-acked : (p : Tag → Bool) → p AcksTag ≡ false → Lists (Of p) (λ es. (n : ℕ) → In (Ack n) es → ⊥)
-none-acked p acks = record { none = λ n here. here; more = λ e es by behind n here. elim here as (λ _. ⊥) [ | inl same ↦ false_true acks (subst (Of p) (sym same) by) | inr there ↦ behind n there ] }
+none-acked p acks = record { none = λ n here. here; more = λ e es by behind n here. elim here as (λ _. ⊥) [ inl same ↦ false_true acks (subst (Of p) (sym same) by) | inr there ↦ behind n there ] }
 
 module _ (w : World) (v : ℕ) where
   -- a move that lands write k on another volume

@@ -10,7 +10,7 @@ use Rattle.dr_model.specs.declared.event.Event.TheVariants.{Ack, Stopped}
 use Rattle.dr_model.specs.Histories.{Write, Histories, histories, lists, joined, after_event}
 use Rattle.dr_model.specs.Layout.{is_part}
 use Rattle.dr_model.specs.Control.{Volume, World}
-use Rattle.dr_model.specs.Moves.{Move, Land, Overwrite, Relate, Withdraw, Resync, Reverse, Restore, Release, Store, Mirror, LandBoth, Flash, Revert, told, told_in_stop}
+use Rattle.dr_model.specs.Moves.{Move, Land, Relate, Withdraw, Resync, Reverse, Restore, Release, Store, Mirror, Flash, Revert, told, told_in_stop}
 use Rattle.dr_model.specs.Entries.{fields_at}
 use Rattle.dr_model.specs.Table.{table}
 use Rattle.dr_model.specs.Laws.{SoundRows, source}
@@ -140,19 +140,13 @@ module _ (v q : ℕ) (w : World) (rows : SoundRows (table w)) (st : Stays v q w)
   apart-told (Resync x s) a off u = (not-target x a.from a.related, tt)
   apart-told (Reverse x None) a off u = unheard-restored OfAny v x _ _ _ (not-target x a.resync.from a.resync.related)
   apart-told (Reverse x (Some p)) a off u = (tt, unheard-restored OfAny v x _ _ _ (not-target x a.resync.from a.resync.related))
-  apart-told (Restore x t y) a off u = (off, tt)
   apart-told (Release x t) a off u = unheard-restored OfAny v x _ _ _ (not-target x a.from a.related)
   apart-told (Store x t y last) a off u = (not-second x (chosen _ _ y a.takes).0, tt)
   apart-told (Mirror x t y n) a off u = (not-second x (chosen _ _ y a.takes).0, tt)
-  apart-told (Land n x t) a off u = (tt, tt)
-  apart-told (Overwrite n x t) a off u = (tt, tt)
-  apart-told (LandBoth n x t) a off u = (tt, tt)
   apart-told (Flash x y p s n) a off u = (not-target x a.resync.from a.resync.related, tt)
   apart-told (Revert x p s n) a off u = (not-target x a.from a.related, tt)
-  apart-told m a off u = unheard-told OfAny v m u refl
+  apart-told m a off u = first_of (assumption, search (unheard-told OfAny v m u))
 
   pub apart-stop : (m : Move) → Allowed (histories w.events).write (table w) m → NoRestore v m → (u : Volume) (s k : ℕ) → AllApart v (told_in_stop m u ++ Stopped s k ∷ [])
   apart-stop (Land n x t) a off u s k = (tt, tt)
-  apart-stop (Overwrite n x t) a off u s k = (tt, tt)
-  apart-stop (LandBoth n x t) a off u s k = (tt, tt)
-  apart-stop m a off u s k = unheard-append OfAny v (told m u) (Stopped s k ∷ []) (apart-told m a off u) (tt, tt)
+  apart-stop m a off u s k = first_of (assumption, assumption (unheard-append OfAny v (told m u) (Stopped s k ∷ []) (apart-told m a off u) (tt, tt)))

@@ -7,7 +7,7 @@ use Rattle.dr_model.specs.declared.event.Event.{Event}
 use Rattle.dr_model.specs.declared.event.Event.TheVariants.{Issue, Ack, Mirrored, Stopped}
 use Rattle.dr_model.specs.Histories.{Write, Histories, histories, after_event}
 use Rattle.dr_model.specs.Control.{Control, Pending, Fuse, Volume, World, is_volume}
-use Rattle.dr_model.specs.Moves.{Move, Land, Overwrite, Mirror, LandBoth, target, told, told_in_stop, settled, settled_in_stop, is_write, is_other, marked, landed}
+use Rattle.dr_model.specs.Moves.{Move, Land, Overwrite, LandBoth, target, told, told_in_stop, settled, settled_in_stop, is_write, is_other, marked, landed}
 use Rattle.dr_model.specs.Laws.{Lone, Together, servers, sizes, Below, Numbered, Queue, Waits, AllPending, Apart}
 use Rattle.dr_model.specs.Entries.{is_at}
 use Rattle.dr_model.specs.Allowed.{Coming, Ready}
@@ -15,7 +15,7 @@ use Rattle.dr_model.proofs.Images.{histories-append, Below-append}
 use Rattle.dr_laws_closed.proofs.Pendings.{each-on, all-filter}
 use Rattle.dr_facts.proofs.Tables.{at_cases}
 use Rattle.dr_facts.proofs.Heard.{OfEach, OfJoined, each-event}
-use Rattle.dr_facts.proofs.Emits.{Tag, Issues, Acks, Mirrors, Of, each-told}
+use Rattle.dr_facts.proofs.Emits.{Tag, Issues, Acks, Mirrors, Of, AllOf, of-append, each-told}
 use Rattle.dr_laws_sound.proofs.Turns.{done, done_in_stop}
 use Rattle.dr_logic.proofs.Tables.{at_same}
 
@@ -27,8 +27,7 @@ Quiet n (Mirrored w v) = w < n
 Quiet n e = Unit {0}
 
 abbrev pub AllQuiet : ℕ → List Event → Type 0
-AllQuiet n [] = Unit {0}
-AllQuiet n (e ∷ es) = Quiet n e × AllQuiet n es
+AllQuiet n es = AllOf (Quiet n) es
 
 -- kinds of events that issue no write, and add none to a list
 abbrev pub adds_none : Tag → Bool
@@ -64,10 +63,6 @@ numbered-fold n h (e ∷ es) quiet low = numbered-fold n (after_event h e) es qu
 write-fold : (n : ℕ) (h : Histories) (es : List Event) → AllQuiet n es → (fold after_event h es).write ≡ h.write
 write-fold n h [] quiet = refl
 write-fold n h (e ∷ es) quiet = write-fold n (after_event h e) es quiet.1 ∙ write-after n h e quiet.0
-
-quiet-append : (n : ℕ) (es fs : List Event) → AllQuiet n es → AllQuiet n fs → AllQuiet n (es ++ fs)
-quiet-append n [] fs p q = q
-quiet-append n (e ∷ es) fs p q = (p.0, quiet-append n es fs p.1 q)
 
 pub lone-on : (server other : ℕ → ℕ) → ((v : ℕ) → other v ≡ server v) → (ps : List Pending) → Lone server ps → Lone other ps
 lone-on server other same [] all = tt
@@ -206,16 +201,11 @@ module _ (starts : Option ℕ) (w : World) (old : Queue starts w) where
   -- what a move tells
   told-quiet : (m : Move) → Ready w m → AllQuiet n (told m (w.control.volume (target m)))
   told-quiet (Land k v t) ready = (ready.number, tt)
-  told-quiet (Overwrite k v t) ready = (ready.number, tt)
-  told-quiet (Mirror v t u k) ready = (ready.number, tt)
-  told-quiet (LandBoth k v t) ready = (ready.number, tt)
-  told-quiet m ready = each-told adds_none (AllQuiet n) (record { none = tt; more = λ e es h behind. (quiet-kind n e h, behind) }) m (w.control.volume (target m)) refl
+  told-quiet m ready = first_of (assumption, search (each-told adds_none (AllQuiet n) (record { none = tt; more = λ e es h behind. (quiet-kind n e h, behind) }) m (w.control.volume (target m))))
 
   stop-quiet : (m : Move) → Ready w m → AllQuiet n (told_in_stop m (w.control.volume (target m)))
   stop-quiet (Land k v t) ready = tt
-  stop-quiet (Overwrite k v t) ready = tt
-  stop-quiet (LandBoth k v t) ready = tt
-  stop-quiet m ready = told-quiet m ready
+  stop-quiet m ready = first_of (assumption, search (told-quiet m ready))
 
   -- a move leaves each volume its server
   same-server : (m : Move) (f : Option Fuse) (v : ℕ) → servers (done w m f).control v ≡ servers w.control v
@@ -268,6 +258,6 @@ module _ (starts : Option ℕ) (w : World) (old : Queue starts w) where
   queue-stop m f ready =
       let k : Control = (done_in_stop w m f).control in
       let u : Volume = w.control.volume (target m) in
-      queue-by k (told_in_stop m u ++ Stopped u.server (landed m) ∷ []) (done_in_stop w m f).contents (quiet-append n (told_in_stop m u) _ (stop-quiet m ready) (tt, tt)) refl
+      queue-by k (told_in_stop m u ++ Stopped u.server (landed m) ∷ []) (done_in_stop w m f).contents (of-append (Quiet n) (told_in_stop m u) _ (stop-quiet m ready) (tt, tt)) refl
       (λ write same. stop-waits k write (waits-on k write refl refl same (same-server m f) (same-size m f) (goes-off w.control.on u.server)) m ready (off-here m f))
       (stop-apart m ready).0 (lone-on (servers w.control) (servers k) (same-server m f) _ (stop-apart m ready).1)

@@ -23,7 +23,8 @@ use Rattle.dr_model.specs.Allowed.{Allowed, Idle, Ready, Runs}
 use Rattle.dr_model.proofs.Images.{histories-append}
 use Rattle.dr_facts.proofs.Tables.{IsOrNot}
 use Rattle.dr_facts.proofs.Sets.{if_false}
-use Rattle.dr_facts.proofs.Emits.{Tag, Suspends, Frees, Begins, Cuts, Of, all_tags, emits, fold-lists, each-told}
+use Rattle.dr_facts.proofs.Heard.{changes_none}
+use Rattle.dr_facts.proofs.Emits.{Of, all_tags, emits, fold-lists, each-told}
 use Rattle.dr_laws_sound.proofs.Turns.{next_of, carried_in, done, done_in_stop}
 use Rattle.dr_laws_sound.proofs.Due.{Calm, due-same, due-acked, due-marked, due-mirrored, due-set, due-back, due-blanked, due-restored, due-at, aside-same, aside-blanked, aside-restored, aside-at}
 use Rattle.dr_model.proofs.LawfulLemmas.{removed}
@@ -125,14 +126,6 @@ module _ (w : World) (blank : Blank (table w)) where
 
     pub table-changed : table (changed w m on fuse ps es) ≡ after write (table w) m
     table-changed = λ i u. row-by u (eqb_tells u x) i
-
--- kinds of events that change no history
-abbrev changes_none : Tag → Bool
-changes_none Suspends = true
-changes_none Frees = true
-changes_none Begins = true
-changes_none Cuts = true
-changes_none k = false
 
 no-change : (h : Histories) (e : Event) → Of changes_none e → after_event h e ≡ h
 no-change h (Suspended v) is = refl
