@@ -6,7 +6,7 @@ use Rattle.dr_ids.specs.declared.refusal.PhaseName.{PhaseName}
 use Rattle.dr_ids.specs.declared.refusal.Refusal.{Refusal}
 use Rattle.dr_ids.specs.declared.refusal.Refusal.TheVariants.{OldMessage, Syntax, Unknown, Duplicate, Limit, ServerOff, LinkDown, Void, NotPrimary, Inhibited, PairState, RelationState, InSession, NotInSession, InFormation, OutOfOrder, Unsealed, Stale, Forbidden, NotIdentical, NumbersSpent, Stopped, NoGroup, JournalFull, NotBuilt}
 use Rattle.dr_facts.proofs.Reasons.{NoStop, names_no_stop}
-use Rattle.dr_facts.proofs.Entries.{anywhere, from-ends}
+use Rattle.dr_facts.proofs.Entries.{any_world, from-ends}
 use Rattle.dr_laws_sound.proofs.Does.{Acts, Late}
 use Rattle.dr_laws_sound.proofs.DoesPlans.{case-does}
 use Rattle.dr_model.proofs.CarryLemmas.{carry-none}
@@ -63,7 +63,7 @@ says-built (Held n) e = refl
 
 ending-built : (w : World) (line : ℕ) (p : Plan) → Ending w.control w.events line p → built_if (carry (begun w p) p.entries).1 ≡ true
 ending-built w line _ (OnePlan asked p c) =
-    from-ends anywhere (Acts w.control asked) NoStop (Late asked) (λ v. tt) (λ o. built_if o ≡ true) refl (λ s. refl) no-stop-built (λ r late. no-stop-built r late.why) p.entries (begun w p) (case-does w line asked p c).entries
+    from-ends any_world (Acts w.control asked) NoStop (Late asked) (λ v. tt) (λ o. built_if o ≡ true) refl (λ s. refl) no-stop-built (λ r late. no-stop-built r late.why) p.entries (begun w p) (case-does w line asked p c).entries
 ending-built w line _ (Imaged vs) = ap (λ (o : Outcome). built_if o.1) (carry-none (begun w (image_plan vs)))
 
 -- ---- plans

@@ -21,7 +21,7 @@ use Rattle.dr_model.specs.MessagePlans.{told_begun}
 use Rattle.dr_model.specs.Listings.{lists}
 use Rattle.dr_model.specs.Plans.{Plan, refuses, unless, on_named, on_owner, on_session, is_defined, only_says}
 use Rattle.dr_facts.proofs.Reasons.{NoStop}
-use Rattle.dr_facts.proofs.Entries.{anywhere, from-none, fine-none}
+use Rattle.dr_facts.proofs.Entries.{any_world, from-none, fine-none}
 pub use Rattle.dr_laws_sound.proofs.Cases.{NotHeld, done-not, refused-not}
 use Rattle.dr_laws_sound.proofs.Cases.{Case, Says, DefinesServer, DefinesVolume, Issues, Writes, Applies, Lists, Shows, Stops, Starts, Aborts, Exchanges, Sends, TakesReply, Recovers}
 use Rattle.dr_laws_sound.proofs.Does.{Does, Acts, Late, IsWrite, Issued, Found, Lands, Overwrites, Mirrors, LandsBoth, Drops, Acknowledges}
@@ -133,6 +133,6 @@ pub lines-hushed : (w : World) (told : List Event) → AllLines told → HushedP
 lines-hushed w told ls =
     let p : Plain told = lines-plain told ls in
     record {
-      mum = plan-mum false NoStop NoStop (λ u a. Mute false a) (λ u a mute. mute) w (lists told) (record { none = p.none; plain = p.plain; uncut = λ h. absurd cc }) (from-none anywhere (λ u a. Mute false a) NoStop NoStop _) (λ s. fine-none anywhere (λ u a. Mute false a) NoStop);
+      mum = plan-mum false NoStop NoStop (λ u a. Mute false a) (λ u a mute. mute) w (lists told) (record { none = p.none; plain = p.plain; uncut = λ h. absurd cc }) (from-none any_world (λ u a. Mute false a) NoStop NoStop _) (λ s. fine-none any_world (λ u a. Mute false a) NoStop);
       says = λ k. done-not Alone;
     }

@@ -35,7 +35,7 @@ use Rattle.dr_laws_sound.proofs.Cases.{Case, Says, DefinesServer, DefinesVolume,
 use Rattle.dr_laws_sound.proofs.Does.{Acts, Late, refuses_late}
 use Rattle.dr_laws_sound.proofs.DoesPlans.{Entered, case-does}
 use Rattle.dr_facts.proofs.Reasons.{NoStop}
-use Rattle.dr_facts.proofs.Entries.{anywhere}
+use Rattle.dr_facts.proofs.Entries.{any_world}
 use Rattle.dr_facts.proofs.SharedEntries.{start-fine}
 use Rattle.dr_logic.proofs.Truth.{false_true}
 use Rattle.dr_model.specs.declared.step.Step.{Step}
@@ -116,7 +116,7 @@ case-still w line _ _ (Lists told ls few) less = never-refused w _ (λ k. refl) 
 case-still w line _ _ (Shows v t there) less = never-refused w _ (λ k. refl) refl
 case-still w line _ _ (Stops s on) less = never-refused w _ (λ k. refl) refl
 case-still w line _ _ (Arms writes torn s) less = never-refused w _ (λ k. refl) refl
-case-still w line _ _ (Starts s off) less = λ r refused. never-leads _ _ _ r (start-fine anywhere any_act never s w.control.volumes (λ v u any. tt) (λ v u any. tt) (λ n u any is. tt))
+case-still w line _ _ (Starts s off) less = λ r refused. never-leads _ _ _ r (start-fine any_world any_act never s w.control.volumes (λ v u any. tt) (λ v u any. tt) (λ n u any is. tt))
     (entries-refuse w (start_plan w.control s) r (λ j. acked-accepts (landed_on w.control s)) refused) refused.other
 case-still w line _ _ (MakesPath src tgt group) less = never-refused w _ (λ k. refl) refl
 case-still w line _ _ (RemovesPath src tgt) less = never-refused w _ (λ k. refl) refl
