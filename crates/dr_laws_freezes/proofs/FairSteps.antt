@@ -63,7 +63,7 @@ alone : (w : World) → Sound w → (entries : List Entry) (says : Control → S
 alone w s entries says a = record { ends = Sound; complete = λ v y. y; begins = sound-begun w s; entries = a; follows = λ q v y. over v y; last = λ v y. y; turns = λ v y. regroups-same v.control.sessions; adds = λ v y. adds-same v.control.sessions v.control.flight v.control.flight refl; goes = λ v y. goes-same v.control }
 
 pub fair-case : (w : World) (k : Between w) (line : ℕ) (asked : Result Step ℕ) (p : Plan) → Case w.control w.events line asked p → Fair w p
-fair-case w k line _ _ (Says a waits) = fair-says w k line a
+fair-case w k line _ _ (Says a waits why) = fair-says w k line a
 fair-case w k line _ _ (DefinesServer name free) = fair-defines w k line name free
 fair-case w k line _ _ (DefinesVolume v s tracks here free) = fair-adds w k line v s tracks here free
 fair-case w k line _ _ (SetsLink a b up) = fair-links w k line a b up

@@ -186,7 +186,7 @@ module _ (w : World) where
       (each c _ (let_go a b) _ (when c _ (belongs_to a b) (Make (moves.DropSecondary b)) (λ j is. does.DropsSecondary b)) (none c _)))))
 
   pub case-does : (line : ℕ) (asked : Result Step ℕ) (p : Plan) → Case w.control w.events line asked p → Entered w asked p
-  case-does line _ _ (Says a waits) = tables _ _ _ _ _
+  case-does line _ _ (Says a waits why) = tables _ _ _ _ _
   case-does line _ _ (DefinesServer name free) = tables _ _ _ _ _
   case-does line _ _ (DefinesVolume v s tracks here free) = tables _ _ _ _ _
   case-does line _ _ (SetsLink a b up) = tables _ _ _ _ _

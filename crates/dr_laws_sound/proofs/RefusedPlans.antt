@@ -105,7 +105,7 @@ module _ (w : World) (asked : Result Step ℕ) (less : refuses_late asked ≡ fa
       ∙ begins
 
 pub case-still : (w : World) (line : ℕ) (asked : Result Step ℕ) (p : Plan) → Case w.control w.events line asked p → leaves_more asked ≡ false → Still w p
-case-still w line _ _ (Says a waits) less = still-says w a
+case-still w line _ _ (Says a waits why) less = still-says w a
 case-still w line _ _ (DefinesServer name free) less = never-refused w _ (λ k. refl) refl
 case-still w line _ _ (DefinesVolume v s tracks here free) less = never-refused w _ (λ k. refl) refl
 case-still w line _ _ (SetsLink a b up) less = never-refused w _ (λ k. refl) refl

@@ -277,7 +277,7 @@ module _ (K : World → Type 0) (rider : Rider K) where
         by (inr busy) = subst (λ b. Posted i server o b K) (sym (busy-is r.master.phase busy)) (later busy (subst (λ b. Posted i server o b Sound) (busy-is r.master.phase busy) (sound-sent w s i server x r o posts)))
 
     case-rides : (asked : Result Step ℕ) (p : Plan) → Case w.control w.events line asked p → Carried p
-    case-rides _ _ (Says a waits) = tables same [] (always a) begins
+    case-rides _ _ (Says a waits why) = tables same [] (always a) begins
     case-rides _ _ (DefinesServer name free) = tables _ _ _ (event w _ (ServerDefined (length w.control.servers) name.len name.bytes) k refl (tt, tt) (tt, tt) (refl, tt) (histories-append w.events _) refl refl refl refl refl refl refl)
     case-rides _ _ (DefinesVolume v x tracks here free) = tables _ _ _ (rider.defines w s v x tracks here (is-new w.control v x tracks free).undefined k)
     case-rides _ _ (SetsLink a b up) = tables _ _ _ (silently w _ k refl refl refl refl refl refl refl refl)
