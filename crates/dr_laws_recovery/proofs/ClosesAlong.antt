@@ -2,12 +2,11 @@
 use Rattle.std.proofs.Common.{ℕ, ◌≡◌, ◌<◌, ◌+◌, length, refl, ap, sym, ◌∙◌, subst, true, false, List, [], ◌∷◌, Option, Some, None}
 use Rattle.std.proofs.Math.Path.{fun_ext}
 use Rattle.std.proofs.lemmas.List.{append-nil}
-use Rattle.dr_logic.specs.Tables.{at}
 use Rattle.dr_model.specs.declared.event.Event.{Event}
 use Rattle.dr_model.specs.declared.event.Event.TheVariants.{Begin, Issue, Stopped, Frozen, Thawed, Recovered, Volume as VolumeDefined}
 use Rattle.dr_model.specs.Histories.{Histories, histories, lists}
 use Rattle.dr_model.specs.Control.{Pending, Volume, World, Fuse, is_volume, new_volume, nothing}
-use Rattle.dr_model.specs.Moves.{Move, Restart, Hold, is_other, landed, target, fields_left, keeps_staged, moved_keeping}
+use Rattle.dr_model.specs.Moves.{Move, Restart, Hold, is_other, landed, target}
 use Rattle.dr_model.specs.Entries.{fields_at}
 use Rattle.dr_model.specs.Carry.{Act, Make, OpenAttempt, Redo, Acknowledge, Drop, EndFreeze, EndThaw, EndRecovery, acknowledged, dropped, frozen, thawed, recovered}
 use Rattle.dr_model.specs.Plans.{has_landed}

@@ -5,9 +5,9 @@
 -- - each target that counts shows the cut of its number: `counts-run` (`CountedAlong.antt`)
 -- - each cut stands behind the begin of its attempt: `begins-run` (`Begins.antt`)
 -- - each step keeps the writes of lists but those that it may take away: `told-task`, `keeps-run` (`KeepsWrites.antt`),
---   on what moves tell (`Spared.antt`), entries (`SparedEntries.antt`), steps of one plan (`SparedSteps.antt`) and an
---   `@run` (`SparedRuns.antt`). A new kind of move has a row in `Takes` and in `told-spared`; a new step one in
---   `takes_from` and in `of-step`
+--   on what moves tell (`Takes.antt`), steps of one plan by their acts (`TakesSteps.antt`) and an `@run` (`TakesRuns.antt`). A new
+--   kind of move that takes writes has a row in `Takes` and in `takes-onto`, and its act a clause in `does-takes`; a new step that may
+--   take one is a row of `takes_from`. All others fall to their last clauses
 -- - where a list lost a write there is the step that may have taken it: `step-at`, `kept-or-taken`, `holds-run`
 --   (`TakenAt.antt`)
 -- - what a secondary stored is acknowledged, or a server stops in that step, after each step and wherever a volume is cut: `stored-run`
@@ -88,10 +88,9 @@ pub mod Stored
 pub mod OnTracks
 pub mod Headline
 pub mod HeadlineAlong
-pub mod Spared
-pub mod SparedEntries
-pub mod SparedSteps
-pub mod SparedRuns
+pub mod Takes
+pub mod TakesSteps
+pub mod TakesRuns
 pub mod KeepsWrites
 pub mod TakenAt
 pub mod Begins
