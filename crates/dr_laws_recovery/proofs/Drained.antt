@@ -14,8 +14,8 @@ use Rattle.dr_model.specs.Pairs.{is_pending, records, struck, is_last}
 use Rattle.dr_model.specs.Control.{Control, Fuse, Volume, World}
 use Rattle.dr_model.specs.Sessions.{Session}
 use Rattle.dr_model.specs.Moves.{Move, Keep, Note, Store, Strike, Suspend, Seal, target, fields_left}
-use Rattle.dr_model.specs.Carry.{Act, Make, Pass, Do, End, Entry, Outcome, continue, carry, go, check}
-use Rattle.dr_model.specs.Entries.{fields_at, is_running, keep_on, keep_if, copies_from, running_check}
+use Rattle.dr_model.specs.Carry.{Act, Make, Do, Entry, Outcome, continue, carry, go}
+use Rattle.dr_model.specs.Entries.{fields_at, is_running, keep_on}
 use Rattle.dr_model.specs.PairEntries.{end_if, refuse_if, send_refusal, suspend_where, flashed_refusal, store_on, strike_on, send_entries, sends, is_copying, suspend_after}
 use Rattle.dr_model.specs.SessionEntries.{void_refusal, is_drained, seal_refusal, seal_on, member_entries, order_entries}
 use Rattle.dr_model.specs.Phases as phases
@@ -36,7 +36,9 @@ use Rattle.dr_laws_sound.proofs.FitsPairs.{row, runs-done, part-same}
 use Rattle.dr_laws_sound.proofs.Parts.{comes-drain}
 use Rattle.dr_laws_sound.proofs.Steps.{sound-part}
 use Rattle.dr_laws_sound.proofs.Turned.{passed-check as passed}
-use Rattle.dr_laws_recovery.proofs.Went.{Fine, AllFine, fine-none, fine-then, fine-append, fine-choice, fine-wider, carry-keeps, Split, carry-split, Went, part-went, goes-onward}
+use Rattle.dr_facts.proofs.Entries.{anywhere, whatever, fine-then, fine-one, fine-flat, fine-check, fine-wider}
+use Rattle.dr_facts.proofs.SharedEntries.{where-fine, copies-fine, sends-fine}
+use Rattle.dr_laws_recovery.proofs.Went.{any-why, Each, each-refuse, carry-keeps, Split, carry-split, Went, part-went, goes-onward}
 use Rattle.dr_model.proofs.LawfulLemmas.{removed}
 use Rattle.dr_facts.proofs.Parts.{global-part}
 use Rattle.dr_facts.proofs.Refusals.{met}
@@ -55,9 +57,9 @@ Sends (Suspend v busy) = Unit {0}
 Sends (Seal v u s n) = Unit {0}
 Sends m = ⊥
 
-abbrev IsSend : Control → Act → Type 0
-IsSend k (Make m) = Sends m
-IsSend k a = ⊥
+abbrev IsSend : World → Act → Type 0
+IsSend w (Make m) = Sends m
+IsSend w a = ⊥
 
 -- a primary in Copy Pending has only these tracks to send
 abbrev pub Within : List ℕ → Fields → Type 0
@@ -80,66 +82,36 @@ within-done : (w : World) (m : Move) (f : Option Fuse) (a : ℕ) (ts us : List �
     → Within ts (fields_at w.control a) → Within us (fields_at (done w m f).control a)
 within-done w m f a ts us here there = at_cases (λ j (y : Volume). Within ts (fields_at w.control j) → Within us y.fields) w.control.volume (target m) (row w m f) here there a
 
-within-act : (a : ℕ) (ts : List ℕ) (w : World) (x : Act) (f : Option Fuse) → IsSend w.control x → Within ts (fields_at w.control a) → Within ts (fields_at (after_act w x f).control a)
+within-act : (a : ℕ) (ts : List ℕ) (w : World) (x : Act) (f : Option Fuse) → IsSend w x → Within ts (fields_at w.control a) → Within ts (fields_at (after_act w x f).control a)
 within-act a ts w (Make m) f is old = within-done w m f a ts ts (within-left m ts (w.control.volume (target m)) is) (λ q ne h. h) old
 within-act a ts w x f is old = absurd is
 
 -- and nothing of the sessions changes
-sessions-act : (ss : List Session) (w : World) (x : Act) (f : Option Fuse) → IsSend w.control x → w.control.sessions ≡ ss → (after_act w x f).control.sessions ≡ ss
+sessions-act : (ss : List Session) (w : World) (x : Act) (f : Option Fuse) → IsSend w x → w.control.sessions ≡ ss → (after_act w x f).control.sessions ≡ ss
 sessions-act ss w (Make m) f is old = old
 sessions-act ss w x f is old = absurd is
 
 -- ---- a track is sent
 
-fine-refuse : (why : Control → Option Refusal) (k : Control) → Fine IsSend k (refuse_if why k)
-fine-refuse why k = by (why k)
-  where
-    by : (o : Option Refusal) → Fine IsSend k (end_if o)
-    by None = tt
-    by (Some r) = tt
-
-fine-keep : (b t u : ℕ) (k : Control) → Fine IsSend k (keep_on b t u k)
-fine-keep b t u k =
-    let f : Fields = fields_at k u in
-    fine-choice IsSend k (copies_from b f && not f.reversing) (keep_if f u t) Pass
-    (fine-choice IsSend k (not (contains f.own t)) (Do (Make (Keep u t))) _ tt (fine-choice IsSend k (f.recorded && not (contains f.source_changes t)) (Do (Make (Note u t))) Pass tt tt)) tt
-
-fine-copy : (b t : ℕ) (us : List ℕ) → AllFine IsSend (map (keep_on b t) us)
-fine-copy b t [] = fine-none IsSend
-fine-copy b t (u ∷ us) = fine-then IsSend (keep_on b t u) _ (fine-keep b t u) (fine-copy b t us)
-
 -- what comes before the secondary stores a track
 abbrev before : List ℕ → ℕ → ℕ → ℕ → List Entry
 before volumes a b t = suspend_where (send_refusal a b) a ∷ refuse_if (send_refusal a b) ∷ refuse_if (flashed_refusal b) ∷ map (keep_on b t) volumes
 
-fine-before : (volumes : List ℕ) (a b t : ℕ) → AllFine IsSend (before volumes a b t)
+fine-before : (volumes : List ℕ) (a b t : ℕ) → Each IsSend (before volumes a b t)
 fine-before volumes a b t =
-    fine-then IsSend (suspend_where (send_refusal a b) a) _ (λ k. fine-choice IsSend k (is_some (send_refusal a b k)) _ Pass tt tt)
-    (fine-then IsSend (refuse_if (send_refusal a b)) _ (fine-refuse (send_refusal a b)) (fine-then IsSend (refuse_if (flashed_refusal b)) _ (fine-refuse (flashed_refusal b)) (fine-copy b t volumes)))
-
-fine-store : (a b t : ℕ) → AllFine IsSend (store_on a b t ∷ [])
-fine-store a b t = fine-then IsSend (store_on a b t) [] (λ k. tt) (fine-none IsSend)
-
-fine-strike : (a t : ℕ) → AllFine IsSend (strike_on a t ∷ [])
-fine-strike a t = fine-then IsSend (strike_on a t) [] (λ k. tt) (fine-none IsSend)
-
-fine-sends : (volumes : List ℕ) (a b : ℕ) (ts : List ℕ) → AllFine IsSend (sends volumes a b ts)
-fine-sends volumes a b [] = fine-none IsSend
-fine-sends volumes a b (t ∷ ts) =
-    fine-append IsSend (send_entries volumes a b t) (sends volumes a b ts)
-    (fine-append IsSend (before volumes a b t) (store_on a b t ∷ strike_on a t ∷ []) (fine-before volumes a b t) (fine-append IsSend (store_on a b t ∷ []) (strike_on a t ∷ []) (fine-store a b t) (fine-strike a t)))
-    (fine-sends volumes a b ts)
+    fine-then anywhere IsSend whatever (suspend_where (send_refusal a b) a) _ (where-fine anywhere IsSend whatever (λ k. is_some (send_refusal a b k)) (Make (Suspend a false)) (λ w any so. tt))
+    (each-refuse IsSend (send_refusal a b) _ (each-refuse IsSend (flashed_refusal b) _ (copies-fine anywhere IsSend whatever (λ u t w any. tt) (λ u t w any. tt) volumes b t)))
 
 -- a primary whose server is on has these tracks to send
 record Sending (a : ℕ) (ts : List ℕ) (w : World) : Type 0 where
   runs : Runs w a
   within : Within ts (fields_at w.control a)
 
-sending-act : (a : ℕ) (ts : List ℕ) (w : World) (x : Act) (f : Option Fuse) → IsSend w.control x → Sending a ts w → Sending a ts (after_act w x f)
+sending-act : (a : ℕ) (ts : List ℕ) (w : World) (x : Act) (f : Option Fuse) → IsSend w x → Sending a ts w → Sending a ts (after_act w x f)
 sending-act a ts w (Make m) f is old = record { runs = runs-done w m f a old.runs; within = within-act a ts w (Make m) f is old.within }
 sending-act a ts w x f is old = absurd is
 
-sending-on : (a : ℕ) (ts : List ℕ) (w v : World) (ds : List Entry) → AllFine IsSend ds → carry w ds ≡ (v, None) → Sending a ts w → Sending a ts v
+sending-on : (a : ℕ) (ts : List ℕ) (w v : World) (ds : List Entry) → Each IsSend ds → carry w ds ≡ (v, None) → Sending a ts w → Sending a ts v
 sending-on a ts w v ds fine leads old = carry-keeps IsSend (Sending a ts) (sending-act a ts) w v ds fine leads old
 
 -- it strikes the first one off
@@ -172,13 +144,10 @@ sent-all volumes a b (t ∷ ts) w v leads old =
     let two : Split w one.middle (before volumes a b t) (store_on a b t ∷ strike_on a t ∷ []) = carry-split w one.middle (before volumes a b t) (store_on a b t ∷ strike_on a t ∷ []) one.first in
     let three : Split two.middle one.middle (store_on a b t ∷ []) (strike_on a t ∷ []) = carry-split two.middle one.middle (store_on a b t ∷ []) (strike_on a t ∷ []) two.rest in
     let before_it : Sending a (t ∷ ts) two.middle = sending-on a (t ∷ ts) w two.middle (before volumes a b t) (fine-before volumes a b t) two.first old in
-    let stored : Sending a (t ∷ ts) three.middle = sending-on a (t ∷ ts) two.middle three.middle (store_on a b t ∷ []) (fine-store a b t) three.first before_it in
+    let stored : Sending a (t ∷ ts) three.middle = sending-on a (t ∷ ts) two.middle three.middle (store_on a b t ∷ []) (fine-one anywhere IsSend whatever (store_on a b t) (λ w any. tt)) three.first before_it in
     sent-all volumes a b ts one.middle v one.rest (struck-off a t ts three.middle one.middle three.rest stored)
 
 -- ---- a primary is drained
-
-fine-check : (ok : Control → Bool) (r : Refusal) (k : Control) → Fine IsSend k (check ok r k)
-fine-check ok r k = fine-choice IsSend k (ok k) Pass (End r) tt tt
 
 -- the tracks of a set are in it in order
 in-range : (n b q : ℕ) → b < q + 1 → q < b + n → In q (range_with_len b n)
@@ -203,10 +172,10 @@ module _ (w : World) (s : Sound w) (a : ℕ) where
   abbrev p : Plan
   p = drain_plan k a None
 
-  fine-drain : AllFine IsSend p.entries
+  fine-drain : Each IsSend p.entries
   fine-drain =
-      fine-then IsSend (check (is_defined a) _) _ (fine-check (is_defined a) _) (fine-then IsSend (running_check k a) _ (fine-check (is_running a) _)
-      (fine-then IsSend (check (is_copying a) _) _ (fine-check (is_copying a) _) (fine-sends k.volumes a (fields_at k a).primary_partner ts)))
+      fine-check anywhere IsSend whatever (is_defined a) _ _ tt (fine-check anywhere IsSend whatever (is_running a) _ _ tt (fine-check anywhere IsSend whatever (is_copying a) _ _ tt
+      (sends-fine anywhere IsSend whatever (λ u t w any. tt) (λ u t w any. tt) k.volumes a (fields_at k a).primary_partner (λ w any. tt) (λ t last w any. tt) (λ t last w any. tt) (λ j. any-why (send_refusal _ _ j)) (λ j. any-why (flashed_refusal _ j)) ts)))
 
   begins : Within ts (fields_at k a)
   begins h q c = in-in_order (k.volume a).tracks (fields_at k a).out_of_sync q ((s.rows.structure.lawful a).sets.out_of_sync_low q c) c
@@ -286,36 +255,28 @@ abbrev Seals : Move → Type 0
 Seals (Seal v a s n) = Unit {0}
 Seals m = ⊥
 
-abbrev IsSeal : Control → Act → Type 0
-IsSeal k (Make m) = Seals m
-IsSeal k a = ⊥
+abbrev IsSeal : World → Act → Type 0
+IsSeal w (Make m) = Seals m
+IsSeal w a = ⊥
 
-seal-sends : (k : Control) (x : Act) → IsSeal k x → IsSend k x
-seal-sends k (Make (Seal v a s n)) is = tt
-seal-sends k (Make m) is = absurd is
-seal-sends k x is = absurd is
+seal-sends : (w : World) (x : Act) → anywhere w → IsSeal w x → IsSend w x
+seal-sends w (Make (Seal v a s n)) any is = tt
+seal-sends w (Make m) any is = absurd is
+seal-sends w x any is = absurd is
 
 -- who records goes on recording
-recording-act : (a : ℕ) (w : World) (x : Act) (f : Option Fuse) → IsSeal w.control x → (fields_at w.control a).recording ≡ true → (fields_at (after_act w x f).control a).recording ≡ true
+recording-act : (a : ℕ) (w : World) (x : Act) (f : Option Fuse) → IsSeal w x → (fields_at w.control a).recording ≡ true → (fields_at (after_act w x f).control a).recording ≡ true
 recording-act a w (Make (Seal v u s n)) f is old = part-same w (Seal v u s n) f (λ (g : Fields). g.recording) refl a ∙ old
 recording-act a w (Make m) f is old = absurd is
 recording-act a w x f is old = absurd is
 
-refuse-seals : (why : Control → Option Refusal) (k : Control) → Fine IsSeal k (refuse_if why k)
-refuse-seals why k = by (why k)
-  where
-    by : (o : Option Refusal) → Fine IsSeal k (end_if o)
-    by None = tt
-    by (Some r) = tt
-
-member-seals : (i n : ℕ) (m : Member) → AllFine IsSeal (member_entries phases.Seal i n m)
+member-seals : (i n : ℕ) (m : Member) → Each IsSeal (member_entries phases.Seal i n m)
 member-seals i n m =
-    fine-then IsSeal (refuse_if (void_refusal m.a.0 n)) _ (refuse-seals (void_refusal m.a.0 n)) (fine-then IsSeal (refuse_if (seal_refusal m.a.0 m.b.0)) _ (refuse-seals (seal_refusal m.a.0 m.b.0))
-    (fine-then IsSeal (seal_on i m.a.0 m.b.0 n) [] (λ k. fine-choice IsSeal k (is_drained m.a.0 k && not (nat_eq (fields_at k m.b.0).seal n)) _ Pass tt tt) (fine-none IsSeal)))
+    each-refuse IsSeal (void_refusal m.a.0 n) _ (each-refuse IsSeal (seal_refusal m.a.0 m.b.0) _
+    (fine-one anywhere IsSeal whatever (seal_on i m.a.0 m.b.0 n) (where-fine anywhere IsSeal whatever (λ k. is_drained m.a.0 k && not (nat_eq (fields_at k m.b.0).seal n)) (Make (Seal m.b.0 m.a.0 i n)) (λ w any so. tt))))
 
-order-seals : (i n : ℕ) (ms : List Member) → AllFine IsSeal (order_entries phases.Seal i n ms)
-order-seals i n [] = fine-none IsSeal
-order-seals i n (m ∷ ms) = fine-append IsSeal (member_entries phases.Seal i n m) (order_entries phases.Seal i n ms) (member-seals i n m) (order-seals i n ms)
+order-seals : (i n : ℕ) (ms : List Member) → Each IsSeal (order_entries phases.Seal i n ms)
+order-seals i n ms = fine-flat anywhere IsSeal whatever (member_entries phases.Seal i n) ms (λ m here. member-seals i n m)
 
 refuse-passed : (w v : World) (why : Control → Option Refusal) (ds : List Entry) → carry w (refuse_if why ∷ ds) ≡ (v, None) → why w.control ≡ None
 refuse-passed w v why ds leads = by (why w.control) (sym (carry-first w (refuse_if why) ds (end_if (why w.control)) refl) ∙ leads)
@@ -361,5 +322,5 @@ seals-done i n ms w v leads dry records = none-any (λ (m : Member). not (is_dra
         let recording : f.recording ≡ true = seals-record i n ms w v leads m here in
         let row = records m.a.0 in
         let copying : (is_part f.primary && is_pending f.primary_state) ≡ true = and_from (is_part f.primary) _ (global-part f.primary (row.global recording)) (row.pending recording) in
-        let still : Within [] f = carry-keeps IsSend (λ u. Within [] (fields_at u.control m.a.0)) (within-act m.a.0 []) w v (order_entries phases.Seal i n ms) (fine-wider IsSeal IsSend seal-sends (order_entries phases.Seal i n ms) (order-seals i n ms)) leads (dry m here) in
+        let still : Within [] f = carry-keeps IsSend (λ u. Within [] (fields_at u.control m.a.0)) (within-act m.a.0 []) w v (order_entries phases.Seal i n ms) (fine-wider anywhere anywhere IsSeal IsSend whatever whatever (λ w any. any) seal-sends (λ r why. tt) (order_entries phases.Seal i n ms) (order-seals i n ms)) leads (dry m here) in
         ap not (none-bare f.out_of_sync (λ q c. still copying q c))

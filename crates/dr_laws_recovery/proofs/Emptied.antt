@@ -1,5 +1,5 @@
 -- A drain of all tracks that ends well leaves nothing out of sync, also where its pair is Full Duplex then.
-use Rattle.std.proofs.Common.{ℕ, ◌≡◌, inl, inr, refl, ap, sym, ◌∙◌, subst, true, false, cond, not, ◌&&◌, List, [], ◌∷◌, map, Option, Some, None}
+use Rattle.std.proofs.Common.{ℕ, ◌≡◌, inl, inr, refl, ap, sym, ◌∙◌, subst, true, false, cond, not, List, [], ◌∷◌, Option, Some, None}
 use Rattle.std.specs.Prelude.{is_some}
 use Rattle.std.specs.Option.{option_or}
 use Rattle.std.specs.FinSet.{contains, remove}
@@ -12,7 +12,7 @@ use Rattle.dr_model.specs.Pairs.{is_secondary_of, is_last}
 use Rattle.dr_model.specs.Control.{Control, Fuse, Volume, World}
 use Rattle.dr_model.specs.Moves.{Move, Keep, Note, Store, Strike, Suspend}
 use Rattle.dr_model.specs.Carry.{Act, Make, Pass, Do, Entry, carry}
-use Rattle.dr_model.specs.Entries.{fields_at, is_running, keep_on, keep_if, copies_from, copy_first, pair_state}
+use Rattle.dr_model.specs.Entries.{fields_at, is_running, copy_first, pair_state}
 use Rattle.dr_model.specs.PairEntries.{link_down, has_path, reach_refusal, belongs_to, refuse_if, send_refusal, suspend_where, flashed_refusal, store_on, strike_on, send_entries, sends, is_copying}
 use Rattle.dr_model.specs.Plans.{drain_plan, is_defined}
 use Rattle.dr_model.specs.Groups.{In}
@@ -30,7 +30,9 @@ use Rattle.dr_laws_sound.proofs.FitsPairs.{row, runs-done, part-same}
 use Rattle.dr_laws_sound.proofs.FitsDrain.{along-drain}
 use Rattle.dr_laws_sound.proofs.CopyFirst.{unturned}
 use Rattle.dr_laws_sound.proofs.Turned.{passed-check, passed-refuse, move-led, nothing-left, sound-led, pair-equal}
-use Rattle.dr_laws_recovery.proofs.Went.{AllFine, fine-none, fine-then, fine-choice, carry-keeps, Split, carry-split}
+use Rattle.dr_facts.proofs.Entries.{anywhere, whatever, fine-one}
+use Rattle.dr_facts.proofs.SharedEntries.{copies-fine}
+use Rattle.dr_laws_recovery.proofs.Went.{carry-keeps, Split, carry-split}
 use Rattle.dr_laws_recovery.specs.Emptied.{IsEmptied, EqualAfter}
 use Rattle.dr_laws_recovery.proofs.Drained.{in-in_order}
 use Rattle.dr_logic.proofs.Truth.{false_true}
@@ -44,9 +46,9 @@ Stays (Note v t) = Unit {0}
 Stays (Store v t u last) = Unit {0}
 Stays m = ⊥
 
-abbrev Ok : Control → Act → Type 0
-Ok k (Make m) = Stays m
-Ok k a = ⊥
+abbrev Ok : World → Act → Type 0
+Ok w (Make m) = Stays m
+Ok w a = ⊥
 
 module _ (a b : ℕ) where
   -- the server of a is on, and what is out of sync there is one of these tracks
@@ -60,17 +62,9 @@ module _ (a b : ℕ) where
   same-out w (Store v t u last) f is = part-same w (Store v t u last) f (λ (g : Fields). g.out_of_sync) refl a
   same-out w m f is = absurd is
 
-  leaving-act : (ts : List ℕ) (w : World) (x : Act) (f : Option Fuse) → Ok w.control x → Leaving ts w → Leaving ts (after_act w x f)
+  leaving-act : (ts : List ℕ) (w : World) (x : Act) (f : Option Fuse) → Ok w x → Leaving ts w → Leaving ts (after_act w x f)
   leaving-act ts w (Make m) f is old = record { runs = runs-done w m f a old.runs; rest = λ q h. old.rest q (sym (ap (λ s. contains s q) (same-out w m f is)) ∙ h) }
   leaving-act ts w x f is old = absurd is
-
-  -- what keeps the secondary's targets, and stores the track
-  keeps-fine : (t : ℕ) (us : List ℕ) → AllFine Ok (map (keep_on b t) us)
-  keeps-fine t [] = fine-none Ok
-  keeps-fine t (u ∷ us) = fine-then Ok (keep_on b t u) _ (λ k. let f : Fields = fields_at k u in
-      fine-choice Ok k (copies_from b f && not f.reversing) (keep_if f u t) Pass
-      (fine-choice Ok k (not (contains f.own t)) (Do (Make (Keep u t))) _ tt (fine-choice Ok k (f.recorded && not (contains f.source_changes t)) (Do (Make (Note u t))) Pass tt tt)) tt)
-      (keeps-fine t us)
 
   -- a suspension leaves why a track can't be sent, so the plan ends behind it
   module _ (w : World) (f : Option Fuse) where
@@ -128,8 +122,8 @@ module _ (a b : ℕ) where
       let free = (passed-refuse w one.middle (flashed_refusal b) _ (passed-sends w one.middle _ old.runs one.first)).1 in
       let two : Split w one.middle (copy_first volumes b t) (store_on a b t ∷ strike_on a t ∷ []) = carry-split w one.middle (copy_first volumes b t) (store_on a b t ∷ strike_on a t ∷ []) free in
       let three : Split two.middle one.middle (store_on a b t ∷ []) (strike_on a t ∷ []) = carry-split two.middle one.middle (store_on a b t ∷ []) (strike_on a t ∷ []) two.rest in
-      let kept = carry-keeps Ok (Leaving (t ∷ ts)) (leaving-act (t ∷ ts)) w two.middle (copy_first volumes b t) (keeps-fine t volumes) two.first old in
-      let stored = carry-keeps Ok (Leaving (t ∷ ts)) (leaving-act (t ∷ ts)) two.middle three.middle (store_on a b t ∷ []) (fine-then Ok (store_on a b t) [] (λ k. tt) (fine-none Ok)) three.first kept in
+      let kept = carry-keeps Ok (Leaving (t ∷ ts)) (leaving-act (t ∷ ts)) w two.middle (copy_first volumes b t) (copies-fine anywhere Ok whatever (λ u t w any. tt) (λ u t w any. tt) volumes b t) two.first old in
+      let stored = carry-keeps Ok (Leaving (t ∷ ts)) (leaving-act (t ∷ ts)) two.middle three.middle (store_on a b t ∷ []) (fine-one anywhere Ok whatever (store_on a b t) (λ w any. tt)) three.first kept in
       sent-left volumes ts one.middle v one.rest (struck-left t ts three.middle one.middle three.rest stored)
 
 module _ (w : World) (s : Sound w) (a : ℕ) where

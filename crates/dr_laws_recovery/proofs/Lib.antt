@@ -32,13 +32,14 @@
 --   `failback-keeps`, `hand-keeps`, `has-ended`, `answers-group`, `tells-recovery`, `same-on` (`Recovers.antt`,
 --   `RecoversStart.antt`, `RecoversFailover.antt`, `RecoversEnd.antt`, `RecoveredOn.antt`)
 -- - That a bound isn't felt (`TurnsEnd.antt`): a measure of the master that each turn lessens, and two bounds above it
---   give the same way (`turns-alike`). `Went.antt` has what an unrefused plan leaves: `carry-keeps` with `AllFine`
---   carries any property of acts over entries.
+--   give the same way (`turns-alike`). `Went.antt` has what an unrefused plan leaves: `carry-keeps` carries what acts keep over
+--   entries that come to such acts alone (`Each`).
 -- - **What a recovery makes of a session** (`Recovered.antt`) reads of a decision only whether it lets targets be
 --   reverted, so the law (`Keeps` in `Recovers.antt`) says: records are alike by that truth value, and where a volume is
 --   left to commit or revert, the decision still has it. A move's part is `alike-..` (`Recovered.antt` of the proofs),
 --   on the one row that changes, and `some-commits` or `none-reverts` (`DecidedOver.antt`). Acts that may come are cut
---   down by a test of the entries alone (`Fit`, `AllFit`); so the plan's own lemma is used as it stands (`fit-along`).
+--   down by a test of the entries alone (`AllFine`, of acts that fit); so the plan's own lemma is used as it stands (`fit-along` in
+--   `Keeping.antt`).
 -- - **What holds only at the end of a plan** (`RecoversEnd.antt`): go along the entries again with another law for the
 --   end. `first` passes over entries that matter no more, and a state in the list of those left (`LeftBut`) goes over
 --   the others.

@@ -6,7 +6,7 @@ use Rattle.dr_model.specs.Layout.{is_part}
 use Rattle.dr_model.specs.Control.{Control, Fuse, Volume, World}
 use Rattle.dr_model.specs.Sessions.{Session, session_in}
 use Rattle.dr_model.specs.Moves.{Move, TakeOver, Commit, Revert, target, moved, keeps_staged, moved_keeping}
-use Rattle.dr_model.specs.Carry.{Act, Make, OpenAttempt, Redo, Acknowledge, Drop, EndFreeze, EndThaw, EndRecovery, Next, Pass, Do, End, Entry}
+use Rattle.dr_model.specs.Carry.{Act, Make, EndRecovery, Next, Pass, Do, End, Entry}
 use Rattle.dr_model.specs.Entries.{fields_at}
 use Rattle.dr_model.specs.RecoveryPlans.{decided_in, secondary_refusal, take_over_on, settle_on, end_recovery, recover_done, recover_plan}
 use Rattle.dr_model.specs.PlanParts.{Plan, unless, on_session}
@@ -21,7 +21,8 @@ use Rattle.dr_laws_sound.proofs.FitsFlash.{as_begun, sound-begun}
 use Rattle.dr_laws_sound.proofs.FitsRecovery.{along-recover}
 use Rattle.dr_laws_sound.proofs.Rides.{Rides, Both}
 use Rattle.dr_laws_recovery.proofs.Keeping.{MayFit, keeps-fit, Keeping, Goes, goes-unless, goes-moment, goes-ends, goes-after}
-use Rattle.dr_laws_sound.proofs.RecoveryEntries.{FitNext, fit-settle}
+use Rattle.dr_laws_sound.proofs.RecoveryEntries.{fit-settle}
+use Rattle.dr_facts.proofs.Entries.{anywhere, whatever, Fine}
 use Rattle.dr_laws_sound.proofs.Along as along
 use Rattle.dr_logic.proofs.Tables.{at_other}
 
@@ -77,13 +78,8 @@ module _ (w : World) (sound : Sound w) (s : ℕ) (x : Session) (found : session_
     where
       does : (u : World) (a : Act) (f : Option Fuse) → Sound u → Holds u → May u a → Holds (after_act u a f)
       does u (Make a) f j h may = stays u a h may.1
-      does u (OpenAttempt v i n) f j h may = absurd may.1
-      does u (Redo v) f j h may = absurd may.1
-      does u (Acknowledge n) f j h may = absurd may.1
-      does u (Drop n) f j h may = absurd may.1
-      does u (EndFreeze l m) f j h may = absurd may.1
-      does u (EndThaw l m) f j h may = absurd may.1
       does u (EndRecovery i n) f j h may = h
+      does u a f j h may = absurd may.1
 
   begins : I (as_begun w)
   begins = (sound-begun w sound, λ m q here there ne. absurd (ne refl))
@@ -157,16 +153,20 @@ module _ (w : World) (sound : Sound w) (s : ℕ) (x : Session) (found : session_
   act-settles u (EndRecovery i n) is taken = (tt, λ f. taken)
   act-settles u a is taken = absurd is
 
-  settle-next : (u : World) (d : Next) (es : List Entry) → ((v : World) → Holds v → Taken v.control → Along v es → Fits v es) → Holds u → Taken u.control → FitNext Settles d → Then u d (λ v. Along v es) → along.along_next I I May u d (λ v. Fits v es)
+  -- what an entry comes to
+  abbrev Settling : World → Next → Type 0
+  Settling u d = Fine anywhere (λ u. Settles) whatever u d
+
+  settle-next : (u : World) (d : Next) (es : List Entry) → ((v : World) → Holds v → Taken v.control → Along v es → Fits v es) → Holds u → Taken u.control → Settling u d → Then u d (λ v. Along v es) → along.along_next I I May u d (λ v. Fits v es)
   settle-next u Pass es on h taken is a = on u h taken a
-  settle-next u (End r) es on h taken is a = absurd is
+  settle-next u (End r) es on h taken is a = (a, h)
   settle-next u (Do d) es on h taken is a = let by = act-settles u d is taken in ((a.0, by.0), λ f j. on _ j.1 (by.1 f) (a.1 f j.0))
 
-  settles : (d : Decision) (m : Member) (k : Control) → FitNext Settles (settle_on s d m k)
-  settles d m = fit-settle Settles s d (m ∷ []) (record { commits = λ no q here n. tt; reverts = λ yes q here n. tt }) m (inl refl)
+  settles : (d : Decision) (m : Member) (u : World) → Settling u (settle_on s d m u.control)
+  settles d m u = fit-settle anywhere (λ u. Settles) whatever s d m (λ no n v any. tt) (λ yes n v any. tt) u tt
 
-  settle-entry : (d : Entry) (es : List Entry) → ((k : Control) → FitNext Settles (d k)) → ((u : World) → Holds u → Taken u.control → Along u es → Fits u es) → (u : World) → Holds u → Taken u.control → Along u (d ∷ es) → Fits u (d ∷ es)
-  settle-entry d es is go u h taken a = along.along-entry I I I May u d es (d u.control) refl (settle-next u (d u.control) es go h taken (is u.control) (along.along-comes Sound Sound Sound MayDo u d es (d u.control) refl a))
+  settle-entry : (d : Entry) (es : List Entry) → ((u : World) → Settling u (d u.control)) → ((u : World) → Holds u → Taken u.control → Along u es → Fits u es) → (u : World) → Holds u → Taken u.control → Along u (d ∷ es) → Fits u (d ∷ es)
+  settle-entry d es is go u h taken a = along.along-entry I I I May u d es (d u.control) refl (settle-next u (d u.control) es go h taken (is u) (along.along-comes Sound Sound Sound MayDo u d es (d u.control) refl a))
 
   over-all : (d : Decision) (ms : List Member) (es : List Entry) → ((u : World) → Holds u → Taken u.control → Along u es → Fits u es) → (u : World) → Holds u → Taken u.control → Along u (map (settle_on s d) ms ++ es) → Fits u (map (settle_on s d) ms ++ es)
   over-all d [] es go = go

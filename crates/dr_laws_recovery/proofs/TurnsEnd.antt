@@ -13,10 +13,10 @@ use Rattle.dr_model.specs.Phases as phases
 use Rattle.dr_model.specs.Sessions.{Session, Mirror, session_in, mirror_in, members_in, begin_refusal, begun, with_master}
 use Rattle.dr_model.specs.Control.{Control, World, Fuse}
 use Rattle.dr_model.specs.Moves.{Hold}
-use Rattle.dr_model.specs.Carry.{Act, Make, OpenAttempt, Pass, Do, Entry, carry}
+use Rattle.dr_model.specs.Carry.{Act, Make, OpenAttempt, Next, Pass, Entry, carry}
 use Rattle.dr_model.specs.Pairs.{records}
 use Rattle.dr_model.specs.Entries.{fields_at}
-use Rattle.dr_model.specs.PairEntries.{reach_refusal, send_refusal, end_if, refuse_if}
+use Rattle.dr_model.specs.PairEntries.{reach_refusal, send_refusal}
 use Rattle.dr_model.specs.SessionEntries.{last_of, hold_refusal, stale_refusal, hold_on, void_refusal, free_on, is_drained, seal_refusal, seal_on, is_past, finish_on, member_entries, members_on, order_entries, reply_after, is_flashed, is_committed, flash_refusal, flash_on, commit_refusal, commit_on, revert_on}
 use Rattle.dr_model.specs.SessionPlans as plans
 use Rattle.dr_model.specs.SessionPlans.{exchange_refusal, order_of, answered_by, exchange_done, exchange_on, asking, says_phase}
@@ -36,7 +36,8 @@ use Rattle.dr_laws_sound.proofs.FitsExchanges.{WorkPhase, works}
 use Rattle.dr_laws_sound.proofs.Awaits.{Awaited, exchange-begins, exchange-next, exchange-awaits}
 use Rattle.dr_laws_sound.proofs.Parts.{comes-asking}
 use Rattle.dr_laws_sound.proofs.Steps.{sound-part}
-use Rattle.dr_laws_recovery.proofs.Went.{Fine, AllFine, fine-none, fine-then, fine-append, fine-choice, carry-keeps, Went, part-went, goes-onward}
+use Rattle.dr_facts.proofs.Entries.{anywhere, whatever, Fine, fine-none, fine-one, fine-flat, fine-if}
+use Rattle.dr_laws_recovery.proofs.Went.{Each, each-refuse, carry-keeps, Went, part-went, goes-onward}
 use Rattle.dr_laws_recovery.proofs.Drained.{Within, Drained, drains-drained, seals-done}
 use Rattle.dr_laws_recovery.proofs.TurnsLeft.{turns_left, Shrinks, taken-shrinks, begins-shrinks, left-most}
 use Rattle.dr_logic.proofs.Truth.{false_true}
@@ -45,56 +46,45 @@ use Rattle.dr_logic.proofs.Options.{none_some}
 -- ---- what an order makes of its session
 
 -- its acts: moves, and one that begins an attempt which is newer than the session's last
-abbrev OfOrder : ℕ → ℕ → Control → Act → Type 0
-OfOrder i n k (Make m) = Unit {0}
-OfOrder i n k (OpenAttempt v s q) = (s ≡ i) × (nat_lt (last_of k i) n ≡ true)
-OfOrder i n k a = ⊥
+abbrev OfOrder : ℕ → ℕ → World → Act → Type 0
+OfOrder i n w (Make m) = Unit {0}
+OfOrder i n w (OpenAttempt v s q) = (s ≡ i) × (nat_lt (last_of w.control i) n ≡ true)
+OfOrder i n w a = ⊥
 
 module _ (i n : ℕ) where
-  abbrev Ok : Control → Act → Type 0
+  abbrev Ok : World → Act → Type 0
   Ok = OfOrder i n
 
-  refuses-fine : (why : Control → Option Refusal) (ds : List Entry) → AllFine Ok ds → AllFine Ok (refuse_if why ∷ ds)
-  refuses-fine why ds rest = fine-then Ok (refuse_if why) ds (λ k. by k (why k)) rest
+  one : (d : Entry) → ((w : World) → anywhere w → Fine anywhere Ok whatever w (d w.control)) → Each Ok (d ∷ [])
+  one = fine-one anywhere Ok whatever
+
+  if : (w : World) (b : Bool) (x y : Next) → Fine anywhere Ok whatever w x → Fine anywhere Ok whatever w y → Fine anywhere Ok whatever w (cond b x y)
+  if = fine-if anywhere Ok whatever
+
+  member-fine : (work : phases.Work) (m : Member) → Each Ok (member_entries work i n m)
+  member-fine phases.Hold m = each-refuse Ok (hold_refusal m.a.0 m.b.0) _ (each-refuse Ok (stale_refusal m.a.0 n) _ (one (hold_on i m.a.0 n) (λ w any. if w (records n (fields_at w.control m.a.0)) Pass _ tt (by w (nat_lt (last_of w.control i) n) refl))))
     where
-      by : (k : Control) (o : Option Refusal) → Fine Ok k (end_if o)
-      by k None = tt
-      by k (Some r) = tt
-
-  hold-fine : (a : ℕ) (k : Control) → Fine Ok k (hold_on i a n k)
-  hold-fine a k = fine-choice Ok k (records n (fields_at k a)) Pass _ tt (by (nat_lt (last_of k i) n) refl)
-    where
-      by : (b : Bool) → nat_lt (last_of k i) n ≡ b → Fine Ok k (Do (cond b (OpenAttempt a i n) (Make (Hold a i n false))))
-      by true newer = (refl, newer)
-      by false older = tt
-
-  alone-fine : (d : Entry) → ((k : Control) → Fine Ok k (d k)) → AllFine Ok (d ∷ [])
-  alone-fine d one = fine-then Ok d [] one (fine-none Ok)
-
-  member-fine : (work : phases.Work) (m : Member) → AllFine Ok (member_entries work i n m)
-  member-fine phases.Hold m = refuses-fine (hold_refusal m.a.0 m.b.0) _ (refuses-fine (stale_refusal m.a.0 n) _ (alone-fine (hold_on i m.a.0 n) (hold-fine m.a.0)))
-  member-fine phases.Release m = refuses-fine (void_refusal m.a.0 n) _ (alone-fine (free_on m.a.0) (λ k. fine-choice Ok k (fields_at k m.a.0).coordination _ Pass tt tt))
-  member-fine phases.Seal m =
-      refuses-fine (void_refusal m.a.0 n) _ (refuses-fine (seal_refusal m.a.0 m.b.0) _ (alone-fine (seal_on i m.a.0 m.b.0 n) (λ k. fine-choice Ok k (is_drained m.a.0 k && not (nat_eq (fields_at k m.b.0).seal n)) _ Pass tt tt)))
-  member-fine phases.Finish m = alone-fine (finish_on m.a.0 n) (λ k. fine-choice Ok k (is_past n (fields_at k m.a.0)) Pass _ tt tt)
-  member-fine phases.Flash m =
-      refuses-fine (send_refusal m.a.0 m.b.0) _ (refuses-fine (flash_refusal m.b.0 m.c.0 n) _ (alone-fine (flash_on i m.a.0 m.b.0 m.c.0 n) (λ k. fine-choice Ok k (is_flashed n (fields_at k m.c.0)) Pass _ tt tt)))
-  member-fine phases.Commit m =
-      refuses-fine (send_refusal m.a.0 m.b.0) _ (refuses-fine (commit_refusal m.c.0 n) _ (alone-fine (commit_on i m.a.0 m.c.0 n) (λ k. fine-choice Ok k (is_committed n (fields_at k m.c.0)) Pass _ tt tt)))
+      by : (w : World) (b : Bool) → nat_lt (last_of w.control i) n ≡ b → Ok w (cond b (OpenAttempt m.a.0 i n) (Make (Hold m.a.0 i n false)))
+      by w true newer = (refl, newer)
+      by w false older = tt
+  member-fine phases.Release m = each-refuse Ok (void_refusal m.a.0 n) _ (one (free_on m.a.0) (λ w any. if w (fields_at w.control m.a.0).coordination _ Pass tt tt))
+  member-fine phases.Seal m = each-refuse Ok (void_refusal m.a.0 n) _ (each-refuse Ok (seal_refusal m.a.0 m.b.0) _ (one (seal_on i m.a.0 m.b.0 n) (λ w any. if w (is_drained m.a.0 w.control && not (nat_eq (fields_at w.control m.b.0).seal n)) _ Pass tt tt)))
+  member-fine phases.Finish m = one (finish_on m.a.0 n) (λ w any. if w (is_past n (fields_at w.control m.a.0)) Pass _ tt tt)
+  member-fine phases.Flash m = each-refuse Ok (send_refusal m.a.0 m.b.0) _ (each-refuse Ok (flash_refusal m.b.0 m.c.0 n) _ (one (flash_on i m.a.0 m.b.0 m.c.0 n) (λ w any. if w (is_flashed n (fields_at w.control m.c.0)) Pass _ tt tt)))
+  member-fine phases.Commit m = each-refuse Ok (send_refusal m.a.0 m.b.0) _ (each-refuse Ok (commit_refusal m.c.0 n) _ (one (commit_on i m.a.0 m.c.0 n) (λ w any. if w (is_committed n (fields_at w.control m.c.0)) Pass _ tt tt)))
   member-fine phases.Revert m =
-      refuses-fine (send_refusal m.a.0 m.b.0) _ (alone-fine (revert_on i m.a.0 m.c.0 n) (λ k. fine-choice Ok k (is_flashed n (fields_at k m.c.0)) _ _ tt (fine-choice Ok k (nat_lt (fields_at k m.c.0).floor n) _ Pass tt tt)))
-  member-fine phases.Report m = refuses-fine (reach_refusal m.a.0 m.b.0) [] (fine-none Ok)
+      each-refuse Ok (send_refusal m.a.0 m.b.0) _ (one (revert_on i m.a.0 m.c.0 n) (λ w any. if w (is_flashed n (fields_at w.control m.c.0)) _ _ tt (if w (nat_lt (fields_at w.control m.c.0).floor n) _ Pass tt tt)))
+  member-fine phases.Report m = each-refuse Ok (reach_refusal m.a.0 m.b.0) [] (fine-none anywhere Ok whatever)
 
-  order-fine : (work : phases.Work) (ms : List Member) → AllFine Ok (order_entries work i n ms)
-  order-fine work [] = fine-none Ok
-  order-fine work (m ∷ ms) = fine-append Ok (member_entries work i n m) (order_entries work i n ms) (member-fine work m) (order-fine work ms)
+  order-fine : (work : phases.Work) (ms : List Member) → Each Ok (order_entries work i n ms)
+  order-fine work ms = fine-flat anywhere Ok whatever (member_entries work i n) ms (λ m here. member-fine work m)
 
   -- The session is as it was, or its next attempt has begun.
   module _ (x : Session) (next : n ≤ x.last + 1) where
     abbrev Stands : World → Type 0
     Stands w = (session_in w.control.sessions i ≡ Some x) ⊎ ((session_in w.control.sessions i ≡ Some (begun x)) × (nat_lt x.last n ≡ true))
 
-    stands-act : (w : World) (a : Act) (f : Option Fuse) → Ok w.control a → Stands w → Stands (after_act w a f)
+    stands-act : (w : World) (a : Act) (f : Option Fuse) → Ok w a → Stands w → Stands (after_act w a f)
     stands-act w (Make m) f is old = old
     stands-act w (OpenAttempt v s q) f is old = subst (λ s. Stands (after_act w (OpenAttempt v s q) f)) (sym is.0) (by old)
       where

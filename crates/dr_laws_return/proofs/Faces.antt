@@ -1,9 +1,9 @@
 -- Through a drain that isn't refused a pair that was turned stays in place, and with its last track a Metro Mirror pair is Full Duplex.
-use Rattle.std.proofs.Common.{ℕ, ◌≡◌, ◌≢◌, refl, ap, sym, ◌∙◌, subst, Bool, true, false, cond, not, ◌&&◌, List, [], ◌∷◌, Option, Some, None}
+use Rattle.std.proofs.Common.{ℕ, ◌≡◌, ◌≢◌, refl, ap, sym, ◌∙◌, subst, Bool, true, false, cond, not, List, [], ◌∷◌, Option, Some, None}
 use Rattle.std.specs.Prelude.{is_some}
 use Rattle.std.specs.Option.{option_or}
 use Rattle.std.proofs.lemmas.Bool.{and_from}
-use Rattle.std.specs.FinSet.{contains, remove}
+use Rattle.std.specs.FinSet.{remove}
 use Rattle.dr_ids.specs.declared.refusal.Refusal.{Refusal}
 use Rattle.dr_ids.specs.declared.refusal.Refusal.TheVariants.{PairState as PairRefused}
 use Rattle.dr_ids.specs.declared.refusal.Kind.TheVariants.{Path as OfPath}
@@ -14,10 +14,10 @@ use Rattle.dr_model.specs.Refusals.{unknown, server_off}
 use Rattle.dr_model.specs.Layout.{Fields, no_fields}
 use Rattle.dr_model.specs.Relations.{is_bare}
 use Rattle.dr_model.specs.Pairs.{is_primary_of, is_secondary_of, is_kind, is_metro, is_last, received, struck, pair_seen}
-use Rattle.dr_model.specs.Control.{Control, Fuse, Volume, World}
+use Rattle.dr_model.specs.Control.{Fuse, Volume, World}
 use Rattle.dr_model.specs.Moves.{Move, Keep, Note, Store, Strike, Suspend}
 use Rattle.dr_model.specs.Carry.{Act, Make, Pass, Do, Entry, carry}
-use Rattle.dr_model.specs.Entries.{fields_at, keep_on, keep_if, copies_from, copy_first}
+use Rattle.dr_model.specs.Entries.{fields_at, copy_first}
 use Rattle.dr_model.specs.PairEntries.{link_down, has_path, reach_refusal, refuse_if, send_refusal, suspend_where, flashed_refusal, store_on, strike_on, send_entries, sends}
 use Rattle.dr_model.specs.Allowed.{Runs}
 use Rattle.dr_model.proofs.CarryLemmas.{carry-skips}
@@ -26,7 +26,9 @@ use Rattle.dr_facts.proofs.Tables.{at_part}
 use Rattle.dr_laws_sound.proofs.Turns.{done, after_act}
 use Rattle.dr_laws_sound.proofs.FitsPairs.{reached, row, runs-done, part-same}
 use Rattle.dr_laws_sound.proofs.Turned.{passed-refuse, move-led, nothing-left}
-use Rattle.dr_laws_recovery.proofs.Went.{AllFine, fine-none, fine-then, fine-choice, carry-keeps, Split, carry-split}
+use Rattle.dr_facts.proofs.Entries.{anywhere, whatever}
+use Rattle.dr_facts.proofs.SharedEntries.{copies-fine}
+use Rattle.dr_laws_recovery.proofs.Went.{carry-keeps, Split, carry-split}
 use Rattle.dr_logic.proofs.Options.{none_some}
 use Rattle.dr_logic.proofs.Tables.{at_same, at_other}
 
@@ -49,9 +51,9 @@ Keeps (Keep v t) = Unit {0}
 Keeps (Note v t) = Unit {0}
 Keeps m = ⊥
 
-abbrev Ok : Control → Act → Type 0
-Ok k (Make m) = Keeps m
-Ok k a = ⊥
+abbrev Ok : World → Act → Type 0
+Ok w (Make m) = Keeps m
+Ok w a = ⊥
 
 module _ (x y : ℕ) (kind : Part) where
   -- A primary x of y, of that kind, which doesn't record, and its secondary. Where a Metro Mirror pair has nothing out of sync, it is Full
@@ -124,7 +126,7 @@ module _ (x y : ℕ) (kind : Part) where
     kept-part w (Note u t) f is v = part-same w (Note u t) f pair_part refl v
     kept-part w m f is v = absurd is
 
-    reaching-act : (w : World) (a : Act) (f : Option Fuse) → Ok w.control a → Reaching w → Reaching (after_act w a f)
+    reaching-act : (w : World) (a : Act) (f : Option Fuse) → Ok w a → Reaching w → Reaching (after_act w a f)
     reaching-act w (Make m) f is old = record {
       sending = record {
         runs = runs-done w m f x old.sending.runs;
@@ -133,13 +135,6 @@ module _ (x y : ℕ) (kind : Part) where
       other = runs-done w m f y old.other;
     }
     reaching-act w a f is old = absurd is
-
-    copies-keep : (us : List ℕ) (t : ℕ) → AllFine Ok (copy_first us y t)
-    copies-keep [] t = fine-none Ok
-    copies-keep (u ∷ us) t = fine-then Ok (keep_on y t u) _ (λ k. let f : Fields = fields_at k u in
-        fine-choice Ok k (copies_from y f && not f.reversing) (keep_if f u t) Pass
-        (fine-choice Ok k (not (contains f.own t)) (Do (Make (Keep u t))) _ tt (fine-choice Ok k (f.recorded && not (contains f.source_changes t)) (Do (Make (Note u t))) Pass tt tt)) tt)
-        (copies-keep us t)
 
     -- where a track can't be sent, it can't be sent either once the primary is suspended
     refusal-by : World → ℕ → Volume → Option Refusal
@@ -203,5 +198,5 @@ module _ (x y : ℕ) (kind : Part) where
         let free = (passed-refuse w one.middle (flashed_refusal y) _ can.leads).1 in
         let two : Split w one.middle (copy_first volumes y t) (store_on x y t ∷ strike_on x t ∷ []) = carry-split w one.middle (copy_first volumes y t) (store_on x y t ∷ strike_on x t ∷ []) free in
         let other : Runs w y = reached w x y (none-both (reach_refusal x y w.control) _ can.free).0 in
-        let kept = carry-keeps Ok Reaching reaching-act w two.middle (copy_first volumes y t) (copies-keep volumes t) two.first (record { sending = old; other = other }) in
+        let kept = carry-keeps Ok Reaching reaching-act w two.middle (copy_first volumes y t) (copies-fine anywhere Ok whatever (λ u t w any. tt) (λ u t w any. tt) volumes y t) two.first (record { sending = old; other = other }) in
         sends-face volumes ts one.middle v one.rest (stored-struck t two.middle one.middle two.rest kept)
