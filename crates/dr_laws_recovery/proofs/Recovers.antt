@@ -17,7 +17,7 @@ use Rattle.dr_model.specs.Control.{Fuse, Pending, Volume, World}
 use Rattle.dr_model.specs.Relations.{committed, reverted}
 use Rattle.dr_model.specs.Pairs.{taken_over}
 use Rattle.dr_model.specs.Moves.{Move, TakeOver, FallBack, Yield, Commit, Revert, target, keeps_staged, moved_keeping}
-use Rattle.dr_model.specs.Carry.{Act, Make, EndRecovery, OpenAttempt, Redo, Acknowledge, Drop, EndFreeze, EndThaw}
+use Rattle.dr_model.specs.Carry.{Act, Make, EndRecovery}
 use Rattle.dr_model.specs.ReadStops.{Ends}
 use Rattle.dr_model.specs.Entries.{fields_at, relation_state}
 use Rattle.dr_model.specs.SessionEntries.{counts_in, shown_of, shown_by_members}
@@ -211,13 +211,8 @@ module _ (w : World) (s : ℕ) where
     where
       does : (u : World) (a : Act) (f : Option Fuse) → Sound u → Keeps u → MayRecover u a → Keeps (after_act u a f)
       does u (Make m) f j k may = keeps-moved u (done u m f) j (sound-done None u m f j may.0) refl k m may.0 may.1 (table-done u j.rows.structure m f j.rows.images.blank may.0.allowed may.0.ready) (record { volumes = refl; keeps = keeps_staged m; volume = refl })
-      does u (OpenAttempt v i n) f j k may = absurd may.1
-      does u (Redo v) f j k may = absurd may.1
-      does u (Acknowledge n) f j k may = absurd may.1
-      does u (Drop n) f j k may = absurd may.1
-      does u (EndFreeze l m) f j k may = absurd may.1
-      does u (EndThaw l m) f j k may = absurd may.1
       does u (EndRecovery i n) f j k may = keeps-told u _ _ _ _ _ k
+      does u a f j k may = absurd may.1
 
       counts : (u : World) (m : Move) (f : Option Fuse) → Sound u → Keeps u → MayRecover u (Make m) → Keeps (done_in_stop u m f)
       counts u m f j k may = keeps-moved u (done_in_stop u m f) j (sound-stop None u m f j may.0) refl k m may.0 may.1 (table-stop u j.rows.structure m f j.rows.images.blank may.0.allowed may.0.ready) (record { volumes = refl; keeps = keeps_staged m; volume = refl })

@@ -113,15 +113,7 @@ refused-part {P = P} w r none = by (has_room w.events) none
 -- an attempt begins in Idle alone
 begins-idle : (p : PhaseName) (n : ℕ) → phases.begin_refusal p n ≡ None → p ≡ phase.Idle
 begins-idle phase.Idle n h = refl
-begins-idle phase.Coordinating n h = absurd cc
-begins-idle phase.Releasing n h = absurd cc
-begins-idle phase.Draining n h = absurd cc
-begins-idle phase.Flashing n h = absurd cc
-begins-idle phase.Committing n h = absurd cc
-begins-idle phase.Reverting n h = absurd cc
-begins-idle phase.Finishing n h = absurd cc
-begins-idle phase.Lost n h = absurd cc
-begins-idle phase.None n h = absurd cc
+begins-idle p n h = absurd cc
 
 -- The master of session i took the reply of a server, which didn't let its seal wait: in u it is what came of that in w, or of the attempt
 -- that began.
@@ -176,13 +168,7 @@ module _ (w : World) (s : Sound w) (i server : ℕ) (x : Session) (r : Mirror) (
 
         by : (work : phases.Work) → o.work ≡ work → reply_after i work ms v.control ≡ phases.NotYet → ⊥
         by phases.Seal is h = done-not (list_any (λ (m : Member). not (is_drained m.a.0 v.control)) ms) (sealed is) h
-        by phases.Hold is h = absurd cc
-        by phases.Release is h = absurd cc
-        by phases.Flash is h = absurd cc
-        by phases.Commit is h = absurd cc
-        by phases.Revert is h = absurd cc
-        by phases.Finish is h = absurd cc
-        by phases.Report is h = absurd cc
+        by work is h = absurd cc
 
     abbrev entries : List Entry
     entries = order_entries o.work i o.number ms
