@@ -38,7 +38,7 @@ use Rattle.dr_laws_sound.proofs.Parts.{comes-asking}
 use Rattle.dr_laws_sound.proofs.Steps.{sound-part}
 use Rattle.dr_facts.proofs.Entries.{anywhere, whatever, Fine, fine-none, fine-one, fine-flat, fine-if}
 use Rattle.dr_laws_recovery.proofs.Went.{Each, each-refuse, carry-keeps, Went, part-went, goes-onward}
-use Rattle.dr_laws_recovery.proofs.Drained.{Within, Drained, drains-drained, seals-done}
+use Rattle.dr_laws_recovery.proofs.Drained.{SentAll, Drained, drains-drained, seals-done}
 use Rattle.dr_laws_recovery.proofs.TurnsLeft.{turns_left, Shrinks, taken-shrinks, begins-shrinks, left-most}
 use Rattle.dr_logic.proofs.Truth.{false_true}
 use Rattle.dr_logic.proofs.Options.{none_some}
@@ -129,7 +129,7 @@ pub record Exchanged (w : World) (i server : ℕ) (r : Mirror) (u : World) : Typ
   pub is : next.master ≡ phases.taken before server reply
 
 module _ (w : World) (s : Sound w) (i server : ℕ) (x : Session) (r : Mirror) (found : session_in w.control.sessions i ≡ Some x) (mirror : x.mirror ≡ Some r)
-    (dry : r.master.phase ≡ phase.Draining → (m : Member) → In m (members_on server x.members) → Within [] (fields_at w.control m.a.0)) where
+    (dry : r.master.phase ≡ phase.Draining → (m : Member) → In m (members_on server x.members) → SentAll (fields_at w.control m.a.0)) where
   abbrev ms : List Member
   ms = members_on server x.members
 
@@ -269,14 +269,14 @@ module _ (w : World) (s : Sound w) (i server : ℕ) (r : Mirror) (has : master_i
   members = members_in (session_in w.control.sessions i)
 
   -- the server does what it owes, where its members are drained if it is to seal
-  exchange-in : (v : World) → Sound v → v.control.sessions ≡ w.control.sessions → (r.master.phase ≡ phase.Draining → (m : Member) → In m (members_on server members) → Within [] (fields_at v.control m.a.0))
+  exchange-in : (v : World) → Sound v → v.control.sessions ≡ w.control.sessions → (r.master.phase ≡ phase.Draining → (m : Member) → In m (members_on server members) → SentAll (fields_at v.control m.a.0))
       → (part v (asking v.control i server true)).refusal ≡ None → Exchanged v i server r (part v (asking v.control i server true)).world
   exchange-in v sound same dry none =
       let a : Asks w.control i r = asks-by w.control i r has in
       let found : session_in v.control.sessions i ≡ Some a.session = ap (λ ss. session_in ss i) same ∙ a.found in
       let is : asking v.control i server true ≡ exchange_on v.control i (Some r) server true a.session.members =
       ap (λ q. exchange_on v.control i (mirror_in q) server true (members_in q)) found ∙ ap (λ q. exchange_on v.control i q server true a.session.members) a.mirror in
-      let dry_here : (r.master.phase ≡ phase.Draining → (m : Member) → In m (members_on server a.session.members) → Within [] (fields_at v.control m.a.0)) =
+      let dry_here : (r.master.phase ≡ phase.Draining → (m : Member) → In m (members_on server a.session.members) → SentAll (fields_at v.control m.a.0)) =
       λ draining m here. dry draining m (subst (λ q. In m (members_on server (members_in q))) (sym a.found) here) in
       subst (λ (p : Plan). Exchanged v i server r (part v p).world) (sym is)
       (exchange-asked v sound i server a.session r found a.mirror dry_here (sym (ap (λ (p : Plan). (part v p).refusal) is) ∙ none))
