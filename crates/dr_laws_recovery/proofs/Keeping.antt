@@ -1,9 +1,11 @@
 -- A law that holds along a plan: wherever the plan comes to, where servers go off by themselves in it, and as it is answered.
-use Rattle.std.proofs.Common.{ℕ, ◌≡◌, refl, sym, subst, Bool, List, [], ◌∷◌, take, length, Option, Some, None}
+use Rattle.std.proofs.Common.{ℕ, ◌≡◌, ◌⊎◌, inl, inr, refl, sym, subst, Bool, List, [], ◌∷◌, take, length, Option, Some, None}
 use Rattle.std.proofs.Math.Seq.{take-length}
 use Rattle.dr_ids.specs.declared.refusal.Refusal.{Refusal}
 use Rattle.dr_ids.specs.declared.refusal.Refusal.TheVariants.{Stopped as StoppedIn}
 use Rattle.dr_model.specs.declared.event.Event.{Event}
+use Rattle.dr_ids.specs.declared.names.Member.{Member}
+use Rattle.dr_model.specs.Groups.{In}
 use Rattle.dr_model.specs.Control.{World}
 use Rattle.dr_model.specs.Carry.{Act, Next, Pass, Do, End, Entry, carry}
 use Rattle.dr_model.specs.PlanParts.{Plan, refuses, unless}
@@ -101,3 +103,25 @@ module _ (w : World) (W : World → Type 0) (k : Keeping w W) where
   pub goes-after : (p : Plan) → Goes p → (line : ℕ) → W (after_plan w line p)
   unfolding after_plan
   goes-after p goes line = k.told _ _ _ (finish-goes p goes _ _ (subst (λ ds. W (carry (begun w p) ds).0) (take-length p.entries) (goes-moment p goes (length p.entries))))
+
+-- ---- one member after another
+
+-- each of them is left to do, or P holds of it
+module _ (ms : List Member) where
+  abbrev pub LeftBut : (Member → Type 0) → List Member → Type 0
+  LeftBut P rest = (q : Member) → In q ms → In q rest ⊎ P q
+
+  pub left-passes : (P Q : Member → Type 0) (m : Member) (rest : List Member) → LeftBut P (m ∷ rest) → ((q : Member) → P q → Q q) → Q m → LeftBut Q rest
+  left-passes P Q m rest left keeps here q there = by (left q there)
+    where
+      by : In q (m ∷ rest) ⊎ P q → In q rest ⊎ Q q
+      by (inl (inl is)) = inr (subst Q (sym is) here)
+      by (inl (inr more)) = inl more
+      by (inr h) = inr (keeps q h)
+
+  pub none-left : (P : Member → Type 0) → LeftBut P [] → (q : Member) → In q ms → P q
+  none-left P left q there = by (left q there)
+    where
+      by : ⊥ ⊎ P q → P q
+      by (inl never) = absurd never
+      by (inr p) = p

@@ -1,5 +1,5 @@
 -- A recovery commits or reverts no target of a session before it has taken over all secondaries of its members.
-use Rattle.std.proofs.Common.{ℕ, ◌≡◌, ◌≢◌, ◌⊎◌, inl, inr, refl, ap, sym, ◌∙◌, subst, Bool, true, false, cond, List, [], ◌∷◌, ◌++◌, map, Option, Some, None}
+use Rattle.std.proofs.Common.{ℕ, ◌≡◌, ◌≢◌, inl, inr, refl, ap, sym, ◌∙◌, subst, Bool, true, false, cond, List, [], ◌∷◌, ◌++◌, map, Option, Some, None}
 use Rattle.dr_ids.specs.declared.names.Member.{Member}
 use Rattle.dr_ids.specs.declared.refusal.Decision.{Decision}
 use Rattle.dr_model.specs.Layout.{is_part}
@@ -20,11 +20,11 @@ use Rattle.dr_laws_sound.proofs.KeepsSound.{Along, Then, MayDo}
 use Rattle.dr_laws_sound.proofs.FitsFlash.{as_begun, sound-begun}
 use Rattle.dr_laws_sound.proofs.FitsRecovery.{along-recover}
 use Rattle.dr_laws_sound.proofs.Rides.{Rides, Both}
-use Rattle.dr_laws_recovery.proofs.Keeping.{MayFit, keeps-fit, Keeping, Goes, goes-unless, goes-moment, goes-ends, goes-after}
+use Rattle.dr_laws_recovery.proofs.Keeping.{LeftBut, left-passes, none-left, MayFit, keeps-fit, Keeping, Goes, goes-unless, goes-moment, goes-ends, goes-after}
 use Rattle.dr_laws_sound.proofs.RecoveryEntries.{fit-settle}
 use Rattle.dr_facts.proofs.Entries.{anywhere, whatever, Fine}
 use Rattle.dr_laws_sound.proofs.Along as along
-use Rattle.dr_logic.proofs.Tables.{at_other}
+use Rattle.dr_logic.proofs.Tables.{at_same, at_other}
 
 module _ (w : World) (sound : Sound w) (s : ℕ) (x : Session) (found : session_in w.control.sessions s ≡ Some x) where
   -- no secondary of a member is one
@@ -100,43 +100,27 @@ module _ (w : World) (sound : Sound w) (s : ℕ) (x : Session) (found : session_
       (lone.differ x q listed there).b_c (ap (λ (p : Member). p.b.0) one.1 ∙ sym e)
 
   -- each is left to take, or taken
-  abbrev LeftBut : World → List Member → Type 0
-  LeftBut u rest = (q : Member) → In q x.members → In q rest ⊎ (is_part (fields_at u.control q.b.0).secondary ≡ false)
+  abbrev IsTaken : World → Member → Type 0
+  IsTaken u q = is_part (fields_at u.control q.b.0).secondary ≡ false
 
-  left-passes : (u : World) (m : Member) (rest : List Member) → LeftBut u (m ∷ rest) → is_part (fields_at u.control m.b.0).secondary ≡ false → LeftBut u rest
-  left-passes u m rest left none q there = by (left q there)
-    where
-      by : In q (m ∷ rest) ⊎ (is_part (fields_at u.control q.b.0).secondary ≡ false) → In q rest ⊎ (is_part (fields_at u.control q.b.0).secondary ≡ false)
-      by (inl (inl is)) = inr (ap (λ (q : Member). is_part (fields_at u.control q.b.0).secondary) is ∙ none)
-      by (inl (inr more)) = inl more
-      by (inr h) = inr h
+  abbrev Left : World → List Member → Type 0
+  Left u = LeftBut x.members (IsTaken u)
 
-  left-done : (u : World) (f : Option Fuse) (m : Member) (rest : List Member) → LeftBut u (m ∷ rest) → LeftBut (done u (TakeOver m.b.0) f) rest
-  left-done u f m rest left = left-passes (done u (TakeOver m.b.0) f) m rest (λ q there. by q (left q there)) here
-    where
-      by : (q : Member) → In q (m ∷ rest) ⊎ (is_part (fields_at u.control q.b.0).secondary ≡ false) → In q (m ∷ rest) ⊎ (is_part (fields_at (done u (TakeOver m.b.0) f).control q.b.0).secondary ≡ false)
-      by q (inl more) = inl more
-      by q (inr h) = inr (still u (TakeOver m.b.0) (λ e. refl) q.b.0 h)
+  left-done : (u : World) (f : Option Fuse) (m : Member) (rest : List Member) → Left u (m ∷ rest) → Left (done u (TakeOver m.b.0) f) rest
+  left-done u f m rest left =
+      left-passes x.members (IsTaken u) (IsTaken (done u (TakeOver m.b.0) f)) m rest left (λ q h. still u (TakeOver m.b.0) (λ e. refl) q.b.0 h)
+      (ap (λ (y : Volume). is_part y.fields.secondary) (at_same u.control.volume m.b.0 (moved (u.control.volume m.b.0) (next_of u (TakeOver m.b.0)) (carried_in u (TakeOver m.b.0)))))
 
-      here : is_part (fields_at (done u (TakeOver m.b.0) f).control m.b.0).secondary ≡ false
-      here =
-          at_cases (λ b (y : Volume). b ≡ m.b.0 → is_part y.fields.secondary ≡ false) u.control.volume m.b.0 (moved (u.control.volume m.b.0) (next_of u (TakeOver m.b.0)) (carried_in u (TakeOver m.b.0)))
-          (λ e. refl) (λ q ne e. absurd (ne e)) m.b.0 refl
-
-  taking : (ms : List Member) (es : List Entry) → ((m : Member) → In m ms → In m x.members) → ((u : World) → Holds u → Taken u.control → Along u es → Fits u es) → (u : World) → Holds u → LeftBut u ms → Along u (map take_over_on ms ++ es) → Fits u (map take_over_on ms ++ es)
-  taking [] es here go u h left a = go u h (λ q there. none (left q there)) a
-    where
-      none : {P : Type 0} → ⊥ ⊎ P → P
-      none (inl never) = absurd never
-      none (inr p) = p
+  taking : (ms : List Member) (es : List Entry) → ((m : Member) → In m ms → In m x.members) → ((u : World) → Holds u → Taken u.control → Along u es → Fits u es) → (u : World) → Holds u → Left u ms → Along u (map take_over_on ms ++ es) → Fits u (map take_over_on ms ++ es)
+  taking [] es here go u h left a = go u h (none-left x.members (IsTaken u) left) a
   taking (m ∷ ms) es here go u h left a =
       along.along-entry I I I May u (take_over_on m) (map take_over_on ms ++ es) (take_over_on m u.control) refl
       (by (λ v h left a. taking ms es (λ q h. here q (inr h)) go v h left a) (is_part (fields_at u.control m.b.0).secondary) refl (along.along-comes Sound Sound Sound MayDo u (take_over_on m) (map take_over_on ms ++ es) (take_over_on m u.control) refl a))
     where
-      by : ((v : World) → Holds v → LeftBut v ms → Along v (map take_over_on ms ++ es) → Fits v (map take_over_on ms ++ es)) → (b : Bool) → is_part (fields_at u.control m.b.0).secondary ≡ b
+      by : ((v : World) → Holds v → Left v ms → Along v (map take_over_on ms ++ es) → Fits v (map take_over_on ms ++ es)) → (b : Bool) → is_part (fields_at u.control m.b.0).secondary ≡ b
           → Then u (cond b (Do (Make (TakeOver m.b.0))) Pass) (λ v. Along v (map take_over_on ms ++ es)) → along.along_next I I May u (cond b (Do (Make (TakeOver m.b.0))) Pass) (λ v. Fits v (map take_over_on ms ++ es))
       by on true is a = ((a.0, λ q there. other m q (here m (inl refl)) there), λ f j. on (done u (TakeOver m.b.0) f) j.1 (left-done u f m ms left) (a.1 f j.0))
-      by on false is a = on u h (left-passes u m ms left is) a
+      by on false is a = on u h (left-passes x.members (IsTaken u) (IsTaken u) m ms left (λ q h. h) is) a
 
   -- ---- and then targets change
 

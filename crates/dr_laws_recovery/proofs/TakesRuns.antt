@@ -119,27 +119,27 @@ module _ (w0 : World) (s n : ℕ) where
   abbrev Stands : Control → Type 0
   Stands k = ((v : ℕ) → names (fields_at k v) ≡ names (fields_at k0 v)) × (members_in (session_in k.sessions s) ≡ members)
 
-  abbrev In_world : World → Type 0
-  In_world w = Stands w.control
+  abbrev StandsIn : World → Type 0
+  StandsIn w = Stands w.control
 
-  stands-move : (w : World) (m : Move) (f : Option Fuse) → KeepsPartner m → In_world w → In_world (done w m f)
+  stands-move : (w : World) (m : Move) (f : Option Fuse) → KeepsPartner m → StandsIn w → StandsIn (done w m f)
   stands-move w m f keeps k = (λ v. part-same w m f names (partner-kept m (w.control.volume (target m)) keeps) v ∙ k.0 v, k.1)
 
-  stands-opened : (w : World) (v i n : ℕ) (f : Option Fuse) → In_world w → In_world (after_act w (OpenAttempt v i n) f)
+  stands-opened : (w : World) (v i n : ℕ) (f : Option Fuse) → StandsIn w → StandsIn (after_act w (OpenAttempt v i n) f)
   stands-opened w v i n f k = ((stands-move w (Hold v i n true) f tt k).0, same-members i s attempt_opened w.control.sessions (λ x. refl) (λ x. refl) ∙ k.1)
 
-  stands-done : (w : World) (a : Act) (f : Option Fuse) → OkBy KeepsPartner w a → In_world w → In_world (after_act w a f)
+  stands-done : (w : World) (a : Act) (f : Option Fuse) → OkBy KeepsPartner w a → StandsIn w → StandsIn (after_act w a f)
   stands-done w (Make m) f ok k = stands-move w m f ok k
   stands-done w (OpenAttempt v i n) f ok k = stands-opened w v i n f k
   stands-done w a f ok k = k
 
-  stands-stop : (w : World) (a : Act) → OkBy KeepsPartner w a → In_world w → Counts w a (λ t. In_world t.0)
+  stands-stop : (w : World) (a : Act) → OkBy KeepsPartner w a → StandsIn w → Counts w a (λ t. StandsIn t.0)
   stands-stop w (Make m) ok k = λ f. stands-move w m f ok k
   stands-stop w (OpenAttempt v i n) ok k = λ f. stands-opened w v i n f k
   stands-stop w a ok k = tt
 
-  stands-act : (w : World) (a : Act) → OkBy KeepsPartner w a → In_world w → In_world (act w a).0
-  stands-act w a ok k = act-cases w a (λ t. In_world t.0) (λ d off. k) (λ f. stands-done w a f ok k) (stands-stop w a ok k) (λ d f. k)
+  stands-act : (w : World) (a : Act) → OkBy KeepsPartner w a → StandsIn w → StandsIn (act w a).0
+  stands-act w a ok k = act-cases w a (λ t. StandsIn t.0) (λ d off. k) (λ f. stands-done w a f ok k) (stands-stop w a ok k) (λ d f. k)
 
   -- the tables of such a plan, as it begins and ends
   record Tables (k : Control) (p : Plan) : Type 0 where
@@ -174,7 +174,7 @@ module _ (w0 : World) (s n : ℕ) where
       let e = case-does w 0 asked p c in
       let t = tables w.control w.events 0 asked p c turn in
       let keeps : (v : World) (a : Act) → anywhere v → Acts w.control asked v a → OkBy KeepsPartner v a = λ v a any does. does-keep w.control asked v a does turn in
-      let stands : Stands u.control = plan-from anywhere (OkBy KeepsPartner) whatever whatever In_world (λ v k. tt) stands-act w p (t.first g.stands)
+      let stands : Stands u.control = plan-from anywhere (OkBy KeepsPartner) whatever whatever StandsIn (λ v k. tt) stands-act w p (t.first g.stands)
           (from-wider anywhere anywhere (Acts w.control asked) (OkBy KeepsPartner) NoStop whatever (Late asked) whatever (λ v any. any) keeps (λ r why. tt) (λ r why. tt) p.entries (begun w p) tt e.entries)
           (λ x. fine-wider anywhere anywhere (Acts w.control asked) (OkBy KeepsPartner) (Late asked) whatever (λ v any. any) keeps (λ r why. tt) (p.follows x) (e.follows x)) (λ v k. t.last v.control k) in
       record { told = told-on Q w0.events w.events u.events g.told (case-told w Q 0 asked p c to); stands = (stands.0, lost-members s w.control.on u.control.on u.control.sessions ∙ stands.1) }

@@ -39,16 +39,14 @@ MayTake k asked v = takes_from k asked v ≡ true
 
 module _ (k : Control) where
   -- a primary's secondary, where a host write goes there
+  write-sends : (a t : ℕ) → is_part (fields_at k a).primary ≡ true → (goes_over (fields_at k a) t || collides (fields_at k a) t) ≡ true → sends_write k a t (partner_of k a) ≡ true
+  write-sends a t part goes = let f : Fields = fields_at k a in and_from (is_primary_of f.primary_partner f) _ (and_from (is_part f.primary) _ part (eq-eqb f.primary_partner f.primary_partner refl)) goes
+
   over-sends : (a t : ℕ) → goes_over (fields_at k a) t ≡ true → sends_write k a t (partner_of k a) ≡ true
-  over-sends a t over =
-      let f : Fields = fields_at k a in
-      let metro : is_metro f.primary ≡ true = (and_parts (is_metro f.primary) _ over).0 in
-      and_from (is_primary_of f.primary_partner f) _ (and_from (is_part f.primary) _ (metro-part f.primary metro) (eq-eqb f.primary_partner f.primary_partner refl)) (ap (λ b. b || collides f t) over)
+  over-sends a t over = let f : Fields = fields_at k a in write-sends a t (metro-part f.primary (and_parts (is_metro f.primary) _ over).0) (ap (λ b. b || collides f t) over)
 
   collision-sends : (a t : ℕ) → collides (fields_at k a) t ≡ true → sends_write k a t (partner_of k a) ≡ true
-  collision-sends a t met =
-      let f : Fields = fields_at k a in
-      and_from (is_primary_of f.primary_partner f) _ (and_from (is_part f.primary) _ (global-part f.primary (and_parts _ _ met).0) (eq-eqb f.primary_partner f.primary_partner refl)) (ap (λ b. goes_over f t || b) met ∙ or-true (goes_over f t))
+  collision-sends a t met = let f : Fields = fields_at k a in write-sends a t (global-part f.primary (and_parts _ _ met).0) (ap (λ b. goes_over f t || b) met ∙ or-true (goes_over f t))
 
   -- the targets of a session's members
   pub session-target : (s : ℕ) (m : Member) → In m (members_in (session_in k.sessions s)) → is_target_in k s m.c.0 ≡ true
