@@ -1,6 +1,6 @@
 -- Each step keeps the writes of volumes' lists, but for those of volumes from which it may take; and where a list lost a write, there is
 -- the step that took it.
-use Rattle.std.proofs.Common.{ℕ, ◌≡◌, ◌⊎◌, inl, inr, sym, subst, append_assoc, Bool, true, false, cond, List, [], ◌∷◌, ◌++◌, Result, Ok}
+use Rattle.std.proofs.Common.{refl, ℕ, ◌≡◌, ◌⊎◌, inl, inr, sym, subst, append_assoc, Bool, true, false, cond, List, [], ◌∷◌, ◌++◌, Result, Ok}
 use Rattle.std.proofs.lemmas.List.{append-nil}
 use Rattle.dr_model.specs.declared.event.Event.{Event}
 use Rattle.dr_model.specs.declared.event.Event.TheVariants.{Volume as VolumeDefined, Mirrored, Sent, Flashed, Reverted, Set, Back, Blanked}
@@ -44,7 +44,7 @@ told-task w t = by t.asked
 
     imaging : (room : Bool) → Told (MayTake w.control (Ok Image)) w.events (after_plan w t.line (cond room (image_plan t.listed) (refuses JournalFull))).events
     imaging true = let Q : ℕ → Type 0 = MayTake w.control (Ok Image) in plan-told w Q t.line (image_plan t.listed) (image-told w Q t.listed)
-    imaging false = of (Ok Image) (refuses JournalFull) (Says _ (refused-not _))
+    imaging false = of (Ok Image) (refuses JournalFull) (Says _ (refused-not JournalFull) (λ one. refl))
 
     by : (asked : Result Step ℕ) → Told (MayTake w.control asked) w.events (answered_part t.line (course_of w (record { line = t.line; asked = asked; listed = t.listed }) (own_course asked)).last).events
     by (Ok (Run s n)) =

@@ -202,7 +202,7 @@ module _ (w0 : World) (s n : ℕ) where
       of p c = part-going w (Ok (Exchange s unnamed true)) p c refl (target-may w g) g
 
       by : (o : Option Session) → session_in w.control.sessions s ≡ o → Going (after_part w (exchange_on w.control s (mirror_in o) server true (members_in o)))
-      by None none = of _ (Says _ (refused-not (OutOfOrder phase.None)))
+      by None none = of _ (Says _ (refused-not (OutOfOrder phase.None)) (λ one. refl))
       by (Some x) there = of _ (on-case w.control w.events 0 s server true x x.mirror there refl)
 
   -- the whole way
