@@ -55,7 +55,7 @@ carried-between w p fair = by (carry (begun w p) p.entries) (fairly-came (PlanFi
     by (u, Some r) c = c.fin
 
 between-part : (w : World) (p : Plan) → Comes w p → Between w → Between (after_part w p)
-between-part w p comes k = loses-between w (carried_out w p).0 (carried-between w p (fair-case w k 0 p (comes.case 0)))
+between-part w p comes k = loses-between w (carried_out w p).0 (carried-between w p (fair-case w k 0 comes.asked p (comes.case 0)))
 
 pub between-task : (w : World) (t : Task) → Between w → Between (after_task w t)
 unfolding after_plan

@@ -28,7 +28,7 @@ use Rattle.dr_laws_freezes.proofs.KeepsWindow.{AllPassing}
 use Rattle.dr_laws_freezes.proofs.KeepsStep.{Step, Does, Stops, Acks, Others, Passes, Acknowledges, Unchanged}
 use Rattle.dr_laws_freezes.proofs.Windows.{Good, Chain, Last, Then}
 use Rattle.dr_laws_sound.proofs.Cases.{Says, plan-case}
-use Rattle.dr_laws_sound.proofs.Parts.{Comes, Ways, way-formed, compared-case, Ending, OnePlan, imaged-case}
+use Rattle.dr_laws_sound.proofs.Parts.{Comes, Ways, way-formed, compared-case, formed-not, Ending, OnePlan, imaged-case}
 use Rattle.dr_logic.proofs.Truth.{false_true}
 use Rattle.std.specs.List.{list_any}
 
@@ -280,7 +280,7 @@ module _ (K : World → Type 0) (rows : (w : World) → K w → SoundRows (table
     one-chains : (w : World) (p : Plan) → Comes w p → WayChains w (record { parts = record { world = w; plan = p } ∷ []; world = after_part w p; refusal = part_refusal w p })
     unfolding parts_moments
     one-chains w p comes more follows k =
-        let fair : PlanFair w p = each w 0 p (OnePlan p (comes.case 0)) k in
+        let fair : PlanFair w p = each w 0 p (OnePlan comes.asked p (comes.case 0)) k in
         let r : Option Refusal = part_refusal w p in
         subst (λ us. Chain None w us) (sym (append_assoc (plan_moments w p) (after_part w p ∷ []) (more (after_part w p) r)))
         (moments-chain w p fair.last (λ u r. masters_lost w u) (lost-closes w) (λ u r k. loses w u k) (λ v. more v r) (λ v k. follows v r k) k fair)
@@ -325,12 +325,12 @@ module _ (K : World → Type 0) (rows : (w : World) → K w → SoundRows (table
         ended_by x = part_moments x ++ (answered_part t.line x ∷ more (answered_part t.line x))
 
         by : (o : Option OwnCourse) → let c : Course = course_of w t o in Chain None w (parts_moments c.before ++ ended_by c.last)
-        by None = last-chain t.line (record { world = w; plan = plan w.control w.events t.line t.asked }) (OnePlan _ (plan-case w.control w.events t.line t.asked)) more goes_on k
+        by None = last-chain t.line (record { world = w; plan = plan w.control w.events t.line t.asked }) (OnePlan t.asked _ (plan-case w.control w.events t.line t.asked)) more goes_on k
         by (Some (Groups s n)) =
             way-formed WayChains ways w s n (λ v r. ended_by (record { world = v; plan = only_says (form_said s v.control r) }))
-            (λ v r k. last-chain t.line (record { world = v; plan = only_says (form_said s v.control r) }) (OnePlan _ (Says (form_said s v.control r))) more goes_on k) k
-        by (Some (Volumes v u)) = last-chain t.line (record { world = w; plan = compared w v u }) (OnePlan _ (compared-case w t.line v u)) more goes_on k
-        by (Some Devices) = last-chain t.line (record { world = w; plan = imaged w t.listed }) (imaged-case w t.line t.listed) more goes_on k
+            (λ v r k. last-chain t.line (record { world = v; plan = only_says (form_said s v.control r) }) (OnePlan t.asked _ (Says (form_said s v.control r) (formed-not s v.control.sessions r))) more goes_on k) k
+        by (Some (Volumes v u)) = last-chain t.line (record { world = w; plan = compared w v u }) (OnePlan t.asked _ (compared-case w t.line t.asked v u)) more goes_on k
+        by (Some Devices) = last-chain t.line (record { world = w; plan = imaged w t.listed }) (imaged-case w t.line t.asked t.listed) more goes_on k
 
     pub run-chain : (tasks : List Task) (w : World) → K w → Chain None w (moments_from w tasks)
     unfolding moments_from

@@ -1,6 +1,5 @@
 -- Steps that only change tables and tell events are fair.
-use Rattle.std.proofs.Common.{ℕ, ◌≡◌, ◌≢◌, ◌<◌, ◌+◌, refl, ap, sym, ◌∙◌, subst, Bool, true, false, cond, ◌&&◌, ◌||◌, nat_eq, List, [], ◌∷◌, ◌++◌, length, None, arith, Result}
-use Rattle.dr_model.specs.declared.step.Step.{Step}
+use Rattle.std.proofs.Common.{ℕ, ◌≡◌, ◌≢◌, ◌<◌, ◌+◌, refl, ap, sym, ◌∙◌, subst, Bool, true, false, cond, ◌&&◌, ◌||◌, nat_eq, List, [], ◌∷◌, ◌++◌, length, None, arith}
 use Rattle.std.proofs.lemmas.List.{append-nil}
 use Rattle.std.proofs.lemmas.Bool.{false≢true, ne_eqb, or_left}
 use Rattle.std.specs.List.{list_any}
@@ -13,7 +12,7 @@ use Rattle.dr_model.specs.Contents.{image_at}
 use Rattle.dr_model.specs.Histories.{Histories, histories, lists}
 use Rattle.dr_model.specs.Control.{Control, Pending, Volume, World, is_volume, new_volume}
 use Rattle.dr_model.specs.Carry.{carry}
-use Rattle.dr_model.specs.Plans.{Plan, tables_plan, only_says, same, name_bytes, server_done, server_refusal, volume_done, volume_refusal, link_done, issue_done, issue_refusal, with_pending, show_done, show_refusal, stop_done, arm_on, make_path_done, remove_path_done}
+use Rattle.dr_model.specs.Plans.{Plan, tables_plan, only_says, same, name_bytes, server_done, server_refusal, volume_done, volume_refusal, link_done, issue_done, with_pending, show_done, show_refusal, stop_done, arm_on, make_path_done, remove_path_done}
 use Rattle.dr_model.specs.Runs.{begun}
 use Rattle.dr_model.specs.Table.{waiting}
 use Rattle.dr_model.specs.Laws.{Sound, AllPending}
@@ -21,9 +20,8 @@ use Rattle.dr_model.proofs.Images.{histories-append}
 use Rattle.dr_laws_closed.proofs.Pendings.{each-on, all-more}
 use Rattle.dr_laws_freezes.specs.Windows.{is_ack}
 use Rattle.dr_facts.proofs.Tables.{at_cases}
-use Rattle.dr_laws_sound.proofs.Cases.{Case, Says, DefinesServer, DefinesVolume, SetsLink, Issues, Shows, Stops, Arms, MakesPath, RemovesPath, is-new}
+use Rattle.dr_laws_sound.proofs.Cases.{is-new}
 use Rattle.dr_laws_sound.proofs.KeepsSound.{StepHolds, RowsAt, MayDo, keeps-sound}
-use Rattle.dr_laws_sound.proofs.Steps.{case-holds}
 use Rattle.dr_laws_freezes.proofs.Fair.{Unacked}
 use Rattle.dr_model.specs.declared.said.Addition.TheVariants.{Alone}
 use Rattle.dr_model.specs.declared.said.Said.TheVariants.{Done}
@@ -73,21 +71,18 @@ module _ (w : World) (k : Between w) where
       (tidy-same w u volume volumes on (fresh-told w u told refl issued (subst (AllPending (λ p. Unacked w p.w)) (sym pending) k.tidy.fresh.unacked) acks k.tidy.fresh) k.tidy)
 
   module _ (line : ℕ) where
-    abbrev holds : (asked : Result Step ℕ) (p : Plan) → Case w.control w.events line asked p → StepHolds w p
-    holds = case-holds w k.sound line
-
     none-told : histories (w.events ++ []) ≡ histories w.events
     none-told = ap histories (append-nil w.events)
 
-    pub fair-says : (a : Said) → Fair w (only_says a)
-    fair-says a = fair-told same [] a (holds _ (Says a)) tt none-told (λ n. refl) refl refl refl refl (λ j h. h)
+    pub fair-says : (a : Said) → StepHolds w (only_says a) → Fair w (only_says a)
+    fair-says a holds = fair-told same [] a holds tt none-told (λ n. refl) refl refl refl refl (λ j h. h)
 
-    pub fair-defines : (name : Name) → (free : server_refusal w.control (name_bytes name) ≡ None) → Fair w (server_done w.control name)
-    fair-defines name free = let e : Event = ServerDefined (length w.control.servers) name.len name.bytes in
-        fair-told _ (e ∷ []) _ (holds _ (DefinesServer name free)) (tt, tt) (histories-append w.events (e ∷ [])) (λ n. refl) refl refl refl refl (λ j h. h)
+    pub fair-defines : (name : Name) → (free : server_refusal w.control (name_bytes name) ≡ None) → StepHolds w (server_done w.control name) → Fair w (server_done w.control name)
+    fair-defines name free holds = let e : Event = ServerDefined (length w.control.servers) name.len name.bytes in
+        fair-told _ (e ∷ []) _ holds (tt, tt) (histories-append w.events (e ∷ [])) (λ n. refl) refl refl refl refl (λ j h. h)
 
-    pub fair-links : (a b : ℕ) (up : Bool) → Fair w (link_done a b up)
-    fair-links a b up = fair-told _ [] _ (holds _ (SetsLink a b up)) tt none-told (λ n. refl) refl refl refl refl (λ j h. h)
+    pub fair-links : (a b : ℕ) (up : Bool) → StepHolds w (link_done a b up) → Fair w (link_done a b up)
+    fair-links a b up holds = fair-told _ [] _ holds tt none-told (λ n. refl) refl refl refl refl (λ j h. h)
 
     lines-silent : (told : List Event) → AllLines told → AllPassing told
     lines-silent = all-lines AllPassing tt (λ e es l rest. (each-line Passing (λ line v u state kind k. tt) (λ line s t sequence previous state flags own. tt) (λ line s a b c state. tt) (λ line s server phase n paused. tt) tt (λ v server tracks. tt) (λ v index bytes. tt) tt e l, rest))
@@ -101,30 +96,30 @@ module _ (w : World) (k : Between w) where
     pub fair-lists : (told : List Event) → AllLines told → StepHolds w (listing_plan told) → Fair w (listing_plan told)
     fair-lists told ls holds = fair-told same told (Done Alone) holds (lines-silent told ls) (lines-lists w.events told ls) (λ n. lines-unacked n told ls) refl refl refl refl (λ j h. h)
 
-    pub fair-shows : (v t : ℕ) → (there : show_refusal w.control v t ≡ None) → Fair w (show_done w.events line v t)
-    fair-shows v t there = let e : Event = Shown line v t (image_at w.events v t) in fair-told same (e ∷ []) _ (holds _ (Shows v t there)) (tt, tt) (histories-append w.events (e ∷ [])) (λ n. refl) refl refl refl refl (λ j h. h)
+    pub fair-shows : (v t : ℕ) → (there : show_refusal w.control v t ≡ None) → StepHolds w (show_done w.events line v t) → Fair w (show_done w.events line v t)
+    fair-shows v t there holds = let e : Event = Shown line v t (image_at w.events v t) in fair-told same (e ∷ []) _ holds (tt, tt) (histories-append w.events (e ∷ [])) (λ n. refl) refl refl refl refl (λ j h. h)
 
-    pub fair-stops : (s : ℕ) → (on : w.control.on s ≡ true) → Fair w (stop_done s)
-    fair-stops s on =
-        fair-told _ (Stopped s 0 ∷ []) _ (holds _ (Stops s on)) (tt, tt) (histories-append w.events (Stopped s 0 ∷ [])) (λ n. refl) refl refl refl refl
+    pub fair-stops : (s : ℕ) → (on : w.control.on s ≡ true) → StepHolds w (stop_done s) → Fair w (stop_done s)
+    fair-stops s on holds =
+        fair-told _ (Stopped s 0 ∷ []) _ holds (tt, tt) (histories-append w.events (Stopped s 0 ∷ [])) (λ n. refl) refl refl refl refl
         (λ j h. at_cases (λ j b. b ≡ true → w.control.on j ≡ true) w.control.on s false (λ h. absurd cc) (λ j ne h. h) j h)
 
-    pub fair-arms : (writes : ℕ) (torn : TornWord) (s : ℕ) → Fair w (arm_on writes torn s)
-    fair-arms writes torn s = fair-told _ [] _ (holds _ (Arms writes torn s)) tt none-told (λ n. refl) refl refl refl refl (λ j h. h)
+    pub fair-arms : (writes : ℕ) (torn : TornWord) (s : ℕ) → StepHolds w (arm_on writes torn s) → Fair w (arm_on writes torn s)
+    fair-arms writes torn s holds = fair-told _ [] _ holds tt none-told (λ n. refl) refl refl refl refl (λ j h. h)
 
-    pub fair-paths : (src tgt : ℕ) (group : Bool) → Fair w (make_path_done src tgt group)
-    fair-paths src tgt group = fair-told _ [] _ (holds _ (MakesPath src tgt group)) tt none-told (λ n. refl) refl refl refl refl (λ j h. h)
+    pub fair-paths : (src tgt : ℕ) (group : Bool) → StepHolds w (make_path_done src tgt group) → Fair w (make_path_done src tgt group)
+    fair-paths src tgt group holds = fair-told _ [] _ holds tt none-told (λ n. refl) refl refl refl refl (λ j h. h)
 
-    pub fair-unpaths : (src tgt : ℕ) → Fair w (remove_path_done src tgt)
-    fair-unpaths src tgt = fair-told _ [] _ (holds _ (RemovesPath src tgt)) tt none-told (λ n. refl) refl refl refl refl (λ j h. h)
+    pub fair-unpaths : (src tgt : ℕ) → StepHolds w (remove_path_done src tgt) → Fair w (remove_path_done src tgt)
+    fair-unpaths src tgt holds = fair-told _ [] _ holds tt none-told (λ n. refl) refl refl refl refl (λ j h. h)
 
     -- a new volume is no primary
-    pub fair-adds : (v s tracks : ℕ) → (here : s < length w.control.servers) → (free : volume_refusal w.control v s tracks ≡ None) → Fair w (volume_done v s tracks)
-    fair-adds v s tracks here free =
+    pub fair-adds : (v s tracks : ℕ) → (here : s < length w.control.servers) → (free : volume_refusal w.control v s tracks ≡ None) → StepHolds w (volume_done v s tracks) → Fair w (volume_done v s tracks)
+    fair-adds v s tracks here free holds =
         let e : Event = VolumeDefined v s tracks in
         let u : World = begun w (volume_done v s tracks) in
         let other : ((x : ℕ) → is_volume w.control x ≡ true → x ≢ v) = λ x there is. false_true (is-new w.control v s tracks free).undefined (ap (is_volume w.control) (sym is) ∙ there) in
-        fair-tables w _ (e ∷ []) _ (holds _ (DefinesVolume v s tracks here free))
+        fair-tables w _ (e ∷ []) _ holds
         (record {
           events = refl;
           silent = (tt, tt);
@@ -184,6 +179,6 @@ module _ (w : World) (tidy : Tidy w) (v t offset len : ℕ) (bytes : List ℕ) w
     later = λ n lt. late-unacked w n tidy.fresh (omega arith) (e ∷ []) refl;
   }) tidy
 
-pub fair-issues : (w : World) (k : Between w) (line v t offset len : ℕ) (bytes : List ℕ) → (free : issue_refusal w.control v t ≡ None) → Fair w (issue_done w.control v t offset len bytes)
-fair-issues w k line v t offset len bytes free =
-    fair-tables w (with_pending v t) _ _ (case-holds w k.sound line _ (Issues v t offset len bytes free)) (issued-unchanged w k.tidy v t offset len bytes) (issued-tidy w k.tidy v t offset len bytes)
+pub fair-issues : (w : World) (k : Between w) (line v t offset len : ℕ) (bytes : List ℕ) → StepHolds w (issue_done w.control v t offset len bytes) → Fair w (issue_done w.control v t offset len bytes)
+fair-issues w k line v t offset len bytes holds =
+    fair-tables w (with_pending v t) _ _ holds (issued-unchanged w k.tidy v t offset len bytes) (issued-tidy w k.tidy v t offset len bytes)
