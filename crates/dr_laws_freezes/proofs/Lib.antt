@@ -15,10 +15,10 @@
 -- - A law between steps that a step breaks and restores (`Tidy`: nothing is out of sync on a Full Duplex primary whose
 --   server is on) has a form with a hole for the volume at work (`TidyBut`, `FairWithin.antt`), and one lemma that fills
 --   it again (`heal`).
--- **A law over the steps behind one** (`no_write_lands_after_a_freeze`: `LongBusy.antt`, `LongBusyEntries.antt`, `LongBusySteps.antt`,
--- `FreezesHold.antt`). What lasts is a record on a world (`Frozen`); `frozen-act` says which acts keep it, `Calm` which entries do, also
--- behind a check whose passing says more (`calm-where`), and `step-kept` has a clause for each step. What holds between steps
--- beside it, of every run, is `between-run` (`Betweens.antt`).
+-- **A law over the steps behind one** (`no_write_lands_after_a_freeze`: `LongBusy.antt`, `LongBusySteps.antt`, `FreezesHold.antt`). What
+-- lasts is a record on a world (`Frozen`); `frozen-act` says which acts keep it, and `law` that a step which doesn't let the volume go does
+-- such acts alone (`Does`). What a step has changed as its entries begin is `Begun.antt`. What holds between steps beside it, of every
+-- run, is `between-run` (`Betweens.antt`).
 pub mod WindowTracks
 pub mod Fair
 pub mod KeepsWindow
@@ -28,6 +28,7 @@ pub mod KeepsStep
 pub mod Windows
 pub mod Tidy
 pub mod Chains
+pub mod Begun
 pub mod FairPlans
 pub mod FairCases
 pub mod FairTables
@@ -41,7 +42,6 @@ pub mod FairSessions
 pub mod FairSteps
 pub mod Betweens
 pub mod LongBusy
-pub mod LongBusyEntries
 pub mod LongBusySteps
 pub mod FreezesHold
 pub mod EndsInCut
