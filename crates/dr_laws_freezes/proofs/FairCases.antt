@@ -1,36 +1,32 @@
--- Each step's plan is fair.
-use Rattle.std.proofs.Common.{ℕ, ◌≡◌, refl, ap, sym, Bool, true, false, cond, List, [], ◌∷◌, ◌++◌, map, Option, Some, None}
+-- A plan is fair where its acts keep what holds of pairs.
+use Rattle.std.proofs.Common.{ℕ, ◌≡◌, ◌<◌, refl, ap, sym, ◌∙◌, subst, true, List, [], ◌∷◌, Option, Some, None}
 use Rattle.std.proofs.lemmas.List.{append-nil}
 use Rattle.dr_ids.specs.declared.refusal.Refusal.{Refusal}
 use Rattle.dr_ids.specs.declared.refusal.Refusal.TheVariants.{Stopped as StoppedIn}
 use Rattle.dr_model.specs.declared.said.Said.{Said}
-use Rattle.dr_model.specs.declared.state.Part.{Part}
-use Rattle.dr_model.specs.declared.state.PairState.TheVariants.{Suspended}
-use Rattle.dr_model.specs.declared.step.Devs.{Devs}
-use Rattle.dr_model.specs.declared.step.Name.{Name}
 use Rattle.dr_model.specs.Answers.{answer}
 use Rattle.dr_model.specs.Histories.{histories}
-use Rattle.dr_model.specs.Relations.{Choices}
-use Rattle.dr_model.specs.Control.{Control, World}
-use Rattle.dr_model.specs.Carry.{Make, Next, Pass, Do, Entry, now}
-use Rattle.dr_model.specs.Moves.{Suspend, Thaw, Lift, Follow, DropPrimary, DropSecondary, Relate, FlashHold, FlashFree, Unstage}
-use Rattle.dr_model.specs.PairEntries.{end_if, refuse_if, remove_both}
-use Rattle.dr_model.specs.WriteEntries.{freeze_on, end_freeze, thaw_on, end_thaw, lift_on, flash_hold_on, flash_free_on}
-use Rattle.dr_model.specs.Plans.{Plan, counted_refusal, restore_refusal, entries_plan, make_flash_plan, remove_flash_plan, resync_flash_plan, reverse_flash_plan, remove_pair_plan, pause_pair_plan, resume_pair_plan, failover_plan, failback_plan, compare_plan, expire_plan, freeze_done, unfreeze_done, hold_first, release_done, redo_now, destage_entries, destage_plan}
-use Rattle.dr_model.specs.Runs.{masters_lost, said}
+use Rattle.dr_model.specs.Control.{Control, Fuse, World}
+use Rattle.dr_model.specs.Carry.{Act, Entry, carry}
+use Rattle.dr_model.specs.Plans.{Plan, same, none_follow, entries_plan}
+use Rattle.dr_model.specs.Runs.{begun, finish, masters_lost, said}
 use Rattle.dr_model.specs.Table.{table}
-use Rattle.dr_model.specs.Laws.{SoundRows}
-use Rattle.dr_laws_sound.proofs.KeepsSound.{Along}
-use Rattle.dr_laws_sound.proofs.FitsDestage.{along-destage}
-use Rattle.dr_laws_sound.proofs.FitsFlash.{as_begun, sound-begun, along-flash, along-withdraw, along-resync, along-reverse}
-use Rattle.dr_laws_sound.proofs.FitsPairs.{along-remove, along-pause, along-resume}
-use Rattle.dr_laws_sound.proofs.FitsFailover.{along-failover, along-failback, along-compare}
-use Rattle.dr_laws_sound.proofs.FitsSessions.{sound-lost}
-use Rattle.dr_laws_sound.proofs.FitsHolds.{freezes, thaws, lifts, releases}
+use Rattle.dr_model.specs.Laws.{Sound, SoundRows, AllPending}
+use Rattle.dr_facts.proofs.Entries.{anywhere, FineFrom}
+use Rattle.dr_laws_closed.proofs.Regroups.{regroups-same}
+use Rattle.dr_laws_sound.proofs.Along as along
+use Rattle.dr_laws_sound.proofs.Turns.{after_act}
+use Rattle.dr_laws_sound.proofs.KeepsSound.{Along, StepHolds, RowsAt, MayDo, keeps-sound, over}
+use Rattle.dr_laws_sound.proofs.FitsFlash.{as_begun, sound-begun}
+use Rattle.dr_laws_sound.proofs.FitsSessions.{Orders, sound-lost}
+use Rattle.dr_laws_sound.proofs.NewMessages.{adds-same}
+use Rattle.dr_laws_sound.proofs.GoesOn.{goes-same}
 use Rattle.dr_laws_sound.proofs.Steps.{sound-said}
+use Rattle.dr_laws_freezes.proofs.Fair.{Unacked}
 use Rattle.dr_laws_freezes.proofs.Tidy.{tidy-same, fresh-told}
-use Rattle.dr_laws_freezes.proofs.Chains.{ended, Fairly, fairly-nil, EndFin, PlanFin, PlanFair, good-none, told-unchanged, retabled-none}
-use Rattle.dr_laws_freezes.proofs.FairPlans.{EasyNext, AllEasy, easy-nil, easy-cons, easy-append, easy-map, Between, easy-fairly, easy-check}
+use Rattle.dr_laws_freezes.proofs.Chains.{ended, Fairly, fairly-nil, EndFin, PlanFin, PlanFair, Leaves, good-none, told-unchanged, retabled-none}
+use Rattle.dr_laws_freezes.proofs.FairPlans.{Between, KeepsPairs, entries-fairly}
+use Rattle.dr_laws_freezes.proofs.FairTables.{Begins}
 
 pub rows-between : (w : World) → Between w → SoundRows (table w)
 rows-between w k = k.sound.rows
@@ -58,7 +54,7 @@ begun-between w k = record {
   tidy = tidy-same w (as_begun w) refl refl (λ j h. h) (fresh-told w (as_begun w) [] refl refl k.tidy.fresh.unacked (λ n. refl) k.tidy.fresh) k.tidy;
 }
 
--- a plan of easy entries
+-- a plan of entries
 module _ (w : World) (k : Between w) (entries : List Entry) (a : Said) where
   abbrev p : Plan
   p = entries_plan entries a
@@ -76,100 +72,62 @@ module _ (w : World) (k : Between w) (entries : List Entry) (a : Said) where
     last = retabled-none;
   }
 
-  pub easy-plan : AllEasy entries → Along (as_begun w) entries → Fair w p
-  easy-plan easy along = entries-fair (easy-fairly (PlanFin Between rows-between answers-between p) fin entries (as_begun w) (begun-between w k) easy along)
+-- ---- plans
 
--- entries by what they decide
-pub pass-or : (k : Control) (b : Bool) (x y : Next) → EasyNext k x → EasyNext k y → EasyNext k (cond b x y)
-pass-or k true x y a c = a
-pass-or k false x y a c = c
+module _ (w : World) (k : Between w) (p : Plan) (begins : Begins w (begun w p) p.told) (leaves : Leaves Between rows-between answers-between p) where
+  abbrev u : World
+  u = begun w p
 
-pub easy-refuse : (why : Control → Option Refusal) (k : Control) → EasyNext k (refuse_if why k)
-easy-refuse why k = by (why k)
-  where
-    by : (o : Option Refusal) → EasyNext k (end_if o)
-    by None = tt
-    by (Some r) = tt
+  abbrev NoneOn : Type 0
+  NoneOn = (j : ℕ) → u.control.on j ≡ true → w.control.on j ≡ true
 
-easy-relate : (freeze : Bool) (s t : ℕ) (choices : Choices) → AllEasy (hold_first freeze s ++ now (Relate t s choices) ∷ [])
-easy-relate true s t choices = easy-cons (flash_hold_on s) _ (λ k. pass-or k _ Pass (Do (Make (FlashHold s))) tt tt) (easy-cons (now (Relate t s choices)) [] (λ k. tt) easy-nil)
-easy-relate false s t choices = easy-cons (now (Relate t s choices)) [] (λ k. tt) easy-nil
+  abbrev Fins : Option ℕ → World → Option Refusal → Type 0
+  Fins = PlanFin Between rows-between answers-between p
 
-easy-destage : (staged : Option ℕ) (v : ℕ) → AllEasy (destage_entries staged v)
-easy-destage None v = easy-nil
-easy-destage (Some t) v = easy-cons (redo_now v) _ (λ k. tt) (easy-cons (now (Unstage v)) [] (λ k. tt) easy-nil)
+  -- without entries
+  sound-tables : StepHolds w p → p.entries ≡ [] → ((j : Control) → p.last j ≡ j) → Sound u
+  unfolding carry
+  sound-tables holds none last =
+      subst (λ j. Sound (record u { control = j })) (last u.control)
+      (subst (λ ds. Sound (finish p (carry u ds).0 (carry u ds).1)) none (along.plan-keeps Sound RowsAt MayDo keeps-sound (λ v s. s.rows) w p holds))
 
-module _ (w : World) (k : Between w) where
-  pub fair-flash : (dev : Option Name) (s t : ℕ) (freeze : Bool) (choices : Choices) → Fair w (make_flash_plan w.control dev s t freeze choices)
-  unfolding AllEasy
-  fair-flash dev s t freeze choices = easy-plan w k _ _
-      (easy-check _ _, (easy-check _ _, (easy-check _ _, (easy-check _ _, (easy-check _ _, (easy-check _ _, (easy-check _ _, (easy-check _ _, (easy-check _ _, (easy-check _ _, (easy-check _ _, (easy-check _ _, easy-relate freeze s t choices))))))))))))
-      (along-flash w k.sound dev s t freeze choices)
+  pub fair-tables : StepHolds w p → NoneOn → p.entries ≡ [] → ((j : Control) → p.last j ≡ j) → Fair w p
+  fair-tables holds on none last =
+      let b : Between u = record { sound = sound-tables holds none last; tidy = begins.tidy on } in
+      record {
+        told = p.told;
+        begins = begins.unchanged;
+        entries = subst (Fairly Fins None u) (sym none) (fairly-nil Fins None u (good-none u b.sound.rows) (subst (λ j. Between (record u { control = j })) (sym (last u.control)) b));
+        last = leaves;
+      }
 
-  pub fair-withdraw : (dev : Option Name) (s t : ℕ) → Fair w (remove_flash_plan w.control dev s t)
-  unfolding AllEasy
-  fair-withdraw dev s t = easy-plan w k _ _ (easy-check _ _, (easy-check _ _, (easy-check _ _, (easy-check _ _, (easy-refuse (counted_refusal t), (easy-check _ _, ((λ k. tt), tt))))))) (along-withdraw w k.sound dev s t)
+  -- of entries that come where they may
+  module _ (on : NoneOn) (orders : Orders w p) (follow : (s : ℕ) (v : World) → Between v → Fairly (EndFin Between rows-between answers-between) None v (p.follows s)) where
+    first-between : Between u
+    first-between = record { sound = orders.begins; tidy = begins.tidy on }
 
-  pub fair-resync : (dev : Option Name) (s t : ℕ) (sequence : Option ℕ) → Fair w (resync_flash_plan w.control dev s t sequence)
-  unfolding AllEasy
-  fair-resync dev s t sequence = easy-plan w k _ _ (easy-check _ _, (easy-check _ _, (easy-check _ _, (easy-check _ _, (easy-refuse (counted_refusal t), (easy-check _ _, ((λ k. tt), tt))))))) (along-resync w k.sound dev s t sequence)
+    refused : (v : World) (r : Refusal) → Between v → Fins None v (Some r)
+    refused v (StoppedIn s) b = follow s.0 v b
+    refused v r b = b
 
-  pub fair-reverse : (dev : Option Name) (s t : ℕ) → Fair w (reverse_flash_plan w.control dev s t)
-  unfolding AllEasy
-  fair-reverse dev s t =
-      easy-plan w k _ _ (easy-check _ _, (easy-check _ _, (easy-check _ _, (easy-check _ _, (easy-refuse (restore_refusal t), (easy-check _ _, (easy-check _ _, (easy-check _ _, ((λ k. tt), tt))))))))) (along-reverse w k.sound dev s t)
+    ended_well : (v : World) → Between v → orders.ends v → Fins None v None
+    ended_well v b e =
+        let x : World = record v { control = p.last v.control } in
+        let same_control : (p.last v.control ≡ record v.control { sessions = (leaves v.control).sessions; flight = (leaves v.control).flight }) = (leaves v.control).is in
+        record {
+          sound = orders.last v e;
+          tidy = tidy-same v x (ap (λ (k : Control). k.volume) same_control) (ap (λ (k : Control). k.volumes) same_control) (λ j h. sym (ap (λ (k : Control). k.on j) same_control) ∙ h)
+              (record {
+                unacked = subst (λ (k : Control). AllPending (λ p. Unacked v p.w) k.pending) (sym same_control) b.tidy.fresh.unacked;
+                later = λ n lt. b.tidy.fresh.later n (subst (λ (k : Control). k.issued < n) same_control lt);
+              }) b.tidy;
+        }
 
-  pub fair-freeze : (l m : ℕ) → Fair w (freeze_done w.control l m)
-  fair-freeze l m =
-      easy-plan w k _ _ (easy-append (map (freeze_on l m) w.control.volumes) (end_freeze l m ∷ []) (easy-map (freeze_on l m) w.control.volumes (λ v k. pass-or k _ (Do (Make (Suspend v true))) Pass tt tt)) (easy-cons (end_freeze l m) [] (λ k. tt) easy-nil))
-      (freezes l m w.control.volumes (as_begun w) (sound-begun w k.sound))
+    pub fair-entries : (J : World → Type 0) (Ok : World → Act → Type 0) (First Why : Refusal → Type 0) → ((r : Refusal) → Why r → First r) → ((v : World) (a : Act) → Ok v a → J v → KeepsPairs v a) → ((v : World) (a : Act) (f : Option Fuse) → Ok v a → J v → J (after_act v a f))
+        → J u → FineFrom anywhere Ok First Why u p.entries → Fair w p
+    fair-entries J Ok First Why reasons keeps goes_on j fine =
+        record { told = p.told; begins = begins.unchanged; entries = entries-fairly Fins refused J orders.ends Ok First Why reasons keeps goes_on ended_well p.entries u first-between j fine orders.entries; last = leaves }
 
-  pub fair-thaw : (l m : ℕ) → Fair w (unfreeze_done w.control l m)
-  fair-thaw l m =
-      easy-plan w k _ _ (easy-append (map (thaw_on l m) w.control.volumes) (end_thaw l m ∷ []) (easy-map (thaw_on l m) w.control.volumes (λ v k. pass-or k _ (Do (Make (Thaw v))) Pass tt tt)) (easy-cons (end_thaw l m) [] (λ k. tt) easy-nil))
-      (thaws l m w.control.volumes (as_begun w) (sound-begun w k.sound))
-
-  pub fair-release : (l : ℕ) → Fair w (release_done w.control l)
-  fair-release l = easy-plan w k _ _ (easy-map (flash_free_on l) w.control.volumes (λ v k. pass-or k _ (Do (Make (FlashFree v))) Pass tt tt)) (releases l w.control.volumes (as_begun w) (sound-begun w k.sound))
-
-  pub fair-destage : (v : ℕ) → Fair w (destage_plan w.control v)
-  unfolding AllEasy
-  fair-destage v = easy-plan w k _ _ (easy-check _ _, (easy-check _ _, easy-destage (w.control.volume v).staged v)) (along-destage w k.sound v)
-
-  pub fair-expire : (x : ℕ) → w.control.on x ≡ true → Fair w (expire_plan w.control x)
-  fair-expire x on = easy-plan w k _ _ (easy-map (lift_on x) w.control.volumes (λ v k. pass-or k _ (Do (Make (Lift v))) Pass tt tt)) (lifts x w.control.volumes (as_begun w) (sound-begun w k.sound) on)
-
-  pub fair-pause : (devs : Devs) (a b : ℕ) → Fair w (pause_pair_plan w.control devs a b)
-  unfolding AllEasy
-  fair-pause devs a b =
-      easy-plan w k _ _ (easy-check _ _, (easy-check _ _, (easy-check _ _, (easy-check _ _, (easy-check _ _, (easy-check _ _, ((λ k. tt), ((λ k. pass-or k _ (Do (Make (Follow b Suspended))) Pass tt tt), tt)))))))) (along-pause w k.sound devs a b)
-
-  pub fair-resume : (devs : Devs) (a b : ℕ) (kind : Part) → Fair w (resume_pair_plan w.control devs a b kind)
-  unfolding AllEasy
-  fair-resume devs a b kind =
-      easy-plan w k _ _ (easy-check _ _, (easy-check _ _, (easy-check _ _, (easy-check _ _, (easy-check _ _, (easy-check _ _, (easy-refuse _, (easy-check _ _, ((λ k. tt), ((λ k. refl), tt)))))))))) (along-resume w k.sound devs a b kind)
-
-  pub fair-failover : (devs : Devs) (b a : ℕ) (kind : Part) → Fair w (failover_plan w.control devs b a kind)
-  unfolding AllEasy
-  fair-failover devs b a kind =
-      easy-plan w k _ _ (easy-check _ _, (easy-check _ _, (easy-check _ _, (easy-check _ _, (easy-check _ _, (easy-check _ _, ((λ k. tt), tt))))))) (along-failover w k.sound devs b a kind)
-
-  pub fair-failback : (devs : Devs) (x y : ℕ) (kind : Part) → Fair w (failback_plan w.control devs x y kind)
-  unfolding AllEasy
-  fair-failback devs x y kind =
-      easy-plan w k _ _ (easy-check _ _, (easy-check _ _, (easy-check _ _, (easy-check _ _, (easy-check _ _, (easy-refuse _, (easy-check _ _, (easy-check _ _, (easy-check _ _, (easy-check _ _, (easy-refuse _, ((λ k. refl), ((λ k. tt), tt))))))))))))) (along-failback w k.sound devs x y kind)
-
-  pub fair-compare : (contents : ℕ → ℕ → List ℕ) (v u : ℕ) → Fair w (compare_plan w.control contents v u)
-  unfolding AllEasy
-  fair-compare contents v u =
-      easy-plan w k _ _ (easy-check _ _, (easy-check _ _, (easy-check _ _, (easy-check _ _, (easy-check _ _, (easy-refuse _, tt)))))) (along-compare w k.sound contents v u)
-
-  easy-removed : (a b : ℕ) (source_only : Bool) → AllEasy (cond source_only ((λ k. Do (Make (DropPrimary a))) ∷ []) (remove_both w.control a b))
-  unfolding AllEasy
-  easy-removed a b true = ((λ k. tt), tt)
-  easy-removed a b false = (easy-check _ _, (easy-check _ _, ((λ k. tt), ((λ k. pass-or k _ (Do (Make (DropSecondary b))) Pass tt tt), tt))))
-
-  pub fair-remove : (devs : Devs) (a b : ℕ) (source_only : Bool) → Fair w (remove_pair_plan w.control devs a b source_only)
-  unfolding AllEasy
-  fair-remove devs a b source_only =
-      easy-plan w k _ _ (easy-check _ _, (easy-check _ _, (easy-check _ _, (easy-check _ _, (easy-refuse _, (easy-check _ _, (easy-check _ _, easy-removed a b source_only))))))) (along-remove w k.sound devs a b source_only)
+-- a plan of entries that are allowed along
+pub alone : (w : World) → Sound w → (entries : List Entry) (says : Control → Said) → Along (as_begun w) entries → Orders w (record { first = same; told = []; entries = entries; follows = none_follow; last = same; says = says })
+alone w s entries says a = record { ends = Sound; complete = λ v y. y; begins = sound-begun w s; entries = a; follows = λ q v y. over v y; last = λ v y. y; turns = λ v y. regroups-same v.control.sessions; adds = λ v y. adds-same v.control.sessions v.control.flight v.control.flight refl; goes = λ v y. goes-same v.control }

@@ -12,27 +12,26 @@ use Rattle.dr_model.specs.declared.state.PairState.TheVariants.{CopyPending, Ful
 use Rattle.dr_model.specs.Refusals.{server_off, unknown}
 use Rattle.dr_model.specs.Layout.{Fields, is_part}
 use Rattle.dr_model.specs.Pairs.{secondary_of, is_metro, is_full_duplex, is_suspended, is_pending, is_secondary_of, pair_seen, is_last}
-use Rattle.dr_model.specs.Control.{Control, Fuse, Volume, World, is_volume}
+use Rattle.dr_model.specs.Control.{Fuse, Volume, World, is_volume}
 use Rattle.dr_model.specs.Moves.{Move, Keep, Note, Store, Strike, Suspend, target}
 use Rattle.dr_model.specs.Carry.{Make, Pass, Do, End, Entry}
 use Rattle.dr_model.specs.Entries.{fields_at, is_running, keep_on, copies_from}
-use Rattle.dr_model.specs.PairEntries.{has_path, link_down, send_refusal, end_if, refuse_if, suspend_where, flashed_refusal, store_on, strike_on, send_entries, sends, suspend_after, is_copying, tracks_to_send}
+use Rattle.dr_model.specs.PairEntries.{has_path, link_down, send_refusal, end_if, refuse_if, suspend_where, flashed_refusal, store_on, strike_on, send_entries, sends, is_copying, tracks_to_send}
 use Rattle.dr_model.specs.Plans.{Plan, drain_plan, is_defined}
 use Rattle.dr_model.specs.Allowed.{Runs}
 use Rattle.dr_laws_sound.proofs.Turns.{done, next_of}
-use Rattle.dr_laws_sound.proofs.KeepsSound.{Along, Then, comes}
+use Rattle.dr_laws_sound.proofs.KeepsSound.{Along, comes}
 use Rattle.dr_laws_sound.proofs.FitsFlash.{as_begun}
 use Rattle.dr_laws_sound.proofs.FitsPairs.{row, runs-done, part-same}
-use Rattle.dr_laws_sound.proofs.FitsDrain.{along-drain, suspends-after}
+use Rattle.dr_laws_sound.proofs.FitsDrain.{along-drain}
 use Rattle.dr_laws_freezes.proofs.Fair.{is_locked}
 use Rattle.dr_laws_freezes.proofs.Tidy.{is_synced}
 use Rattle.dr_model.specs.Histories.{histories}
 use Rattle.std.proofs.lemmas.List.{append-nil}
-use Rattle.dr_laws_freezes.proofs.Chains.{Fairly, fairly_next, fairly-entry, fairly-nil, good-none, EndFin, PlanFin, told-unchanged, retabled-none}
-use Rattle.dr_laws_freezes.proofs.FairPlans.{EasyNext, AllEasy, Between, easy-fairly}
+use Rattle.dr_laws_freezes.proofs.Chains.{Fairly, fairly-entry, fairly-nil, good-none, PlanFin, told-unchanged, retabled-none}
+use Rattle.dr_laws_freezes.proofs.FairPlans.{Between, move-fairly, fairly-check, fairly-refuse}
+use Rattle.dr_laws_freezes.proofs.FairWithin.{within-between, after-fairly}
 use Rattle.dr_laws_freezes.proofs.FairCases.{rows-between, answers-between, begun-between, Fair}
-use Rattle.dr_laws_freezes.proofs.FairCopy.{fairly-check}
-use Rattle.dr_laws_freezes.proofs.FairPairs.{move-fairly}
 use Rattle.dr_logic.proofs.Choices.{chosen, choose_some}
 use Rattle.dr_facts.proofs.Tables.{at_part}
 use Rattle.dr_logic.proofs.Truth.{false_true}
@@ -48,13 +47,6 @@ locked-synced f going h = let both = and_parts (is_metro f.primary) _ h in and_f
     by false false l i h = absurd cc
 
 module _ (Fin : Option ℕ → World → Option Refusal → Type 0) (fin : (w : World) (r : Option Refusal) → Between w → Fin None w r) where
-  fairly-refuse : (w : World) → Between w → (why : Control → Option Refusal) (ds : List Entry) → Along w (refuse_if why ∷ ds) → (why w.control ≡ None → Along w ds → Fairly Fin None w ds) → Fairly Fin None w (refuse_if why ∷ ds)
-  fairly-refuse w k why ds a go = fairly-entry Fin None w (refuse_if why) ds (end_if (why w.control)) refl (good-none w k.sound.rows) (by (why w.control) refl (comes w (refuse_if why) ds (end_if (why w.control)) refl a))
-    where
-      by : (o : Option Refusal) → why w.control ≡ o → Then w (end_if o) (λ v. Along v ds) → fairly_next Fin None w (end_if o) (λ tag v. Fairly Fin tag v ds)
-      by None is a = go is a
-      by (Some r) is a = fin w (Some r) k
-
   module _ (volumes : List ℕ) (a b : ℕ) where
     -- what lasts
     pub record Sends (w : World) : Type 0 where
@@ -137,8 +129,8 @@ module _ (Fin : Option ℕ → World → Option Refusal → Type 0) (fin : (w : 
 
       goes : (w : World) → Between w → Sends w → Along w refusals → Fairly Fin None w refusals
       goes w k x al =
-          fairly-refuse w k (send_refusal a b) (refuse_if (flashed_refusal b) ∷ stored) al (λ none al.
-          fairly-refuse w k (flashed_refusal b) stored al (λ plain al.
+          fairly-refuse Fin fin w k (send_refusal a b) (refuse_if (flashed_refusal b) ∷ stored) al (λ none al.
+          fairly-refuse Fin fin w k (flashed_refusal b) stored al (λ plain al.
           keeps volumes (store_on a b t ∷ strike_on a t ∷ more) w k x al stores))
 
       module _ (w : World) (f : Option Fuse) (k : Between w) (x : Sends w) where
@@ -184,17 +176,9 @@ module _ (w : World) (k : Between w) (a : ℕ) (most : Option ℕ) where
   abbrev Fins : Option ℕ → World → Option Refusal → Type 0
   Fins = PlanFin Between rows-between answers-between p
 
-  easy-after : (s : ℕ) → AllEasy (suspend_after a s)
-  unfolding AllEasy
-  easy-after s = ((λ k. by k (is_part (fields_at k a).primary && is_running a k)), tt)
-    where
-      by : (k : Control) (b : Bool) → EasyNext k (cond b (Do (Make (Suspend a false))) Pass)
-      by k true = tt
-      by k false = tt
-
   fins : (u : World) (r : Option Refusal) → Between u → Fins None u r
   fins u None b = b
-  fins u (Some (StoppedIn s)) b = easy-fairly (EndFin Between rows-between answers-between) (λ u r b. b) (suspend_after a s.0) u b (easy-after s.0) (suspends-after a s.0 u b.sound)
+  fins u (Some (StoppedIn s)) b = after-fairly a 0 u (within-between a 0 u b) s.0
   fins u (Some r) b = b
 
   pending-going : (s : PairState) → is_pending s ≡ true → is_suspended s ≡ false

@@ -1,46 +1,39 @@
 -- Each step's plan is fair, and so the law of freeze windows holds of every run.
-use Rattle.std.proofs.Common.{ℕ, refl, Bool, true, false, List, [], ◌∷◌, None, Result}
+use Rattle.std.proofs.Common.{ℕ, ◌≡◌, refl, Bool, true, false, List, [], None, Result, Ok, Err}
 use Rattle.dr_model.specs.declared.step.Step.{Step}
-use Rattle.dr_ids.specs.declared.names.Member.{Member}
-use Rattle.dr_model.specs.Phases as phases
-use Rattle.dr_model.specs.Messages as messages
-use Rattle.dr_model.specs.Sessions.{joined, left, changed, mirrored_by, paused, unmirrored, with_master}
-use Rattle.dr_model.specs.SessionEntries.{first_number, add_entries, expel_entries, order_entries, members_on}
-use Rattle.dr_model.specs.MessagePlans.{order_done}
-use Rattle.dr_model.specs.SessionPlans.{member_with, is_idle, exchanged, says_phase}
+use Rattle.dr_model.specs.declared.step.Step.TheVariants.{Write, Apply, Drain, Start, Copy, MakePair}
 use Rattle.dr_model.specs.Control.{Control, World, nothing}
-use Rattle.dr_model.specs.Plans.{Plan, same, always}
-use Rattle.dr_model.specs.RecoveryPlans.{decided_in, settle_on, recover_entries, says_recovered}
-use Rattle.dr_model.specs.Carry.{Entry}
-use Rattle.dr_model.specs.Laws.{Sound}
-use Rattle.dr_model.specs.declared.said.Said.{Said}
-use Rattle.dr_model.specs.declared.said.Said.TheVariants.{Done}
-use Rattle.dr_model.specs.declared.said.Addition.TheVariants.{Alone}
-use Rattle.dr_ids.specs.declared.refusal.Decision.{Decision}
-use Rattle.dr_model.specs.Runs.{Task}
+use Rattle.dr_model.specs.Carry.{Act}
+use Rattle.dr_model.specs.Plans.{Plan}
+use Rattle.dr_model.specs.Runs.{Task, begun, image_told}
 use Rattle.dr_laws_freezes.specs.Moments.{moments_from}
 use Rattle.dr_laws_freezes.specs.Windows.{FreezeCut}
-use Rattle.dr_laws_closed.proofs.Regroups.{regroups-same}
-use Rattle.dr_laws_sound.proofs.Cases.{Case, Says, DefinesServer, DefinesVolume, SetsLink, Issues, Writes, Applies, Lists, Shows, Stops, Arms, Starts, MakesFlash, RemovesFlash, ResyncsFlash, ReversesFlash, Copies, Destages, MakesPath, RemovesPath, MakesPair, RemovesPair, PausesPair, ResumesPair, FailsOver, FailsBack, Compares, Drains, Expires, Freezes, Unfreezes, MakesSession, RemovesSession, MakesMirror, PausesMirror, RemovesMirror, Aborts, AddsMember, RemovesMember, Exchanges, Sends, Delivers, TakesReply, Loses, Recovers, Settles, added, expelled, ordered, Releases}
+use Rattle.dr_facts.proofs.Entries.{anywhere, from-all}
+use Rattle.dr_facts.proofs.Reasons.{NoStop}
+use Rattle.dr_facts.proofs.Tables.{at_cases}
+use Rattle.dr_laws_sound.proofs.Cases.{Case, Writes, Applies, Stops, Starts, MakesFlash, RemovesFlash, ResyncsFlash, ReversesFlash, Copies, Destages as DestagesCase, MakesPair, RemovesPair, PausesPair, ResumesPair, FailsOver, FailsBack, Compares, Drains, Expires, Freezes, Unfreezes, AddsMember, RemovesMember, Exchanges, Delivers, Recovers, Settles, Commits, Reverts, Releases}
+use Rattle.dr_laws_sound.proofs.Does.{IsWrite, Issued, Found, IsSend, Drained, Collided, Does, Acts, Late, MakesPrimary, Resumes, FallsBack, GivesBack, Destages, Stores, Strikes, Lands, Unsyncs, Mirrors, LandsBoth, Drops, Redoes, Acknowledges, EndsFreeze, EndsThaw, EndsRecovery, OrdersAttempt}
+use Rattle.dr_laws_sound.proofs.DoesPlans.{Entered, case-does}
 use Rattle.dr_laws_sound.proofs.Steps.{sound-nothing, case-holds, ending-holds}
 use Rattle.dr_laws_sound.proofs.FitsMembers.{orders-added, orders-expelled}
 use Rattle.dr_laws_sound.proofs.FitsExchanges.{orders-ordered}
 use Rattle.dr_laws_sound.proofs.FitsMessages.{orders-delivered}
 use Rattle.dr_laws_sound.proofs.FitsRecovery.{along-recover, along-settle}
 use Rattle.dr_laws_sound.proofs.FitsSessions.{Orders}
-use Rattle.dr_laws_sound.proofs.NewMessages.{adds-same}
-use Rattle.dr_laws_sound.proofs.GoesOn.{goes-same}
-use Rattle.dr_laws_sound.proofs.FitsFlash.{as_begun, sound-begun}
-use Rattle.dr_laws_sound.proofs.KeepsSound.{Along, StepHolds, over}
-use Rattle.dr_laws_freezes.proofs.FairSessions.{leaving, fair-sessions, fair-sent, fair-leaving, easy-add, easy-expel, easy-order, easy-recover, easy-settle}
-use Rattle.dr_laws_freezes.proofs.Windows.{Chain, freeze-cut}
-use Rattle.dr_laws_freezes.proofs.Chains.{run-chain, Retabled, retabled-none}
-use Rattle.dr_laws_freezes.proofs.FairPlans.{Between}
-use Rattle.dr_laws_freezes.proofs.FairCases.{rows-between, answers-between, loses-between, Fair, fair-flash, fair-withdraw, fair-resync, fair-reverse, fair-freeze, fair-thaw, fair-expire, fair-pause, fair-resume, fair-failover, fair-failback, fair-compare, fair-remove, fair-release, fair-destage}
-use Rattle.dr_laws_freezes.proofs.FairTables.{fair-says, fair-defines, fair-links, fair-shows, fair-stops, fair-arms, fair-paths, fair-unpaths, fair-adds, fair-issues, fair-lists}
-use Rattle.dr_model.specs.Runs.{image_told}
+use Rattle.dr_laws_sound.proofs.FitsDestage.{along-destage}
+use Rattle.dr_laws_sound.proofs.FitsFlash.{as_begun, sound-begun, along-flash, along-withdraw, along-resync, along-reverse}
+use Rattle.dr_laws_sound.proofs.FitsPairs.{along-remove, along-pause, along-resume}
+use Rattle.dr_laws_sound.proofs.FitsFailover.{along-failover, along-failback, along-compare}
+use Rattle.dr_laws_sound.proofs.FitsHolds.{freezes, thaws, lifts, releases}
+use Rattle.dr_model.specs.Laws.{Sound}
 use Rattle.dr_laws_sound.proofs.Listed.{image-lines}
 use Rattle.dr_laws_sound.proofs.Parts.{Ending, OnePlan, Imaged}
+use Rattle.dr_laws_freezes.proofs.Begun.{lines-beside, leaves}
+use Rattle.dr_laws_freezes.proofs.Windows.{Chain, freeze-cut}
+use Rattle.dr_laws_freezes.proofs.Chains.{run-chain, EndFin, retabled-none}
+use Rattle.dr_laws_freezes.proofs.FairPlans.{Between, KeepsPairs, entries-fairly}
+use Rattle.dr_laws_freezes.proofs.FairTables.{beside-begins, case-begins}
+use Rattle.dr_laws_freezes.proofs.FairCases.{rows-between, answers-between, loses-between, Fair, fair-tables, fair-entries, alone}
 use Rattle.dr_laws_freezes.proofs.FairPairs.{fair-pair}
 use Rattle.dr_laws_freezes.proofs.FairCopy.{fair-copy}
 use Rattle.dr_laws_freezes.proofs.FairDrain.{fair-drain}
@@ -58,81 +51,100 @@ between-nothing = record {
   };
 }
 
--- a plan of entries that are allowed along
-alone : (w : World) → Sound w → (entries : List Entry) (says : Control → Said) → Along (as_begun w) entries → Orders w (leaving entries same says)
-alone w s entries says a = record { ends = Sound; complete = λ v y. y; begins = sound-begun w s; entries = a; follows = λ q v y. over v y; last = λ v y. y; turns = λ v y. regroups-same v.control.sessions; adds = λ v y. adds-same v.control.sessions v.control.flight v.control.flight refl; goes = λ v y. goes-same v.control }
+-- steps that land a host write, send or restore tracks, or make a primary or start one again
+abbrev lands_tracks : Result Step ℕ → Bool
+lands_tracks (Ok (Write v t offset len bytes)) = true
+lands_tracks (Ok (Apply n)) = true
+lands_tracks (Ok (Drain a most)) = true
+lands_tracks (Ok (Start name)) = true
+lands_tracks (Ok (Copy t most)) = true
+lands_tracks (Ok (MakePair devs a b n choices)) = true
+lands_tracks asked = false
 
-fair-by : (w : World) (k : Between w) (line : ℕ) (asked : Result Step ℕ) (p : Plan) → Case w.control w.events line asked p → StepHolds w p → Fair w p
-fair-by w k line _ _ (Says a waits) holds = fair-says w k line a holds
-fair-by w k line _ _ (DefinesServer name free) holds = fair-defines w k line name free holds
-fair-by w k line _ _ (DefinesVolume v s tracks here free) holds = fair-adds w k line v s tracks here free holds
-fair-by w k line _ _ (SetsLink a b up) holds = fair-links w k line a b up holds
-fair-by w k line _ _ (Issues v t offset len bytes free) holds = fair-issues w k line v t offset len bytes holds
-fair-by w k line _ _ (Writes v t offset len bytes free) holds = fair-writes w k v t offset len bytes free
-fair-by w k line _ _ (Applies n p found) holds = fair-applies w k n p found
-fair-by w k line _ _ (Lists told ls few) holds = fair-lists w k line told ls holds
-fair-by w k line _ _ (Shows v t there) holds = fair-shows w k line v t there holds
-fair-by w k line _ _ (Stops x on) holds = fair-stops w k line x on holds
-fair-by w k line _ _ (Arms writes torn x) holds = fair-arms w k line writes torn x holds
-fair-by w k line _ _ (Starts x off) holds = fair-start x w k
-fair-by w k line _ _ (MakesFlash dev v t freeze choices) holds = fair-flash w k dev v t freeze choices
-fair-by w k line _ _ (RemovesFlash dev v t) holds = fair-withdraw w k dev v t
-fair-by w k line _ _ (ResyncsFlash dev v t sequence) holds = fair-resync w k dev v t sequence
-fair-by w k line _ _ (ReversesFlash dev v t) holds = fair-reverse w k dev v t
-fair-by w k line _ _ (Copies t most) holds = fair-copy w k t most
-fair-by w k line _ _ (Destages v) holds = fair-destage w k v
-fair-by w k line _ _ (MakesPath src tgt group) holds = fair-paths w k line src tgt group holds
-fair-by w k line _ _ (RemovesPath src tgt) holds = fair-unpaths w k line src tgt holds
-fair-by w k line _ _ (MakesPair devs a b kind choices part) holds = fair-pair w k devs a b kind choices part
-fair-by w k line _ _ (RemovesPair devs a b source_only) holds = fair-remove w k devs a b source_only
-fair-by w k line _ _ (PausesPair devs a b) holds = fair-pause w k devs a b
-fair-by w k line _ _ (ResumesPair devs a b kind) holds = fair-resume w k devs a b kind
-fair-by w k line _ _ (FailsOver devs b a kind) holds = fair-failover w k devs b a kind
-fair-by w k line _ _ (FailsBack devs x y kind) holds = fair-failback w k devs x y kind
-fair-by w k line _ _ (Compares contents v u) holds = fair-compare w k contents v u
-fair-by w k line _ _ (Drains a most) holds = fair-drain w k a most
-fair-by w k line _ _ (Expires x on) holds = fair-expire w k x on.1
-fair-by w k line _ _ (Freezes l m) holds = fair-freeze w k l m
-fair-by w k line _ _ (Unfreezes l m) holds = fair-thaw w k l m
-fair-by w k line _ _ (Releases l) holds = fair-release w k l
-fair-by w k line _ _ (MakesSession l i free) holds = fair-sessions w k (joined i l) (λ k. k.flight) (always (Done Alone)) holds
-fair-by w k line _ _ (RemovesSession l i x found free) holds = fair-sessions w k (left i l) (λ k. messages.left i l x k.flight) (always (Done Alone)) holds
-fair-by w k line _ _ (MakesMirror owner i x found free l owned) holds = fair-sessions w k (changed i (mirrored_by owner)) (λ k. messages.raised i k.flight) (always (Done Alone)) holds
-fair-by w k line _ _ (PausesMirror i on) holds = fair-sessions w k (changed i (paused on)) (λ k. k.flight) (always (Done Alone)) holds
-fair-by w k line _ _ (RemovesMirror i x found free) holds = fair-sessions w k (changed i unmirrored) (λ k. k.flight) (always (Done Alone)) holds
-fair-by w k line _ _ (Aborts i x found free) holds = fair-sessions w k (changed i (with_master phases.aborted)) (λ k. messages.aborted i x.mirror k.flight) (says_phase i) holds
-fair-by w k line _ _ (Sends i server x r o posts) holds = fair-sent w k i (is_idle r.master.phase) server o holds
-fair-by w k line _ _ (TakesReply n m reply x r returns) holds =
-    fair-sessions w k (changed m.session (with_master (λ q. phases.taken q m.server reply))) (λ k. k.flight) (says_phase m.session) holds
-fair-by w k line _ _ (Delivers n m starts x r reaches) holds =
-    let ms : List Member = members_on m.server x.members in
-    fair-leaving w k (order_entries m.order.work m.session m.order.number ms) (order_done m ms).last (order_done m ms).says (λ k. record { sessions = _; flight = _; is = refl }) (orders-delivered w k.sound n m starts x r reaches) (easy-order m.order.work m.session m.order.number ms)
-fair-by w k line _ _ (Loses n) holds = fair-sessions w k (λ ss. ss) (λ k. messages.lost n k.flight) (always (Done Alone)) holds
-fair-by w k line _ _ (AddsMember i a c x joins) holds =
-    let m : Member = member_with w.control a c in
-    let n : ℕ = first_number w.control x.last m in
-    fair-leaving w k (add_entries m n) (added w.control i x m).last (added w.control i x m).says (λ k. record { sessions = _; flight = k.flight; is = refl }) (orders-added w k.sound i a c x joins) (easy-add m n)
-fair-by w k line _ _ (RemovesMember i a x m found is idle on) holds = fair-leaving w k (expel_entries i m) (expelled i m).last (expelled i m).says (λ k. record { sessions = _; flight = k.flight; is = refl }) (orders-expelled w k.sound i a x m found is idle on) (easy-expel i m)
-fair-by w k line _ _ (Recovers i x found on) holds =
-    let d : Decision = decided_in i w.control in
-    fair-leaving w k (recover_entries i d x.members) same (says_recovered i d) retabled-none (alone w k.sound (recover_entries i d x.members) (says_recovered i d) (along-recover w k.sound i x found on)) (easy-recover i d x.members)
-fair-by w k line _ _ (Settles i x m found here on free hand) holds =
-    let d : Decision = decided_in i w.control in
-    fair-leaving w k (settle_on i d m ∷ []) same (always (Done Alone)) retabled-none (alone w k.sound (settle_on i d m ∷ []) (always (Done Alone)) (along-settle w k.sound i x found on free m here)) (easy-settle i d m)
-fair-by w k line _ _ (Exchanges i server reply x r o allowed) holds =
-    let ms : List Member = members_on server x.members in
-    fair-leaving w k (order_entries o.work i o.number ms) (ordered i server reply ms o).last (ordered i server reply ms o).says (by reply) (orders-ordered w k.sound i server x r o allowed reply) (easy-order o.work i o.number ms)
-  where
-    by : (b : Bool) (k : Control) → Retabled k (exchanged i server b o.work (members_on server x.members) k)
-    by true k = record { sessions = _; flight = _; is = refl }
-    by false k = record { sessions = _; flight = _; is = refl }
+module _ (k : Control) where
+  no-write : {asked : Result Step ℕ} → {n v t : ℕ} → IsWrite k asked n v t → lands_tracks asked ≡ false → ⊥
+  no-write (Issued v t offset len bytes) none = cc
+  no-write (Found n p is) none = cc
 
-pub fair-case : (w : World) (k : Between w) (line : ℕ) (asked : Result Step ℕ) (p : Plan) → Case w.control w.events line asked p → Fair w p
-fair-case w k line asked p c = fair-by w k line asked p c (case-holds w k.sound line asked p c)
+  no-send : {asked : Result Step ℕ} → {a b : ℕ} → IsSend k asked a b → lands_tracks asked ≡ false → ⊥
+  no-send (Drained a most part) none = cc
+  no-send (Collided n v t is met) none = no-write is none
 
-pub fair-ending : (w : World) (k : Between w) (line : ℕ) (p : Plan) → Ending w.control w.events line p → Fair w p
-fair-ending w k line _ (OnePlan asked p c) = fair-case w k line asked p c
-fair-ending w k line _ (Imaged vs) = fair-lists w k line (image_told vs) (image-lines vs) (ending-holds w k.sound line _ (Imaged vs))
+  -- the others keep what holds of pairs
+  keeps-pairs : {asked : Result Step ℕ} → lands_tracks asked ≡ false → (w : World) (a : Act) → Does k asked w.control a → KeepsPairs w a
+  keeps-pairs none w _ (Stores a b is t last) = absurd (no-send is none)
+  keeps-pairs none w _ (Strikes a b is t last) = absurd (no-send is none)
+  keeps-pairs none w _ (Lands n v t is free) = absurd (no-write is none)
+  keeps-pairs none w _ (Unsyncs n v t is) = absurd (no-write is none)
+  keeps-pairs none w _ (Mirrors n v t is over) = absurd (no-write is none)
+  keeps-pairs none w _ (LandsBoth n v t is free) = absurd (no-write is none)
+  keeps-pairs none w _ (Drops n v t is) = tt
+  keeps-pairs none w _ (MakesPrimary a b kind state full free) = absurd cc
+  keeps-pairs none w _ (GivesBack q t back) = absurd cc
+  keeps-pairs none w _ (Redoes v) = tt
+  keeps-pairs none w _ (Acknowledges s n is) = absurd cc
+  keeps-pairs none w _ (Resumes a) = (tt, refl, refl)
+  keeps-pairs none w _ (FallsBack x y kind leads) = (tt, refl, refl)
+  keeps-pairs none w _ (Destages v) = tt
+  keeps-pairs none w _ (EndsFreeze l m) = tt
+  keeps-pairs none w _ (EndsThaw l m) = tt
+  keeps-pairs none w _ (EndsRecovery s n) = tt
+  keeps-pairs none w _ (OrdersAttempt s m is n) = tt
+  keeps-pairs none w _ d = (tt, tt, refl)
+
+module _ (w : World) (k : Between w) (line : ℕ) where
+  -- no server goes on in such a step
+  none-on : (asked : Result Step ℕ) (p : Plan) → Case w.control w.events line asked p → lands_tracks asked ≡ false → (j : ℕ) → (begun w p).control.on j ≡ true → w.control.on j ≡ true
+  none-on _ _ (Starts s off) none = absurd cc
+  none-on _ _ (Stops s on) none = λ j. at_cases (λ j b. b ≡ true → w.control.on j ≡ true) w.control.on s false (λ h. absurd cc) (λ j ne h. h) j
+  none-on _ _ c none = λ j h. h
+
+  fair-acts : (asked : Result Step ℕ) (p : Plan) → Case w.control w.events line asked p → lands_tracks asked ≡ false → Orders w p → Fair w p
+  fair-acts asked p c none orders =
+      let does : Entered w asked p = case-does w line asked p c in
+      let keeps = λ (v : World) (a : Act) (d : Acts w.control asked v a) (any : anywhere v). keeps-pairs w.control none v a d in
+      fair-entries w k p (case-begins w k.tidy line asked p c) (leaves w.control w.events line asked p c) (none-on asked p c none) orders
+      (λ s v b. entries-fairly (EndFin Between rows-between answers-between) (λ u r b. b) anywhere Sound (Acts w.control asked) (Late asked) (Late asked) (λ r why. why) keeps (λ v a f d any. tt) (λ u b sound. b) (p.follows s) v b tt (from-all anywhere (Acts w.control asked) (Late asked) (Late asked) (λ r why. why) v tt (p.follows s) (does.follows s)) (orders.follows s v b.sound))
+      anywhere (Acts w.control asked) NoStop (Late asked) (λ r why. why.why) keeps (λ v a f d any. tt) tt does.entries
+
+  pub fair-case : (asked : Result Step ℕ) (p : Plan) → Case w.control w.events line asked p → Fair w p
+  fair-case asked p c = by asked p c (fair-acts asked p c) (fair-tables w k p (case-begins w k.tidy line asked p c) (leaves w.control w.events line asked p c) (case-holds w k.sound line asked p c))
+    where
+      by : (asked : Result Step ℕ) (p : Plan) → Case w.control w.events line asked p → (lands_tracks asked ≡ false → Orders w p → Fair w p) → (((j : ℕ) → (begun w p).control.on j ≡ true → w.control.on j ≡ true) → p.entries ≡ [] → ((j : Control) → p.last j ≡ j) → Fair w p) → Fair w p
+      by _ _ (Writes v t offset len bytes free) acts tables = fair-writes w k v t offset len bytes free
+      by _ _ (Applies n p found) acts tables = fair-applies w k n p found
+      by _ _ (Starts s off) acts tables = fair-start s w k
+      by _ _ (Copies t most) acts tables = fair-copy w k t most
+      by _ _ (MakesPair devs a b kind choices part) acts tables = fair-pair w k devs a b kind choices part
+      by _ _ (Drains a most) acts tables = fair-drain w k a most
+      by _ _ (MakesFlash dev v t freeze choices) acts tables = acts refl (alone w k.sound _ _ (along-flash w k.sound dev v t freeze choices))
+      by _ _ (RemovesFlash dev v t) acts tables = acts refl (alone w k.sound _ _ (along-withdraw w k.sound dev v t))
+      by _ _ (ResyncsFlash dev v t sequence) acts tables = acts refl (alone w k.sound _ _ (along-resync w k.sound dev v t sequence))
+      by _ _ (ReversesFlash dev v t) acts tables = acts refl (alone w k.sound _ _ (along-reverse w k.sound dev v t))
+      by _ _ (DestagesCase v) acts tables = acts refl (alone w k.sound _ _ (along-destage w k.sound v))
+      by _ _ (RemovesPair devs a b source_only) acts tables = acts refl (alone w k.sound _ _ (along-remove w k.sound devs a b source_only))
+      by _ _ (PausesPair devs a b) acts tables = acts refl (alone w k.sound _ _ (along-pause w k.sound devs a b))
+      by _ _ (ResumesPair devs a b kind) acts tables = acts refl (alone w k.sound _ _ (along-resume w k.sound devs a b kind))
+      by _ _ (FailsOver devs b a kind) acts tables = acts refl (alone w k.sound _ _ (along-failover w k.sound devs b a kind))
+      by _ _ (FailsBack devs x y kind) acts tables = acts refl (alone w k.sound _ _ (along-failback w k.sound devs x y kind))
+      by _ _ (Compares contents v u) acts tables = fair-acts (Err 0) _ (Compares contents v u) refl (alone w k.sound _ _ (along-compare w k.sound contents v u))
+      by _ _ (Expires x on) acts tables = acts refl (alone w k.sound _ _ (lifts x w.control.volumes (as_begun w) (sound-begun w k.sound) on.1))
+      by _ _ (Freezes l m) acts tables = acts refl (alone w k.sound _ _ (freezes l m w.control.volumes (as_begun w) (sound-begun w k.sound)))
+      by _ _ (Unfreezes l m) acts tables = acts refl (alone w k.sound _ _ (thaws l m w.control.volumes (as_begun w) (sound-begun w k.sound)))
+      by _ _ (Releases l) acts tables = acts refl (alone w k.sound _ _ (releases l w.control.volumes (as_begun w) (sound-begun w k.sound)))
+      by _ _ (AddsMember i a c x joins) acts tables = acts refl (orders-added w k.sound i a c x joins)
+      by _ _ (RemovesMember i a x m found is idle on) acts tables = acts refl (orders-expelled w k.sound i a x m found is idle on)
+      by _ _ (Exchanges i server reply x r o allowed) acts tables = acts refl (orders-ordered w k.sound i server x r o allowed reply)
+      by _ _ (Delivers n m starts x r reaches) acts tables = acts refl (orders-delivered w k.sound n m starts x r reaches)
+      by _ _ (Recovers i x found on) acts tables = acts refl (alone w k.sound _ _ (along-recover w k.sound i x found on))
+      by _ _ (Settles i x m found here on free (Commits devs source sequence lets)) acts tables = acts refl (alone w k.sound _ _ (along-settle w k.sound i x found on free m here))
+      by _ _ (Settles i x m found here on free (Reverts devs source sequence t target own)) acts tables = acts refl (alone w k.sound _ _ (along-settle w k.sound i x found on free m here))
+      by _ _ (Stops s on) acts tables = tables (λ j. at_cases (λ j b. b ≡ true → w.control.on j ≡ true) w.control.on s false (λ h. absurd cc) (λ j ne h. h) j) refl (λ j. refl)
+      by _ _ c acts tables = tables (λ j h. h) refl (λ j. refl)
+
+  pub fair-ending : (p : Plan) → Ending w.control w.events line p → Fair w p
+  fair-ending _ (OnePlan asked p c) = fair-case asked p c
+  fair-ending _ (Imaged vs) = fair-tables w k _ (beside-begins w k.tidy w.control (image_told vs) (lines-beside w (image_told vs) (image-lines vs))) retabled-none (ending-holds w k.sound line _ (Imaged vs)) (λ j h. h) refl (λ j. refl)
 
 -- the moments of a run
 pub chain-of : (tasks : List Task) → Chain None nothing (moments_from nothing tasks)

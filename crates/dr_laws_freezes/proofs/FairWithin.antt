@@ -1,5 +1,5 @@
 -- Within a host write one track of its volume may be out of sync; where a server stops then, that volume's server is off, or it is suspended.
-use Rattle.std.proofs.Common.{ℕ, ◌≡◌, inl, inr, refl, ap, sym, ◌∙◌, subst, Bool, true, false, cond, not, ◌&&◌, List, [], ◌∷◌, ◌++◌, map, Option, None}
+use Rattle.std.proofs.Common.{ℕ, ◌≡◌, inl, inr, refl, ap, sym, ◌∙◌, subst, Bool, true, false, cond, not, ◌&&◌, List, [], ◌∷◌, ◌++◌, map, Option, Some, None}
 use Rattle.std.proofs.lemmas.Bool.{and_parts, and_from}
 use Rattle.std.proofs.lemmas.Bool.Decides.{eqb_tells}
 use Rattle.std.specs.FinSet.{contains}
@@ -17,7 +17,7 @@ use Rattle.dr_model.specs.WriteEntries.{partner_of, is_grouped, part_running, pa
 use Rattle.dr_model.specs.Laws.{Sound}
 use Rattle.dr_model.specs.Allowed.{May, Runs}
 use Rattle.dr_facts.proofs.Tables.{IsOrNot, at_cases, at_part}
-use Rattle.dr_laws_sound.proofs.Turns.{next_of, carried_in, done, done_in_stop, not_done, server_at}
+use Rattle.dr_laws_sound.proofs.Turns.{next_of, carried_in, done, done_in_stop, not_done, server_at, after_act}
 use Rattle.dr_laws_sound.proofs.RowsAfter.{changed}
 use Rattle.dr_laws_sound.proofs.KeepsSound.{Along, Then, comes, keeps-sound}
 use Rattle.dr_laws_sound.proofs.FitsPairs.{row}
@@ -28,9 +28,8 @@ use Rattle.dr_laws_freezes.proofs.Fair.{Fair as FairMove, tag_after, come}
 use Rattle.dr_laws_freezes.proofs.Tidy.{is_synced, Unheld, unheld, Clean, Free, Fresh, Tidy, free-left, fresh-done, fresh-stop, fresh-told}
 use Rattle.dr_laws_freezes.proofs.Windows.{Good}
 use Rattle.dr_laws_freezes.proofs.Chains.{Fairly, fairly_next, fairly-entry, fairly-nil, StopFin, EndFin, good-none}
-use Rattle.dr_laws_freezes.proofs.FairPlans.{Between, next-easy}
+use Rattle.dr_laws_freezes.proofs.FairPlans.{Between, act-fairly, fairly-check}
 use Rattle.dr_laws_freezes.proofs.FairCases.{rows-between, answers-between}
-use Rattle.dr_laws_freezes.proofs.FairCopy.{fairly-check}
 use Rattle.dr_facts.proofs.Parts.{metro-part}
 use Rattle.dr_logic.proofs.Truth.{false_true}
 use Rattle.dr_logic.proofs.Tables.{at_same, off_later}
@@ -204,5 +203,4 @@ fairly-dropped Fin fin w k n ok r ds same al go =
     by : (b : Bool) → ok w.control ≡ b → Then w (cond b Pass (Do (Drop n))) (λ v. Along v more) → fairly_next Fin None w (cond b Pass (Do (Drop n))) (λ tag v. Fairly Fin tag v more)
     by true is a = fairly-check Fin fin w k ok r ds a go
     by false is a =
-        next-easy Fin fin w (Do (Drop n)) (λ v. Along v more × (ok v.control ≡ false)) (λ tag v. Fairly Fin tag v more) (λ v k a. fairly-check Fin fin v k ok r ds a.0 (λ passed al. false_true a.1 passed)) k tt
-        (a.0, λ f s. (a.1 f s, same _ ∙ is))
+        act-fairly Fin (λ w r. fin w (Some r)) w (Drop n) (λ tag v. Fairly Fin tag v more) k a.0 tt (λ f b. fairly-check Fin fin (after_act w (Drop n) f) b ok r ds (a.1 f b.sound) (λ passed al. false_true (same _ ∙ is) passed))

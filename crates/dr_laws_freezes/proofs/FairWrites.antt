@@ -36,11 +36,9 @@ use Rattle.dr_laws_freezes.proofs.Fair.{is_locked, Unacked, Fair as FairMove, ta
 use Rattle.dr_laws_freezes.proofs.Tidy.{is_synced, Clean, Gentle}
 use Rattle.dr_laws_freezes.proofs.Windows.{Good}
 use Rattle.dr_laws_freezes.proofs.Chains.{Fairly, fairly-entry, fairly-nil, StopFin, EndFin, PlanFin, good-none, told-unchanged, retabled-none}
-use Rattle.dr_laws_freezes.proofs.FairPlans.{Between}
+use Rattle.dr_laws_freezes.proofs.FairPlans.{Between, move-fairly, fairly-check}
 use Rattle.dr_laws_freezes.proofs.FairCases.{rows-between, answers-between, begun-between, Fair}
 use Rattle.dr_laws_freezes.proofs.FairTables.{issued-unchanged, issued-tidy}
-use Rattle.dr_laws_freezes.proofs.FairPairs.{move-fairly}
-use Rattle.dr_laws_freezes.proofs.FairCopy.{fairly-check}
 use Rattle.dr_laws_freezes.proofs.FairDrain.{locked-synced}
 use Rattle.dr_model.specs.declared.state.Part.TheVariants.{Global}
 use Rattle.std.specs.Prelude.{is_some}

@@ -4,7 +4,7 @@
 --   acknowledgement, or nothing that matters. The window's invariant goes along the chain (`window-step`), one clause
 --   for each kind of move.
 -- - What a move may not do in a window isn't `Allowed` of every run but `Fair`; that each plan's moves are fair is shown
---   once for each plan (`PlanFair`), most by entries that are `AllEasy`, which are fair in every state.
+--   once for each plan (`PlanFair`), most by the acts that its step does (`keeps-pairs` in `FairSteps.antt`).
 -- - Where a move has to know that another came before it in the same step (a write lands on both sides only behind its
 --   mirror), a *tag* goes along the chain; where it is set, no window begins.
 -- - Compare what two volumes contain, not what their lists say: then no list is followed along the stretch, and the
@@ -16,9 +16,9 @@
 --   server is on) has a form with a hole for the volume at work (`TidyBut`, `FairWithin.antt`), and one lemma that fills
 --   it again (`heal`).
 -- **A law over the steps behind one** (`no_write_lands_after_a_freeze`: `LongBusy.antt`, `LongBusySteps.antt`, `FreezesHold.antt`). What
--- lasts is a record on a world (`Frozen`); `frozen-act` says which acts keep it, and `law` that a step which doesn't let the volume go does
--- such acts alone (`Does`). What a step has changed as its entries begin is `Begun.antt`. What holds between steps beside it, of every
--- run, is `between-run` (`Betweens.antt`).
+-- lasts is a record on a world (`Frozen`); `frozen-act` says which acts keep it, and `does-frozen` that a step which doesn't let the
+-- volume go does such acts alone. What a step has changed as its entries begin is `Begun.antt`. What holds between steps beside it,
+-- of every run, is `between-run` (`Betweens.antt`).
 pub mod WindowTracks
 pub mod Fair
 pub mod KeepsWindow
@@ -35,10 +35,9 @@ pub mod FairTables
 pub mod FairPairs
 pub mod FairCopy
 pub mod FairStart
-pub mod FairDrain
 pub mod FairWithin
+pub mod FairDrain
 pub mod FairWrites
-pub mod FairSessions
 pub mod FairSteps
 pub mod Betweens
 pub mod LongBusy

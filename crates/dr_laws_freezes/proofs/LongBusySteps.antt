@@ -157,23 +157,23 @@ module _ (v b s : ℕ) (base : List Event) (w : World) (k : Frozen v b s none ba
       let landed : p.landed ≡ true = (and_parts p.landed _ (found (has_landed u.control q) u.control.pending p is).1).0 in
       subst (Others u) same (known.0, λ on. false_true (waits (sym known.1 ∙ on)) landed)
 
-  law : (asked : Result Step ℕ) (first : World) → lets_go c asked v ≡ false → Known asked first → (u : World) (a : Act) → Does c asked u.control a → Frozen v b s (Others first) base u → OkAct v b s (Others first) u a
-  law asked first stay known u _ (Lands n x t is free) j = elsewhere asked first known n x t is free
-  law asked first stay known u _ (Overwrites n x t is free) j = elsewhere asked first known n x t is free
-  law asked first stay known u _ (LandsBoth n x t is free) j = elsewhere asked first known n x t is free
-  law _ first stay known u _ (MakesSecondary a x kind state follows) j = no-primary x (and_parts (not (is_part (fields_at c x).primary)) _ follows).0
-  law _ first stay known u _ (MakesPrimary a x kind state full free) j = no-primary a (and_parts (not (is_part (fields_at c a).primary)) _ free).0
-  law _ first stay known u _ (DropsPrimary a) j = not-same a v stay
-  law _ first stay known u _ (Resumes a) j = not-same a v stay
-  law _ first stay known u _ (Yields x y kind state leads) j = not-same y v stay
-  law _ first stay known u _ (TakesOver x a kind may) j = λ same.
+  does-frozen : (asked : Result Step ℕ) (first : World) → lets_go c asked v ≡ false → Known asked first → (u : World) (a : Act) → Does c asked u.control a → Frozen v b s (Others first) base u → OkAct v b s (Others first) u a
+  does-frozen asked first stay known u _ (Lands n x t is free) j = elsewhere asked first known n x t is free
+  does-frozen asked first stay known u _ (Overwrites n x t is free) j = elsewhere asked first known n x t is free
+  does-frozen asked first stay known u _ (LandsBoth n x t is free) j = elsewhere asked first known n x t is free
+  does-frozen _ first stay known u _ (MakesSecondary a x kind state follows) j = no-primary x (and_parts (not (is_part (fields_at c x).primary)) _ follows).0
+  does-frozen _ first stay known u _ (MakesPrimary a x kind state full free) j = no-primary a (and_parts (not (is_part (fields_at c a).primary)) _ free).0
+  does-frozen _ first stay known u _ (DropsPrimary a) j = not-same a v stay
+  does-frozen _ first stay known u _ (Resumes a) j = not-same a v stay
+  does-frozen _ first stay known u _ (Yields x y kind state leads) j = not-same y v stay
+  does-frozen _ first stay known u _ (TakesOver x a kind may) j = λ same.
       let its : (is_part (fields_at c x).secondary && nat_eq (fields_at c x).secondary_partner a) ≡ true = (and_parts (belongs_to a x c) _ may).0 in
       false_true k.rooted.busy.second (subst (λ x. is_part (fields_at c x).secondary ≡ true) same (and_parts (is_part (fields_at c x).secondary) _ its).0)
-  law _ first stay known u _ (RecoversSecondary x is) j = λ same. false_true j.rooted.busy.second (subst (λ x. is_part (fields_at u.control x).secondary ≡ true) same is)
-  law _ first stay known u _ (Thaws l m x is) j = not-thawed u j.rooted.busy l m x stay (and_parts (is_between u.control l m x) _ is).0
-  law _ first stay known u _ (Lifts q x is) j = not-lifted u j.rooted.server q x _ is.0 stay (and_parts (belongs u.control q x) _ is.1).0
-  law _ first stay known u _ (Acknowledges q n is) j = acknowledged first u j q n _ refl is
-  law asked first stay known u _ d j = tt
+  does-frozen _ first stay known u _ (RecoversSecondary x is) j = λ same. false_true j.rooted.busy.second (subst (λ x. is_part (fields_at u.control x).secondary ≡ true) same is)
+  does-frozen _ first stay known u _ (Thaws l m x is) j = not-thawed u j.rooted.busy l m x stay (and_parts (is_between u.control l m x) _ is).0
+  does-frozen _ first stay known u _ (Lifts q x is) j = not-lifted u j.rooted.server q x _ is.0 stay (and_parts (belongs u.control q x) _ is.1).0
+  does-frozen _ first stay known u _ (Acknowledges q n is) j = acknowledged first u j q n _ refl is
+  does-frozen asked first stay known u _ d j = tt
 
   -- ---- its plan
 
@@ -187,7 +187,7 @@ module _ (v b s : ℕ) (base : List Event) (w : World) (k : Frozen v b s none ba
   kept asked p does begins last stay known =
       let N : (ℕ → Type 0) = Others (begun w p) in
       with-writes v b s base N none (carried_out w p).0 (λ n h. absurd h)
-      (plan-from anywhere (Acts c asked) NoStop (Late asked) (Frozen v b s N base) (λ u j. tt) (λ u a d j. frozen-act v b s N base u a (law asked (begun w p) stay known u a d j) j) w p begins does.entries does.follows (λ u j. retabled N u _ (last u.control) j))
+      (plan-from anywhere (Acts c asked) NoStop (Late asked) (Frozen v b s N base) (λ u j. tt) (λ u a d j. frozen-act v b s N base u a (does-frozen asked (begun w p) stay known u a d j) j) w p begins does.entries does.follows (λ u j. retabled N u _ (last u.control) j))
 
   -- as it begins
   beside : (j : Control) (told : List Event) → Beside w j told → Begun (record w { control = j; events = w.events ++ told })
