@@ -15,10 +15,10 @@ use Rattle.dr_model.specs.Pairs.{secondary_of, is_metro, is_full_duplex, is_susp
 use Rattle.dr_model.specs.Control.{Fuse, Volume, World, is_volume}
 use Rattle.dr_model.specs.Moves.{Move, Keep, Note, Store, Strike, Suspend, target}
 use Rattle.dr_model.specs.Carry.{Make, Pass, Do, End, Entry}
-use Rattle.dr_model.specs.Entries.{fields_at, is_running, keep_on, copies_from}
+use Rattle.dr_model.specs.Entries.{fields_at, is_running, keep_on}
 use Rattle.dr_model.specs.PairEntries.{has_path, link_down, send_refusal, end_if, refuse_if, suspend_where, flashed_refusal, store_on, strike_on, send_entries, sends, is_copying, tracks_to_send}
 use Rattle.dr_model.specs.Plans.{Plan, drain_plan, is_defined}
-use Rattle.dr_model.specs.Allowed.{Runs}
+use Rattle.dr_model.specs.Allowed.{May, Runs}
 use Rattle.dr_laws_sound.proofs.Turns.{done, next_of}
 use Rattle.dr_laws_sound.proofs.KeepsSound.{Along, comes}
 use Rattle.dr_laws_sound.proofs.FitsFlash.{as_begun}
@@ -30,7 +30,7 @@ use Rattle.dr_model.specs.Histories.{histories}
 use Rattle.std.proofs.lemmas.List.{append-nil}
 use Rattle.dr_laws_freezes.proofs.Chains.{Fairly, fairly-entry, fairly-nil, good-none, PlanFin, told-unchanged, retabled-none}
 use Rattle.dr_laws_freezes.proofs.FairPlans.{Between, move-fairly, fairly-check, fairly-refuse}
-use Rattle.dr_laws_freezes.proofs.FairWithin.{within-between, after-fairly}
+use Rattle.dr_laws_freezes.proofs.FairWithin.{Keeps, copies-fairly, within-between, after-fairly}
 use Rattle.dr_laws_freezes.proofs.FairCases.{rows-between, answers-between, begun-between, Fair}
 use Rattle.dr_logic.proofs.Choices.{chosen, choose_some}
 use Rattle.dr_facts.proofs.Tables.{at_part}
@@ -67,25 +67,16 @@ module _ (Fin : Option ℕ → World → Option Refusal → Type 0) (fin : (w : 
     clean : (w : World) → Between w → Sends w → is_locked (fields_at w.control a) ≡ true → (t : ℕ) → contains (fields_at w.control a).out_of_sync t ≡ false
     clean w k x locked = k.tidy.clean a x.there x.on (locked-synced (fields_at w.control a) x.going locked)
 
+    -- over what the targets of b keep
+    abbrev Lasts : World → Type 0
+    Lasts w = Between w × Sends w
+
+    keeps-lasts : (w : World) → Lasts w → (d : Entry) (m : Move) (ds : List Entry) → Keeps m → d w.control ≡ Do (Make m) → May w m → ((f : Option Fuse) → Lasts (done w m f) → Fairly Fin None (done w m f) ds) → Fairly Fin None w (d ∷ ds)
+    keeps-lasts w k d (Keep u q) ds ok is may go = move-fairly Fin fin w k.0 d (Keep u q) ds is may tt tt refl (λ f z. go f (z, sends-done w (Keep u q) f refl refl k.1))
+    keeps-lasts w k d (Note u q) ds ok is may go = move-fairly Fin fin w k.0 d (Note u q) ds is may tt tt refl (λ f z. go f (z, sends-done w (Note u q) f refl refl k.1))
+    keeps-lasts w k d m ds ok is may go = absurd ok
+
     module _ (t : ℕ) (more : List Entry) (go : (v : World) → Between v → Sends v → Along v more → Fairly Fin None v more) where
-      keeps : (xs : List ℕ) (es : List Entry) (w : World) → Between w → Sends w → Along w (map (keep_on b t) xs ++ es) → ((v : World) → Between v → Sends v → Along v es → Fairly Fin None v es) → Fairly Fin None w (map (keep_on b t) xs ++ es)
-      keeps [] es w k x al on = on w k x al
-      keeps (u ∷ us) es w k x al on =
-          by (copies_from b (fields_at w.control u) && not (fields_at w.control u).reversing) (not (contains (fields_at w.control u).own t)) ((fields_at w.control u).recorded && not (contains (fields_at w.control u).source_changes t)) refl (λ v k x al. keeps us es v k x al on)
-        where
-          ds : List Entry
-          ds = map (keep_on b t) us ++ es
-
-          by : (p c r : Bool) → keep_on b t u w.control ≡ cond p (cond c (Do (Make (Keep u t))) (cond r (Do (Make (Note u t))) Pass)) Pass → ((v : World) → Between v → Sends v → Along v ds → Fairly Fin None v ds) → Fairly Fin None w (keep_on b t u ∷ ds)
-          by true true r is rest =
-              let one = comes w (keep_on b t u) ds (Do (Make (Keep u t))) is al in
-              move-fairly Fin fin w k (keep_on b t u) (Keep u t) ds is one.0 tt tt refl (λ f b. rest (done w (Keep u t) f) b (sends-done w (Keep u t) f refl refl x) (one.1 f b.sound))
-          by true false true is rest =
-              let one = comes w (keep_on b t u) ds (Do (Make (Note u t))) is al in
-              move-fairly Fin fin w k (keep_on b t u) (Note u t) ds is one.0 tt tt refl (λ f b. rest (done w (Note u t) f) b (sends-done w (Note u t) f refl refl x) (one.1 f b.sound))
-          by true false false is rest = fairly-entry Fin None w (keep_on b t u) ds Pass is (good-none w k.sound.rows) (rest w k x (comes w (keep_on b t u) ds Pass is al))
-          by false c r is rest = fairly-entry Fin None w (keep_on b t u) ds Pass is (good-none w k.sound.rows) (rest w k x (comes w (keep_on b t u) ds Pass is al))
-
       strikes : (w : World) → Between w → Sends w → Along w (strike_on a t ∷ more) → Fairly Fin None w (strike_on a t ∷ more)
       strikes w k x al =
           let last : Bool = is_last (fields_at w.control a) t in
@@ -131,7 +122,7 @@ module _ (Fin : Option ℕ → World → Option Refusal → Type 0) (fin : (w : 
       goes w k x al =
           fairly-refuse Fin fin w k (send_refusal a b) (refuse_if (flashed_refusal b) ∷ stored) al (λ none al.
           fairly-refuse Fin fin w k (flashed_refusal b) stored al (λ plain al.
-          keeps volumes (store_on a b t ∷ strike_on a t ∷ more) w k x al stores))
+          copies-fairly Fin None Lasts (λ v y. y.0.sound) (λ v y. good-none v y.0.sound.rows) keeps-lasts b t volumes (store_on a b t ∷ strike_on a t ∷ more) w (k, x) al (λ v y. stores v y.0 y.1)))
 
       module _ (w : World) (f : Option Fuse) (k : Between w) (x : Sends w) where
         abbrev why : ℕ → Volume → Option Refusal

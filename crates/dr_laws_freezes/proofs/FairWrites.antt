@@ -16,27 +16,29 @@ use Rattle.dr_model.specs.Layout.{Fields}
 use Rattle.dr_model.specs.Pairs.{is_metro, is_kind, is_last, is_full_duplex, is_suspended, held, goes_over, collides}
 use Rattle.dr_model.specs.Control.{Control, Fuse, Pending, Volume, World}
 use Rattle.dr_model.specs.Moves.{Move, Land, Overwrite, Keep, Note, Store, Strike, Suspend, target, Unsync, Mirror, LandBoth, is_write}
-use Rattle.dr_model.specs.Carry.{Make, Pass, Do, Entry, now}
-use Rattle.dr_model.specs.Entries.{fields_at, is_running, is_no_secondary, is_open, is_settled, copies_from, keep_on, copy_first, land_on, land_alone}
+use Rattle.dr_model.specs.Carry.{Act, Make, Pass, Do, Entry, now}
+use Rattle.dr_model.specs.Entries.{fields_at, is_running, is_no_secondary, is_open, is_settled, keep_on, copy_first, land_on, land_alone}
 use Rattle.dr_model.specs.WriteEntries.{sends_first, where_sent, send_first, land_collided, after_write, partner_of, is_grouped, land_mirrored, land_parted, is_parted, land_over, landing, part_after}
 use Rattle.dr_model.specs.Plans.{Plan, same, issue_refusal, write_done, apply_done}
-use Rattle.dr_model.specs.Laws.{AllPending}
+use Rattle.dr_model.specs.Laws.{Sound, AllPending}
 use Rattle.dr_model.specs.Allowed.{May, Runs}
 use Rattle.dr_laws_closed.proofs.Pendings.{all-filter}
 use Rattle.dr_laws_sound.proofs.Cases.{may-issue}
 use Rattle.dr_facts.proofs.Sets.{insert_other, not_removed}
-use Rattle.dr_laws_sound.proofs.Turns.{done, next_of}
+use Rattle.dr_laws_sound.proofs.Turns.{done, next_of, after_act}
 use Rattle.dr_laws_sound.proofs.KeepsSound.{Along, comes}
 use Rattle.dr_laws_sound.proofs.Issues.{issued, sound-issued, one-new}
 use Rattle.dr_laws_sound.proofs.Lands.{found-alone, waits}
 use Rattle.dr_laws_sound.proofs.FitsFlash.{as_begun}
 use Rattle.dr_laws_sound.proofs.FitsPairs.{row, runs-done, part-same}
 use Rattle.dr_laws_sound.proofs.FitsWrites.{lands}
-use Rattle.dr_laws_freezes.proofs.Fair.{is_locked, Unacked, Fair as FairMove, tag_after}
-use Rattle.dr_laws_freezes.proofs.Tidy.{is_synced, Clean, Gentle}
+use Rattle.dr_laws_freezes.proofs.Fair.{is_locked, Unacked}
+use Rattle.dr_laws_freezes.proofs.Tidy.{is_synced, Clean}
 use Rattle.dr_laws_freezes.proofs.Windows.{Good}
-use Rattle.dr_laws_freezes.proofs.Chains.{Fairly, fairly-entry, fairly-nil, StopFin, EndFin, PlanFin, good-none, told-unchanged, retabled-none}
-use Rattle.dr_laws_freezes.proofs.FairPlans.{Between, move-fairly, fairly-check}
+use Rattle.dr_laws_freezes.proofs.Chains.{Fairly, fairly-nil, StopFin, EndFin, PlanFin, good-none, told-unchanged, retabled-none}
+use Rattle.dr_laws_freezes.proofs.FairPlans.{Between, KeepsPairs, entries-fairly, move-fairly, fairly-check}
+use Rattle.dr_facts.proofs.Entries.{anywhere, whatever, Fine, AllFine, fine-then, fine-one, fine-append, fine-if, from-all}
+use Rattle.dr_facts.proofs.SharedEntries.{where-fine, keep-fine, copies-fine}
 use Rattle.dr_laws_freezes.proofs.FairCases.{rows-between, answers-between, begun-between, Fair}
 use Rattle.dr_laws_freezes.proofs.FairTables.{issued-unchanged, issued-tidy}
 use Rattle.dr_laws_freezes.proofs.FairDrain.{locked-synced}
@@ -57,8 +59,8 @@ not-suspended FullDuplex h = refl
 not-suspended Suspended h = absurd cc
 
 -- one that isn't long busy is locked where it is Full Duplex
-calm-locked : (f : Fields) → f.long_busy ≡ false → is_synced f ≡ false → is_locked f ≡ false
-calm-locked f calm off = by (is_metro f.primary) f.primary_state f.long_busy calm off
+locked-busy : (f : Fields) → f.long_busy ≡ false → is_synced f ≡ false → is_locked f ≡ false
+locked-busy f calm off = by (is_metro f.primary) f.primary_state f.long_busy calm off
   where
     by : (m : Bool) (s : PairState) (b : Bool) → b ≡ false → (m && is_full_duplex s) ≡ false → (m && (is_full_duplex s || (is_suspended s && b))) ≡ false
     by true CopyPending b c h = refl
@@ -79,134 +81,96 @@ module _ (p : Pending) (Fin : Option ℕ → World → Option Refusal → Type 0
   abbrev One : World → Type 0
   One w = filter (is_write n) w.control.pending ≡ p ∷ []
 
-  -- it lands alone
-  record Alone (w : World) : Type 0 where
-    between : Between w
-    synced : is_synced (fields_at w.control v) ≡ false
-    locked : is_locked (fields_at w.control v) ≡ false
-
-  alone-keeps : (w : World) → Alone w → (d : Entry) (m : Move) (ds : List Entry) → Keeps m → d w.control ≡ Do (Make m) → May w m → ((f : Option Fuse) → Alone (done w m f) → Fairly Fin None (done w m f) ds) → Fairly Fin None w (d ∷ ds)
-  alone-keeps w k d (Keep u q) ds tt is may go = let m : Move = Keep u q in
-      move-fairly Fin fin w k.between d m ds is may tt tt refl (λ f b. go f (record { between = b; synced = part-same w m f is_synced refl v ∙ k.synced; locked = part-same w m f is_locked refl v ∙ k.locked }))
-  alone-keeps w k d (Note u q) ds tt is may go = let m : Move = Note u q in
-      move-fairly Fin fin w k.between d m ds is may tt tt refl (λ f b. go f (record { between = b; synced = part-same w m f is_synced refl v ∙ k.synced; locked = part-same w m f is_locked refl v ∙ k.locked }))
-  alone-keeps w k d m ds e is may go = absurd e
-
   ends : (w : World) (m : Move) (f : Option Fuse) → Between (done w m f) → Fairly Fin None (done w m f) []
   ends w m f b = fairly-nil Fin None (done w m f) (good-none (done w m f) b.sound.rows) (fin (done w m f) None b)
 
-  last-alone : (w : World) → Alone w → Along w (land_on n v t ∷ []) → Fairly Fin None w (land_on n v t ∷ [])
-  last-alone w k al = by (fields_at w.control v).related refl
+  -- It isn't mirrored: its volume is no Metro Mirror primary that is Full Duplex or locked, or it is a Global Copy primary, from which its
+  -- track may be sent first.
+  abbrev Apart : Bool → World → Type 0
+  Apart true w = is_kind Global (fields_at w.control v).primary ≡ true
+  Apart false w = (is_synced (fields_at w.control v) ≡ false) × (is_locked (fields_at w.control v) ≡ false)
+
+  apart : (sends : Bool) (w : World) → Apart sends w → Apart false w
+  apart true w global = by (is_metro (fields_at w.control v).primary) refl
     where
-      by : (b : Bool) → (fields_at w.control v).related ≡ b → Fairly Fin None w (land_on n v t ∷ [])
-      by true is =
-          let m : Move = Overwrite n v t in
-          let does : land_on n v t w.control ≡ Do (Make m) = ap (λ b. Do (Make (cond b (Overwrite n v t) (Land n v t)))) is in
-          move-fairly Fin fin w k.between (land_on n v t) m [] does (comes w (land_on n v t) [] (Do (Make m)) does al).0 tt tt refl (λ f b. ends w m f b)
-      by false is =
-          let m : Move = Land n v t in
-          let does : land_on n v t w.control ≡ Do (Make m) = ap (λ b. Do (Make (cond b (Overwrite n v t) (Land n v t)))) is in
-          move-fairly Fin fin w k.between (land_on n v t) m [] does (comes w (land_on n v t) [] (Do (Make m)) does al).0 k.locked k.synced refl (λ f b. ends w m f b)
+      by : (b : Bool) → is_metro (fields_at w.control v).primary ≡ b → Apart false w
+      by true is = absurd (not-metro (fields_at w.control v).primary global is)
+      by false is = (ap (λ b. b && is_full_duplex (fields_at w.control v).primary_state) is, ap (λ b. b && is_firm (fields_at w.control v)) is)
+  apart false w k = k
 
-  alone : (volumes : List ℕ) (w : World) → Alone w → Along w (land_alone volumes n v t) → Fairly Fin None w (land_alone volumes n v t)
-  alone volumes w k al = copies-fairly Fin None Alone (λ w k. k.between.sound) (λ w k. good-none w k.between.sound.rows) alone-keeps v t volumes (land_on n v t ∷ []) w k al last-alone
+  -- the acts that come then
+  abbrev LandsAct : Bool → World → Act → Type 0
+  LandsAct sends w (Make (Keep u q)) = Unit {0}
+  LandsAct sends w (Make (Note u q)) = Unit {0}
+  LandsAct sends w (Make (Overwrite j x q)) = Unit {0}
+  LandsAct sends w (Make (Land j x q)) = x ≡ v
+  LandsAct true w (Make (Suspend x busy)) = Unit {0}
+  LandsAct true w (Make (Store u q x last)) = x ≡ v
+  LandsAct true w (Make (Strike x q last)) = (x ≡ v) × (last ≡ is_last (fields_at w.control x) q)
+  LandsAct sends w a = ⊥
 
-  -- it collides on a Global Copy primary, which is never locked
-  record Sends (w : World) : Type 0 where
-    between : Between w
-    global : is_kind Global (fields_at w.control v).primary ≡ true
+  not-locked : (sends : Bool) (w : World) (x : ℕ) → x ≡ v → Apart sends w → is_locked (fields_at w.control x) ≡ false
+  not-locked sends w x is k = ap (λ y. is_locked (fields_at w.control y)) is ∙ (apart sends w k).1
 
-  no-metro : (w : World) → Sends w → is_metro (fields_at w.control v).primary ≡ false
-  no-metro w k = by (is_metro (fields_at w.control v).primary) refl
-    where
-      by : (b : Bool) → is_metro (fields_at w.control v).primary ≡ b → b ≡ false
-      by true is = absurd (not-metro (fields_at w.control v).primary k.global is)
-      by false is = refl
+  lands-keep : (sends : Bool) (w : World) (a : Act) → LandsAct sends w a → Apart sends w → KeepsPairs w a
+  lands-keep sends w (Make (Keep u q)) ok k = (tt, tt, refl)
+  lands-keep sends w (Make (Note u q)) ok k = (tt, tt, refl)
+  lands-keep sends w (Make (Overwrite j x q)) ok k = (tt, tt, refl)
+  lands-keep sends w (Make (Land j x q)) is k = (not-locked sends w x is k, ap (λ y. is_synced (fields_at w.control y)) is ∙ (apart sends w k).0, refl)
+  lands-keep true w (Make (Suspend x busy)) ok k = (tt, tt, refl)
+  lands-keep true w (Make (Store u q x last)) is k = (λ locked. false_true (not-locked true w x is k) locked, tt, refl)
+  lands-keep true w (Make (Strike x q last)) ok k = (λ locked. false_true (not-locked true w x ok.0 k) locked, ok.1, refl)
+  lands-keep true w a ok k = absurd ok
+  lands-keep false w a ok k = absurd ok
 
-  sends-alone : (w : World) → Sends w → Alone w
-  sends-alone w k = record {
-    between = k.between;
-    synced = ap (λ b. b && is_full_duplex (fields_at w.control v).primary_state) (no-metro w k);
-    locked = ap (λ b. b && is_firm (fields_at w.control v)) (no-metro w k);
-  }
+  global-stays : (w : World) (m : Move) (f : Option Fuse) → is_kind Global (next_of w m).primary ≡ is_kind Global (fields_at w.control (target m)).primary → Apart true w → Apart true (done w m f)
+  global-stays w m f same k = part-same w m f (λ (g : Fields). is_kind Global g.primary) same v ∙ k
+
+  stays : (sends : Bool) (w : World) (m : Move) (f : Option Fuse) → (next_of w m).primary ≡ (fields_at w.control (target m)).primary → is_synced (next_of w m) ≡ is_synced (fields_at w.control (target m)) → is_locked (next_of w m) ≡ is_locked (fields_at w.control (target m)) → Apart sends w → Apart sends (done w m f)
+  stays true w m f primary synced locked k = global-stays w m f (ap (is_kind Global) primary) k
+  stays false w m f primary synced locked k = (part-same w m f is_synced synced v ∙ k.0, part-same w m f is_locked locked v ∙ k.1)
+
+  lands-stay : (sends : Bool) (w : World) (a : Act) (f : Option Fuse) → LandsAct sends w a → Apart sends w → Apart sends (after_act w a f)
+  lands-stay sends w (Make (Keep u q)) f ok = stays sends w (Keep u q) f refl refl refl
+  lands-stay sends w (Make (Note u q)) f ok = stays sends w (Note u q) f refl refl refl
+  lands-stay sends w (Make (Overwrite j x q)) f ok = stays sends w (Overwrite j x q) f refl refl refl
+  lands-stay sends w (Make (Land j x q)) f ok = stays sends w (Land j x q) f refl refl refl
+  lands-stay true w (Make (Suspend x busy)) f ok = global-stays w (Suspend x busy) f refl
+  lands-stay true w (Make (Store u q x last)) f ok = global-stays w (Store u q x last) f refl
+  lands-stay true w (Make (Strike x q last)) f ok = global-stays w (Strike x q last) f refl
+  lands-stay true w a f ok = absurd ok
+  lands-stay false w a f ok = absurd ok
+
+  module _ (sends : Bool) where
+    abbrev Comes : List Entry → Type 0
+    Comes = AllFine anywhere (LandsAct sends) whatever
+
+    apart-fairly : (ds : List Entry) → Comes ds → (w : World) → Between w → Apart sends w → Along w ds → Fairly Fin None w ds
+    apart-fairly ds fine w k j al =
+        entries-fairly Fin (λ w r. fin w (Some r)) (Apart sends) Sound (LandsAct sends) whatever whatever (λ r why. why) (lands-keep sends) (lands-stay sends) (λ w b sound. fin w None b) ds w k j (from-all anywhere (LandsAct sends) whatever whatever (λ r why. why) w tt ds fine) al
+
+    alone-comes : (volumes : List ℕ) → Comes (land_alone volumes n v t)
+    alone-comes volumes = fine-append anywhere (LandsAct sends) whatever (copy_first volumes v t) _ (copies-fine anywhere (LandsAct sends) whatever (λ u q w any. tt) (λ u q w any. tt) volumes v t)
+        (fine-one anywhere (LandsAct sends) whatever (land_on n v t) (λ w any. by w (fields_at w.control v).related))
+      where
+        by : (w : World) (b : Bool) → LandsAct sends w (Make (cond b (Overwrite n v t) (Land n v t)))
+        by w true = tt
+        by w false = refl
+
+  alone : (volumes : List ℕ) (w : World) → Between w → Apart false w → Along w (land_alone volumes n v t) → Fairly Fin None w (land_alone volumes n v t)
+  alone volumes = apart-fairly false (land_alone volumes n v t) (alone-comes false volumes)
 
   module _ (u : ℕ) where
-    -- a move that leaves it so
-    sends-move : (w : World) → Sends w → (d : Entry) (m : Move) (ds : List Entry) → d w.control ≡ Do (Make m) → May w m → FairMove None w m → Gentle (fields_at w.control (target m)) m → tag_after m None ≡ None
-        → is_kind Global (next_of w m).primary ≡ is_kind Global (fields_at w.control (target m)).primary → ((f : Option Fuse) → Sends (done w m f) → Fairly Fin None (done w m f) ds) → Fairly Fin None w (d ∷ ds)
-    sends-move w k d m ds is may fair gentle tag same go =
-        move-fairly Fin fin w k.between d m ds is may fair gentle tag (λ f b. go f (record { between = b; global = part-same w m f (λ (g : Fields). is_kind Global g.primary) same v ∙ k.global }))
+    sent-one : (d : Entry) → ((w : World) → anywhere w → Fine anywhere (LandsAct true) whatever w (d w.control)) → (w : World) → anywhere w → Fine anywhere (LandsAct true) whatever w (where_sent v u t d w.control)
+    sent-one d one w any = fine-if anywhere (LandsAct true) whatever w (sends_first v u t w.control) (d w.control) Pass (one w any) tt
 
-    passed : (w : World) → Sends w → (d : Entry) (ds : List Entry) → d w.control ≡ Pass → Along w (d ∷ ds) → (Along w ds → Fairly Fin None w ds) → Fairly Fin None w (d ∷ ds)
-    passed w k d ds is al go = fairly-entry Fin None w d ds Pass is (good-none w k.between.sound.rows) (go (comes w d ds Pass is al))
+    sent-comes : (xs : List ℕ) → Comes true (map (where_sent v u t) (map (keep_on u t) xs ++ store_on v u t ∷ strike_on v t ∷ []))
+    sent-comes [] = fine-then anywhere (LandsAct true) whatever (where_sent v u t (store_on v u t)) _ (sent-one (store_on v u t) (λ w any. refl)) (fine-one anywhere (LandsAct true) whatever (where_sent v u t (strike_on v t)) (sent-one (strike_on v t) (λ w any. (refl, refl))))
+    sent-comes (x ∷ xs) = fine-then anywhere (LandsAct true) whatever (where_sent v u t (keep_on u t x)) _ (sent-one (keep_on u t x) (keep-fine anywhere (LandsAct true) whatever (λ y q w any. tt) (λ y q w any. tt) u t x)) (sent-comes xs)
 
-    -- an entry that comes where the track can be sent
-    where-by : (w : World) → Sends w → (d : Entry) (ds : List Entry) → Along w (where_sent v u t d ∷ ds) → (Along w ds → Fairly Fin None w ds) → ((is : where_sent v u t d w.control ≡ d w.control) → Fairly Fin None w (where_sent v u t d ∷ ds)) → Fairly Fin None w (where_sent v u t d ∷ ds)
-    where-by w k d ds al pass go = by (sends_first v u t w.control) refl
-      where
-        by : (b : Bool) → sends_first v u t w.control ≡ b → Fairly Fin None w (where_sent v u t d ∷ ds)
-        by true is = go (ap (λ b. cond b (d w.control) Pass) is)
-        by false is = passed w k (where_sent v u t d) ds (ap (λ b. cond b (d w.control) Pass) is) al pass
-
-    strikes : (ds : List Entry) (w : World) → Sends w → Along w (where_sent v u t (strike_on v t) ∷ ds) → ((w : World) → Sends w → Along w ds → Fairly Fin None w ds) → Fairly Fin None w (where_sent v u t (strike_on v t) ∷ ds)
-    strikes ds w k al go = where-by w k (strike_on v t) ds al (go w k) (λ is.
-        let last : Bool = is_last (fields_at w.control v) t in
-        let m : Move = Strike v t last in
-        let one = comes w (where_sent v u t (strike_on v t)) ds (Do (Make m)) is al in
-        sends-move w k (where_sent v u t (strike_on v t)) m ds is one.0 (λ locked. false_true (sends-alone w k).locked locked) refl refl refl (λ f z. go (done w m f) z (one.1 f z.between.sound)))
-
-    stores : (ds : List Entry) (w : World) → Sends w → Along w (where_sent v u t (store_on v u t) ∷ where_sent v u t (strike_on v t) ∷ ds) → ((w : World) → Sends w → Along w ds → Fairly Fin None w ds)
-        → Fairly Fin None w (where_sent v u t (store_on v u t) ∷ where_sent v u t (strike_on v t) ∷ ds)
-    stores ds w k al go = where-by w k (store_on v u t) (where_sent v u t (strike_on v t) ∷ ds) al (λ al. strikes ds w k al go) (λ is.
-        let last : Bool = is_last (fields_at w.control v) t in
-        let m : Move = Store u t v last in
-        let one = comes w (where_sent v u t (store_on v u t)) (where_sent v u t (strike_on v t) ∷ ds) (Do (Make m)) is al in
-        sends-move w k (where_sent v u t (store_on v u t)) m (where_sent v u t (strike_on v t) ∷ ds) is one.0 (λ locked. false_true (sends-alone w k).locked locked) tt refl refl
-        (λ f z. strikes ds (done w m f) z (one.1 f z.between.sound) go))
-
-    keeps : (xs : List ℕ) (ds : List Entry) (w : World) → Sends w → let es : List Entry = map (where_sent v u t) (map (keep_on u t) xs ++ store_on v u t ∷ strike_on v t ∷ []) ++ ds in Along w es → ((w : World) → Sends w → Along w ds → Fairly Fin None w ds) → Fairly Fin None w es
-    keeps [] ds w k al go = stores ds w k al go
-    keeps (x ∷ xs) ds w k al go =
-        let rest : List Entry = map (where_sent v u t) (map (keep_on u t) xs ++ store_on v u t ∷ strike_on v t ∷ []) ++ ds in
-        where-by w k (keep_on u t x) rest al (λ al. keeps xs ds w k al go) (λ is. by (copies_from u g && not g.reversing) (not (contains g.own t)) (g.recorded && not (contains g.source_changes t)) is (λ w k al. keeps xs ds w k al go))
-      where
-        g : Fields
-        g = fields_at w.control x
-
-        d : Entry
-        d = where_sent v u t (keep_on u t x)
-
-        left : List Entry
-        left = map (where_sent v u t) (map (keep_on u t) xs ++ store_on v u t ∷ strike_on v t ∷ []) ++ ds
-
-        by : (p c r : Bool) → d w.control ≡ cond p (cond c (Do (Make (Keep x t))) (cond r (Do (Make (Note x t))) Pass)) Pass → ((w : World) → Sends w → Along w left → Fairly Fin None w left) → Fairly Fin None w (d ∷ left)
-        by true true r is rest =
-            let one = comes w d left (Do (Make (Keep x t))) is al in
-            sends-move w k d (Keep x t) left is one.0 tt tt refl refl (λ f z. rest (done w (Keep x t) f) z (one.1 f z.between.sound))
-        by true false true is rest =
-            let one = comes w d left (Do (Make (Note x t))) is al in
-            sends-move w k d (Note x t) left is one.0 tt tt refl refl (λ f z. rest (done w (Note x t) f) z (one.1 f z.between.sound))
-        by true false false is rest = passed w k d left is al (rest w k)
-        by false c r is rest = passed w k d left is al (rest w k)
-
-    collided : (volumes : List ℕ) (w : World) → Sends w → Along w (send_first volumes v u t ++ land_alone volumes n v t) → Fairly Fin None w (send_first volumes v u t ++ land_alone volumes n v t)
-    collided volumes w k al = by (is_some (send_refusal v u w.control)) refl
-      where
-        rest : List Entry
-        rest = map (where_sent v u t) (map (keep_on u t) volumes ++ store_on v u t ∷ strike_on v t ∷ []) ++ land_alone volumes n v t
-
-        d : Entry
-        d = suspend_where (send_refusal v u) v
-
-        lands : (w : World) → Sends w → Along w (land_alone volumes n v t) → Fairly Fin None w (land_alone volumes n v t)
-        lands w k al = alone volumes w (sends-alone w k) al
-
-        by : (b : Bool) → is_some (send_refusal v u w.control) ≡ b → Fairly Fin None w (d ∷ rest)
-        by true is =
-            let does : d w.control ≡ Do (Make (Suspend v false)) = ap (λ b. cond b (Do (Make (Suspend v false))) Pass) is in
-            let one = comes w d rest (Do (Make (Suspend v false))) does al in
-            sends-move w k d (Suspend v false) rest does one.0 tt tt refl refl (λ f z. keeps volumes (land_alone volumes n v t) (done w (Suspend v false) f) z (one.1 f z.between.sound) lands)
-        by false is = passed w k d rest (ap (λ b. cond b (Do (Make (Suspend v false))) Pass) is) al (λ al. keeps volumes (land_alone volumes n v t) w k al lands)
+    collided : (volumes : List ℕ) (w : World) → Between w → Apart true w → Along w (send_first volumes v u t ++ land_alone volumes n v t) → Fairly Fin None w (send_first volumes v u t ++ land_alone volumes n v t)
+    collided volumes = apart-fairly true _ (fine-append anywhere (LandsAct true) whatever (send_first volumes v u t) (land_alone volumes n v t)
+        (fine-then anywhere (LandsAct true) whatever (suspend_where (send_refusal v u) v) _ (where-fine anywhere (LandsAct true) whatever (λ j. is_some (send_refusal v u j)) (Make (Suspend v false)) (λ w any so. tt)) (sent-comes volumes)) (alone-comes true volumes))
 
   -- it is stored on the secondary, and the track is out of sync until it has landed
   record Both (tag : Option ℕ) (w : World) : Type 0 where
@@ -323,7 +287,7 @@ module _ (p : Pending) (Fin : Option ℕ → World → Option Refusal → Type 0
         let m : Move = Suspend v busy in
         let here : (done w m h).control.volume v ≡ row w m h = at_same w.control.volume v (row w m h) in
         let off : is_synced (fields_at (done w m h).control v) ≡ false = ap (λ (y : Volume). is_synced y.fields) here ∙ and-false (is_metro f.primary) in
-        alone w.control.volumes (done w m h) (record { between = z; synced = off; locked = calm-locked (fields_at (done w m h).control v) (ap (λ (y : Volume). y.fields.long_busy) here ∙ (λ i. calm i || is i)) off }) al
+        alone w.control.volumes (done w m h) z (off, locked-busy (fields_at (done w m h).control v) (ap (λ (y : Volume). y.fields.long_busy) here ∙ (λ i. calm i || is i)) off) al
 
     parted : f.long_busy ≡ false → Along w (land_parted w.control n v t) → Fairly Fin None w (land_parted w.control n v t)
     parted calm al =
@@ -355,8 +319,8 @@ module _ (p : Pending) (Fin : Option ℕ → World → Option Refusal → Type 0
     ways-fair false true c hs gs cs al =
         let both = and_parts (is_metro f.primary) _ gs in
         over-by (or_parts f.coordination f.long_busy (or_parts (f.coordination || f.long_busy) f.flash_hold hs).0).1 (not-true (is_suspended f.primary_state) (and_parts (not (is_suspended f.primary_state)) _ both.1).0) (is_parted w.control v) al
-    ways-fair false false true hs gs cs al = collided (partner_of w.control v) w.control.volumes w (record { between = k; global = (and_parts (is_kind Global f.primary) _ cs).0 }) al
-    ways-fair false false false hs gs cs al = alone w.control.volumes w (record { between = k; synced = not-synced gs; locked = calm-locked f (or_parts f.coordination f.long_busy (or_parts (f.coordination || f.long_busy) f.flash_hold hs).0).1 (not-synced gs) }) al
+    ways-fair false false true hs gs cs al = collided (partner_of w.control v) w.control.volumes w k (and_parts (is_kind Global f.primary) _ cs).0 al
+    ways-fair false false false hs gs cs al = alone w.control.volumes w k (not-synced gs, locked-busy f (or_parts f.coordination f.long_busy (or_parts (f.coordination || f.long_busy) f.flash_hold hs).0).1 (not-synced gs)) al
 
   pub landing-fair : (w : World) → Between w → One w → Fairly Fin None w (landing w.control n v t)
   landing-fair w k one =
