@@ -6,7 +6,7 @@ use Rattle.dr_ids.specs.declared.refusal.Refusal.TheVariants.{Stopped as Stopped
 use Rattle.dr_model.specs.declared.said.Said.{Said}
 use Rattle.dr_model.specs.Answers.{answer}
 use Rattle.dr_model.specs.Histories.{histories}
-use Rattle.dr_model.specs.Control.{Control, Fuse, World}
+use Rattle.dr_model.specs.Control.{Control, World}
 use Rattle.dr_model.specs.Carry.{Act, Entry, carry}
 use Rattle.dr_model.specs.Plans.{Plan, same, none_follow, entries_plan}
 use Rattle.dr_model.specs.Runs.{begun, finish, masters_lost, said}
@@ -15,7 +15,6 @@ use Rattle.dr_model.specs.Laws.{Sound, SoundRows, AllPending}
 use Rattle.dr_facts.proofs.Entries.{anywhere, FineFrom}
 use Rattle.dr_laws_closed.proofs.Regroups.{regroups-same}
 use Rattle.dr_laws_sound.proofs.Along as along
-use Rattle.dr_laws_sound.proofs.Turns.{after_act}
 use Rattle.dr_laws_sound.proofs.KeepsSound.{Along, StepHolds, RowsAt, MayDo, keeps-sound, over}
 use Rattle.dr_laws_sound.proofs.FitsFlash.{as_begun, sound-begun}
 use Rattle.dr_laws_sound.proofs.FitsSessions.{Orders, sound-lost}
@@ -123,10 +122,9 @@ module _ (w : World) (k : Between w) (p : Plan) (begins : Begins w (begun w p) p
               }) b.tidy;
         }
 
-    pub fair-entries : (J : World → Type 0) (Ok : World → Act → Type 0) (First Why : Refusal → Type 0) → ((r : Refusal) → Why r → First r) → ((v : World) (a : Act) → Ok v a → J v → KeepsPairs v a) → ((v : World) (a : Act) (f : Option Fuse) → Ok v a → J v → J (after_act v a f))
-        → J u → FineFrom anywhere Ok First Why u p.entries → Fair w p
-    fair-entries J Ok First Why reasons keeps goes_on j fine =
-        record { told = p.told; begins = begins.unchanged; entries = entries-fairly Fins refused J orders.ends Ok First Why reasons keeps goes_on ended_well p.entries u first-between j fine orders.entries; last = leaves }
+    pub fair-entries : (Ok : World → Act → Type 0) (First Why : Refusal → Type 0) → ((r : Refusal) → Why r → First r) → ((v : World) (a : Act) → Ok v a → KeepsPairs v a) → FineFrom anywhere Ok First Why u p.entries → Fair w p
+    fair-entries Ok First Why reasons keeps fine =
+        record { told = p.told; begins = begins.unchanged; entries = entries-fairly Fins refused anywhere anywhere orders.ends Ok First Why reasons (λ v any. tt) (λ v a ok any. keeps v a ok) (λ v a f ok any. tt) ended_well p.entries u first-between tt fine orders.entries; last = leaves }
 
 -- a plan of entries that are allowed along
 pub alone : (w : World) → Sound w → (entries : List Entry) (says : Control → Said) → Along (as_begun w) entries → Orders w (record { first = same; told = []; entries = entries; follows = none_follow; last = same; says = says })

@@ -13,7 +13,7 @@ use Rattle.dr_laws_sound.proofs.Along as along
 use Rattle.dr_laws_sound.proofs.KeepsSound.{MayDo, Along, Then, comes, keeps-sound}
 use Rattle.dr_model.specs.Allowed.{May}
 use Rattle.dr_model.specs.PairEntries.{end_if, refuse_if}
-use Rattle.dr_facts.proofs.Entries.{anywhere, AllFine, FineFrom, FromThen, from-all}
+use Rattle.dr_facts.proofs.Entries.{whatever, AllFine, FineFrom, FromThen, from-all}
 use Rattle.dr_laws_freezes.proofs.Fair.{Fair, tag_after, come, come-open}
 use Rattle.dr_laws_freezes.proofs.Tidy.{Gentle, Tidy, tidy-done, tidy-stop, tidy-not, tidy-same, fresh-told}
 use Rattle.dr_laws_freezes.proofs.Chains.{FairAct, act_tag, CountsFin, fairly_next, Fairly, fairly-entry, fairly-nil, good-none}
@@ -80,20 +80,21 @@ module _ (Fin : Option ℕ → World → Option Refusal → Type 0) (fin : (w : 
   )
 
   -- entries that come to such acts, where J is known: where they end well, more may be known
-  module _ (J E : World → Type 0) (Ok : World → Act → Type 0) (First Why : Refusal → Type 0) (reasons : (r : Refusal) → Why r → First r) (keeps : (w : World) (a : Act) → Ok w a → J w → KeepsPairs w a) (on : (w : World) (a : Act) (f : Option Fuse) → Ok w a → J w → J (after_act w a f))
+  module _ (K J E : World → Type 0) (Ok : World → Act → Type 0) (First Why : Refusal → Type 0) (reasons : (r : Refusal) → Why r → First r) (known : (w : World) → J w → K w) (keeps : (w : World) (a : Act) → Ok w a → J w → KeepsPairs w a) (on : (w : World) (a : Act) (f : Option Fuse) → Ok w a → J w → J (after_act w a f))
       (ends : (w : World) → Between w → E w → Fin None w None) where
     abbrev Comes : World → List Entry → Type 0
-    Comes = FineFrom anywhere Ok First Why
+    Comes = FineFrom K Ok First Why
 
     abbrev Runs : World → List Entry → Type 0
     Runs = along.Along Sound Sound E MayDo
 
-    next-fairly : (w : World) (x : Next) (ds : List Entry) → ((v : World) → Between v → J v → Comes v ds → Runs v ds → Fairly Fin None v ds) → Between w → J w → FromThen anywhere Ok First Why w x (Comes w ds) (AllFine anywhere Ok Why ds) → Then w x (λ v. Runs v ds)
+    next-fairly : (w : World) (x : Next) (ds : List Entry) → ((v : World) → Between v → J v → Comes v ds → Runs v ds → Fairly Fin None v ds) → Between w → J w → FromThen K Ok First Why w x (Comes w ds) (AllFine K Ok Why ds) → Then w x (λ v. Runs v ds)
         → fairly_next Fin None w x (λ tag v. Fairly Fin tag v ds)
     next-fairly w Pass ds rest k j fine a = rest w k j fine a
     next-fairly w (End r) ds rest k j fine a = fin w r k
     next-fairly w (Do x) ds rest k j fine a =
-        act-fairly w x (λ tag v. Fairly Fin tag v ds) k a.0 (keeps w x fine.0 j) (λ f b. rest (after_act w x f) b (on w x f fine.0 j) (from-all anywhere Ok First Why reasons (after_act w x f) tt ds fine.1) (a.1 f b.sound))
+        act-fairly w x (λ tag v. Fairly Fin tag v ds) k a.0 (keeps w x fine.0 j)
+        (λ f b. let i : J (after_act w x f) = on w x f fine.0 j in rest (after_act w x f) b i (from-all K Ok First Why reasons (after_act w x f) (known (after_act w x f) i) ds fine.1) (a.1 f b.sound))
 
     pub entries-fairly : (ds : List Entry) (w : World) → Between w → J w → Comes w ds → Runs w ds → Fairly Fin None w ds
     unfolding FineFrom
@@ -101,9 +102,16 @@ module _ (Fin : Option ℕ → World → Option Refusal → Type 0) (fin : (w : 
     entries-fairly (d ∷ ds) w k j fine a =
         fairly-entry Fin None w d ds (d w.control) refl (good-none w k.sound.rows) (next-fairly w (d w.control) ds (entries-fairly ds) k j fine (along.along-comes Sound Sound E MayDo w d ds (d w.control) refl a))
 
--- ---- entry by entry
+-- such an act that leaves what is known
+abbrev pub Leaves : (World → Type 0) → World → Act → Type 0
+Leaves J w a = KeepsPairs w a × ((f : Option Fuse) → J (after_act w a f))
 
 module _ (Fin : Option ℕ → World → Option Refusal → Type 0) (fin : (w : World) (r : Option Refusal) → Between w → Fin None w r) where
+  pub leaves-fairly : (J : World → Type 0) (ds : List Entry) (w : World) → Between w → J w → FineFrom J (Leaves J) whatever whatever w ds → Along w ds → Fairly Fin None w ds
+  leaves-fairly J = entries-fairly Fin (λ w r. fin w (Some r)) J J Sound (Leaves J) whatever whatever (λ r why. why) (λ w j. j) (λ w a ok j. ok.0) (λ w a f ok j. ok.1 f) (λ w b sound. fin w None b)
+
+  -- ---- entry by entry
+
   pub move-fairly : (w : World) → Between w → (d : Entry) (m : Move) (ds : List Entry) → d w.control ≡ Do (Make m) → May w m → Fair None w m → Gentle (fields_at w.control (target m)) m → tag_after m None ≡ None
       → ((f : Option Fuse) → Between (done w m f) → Fairly Fin None (done w m f) ds) → Fairly Fin None w (d ∷ ds)
   move-fairly w k d m ds is may fair gentle none go = fairly-entry Fin None w d ds (Do (Make m)) is (good-none w k.sound.rows) (act-fairly Fin (λ w r. fin w (Some r)) w (Make m) (λ tag v. Fairly Fin tag v ds) k may (fair, gentle, none) go)

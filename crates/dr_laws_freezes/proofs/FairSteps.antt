@@ -102,10 +102,10 @@ module _ (w : World) (k : Between w) (line : ℕ) where
   fair-acts : (asked : Result Step ℕ) (p : Plan) → Case w.control w.events line asked p → lands_tracks asked ≡ false → Orders w p → Fair w p
   fair-acts asked p c none orders =
       let does : Entered w asked p = case-does w line asked p c in
-      let keeps = λ (v : World) (a : Act) (d : Acts w.control asked v a) (any : anywhere v). keeps-pairs w.control none v a d in
+      let keeps = λ (v : World) (a : Act) (d : Acts w.control asked v a). keeps-pairs w.control none v a d in
       fair-entries w k p (case-begins w k.tidy line asked p c) (leaves w.control w.events line asked p c) (none-on asked p c none) orders
-      (λ s v b. entries-fairly (EndFin Between rows-between answers-between) (λ u r b. b) anywhere Sound (Acts w.control asked) (Late asked) (Late asked) (λ r why. why) keeps (λ v a f d any. tt) (λ u b sound. b) (p.follows s) v b tt (from-all anywhere (Acts w.control asked) (Late asked) (Late asked) (λ r why. why) v tt (p.follows s) (does.follows s)) (orders.follows s v b.sound))
-      anywhere (Acts w.control asked) NoStop (Late asked) (λ r why. why.why) keeps (λ v a f d any. tt) tt does.entries
+      (λ s v b. entries-fairly (EndFin Between rows-between answers-between) (λ u r b. b) anywhere anywhere Sound (Acts w.control asked) (Late asked) (Late asked) (λ r why. why) (λ v any. tt) (λ v a d any. keeps v a d) (λ v a f d any. tt) (λ u b sound. b) (p.follows s) v b tt (from-all anywhere (Acts w.control asked) (Late asked) (Late asked) (λ r why. why) v tt (p.follows s) (does.follows s)) (orders.follows s v b.sound))
+      (Acts w.control asked) NoStop (Late asked) (λ r why. why.why) keeps does.entries
 
   pub fair-case : (asked : Result Step ℕ) (p : Plan) → Case w.control w.events line asked p → Fair w p
   fair-case asked p c = by asked p c (fair-acts asked p c) (fair-tables w k p (case-begins w k.tidy line asked p c) (leaves w.control w.events line asked p c) (case-holds w k.sound line asked p c))

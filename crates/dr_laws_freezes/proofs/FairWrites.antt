@@ -20,12 +20,12 @@ use Rattle.dr_model.specs.Carry.{Act, Make, Pass, Do, Entry, now}
 use Rattle.dr_model.specs.Entries.{fields_at, is_running, is_no_secondary, is_open, is_settled, keep_on, copy_first, land_on, land_alone}
 use Rattle.dr_model.specs.WriteEntries.{sends_first, where_sent, send_first, land_collided, after_write, partner_of, is_grouped, land_mirrored, land_parted, is_parted, land_over, landing, part_after}
 use Rattle.dr_model.specs.Plans.{Plan, same, issue_refusal, write_done, apply_done}
-use Rattle.dr_model.specs.Laws.{Sound, AllPending}
+use Rattle.dr_model.specs.Laws.{AllPending}
 use Rattle.dr_model.specs.Allowed.{May, Runs}
 use Rattle.dr_laws_closed.proofs.Pendings.{all-filter}
 use Rattle.dr_laws_sound.proofs.Cases.{may-issue}
 use Rattle.dr_facts.proofs.Sets.{insert_other, not_removed}
-use Rattle.dr_laws_sound.proofs.Turns.{done, next_of, after_act}
+use Rattle.dr_laws_sound.proofs.Turns.{done, next_of}
 use Rattle.dr_laws_sound.proofs.KeepsSound.{Along, comes}
 use Rattle.dr_laws_sound.proofs.Issues.{issued, sound-issued, one-new}
 use Rattle.dr_laws_sound.proofs.Lands.{found-alone, waits}
@@ -36,8 +36,8 @@ use Rattle.dr_laws_freezes.proofs.Fair.{is_locked, Unacked}
 use Rattle.dr_laws_freezes.proofs.Tidy.{is_synced, Clean}
 use Rattle.dr_laws_freezes.proofs.Windows.{Good}
 use Rattle.dr_laws_freezes.proofs.Chains.{Fairly, fairly-nil, StopFin, EndFin, PlanFin, good-none, told-unchanged, retabled-none}
-use Rattle.dr_laws_freezes.proofs.FairPlans.{Between, KeepsPairs, entries-fairly, move-fairly, fairly-check}
-use Rattle.dr_facts.proofs.Entries.{anywhere, whatever, Fine, AllFine, fine-then, fine-one, fine-append, fine-if, from-all}
+use Rattle.dr_laws_freezes.proofs.FairPlans.{Between, Leaves, leaves-fairly, move-fairly, fairly-check}
+use Rattle.dr_facts.proofs.Entries.{whatever, Fine, AllFine, fine-then, fine-one, fine-append, fine-if, from-all}
 use Rattle.dr_facts.proofs.SharedEntries.{where-fine, keep-fine, copies-fine}
 use Rattle.dr_laws_freezes.proofs.FairCases.{rows-between, answers-between, begun-between, Fair}
 use Rattle.dr_laws_freezes.proofs.FairTables.{issued-unchanged, issued-tidy}
@@ -98,79 +98,59 @@ module _ (p : Pending) (Fin : Option ℕ → World → Option Refusal → Type 0
       by false is = (ap (λ b. b && is_full_duplex (fields_at w.control v).primary_state) is, ap (λ b. b && is_firm (fields_at w.control v)) is)
   apart false w k = k
 
-  -- the acts that come then
-  abbrev LandsAct : Bool → World → Act → Type 0
-  LandsAct sends w (Make (Keep u q)) = Unit {0}
-  LandsAct sends w (Make (Note u q)) = Unit {0}
-  LandsAct sends w (Make (Overwrite j x q)) = Unit {0}
-  LandsAct sends w (Make (Land j x q)) = x ≡ v
-  LandsAct true w (Make (Suspend x busy)) = Unit {0}
-  LandsAct true w (Make (Store u q x last)) = x ≡ v
-  LandsAct true w (Make (Strike x q last)) = (x ≡ v) × (last ≡ is_last (fields_at w.control x) q)
-  LandsAct sends w a = ⊥
+  global-stays : (w : World) (m : Move) (f : Option Fuse) → (next_of w m).primary ≡ (fields_at w.control (target m)).primary → Apart true w → Apart true (done w m f)
+  global-stays w m f same k = part-same w m f (λ (g : Fields). is_kind Global g.primary) (ap (is_kind Global) same) v ∙ k
 
-  not-locked : (sends : Bool) (w : World) (x : ℕ) → x ≡ v → Apart sends w → is_locked (fields_at w.control x) ≡ false
-  not-locked sends w x is k = ap (λ y. is_locked (fields_at w.control y)) is ∙ (apart sends w k).1
-
-  lands-keep : (sends : Bool) (w : World) (a : Act) → LandsAct sends w a → Apart sends w → KeepsPairs w a
-  lands-keep sends w (Make (Keep u q)) ok k = (tt, tt, refl)
-  lands-keep sends w (Make (Note u q)) ok k = (tt, tt, refl)
-  lands-keep sends w (Make (Overwrite j x q)) ok k = (tt, tt, refl)
-  lands-keep sends w (Make (Land j x q)) is k = (not-locked sends w x is k, ap (λ y. is_synced (fields_at w.control y)) is ∙ (apart sends w k).0, refl)
-  lands-keep true w (Make (Suspend x busy)) ok k = (tt, tt, refl)
-  lands-keep true w (Make (Store u q x last)) is k = (λ locked. false_true (not-locked true w x is k) locked, tt, refl)
-  lands-keep true w (Make (Strike x q last)) ok k = (λ locked. false_true (not-locked true w x ok.0 k) locked, ok.1, refl)
-  lands-keep true w a ok k = absurd ok
-  lands-keep false w a ok k = absurd ok
-
-  global-stays : (w : World) (m : Move) (f : Option Fuse) → is_kind Global (next_of w m).primary ≡ is_kind Global (fields_at w.control (target m)).primary → Apart true w → Apart true (done w m f)
-  global-stays w m f same k = part-same w m f (λ (g : Fields). is_kind Global g.primary) same v ∙ k
-
-  stays : (sends : Bool) (w : World) (m : Move) (f : Option Fuse) → (next_of w m).primary ≡ (fields_at w.control (target m)).primary → is_synced (next_of w m) ≡ is_synced (fields_at w.control (target m)) → is_locked (next_of w m) ≡ is_locked (fields_at w.control (target m)) → Apart sends w → Apart sends (done w m f)
-  stays true w m f primary synced locked k = global-stays w m f (ap (is_kind Global) primary) k
-  stays false w m f primary synced locked k = (part-same w m f is_synced synced v ∙ k.0, part-same w m f is_locked locked v ∙ k.1)
-
-  lands-stay : (sends : Bool) (w : World) (a : Act) (f : Option Fuse) → LandsAct sends w a → Apart sends w → Apart sends (after_act w a f)
-  lands-stay sends w (Make (Keep u q)) f ok = stays sends w (Keep u q) f refl refl refl
-  lands-stay sends w (Make (Note u q)) f ok = stays sends w (Note u q) f refl refl refl
-  lands-stay sends w (Make (Overwrite j x q)) f ok = stays sends w (Overwrite j x q) f refl refl refl
-  lands-stay sends w (Make (Land j x q)) f ok = stays sends w (Land j x q) f refl refl refl
-  lands-stay true w (Make (Suspend x busy)) f ok = global-stays w (Suspend x busy) f refl
-  lands-stay true w (Make (Store u q x last)) f ok = global-stays w (Store u q x last) f refl
-  lands-stay true w (Make (Strike x q last)) f ok = global-stays w (Strike x q last) f refl
-  lands-stay true w a f ok = absurd ok
-  lands-stay false w a f ok = absurd ok
+  apart-stays : (sends : Bool) (w : World) (m : Move) (f : Option Fuse) → (next_of w m).primary ≡ (fields_at w.control (target m)).primary → is_synced (next_of w m) ≡ is_synced (fields_at w.control (target m)) → is_locked (next_of w m) ≡ is_locked (fields_at w.control (target m))
+      → Apart sends w → Apart sends (done w m f)
+  apart-stays true w m f primary synced locked k = global-stays w m f primary k
+  apart-stays false w m f primary synced locked k = (part-same w m f is_synced synced v ∙ k.0, part-same w m f is_locked locked v ∙ k.1)
 
   module _ (sends : Bool) where
-    abbrev Comes : List Entry → Type 0
-    Comes = AllFine anywhere (LandsAct sends) whatever
+    abbrev Ok : World → Act → Type 0
+    Ok = Leaves (Apart sends)
 
-    apart-fairly : (ds : List Entry) → Comes ds → (w : World) → Between w → Apart sends w → Along w ds → Fairly Fin None w ds
-    apart-fairly ds fine w k j al =
-        entries-fairly Fin (λ w r. fin w (Some r)) (Apart sends) Sound (LandsAct sends) whatever whatever (λ r why. why) (lands-keep sends) (lands-stay sends) (λ w b sound. fin w None b) ds w k j (from-all anywhere (LandsAct sends) whatever whatever (λ r why. why) w tt ds fine) al
+    abbrev Comes : List Entry → Type 0
+    Comes = AllFine (Apart sends) Ok whatever
+
+    keep-ok : (x q : ℕ) (w : World) → Apart sends w → Ok w (Make (Keep x q))
+    keep-ok x q w k = ((tt, tt, refl), λ f. apart-stays sends w (Keep x q) f refl refl refl k)
+
+    note-ok : (x q : ℕ) (w : World) → Apart sends w → Ok w (Make (Note x q))
+    note-ok x q w k = ((tt, tt, refl), λ f. apart-stays sends w (Note x q) f refl refl refl k)
 
     alone-comes : (volumes : List ℕ) → Comes (land_alone volumes n v t)
-    alone-comes volumes = fine-append anywhere (LandsAct sends) whatever (copy_first volumes v t) _ (copies-fine anywhere (LandsAct sends) whatever (λ u q w any. tt) (λ u q w any. tt) volumes v t)
-        (fine-one anywhere (LandsAct sends) whatever (land_on n v t) (λ w any. by w (fields_at w.control v).related))
+    alone-comes volumes = fine-append (Apart sends) Ok whatever (copy_first volumes v t) _ (copies-fine (Apart sends) Ok whatever keep-ok note-ok volumes v t) (fine-one (Apart sends) Ok whatever (land_on n v t) (λ w k. by w k (fields_at w.control v).related))
       where
-        by : (w : World) (b : Bool) → LandsAct sends w (Make (cond b (Overwrite n v t) (Land n v t)))
-        by w true = tt
-        by w false = refl
+        by : (w : World) → Apart sends w → (b : Bool) → Ok w (Make (cond b (Overwrite n v t) (Land n v t)))
+        by w k true = ((tt, tt, refl), λ f. apart-stays sends w (Overwrite n v t) f refl refl refl k)
+        by w k false = let off : Apart false w = apart sends w k in ((off.1, off.0, refl), λ f. apart-stays sends w (Land n v t) f refl refl refl k)
+
+    apart-fairly : (ds : List Entry) → Comes ds → (w : World) → Between w → Apart sends w → Along w ds → Fairly Fin None w ds
+    apart-fairly ds fine w k j al = leaves-fairly Fin fin (Apart sends) ds w k j (from-all (Apart sends) Ok whatever whatever (λ r why. why) w j ds fine) al
 
   alone : (volumes : List ℕ) (w : World) → Between w → Apart false w → Along w (land_alone volumes n v t) → Fairly Fin None w (land_alone volumes n v t)
   alone volumes = apart-fairly false (land_alone volumes n v t) (alone-comes false volumes)
 
   module _ (u : ℕ) where
-    sent-one : (d : Entry) → ((w : World) → anywhere w → Fine anywhere (LandsAct true) whatever w (d w.control)) → (w : World) → anywhere w → Fine anywhere (LandsAct true) whatever w (where_sent v u t d w.control)
-    sent-one d one w any = fine-if anywhere (LandsAct true) whatever w (sends_first v u t w.control) (d w.control) Pass (one w any) tt
+    abbrev Sent : Entry → Type 0
+    Sent d = (w : World) → Apart true w → Fine (Apart true) (Ok true) whatever w (d w.control)
+
+    sent-one : (d : Entry) → Sent d → Sent (where_sent v u t d)
+    sent-one d one w k = fine-if (Apart true) (Ok true) whatever w (sends_first v u t w.control) (d w.control) Pass (one w k) tt
+
+    unlocked : (w : World) → Apart true w → is_locked (fields_at w.control v) ≡ true → ⊥
+    unlocked w k locked = false_true (apart true w k).1 locked
 
     sent-comes : (xs : List ℕ) → Comes true (map (where_sent v u t) (map (keep_on u t) xs ++ store_on v u t ∷ strike_on v t ∷ []))
-    sent-comes [] = fine-then anywhere (LandsAct true) whatever (where_sent v u t (store_on v u t)) _ (sent-one (store_on v u t) (λ w any. refl)) (fine-one anywhere (LandsAct true) whatever (where_sent v u t (strike_on v t)) (sent-one (strike_on v t) (λ w any. (refl, refl))))
-    sent-comes (x ∷ xs) = fine-then anywhere (LandsAct true) whatever (where_sent v u t (keep_on u t x)) _ (sent-one (keep_on u t x) (keep-fine anywhere (LandsAct true) whatever (λ y q w any. tt) (λ y q w any. tt) u t x)) (sent-comes xs)
+    sent-comes [] = fine-then (Apart true) (Ok true) whatever (where_sent v u t (store_on v u t)) _ (sent-one (store_on v u t) (λ w k. ((λ locked. absurd (unlocked w k locked), tt, refl), λ f. global-stays w (Store u t v (is_last (fields_at w.control v) t)) f refl k)))
+        (fine-one (Apart true) (Ok true) whatever (where_sent v u t (strike_on v t)) (sent-one (strike_on v t) (λ w k. ((λ locked. absurd (unlocked w k locked), refl, refl), λ f. global-stays w (Strike v t (is_last (fields_at w.control v) t)) f refl k))))
+    sent-comes (x ∷ xs) = fine-then (Apart true) (Ok true) whatever (where_sent v u t (keep_on u t x)) _ (sent-one (keep_on u t x) (keep-fine (Apart true) (Ok true) whatever (keep-ok true) (note-ok true) u t x)) (sent-comes xs)
 
     collided : (volumes : List ℕ) (w : World) → Between w → Apart true w → Along w (send_first volumes v u t ++ land_alone volumes n v t) → Fairly Fin None w (send_first volumes v u t ++ land_alone volumes n v t)
-    collided volumes = apart-fairly true _ (fine-append anywhere (LandsAct true) whatever (send_first volumes v u t) (land_alone volumes n v t)
-        (fine-then anywhere (LandsAct true) whatever (suspend_where (send_refusal v u) v) _ (where-fine anywhere (LandsAct true) whatever (λ j. is_some (send_refusal v u j)) (Make (Suspend v false)) (λ w any so. tt)) (sent-comes volumes)) (alone-comes true volumes))
+    collided volumes = apart-fairly true _ (fine-append (Apart true) (Ok true) whatever (send_first volumes v u t) (land_alone volumes n v t)
+        (fine-then (Apart true) (Ok true) whatever (suspend_where (send_refusal v u) v) _
+        (where-fine (Apart true) (Ok true) whatever (λ j. is_some (send_refusal v u j)) (Make (Suspend v false)) (λ w k so. ((tt, tt, refl), λ f. global-stays w (Suspend v false) f refl k))) (sent-comes volumes)) (alone-comes true volumes))
 
   -- it is stored on the secondary, and the track is out of sync until it has landed
   record Both (tag : Option ℕ) (w : World) : Type 0 where
