@@ -5,7 +5,6 @@ use Rattle.dr_ids.specs.declared.refusal.Refusal.{Refusal}
 use Rattle.dr_ids.specs.declared.refusal.Refusal.TheVariants.{Stopped as StoppedIn}
 use Rattle.dr_model.specs.declared.said.Said.{Said}
 use Rattle.dr_model.specs.Answers.{answer}
-use Rattle.dr_model.specs.Histories.{histories}
 use Rattle.dr_model.specs.Control.{Control, World}
 use Rattle.dr_model.specs.Carry.{Act, Entry, carry}
 use Rattle.dr_model.specs.Plans.{Plan, same, none_follow, entries_plan}
@@ -23,7 +22,7 @@ use Rattle.dr_laws_sound.proofs.GoesOn.{goes-same}
 use Rattle.dr_laws_sound.proofs.Steps.{sound-said}
 use Rattle.dr_laws_freezes.proofs.Fair.{Unacked}
 use Rattle.dr_laws_freezes.proofs.Tidy.{tidy-same, fresh-told}
-use Rattle.dr_laws_freezes.proofs.Chains.{ended, Fairly, fairly-nil, EndFin, PlanFin, PlanFair, Leaves, good-none, told-unchanged, retabled-none}
+use Rattle.dr_laws_freezes.proofs.Chains.{ended, Fairly, fairly-nil, EndFin, PlanFin, PlanFair, Leaves, good-none}
 use Rattle.dr_laws_freezes.proofs.FairPlans.{Between, KeepsPairs, entries-fairly}
 use Rattle.dr_laws_freezes.proofs.FairTables.{Begins}
 
@@ -53,23 +52,15 @@ begun-between w k = record {
   tidy = tidy-same w (as_begun w) refl refl (λ j h. h) (fresh-told w (as_begun w) [] refl refl k.tidy.fresh.unacked (λ n. refl) k.tidy.fresh) k.tidy;
 }
 
--- a plan of entries
-module _ (w : World) (k : Between w) (entries : List Entry) (a : Said) where
-  abbrev p : Plan
-  p = entries_plan entries a
+-- what is to be shown of a plan's entries
+abbrev pub EntriesFair : World → Plan → Type 0
+EntriesFair w p = Fairly (PlanFin Between rows-between answers-between p) None (begun w p) p.entries
 
-  pub fin : (u : World) (r : Option Refusal) → Between u → PlanFin Between rows-between answers-between p None u r
-  fin u None b = b
-  fin u (Some (StoppedIn s)) b = fairly-nil (EndFin Between rows-between answers-between) None u (good-none u b.sound.rows) b
-  fin u (Some r) b = b
-
-  pub entries-fair : Fairly (PlanFin Between rows-between answers-between p) None (as_begun w) entries → Fair w p
-  entries-fair fairly = record {
-    told = [];
-    begins = told-unchanged w (as_begun w) [] refl tt (ap histories (append-nil w.events)) refl refl refl refl (λ v t. refl);
-    entries = fairly;
-    last = retabled-none;
-  }
+-- how the entries of a plan end that is nothing but them
+pub fin : (entries : List Entry) (a : Said) (u : World) (r : Option Refusal) → Between u → PlanFin Between rows-between answers-between (entries_plan entries a) None u r
+fin entries a u None b = b
+fin entries a u (Some (StoppedIn s)) b = fairly-nil (EndFin Between rows-between answers-between) None u (good-none u b.sound.rows) b
+fin entries a u (Some r) b = b
 
 -- ---- plans
 
@@ -90,15 +81,13 @@ module _ (w : World) (k : Between w) (p : Plan) (begins : Begins w (begun w p) p
       subst (λ j. Sound (record u { control = j })) (last u.control)
       (subst (λ ds. Sound (finish p (carry u ds).0 (carry u ds).1)) none (along.plan-keeps Sound RowsAt MayDo keeps-sound (λ v s. s.rows) w p holds))
 
+  pub fair-by : EntriesFair w p → Fair w p
+  fair-by fairly = record { told = p.told; begins = begins.unchanged; entries = fairly; last = leaves }
+
   pub fair-tables : StepHolds w p → NoneOn → p.entries ≡ [] → ((j : Control) → p.last j ≡ j) → Fair w p
   fair-tables holds on none last =
       let b : Between u = record { sound = sound-tables holds none last; tidy = begins.tidy on } in
-      record {
-        told = p.told;
-        begins = begins.unchanged;
-        entries = subst (Fairly Fins None u) (sym none) (fairly-nil Fins None u (good-none u b.sound.rows) (subst (λ j. Between (record u { control = j })) (sym (last u.control)) b));
-        last = leaves;
-      }
+      fair-by (subst (Fairly Fins None u) (sym none) (fairly-nil Fins None u (good-none u b.sound.rows) (subst (λ j. Between (record u { control = j })) (sym (last u.control)) b)))
 
   -- of entries that come where they may
   module _ (on : NoneOn) (orders : Orders w p) (follow : (s : ℕ) (v : World) → Between v → Fairly (EndFin Between rows-between answers-between) None v (p.follows s)) where
@@ -124,7 +113,7 @@ module _ (w : World) (k : Between w) (p : Plan) (begins : Begins w (begun w p) p
 
     pub fair-entries : (Ok : World → Act → Type 0) (First Why : Refusal → Type 0) → ((r : Refusal) → Why r → First r) → ((v : World) (a : Act) → Ok v a → KeepsPairs v a) → FineFrom anywhere Ok First Why u p.entries → Fair w p
     fair-entries Ok First Why reasons keeps fine =
-        record { told = p.told; begins = begins.unchanged; entries = entries-fairly Fins refused anywhere anywhere orders.ends Ok First Why reasons (λ v any. tt) (λ v a ok any. keeps v a ok) (λ v a f ok any. tt) ended_well p.entries u first-between tt fine orders.entries; last = leaves }
+        fair-by (entries-fairly Fins refused anywhere anywhere orders.ends Ok First Why reasons (λ v any. tt) (λ v a ok any. keeps v a ok) (λ v a f ok any. tt) ended_well p.entries u first-between tt fine orders.entries)
 
 -- a plan of entries that are allowed along
 pub alone : (w : World) → Sound w → (entries : List Entry) (says : Control → Said) → Along (as_begun w) entries → Orders w (record { first = same; told = []; entries = entries; follows = none_follow; last = same; says = says })

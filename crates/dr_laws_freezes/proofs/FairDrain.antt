@@ -26,12 +26,10 @@ use Rattle.dr_laws_sound.proofs.FitsPairs.{row, runs-done, part-same}
 use Rattle.dr_laws_sound.proofs.FitsDrain.{along-drain}
 use Rattle.dr_laws_freezes.proofs.Fair.{is_locked}
 use Rattle.dr_laws_freezes.proofs.Tidy.{is_synced}
-use Rattle.dr_model.specs.Histories.{histories}
-use Rattle.std.proofs.lemmas.List.{append-nil}
-use Rattle.dr_laws_freezes.proofs.Chains.{Fairly, fairly-entry, fairly-nil, good-none, PlanFin, told-unchanged, retabled-none}
+use Rattle.dr_laws_freezes.proofs.Chains.{Fairly, fairly-entry, fairly-nil, good-none, PlanFin}
 use Rattle.dr_laws_freezes.proofs.FairPlans.{Between, move-fairly, fairly-check, fairly-refuse}
 use Rattle.dr_laws_freezes.proofs.FairWithin.{Keeps, copies-fairly, within-between, after-fairly}
-use Rattle.dr_laws_freezes.proofs.FairCases.{rows-between, answers-between, begun-between, Fair}
+use Rattle.dr_laws_freezes.proofs.FairCases.{rows-between, answers-between, begun-between, EntriesFair}
 use Rattle.dr_logic.proofs.Choices.{chosen, choose_some}
 use Rattle.dr_facts.proofs.Tables.{at_part}
 use Rattle.dr_logic.proofs.Truth.{false_true}
@@ -177,19 +175,13 @@ module _ (w : World) (k : Between w) (a : ℕ) (most : Option ℕ) where
   pending-going FullDuplex h = absurd cc
   pending-going Suspended h = absurd cc
 
-  pub fair-drain : Fair w p
+  pub fair-drain : EntriesFair w p
   fair-drain =
       let u : World = as_begun w in
       let b : Between u = begun-between w k in
-      record {
-        told = [];
-        begins = told-unchanged w u [] refl tt (ap histories (append-nil w.events)) refl refl refl refl (λ v t. refl);
-        entries =
-            fairly-check Fins fins u b (is_defined a) _ _ (along-drain w k.sound a most) (λ there al.
-            fairly-check Fins fins u b (is_running a) _ _ al (λ on al.
-            fairly-check Fins fins u b (is_copying a) _ _ al (λ copying al.
-            let both = and_parts (is_part (fields_at w.control a).primary) _ copying in
-            sends-all Fins fins w.control.volumes a (fields_at w.control a).primary_partner (tracks_to_send most (w.control.volume a).tracks (fields_at w.control a).out_of_sync) u b
-            (record { on = on; there = there; to = choose_some (is_part (fields_at w.control a).primary) (fields_at w.control a).primary_partner both.0; going = pending-going (fields_at w.control a).primary_state both.1 }) al)));
-        last = retabled-none;
-      }
+      fairly-check Fins fins u b (is_defined a) _ _ (along-drain w k.sound a most) (λ there al.
+      fairly-check Fins fins u b (is_running a) _ _ al (λ on al.
+      fairly-check Fins fins u b (is_copying a) _ _ al (λ copying al.
+      let both = and_parts (is_part (fields_at w.control a).primary) _ copying in
+      sends-all Fins fins w.control.volumes a (fields_at w.control a).primary_partner (tracks_to_send most (w.control.volume a).tracks (fields_at w.control a).out_of_sync) u b
+      (record { on = on; there = there; to = choose_some (is_part (fields_at w.control a).primary) (fields_at w.control a).primary_partner both.0; going = pending-going (fields_at w.control a).primary_state both.1 }) al)))

@@ -21,7 +21,7 @@ use Rattle.dr_laws_sound.proofs.FitsFlash.{as_begun}
 use Rattle.dr_laws_sound.proofs.FitsPairs.{along-pair, row}
 use Rattle.dr_laws_freezes.proofs.Chains.{Fairly, fairly-nil, PlanFin, good-none}
 use Rattle.dr_laws_freezes.proofs.FairPlans.{Between, move-fairly, fairly-check, fairly-refuse}
-use Rattle.dr_laws_freezes.proofs.FairCases.{rows-between, answers-between, begun-between, Fair, fin, entries-fair}
+use Rattle.dr_laws_freezes.proofs.FairCases.{rows-between, answers-between, begun-between, EntriesFair, fin}
 use Rattle.dr_logic.proofs.Tables.{at_other}
 
 -- the two moves that make a pair
@@ -56,7 +56,7 @@ module _ (w : World) (k : Between w) (devs : Devs) (a b : ℕ) (kind : Part) (ch
   start = as_begun w
 
   fins : (u : World) (r : Option Refusal) → Between u → Fins None u r
-  fins = fin w k entries (Done Alone)
+  fins = fin entries (Done Alone)
 
   checked : (ok : Control → Bool) (r : Refusal) (ds : List Entry) → (Along start ds → Fairly Fins None start ds) → Along start (check ok r ∷ ds) → Fairly Fins None start (check ok r ∷ ds)
   checked ok r ds go al = fairly-check Fins fins start (begun-between w k) ok r ds al (λ h. go)
@@ -64,8 +64,8 @@ module _ (w : World) (k : Between w) (devs : Devs) (a b : ℕ) (kind : Part) (ch
   refusing : (why : Control → Option Refusal) (ds : List Entry) → (Along start ds → Fairly Fins None start ds) → Along start (refuse_if why ∷ ds) → Fairly Fins None start (refuse_if why ∷ ds)
   refusing why ds go al = fairly-refuse Fins fins start (begun-between w k) why ds al (λ h. go)
 
-  pub fair-pair : is_part kind ≡ true → Fair w (make_pair_plan w.control w.events devs a b kind choices)
-  fair-pair part = entries-fair w k entries (Done Alone)
-      (checked (is_defined a) _ _ (checked (is_defined b) _ _ (checked (is_owner devs.dev a) _ _ (checked (is_owner devs.remotedev b) _ _ (checked (is_running a) _ _ (refusing (reach_refusal a b) _
+  pub fair-pair : is_part kind ≡ true → EntriesFair w (make_pair_plan w.control w.events devs a b kind choices)
+  fair-pair part =
+      checked (is_defined a) _ _ (checked (is_defined b) _ _ (checked (is_owner devs.dev a) _ _ (checked (is_owner devs.remotedev b) _ _ (checked (is_running a) _ _ (refusing (reach_refusal a b) _
       (checked (two_servers a b) _ _ (checked (share_size a b) _ _ (checked (stands_free a) _ _ (checked (may_follow a b) _ _ (checked (is_no_target a) _ _ (checked (is_no_target b) _ _ (checked (is_settled b) _ _ (refusing (differs_at _) _
-      (makes Fins fins a b kind choices.full start (begun-between w k))))))))))))))) (along-pair w k.sound devs a b kind choices part))
+      (makes Fins fins a b kind choices.full start (begun-between w k))))))))))))))) (along-pair w k.sound devs a b kind choices part)

@@ -22,7 +22,6 @@ use Rattle.dr_model.specs.Plans.{Plan, acknowledge_on, acknowledge_if, start_pla
 use Rattle.dr_model.specs.Runs.{begun}
 use Rattle.dr_model.specs.Laws.{servers}
 use Rattle.dr_model.specs.Allowed.{Runs}
-use Rattle.dr_model.proofs.Images.{histories-append}
 use Rattle.dr_laws_closed.proofs.Pendings.{each-on}
 use Rattle.dr_facts.proofs.Tables.{IsOrNot, at_cases, at_part}
 use Rattle.dr_laws_sound.proofs.Turns.{done, done_in_stop, not_done, fused}
@@ -30,9 +29,9 @@ use Rattle.dr_laws_sound.proofs.FitsPairs.{row}
 use Rattle.dr_laws_sound.proofs.Starts as starts
 use Rattle.dr_laws_freezes.proofs.Fair.{Unacked, come}
 use Rattle.dr_laws_freezes.proofs.Tidy.{Clean, Free, free-left, clean-left, Fresh, Tidy, fresh-by, fresh-told, fresh-done, fresh-stop, all-other, above}
-use Rattle.dr_laws_freezes.proofs.Chains.{Fairly, fairly_next, fairly-entry, fairly-nil, PlanFin, EndFin, good-none, told-unchanged, retabled-none}
+use Rattle.dr_laws_freezes.proofs.Chains.{Fairly, fairly_next, fairly-entry, fairly-nil, PlanFin, EndFin, good-none}
 use Rattle.dr_laws_freezes.proofs.FairPlans.{Between}
-use Rattle.dr_laws_freezes.proofs.FairCases.{rows-between, answers-between, Fair}
+use Rattle.dr_laws_freezes.proofs.FairCases.{rows-between, answers-between, EntriesFair}
 use Rattle.dr_facts.proofs.Tracks.{bare-has}
 use Rattle.dr_logic.proofs.Tables.{at_same, at_other}
 
@@ -188,20 +187,15 @@ module _ (s : ℕ) where
     volumes-go [] w g = acknowledges w g
     volumes-go (v ∷ vs) w g = redoes w v (v ∷ vs) (restart_on s v ∷ (start_entries s vs ++ acknowledge_on s ∷ [])) g (λ k g. restarts k v vs (start_entries s vs ++ acknowledge_on s ∷ []) g (λ k g. volumes-go vs k g))
 
-    pub fair-start : Between w0 → Fair w0 p
+    pub fair-start : Between w0 → EntriesFair w0 p
     fair-start k =
         let u : World = begun w0 p in
-        record {
-          told = Started s ∷ [];
-          begins = told-unchanged w0 u (Started s ∷ []) refl (tt, tt) (histories-append w0.events (Started s ∷ [])) refl refl refl refl (λ v t. refl);
-          entries = volumes-go w0.control.volumes u (record {
-            inner = starts.begins s w0 k.sound;
-            clean = λ v there runs none. elim (eqb_tells (servers w0.control v) s) [
-              | inl own ↦ absurd (false≢true (sym (none own.1) ∙ there))
-              | inr apart ↦ k.tidy.clean v there (sym (at_other w0.control.on s true (servers w0.control v) apart.1) ∙ runs)
-            ];
-            free = k.tidy.free;
-            fresh = fresh-told w0 u (Started s ∷ []) refl refl k.tidy.fresh.unacked (λ n. refl) k.tidy.fresh;
-          });
-          last = retabled-none;
-        }
+        volumes-go w0.control.volumes u (record {
+          inner = starts.begins s w0 k.sound;
+          clean = λ v there runs none. elim (eqb_tells (servers w0.control v) s) [
+            | inl own ↦ absurd (false≢true (sym (none own.1) ∙ there))
+            | inr apart ↦ k.tidy.clean v there (sym (at_other w0.control.on s true (servers w0.control v) apart.1) ∙ runs)
+          ];
+          free = k.tidy.free;
+          fresh = fresh-told w0 u (Started s ∷ []) refl refl k.tidy.fresh.unacked (λ n. refl) k.tidy.fresh;
+        })

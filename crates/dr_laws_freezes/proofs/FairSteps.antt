@@ -32,8 +32,8 @@ use Rattle.dr_laws_freezes.proofs.Begun.{lines-beside, leaves}
 use Rattle.dr_laws_freezes.proofs.Windows.{Chain, freeze-cut}
 use Rattle.dr_laws_freezes.proofs.Chains.{run-chain, EndFin, retabled-none}
 use Rattle.dr_laws_freezes.proofs.FairPlans.{Between, KeepsPairs, entries-fairly}
-use Rattle.dr_laws_freezes.proofs.FairTables.{beside-begins, case-begins}
-use Rattle.dr_laws_freezes.proofs.FairCases.{rows-between, answers-between, loses-between, Fair, fair-tables, fair-entries, alone}
+use Rattle.dr_laws_freezes.proofs.FairTables.{Begins, beside-begins, case-begins}
+use Rattle.dr_laws_freezes.proofs.FairCases.{rows-between, answers-between, loses-between, Fair, EntriesFair, fair-by, fair-tables, fair-entries, alone}
 use Rattle.dr_laws_freezes.proofs.FairPairs.{fair-pair}
 use Rattle.dr_laws_freezes.proofs.FairCopy.{fair-copy}
 use Rattle.dr_laws_freezes.proofs.FairDrain.{fair-drain}
@@ -108,39 +108,42 @@ module _ (w : World) (k : Between w) (line : ℕ) where
       (Acts w.control asked) NoStop (Late asked) (λ r why. why.why) keeps does.entries
 
   pub fair-case : (asked : Result Step ℕ) (p : Plan) → Case w.control w.events line asked p → Fair w p
-  fair-case asked p c = by asked p c (fair-acts asked p c) (fair-tables w k p (case-begins w k.tidy line asked p c) (leaves w.control w.events line asked p c) (case-holds w k.sound line asked p c))
+  fair-case asked p c =
+      let begins : Begins w (begun w p) p.told = case-begins w k.tidy line asked p c in
+      let last = leaves w.control w.events line asked p c in
+      by asked p c (fair-by w k p begins last) (fair-acts asked p c) (fair-tables w k p begins last (case-holds w k.sound line asked p c))
     where
-      by : (asked : Result Step ℕ) (p : Plan) → Case w.control w.events line asked p → (lands_tracks asked ≡ false → Orders w p → Fair w p) → (((j : ℕ) → (begun w p).control.on j ≡ true → w.control.on j ≡ true) → p.entries ≡ [] → ((j : Control) → p.last j ≡ j) → Fair w p) → Fair w p
-      by _ _ (Writes v t offset len bytes free) acts tables = fair-writes w k v t offset len bytes free
-      by _ _ (Applies n p found) acts tables = fair-applies w k n p found
-      by _ _ (Starts s off) acts tables = fair-start s w k
-      by _ _ (Copies t most) acts tables = fair-copy w k t most
-      by _ _ (MakesPair devs a b kind choices part) acts tables = fair-pair w k devs a b kind choices part
-      by _ _ (Drains a most) acts tables = fair-drain w k a most
-      by _ _ (MakesFlash dev v t freeze choices) acts tables = acts refl (alone w k.sound _ _ (along-flash w k.sound dev v t freeze choices))
-      by _ _ (RemovesFlash dev v t) acts tables = acts refl (alone w k.sound _ _ (along-withdraw w k.sound dev v t))
-      by _ _ (ResyncsFlash dev v t sequence) acts tables = acts refl (alone w k.sound _ _ (along-resync w k.sound dev v t sequence))
-      by _ _ (ReversesFlash dev v t) acts tables = acts refl (alone w k.sound _ _ (along-reverse w k.sound dev v t))
-      by _ _ (DestagesCase v) acts tables = acts refl (alone w k.sound _ _ (along-destage w k.sound v))
-      by _ _ (RemovesPair devs a b source_only) acts tables = acts refl (alone w k.sound _ _ (along-remove w k.sound devs a b source_only))
-      by _ _ (PausesPair devs a b) acts tables = acts refl (alone w k.sound _ _ (along-pause w k.sound devs a b))
-      by _ _ (ResumesPair devs a b kind) acts tables = acts refl (alone w k.sound _ _ (along-resume w k.sound devs a b kind))
-      by _ _ (FailsOver devs b a kind) acts tables = acts refl (alone w k.sound _ _ (along-failover w k.sound devs b a kind))
-      by _ _ (FailsBack devs x y kind) acts tables = acts refl (alone w k.sound _ _ (along-failback w k.sound devs x y kind))
-      by _ _ (Compares contents v u) acts tables = fair-acts (Err 0) _ (Compares contents v u) refl (alone w k.sound _ _ (along-compare w k.sound contents v u))
-      by _ _ (Expires x on) acts tables = acts refl (alone w k.sound _ _ (lifts x w.control.volumes (as_begun w) (sound-begun w k.sound) on.1))
-      by _ _ (Freezes l m) acts tables = acts refl (alone w k.sound _ _ (freezes l m w.control.volumes (as_begun w) (sound-begun w k.sound)))
-      by _ _ (Unfreezes l m) acts tables = acts refl (alone w k.sound _ _ (thaws l m w.control.volumes (as_begun w) (sound-begun w k.sound)))
-      by _ _ (Releases l) acts tables = acts refl (alone w k.sound _ _ (releases l w.control.volumes (as_begun w) (sound-begun w k.sound)))
-      by _ _ (AddsMember i a c x joins) acts tables = acts refl (orders-added w k.sound i a c x joins)
-      by _ _ (RemovesMember i a x m found is idle on) acts tables = acts refl (orders-expelled w k.sound i a x m found is idle on)
-      by _ _ (Exchanges i server reply x r o allowed) acts tables = acts refl (orders-ordered w k.sound i server x r o allowed reply)
-      by _ _ (Delivers n m starts x r reaches) acts tables = acts refl (orders-delivered w k.sound n m starts x r reaches)
-      by _ _ (Recovers i x found on) acts tables = acts refl (alone w k.sound _ _ (along-recover w k.sound i x found on))
-      by _ _ (Settles i x m found here on free (Commits devs source sequence lets)) acts tables = acts refl (alone w k.sound _ _ (along-settle w k.sound i x found on free m here))
-      by _ _ (Settles i x m found here on free (Reverts devs source sequence t target own)) acts tables = acts refl (alone w k.sound _ _ (along-settle w k.sound i x found on free m here))
-      by _ _ (Stops s on) acts tables = tables (λ j. at_cases (λ j b. b ≡ true → w.control.on j ≡ true) w.control.on s false (λ h. absurd cc) (λ j ne h. h) j) refl (λ j. refl)
-      by _ _ c acts tables = tables (λ j h. h) refl (λ j. refl)
+      by : (asked : Result Step ℕ) (p : Plan) → Case w.control w.events line asked p → (EntriesFair w p → Fair w p) → (lands_tracks asked ≡ false → Orders w p → Fair w p) → (((j : ℕ) → (begun w p).control.on j ≡ true → w.control.on j ≡ true) → p.entries ≡ [] → ((j : Control) → p.last j ≡ j) → Fair w p) → Fair w p
+      by _ _ (Writes v t offset len bytes free) made acts tables = made (fair-writes w k v t offset len bytes free)
+      by _ _ (Applies n p found) made acts tables = made (fair-applies w k n p found)
+      by _ _ (Starts s off) made acts tables = made (fair-start s w k)
+      by _ _ (Copies t most) made acts tables = made (fair-copy w k t most)
+      by _ _ (MakesPair devs a b kind choices part) made acts tables = made (fair-pair w k devs a b kind choices part)
+      by _ _ (Drains a most) made acts tables = made (fair-drain w k a most)
+      by _ _ (MakesFlash dev v t freeze choices) made acts tables = acts refl (alone w k.sound _ _ (along-flash w k.sound dev v t freeze choices))
+      by _ _ (RemovesFlash dev v t) made acts tables = acts refl (alone w k.sound _ _ (along-withdraw w k.sound dev v t))
+      by _ _ (ResyncsFlash dev v t sequence) made acts tables = acts refl (alone w k.sound _ _ (along-resync w k.sound dev v t sequence))
+      by _ _ (ReversesFlash dev v t) made acts tables = acts refl (alone w k.sound _ _ (along-reverse w k.sound dev v t))
+      by _ _ (DestagesCase v) made acts tables = acts refl (alone w k.sound _ _ (along-destage w k.sound v))
+      by _ _ (RemovesPair devs a b source_only) made acts tables = acts refl (alone w k.sound _ _ (along-remove w k.sound devs a b source_only))
+      by _ _ (PausesPair devs a b) made acts tables = acts refl (alone w k.sound _ _ (along-pause w k.sound devs a b))
+      by _ _ (ResumesPair devs a b kind) made acts tables = acts refl (alone w k.sound _ _ (along-resume w k.sound devs a b kind))
+      by _ _ (FailsOver devs b a kind) made acts tables = acts refl (alone w k.sound _ _ (along-failover w k.sound devs b a kind))
+      by _ _ (FailsBack devs x y kind) made acts tables = acts refl (alone w k.sound _ _ (along-failback w k.sound devs x y kind))
+      by _ _ (Compares contents v u) made acts tables = fair-acts (Err 0) _ (Compares contents v u) refl (alone w k.sound _ _ (along-compare w k.sound contents v u))
+      by _ _ (Expires x on) made acts tables = acts refl (alone w k.sound _ _ (lifts x w.control.volumes (as_begun w) (sound-begun w k.sound) on.1))
+      by _ _ (Freezes l m) made acts tables = acts refl (alone w k.sound _ _ (freezes l m w.control.volumes (as_begun w) (sound-begun w k.sound)))
+      by _ _ (Unfreezes l m) made acts tables = acts refl (alone w k.sound _ _ (thaws l m w.control.volumes (as_begun w) (sound-begun w k.sound)))
+      by _ _ (Releases l) made acts tables = acts refl (alone w k.sound _ _ (releases l w.control.volumes (as_begun w) (sound-begun w k.sound)))
+      by _ _ (AddsMember i a c x joins) made acts tables = acts refl (orders-added w k.sound i a c x joins)
+      by _ _ (RemovesMember i a x m found is idle on) made acts tables = acts refl (orders-expelled w k.sound i a x m found is idle on)
+      by _ _ (Exchanges i server reply x r o allowed) made acts tables = acts refl (orders-ordered w k.sound i server x r o allowed reply)
+      by _ _ (Delivers n m starts x r reaches) made acts tables = acts refl (orders-delivered w k.sound n m starts x r reaches)
+      by _ _ (Recovers i x found on) made acts tables = acts refl (alone w k.sound _ _ (along-recover w k.sound i x found on))
+      by _ _ (Settles i x m found here on free (Commits devs source sequence lets)) made acts tables = acts refl (alone w k.sound _ _ (along-settle w k.sound i x found on free m here))
+      by _ _ (Settles i x m found here on free (Reverts devs source sequence t target own)) made acts tables = acts refl (alone w k.sound _ _ (along-settle w k.sound i x found on free m here))
+      by _ _ (Stops s on) made acts tables = tables (λ j. at_cases (λ j b. b ≡ true → w.control.on j ≡ true) w.control.on s false (λ h. absurd cc) (λ j ne h. h) j) refl (λ j. refl)
+      by _ _ c made acts tables = tables (λ j h. h) refl (λ j. refl)
 
   pub fair-ending : (p : Plan) → Ending w.control w.events line p → Fair w p
   fair-ending _ (OnePlan asked p c) = fair-case asked p c

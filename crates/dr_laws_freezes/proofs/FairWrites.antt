@@ -3,12 +3,10 @@
 use Rattle.std.proofs.Common.{ℕ, ◌≡◌, ◌<◌, ◌+◌, inl, inr, refl, ap, sym, ◌∙◌, subst, Bool, true, false, cond, not, ◌&&◌, ◌||◌, List, [], ◌∷◌, ◌++◌, append_assoc, map, filter, Option, Some, None}
 use Rattle.std.specs.List.{find}
 use Rattle.std.specs.FinSet.{contains}
-use Rattle.std.proofs.lemmas.List.{append-nil}
 use Rattle.std.proofs.lemmas.Bool.{and_parts, and_from, not-true, or_parts}
 use Rattle.std.proofs.lemmas.Bool.Decides.{eqb_tells}
 use Rattle.dr_ids.specs.declared.refusal.Refusal.{Refusal}
 use Rattle.dr_ids.specs.declared.refusal.Refusal.TheVariants.{Stopped as StoppedIn}
-use Rattle.dr_model.specs.declared.event.Event.TheVariants.{Issue}
 use Rattle.dr_model.specs.declared.state.PairState.{PairState}
 use Rattle.dr_model.specs.declared.state.PairState.TheVariants.{CopyPending, FullDuplex, Suspended}
 use Rattle.dr_model.specs.Histories.{histories}
@@ -35,12 +33,12 @@ use Rattle.dr_laws_sound.proofs.FitsWrites.{lands}
 use Rattle.dr_laws_freezes.proofs.Fair.{is_locked, Unacked}
 use Rattle.dr_laws_freezes.proofs.Tidy.{is_synced, Clean}
 use Rattle.dr_laws_freezes.proofs.Windows.{Good}
-use Rattle.dr_laws_freezes.proofs.Chains.{Fairly, fairly-nil, StopFin, EndFin, PlanFin, good-none, told-unchanged, retabled-none}
+use Rattle.dr_laws_freezes.proofs.Chains.{Fairly, fairly-nil, StopFin, EndFin, PlanFin, good-none}
 use Rattle.dr_laws_freezes.proofs.FairPlans.{Between, Leaves, leaves-fairly, move-fairly, fairly-check}
 use Rattle.dr_facts.proofs.Entries.{whatever, Fine, AllFine, fine-then, fine-one, fine-append, fine-if, from-all}
 use Rattle.dr_facts.proofs.SharedEntries.{where-fine, keep-fine, copies-fine}
-use Rattle.dr_laws_freezes.proofs.FairCases.{rows-between, answers-between, begun-between, Fair}
-use Rattle.dr_laws_freezes.proofs.FairTables.{issued-unchanged, issued-tidy}
+use Rattle.dr_laws_freezes.proofs.FairCases.{rows-between, answers-between, begun-between, EntriesFair}
+use Rattle.dr_laws_freezes.proofs.FairTables.{issued-tidy}
 use Rattle.dr_laws_freezes.proofs.FairDrain.{locked-synced}
 use Rattle.dr_model.specs.declared.state.Part.TheVariants.{Global}
 use Rattle.std.specs.Prelude.{is_some}
@@ -60,7 +58,7 @@ not-suspended Suspended h = absurd cc
 
 -- one that isn't long busy is locked where it is Full Duplex
 locked-busy : (f : Fields) → f.long_busy ≡ false → is_synced f ≡ false → is_locked f ≡ false
-locked-busy f calm off = by (is_metro f.primary) f.primary_state f.long_busy calm off
+locked-busy f not_busy off = by (is_metro f.primary) f.primary_state f.long_busy not_busy off
   where
     by : (m : Bool) (s : PairState) (b : Bool) → b ≡ false → (m && is_full_duplex s) ≡ false → (m && (is_full_duplex s || (is_suspended s && b))) ≡ false
     by true CopyPending b c h = refl
@@ -262,23 +260,23 @@ module _ (p : Pending) (Fin : Option ℕ → World → Option Refusal → Type 0
     left b = cond b [] (land_alone w.control.volumes n v t)
 
     parted-by : (h : Option Fuse) → Between (done w (Suspend v busy) h) → f.long_busy ≡ false → (b : Bool) → busy ≡ b → Along (done w (Suspend v busy) h) (left b) → Fairly Fin None (done w (Suspend v busy) h) (left b)
-    parted-by h z calm true is al = ends w (Suspend v busy) h z
-    parted-by h z calm false is al =
+    parted-by h z not_busy true is al = ends w (Suspend v busy) h z
+    parted-by h z not_busy false is al =
         let m : Move = Suspend v busy in
         let here : (done w m h).control.volume v ≡ row w m h = at_same w.control.volume v (row w m h) in
         let off : is_synced (fields_at (done w m h).control v) ≡ false = ap (λ (y : Volume). is_synced y.fields) here ∙ and-false (is_metro f.primary) in
-        alone w.control.volumes (done w m h) z (off, locked-busy (fields_at (done w m h).control v) (ap (λ (y : Volume). y.fields.long_busy) here ∙ (λ i. calm i || is i)) off) al
+        alone w.control.volumes (done w m h) z (off, locked-busy (fields_at (done w m h).control v) (ap (λ (y : Volume). y.fields.long_busy) here ∙ (λ i. not_busy i || is i)) off) al
 
     parted : f.long_busy ≡ false → Along w (land_parted w.control n v t) → Fairly Fin None w (land_parted w.control n v t)
-    parted calm al =
+    parted not_busy al =
         let m : Move = Suspend v busy in
         let first = comes w (now m) (left busy) (Do (Make m)) refl al in
-        move-fairly Fin fin w k (now m) m (left busy) refl first.0 tt tt refl (λ h z. parted-by h z calm busy refl (first.1 h z.sound))
+        move-fairly Fin fin w k (now m) m (left busy) refl first.0 tt tt refl (λ h z. parted-by h z not_busy busy refl (first.1 h z.sound))
 
     over-by : f.long_busy ≡ false → is_suspended f.primary_state ≡ false → (b : Bool) → Along w (cond b (land_parted w.control n v t) (land_mirrored w.control.volumes n v t (partner_of w.control v)))
         → Fairly Fin None w (cond b (land_parted w.control n v t) (land_mirrored w.control.volumes n v t (partner_of w.control v)))
-    over-by calm going true al = parted calm al
-    over-by calm going false al = mirrored w.control.volumes (partner_of w.control v) w k on going one al
+    over-by not_busy going true al = parted not_busy al
+    over-by not_busy going false al = mirrored w.control.volumes (partner_of w.control v) w k on going one al
 
     -- where it doesn't go over, it isn't Full Duplex: its tracks would be in sync
     not-synced : goes_over f t ≡ false → is_synced f ≡ false
@@ -331,22 +329,12 @@ module _ (q : Plan) (p : Pending) (k0 : Control) (follows : q.follows ≡ after_
   carried-fair w k one = landing-fair p Fins fins stops w k one
 
 module _ (w : World) (k : Between w) where
-  pub fair-writes : (v t offset len : ℕ) (bytes : List ℕ) → issue_refusal w.control v t ≡ None → Fair w (write_done w.control v t offset len bytes)
+  pub fair-writes : (v t offset len : ℕ) (bytes : List ℕ) → issue_refusal w.control v t ≡ None → EntriesFair w (write_done w.control v t offset len bytes)
   fair-writes v t offset len bytes free =
       let there = (may-issue w.control v t free).0 in
       let new : Pending = record { w = w.control.issued + 1; volume = v; track = t; landed = false } in
-      record {
-        told = Issue (w.control.issued + 1) v t offset len bytes ∷ [];
-        begins = issued-unchanged w k.tidy v t offset len bytes;
-        entries = carried-fair (write_done w.control v t offset len bytes) new w.control refl refl (issued w k.sound v t offset len bytes there.defined there.low)
-            (record { sound = sound-issued w k.sound v t offset len bytes there.defined there.low; tidy = issued-tidy w k.tidy v t offset len bytes }) (one-new w k.sound v t offset len bytes there.defined there.low);
-        last = retabled-none;
-      }
+      carried-fair (write_done w.control v t offset len bytes) new w.control refl refl (issued w k.sound v t offset len bytes there.defined there.low)
+      (record { sound = sound-issued w k.sound v t offset len bytes there.defined there.low; tidy = issued-tidy w k.tidy v t offset len bytes }) (one-new w k.sound v t offset len bytes there.defined there.low)
 
-  pub fair-applies : (n : ℕ) (p : Pending) → find (is_write n) w.control.pending ≡ Some p → Fair w (apply_done w.control p)
-  fair-applies n p found = record {
-    told = [];
-    begins = told-unchanged w (as_begun w) [] refl tt (ap histories (append-nil w.events)) refl refl refl refl (λ v t. refl);
-    entries = carried-fair (apply_done w.control p) p w.control refl refl (as_begun w) (begun-between w k) (found-alone n p w.control.pending found k.sound.queue.apart);
-    last = retabled-none;
-  }
+  pub fair-applies : (n : ℕ) (p : Pending) → find (is_write n) w.control.pending ≡ Some p → EntriesFair w (apply_done w.control p)
+  fair-applies n p found = carried-fair (apply_done w.control p) p w.control refl refl (as_begun w) (begun-between w k) (found-alone n p w.control.pending found k.sound.queue.apart)
