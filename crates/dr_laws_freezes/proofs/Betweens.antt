@@ -4,7 +4,7 @@ use Rattle.std.proofs.lemmas.Bool.{and_from}
 use Rattle.dr_ids.specs.declared.refusal.Refusal.{Refusal}
 use Rattle.dr_ids.specs.declared.refusal.Refusal.TheVariants.{Stopped as StoppedIn}
 use Rattle.dr_model.specs.Control.{World, nothing}
-use Rattle.dr_model.specs.Carry.{Act, Make, OpenAttempt, Redo, Acknowledge, Drop, EndFreeze, EndThaw, EndRecovery, Next, Pass, Do, End, Entry, Outcome, continue, go, carry}
+use Rattle.dr_model.specs.Carry.{Act, Make, OpenAttempt, Next, Pass, Do, End, Entry, Outcome, continue, go, carry}
 use Rattle.dr_model.specs.Plans.{Plan}
 use Rattle.dr_model.specs.Forming.{Part, after_part}
 use Rattle.dr_model.specs.Runs.{Task, course, begun, finish, carried_out, answered, after_plan, after_task, after_tasks, run}
@@ -26,12 +26,7 @@ module _ (Fin : Option ℕ → World → Option Refusal → Type 0) where
   counts-came : (w : World) (a : Act) (more : World → Outcome) → CountsFin Fin w a → Counts w a (λ t. Came (continue t.0 t.1 more))
   counts-came w (Make m) more fin = λ f. record { tag = None; fin = fin f }
   counts-came w (OpenAttempt v s n) more fin = λ f. record { tag = None; fin = fin f }
-  counts-came w (Redo v) more fin = tt
-  counts-came w (Acknowledge n) more fin = tt
-  counts-came w (Drop n) more fin = tt
-  counts-came w (EndFreeze l m) more fin = tt
-  counts-came w (EndThaw l m) more fin = tt
-  counts-came w (EndRecovery s n) more fin = tt
+  counts-came w a more fin = tt
 
   next-came : (tag : Option ℕ) (w : World) (x : Next) (more : World → Outcome) (then : Option ℕ → World → Type 0) → ((tag : Option ℕ) (v : World) → then tag v → Came (more v)) → fairly_next Fin tag w x then → Came (go w x more)
   next-came tag w Pass more then on a = on tag w a

@@ -85,11 +85,7 @@ pub act-runs : (tag : Option ℕ) (w : World) (a : Act) → Writes a → FairAct
 act-runs tag w (Make m) d fair = fair.0.runs
 act-runs tag w (OpenAttempt v s n) d fair = fair.runs
 act-runs tag w (Redo v) d fair = fair
-act-runs tag w (Acknowledge n) d fair = absurd d
-act-runs tag w (Drop n) d fair = absurd d
-act-runs tag w (EndFreeze l m) d fair = absurd d
-act-runs tag w (EndThaw l m) d fair = absurd d
-act-runs tag w (EndRecovery s n) d fair = absurd d
+act-runs tag w a d fair = absurd d
 
 -- what is to be shown of entries, where this holds of how they end
 module _ (Fin : Option ℕ → World → Option Refusal → Type 0) where
@@ -132,12 +128,7 @@ module _ (Fin : Option ℕ → World → Option Refusal → Type 0) where
         λ f. let c = fin f in Then tag None w (done_in_stop w m f) _ good (Stops m f (come w m fair.0) fair.1) (ends None _ _ (good_fin _ _ c) c)
     counts-chain tag w (OpenAttempt v s n) more go good fair fin =
         λ f. let c = fin f in let m : Move = Hold v s n true in Then tag None w (opened_in_stop w v s n f) _ good (Others None (done_in_stop w m f) _ (Stops m f (come-open w v s n fair) tt)) (ends None _ _ (good_fin _ _ c) c)
-    counts-chain tag w (Redo v) more go good fair fin = tt
-    counts-chain tag w (Acknowledge n) more go good fair fin = tt
-    counts-chain tag w (Drop n) more go good fair fin = tt
-    counts-chain tag w (EndFreeze l m) more go good fair fin = tt
-    counts-chain tag w (EndThaw l m) more go good fair fin = tt
-    counts-chain tag w (EndRecovery s n) more go good fair fin = tt
+    counts-chain tag w a more go good fair fin = tt
 
     next-chain : (tag : Option ℕ) (w : World) (x : Next) (more : World → List World) (go_on : World → Outcome) (then : Option ℕ → World → Type 0)
         → ((tag : Option ℕ) (v : World) → then tag v → Chain tag v (more v ++ rest (go_on v))) → Good tag w → fairly_next tag w x then → Chain tag w (on_next w x more ++ rest (go w x go_on))

@@ -47,13 +47,8 @@ module _ (w : World) (tidy : Tidy w) where
 
 act-fair : (w : World) (a : Act) → MayDo w a → KeepsPairs w a → FairAct None w a
 act-fair w (Make m) may keeps = (may, keeps.0)
-act-fair w (OpenAttempt v s n) may keeps = may
-act-fair w (Redo v) may keeps = may
 act-fair w (Acknowledge n) may keeps = absurd keeps
-act-fair w (Drop n) may keeps = may
-act-fair w (EndFreeze l m) may keeps = tt
-act-fair w (EndThaw l m) may keeps = tt
-act-fair w (EndRecovery s n) may keeps = tt
+act-fair w a may keeps = may
 
 act-none : (w : World) (a : Act) → KeepsPairs w a → act_tag a None ≡ None
 act-none w (Make m) keeps = keeps.2
