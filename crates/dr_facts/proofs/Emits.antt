@@ -1,6 +1,6 @@
 -- Which kinds of events each kind of move, and each act, emits: one row a kind. What holds of each event of these kinds holds of all that
 -- a move tells, also where the server stops in it.
-use Rattle.std.proofs.Common.{ℕ, ◌≡◌, refl, ap, ◌∙◌, sym, subst, Bool, true, false, cond, ◌||◌, ◌&&◌, List, [], ◌∷◌, ◌++◌, map, Option, Some, None}
+use Rattle.std.proofs.Common.{ℕ, ◌≡◌, refl, ap, ◌∙◌, sym, subst, Bool, true, false, cond, ◌||◌, List, [], ◌∷◌, ◌++◌, map, Some, None}
 use Rattle.std.proofs.lemmas.List.{append-nil, append_assoc}
 use Rattle.std.specs.List.{list_any, flat_map, fold}
 use Rattle.dr_model.specs.declared.event.Event.{Event}
@@ -9,7 +9,7 @@ use Rattle.dr_model.specs.Control.{Volume}
 use Rattle.dr_model.specs.Layout.{Tracks}
 use Rattle.dr_model.specs.Relations.{rest, in_order, is_bare, turned, given_up}
 use Rattle.dr_model.specs.Pairs.{is_suspended}
-use Rattle.dr_model.specs.Moves.{Move, Land, Overwrite, Keep, Relate, Withdraw, Fetch, Resync, Reverse, Restore, Release, Store, Suspend, TakeOver, Mirror, LandBoth, FlashHold, FlashFree, Lift, Hold, Seal, Leave, Flash, Commit, Revert, told, told_in_stop, told_blank, told_restored, told_freed}
+use Rattle.dr_model.specs.Moves.{Move, Land, Overwrite, Keep, Relate, Withdraw, Fetch, Resync, Reverse, Restore, Release, Store, Suspend, TakeOver, Mirror, LandBoth, FlashHold, FlashFree, Lift, Hold, Seal, Leave, Flash, Commit, Revert, told, told_in_stop, told_blank, told_restored}
 use Rattle.dr_model.specs.Carry.{Act, Make, OpenAttempt, Redo, Acknowledge, Drop, EndFreeze, EndThaw, EndRecovery}
 
 -- kinds of events
@@ -178,17 +178,23 @@ module _ (P : Event → Type 0) (L : List Event → Type 0) (lists : Lists P L) 
       by false = behind
 
 module _ (p : Tag → Bool) (L : List Event → Type 0) (lists : Lists (Of p) L) where
+  -- events that are known
+  known : (ks es : List Event) → all_tags p (map tag ks) ≡ true → L es → L (ks ++ es)
+  known [] es h behind = behind
+  known (k ∷ ks) es h behind = lists.more k (ks ++ es) (first-tag p (tag k) (map tag ks) h) (known ks es (rest-tags p (tag k) (map tag ks) h) behind)
+
+  -- none of these, or they
+  known-if : (b : Bool) (ks es : List Event) → all_tags p (map tag ks) ≡ true → L es → L (cond b ks [] ++ es)
+  known-if true ks es h behind = known ks es h behind
+  known-if false ks es h behind = behind
+
   suspended-onto : (none : Bool) (v : ℕ) (es : List Event) → p Suspends ≡ true → L es → L (cond none [] (Suspended v ∷ []) ++ es)
   suspended-onto true v es h behind = behind
   suspended-onto false v es h behind = lists.more (Suspended v) es h behind
 
-  freed-onto : (v : ℕ) (held : Bool) (es : List Event) → p Frees ≡ true → L es → L (told_freed v held ++ es)
-  freed-onto v true es h behind = lists.more (FlashFreed v) es h behind
-  freed-onto v false es h behind = behind
-
-  held-onto : (first : Bool) (v s n : ℕ) (es : List Event) → p Begins ≡ true → p Cuts ≡ true → L es → L (cond first (Begin s n ∷ Cut s n v ∷ []) (Cut s n v ∷ []) ++ es)
-  held-onto true v s n es begins cuts behind = lists.more (Begin s n) _ begins (lists.more (Cut s n v) es cuts behind)
-  held-onto false v s n es begins cuts behind = lists.more (Cut s n v) es cuts behind
+  held-onto : (first : Bool) (v s n : ℕ) (es : List Event) → all_tags p (Begins ∷ Cuts ∷ []) ≡ true → L es → L (cond first (Begin s n ∷ Cut s n v ∷ []) (Cut s n v ∷ []) ++ es)
+  held-onto true v s n es h behind = known (Begin s n ∷ Cut s n v ∷ []) es h behind
+  held-onto false v s n es h behind = known (Cut s n v ∷ []) es (rest-tags p Begins (Cuts ∷ []) h) behind
 
   ended : (v s n : ℕ) (own : Tracks) (es : List Event) → all_tags p (Blanks ∷ Restores ∷ []) ≡ true → L es → L (told_restored v s n own ++ es)
   ended v s n own es h behind =
@@ -196,33 +202,15 @@ module _ (p : Tag → Bool) (L : List Event → Type 0) (lists : Lists (Of p) L)
 
   -- what a move tells, and other events behind it
   pub told-onto : (m : Move) (u : Volume) (es : List Event) → all_tags p (emits m) ≡ true → L es → L (told m u ++ es)
-  told-onto (Land n v t) u es h behind = lists.more _ es (first-tag p Acks [] h) behind
-  told-onto (Overwrite n v t) u es h behind = lists.more _ es (first-tag p Acks [] h) behind
-  told-onto (Keep v t) u es h behind = lists.more _ es (first-tag p Copies [] h) behind
-  told-onto (Relate v s choices) u es h behind = lists.more _ es (first-tag p Sets [] h) behind
   told-onto (Withdraw v) u es h behind = blanked-onto (Of p) L lists v (in_order u.tracks (rest u.tracks u.fields.own)) es (λ t. first-tag p Blanks [] h) behind
-  told-onto (Fetch v t) u es h behind = lists.more _ es (first-tag p Copies [] h) behind
-  told-onto (Resync v sequence) u es h behind = lists.more _ es (first-tag p Sets [] h) behind
   told-onto (Reverse v None) u es h behind = ended v u.fields.source u.tracks (turned u.fields).own es (rest-tags p Leaves (Blanks ∷ Restores ∷ []) h) behind
   told-onto (Reverse v (Some a)) u es h behind =
       lists.more _ _ (first-tag p Leaves (Blanks ∷ Restores ∷ []) h) (ended v u.fields.source u.tracks (turned u.fields).own es (rest-tags p Leaves (Blanks ∷ Restores ∷ []) h) behind)
-  told-onto (Restore v t from) u es h behind = lists.more _ es (first-tag p Backs [] h) behind
   told-onto (Release v t) u es h behind = ended v u.fields.source u.tracks (given_up u.fields t).own es h behind
-  told-onto (Store v t from last) u es h behind = lists.more _ es (first-tag p Sends [] h) behind
   told-onto (Suspend v busy) u es h behind = suspended-onto (is_suspended u.fields.primary_state) v es (first-tag p Suspends [] h) behind
-  told-onto (TakeOver v) u es h behind = lists.more _ es (first-tag p Takes [] h) behind
-  told-onto (Mirror v t from n) u es h behind = lists.more _ es (first-tag p Mirrors [] h) behind
-  told-onto (LandBoth n v t) u es h behind = lists.more _ es (first-tag p Acks [] h) behind
-  told-onto (FlashHold v) u es h behind = lists.more _ es (first-tag p Holds [] h) behind
-  told-onto (FlashFree v) u es h behind = lists.more _ es (first-tag p Frees [] h) behind
-  told-onto (Lift v) u es h behind = freed-onto v u.fields.flash_hold es (first-tag p Frees [] h) behind
-  told-onto (Hold v s n first) u es h behind = held-onto first v s n es (first-tag p Begins (Cuts ∷ []) h) (first-tag p Cuts [] (rest-tags p Begins (Cuts ∷ []) h)) behind
-  told-onto (Seal v a s n) u es h behind = lists.more _ es (first-tag p Seals [] h) behind
-  told-onto (Leave v a s) u es h behind = lists.more _ es (first-tag p Leaves [] h) behind
-  told-onto (Flash v from a s n) u es h behind = lists.more _ es (first-tag p Flashes [] h) behind
-  told-onto (Commit v a s n) u es h behind = lists.more _ es (first-tag p Commits [] h) behind
-  told-onto (Revert v a s n) u es h behind = lists.more _ es (first-tag p Reverts [] h) behind
-  told-onto m u es h behind = behind
+  told-onto (Lift v) u es h behind = known-if u.fields.flash_hold (FlashFreed v ∷ []) es h behind
+  told-onto (Hold v s n first) u es h behind = held-onto first v s n es h behind
+  told-onto m u es h behind = known (told m u) es h behind
 
   -- and what it tells where its server stops
   pub stop-onto : (m : Move) (u : Volume) (es : List Event) → all_tags p (emits m) ≡ true → L es → L (told_in_stop m u ++ es)
@@ -236,3 +224,44 @@ module _ (p : Tag → Bool) (L : List Event → Type 0) (lists : Lists (Of p) L)
 
   pub each-stop : (m : Move) (u : Volume) → all_tags p (emits m) ≡ true → L (told_in_stop m u)
   each-stop m u h = subst L (append-nil (told_in_stop m u)) (stop-onto m u [] h lists.none)
+
+-- the end of a restore that a reversal tells, where it takes no volume out of a session
+pub each-ended : (p : Tag → Bool) (L : List Event → Type 0) → Lists (Of p) L → (v : ℕ) (u : Volume) → all_tags p (Blanks ∷ Restores ∷ []) ≡ true → L (told (Reverse v None) u)
+each-ended p L lists v u h = subst L (append-nil (told (Reverse v None) u)) (ended p L lists v u.fields.source u.tracks (turned u.fields).own [] h lists.none)
+
+-- ---- what any move emits
+
+-- kinds of events that some move emits
+abbrev pub by_moves : Tag → Bool
+by_moves Defines = false
+by_moves Issues = false
+by_moves Freezes = false
+by_moves Thaws = false
+by_moves Recovers = false
+by_moves Stops = false
+by_moves Answers = false
+by_moves Others = false
+by_moves k = true
+
+pub emitted : (m : Move) → all_tags by_moves (emits m) ≡ true
+emitted (Land n v t) = refl
+emitted m = refl
+
+module _ (L : List Event → Type 0) (lists : Lists (Of by_moves) L) where
+  pub all-told : (m : Move) (u : Volume) → L (told m u)
+  all-told m u = each-told by_moves L lists m u (emitted m)
+
+  pub all-stop : (m : Move) (u : Volume) → L (told_in_stop m u)
+  all-stop m u = each-stop by_moves L lists m u (emitted m)
+
+-- ---- a stop acknowledges nothing
+
+abbrev pub acks_none : Tag → Bool
+acks_none Acks = false
+acks_none k = true
+
+pub unacked-stop : (L : List Event → Type 0) → Lists (Of acks_none) L → (m : Move) (u : Volume) (es : List Event) → L es → L (told_in_stop m u ++ es)
+unacked-stop L lists (Land n v t) u es behind = behind
+unacked-stop L lists (Overwrite n v t) u es behind = behind
+unacked-stop L lists (LandBoth n v t) u es behind = behind
+unacked-stop L lists m u es behind = told-onto acks_none L lists m u es refl behind

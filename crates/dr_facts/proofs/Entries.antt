@@ -1,10 +1,11 @@
 -- Lists of entries of which each comes to acts that are so, in worlds that are so, and ends a plan for reasons that are so.
-use Rattle.std.proofs.Common.{ℕ, zero, suc, ◌≡◌, inl, inr, refl, ap, sym, ◌∙◌, subst, Bool, true, false, cond, List, [], ◌∷◌, ◌++◌, map, Option, Some, None}
+use Rattle.std.proofs.Common.{ℕ, zero, suc, ◌≡◌, inl, inr, refl, Bool, true, false, cond, List, [], ◌∷◌, ◌++◌, map, Option, Some, None}
 use Rattle.std.specs.List.{flat_map}
 use Rattle.std.specs.Option.{option_or}
 use Rattle.dr_model.specs.Groups.{In}
 use Rattle.dr_ids.specs.declared.refusal.Refusal.{Refusal}
 use Rattle.dr_ids.specs.declared.refusal.Refusal.TheVariants.{Stopped as StoppedIn}
+use Rattle.dr_model.specs.Refusals.{stopped}
 use Rattle.dr_model.specs.Control.{Control, World}
 use Rattle.dr_model.specs.Moves.{Move}
 use Rattle.dr_model.specs.Carry.{Act, Make, Drop, Turn, Next, Pass, Do, End, Entry, Outcome, act, continue, go, carry, now, check}
@@ -14,11 +15,11 @@ use Rattle.dr_model.specs.PlanParts.{Plan}
 use Rattle.dr_model.specs.Carried.{finish, begun, carried_out}
 
 -- in any world, and for any reason
-abbrev pub anywhere : World → Type 0
-anywhere w = Unit {0}
+abbrev pub any_world : World → Type 0
+any_world w = Unit {0}
 
-abbrev pub whatever : Refusal → Type 0
-whatever r = Unit {0}
+abbrev pub any_reason : Refusal → Type 0
+any_reason r = Unit {0}
 
 -- what is asked of a reason, if there is one
 abbrev pub WhyNot : (Refusal → Type 0) → Option Refusal → Type 0
@@ -170,6 +171,22 @@ module _ (K : World → Type 0) (Ok : World → Act → Type 0) (Why : Refusal �
     pub plan-kept : (w : World) (p : Plan) → J (begun w p) → AllFine p.entries → ((s : ℕ) → AllFine (p.follows s)) → ((v : World) → J v → J (record v { control = p.last v.control })) → J (carried_out w p).0
     plan-kept w p j entries follows last = finish-kept p (carry (begun w p) p.entries).0 (carry (begun w p) p.entries).1 follows last (carry-kept p.entries entries (begun w p) j)
 
+  -- how such entries are refused, where nothing needs to be known of worlds: for no reason, by a stop, or for such a reason
+  module _ (known : (w : World) → K w) (P : Option Refusal → Type 0) (well : P None) (stops : (s : ℕ) → P (Some (stopped s))) (ends : (r : Refusal) → Why r → P (Some r)) where
+    pub next-ends : (w : World) (x : Next) (next : World → Outcome) (more : Type 0) → FineThen w x more → (more → (v : World) → P (next v).1) → P (go w x next).1
+    next-ends w Pass next more fine rest = rest fine w
+    next-ends w (End r) next more fine rest = ends r fine
+    next-ends w (Do a) next more fine rest = by (act w a)
+      where
+        by : (t : Turn) → P (continue t.0 t.1 next).1
+        by (v, None) = rest fine.1 v
+        by (v, Some s) = stops s
+
+    pub carry-ends : (ds : List Entry) → AllFine ds → (w : World) → P (carry w ds).1
+    unfolding carry AllFine
+    carry-ends [] fine w = well
+    carry-ends (d ∷ ds) fine w = next-ends w (d w.control) (λ v. carry v ds) (AllFine ds) (fine w (known w)) (λ rest v. carry-ends ds rest v)
+
 -- what holds of fewer acts and reasons, in more worlds
 module _ (K J : World → Type 0) (Ok More : World → Act → Type 0) (Why Much : Refusal → Type 0) (known : (w : World) → J w → K w) (wider : (w : World) (a : Act) → J w → Ok w a → More w a) (reasons : (r : Refusal) → Why r → Much r) where
   next-wider : (w : World) (x : Next) (first more : Type 0) → J w → FineThen K Ok Why w x first → (first → more) → FineThen J More Much w x more
@@ -239,6 +256,18 @@ module _ (K : World → Type 0) (Ok : World → Act → Type 0) (First Why : Ref
     pub plan-from : (w : World) (p : Plan) → J (begun w p) → FineFrom (begun w p) p.entries → ((s : ℕ) → AllFine K Ok Why (p.follows s)) → ((v : World) → J v → J (record v { control = p.last v.control })) → J (carried_out w p).0
     plan-from w p j entries follows last =
         finish-kept K Ok Why J known keeps p (carry (begun w p) p.entries).0 (carry (begun w p) p.entries).1 follows last (from-kept p.entries (begun w p) entries j)
+
+  -- how they are refused
+  module _ (known : (w : World) → K w) (P : Option Refusal → Type 0) (well : P None) (stops : (s : ℕ) → P (Some (stopped s))) (early : (r : Refusal) → First r → P (Some r)) (ends : (r : Refusal) → Why r → P (Some r)) where
+    pub from-ends : (ds : List Entry) (w : World) → FineFrom w ds → P (carry w ds).1
+    unfolding carry FineFrom
+    from-ends [] w fine = well
+    from-ends (d ∷ ds) w fine = by (d w.control) (from-ends ds w) fine
+      where
+        by : (x : Next) → (FineFrom w ds → P (carry w ds).1) → FromThen w x (FineFrom w ds) (AllFine K Ok Why ds) → P (go w x (λ v. carry v ds)).1
+        by Pass on fine = on fine
+        by (End r) on fine = early r fine
+        by (Do a) on fine = next-ends K Ok Why known P well stops ends w (Do a) (λ v. carry v ds) (AllFine K Ok Why ds) fine (λ rest v. carry-ends K Ok Why known P well stops ends ds rest v)
 
 module _ (K J : World → Type 0) (Ok More : World → Act → Type 0) (Early First Why Much : Refusal → Type 0) (known : (w : World) → J w → K w) (wider : (w : World) (a : Act) → J w → Ok w a → More w a)
     (early : (r : Refusal) → Early r → First r) (reasons : (r : Refusal) → Why r → Much r) where

@@ -1,6 +1,6 @@
 -- Entries that several plans have, by the acts that they come to: what a source's targets keep, tracks that are sent, copied and taken back, host
 -- writes, starts, orders, recoveries. Acts and reasons are as in Entries.
-use Rattle.std.proofs.Common.{ℕ, ◌≡◌, inl, inr, refl, ap, Bool, true, false, cond, not, ◌&&◌, List, [], ◌∷◌, ◌++◌, map, Option, Some, None, is_some, nat_lt}
+use Rattle.std.proofs.Common.{ℕ, ◌≡◌, refl, Bool, true, false, cond, not, ◌&&◌, List, [], ◌∷◌, ◌++◌, map, Option, Some, None, is_some, nat_lt}
 use Rattle.std.specs.FinSet.{contains}
 use Rattle.dr_ids.specs.declared.refusal.Refusal.{Refusal}
 use Rattle.dr_ids.specs.declared.refusal.Decision.{Decision}
@@ -12,12 +12,12 @@ use Rattle.dr_model.specs.Control.{Control, World}
 use Rattle.dr_model.specs.Groups.{In}
 use Rattle.dr_model.specs.Phases as phases
 use Rattle.dr_model.specs.Moves.{Move, Land, Overwrite, Keep, Note, Fetch, Restore, Release, Store, Strike, Suspend, Unsync, Mirror, LandBoth, Restart, Hold, Free, Seal, Finish, Flash, Commit, Revert, RaiseAttempt, RaiseFloor, TakeOver, Unstage, FlashHold}
-use Rattle.dr_model.specs.Carry.{Act, Make, OpenAttempt, Redo, Acknowledge, EndRecovery, Next, Pass, Do, Entry, now}
+use Rattle.dr_model.specs.Carry.{Act, Make, OpenAttempt, Redo, Acknowledge, EndRecovery, Pass, Do, Entry, now}
 use Rattle.dr_model.specs.Entries.{fields_at, copies_from, keep_if, keep_on, copy_first, land_on, land_alone, give_back, lowest_held, lowest_missing, for_lowest, fetch_next, is_running}
-use Rattle.dr_model.specs.PairEntries.{send_refusal, suspend_where, refuse_if, flashed_refusal, store_on, strike_on, send_entries, sends, suspend_running, suspend_after, reach_refusal}
+use Rattle.dr_model.specs.PairEntries.{send_refusal, suspend_where, flashed_refusal, store_on, strike_on, send_entries, sends, suspend_running, suspend_after, reach_refusal}
 use Rattle.dr_model.specs.WriteEntries.{partner_of, is_grouped, land_mirrored, land_parted, is_parted, land_over, sends_first, where_sent, send_first, land_collided, land_entries, part_running, part_after, after_write, belongs, redo_on, restart_on, start_entries, flash_hold_on}
 use Rattle.dr_model.specs.Plans.{acknowledge_if, acknowledge_on, landed_on, hold_first, redo_now, destage_entries}
-use Rattle.dr_model.specs.SessionEntries.{last_of, hold_refusal, stale_refusal, hold_on, void_refusal, free_on, is_drained, seal_refusal, seal_on, is_flashed, flash_refusal, flash_on, is_committed, commit_refusal, commit_on, revert_on, is_past, finish_on, member_entries, order_entries, raise_attempt_on, raise_floor_on, add_entries}
+use Rattle.dr_model.specs.SessionEntries.{last_of, hold_refusal, stale_refusal, hold_on, void_refusal, free_on, seal_refusal, seal_on, is_flashed, flash_refusal, flash_on, is_committed, commit_refusal, commit_on, revert_on, is_past, finish_on, member_entries, order_entries, raise_attempt_on, raise_floor_on, add_entries}
 use Rattle.dr_model.specs.RecoveryPlans.{lets_commit, take_over_on, settle_on, end_recovery, recover_entries}
 use Rattle.dr_facts.proofs.Entries.{Fine, WhyNot, AllFine, fine-none, fine-then, fine-one, fine-now, fine-append, fine-each, fine-map, fine-flat, fine-choice, fine-if, fine-when, fine-found, fine-refuse}
 
@@ -59,12 +59,13 @@ module _ (K : World → Type 0) (Ok : World → Act → Type 0) (Why : Refusal �
   destage-fine (Some t) v redo unstage = fine-then K Ok Why (redo_now v) _ redo (last-move (Unstage v) unstage)
 
   -- a server that starts
+  pub starts-fine : (s : ℕ) (vs : List ℕ) → ((v : ℕ) → May (Redo v)) → ((v : ℕ) → May (Make (Restart v))) → All (start_entries s vs)
+  starts-fine s vs redo restart = fine-flat K Ok Why _ vs (λ v here.
+      fine-then K Ok Why (redo_on s v) _ (where-fine (λ k. belongs k s v) (Redo v) (λ w h so. redo v w h))
+      (fine-one K Ok Why (restart_on s v) (where-fine (λ k. belongs k s v && must_restart (fields_at k v)) (Make (Restart v)) (λ w h so. restart v w h))))
+
   pub start-fine : (s : ℕ) (vs : List ℕ) → ((v : ℕ) → May (Redo v)) → ((v : ℕ) → May (Make (Restart v))) → ((n : ℕ) (w : World) → K w → landed_on w.control s ≡ Some n → Ok w (Acknowledge n)) → All (start_entries s vs ++ acknowledge_on s ∷ [])
-  start-fine s vs redo restart acknowledge =
-      fine-append K Ok Why (start_entries s vs) _
-      (fine-flat K Ok Why _ vs (λ v here. fine-then K Ok Why (redo_on s v) _ (where-fine (λ k. belongs k s v) (Redo v) (λ w h so. redo v w h))
-      (fine-one K Ok Why (restart_on s v) (where-fine (λ k. belongs k s v && must_restart (fields_at k v)) (Make (Restart v)) (λ w h so. restart v w h)))))
-      (fine-one K Ok Why (acknowledge_on s) (λ w k. by w k (landed_on w.control s) refl))
+  start-fine s vs redo restart acknowledge = fine-append K Ok Why (start_entries s vs) _ (starts-fine s vs redo restart) (fine-one K Ok Why (acknowledge_on s) (λ w k. by w k (landed_on w.control s) refl))
     where
       by : (w : World) → K w → (o : Option ℕ) → landed_on w.control s ≡ o → Fine K Ok Why w (acknowledge_if o)
       by w k None is = tt
@@ -104,6 +105,18 @@ module _ (K : World → Type 0) (Ok : World → Act → Type 0) (Why : Refusal �
           (fine-then K Ok Why (store_on a b t) _ (λ w k. store t _ w k) (fine-one K Ok Why (strike_on a t) (λ w k. strike t _ w k)))))))
           (sends-fine why flashed ts)
 
+    -- a track that is sent before a write lands
+    module _ (volumes : List ℕ) (v u t : ℕ) (suspend : May (Make (Suspend v false))) (store : (last : Bool) → May (Make (Store u t v last))) (strike : (last : Bool) → May (Make (Strike v t last))) where
+      sent-one : (d : Entry) → One d → One (where_sent v u t d)
+      sent-one d one w h = fine-if K Ok Why w (sends_first v u t w.control) (d w.control) Pass (one w h) tt
+
+      sent-fine : (vs : List ℕ) → All (map (where_sent v u t) (map (keep_on u t) vs ++ store_on v u t ∷ strike_on v t ∷ []))
+      sent-fine [] = fine-then K Ok Why (where_sent v u t (store_on v u t)) _ (sent-one (store_on v u t) (λ w h. store _ w h)) (fine-one K Ok Why (where_sent v u t (strike_on v t)) (sent-one (strike_on v t) (λ w h. strike _ w h)))
+      sent-fine (x ∷ vs) = fine-then K Ok Why (where_sent v u t (keep_on u t x)) _ (sent-one (keep_on u t x) (keep-fine u t x)) (sent-fine vs)
+
+      pub send_first-fine : All (send_first volumes v u t)
+      send_first-fine = fine-then K Ok Why (suspend_where (send_refusal v u) v) _ (where-fine (λ j. is_some (send_refusal v u j)) (Make (Suspend v false)) (λ w h so. suspend w h)) (sent-fine volumes)
+
     -- ---- host writes
 
     -- the acts of host write n on track t of v
@@ -138,20 +151,8 @@ module _ (K : World → Type 0) (Ok : World → Act → Type 0) (Why : Refusal �
           let busy : Bool = is_grouped k v (partner_of k v) in
           fine-now K Ok Why (Suspend v busy) _ (may.suspend busy) (fine-choice K Ok Why busy [] (land_alone k.volumes n v t) (λ h. fine-none K Ok Why) (λ h. alone-fine))
 
-      sent-one : (u : ℕ) (d : Entry) → One d → One (where_sent v u t d)
-      sent-one u d one w h = fine-if K Ok Why w (sends_first v u t w.control) (d w.control) Pass (one w h) tt
-
-      sent-fine : collides (fields_at k v) t ≡ true → (vs : List ℕ) → let u : ℕ = partner_of k v in All (map (where_sent v u t) (map (keep_on u t) vs ++ store_on v u t ∷ strike_on v t ∷ []))
-      sent-fine met [] =
-          let u : ℕ = partner_of k v in
-          fine-then K Ok Why (where_sent v u t (store_on v u t)) _ (sent-one u (store_on v u t) (λ w h. may.store met _ w h)) (fine-one K Ok Why (where_sent v u t (strike_on v t)) (sent-one u (strike_on v t) (λ w h. may.strike met _ w h)))
-      sent-fine met (x ∷ vs) = let u : ℕ = partner_of k v in fine-then K Ok Why (where_sent v u t (keep_on u t x)) _ (sent-one u (keep_on u t x) (keep-fine u t x)) (sent-fine met vs)
-
       collided-fine : collides (fields_at k v) t ≡ true → All (land_collided k n v t)
-      collided-fine met =
-          let u : ℕ = partner_of k v in
-          fine-append K Ok Why (send_first k.volumes v u t) (land_alone k.volumes n v t)
-          (fine-then K Ok Why (suspend_where (send_refusal v u) v) _ (where-fine (λ j. is_some (send_refusal v u j)) (Make (Suspend v false)) (λ w h so. may.suspend false w h)) (sent-fine met k.volumes)) alone-fine
+      collided-fine met = fine-append K Ok Why (send_first k.volumes v (partner_of k v) t) (land_alone k.volumes n v t) (send_first-fine k.volumes v (partner_of k v) t (may.suspend false) (may.store met) (may.strike met)) alone-fine
 
       free-fine : All (cond (goes_over (fields_at k v) t) (land_over k n v t) (cond (collides (fields_at k v) t) (land_collided k n v t) (land_alone k.volumes n v t)))
       free-fine =

@@ -51,7 +51,7 @@ ripe-told w u more none events sessions messages epoch volume k =
     ripe-same w u more none events sessions messages epoch (λ x m i here. subst (λ (volumes : ℕ → Volume). SameTarget (fields_at w.control m.c.0) (volumes m.c.0).fields) (sym volume) (same-target (fields_at w.control m.c.0))) k
 
 ripe-not : (w : World) (x : ℕ) (f : Option Fuse) → AllRipe w → AllRipe (not_done w x f)
-ripe-not w x f k = ripe-told w (not_done w x f) (Stopped x 0 ∷ []) (tt, tt) refl refl refl refl refl k
+ripe-not w x f k = ripe-told w (not_done w x f) (Stopped x 0 ∷ []) (refl, tt) refl refl refl refl refl k
 
 ripe-unheard : (w u : World) (more : List Event) → AllRipe w → Unheard w u more → NoBegins more → AllRipe u
 ripe-unheard w u more k q none = ripe-told w u more none q.events q.sessions q.messages q.epoch q.volume k
@@ -63,7 +63,7 @@ tells-done events (Flash v b a s n) u = comes events [] s n a b v (λ k none. no
 tells-done events m u = tt
 
 tells-stop : (events : List Event) (m : Move) (u : Volume) (x n : ℕ) → TellsFlash (events ++ (told_in_stop m u ++ Stopped x n ∷ [])) m
-tells-stop events (Flash v b a s n) u x j = comes events (Stopped x j ∷ []) s n a b v (none-of s (Stopped x j ∷ []) (tt, tt))
+tells-stop events (Flash v b a s n) u x j = comes events (Stopped x j ∷ []) s n a b v (none-of s (Stopped x j ∷ []) (refl, tt))
 tells-stop events m u x j = tt
 
 module _ (starts : Option ℕ) (w : World) (s : SoundBut starts w) (k : AllRipe w) where
@@ -76,7 +76,7 @@ module _ (starts : Option ℕ) (w : World) (s : SoundBut starts w) (k : AllRipe 
   ripe-stop : (m : Move) (f : Option Fuse) → May w m → AllRipe (done_in_stop w m f)
   ripe-stop m f may =
       let u : Volume = w.control.volume (target m) in
-      ripe-by m may (told_in_stop m u ++ Stopped u.server (landed m) ∷ []) (stopped-none w.control m u (Stopped u.server (landed m)) may.group tt) (tells-stop w.events m u u.server (landed m))
+      ripe-by m may (told_in_stop m u ++ Stopped u.server (landed m) ∷ []) (stopped-none w.control m u (Stopped u.server (landed m)) may.group refl) (tells-stop w.events m u u.server (landed m))
 
   -- the first hold of an attempt
   held-same : (v i n : ℕ) (u : ℕ) → SameTarget (fields_at w.control u) (fields_at (done w (Hold v i n true) None).control u)
@@ -84,11 +84,11 @@ module _ (starts : Option ℕ) (w : World) (s : SoundBut starts w) (k : AllRipe 
       (at_cases (λ u y. SameTarget (fields_at w.control u) y) (fields_at w.control) v (held_for n (fields_at w.control v)) (record { revertible = refl; member = refl; sequence = refl; floor = refl }) (λ u ne. same-target (fields_at w.control u)) u)
 
   ripe-opened : (v i n : ℕ) (f : Option Fuse) → MayOpen w v i n → AllRipe (after_act w (OpenAttempt v i n) f)
-  ripe-opened v i n f may = let o = may.opens in ripe-begun w.control s.groups s.attempts i n o.place.session o.place.mirror o.place.listed o.place.number o.place.has_master o.idle (fields_at (done w (Hold v i n true) None).control) (held-same v i n) w.events (Cut i n v ∷ []) (tt, tt) k
+  ripe-opened v i n f may = let o = may.opens in ripe-begun w.control s.groups s.attempts i n o.place.session o.place.mirror o.place.listed o.place.number o.place.has_master o.idle (fields_at (done w (Hold v i n true) None).control) (held-same v i n) w.events (Cut i n v ∷ []) (refl, tt) k
 
   ripe-opened_stop : (v i n : ℕ) (f : Option Fuse) → MayOpen w v i n → AllRipe (opened_in_stop w v i n f)
   ripe-opened_stop v i n f may = let o = may.opens in
-      ripe-begun w.control s.groups s.attempts i n o.place.session o.place.mirror o.place.listed o.place.number o.place.has_master o.idle (fields_at (done w (Hold v i n true) None).control) (held-same v i n) w.events (Cut i n v ∷ Stopped (server_at w v) 0 ∷ []) (tt, (tt, tt)) k
+      ripe-begun w.control s.groups s.attempts i n o.place.session o.place.mirror o.place.listed o.place.number o.place.has_master o.idle (fields_at (done w (Hold v i n true) None).control) (held-same v i n) w.events (Cut i n v ∷ Stopped (server_at w v) 0 ∷ []) (refl, (refl, tt)) k
 
 -- the acts of plans but a start's
 acts : Rides Sound AllRipe MayDo
@@ -100,9 +100,9 @@ acts = record { does = does; counts = λ w m f s k may. ripe-stop None w s k m f
     does w (Redo v) f s k may = ripe-told w (fused w (server_at w v) f) [] tt (sym (append-nil w.events)) refl refl refl refl k
     does w (Acknowledge n) f s k may = absurd may
     does w (Drop n) f s k may = ripe-told w (dropped w n) [] tt (sym (append-nil w.events)) refl refl refl refl k
-    does w (EndFreeze l m) f s k may = ripe-told w (frozen w l m) (Frozen l m ∷ []) (tt, tt) refl refl refl refl refl k
-    does w (EndThaw l m) f s k may = ripe-told w (thawed w l m) (Thawed l m ∷ []) (tt, tt) refl refl refl refl refl k
-    does w (EndRecovery i n) f s k may = ripe-told w (recovered w i n) (Recovered i n ∷ []) (tt, tt) refl refl refl refl refl k
+    does w (EndFreeze l m) f s k may = ripe-told w (frozen w l m) (Frozen l m ∷ []) (refl, tt) refl refl refl refl refl k
+    does w (EndThaw l m) f s k may = ripe-told w (thawed w l m) (Thawed l m ∷ []) (refl, tt) refl refl refl refl refl k
+    does w (EndRecovery i n) f s k may = ripe-told w (recovered w i n) (Recovered i n ∷ []) (refl, tt) refl refl refl refl refl k
 
 -- and those of the start of server x
 start-acts : (x : ℕ) → Rides (starts.Inner x) AllRipe (starts.MayStart x)
@@ -113,7 +113,7 @@ start-acts x = record { does = does; counts = counts; opens = λ w v i n f j k m
     does w (Make m) f j k may = absurd may
     does w (OpenAttempt v i n) f j k may = absurd may
     does w (Redo v) f j k may = ripe-told w (fused w (server_at w v) f) [] tt (sym (append-nil w.events)) refl refl refl refl k
-    does w (Acknowledge n) f j k may = ripe-told w (acknowledged w n) (Ack n ∷ []) (tt, tt) refl refl refl refl refl k
+    does w (Acknowledge n) f j k may = ripe-told w (acknowledged w n) (Ack n ∷ []) (refl, tt) refl refl refl refl refl k
     does w (Drop n) f j k may = absurd may
     does w (EndFreeze l m) f j k may = absurd may
     does w (EndThaw l m) f j k may = absurd may
@@ -135,10 +135,10 @@ ripe-ride = record {
   acts = acts;
   start_acts = start-acts;
   unheard = ripe-unheard;
-  issues = λ w s v t offset len bytes defined low k. ripe-told w (issued w s v t offset len bytes defined low) (Issue (w.control.issued + 1) v t offset len bytes ∷ []) (tt, tt) refl refl refl refl refl k;
+  issues = λ w s v t offset len bytes defined low k. ripe-told w (issued w s v t offset len bytes defined low) (Issue (w.control.issued + 1) v t offset len bytes ∷ []) (refl, tt) refl refl refl refl refl k;
   regroups = λ w ss f s t turn adds goes k y i. ripe-regrouped w.control s.groups ss f t.attempts turn adds goes w.events k y i;
   opens = λ w i n x r s t found has idle next k. let there = session-found w.control.sessions i x found in ripe-begun w.control s.groups s.attempts i n x r there.0 there.1 has idle (fields_at w.control) (λ v. same-target (fields_at w.control v)) w.events [] tt k;
-  defines = λ w s v server tracks here undefined k. ripe-same w (with_volume w s v server tracks here undefined) (VolumeDefined v server tracks ∷ []) (tt, tt) refl refl refl refl (defined-same w v server tracks s.groups undefined) k;
+  defines = λ w s v server tracks here undefined k. ripe-same w (with_volume w s v server tracks here undefined) (VolumeDefined v server tracks ∷ []) (refl, tt) refl refl refl refl (defined-same w v server tracks s.groups undefined) k;
 }
 
 none-ripe : AllRipe nothing

@@ -24,11 +24,12 @@ use Rattle.dr_laws_freezes.specs.Moments.{on_from, on_next, worlds, worlds_after
 use Rattle.dr_laws_sound.proofs.Turns.{done, done_in_stop, opened_in_stop, not_done, fused, place, server_of, server_at, after_act, Writes, Counts, act-cases}
 use Rattle.dr_laws_sound.proofs.Due.{waiting-settled}
 use Rattle.dr_laws_freezes.proofs.Fair.{Fair, tag_after, come, come-open}
-use Rattle.dr_laws_freezes.proofs.KeepsWindow.{AllPassing}
+use Rattle.dr_laws_freezes.proofs.KeepsWindow.{TakesNone}
 use Rattle.dr_laws_freezes.proofs.KeepsStep.{Step, Does, Stops, Acks, Others, Passes, Acknowledges, Unchanged}
 use Rattle.dr_laws_freezes.proofs.Windows.{Good, Chain, Last, Then}
 use Rattle.dr_laws_sound.proofs.Cases.{Says, plan-case}
 use Rattle.dr_laws_sound.proofs.Parts.{Comes, Ways, way-formed, compared-case, formed-not, Ending, OnePlan, imaged-case}
+use Rattle.dr_logic.proofs.Options.{none_some}
 use Rattle.dr_logic.proofs.Truth.{false_true}
 use Rattle.std.specs.List.{list_any}
 
@@ -50,11 +51,11 @@ act_tag (OpenAttempt v s n) tag = tag
 act_tag a tag = None
 
 -- events that no list hears of
-pub told-unchanged : (w u : World) (es : List Event) → u.events ≡ w.events ++ es → AllPassing es → histories (w.events ++ es) ≡ histories w.events → u.control.volume ≡ w.control.volume → u.contents ≡ w.contents → u.control.issued ≡ w.control.issued
+pub told-unchanged : (w u : World) (es : List Event) → u.events ≡ w.events ++ es → TakesNone es → histories (w.events ++ es) ≡ histories w.events → u.control.volume ≡ w.control.volume → u.contents ≡ w.contents → u.control.issued ≡ w.control.issued
     → u.control.volumes ≡ w.control.volumes → ((v t : ℕ) → waiting u.control.pending v t ≡ waiting w.control.pending v t) → Unchanged w u es
-told-unchanged w u es events silent same volume contents issued volumes waits = record {
+told-unchanged w u es events takes same volume contents issued volumes waits = record {
   events = events;
-  silent = silent;
+  takes = takes;
   writes = λ n lt. ap (λ es. (histories es).write n) events ∙ ap (λ (h : Histories). h.write n) same;
   issued = λ n lt. subst (λ i. n < i + 1) (sym issued) lt;
   waits = waits;
@@ -67,7 +68,7 @@ told-unchanged w u es events silent same volume contents issued volumes waits = 
 }
 
 pub not-unchanged : (w : World) (s : ℕ) (f : Option Fuse) → Unchanged w (not_done w s f) (Stopped s 0 ∷ [])
-not-unchanged w s f = told-unchanged w (not_done w s f) (Stopped s 0 ∷ []) refl (tt, tt) (histories-append w.events (Stopped s 0 ∷ [])) refl refl refl refl (λ v t. refl)
+not-unchanged w s f = told-unchanged w (not_done w s f) (Stopped s 0 ∷ []) refl (refl, tt) (histories-append w.events (Stopped s 0 ∷ [])) refl refl refl refl (λ v t. refl)
 
 -- an act that is done
 act-step : (tag : Option ℕ) (w : World) (a : Act) (f : Option Fuse) → FairAct tag w a → Step tag w (act_tag a tag) (after_act w a f)
@@ -77,9 +78,9 @@ act-step tag w (Redo v) f fair = Passes None (fused w (server_at w v) f) [] (tol
 act-step tag w (Acknowledge n) f fair = Acks n fair
 act-step tag w (Drop n) f fair =
     Passes None (dropped w n) [] (told-unchanged w (dropped w n) [] (sym (append-nil w.events)) tt (ap histories (append-nil w.events)) refl refl refl refl (λ v t. waiting-settled n v t w.control.pending fair)) (λ n h. absurd cc)
-act-step tag w (EndFreeze l m) f fair = Passes None (frozen w l m) (Frozen l m ∷ []) (told-unchanged w (frozen w l m) (Frozen l m ∷ []) refl (tt, tt) (histories-append w.events (Frozen l m ∷ [])) refl refl refl refl (λ v t. refl)) (λ n h. absurd cc)
-act-step tag w (EndThaw l m) f fair = Passes None (thawed w l m) (Thawed l m ∷ []) (told-unchanged w (thawed w l m) (Thawed l m ∷ []) refl (tt, tt) (histories-append w.events (Thawed l m ∷ [])) refl refl refl refl (λ v t. refl)) (λ n h. absurd cc)
-act-step tag w (EndRecovery s n) f fair = Passes None (recovered w s n) (Recovered s n ∷ []) (told-unchanged w (recovered w s n) (Recovered s n ∷ []) refl (tt, tt) (histories-append w.events (Recovered s n ∷ [])) refl refl refl refl (λ v t. refl)) (λ n h. absurd cc)
+act-step tag w (EndFreeze l m) f fair = Passes None (frozen w l m) (Frozen l m ∷ []) (told-unchanged w (frozen w l m) (Frozen l m ∷ []) refl (refl, tt) (histories-append w.events (Frozen l m ∷ [])) refl refl refl refl (λ v t. refl)) (λ n h. absurd cc)
+act-step tag w (EndThaw l m) f fair = Passes None (thawed w l m) (Thawed l m ∷ []) (told-unchanged w (thawed w l m) (Thawed l m ∷ []) refl (refl, tt) (histories-append w.events (Thawed l m ∷ [])) refl refl refl refl (λ v t. refl)) (λ n h. absurd cc)
+act-step tag w (EndRecovery s n) f fair = Passes None (recovered w s n) (Recovered s n ∷ []) (told-unchanged w (recovered w s n) (Recovered s n ∷ []) refl (refl, tt) (histories-append w.events (Recovered s n ∷ [])) refl refl refl refl (λ v t. refl)) (λ n h. absurd cc)
 
 pub act-runs : (tag : Option ℕ) (w : World) (a : Act) → Writes a → FairAct tag w a → Runs w (place a)
 act-runs tag w (Make m) d fair = fair.0.runs
@@ -162,10 +163,10 @@ retabled-none k = record { sessions = k.sessions; flight = k.flight; is = refl }
 abbrev pub Closes : World → (World → Option Refusal → World) → Type 0
 Closes first over = (w : World) (k : Control) (r : Option Refusal) → Retabled w.control k → (told : List Event) × Unchanged w (over (record w { control = k }) r) told
 
-close : (w u : World) (k : Control) (told : List Event) → Retabled w.control k → AllPassing told → histories (w.events ++ told) ≡ histories w.events
+close : (w u : World) (k : Control) (told : List Event) → Retabled w.control k → TakesNone told → histories (w.events ++ told) ≡ histories w.events
     → u.events ≡ w.events ++ told → u.control.volume ≡ k.volume → u.contents ≡ w.contents → u.control.issued ≡ k.issued → u.control.volumes ≡ k.volumes → u.control.pending ≡ k.pending → Unchanged w u told
-close w u k told other silent lists events volume contents issued volumes pending =
-    told-unchanged w u told events silent lists (volume ∙ ap (λ (k : Control). k.volume) other.is) contents (issued ∙ ap (λ (k : Control). k.issued) other.is) (volumes ∙ ap (λ (k : Control). k.volumes) other.is)
+close w u k told other takes lists events volume contents issued volumes pending =
+    told-unchanged w u told events takes lists (volume ∙ ap (λ (k : Control). k.volume) other.is) contents (issued ∙ ap (λ (k : Control). k.issued) other.is) (volumes ∙ ap (λ (k : Control). k.volumes) other.is)
     (λ v t. ap (λ ps. waiting ps v t) pending ∙ ap (λ (k : Control). waiting k.pending v t) other.is)
 
 abbrev pub ended : World → World → ℕ → Said → World
@@ -174,7 +175,7 @@ ended first w line a = masters_lost first (said w line a)
 said-closes : (first : World) (line : ℕ) (p : Plan) → Closes first (λ w r. ended first w line (answered p w.control r))
 said-closes first line p w k r other =
     let a : Said = answered p k r in
-    (answer line a ∷ [], close w (ended first (record w { control = k }) line a) k (answer line a ∷ []) other (tt, tt) (histories-append w.events (answer line a ∷ [])) refl refl refl refl refl refl)
+    (answer line a ∷ [], close w (ended first (record w { control = k }) line a) k (answer line a ∷ []) other (refl, tt) (histories-append w.events (answer line a ∷ [])) refl refl refl refl refl refl)
 
 lost-closes : (first : World) → Closes first (λ w r. masters_lost first w)
 lost-closes first w k r other = ([], close w (masters_lost first (record w { control = k })) k [] other tt (ap histories (append-nil w.events)) (sym (append-nil w.events)) refl refl refl refl refl)
@@ -310,18 +311,18 @@ module _ (K : World → Type 0) (rows : (w : World) → K w → SoundRows (table
     task-chain w t k more goes_on =
         let x : Part = (course w t).last in
         subst (λ us. Chain None w us) (sym (append_assoc (parts_moments (course w t).before) (part_moments x ++ after_task w t ∷ []) (more (after_task w t)) ∙ ap (λ us. parts_moments (course w t).before ++ us) (append_assoc (part_moments x) (after_task w t ∷ []) (more (after_task w t)))))
-        (by (own_course t.asked))
+        (by (own_course t.asked) refl)
       where
         ended_by : Part → List World
         ended_by x = part_moments x ++ (answered_part t.line x ∷ more (answered_part t.line x))
 
-        by : (o : Option OwnCourse) → let c : Course = course_of w t o in Chain None w (parts_moments c.before ++ ended_by c.last)
-        by None = last-chain t.line (record { world = w; plan = plan w.control w.events t.line t.asked }) (OnePlan t.asked _ (plan-case w.control w.events t.line t.asked)) more goes_on k
-        by (Some (Groups s n)) =
+        by : (o : Option OwnCourse) → own_course t.asked ≡ o → let c : Course = course_of w t o in Chain None w (parts_moments c.before ++ ended_by c.last)
+        by None is = last-chain t.line (record { world = w; plan = plan w.control w.events t.line t.asked }) (OnePlan t.asked _ (plan-case w.control w.events t.line t.asked)) more goes_on k
+        by (Some (Groups s n)) is =
             way-formed WayChains ways w s n (λ v r. ended_by (record { world = v; plan = only_says (form_said s v.control r) }))
-            (λ v r k. last-chain t.line (record { world = v; plan = only_says (form_said s v.control r) }) (OnePlan t.asked _ (Says (form_said s v.control r) (formed-not s v.control.sessions r))) more goes_on k) k
-        by (Some (Volumes v u)) = last-chain t.line (record { world = w; plan = compared w v u }) (OnePlan t.asked _ (compared-case w t.line t.asked v u)) more goes_on k
-        by (Some Devices) = last-chain t.line (record { world = w; plan = imaged w t.listed }) (imaged-case w t.line t.asked t.listed) more goes_on k
+            (λ v r k. last-chain t.line (record { world = v; plan = only_says (form_said s v.control r) }) (OnePlan t.asked _ (Says (form_said s v.control r) (formed-not s v.control.sessions r) (λ one. none_some one is))) more goes_on k) k
+        by (Some (Volumes v u)) is = last-chain t.line (record { world = w; plan = compared w v u }) (OnePlan t.asked _ (compared-case w t.line t.asked v u)) more goes_on k
+        by (Some Devices) is = last-chain t.line (record { world = w; plan = imaged w t.listed }) (imaged-case w t.line t.asked t.listed) more goes_on k
 
     pub run-chain : (tasks : List Task) (w : World) → K w → Chain None w (moments_from w tasks)
     unfolding moments_from

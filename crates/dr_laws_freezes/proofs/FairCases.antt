@@ -11,7 +11,7 @@ use Rattle.dr_model.specs.Plans.{Plan, same, none_follow, entries_plan}
 use Rattle.dr_model.specs.Runs.{begun, finish, masters_lost, said}
 use Rattle.dr_model.specs.Table.{table}
 use Rattle.dr_model.specs.Laws.{Sound, SoundRows, AllPending}
-use Rattle.dr_facts.proofs.Entries.{anywhere, FineFrom}
+use Rattle.dr_facts.proofs.Entries.{any_world, FineFrom}
 use Rattle.dr_laws_closed.proofs.Regroups.{regroups-same}
 use Rattle.dr_laws_sound.proofs.Along as along
 use Rattle.dr_laws_sound.proofs.KeepsSound.{Along, StepHolds, RowsAt, MayDo, keeps-sound, over}
@@ -111,9 +111,9 @@ module _ (w : World) (k : Between w) (p : Plan) (begins : Begins w (begun w p) p
               }) b.tidy;
         }
 
-    pub fair-entries : (Ok : World → Act → Type 0) (First Why : Refusal → Type 0) → ((r : Refusal) → Why r → First r) → ((v : World) (a : Act) → Ok v a → KeepsPairs v a) → FineFrom anywhere Ok First Why u p.entries → Fair w p
+    pub fair-entries : (Ok : World → Act → Type 0) (First Why : Refusal → Type 0) → ((r : Refusal) → Why r → First r) → ((v : World) (a : Act) → Ok v a → KeepsPairs v a) → FineFrom any_world Ok First Why u p.entries → Fair w p
     fair-entries Ok First Why reasons keeps fine =
-        fair-by (entries-fairly Fins refused anywhere anywhere orders.ends Ok First Why reasons (λ v any. tt) (λ v a ok any. keeps v a ok) (λ v a f ok any. tt) ended_well p.entries u first-between tt fine orders.entries)
+        fair-by (entries-fairly Fins refused any_world any_world orders.ends Ok First Why reasons (λ v any. tt) (λ v a ok any. keeps v a ok) (λ v a f ok any. tt) ended_well p.entries u first-between tt fine orders.entries)
 
 -- a plan of entries that are allowed along
 pub alone : (w : World) → Sound w → (entries : List Entry) (says : Control → Said) → Along (as_begun w) entries → Orders w (record { first = same; told = []; entries = entries; follows = none_follow; last = same; says = says })

@@ -23,7 +23,7 @@ use Rattle.dr_laws_freezes.proofs.Chains.{PlanFin}
 use Rattle.dr_laws_freezes.proofs.FairPlans.{Between, Leaves, leaves-fairly}
 use Rattle.dr_laws_freezes.proofs.FairCases.{rows-between, answers-between, begun-between, EntriesFair, fin}
 use Rattle.dr_model.specs.declared.said.Said.{Said}
-use Rattle.dr_facts.proofs.Entries.{whatever, FineFrom, from-check, from-all, fine-times}
+use Rattle.dr_facts.proofs.Entries.{any_reason, FineFrom, from-check, from-all, fine-times}
 use Rattle.dr_facts.proofs.SharedEntries.{copied-fine}
 use Rattle.dr_facts.proofs.Tables.{at_part}
 
@@ -56,18 +56,18 @@ module _ (w : World) (k : Between w) (t : ℕ) (most : Option ℕ) where
   Stays u = Quiet start → Quiet u
 
   abbrev Comes : List Entry → Type 0
-  Comes = FineFrom Stays (Leaves Stays) whatever whatever start
+  Comes = FineFrom Stays (Leaves Stays) any_reason any_reason start
 
   stays : (u : World) (m : Move) (f : Option Fuse) → is_quiet (row u m f).fields ≡ is_quiet (fields_at u.control (target m)) → Stays u → Stays (done u m f)
   stays u m f same was quiet = at_part (λ (y : Volume). is_quiet y.fields) u.control.volume (target m) (row u m f) same s ∙ was quiet
 
   checked : (ok : Control → Bool) (r : Refusal) (ds : List Entry) → (ok start.control ≡ true → Comes ds) → Comes (check ok r ∷ ds)
-  checked ok r ds rest = from-check Stays (Leaves Stays) whatever whatever start ok r ds tt rest
+  checked ok r ds rest = from-check Stays (Leaves Stays) any_reason any_reason start ok r ds tt rest
 
   copies : Comes p.entries
   copies = checked (is_defined t) _ _ (λ there. checked (is_running t) _ _ (λ on. checked (may_copy t) _ _ (λ may. checked (may_give_back t) _ _ (λ back.
-      from-all Stays (Leaves Stays) whatever whatever (λ r why. why) start (λ quiet. quiet) _ (fine-times Stays (Leaves Stays) whatever (at_most most (left_to_copy w.control t)) _
-      (copied-fine Stays (Leaves Stays) whatever
+      from-all Stays (Leaves Stays) any_reason any_reason (λ r why. why) start (λ quiet. quiet) _ (fine-times Stays (Leaves Stays) any_reason (at_most most (left_to_copy w.control t)) _
+      (copied-fine Stays (Leaves Stays) any_reason
       (λ x q u j. ((tt, tt, refl), λ f. stays u (Keep x q) f refl j)) (λ x q u j. ((tt, tt, refl), λ f. stays u (Note x q) f refl j)) w.control.volumes s t (fields_at w.control t).reversing
       (λ is q u j. ((tt, not-synced (fields_at u.control s) (j (sym (ap (λ b. not b || takes_back s w.control) is) ∙ back)), refl), λ f. stays u (Restore s q t) f refl j))
       (λ is q u j. ((tt, tt, refl), λ f. stays u (Release t q) f refl j)) (λ q u j. ((tt, tt, refl), λ f. stays u (Fetch t q) f refl j))))))))

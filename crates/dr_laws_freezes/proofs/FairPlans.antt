@@ -13,7 +13,7 @@ use Rattle.dr_laws_sound.proofs.Along as along
 use Rattle.dr_laws_sound.proofs.KeepsSound.{MayDo, Along, Then, comes, keeps-sound}
 use Rattle.dr_model.specs.Allowed.{May}
 use Rattle.dr_model.specs.PairEntries.{end_if, refuse_if}
-use Rattle.dr_facts.proofs.Entries.{whatever, AllFine, FineFrom, FromThen, from-all}
+use Rattle.dr_facts.proofs.Entries.{any_reason, AllFine, FineFrom, FromThen, from-all}
 use Rattle.dr_laws_freezes.proofs.Fair.{Fair, tag_after, come, come-open}
 use Rattle.dr_laws_freezes.proofs.Tidy.{Gentle, Tidy, tidy-done, tidy-stop, tidy-not, tidy-same, fresh-told}
 use Rattle.dr_laws_freezes.proofs.Chains.{FairAct, act_tag, CountsFin, fairly_next, Fairly, fairly-entry, fairly-nil, good-none}
@@ -102,8 +102,8 @@ abbrev pub Leaves : (World → Type 0) → World → Act → Type 0
 Leaves J w a = KeepsPairs w a × ((f : Option Fuse) → J (after_act w a f))
 
 module _ (Fin : Option ℕ → World → Option Refusal → Type 0) (fin : (w : World) (r : Option Refusal) → Between w → Fin None w r) where
-  pub leaves-fairly : (J : World → Type 0) (ds : List Entry) (w : World) → Between w → J w → FineFrom J (Leaves J) whatever whatever w ds → Along w ds → Fairly Fin None w ds
-  leaves-fairly J = entries-fairly Fin (λ w r. fin w (Some r)) J J Sound (Leaves J) whatever whatever (λ r why. why) (λ w j. j) (λ w a ok j. ok.0) (λ w a f ok j. ok.1 f) (λ w b sound. fin w None b)
+  pub leaves-fairly : (J : World → Type 0) (ds : List Entry) (w : World) → Between w → J w → FineFrom J (Leaves J) any_reason any_reason w ds → Along w ds → Fairly Fin None w ds
+  leaves-fairly J = entries-fairly Fin (λ w r. fin w (Some r)) J J Sound (Leaves J) any_reason any_reason (λ r why. why) (λ w j. j) (λ w a ok j. ok.0) (λ w a f ok j. ok.1 f) (λ w b sound. fin w None b)
 
   -- ---- entry by entry
 

@@ -8,7 +8,7 @@ use Rattle.dr_model.specs.Plans.{Plan}
 use Rattle.dr_model.specs.Runs.{Task, begun, image_told}
 use Rattle.dr_laws_freezes.specs.Moments.{moments_from}
 use Rattle.dr_laws_freezes.specs.Windows.{FreezeCut}
-use Rattle.dr_facts.proofs.Entries.{anywhere, from-all}
+use Rattle.dr_facts.proofs.Entries.{any_world, from-all}
 use Rattle.dr_facts.proofs.Reasons.{NoStop}
 use Rattle.dr_facts.proofs.Tables.{at_cases}
 use Rattle.dr_laws_sound.proofs.Cases.{Case, Writes, Applies, Stops, Starts, MakesFlash, RemovesFlash, ResyncsFlash, ReversesFlash, Copies, Destages as DestagesCase, MakesPair, RemovesPair, PausesPair, ResumesPair, FailsOver, FailsBack, Compares, Drains, Expires, Freezes, Unfreezes, AddsMember, RemovesMember, Exchanges, Delivers, Recovers, Settles, Commits, Reverts, Releases}
@@ -104,7 +104,7 @@ module _ (w : World) (k : Between w) (line : ℕ) where
       let does : Entered w asked p = case-does w line asked p c in
       let keeps = λ (v : World) (a : Act) (d : Acts w.control asked v a). keeps-pairs w.control none v a d in
       fair-entries w k p (case-begins w k.tidy line asked p c) (leaves w.control w.events line asked p c) (none-on asked p c none) orders
-      (λ s v b. entries-fairly (EndFin Between rows-between answers-between) (λ u r b. b) anywhere anywhere Sound (Acts w.control asked) (Late asked) (Late asked) (λ r why. why) (λ v any. tt) (λ v a d any. keeps v a d) (λ v a f d any. tt) (λ u b sound. b) (p.follows s) v b tt (from-all anywhere (Acts w.control asked) (Late asked) (Late asked) (λ r why. why) v tt (p.follows s) (does.follows s)) (orders.follows s v b.sound))
+      (λ s v b. entries-fairly (EndFin Between rows-between answers-between) (λ u r b. b) any_world any_world Sound (Acts w.control asked) (Late asked) (Late asked) (λ r why. why) (λ v any. tt) (λ v a d any. keeps v a d) (λ v a f d any. tt) (λ u b sound. b) (p.follows s) v b tt (from-all any_world (Acts w.control asked) (Late asked) (Late asked) (λ r why. why) v tt (p.follows s) (does.follows s)) (orders.follows s v b.sound))
       (Acts w.control asked) NoStop (Late asked) (λ r why. why.why) keeps does.entries
 
   pub fair-case : (asked : Result Step ℕ) (p : Plan) → Case w.control w.events line asked p → Fair w p

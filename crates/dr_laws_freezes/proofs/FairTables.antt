@@ -17,10 +17,10 @@ use Rattle.dr_laws_freezes.specs.Windows.{is_ack}
 use Rattle.dr_facts.proofs.Tables.{at_cases}
 use Rattle.dr_laws_sound.proofs.Cases.{Case, is-new}
 use Rattle.dr_laws_freezes.proofs.Fair.{Unacked}
-use Rattle.dr_laws_sound.specs.Acknowledged.{acknowledgements}
+use Rattle.dr_facts.proofs.Emits.{Of, of-all}
+use Rattle.dr_laws_freezes.proofs.KeepsWindow.{takes_none, unacked}
 use Rattle.dr_laws_freezes.proofs.Begun as before
 use Rattle.dr_laws_freezes.proofs.Begun.{Beside}
-use Rattle.dr_model.specs.declared.event.Event.TheVariants.{Ack}
 use Rattle.dr_laws_freezes.proofs.KeepsStep.{Unchanged}
 use Rattle.dr_laws_freezes.proofs.KeepsMirror.{still-unacked}
 use Rattle.dr_laws_freezes.proofs.Tidy.{Clean, Free, Fresh, Tidy, tidy-same, fresh-told}
@@ -44,11 +44,6 @@ not-new (y ∷ ys) x v ne h = by (nat_eq x y) (not-new ys x v ne) h
     by true more h = refl
     by false more h = more h
 
-none-acked : (n : ℕ) (es : List Event) → acknowledgements es ≡ [] → list_any (is_ack n) es ≡ false
-none-acked n [] none = refl
-none-acked n (Ack k ∷ es) none = absurd cc
-none-acked n (e ∷ es) none = none-acked n es none
-
 -- a write is issued
 late-unacked : (w : World) (n : ℕ) → Fresh w → w.control.issued < n → (es : List Event) → list_any (is_ack n) es ≡ false → list_any (is_ack n) (w.events ++ es) ≡ false
 late-unacked w n fresh lt es none = still-unacked w.events es n (fresh.later n lt) none
@@ -70,7 +65,7 @@ module _ (w : World) (tidy : Tidy w) (v t offset len : ℕ) (bytes : List ℕ) w
   pub issued-unchanged : Unchanged w issued (e ∷ [])
   issued-unchanged = record {
     events = refl;
-    silent = (tt, tt);
+    takes = (refl, tt);
     writes = λ n lt. ap (λ (h : Histories). h.write n) (histories-append w.events (e ∷ [])) ∙ at_other (histories w.events).write (w.control.issued + 1) _ n (λ is. absurd (let h : n ≡ w.control.issued + 1 = is in omega arith));
     issued = λ n lt. omega arith;
     waits = λ x q. waiting-new w.control.pending _ x q refl;
@@ -93,8 +88,8 @@ module _ (w : World) (h : Tidy w) where
   beside-begins j told x =
       let u : World = record w { control = j; events = w.events ++ told } in
       record {
-        unchanged = told-unchanged w u told refl x.passing x.lists x.volume refl x.issued x.volumes (λ v t. ap (λ ps. waiting ps v t) x.pending);
-        tidy = λ on. tidy-same w u x.volume x.volumes on (fresh-told w u told refl x.issued (subst (AllPending (λ p. Unacked w p.w)) (sym x.pending) h.fresh.unacked) (λ n. none-acked n told x.unacked) h.fresh) h;
+        unchanged = told-unchanged w u told refl x.takes x.lists x.volume refl x.issued x.volumes (λ v t. ap (λ ps. waiting ps v t) x.pending);
+        tidy = λ on. tidy-same w u x.volume x.volumes on (fresh-told w u told refl x.issued (subst (AllPending (λ p. Unacked w p.w)) (sym x.pending) h.fresh.unacked) (λ n. of-all (Of takes_none) _ (unacked takes_none refl n) told x.takes) h.fresh) h;
       }
 
   -- a new volume is no primary
@@ -106,7 +101,7 @@ module _ (w : World) (h : Tidy w) where
       record {
         unchanged = record {
           events = refl;
-          silent = (tt, tt);
+          takes = (refl, tt);
           writes = λ n lt. ap (λ (h : Histories). h.write n) (histories-append w.events (e ∷ []));
           issued = λ n lt. lt;
           waits = λ x t. refl;

@@ -35,7 +35,7 @@ use Rattle.dr_laws_freezes.proofs.Tidy.{is_synced, Clean}
 use Rattle.dr_laws_freezes.proofs.Windows.{Good}
 use Rattle.dr_laws_freezes.proofs.Chains.{Fairly, fairly-nil, StopFin, EndFin, PlanFin, good-none}
 use Rattle.dr_laws_freezes.proofs.FairPlans.{Between, Leaves, leaves-fairly, move-fairly, fairly-check}
-use Rattle.dr_facts.proofs.Entries.{whatever, Fine, AllFine, fine-then, fine-one, fine-append, fine-if, from-all}
+use Rattle.dr_facts.proofs.Entries.{any_reason, Fine, AllFine, fine-then, fine-one, fine-append, fine-if, from-all}
 use Rattle.dr_facts.proofs.SharedEntries.{where-fine, keep-fine, copies-fine}
 use Rattle.dr_laws_freezes.proofs.FairCases.{rows-between, answers-between, begun-between, EntriesFair}
 use Rattle.dr_laws_freezes.proofs.FairTables.{issued-tidy}
@@ -109,7 +109,7 @@ module _ (p : Pending) (Fin : Option ℕ → World → Option Refusal → Type 0
     Ok = Leaves (Apart sends)
 
     abbrev Comes : List Entry → Type 0
-    Comes = AllFine (Apart sends) Ok whatever
+    Comes = AllFine (Apart sends) Ok any_reason
 
     keep-ok : (x q : ℕ) (w : World) → Apart sends w → Ok w (Make (Keep x q))
     keep-ok x q w k = ((tt, tt, refl), λ f. apart-stays sends w (Keep x q) f refl refl refl k)
@@ -118,37 +118,37 @@ module _ (p : Pending) (Fin : Option ℕ → World → Option Refusal → Type 0
     note-ok x q w k = ((tt, tt, refl), λ f. apart-stays sends w (Note x q) f refl refl refl k)
 
     alone-comes : (volumes : List ℕ) → Comes (land_alone volumes n v t)
-    alone-comes volumes = fine-append (Apart sends) Ok whatever (copy_first volumes v t) _ (copies-fine (Apart sends) Ok whatever keep-ok note-ok volumes v t) (fine-one (Apart sends) Ok whatever (land_on n v t) (λ w k. by w k (fields_at w.control v).related))
+    alone-comes volumes = fine-append (Apart sends) Ok any_reason (copy_first volumes v t) _ (copies-fine (Apart sends) Ok any_reason keep-ok note-ok volumes v t) (fine-one (Apart sends) Ok any_reason (land_on n v t) (λ w k. by w k (fields_at w.control v).related))
       where
         by : (w : World) → Apart sends w → (b : Bool) → Ok w (Make (cond b (Overwrite n v t) (Land n v t)))
         by w k true = ((tt, tt, refl), λ f. apart-stays sends w (Overwrite n v t) f refl refl refl k)
         by w k false = let off : Apart false w = apart sends w k in ((off.1, off.0, refl), λ f. apart-stays sends w (Land n v t) f refl refl refl k)
 
     apart-fairly : (ds : List Entry) → Comes ds → (w : World) → Between w → Apart sends w → Along w ds → Fairly Fin None w ds
-    apart-fairly ds fine w k j al = leaves-fairly Fin fin (Apart sends) ds w k j (from-all (Apart sends) Ok whatever whatever (λ r why. why) w j ds fine) al
+    apart-fairly ds fine w k j al = leaves-fairly Fin fin (Apart sends) ds w k j (from-all (Apart sends) Ok any_reason any_reason (λ r why. why) w j ds fine) al
 
   alone : (volumes : List ℕ) (w : World) → Between w → Apart false w → Along w (land_alone volumes n v t) → Fairly Fin None w (land_alone volumes n v t)
   alone volumes = apart-fairly false (land_alone volumes n v t) (alone-comes false volumes)
 
   module _ (u : ℕ) where
     abbrev Sent : Entry → Type 0
-    Sent d = (w : World) → Apart true w → Fine (Apart true) (Ok true) whatever w (d w.control)
+    Sent d = (w : World) → Apart true w → Fine (Apart true) (Ok true) any_reason w (d w.control)
 
     sent-one : (d : Entry) → Sent d → Sent (where_sent v u t d)
-    sent-one d one w k = fine-if (Apart true) (Ok true) whatever w (sends_first v u t w.control) (d w.control) Pass (one w k) tt
+    sent-one d one w k = fine-if (Apart true) (Ok true) any_reason w (sends_first v u t w.control) (d w.control) Pass (one w k) tt
 
     unlocked : (w : World) → Apart true w → is_locked (fields_at w.control v) ≡ true → ⊥
     unlocked w k locked = false_true (apart true w k).1 locked
 
     sent-comes : (xs : List ℕ) → Comes true (map (where_sent v u t) (map (keep_on u t) xs ++ store_on v u t ∷ strike_on v t ∷ []))
-    sent-comes [] = fine-then (Apart true) (Ok true) whatever (where_sent v u t (store_on v u t)) _ (sent-one (store_on v u t) (λ w k. ((λ locked. absurd (unlocked w k locked), tt, refl), λ f. global-stays w (Store u t v (is_last (fields_at w.control v) t)) f refl k)))
-        (fine-one (Apart true) (Ok true) whatever (where_sent v u t (strike_on v t)) (sent-one (strike_on v t) (λ w k. ((λ locked. absurd (unlocked w k locked), refl, refl), λ f. global-stays w (Strike v t (is_last (fields_at w.control v) t)) f refl k))))
-    sent-comes (x ∷ xs) = fine-then (Apart true) (Ok true) whatever (where_sent v u t (keep_on u t x)) _ (sent-one (keep_on u t x) (keep-fine (Apart true) (Ok true) whatever (keep-ok true) (note-ok true) u t x)) (sent-comes xs)
+    sent-comes [] = fine-then (Apart true) (Ok true) any_reason (where_sent v u t (store_on v u t)) _ (sent-one (store_on v u t) (λ w k. ((λ locked. absurd (unlocked w k locked), tt, refl), λ f. global-stays w (Store u t v (is_last (fields_at w.control v) t)) f refl k)))
+        (fine-one (Apart true) (Ok true) any_reason (where_sent v u t (strike_on v t)) (sent-one (strike_on v t) (λ w k. ((λ locked. absurd (unlocked w k locked), refl, refl), λ f. global-stays w (Strike v t (is_last (fields_at w.control v) t)) f refl k))))
+    sent-comes (x ∷ xs) = fine-then (Apart true) (Ok true) any_reason (where_sent v u t (keep_on u t x)) _ (sent-one (keep_on u t x) (keep-fine (Apart true) (Ok true) any_reason (keep-ok true) (note-ok true) u t x)) (sent-comes xs)
 
     collided : (volumes : List ℕ) (w : World) → Between w → Apart true w → Along w (send_first volumes v u t ++ land_alone volumes n v t) → Fairly Fin None w (send_first volumes v u t ++ land_alone volumes n v t)
-    collided volumes = apart-fairly true _ (fine-append (Apart true) (Ok true) whatever (send_first volumes v u t) (land_alone volumes n v t)
-        (fine-then (Apart true) (Ok true) whatever (suspend_where (send_refusal v u) v) _
-        (where-fine (Apart true) (Ok true) whatever (λ j. is_some (send_refusal v u j)) (Make (Suspend v false)) (λ w k so. ((tt, tt, refl), λ f. global-stays w (Suspend v false) f refl k))) (sent-comes volumes)) (alone-comes true volumes))
+    collided volumes = apart-fairly true _ (fine-append (Apart true) (Ok true) any_reason (send_first volumes v u t) (land_alone volumes n v t)
+        (fine-then (Apart true) (Ok true) any_reason (suspend_where (send_refusal v u) v) _
+        (where-fine (Apart true) (Ok true) any_reason (λ j. is_some (send_refusal v u j)) (Make (Suspend v false)) (λ w k so. ((tt, tt, refl), λ f. global-stays w (Suspend v false) f refl k))) (sent-comes volumes)) (alone-comes true volumes))
 
   -- it is stored on the secondary, and the track is out of sync until it has landed
   record Both (tag : Option ℕ) (w : World) : Type 0 where

@@ -217,9 +217,6 @@ module _ (v b s : ℕ) (N : ℕ → Type 0) where
     act-silent w (Make (Overwrite n x t)) ok same k = land-silent w (Overwrite n x t) n (k.elsewhere n ok) (λ u. refl) (λ u. refl) (λ ps. refl) (λ ps. refl) k
     act-silent w (Make (LandBoth n x t)) ok same k = land-silent w (LandBoth n x t) n (k.elsewhere n ok) (λ u. refl) (λ u. refl) (λ ps. refl) (λ ps. refl) k
     act-silent w (Make (Mirror x t a n)) ok same k = mirror-silent w x t a n k
-    act-silent w (Make (Hold x i n first)) ok same k = mute-silent w (Make (Hold x i n first)) refl same k
-    act-silent w (Make m) ok same k = mute-silent w (Make m) tt same k
-    act-silent w (OpenAttempt x i n) ok same k = mute-silent w (OpenAttempt x i n) refl same k
     act-silent w (Drop n) ok same k = act-cases w (Drop n) (λ t. Silent t.0) (λ d off. k)
         (λ f. silent-by w (dropped w n) [] (sym (append-nil w.events)) refl refl (λ j here. absurd here) (all-filter Waits (is_other n) w.control.pending k.waits) (all-filter (Issued w) (is_other n) w.control.pending k.issued) k) tt (λ d f. absurd d)
     act-silent w (Acknowledge n) ok same k = act-cases w (Acknowledge n) (λ t. Silent t.0) (λ d off. k)
@@ -228,7 +225,7 @@ module _ (v b s : ℕ) (N : ℕ → Type 0) where
         one-acked : (j : ℕ) → In (Ack j) (Ack n ∷ []) → Elsewhere w j
         one-acked j (inl is) = let same : j ≡ n = cc in subst (Elsewhere w) (sym same) ok
         one-acked j (inr none) = absurd none
-    act-silent w a ok same k = mute-silent w a tt same k
+    act-silent w a ok same k = mute-silent w a refl same k
 
     pub record Frozen (w : World) : Type 0 where
       pub rooted : Rooted w.control

@@ -28,7 +28,7 @@ use Rattle.dr_model.specs.Forming.{Part, after_part}
 use Rattle.dr_model.specs.Runs.{Task, course, begun, carried_out, answered, answered_part, after_plan, after_task, masters_lost, said, image_told, image_plan, imaged}
 use Rattle.dr_model.specs.Listings.{lists}
 use Rattle.dr_model.proofs.Images.{histories-push}
-use Rattle.dr_facts.proofs.Entries.{anywhere, from-none, fine-none, plan-from}
+use Rattle.dr_facts.proofs.Entries.{any_world, from-none, fine-none, plan-from}
 use Rattle.dr_facts.proofs.Issued.{with-told}
 use Rattle.dr_facts.proofs.Lists.{found, in-joined}
 use Rattle.dr_facts.proofs.Reasons.{NoStop}
@@ -187,7 +187,7 @@ module _ (v b s : ℕ) (base : List Event) (w : World) (k : Frozen v b s none ba
   kept asked p does begins last stay known =
       let N : (ℕ → Type 0) = Others (begun w p) in
       with-writes v b s base N none (carried_out w p).0 (λ n h. absurd h)
-      (plan-from anywhere (Acts c asked) NoStop (Late asked) (Frozen v b s N base) (λ u j. tt) (λ u a d j. frozen-act v b s N base u a (does-frozen asked (begun w p) stay known u a d j) j) w p begins does.entries does.follows (λ u j. retabled N u _ (last u.control) j))
+      (plan-from any_world (Acts c asked) NoStop (Late asked) (Frozen v b s N base) (λ u j. tt) (λ u a d j. frozen-act v b s N base u a (does-frozen asked (begun w p) stay known u a d j) j) w p begins does.entries does.follows (λ u j. retabled N u _ (last u.control) j))
 
   -- as it begins
   beside : (j : Control) (told : List Event) → Beside w j told → Begun (record w { control = j; events = w.events ++ told })
@@ -232,7 +232,7 @@ module _ (v b s : ℕ) (base : List Event) (w : World) (k : Frozen v b s none ba
   unwritten-kept line asked p x stay none_so = by-case line asked p x stay (unwritten asked (begun w p) none_so)
 
   pub case-kept : (line : ℕ) (asked : Result Step ℕ) (p : Plan) → Case c w.events line asked p → lets_go c asked v ≡ false → Frozen v b s none base (carried_out w p).0
-  case-kept line _ _ (Says a waits) stay = unwritten-kept line (Err 0) _ (Says a waits) refl refl
+  case-kept line _ _ (Says a waits why) stay = unwritten-kept line (Ok (Run 0 0)) _ (Says a waits (λ one. absurd cc)) refl refl
   case-kept line _ _ (Lists told ls few) stay = unwritten-kept line (Err 0) _ (Lists told ls few) refl refl
   case-kept line _ _ (PausesMirror i on) stay = unwritten-kept line (Err 0) _ (PausesMirror i on) refl refl
   case-kept line _ _ (Compares contents x y) stay = unwritten-kept line (Err 0) _ (Compares contents x y) refl refl
@@ -254,7 +254,7 @@ module _ (v b s : ℕ) (base : List Event) (w : World) (k : Frozen v b s none ba
   pub lines-kept : (told : List Event) → AllLines told → Frozen v b s none base (carried_out w (lists told)).0
   lines-kept told ls =
       let u : World = begun w (lists told) in
-      kept (Err 0) (lists told) (record { entries = from-none anywhere (Acts c (Err 0)) NoStop (Late (Err 0)) u; follows = λ q. fine-none anywhere (Acts c (Err 0)) (Late (Err 0)) }) (beside c told (lines-beside w told ls)) retabled-none refl (unwritten (Err 0) u refl)
+      kept (Err 0) (lists told) (record { entries = from-none any_world (Acts c (Err 0)) NoStop (Late (Err 0)) u; follows = λ q. fine-none any_world (Acts c (Err 0)) (Late (Err 0)) }) (beside c told (lines-beside w told ls)) retabled-none refl (unwritten (Err 0) u refl)
 
 -- ---- every step
 
@@ -286,7 +286,7 @@ module _ (v b s : ℕ) (base : List Event) where
     where
       by : (room : Bool) → Long (carried_out w (cond room (image_plan vs) (refuses JournalFull))).0
       by true = lines-kept v b s base w k (image_told vs) (image-lines vs)
-      by false = case-kept v b s base w k 0 (Err 0) _ (Says _ (refused-not JournalFull)) refl
+      by false = case-kept v b s base w k 0 (Err 0) _ (Says _ (refused-not JournalFull) (λ one. refl)) refl
 
   pub task-kept : (w : World) (t : Task) → lets_go w.control t.asked v ≡ false → Long w → Long (after_task w t)
   task-kept w t stay k = answered-kept t.line (course w t).last (by t.asked stay)

@@ -2,7 +2,6 @@
 use Rattle.std.proofs.Common.{ℕ, ◌≡◌, ◌≢◌, ◌<◌, ◌+◌, inl, inr, refl, ap, sym, ◌∙◌, subst, Bool, true, false, cond, not, ◌&&◌, ◌||◌, nat_eq, List, [], ◌∷◌, ◌++◌, filter, Option, arith}
 use Rattle.std.proofs.lemmas.Bool.{and_parts, and_from, ne_eqb}
 use Rattle.std.proofs.lemmas.Bool.Decides.{eqb_tells}
-use Rattle.std.proofs.lemmas.List.Folds.{list_any-append}
 use Rattle.std.specs.FinSet.{contains, remove, union, empty}
 use Rattle.dr_model.specs.declared.state.Part.{Part}
 use Rattle.dr_model.specs.declared.state.Part.TheVariants.{Absent, Metro, Global}
@@ -13,7 +12,7 @@ use Rattle.dr_model.specs.declared.event.Event.{Event}
 use Rattle.dr_model.specs.declared.event.Event.TheVariants.{Stopped}
 use Rattle.dr_model.specs.Control.{Pending, Volume, Fuse, World, is_volume}
 use Rattle.dr_model.specs.Pairs.{is_metro, is_full_duplex, is_torn, is_engaged, first_state, next_state, with_more, state_with, is_last}
-use Rattle.dr_model.specs.Moves.{Move, Land, Overwrite, Mirror, Restore, Strike, Suspend, MakePrimary, DropPrimary, Resume, TakeOver, FallBack, Yield, Unsync, LandBoth, Lift, Restart, Hold, Free as FreeMove, Finish, target, told, told_in_stop, settled, settled_in_stop, landed, is_write, is_other, marked, fields_left, keeps_staged, moved_keeping}
+use Rattle.dr_model.specs.Moves.{Move, Land, Overwrite, Restore, Strike, Suspend, MakePrimary, DropPrimary, Resume, TakeOver, FallBack, Yield, Unsync, LandBoth, Lift, Restart, Hold, Free as FreeMove, Finish, target, told, told_in_stop, settled, settled_in_stop, landed, is_write, is_other, marked, fields_left, keeps_staged, moved_keeping}
 use Rattle.dr_model.specs.Entries.{fields_at}
 use Rattle.dr_model.specs.Allowed.{Runs}
 use Rattle.dr_model.specs.Laws.{AllPending}
@@ -23,7 +22,8 @@ use Rattle.dr_facts.proofs.Tables.{IsOrNot, at_cases, at_part}
 use Rattle.dr_laws_sound.proofs.Turns.{next_of, carried_in, done, done_in_stop, not_done}
 use Rattle.dr_laws_sound.proofs.RowsAfter.{changed}
 use Rattle.dr_laws_freezes.proofs.Fair.{MayCome, Unacked}
-use Rattle.dr_laws_freezes.proofs.KeepsWindow.{silent-acks, silent-told}
+use Rattle.dr_laws_freezes.proofs.KeepsWindow.{unacked}
+use Rattle.dr_facts.proofs.Emits.{acks_none, unacked-stop, each-told}
 use Rattle.dr_laws_freezes.proofs.KeepsMirror.{still-unacked}
 use Rattle.dr_laws_sound.proofs.KeepsRecorders.{none-written}
 use Rattle.std.specs.List.{list_any}
@@ -168,15 +168,10 @@ none-acked : (m : Move) (u : Volume) (n : ℕ) → LandsElse m n → list_any (i
 none-acked (Land k v t) u n ne = ap (λ b. b || false) (ne_eqb k n ne)
 none-acked (Overwrite k v t) u n ne = ap (λ b. b || false) (ne_eqb k n ne)
 none-acked (LandBoth k v t) u n ne = ap (λ b. b || false) (ne_eqb k n ne)
-none-acked (Mirror v t x k) u n ne = refl
-none-acked m u n ne = silent-acks n (told m u) (silent-told m u tt)
+none-acked m u n ne = each-told acks_none _ (unacked acks_none refl n) m u refl
 
 stop-acked : (m : Move) (u : Volume) (n s k : ℕ) → list_any (is_ack n) (told_in_stop m u ++ Stopped s k ∷ []) ≡ false
-stop-acked (Land j v t) u n s k = refl
-stop-acked (Overwrite j v t) u n s k = refl
-stop-acked (LandBoth j v t) u n s k = refl
-stop-acked (Mirror v t x j) u n s k = refl
-stop-acked m u n s k = list_any-append (is_ack n) (told m u) (Stopped s k ∷ []) ∙ ap (λ b. b || false) (silent-acks n (told m u) (silent-told m u tt))
+stop-acked m u n s k = unacked-stop _ (unacked acks_none refl n) m u (Stopped s k ∷ []) refl
 
 pub all-other : (P : Pending → Type 0) (n : ℕ) (ps : List Pending) → AllPending P ps → AllPending (λ p. P p × (p.w ≢ n)) (filter (is_other n) ps)
 all-other P n [] all = tt

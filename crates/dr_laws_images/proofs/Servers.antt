@@ -141,7 +141,7 @@ module _ (k : Control) (events : List Event) (line : ℕ) where
 
   case-one : (asked : Result Step ℕ) (p : Plan) → Case k events line asked p → KeepsOne p
   case-one _ _ (DefinesVolume v s tracks here free) = record { first = one-defined k v s tracks free; last = λ j one. one }
-  case-one _ _ (Says a waits) = record { first = λ one. one; last = λ j one. one }
+  case-one _ _ (Says a waits why) = record { first = λ one. one; last = λ j one. one }
   case-one _ _ (DefinesServer name free) = record { first = λ one. one; last = λ j one. one }
   case-one _ _ (SetsLink a b up) = record { first = λ one. one; last = λ j one. one }
   case-one _ _ (Issues v t offset len bytes free) = record { first = λ one. one; last = λ j one. one }
@@ -208,7 +208,7 @@ task-one : (w : World) (t : Task) → One w → One (after_task w t)
 task-one w t one =
     let x : Part = (course w t).last in
     plan-one x.world x.plan t.line (ending-one x.world.control x.world.events t.line x.plan (course-case w t))
-    (last-plan One (λ u p comes one. carried-one u p 0 (case-one u.control u.events 0 p (comes.case 0)) one) w t one)
+    (last-plan One (λ u p comes one. carried-one u p 0 (case-one u.control u.events 0 comes.asked p (comes.case 0)) one) w t one)
 
 tasks-one : (w : World) (tasks : List Task) → One w → One (after_tasks w tasks)
 unfolding after_tasks

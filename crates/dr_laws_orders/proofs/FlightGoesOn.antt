@@ -183,7 +183,7 @@ module _ (k : Control) where
   begins p first last = record { first = first; last = λ j. goes-equal _ _ (last j) }
 
   case-goes : (events : List Event) (line : ℕ) (asked : Result Step ℕ) (p : Plan) → Case k events line asked p → Going k p
-  case-goes events line _ _ (Says a waits) = calm _ refl (λ j. refl)
+  case-goes events line _ _ (Says a waits why) = calm _ refl (λ j. refl)
   case-goes events line _ _ (DefinesServer name free) = calm _ refl (λ j. refl)
   case-goes events line _ _ (DefinesVolume v x tracks here free) = calm _ refl (λ j. refl)
   case-goes events line _ _ (SetsLink a b up) = calm _ refl (λ j. refl)

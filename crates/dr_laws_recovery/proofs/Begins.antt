@@ -44,11 +44,11 @@ HoldBegun es m = Unit {0}
 told-begun : (es : List Event) (m : Move) (u : Volume) → HoldBegun es m → AllBegun es → AllBegun (es ++ told m u)
 told-begun es (Hold v s n true) u h old = begun-opened es s n v old
 told-begun es (Hold v s n false) u h old = begun-cut es s n v h old
-told-begun es m u h old = begun-quiet es (told m u) (told-quiet m u tt) old
+told-begun es m u h old = begun-quiet es (told m u) (told-quiet m u refl) old
 
 in_stop-begun : (es : List Event) (m : Move) (u : Volume) → HoldBegun es m → AllBegun es → AllBegun (es ++ told_in_stop m u)
 in_stop-begun es (Hold v s n first) u h old = told-begun es (Hold v s n first) u h old
-in_stop-begun es m u h old = begun-quiet es (told_in_stop m u) (stop-quiet m u tt) old
+in_stop-begun es m u h old = begun-quiet es (told_in_stop m u) (stop-quiet m u refl) old
 
 stopped-begun : (es : List Event) (m : Move) (u : Volume) (x n : ℕ) → HoldBegun es m → AllBegun es → AllBegun (es ++ (told_in_stop m u ++ Stopped x n ∷ []))
 stopped-begun es m u x n h old = subst AllBegun (append_assoc es (told_in_stop m u) (Stopped x n ∷ [])) (begun-quiet (es ++ told_in_stop m u) (Stopped x n ∷ []) (tt, tt) (in_stop-begun es m u h old))

@@ -40,8 +40,11 @@ use Rattle.dr_facts.proofs.Tables.{at_part}
 use Rattle.dr_laws_sound.specs.Acknowledged.{acknowledgements, wrote, acked, acknowledged_by, said_in, IsUnlanded, AcknowledgesAnswered, AcknowledgedIsAnswered}
 use Rattle.dr_laws_sound.proofs.Turns.{act-cases, after_act, done_in_stop, server_at, server_of}
 use Rattle.dr_laws_sound.proofs.Parts as parts
-use Rattle.dr_laws_sound.proofs.Hushed.{mirrors, cuts_any, Unheard, unheard-none, mirrors-then, uncut-then, HasStop, Mute, Turned, act-turned, none-then, Mum, mum-same, mum-then, StaysPending, pending-same, Hush, AllHush, none-hush, then-hush, Comes, carry-hushed}
-use Rattle.dr_laws_sound.proofs.HushedPlans.{HushedPlan, NotHeld, done-not, refused-not, phase-not, says-hush, choice-hush, last-hush, move-hush, keep-hush, keeps-hush, where-suspended, suspend-hush, acknowledges, step-hush, if-plan, unless-plan, named-plan, compare-hush, lines-hush}
+use Rattle.dr_laws_sound.proofs.Hushed.{mirrors, cuts_any, Unheard, unheard-none, mirrors-then, uncut-then, HasStop, Mute, Turned, act-turned, none-then, Mum, mum-same, mum-then, StaysPending, pending-same, AllHush, Comes, carry-hushed}
+use Rattle.dr_laws_sound.proofs.HushedPlans.{HushedPlan, NotHeld, done-not, refused-not, phase-not, acknowledges, case-hushed, says-hushed, lines-hushed, if-plan, unless-plan, named-plan}
+use Rattle.dr_laws_sound.proofs.Cases.{of-case, Compares}
+use Rattle.dr_facts.proofs.Entries.{any_world, any_reason, fine-none, fine-now}
+use Rattle.dr_facts.proofs.SharedEntries.{copies-fine, send_first-fine, after_write-fine, starts-fine}
 
 -- what is acknowledged where a plan ends well
 abbrev if_well : Option Refusal → List ℕ → List ℕ
@@ -129,6 +132,16 @@ then-told w ds es ns hush rest = subst (λ o. Told w o ns) (sym (carry-append w 
           way = settles-first h.mum.added t.added h.mum.silent.plain t.way;
         }
     by (v, Some r) h = record { added = h.mum.added; events = h.mum.events; acks = h.mum.silent.none; kept = λ e q. absurd cc; uncut = h.mum.silent.uncut refl; way = inl h.mum.silent.plain }
+
+-- a source's targets keep a track
+keeps-hush : (volumes : List ℕ) (v t : ℕ) → AllHush true (copy_first volumes v t)
+keeps-hush = copies-fine any_world (λ w a. Mute true a) any_reason (λ u t w any. refl) (λ u t w any. refl)
+
+now-hush : (m : Move) (ds : List Entry) → Mute true (Make m) → AllHush true ds → AllHush true (now m ∷ ds)
+now-hush m ds mute rest = fine-now any_world (λ w a. Mute true a) any_reason m ds (λ w any. mute) rest
+
+none-hush : AllHush true []
+none-hush = fine-none any_world (λ w a. Mute true a) any_reason
 
 -- checks
 check-told : (w : World) (ok : Control → Bool) (r : Refusal) (es : List Entry) (ns : List ℕ) → (ok w.control ≡ true → Told w (carry w es) ns) → Told w (carry w (check ok r ∷ es)) ns
@@ -265,8 +278,8 @@ module _ (k : Control) (n v t : ℕ) where
   keep-does u k = by (copies_from v (fields_at k u) && not (fields_at k u).reversing) (not (contains (fields_at k u).own t)) ((fields_at k u).recorded && not (contains (fields_at k u).source_changes t))
     where
       by : (a b c : Bool) → Doing (cond a (cond b (Do (Make (Keep u t))) (cond c (Do (Make (Note u t))) Pass)) Pass)
-      by true true c = tt
-      by true false true = tt
+      by true true c = refl
+      by true false true = refl
       by true false false = tt
       by false b c = tt
 
@@ -307,19 +320,15 @@ module _ (k : Control) (n v t : ℕ) where
   mirrored-told : (w : World) (u : ℕ) → is_running v w.control ≡ true → Told w (carry w (land_mirrored k.volumes n v t u)) (n ∷ [])
   mirrored-told w u runs =
       subst (λ ds. Told w (carry w ds) (n ∷ [])) (sym (append_assoc (now (Unsync v t) ∷ copy_first k.volumes u t) (now (Mirror u t v n) ∷ copy_first k.volumes v t) (now (LandBoth n v t) ∷ [])))
-      (then-told w (now (Unsync v t) ∷ copy_first k.volumes u t) (now (Mirror u t v n) ∷ lands_behind k.volumes) (n ∷ []) (move-hush (Unsync v t) _ tt (keeps-hush k.volumes u t))
+      (then-told w (now (Unsync v t) ∷ copy_first k.volumes u t) (now (Mirror u t v n) ∷ lands_behind k.volumes) (n ∷ []) (now-hush (Unsync v t) _ refl (keeps-hush k.volumes u t))
       (λ x on stays. mirror-told x u (runs-on w x runs on stays)))
 
-  where-hush : (u : ℕ) (d : Entry) → Hush true d → Hush true (where_sent v u t d)
-  where-hush u d hush j = choice-hush true (sends_first v u t j) (d j) Pass (hush j) tt
-
-  sent-hush : (u : ℕ) (vs : List ℕ) → AllHush true (map (where_sent v u t) (map (keep_on u t) vs ++ store_on v u t ∷ strike_on v t ∷ []))
-  sent-hush u [] = then-hush _ _ (where-hush u (store_on v u t) (λ j. tt)) (last-hush (where_sent v u t (strike_on v t)) (where-hush u (strike_on v t) (λ j. tt)))
-  sent-hush u (x ∷ vs) = then-hush _ _ (where-hush u (keep_on u t x) (keep-hush true u t x)) (sent-hush u vs)
+  sent-hush : (u : ℕ) → AllHush true (send_first k.volumes v u t)
+  sent-hush u = send_first-fine any_world (λ w a. Mute true a) any_reason (λ u t w any. refl) (λ u t w any. refl) k.volumes v u t (λ w any. refl) (λ last w any. refl) (λ last w any. refl)
 
   collided-told : (w : World) (u : ℕ) → is_running v w.control ≡ true → Told w (carry w (send_first k.volumes v u t ++ land_alone k.volumes n v t)) (n ∷ [])
   collided-told w u runs =
-      then-told w (send_first k.volumes v u t) (land_alone k.volumes n v t) (n ∷ []) (then-hush (suspend_where (send_refusal v u) v) _ (where-suspended true (send_refusal v u) v) (sent-hush u k.volumes))
+      then-told w (send_first k.volumes v u t) (land_alone k.volumes n v t) (n ∷ []) (sent-hush u)
       (λ x on stays. alone-told x (runs-on w x runs on stays))
 
   -- what is acknowledged where the write waits, and where it doesn't
@@ -327,8 +336,8 @@ module _ (k : Control) (n v t : ℕ) where
   unless_waits b = cond b [] (n ∷ [])
 
   parted-told : (w : World) (busy : Bool) → is_running v w.control ≡ true → Told w (carry w (now (Suspend v busy) ∷ cond busy [] (land_alone k.volumes n v t))) (unless_waits busy)
-  parted-told w true runs = hush-told w _ (carry-hushed true w _ (move-hush (Suspend v true) [] tt none-hush))
-  parted-told w false runs = then-told w (now (Suspend v false) ∷ []) (land_alone k.volumes n v t) (n ∷ []) (move-hush (Suspend v false) [] tt none-hush) (λ x on stays. alone-told x (runs-on w x runs on stays))
+  parted-told w true runs = hush-told w _ (carry-hushed true w _ (now-hush (Suspend v true) [] refl none-hush))
+  parted-told w false runs = then-told w (now (Suspend v false) ∷ []) (land_alone k.volumes n v t) (n ∷ []) (now-hush (Suspend v false) [] refl none-hush) (λ x on stays. alone-told x (runs-on w x runs on stays))
 
   entries-told : (w : World) → is_running v w.control ≡ true → Told w (carry w (land_entries k n v t)) (unless_waits (waits k v t))
   entries-told w runs = by (held (fields_at k v)) (goes_over (fields_at k v) t) (is_parted k v) (collides (fields_at k v) t)
@@ -348,11 +357,7 @@ module _ (k : Control) (n v t : ℕ) where
       (drop-told w n (is_settled v) (relation_state k v) _ _ refl (entries-told w runs))))
 
   after-hush : (s : ℕ) → AllHush true (after_write k v t s)
-  after-hush s = by (collides (fields_at k v) t)
-    where
-      by : (b : Bool) → AllHush true (cond b (suspend_after v s) (part_after v s))
-      by true = suspend-hush v s
-      by false = last-hush (part_running v) (λ j. choice-hush true (is_part (fields_at j v).primary && is_running v j) (Do (Make (Suspend v (is_grouped j v (partner_of j v))))) Pass tt tt)
+  after-hush s = after_write-fine any_world (λ w a. Mute true a) any_reason k v t s (λ busy w any. refl)
 
 -- ---- a server starts
 
@@ -361,10 +366,7 @@ one_or_none None = []
 one_or_none (Some n) = n ∷ []
 
 start-hush : (s : ℕ) (vs : List ℕ) → AllHush true (start_entries s vs)
-start-hush s [] = none-hush
-start-hush s (v ∷ vs) =
-    then-hush (redo_on s v) _ (λ k. choice-hush true (belongs k s v) (Do (Redo v)) Pass tt tt)
-    (then-hush (restart_on s v) _ (λ k. choice-hush true (belongs k s v && must_restart (fields_at k v)) (Do (Make (Restart v))) Pass tt tt) (start-hush s vs))
+start-hush s vs = starts-fine any_world (λ w a. Mute true a) any_reason s vs (λ v w any. refl) (λ v w any. refl)
 
 same-landed : (j k : Control) (s : ℕ) → StaysPending j k → landed_on k s ≡ landed_on j s
 same-landed j k s st = λ i. option_map (λ (p : Pending). p.w) (find (λ p. p.landed && (list_any (nat_eq p.volume) (st.volumes i) && nat_eq (st.server p.volume i) s)) (st.pending i))
@@ -416,16 +418,6 @@ plan-told w p ns first follows last (u, Some r) t =
     }
 
 -- a plan that acknowledges nothing
-hushed-told : (w : World) (p : Plan) → HushedPlan p → Mum false w (carried_out w p).0
-hushed-told w p h = by (carry (begun w p) p.entries) (carry-hushed false (begun w p) p.entries h.entries)
-  where
-    first : Mum false w (begun w p)
-    first = record { added = p.told; events = refl; silent = h.told }
-
-    by : (o : Outcome) → Comes false (begun w p) o → Mum false w (finish p o.0 o.1)
-    by (u, None) c = let m = mum-then false w (begun w p) u first c.mum in record { added = m.added; events = m.events; silent = m.silent }
-    by (u, Some r) c = mum-then false w u _ (mum-then false w (begun w p) u first c.mum) (follow-told false w u r p.follows h.follows)
-
 -- ---- steps
 
 -- no write was mirrored; or one was, and it was acknowledged or a stop was told, and no volume was cut
@@ -449,21 +441,21 @@ answered-not p k None each = each k
 answered-not p k (Some r) each = refused-not r
 
 -- a step that can acknowledge nothing
-other-none : (step : Step) (said : Said) → acknowledges step ≡ false → acknowledged_by (Ok step) said ≡ []
+other-none : (step : Step) (said : Said) → acknowledges (Ok step) ≡ false → acknowledged_by (Ok step) said ≡ []
 other-none (Write v t offset len bytes) said other = absurd cc
 other-none (Apply n) said other = absurd cc
 other-none (Start name) said other = absurd cc
 other-none step said other = refl
 
-hushed-answers : (asked : Result Step ℕ) → ((said : Said) → acknowledged_by asked said ≡ []) → (w : World) (p : Plan) → HushedPlan p → Answers asked w p
+hushed-answers : (asked : Result Step ℕ) → ((said : Said) → acknowledged_by asked said ≡ []) → (w : World) (p : Plan) → HushedPlan w p → Answers asked w p
 hushed-answers asked none w p h =
-    let m : Mum false w (carried_out w p).0 = hushed-told w p h in
+    let m : Mum false w (carried_out w p).0 = h.mum in
     record { told = m.added; events = m.events; acks = m.silent.none ∙ sym (none _); held = λ n e. absurd (answered-not p (carried_out w p).0.control (carried_out w p).1 h.says n e); way = inl m.silent.plain }
 
 -- a refusal
 refused-answers : (asked : Result Step ℕ) → ((r : Refusal) → acknowledged_by asked (Refused r) ≡ []) → (w : World) (r : Refusal) → Answers asked w (refuses r)
 refused-answers asked none w r =
-    let m : Mum false w (carried_out w (refuses r)).0 = hushed-told w (refuses r) (says-hush (Refused r) (refused-not r)) in
+    let m : Mum false w (carried_out w (refuses r)).0 = (says-hushed w (Refused r) (refused-not r)).mum in
     record { told = m.added; events = m.events; acks = m.silent.none ∙ sym (by (carry (begun w (refuses r)) []) (carry-none (begun w (refuses r)))); held = λ n e. absurd (answered-not (refuses r) (carried_out w (refuses r)).0.control (carried_out w (refuses r)).1 (λ k. refused-not r) n e); way = inl m.silent.plain }
   where
     by : (o : Outcome) → o ≡ (begun w (refuses r), None) → acknowledged_by asked (answered (refuses r) (finish (refuses r) o.0 o.1).control o.1) ≡ []
@@ -557,13 +549,13 @@ module _ (w : World) (line : ℕ) where
       on : (s : ℕ) → Answers (Ok (Start name)) w (only_says (Done Alone))
       on s =
           let p : Plan = only_says (Done Alone) in
-          let m : Mum false w (carried_out w p).0 = hushed-told w p (says-hush (Done Alone) (done-not Alone)) in
+          let m : Mum false w (carried_out w p).0 = (says-hushed w (Done Alone) (done-not Alone)).mum in
           record { told = m.added; events = m.events; acks = m.silent.none ∙ sym (none (carry (begun w p) [])); held = λ n e. absurd (answered-not p (carried_out w p).0.control (carried_out w p).1 (λ k. done-not Alone) n e); way = inl m.silent.plain }
         where
           none : (o : Outcome) → acked (answered (only_says (Done Alone)) (finish (only_says (Done Alone)) o.0 o.1).control o.1) ≡ []
           none (u, None) = refl
           none (u, Some r) = refl
-  step-answers step alone = hushed-answers (Ok step) (λ said. other-none step said refl) w (plan_of w.control w.events line step) (step-hush w.control w.events line step refl)
+  step-answers step alone = hushed-answers (Ok step) (λ said. other-none step said refl) w (plan_of w.control w.events line step) (case-hushed w line (Ok step) (plan_of w.control w.events line step) (of-case w.control w.events line step) refl)
 
   none-refused : (step : Step) (r : Refusal) → acknowledged_by (Ok step) (Refused r) ≡ []
   none-refused (Write v t offset len bytes) r = refl
@@ -596,7 +588,7 @@ answers-task v t a m way =
 
 -- an `@run`
 run-mum : (w : World) (t : Task) → Mum false w (course w t).last.world
-run-mum w t = parts.last-plan (Mum false w) (λ u p comes m. let h = mum-then false w u (carried_out u p).0 m (hushed-told u p comes.hushed) in record { added = h.added; events = h.events; silent = h.silent }) w t (mum-same false w)
+run-mum w t = parts.last-plan (Mum false w) (λ u p comes m. let h = mum-then false w u (carried_out u p).0 m (case-hushed u 0 comes.asked p (comes.case 0) comes.other).mum in record { added = h.added; events = h.events; silent = h.silent }) w t (mum-same false w)
 
 form-not : (s : ℕ) (k : Control) (r : Option Refusal) → NotHeld (form_said s k r)
 form-not s k None = phase-not (session_in k.sessions s)
@@ -612,19 +604,19 @@ told-task w t = by t.asked
         let said : Said = form_said s x.world.control x.refusal in
         let run : Task = record { line = t.line; asked = Ok (Run s n); listed = t.listed } in
         let m : Mum false w x.world = run-mum w run in
-        let a : Answers (Ok (Run s n)) x.world (only_says said) = hushed-answers (Ok (Run s n)) (λ a. refl) x.world (only_says said) (says-hush said (form-not s x.world.control x.refusal)) in
-        answers-task w run a m (inl (mirrors-then m.added a.told m.silent.plain ∙ (hushed-told x.world (only_says said) (says-hush said (form-not s x.world.control x.refusal))).silent.plain))
+        let a : Answers (Ok (Run s n)) x.world (only_says said) = hushed-answers (Ok (Run s n)) (λ a. refl) x.world (only_says said) (says-hushed x.world said (form-not s x.world.control x.refusal)) in
+        answers-task w run a m (inl (mirrors-then m.added a.told m.silent.plain ∙ (says-hushed x.world said (form-not s x.world.control x.refusal)).mum.silent.plain))
     by (Ok (Compare v u)) =
         let asked : Result Step ℕ = Ok (Compare v u) in
         let a : Answers asked w (compared w v u) =
         if-plan (Answers asked w) (refused-answers asked (λ r. refl) w) (has_room w.events) (compare_plan w.control w.contents v u) (refuses JournalFull)
-        (hushed-answers asked (λ a. refl) w (compare_plan w.control w.contents v u) (compare-hush w.control w.contents v u)) (refused-answers asked (λ r. refl) w JournalFull) in
+        (hushed-answers asked (λ a. refl) w (compare_plan w.control w.contents v u) (case-hushed w t.line asked (compare_plan w.control w.contents v u) (Compares w.contents v u) refl)) (refused-answers asked (λ r. refl) w JournalFull) in
         answers-task w (record { line = t.line; asked = asked; listed = t.listed }) a (record { added = []; events = sym (append-nil w.events); silent = unheard-none false }) a.way
     by (Ok Image) =
         let asked : Result Step ℕ = Ok Image in
         let a : Answers asked w (imaged w t.listed) =
         if-plan (Answers asked w) (refused-answers asked (λ r. refl) w) (has_room_for image_events w.events) (image_plan t.listed) (refuses JournalFull)
-        (hushed-answers asked (λ a. refl) w (image_plan t.listed) (lines-hush (image_told t.listed) (image-lines t.listed))) (refused-answers asked (λ r. refl) w JournalFull) in
+        (hushed-answers asked (λ a. refl) w (image_plan t.listed) (lines-hushed w (image_told t.listed) (image-lines t.listed))) (refused-answers asked (λ r. refl) w JournalFull) in
         answers-task w (record { line = t.line; asked = asked; listed = t.listed }) a (record { added = []; events = sym (append-nil w.events); silent = unheard-none false }) a.way
     by (Ok step) = let a = plan-answers w t.line step refl in answers-task w (record { line = t.line; asked = Ok step; listed = t.listed }) a (record { added = []; events = sym (append-nil w.events); silent = unheard-none false }) a.way
     by (Err column) = let a = refused-answers (Err column) (λ r. refl) w (Syntax column) in answers-task w (record { line = t.line; asked = Err column; listed = t.listed }) a (record { added = []; events = sym (append-nil w.events); silent = unheard-none false }) a.way

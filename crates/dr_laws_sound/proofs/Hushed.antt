@@ -1,19 +1,22 @@
 -- Acts that acknowledge no write, mirror none and leave those that are pending; and entries that come to no others. Where they are still,
 -- they cut no volume, too.
-use Rattle.std.proofs.Common.{ℕ, ◌≡◌, ◌⊎◌, inl, inr, List, [], ◌∷◌, ◌++◌, refl, ap, ◌∙◌, sym, append_assoc, Bool, true, false, cond, ◌||◌, map, Option, Some, None}
+use Rattle.std.proofs.Common.{ℕ, ◌≡◌, ◌⊎◌, inl, inr, List, [], ◌∷◌, ◌++◌, refl, ap, ◌∙◌, sym, append_assoc, Bool, true, false, not, ◌||◌, Option, Some, None}
 use Rattle.std.proofs.lemmas.List.{append-nil}
 use Rattle.std.specs.List.{flat_map, list_any}
 use Rattle.std.proofs.lemmas.Grind.{flat_map-append}
 use Rattle.std.proofs.lemmas.List.Folds.{list_any-append}
 use Rattle.dr_model.specs.declared.event.Event.{Event}
-use Rattle.dr_model.specs.declared.event.Event.TheVariants.{Mirrored, Left, Blanked, Restored, Stopped, Suspended, Frozen, Thawed, Recovered, Begin, Cut}
+use Rattle.dr_model.specs.declared.event.Event.TheVariants.{Ack, Mirrored, Stopped, Frozen, Thawed, Recovered, Cut}
 use Rattle.dr_logic.specs.Tables.{at}
 use Rattle.dr_model.specs.Control.{Control, Fuse, Pending, Volume, World}
-use Rattle.dr_model.specs.Layout.{Tracks}
-use Rattle.dr_model.specs.Relations.{is_bare, in_order, rest, turned, given_up}
-use Rattle.dr_model.specs.Pairs.{is_suspended}
-use Rattle.dr_model.specs.Moves.{Move, Land, Overwrite, Withdraw, Reverse, Release, Suspend, LandBoth, Mirror, Hold, told_blank, told_restored, told, told_in_stop, landed, settled, settled_in_stop, target, Lift, told_freed}
-use Rattle.dr_model.specs.Carry.{Act, Make, OpenAttempt, Redo, Acknowledge, Drop, EndFreeze, EndThaw, EndRecovery, act, Turn, Next, Pass, Do, End, Entry, Outcome, carry, continue, go}
+use Rattle.dr_model.specs.Moves.{Move, Land, Overwrite, LandBoth, Hold, told, told_in_stop, landed, settled, settled_in_stop, target}
+use Rattle.dr_model.specs.Carry.{Act, Make, OpenAttempt, Redo, Acknowledge, Drop, EndFreeze, EndThaw, EndRecovery, act, Turn, Entry, Outcome, carry}
+use Rattle.dr_model.specs.Carried.{begun, carried_out}
+use Rattle.dr_model.specs.PlanParts.{Plan}
+use Rattle.dr_ids.specs.declared.refusal.Refusal.{Refusal}
+use Rattle.dr_facts.proofs.Emits.{Tag, Acks, Mirrors, Cuts, Of, all_tags, emits, act_emits, Lists, each-told, stop-onto}
+use Rattle.dr_facts.proofs.Entries.{any_world, any_reason, AllFine, carry-kept, FineFrom, plan-from}
+use Rattle.dr_laws_sound.proofs.ChecksFirst.{carry-on}
 use Rattle.dr_logic.proofs.Truth.{false_true}
 use Rattle.dr_model.specs.Groups.{In}
 use Rattle.dr_facts.proofs.Lists.{in-second}
@@ -69,89 +72,61 @@ pub record HasStop (es : List Event) : Type 0 where
 stop-last : (es : List Event) (x n : ℕ) → HasStop (es ++ Stopped x n ∷ [])
 stop-last es x n = record { server = x; landed = n; here = in-second es (Stopped x n ∷ []) (Stopped x n) (inl refl) }
 
--- moves by which no write lands and none is mirrored, and acts that acknowledge and drop none
-abbrev pub MuteMove : Bool → Move → Type 0
-MuteMove still (Land n v t) = ⊥
-MuteMove still (Overwrite n v t) = ⊥
-MuteMove still (LandBoth n v t) = ⊥
-MuteMove still (Mirror v t u n) = ⊥
-MuteMove still (Hold v s n first) = still ≡ false
-MuteMove still m = Unit {0}
+-- the kinds of events that are none of these
+abbrev pub is_unheard : Bool → Tag → Bool
+is_unheard still Acks = false
+is_unheard still Mirrors = false
+is_unheard still Cuts = not still
+is_unheard still k = true
 
+-- acts that tell no others, and drop no write
 abbrev pub Mute : Bool → Act → Type 0
-Mute still (Make m) = MuteMove still m
-Mute still (OpenAttempt v s n) = still ≡ false
-Mute still (Acknowledge n) = ⊥
 Mute still (Drop n) = ⊥
-Mute still a = Unit {0}
+Mute still a = all_tags (is_unheard still) (act_emits a) ≡ true
 
-abbrev pub MuteNext : Bool → Next → Type 0
-MuteNext still (Do a) = Mute still a
-MuteNext still x = Unit {0}
-
--- what they tell
 module _ (still : Bool) where
-  blanks-none : (v : ℕ) (ts : List ℕ) → Unheard still (map (Blanked v) ts)
-  blanks-none v [] = unheard-none still
-  blanks-none v (t ∷ ts) = let rest = blanks-none v ts in record { none = rest.none; plain = rest.plain; uncut = rest.uncut }
+  no-ack : (e : Event) → Of (is_unheard still) e → acknowledgement e ≡ []
+  no-ack (Ack n) h = absurd cc
+  no-ack e h = refl
 
-  restored-none : (v s n : ℕ) (own : Tracks) → Unheard still (told_restored v s n own)
-  restored-none v s n own = by (is_bare own)
-    where
-      by : (b : Bool) → Unheard still (cond b (told_blank v n own ++ Restored s v ∷ []) [])
-      by true = unheard-then still (told_blank v n own) (Restored s v ∷ []) (blanks-none v (in_order n (rest n own))) (record { none = refl; plain = refl; uncut = λ h. refl })
-      by false = unheard-none still
+  no-mirror : (e : Event) → Of (is_unheard still) e → mirror e ≡ []
+  no-mirror (Mirrored n v) h = absurd cc
+  no-mirror e h = refl
 
-  left-none : (v s n p i : ℕ) (own : Tracks) → Unheard still (Left i p ∷ told_restored v s n own)
-  left-none v s n p i own = let rest = restored-none v s n own in record { none = rest.none; plain = rest.plain; uncut = rest.uncut }
+  no-cut : (e : Event) → Of (is_unheard still) e → still ≡ true → is_cut e ≡ false
+  no-cut (Cut s n v) h so = false_true (ap not so) h
+  no-cut e h so = refl
 
-  suspended-none : (none : Bool) (v : ℕ) → Unheard still (cond none [] (Suspended v ∷ []))
-  suspended-none true v = unheard-none still
-  suspended-none false v = record { none = refl; plain = refl; uncut = λ h. refl }
+  pub unheard-lists : Lists (Of (is_unheard still)) (Unheard still)
+  unheard-lists = record {
+    none = unheard-none still;
+    more = λ e es h rest. record {
+      none = (λ i. no-ack e h i ++ rest.none i);
+      plain = (λ i. no-mirror e h i ++ rest.plain i);
+      uncut = λ so. (λ i. no-cut e h so i || rest.uncut so i);
+    };
+  }
 
-  freed-none : (v : ℕ) (had : Bool) → Unheard still (told_freed v had)
-  freed-none v true = record { none = refl; plain = refl; uncut = λ h. refl }
-  freed-none v false = unheard-none still
+  abbrev emits-unheard : Move → Type 0
+  emits-unheard m = all_tags (is_unheard still) (emits m) ≡ true
 
-  held-none : (first : Bool) (v s n : ℕ) → still ≡ false → Unheard still (cond first (Begin s n ∷ Cut s n v ∷ []) (Cut s n v ∷ []))
-  held-none true v s n loud = record { none = refl; plain = refl; uncut = λ h. false_true loud h }
-  held-none false v s n loud = record { none = refl; plain = refl; uncut = λ h. false_true loud h }
+  told-none : (m : Move) (u : Volume) → emits-unheard m → Unheard still (told m u)
+  told-none = each-told (is_unheard still) (Unheard still) unheard-lists
 
-  told-none : (m : Move) (u : Volume) → MuteMove still m → Unheard still (told m u)
-  told-none (Land n v t) u mute = absurd mute
-  told-none (Overwrite n v t) u mute = absurd mute
-  told-none (LandBoth n v t) u mute = absurd mute
-  told-none (Mirror v t from n) u mute = absurd mute
-  told-none (Withdraw v) u mute = blanks-none v (in_order u.tracks (rest u.tracks u.fields.own))
-  told-none (Reverse v None) u mute = restored-none v u.fields.source u.tracks (turned u.fields).own
-  told-none (Reverse v (Some p)) u mute = left-none v u.fields.source u.tracks p u.fields.session (turned u.fields).own
-  told-none (Release v t) u mute = restored-none v u.fields.source u.tracks (given_up u.fields t).own
-  told-none (Suspend v busy) u mute = suspended-none (is_suspended u.fields.primary_state) v
-  told-none (Lift v) u mute = freed-none v u.fields.flash_hold
-  told-none (Hold v s n first) u mute = held-none first v s n mute
-  told-none m u mute = record { none = refl; plain = refl; uncut = λ h. refl }
+  pub stopped-none : (m : Move) (u : Volume) → emits-unheard m → Unheard still (told_in_stop m u ++ Stopped u.server (landed m) ∷ [])
+  stopped-none m u mute = stop-onto (is_unheard still) (Unheard still) unheard-lists m u (Stopped u.server (landed m) ∷ []) mute (record { none = refl; plain = refl; uncut = λ h. refl })
 
-  -- a move that is cut short
-  stop-none : (m : Move) (u : Volume) → MuteMove still m → Unheard still (told_in_stop m u)
-  stop-none (Land n v t) u mute = absurd mute
-  stop-none (Overwrite n v t) u mute = absurd mute
-  stop-none (LandBoth n v t) u mute = absurd mute
-  stop-none m u mute = told-none m u mute
+  settled-same : (m : Move) (ps : List Pending) → emits-unheard m → settled m ps ≡ ps
+  settled-same (Land n v t) ps mute = absurd cc
+  settled-same (Overwrite n v t) ps mute = absurd cc
+  settled-same (LandBoth n v t) ps mute = absurd cc
+  settled-same m ps mute = refl
 
-  pub stopped-none : (m : Move) (u : Volume) → MuteMove still m → Unheard still (told_in_stop m u ++ Stopped u.server (landed m) ∷ [])
-  stopped-none m u mute = unheard-then still (told_in_stop m u) (Stopped u.server (landed m) ∷ []) (stop-none m u mute) (record { none = refl; plain = refl; uncut = λ h. refl })
-
-settled-same : (m : Move) (ps : List Pending) → MuteMove false m → settled m ps ≡ ps
-settled-same (Land n v t) ps mute = absurd mute
-settled-same (Overwrite n v t) ps mute = absurd mute
-settled-same (LandBoth n v t) ps mute = absurd mute
-settled-same m ps mute = refl
-
-stop-same : (m : Move) (ps : List Pending) → MuteMove false m → settled_in_stop m ps ≡ ps
-stop-same (Land n v t) ps mute = absurd mute
-stop-same (Overwrite n v t) ps mute = absurd mute
-stop-same (LandBoth n v t) ps mute = absurd mute
-stop-same m ps mute = refl
+  stop-same : (m : Move) (ps : List Pending) → emits-unheard m → settled_in_stop m ps ≡ ps
+  stop-same (Land n v t) ps mute = absurd cc
+  stop-same (Overwrite n v t) ps mute = absurd cc
+  stop-same (LandBoth n v t) ps mute = absurd cc
+  stop-same m ps mute = refl
 
 -- From w to u the journal was told of none of these.
 pub record Mum (still : Bool) (w u : World) : Type 0 where
@@ -198,22 +173,13 @@ module _ (still : Bool) (w : World) where
   abbrev quiet : (es : List Event) (u : World) → u.events ≡ w.events ++ es → acknowledgements es ≡ [] → mirrors es ≡ [] → cuts_any es ≡ false → Mum still w u
   quiet es u events none plain uncut = one es u events (record { none = none; plain = plain; uncut = λ h. uncut })
 
-  -- what is mute is so with cuts
-  loud : (m : Move) → MuteMove still m → MuteMove false m
-  loud (Hold v s n first) mute = refl
-  loud (Land n v t) mute = absurd mute
-  loud (Overwrite n v t) mute = absurd mute
-  loud (LandBoth n v t) mute = absurd mute
-  loud (Mirror v t u n) mute = absurd mute
-  loud m mute = tt
-
   nothing-told : (u : World) → u.events ≡ w.events → Mum still w u
   nothing-told u e = record { added = []; events = e ∙ sym (append-nil w.events); silent = unheard-none still }
 
   done-hushed : (a : Act) (f : Option Fuse) → Mute still a → Hushed still w {E = ℕ} (after_act w a f) None
   done-hushed (Make m) f mute = record {
     mum = one (told m (w.control.volume (target m))) _ refl (told-none still m (w.control.volume (target m)) mute);
-    stays = record { pending = settled-same m w.control.pending (loud m mute); volumes = refl; server = move-server w m _ refl };
+    stays = record { pending = settled-same still m w.control.pending mute; volumes = refl; server = move-server w m _ refl };
     on = λ e. refl;
   }
   done-hushed (OpenAttempt v s n) f mute = record {
@@ -222,7 +188,7 @@ module _ (still : Bool) (w : World) where
     on = λ e. refl;
   }
   done-hushed (Redo v) f mute = record { mum = nothing-told _ refl; stays = record { pending = refl; volumes = refl; server = λ u. refl }; on = λ e. refl }
-  done-hushed (Acknowledge n) f mute = absurd mute
+  done-hushed (Acknowledge n) f mute = absurd cc
   done-hushed (Drop n) f mute = absurd mute
   done-hushed (EndFreeze l m) f mute = record { mum = quiet (Frozen l m ∷ []) _ refl refl refl refl; stays = record { pending = refl; volumes = refl; server = λ u. refl }; on = λ e. refl }
   done-hushed (EndThaw l m) f mute = record { mum = quiet (Thawed l m ∷ []) _ refl refl refl refl; stays = record { pending = refl; volumes = refl; server = λ u. refl }; on = λ e. refl }
@@ -237,7 +203,7 @@ module _ (still : Bool) (w : World) where
   counts-hushed (Make m) mute = λ f. record {
     hushed = record {
       mum = one (told_in_stop m (w.control.volume (target m)) ++ Stopped (w.control.volume (target m)).server (landed m) ∷ []) _ refl (stopped-none still m (w.control.volume (target m)) mute);
-      stays = record { pending = stop-same m w.control.pending (loud m mute); volumes = refl; server = move-server w m _ refl };
+      stays = record { pending = stop-same still m w.control.pending mute; volumes = refl; server = move-server w m _ refl };
       on = λ e. absurd cc;
     };
     ends = inr (stop-last (told_in_stop m (w.control.volume (target m))) (w.control.volume (target m)).server (landed m));
@@ -267,45 +233,27 @@ module _ (still : Bool) (w : World) where
 
 -- ---- entries
 
-abbrev pub Hush : Bool → Entry → Type 0
-Hush still d = (k : Control) → MuteNext still (d k)
-
-unfoldable pub EachHush : Bool → List Entry → Type 0
-EachHush still [] = Unit {0}
-EachHush still (d ∷ ds) = Hush still d × EachHush still ds
-
-pub record AllHush (still : Bool) (ds : List Entry) : Type 0 where
-  pub each : EachHush still ds
-
-pub none-hush : {still : Bool} → AllHush still []
-unfolding EachHush
-none-hush = record { each = tt }
-
-pub then-hush : {still : Bool} (d : Entry) (ds : List Entry) → Hush still d → AllHush still ds → AllHush still (d ∷ ds)
-unfolding EachHush
-then-hush d ds first more = record { each = (first, more.each) }
-
-pub append-hush : {still : Bool} (ds es : List Entry) → AllHush still ds → AllHush still es → AllHush still (ds ++ es)
-unfolding EachHush
-append-hush [] es p q = q
-append-hush (d ∷ ds) es p q = record { each = (p.each.0, (append-hush ds es (record { each = p.each.1 }) q).each) }
+abbrev pub AllHush : Bool → List Entry → Type 0
+AllHush still = AllFine any_world (λ w a. Mute still a) any_reason
 
 module _ (still : Bool) where
   abbrev pub Comes : World → Outcome → Type 0
   Comes w o = Hushed still w o.0 o.1
 
-  continue-hushed : (w : World) (t : Turn) (next : World → Outcome) → Hushed still w t.0 t.1 → ((v : World) → Comes v (next v)) → Comes w (continue t.0 t.1 next)
-  continue-hushed w (v, None) next first rest =
-      let more = rest v in
-      record { mum = mum-then still w v _ first.mum more.mum; stays = pending-then w.control v.control _ first.stays more.stays; on = λ e. more.on e ∙ first.on refl }
-  continue-hushed w (v, Some s) next first rest = record { mum = first.mum; stays = first.stays; on = λ e. absurd cc }
+  -- from a world, the journal was told of none of these, and what is pending stayed
+  abbrev Since : World → World → Type 0
+  Since w u = Mum still w u × StaysPending w.control u.control
 
-  go-hushed : (w : World) (x : Next) (next : World → Outcome) → MuteNext still x → ((v : World) → Comes v (next v)) → Comes w (go w x next)
-  go-hushed w Pass next mute rest = rest w
-  go-hushed w (End r) next mute rest = record { mum = mum-same still w; stays = pending-same w.control; on = λ e. absurd cc }
-  go-hushed w (Do a) next mute rest = continue-hushed w (act w a) next (act-turned still w a mute).hushed rest
+  act-since : (w u : World) (a : Act) → Mute still a → Since w u → Since w (act u a).0
+  act-since w u a mute h = let t = (act-turned still u a mute).hushed in (mum-then still w u _ h.0 t.mum, pending-then w.control u.control _ h.1 t.stays)
 
   pub carry-hushed : (w : World) (ds : List Entry) → AllHush still ds → Comes w (carry w ds)
-  unfolding carry EachHush
-  carry-hushed w [] hush = record { mum = mum-same still w; stays = pending-same w.control; on = λ e. refl }
-  carry-hushed w (d ∷ ds) hush = go-hushed w (d w.control) (λ v. carry v ds) (hush.each.0 w.control) (λ v. carry-hushed v ds (record { each = hush.each.1 }))
+  carry-hushed w ds hush =
+      let since : Since w (carry w ds).0 = carry-kept any_world (λ w a. Mute still a) any_reason (Since w) (λ u h. tt) (λ u a mute h. act-since w u a mute h) ds hush w (mum-same still w, pending-same w.control) in
+      record { mum = since.0; stays = since.1; on = carry-on w ds }
+
+  -- a plan whose acts are such
+  pub plan-mum : (First Why : Refusal → Type 0) (Ok : World → Act → Type 0) → ((u : World) (a : Act) → Ok u a → Mute still a) → (w : World) (p : Plan) → Unheard still p.told → FineFrom any_world Ok First Why (begun w p) p.entries
+      → ((s : ℕ) → AllFine any_world Ok Why (p.follows s)) → Mum still w (carried_out w p).0
+  plan-mum First Why Ok mute w p told entries follows =
+      plan-from any_world Ok First Why (Mum still w) (λ u h. tt) (λ u a ok h. mum-then still w u _ h (act-turned still u a (mute u a ok)).hushed.mum) w p (record { added = p.told; events = refl; silent = told }) entries follows (λ u h. record { added = h.added; events = h.events; silent = h.silent })

@@ -1,5 +1,5 @@
 -- What acts and steps leave of a world: the writes issued so far, what is within limits, and the journal, which only grows.
-use Rattle.std.proofs.Common.{ℕ, ◌≡◌, ◌≤◌, ◌<◌, ◌+◌, List, [], ◌∷◌, ◌++◌, length, map, refl, ap, ◌∙◌, sym, arith, Bool, true, false, ◌||◌, cond, Option, Some, None, append_assoc, subst, Result}
+use Rattle.std.proofs.Common.{ℕ, ◌≡◌, ◌≤◌, ◌<◌, ◌+◌, List, [], ◌∷◌, ◌++◌, length, refl, ap, ◌∙◌, sym, arith, Bool, true, false, ◌||◌, Option, Some, None, append_assoc, subst, Result}
 use Rattle.dr_model.specs.declared.step.Step.{Step}
 use Rattle.std.specs.List.{list_any}
 use Rattle.std.proofs.lemmas.List.Sums.{fold-append}
@@ -9,7 +9,7 @@ use Rattle.dr_logic.specs.Tables.{at}
 use Rattle.dr_ids.specs.declared.refusal.Refusal.{Refusal}
 use Rattle.dr_ids.specs.declared.refusal.Refusal.TheVariants.{Stopped as StoppedIn}
 use Rattle.dr_model.specs.declared.event.Event.{Event}
-use Rattle.dr_model.specs.declared.event.Event.TheVariants.{Issue, Ack, Blanked, Restored, Stopped, Suspended, Started, Frozen, Thawed, Recovered, Begin, Cut}
+use Rattle.dr_model.specs.declared.event.Event.TheVariants.{Issue, Answer, Ack, Stopped, Started, Frozen, Thawed, Recovered}
 use Rattle.dr_model.specs.declared.said.Said.{Said}
 use Rattle.dr_model.specs.declared.said.Said.TheVariants.{Done}
 use Rattle.dr_model.specs.declared.said.Addition.TheVariants.{Alone, Wrote, Showed}
@@ -17,10 +17,8 @@ use Rattle.dr_model.specs.Answers.{answer}
 pub use Rattle.dr_model.specs.HeldWrites.{is_answer}
 use Rattle.dr_model.specs.Limits.{most_servers, most_volumes, most_tracks, most_pending}
 use Rattle.dr_model.specs.Control.{Control, Fuse, Pending, Volume, World, new_volume, nothing}
-use Rattle.dr_model.specs.Layout.{Tracks}
-use Rattle.dr_model.specs.Relations.{rest, in_order, is_bare, turned, given_up}
-use Rattle.dr_model.specs.Pairs.{is_suspended}
-use Rattle.dr_model.specs.Moves.{Move, Land, Overwrite, Keep, Note, Relate, Withdraw, Fetch, Resync, Reverse, Restore, Release, Store, Strike, Suspend, MakeSecondary, MakePrimary, DropPrimary, DropSecondary, Follow, Resume, TakeOver, FallBack, Yield, Unsync, Mirror, LandBoth, Thaw, Lift, Restart, Hold, Free, Seal, Finish, RaiseAttempt, RaiseFloor, Leave, Flash, Commit, Revert, told_blank, told_restored, told, told_in_stop, landed, target, settled, settled_in_stop, is_other, marked, FlashHold, FlashFree, Unstage, told_freed}
+use Rattle.dr_model.specs.Relations.{rest}
+use Rattle.dr_model.specs.Moves.{Move, Land, Overwrite, LandBoth, Hold, told, told_in_stop, landed, target, settled, settled_in_stop, is_other, marked}
 use Rattle.dr_model.specs.Carry.{Act, Make, OpenAttempt, Redo, Acknowledge, Drop, EndFreeze, EndThaw, EndRecovery, act, Next, Pass, Do, End, Entry, Outcome, carry, continue, go, follow}
 use Rattle.dr_model.specs.Plans.{Plan, entries_plan, name_bytes, same, always, none_follow, server_done, volume_done, link_done, with_pending, issue_done, show_done, stop_done, arm_on, starting, start_plan, make_path_done, remove_path_done}
 use Rattle.dr_model.specs.Forming.{Part, after_part}
@@ -32,6 +30,7 @@ use Rattle.dr_model.specs.SessionEntries.{members_on, first_number, reply_after}
 use Rattle.dr_model.specs.Messages.{lost}
 use Rattle.dr_model.specs.MessagePlans.{with_flight, says_posted, sending, told_begun, taking}
 use Rattle.dr_model.specs.SessionPlans.{with_sessions, table_plan, appointed, leaving, aborting, exchanged, says_phase, is_idle, member_with}
+use Rattle.dr_facts.proofs.Emits.{Of, Lists as ByEvents, by_moves, any-lists, emitted, stop-onto, all-told}
 use Rattle.dr_laws_sound.specs.Limits.{IsWithin}
 use Rattle.dr_facts.proofs.Sessions.{length-changed, changed-twice, length-left, joined-few}
 use Rattle.dr_model.specs.RecoveryPlans.{decided_in, recover_done}
@@ -53,18 +52,18 @@ pub record Stays (j k : Control) : Type 0 where
   pub sessions : length k.sessions ≤ length j.sessions
 
 -- no answer is among them
-abbrev pub Silent : List Event → Type 0
-Silent events = list_any is_answer events ≡ false
+abbrev pub NoAnswer : List Event → Type 0
+NoAnswer events = list_any is_answer events ≡ false
 
-silent-append : (es fs : List Event) → Silent es → Silent fs → Silent (es ++ fs)
-silent-append es fs first rest = list_any-append is_answer es fs ∙ ap (λ b. b || list_any is_answer fs) first ∙ rest
+none-append : (es fs : List Event) → NoAnswer es → NoAnswer fs → NoAnswer (es ++ fs)
+none-append es fs first rest = list_any-append is_answer es fs ∙ ap (λ b. b || list_any is_answer fs) first ∙ rest
 
 -- acts add events to the journal, and no answer
 pub record Onward (w u : World) : Type 0 where
   pub stays : Stays w.control u.control
   pub added : List Event
   pub events : u.events ≡ w.events ++ added
-  pub silent : Silent added
+  pub silent : NoAnswer added
 
 stays-same : (k : Control) → Stays k k
 stays-same k = record { servers = refl; tracks = λ v. refl; volumes = refl; issued = refl; pending = omega arith; sessions = omega arith }
@@ -90,7 +89,7 @@ onward-then w u v p q = record {
   stays = stays-then w.control u.control v.control p.stays q.stays;
   added = p.added ++ q.added;
   events = q.events ∙ ap (λ es. es ++ q.added) p.events ∙ append_assoc w.events p.added q.added;
-  silent = silent-append p.added q.added p.silent q.silent;
+  silent = none-append p.added q.added p.silent q.silent;
 }
 
 -- the queue gets no longer
@@ -98,7 +97,7 @@ length-marked : (n : ℕ) (ps : List Pending) → length (marked n ps) ≡ lengt
 length-marked n [] = refl
 length-marked n (p ∷ ps) = let e : length (marked n ps) ≡ length ps = length-marked n ps in omega arith
 
--- what a move makes of it, and that it tells no answer
+-- what a move makes of it
 settled-fewer : (m : Move) (ps : List Pending) → length (settled m ps) ≤ length ps
 settled-fewer (Land n v t) ps = filter-shorter (is_other n) ps
 settled-fewer (Overwrite n v t) ps = filter-shorter (is_other n) ps
@@ -111,79 +110,13 @@ stop-fewer (Overwrite n v t) ps = let e : length (marked n ps) ≡ length ps = l
 stop-fewer (LandBoth n v t) ps = let e : length (marked n ps) ≡ length ps = length-marked n ps in omega arith
 stop-fewer m ps = omega arith
 
-blanks-silent : (v : ℕ) (ts : List ℕ) → Silent (map (Blanked v) ts)
-blanks-silent v [] = refl
-blanks-silent v (t ∷ ts) = blanks-silent v ts
+-- no move tells an answer
+no-answer : (e : Event) → Of by_moves e → is_answer e ≡ false
+no-answer (Answer line kind a b c) by = absurd cc
+no-answer e by = refl
 
-restored-silent : (v s n : ℕ) (own : Tracks) → Silent (told_restored v s n own)
-restored-silent v s n own = by (is_bare own)
-  where
-    by : (b : Bool) → Silent (cond b (told_blank v n own ++ Restored s v ∷ []) [])
-    by true = silent-append (told_blank v n own) (Restored s v ∷ []) (blanks-silent v (in_order n (rest n own))) refl
-    by false = refl
-
-suspended-silent : (none : Bool) (v : ℕ) → Silent (cond none [] (Suspended v ∷ []))
-suspended-silent true v = refl
-suspended-silent false v = refl
-
-freed-silent : (v : ℕ) (had : Bool) → Silent (told_freed v had)
-freed-silent v true = refl
-freed-silent v false = refl
-
-held-silent : (first : Bool) (v s n : ℕ) → Silent (cond first (Begin s n ∷ Cut s n v ∷ []) (Cut s n v ∷ []))
-held-silent true v s n = refl
-held-silent false v s n = refl
-
-tells-silent : (m : Move) (u : Volume) → Silent (told m u)
-tells-silent (Land n v t) u = refl
-tells-silent (Overwrite n v t) u = refl
-tells-silent (Keep v t) u = refl
-tells-silent (Note v t) u = refl
-tells-silent (Relate v s choices) u = refl
-tells-silent (Withdraw v) u = blanks-silent v (in_order u.tracks (rest u.tracks u.fields.own))
-tells-silent (Fetch v t) u = refl
-tells-silent (Resync v sequence) u = refl
-tells-silent (Reverse v None) u = restored-silent v u.fields.source u.tracks (turned u.fields).own
-tells-silent (Reverse v (Some p)) u = restored-silent v u.fields.source u.tracks (turned u.fields).own
-tells-silent (Restore v t from) u = refl
-tells-silent (Release v t) u = restored-silent v u.fields.source u.tracks (given_up u.fields t).own
-tells-silent (Store v t from last) u = refl
-tells-silent (Strike v t last) u = refl
-tells-silent (Suspend v busy) u = suspended-silent (is_suspended u.fields.primary_state) v
-tells-silent (MakeSecondary v a kind state) u = refl
-tells-silent (MakePrimary v b kind state full) u = refl
-tells-silent (DropPrimary v) u = refl
-tells-silent (DropSecondary v) u = refl
-tells-silent (Follow v state) u = refl
-tells-silent (Resume v state) u = refl
-tells-silent (TakeOver v) u = refl
-tells-silent (FallBack v more state) u = refl
-tells-silent (Yield v a kind state) u = refl
-tells-silent (Unsync v t) u = refl
-tells-silent (Mirror v t from n) u = refl
-tells-silent (LandBoth n v t) u = refl
-tells-silent (Thaw v) u = refl
-tells-silent (FlashHold v) u = refl
-tells-silent (FlashFree v) u = refl
-tells-silent (Lift v) u = freed-silent v u.fields.flash_hold
-tells-silent (Restart v) u = refl
-tells-silent (Hold v s n first) u = held-silent first v s n
-tells-silent (Free v) u = refl
-tells-silent (Seal v a s n) u = refl
-tells-silent (Finish v n) u = refl
-tells-silent (RaiseAttempt v n) u = refl
-tells-silent (RaiseFloor v n) u = refl
-tells-silent (Leave v a s) u = refl
-tells-silent (Flash v from a s n) u = refl
-tells-silent (Commit v a s n) u = refl
-tells-silent (Revert v a s n) u = refl
-tells-silent (Unstage v) u = refl
-
-in_stop-silent : (m : Move) (u : Volume) → Silent (told_in_stop m u)
-in_stop-silent (Land n v t) u = refl
-in_stop-silent (Overwrite n v t) u = refl
-in_stop-silent (LandBoth n v t) u = refl
-in_stop-silent m u = tells-silent m u
+unanswered : ByEvents (Of by_moves) NoAnswer
+unanswered = any-lists (Of by_moves) is_answer no-answer
 
 -- a move leaves each volume its size
 move-tracks : (w : World) (m : Move) (y : Volume) → y.tracks ≡ (w.control.volume (target m)).tracks → (v : ℕ) → (at w.control.volume (target m) y v).tracks ≡ (w.control.volume v).tracks
@@ -192,10 +125,10 @@ move-tracks w m y e v = at_part (λ (x : Volume). x.tracks) w.control.volume (ta
 done-onward : (w : World) (a : Act) (f : Option Fuse) → Onward w (after_act w a f)
 done-onward w (Make m) f =
     let u : Volume = w.control.volume (target m) in
-    record { stays = record { servers = refl; tracks = move-tracks w m _ refl; volumes = refl; issued = refl; pending = settled-fewer m w.control.pending; sessions = omega arith }; added = told m u; events = refl; silent = tells-silent m u }
+    record { stays = record { servers = refl; tracks = move-tracks w m _ refl; volumes = refl; issued = refl; pending = settled-fewer m w.control.pending; sessions = omega arith }; added = told m u; events = refl; silent = all-told _ unanswered m u }
 done-onward w (OpenAttempt v s n) f =
     let m : Move = Hold v s n true in
-    let u : Volume = w.control.volume v in record { stays = record { servers = refl; tracks = move-tracks w m _ refl; volumes = refl; issued = refl; pending = omega arith; sessions = length-changed s attempted w.control.sessions }; added = told m u; events = refl; silent = tells-silent m u }
+    let u : Volume = w.control.volume v in record { stays = record { servers = refl; tracks = move-tracks w m _ refl; volumes = refl; issued = refl; pending = omega arith; sessions = length-changed s attempted w.control.sessions }; added = told m u; events = refl; silent = all-told _ unanswered m u }
 done-onward w (Redo v) f = record { stays = record { servers = refl; tracks = λ v. refl; volumes = refl; issued = refl; pending = omega arith; sessions = omega arith }; added = []; events = sym (append-nil w.events); silent = refl }
 done-onward w (Acknowledge n) f = record { stays = record { servers = refl; tracks = λ v. refl; volumes = refl; issued = refl; pending = filter-shorter (is_other n) w.control.pending; sessions = omega arith }; added = Ack n ∷ []; events = refl; silent = refl }
 done-onward w (Drop n) f = record { stays = record { servers = refl; tracks = λ v. refl; volumes = refl; issued = refl; pending = filter-shorter (is_other n) w.control.pending; sessions = omega arith }; added = []; events = sym (append-nil w.events); silent = refl }
@@ -210,7 +143,7 @@ counts-onward w (Make m) = λ f.
       stays = record { servers = refl; tracks = move-tracks w m _ refl; volumes = refl; issued = refl; pending = stop-fewer m w.control.pending; sessions = omega arith };
       added = told_in_stop m u ++ Stopped u.server (landed m) ∷ [];
       events = refl;
-      silent = silent-append (told_in_stop m u) (Stopped u.server (landed m) ∷ []) (in_stop-silent m u) refl;
+      silent = stop-onto by_moves _ unanswered m u (Stopped u.server (landed m) ∷ []) (emitted m) refl;
     }
 counts-onward w (OpenAttempt v s n) = λ f.
     let m : Move = Hold v s n true in
@@ -219,7 +152,7 @@ counts-onward w (OpenAttempt v s n) = λ f.
       stays = record { servers = refl; tracks = move-tracks w m _ refl; volumes = refl; issued = refl; pending = omega arith; sessions = length-changed s attempted w.control.sessions };
       added = told_in_stop m u ++ Stopped u.server 0 ∷ [];
       events = refl;
-      silent = silent-append (told_in_stop m u) (Stopped u.server 0 ∷ []) (in_stop-silent m u) refl;
+      silent = stop-onto by_moves _ unanswered m u (Stopped u.server 0 ∷ []) (emitted m) refl;
     }
 counts-onward w (Redo v) = tt
 counts-onward w (Acknowledge n) = tt
@@ -251,7 +184,7 @@ pub record Modest (k : Control) (p : Plan) : Type 0 where
   pub one : (p.first k).issued ≤ k.issued + 1
   pub within : IsWithin k → IsWithin (p.first k)
   pub last : (j : Control) → Stays j (p.last j)
-  pub silent : Silent p.told
+  pub silent : NoAnswer p.told
 
 follow-onward : (w : World) (r : Refusal) (follows : ℕ → List Entry) → Onward w (follow w r follows)
 follow-onward w (StoppedIn s) follows = carry-onward w (follows s.0)
@@ -274,7 +207,7 @@ module _ (w : World) (p : Plan) (m : Modest w.control p) where
 -- a step adds to the journal, and last its answer
 pub record EndsAnswered (w : World) (line : ℕ) (u : World) : Type 0 where
   pub before : List Event
-  pub silent : Silent before
+  pub silent : NoAnswer before
   pub says : Said
   pub events : u.events ≡ (w.events ++ before) ++ answer line says ∷ []
 
@@ -284,14 +217,14 @@ after_plan-ends w line p m =
     let goes : Onward (begun w p) (carried_out w p).0 = carried_out-onward w p m in
     record {
       before = p.told ++ goes.added;
-      silent = silent-append p.told goes.added m.silent goes.silent;
+      silent = none-append p.told goes.added m.silent goes.silent;
       says = answered p (carried_out w p).0.control (carried_out w p).1;
       events = ap (λ es. es ++ answer line (answered p (carried_out w p).0.control (carried_out w p).1) ∷ []) (goes.events ∙ append_assoc w.events p.told goes.added);
     }
 
 -- every plan of a step is such
 module _ (k : Control) where
-  modest : (first : Control → Control) (told : List Event) (entries : List Entry) (says : Control → Said) → (first k).issued ≤ k.issued + 1 → (IsWithin k → IsWithin (first k)) → Silent told
+  modest : (first : Control → Control) (told : List Event) (entries : List Entry) (says : Control → Said) → (first k).issued ≤ k.issued + 1 → (IsWithin k → IsWithin (first k)) → NoAnswer told
       → Modest k (record { first = first; told = told; entries = entries; follows = none_follow; last = same; says = says })
   modest first told entries says one within hush = record { one = one; within = within; last = stays-same; silent = hush }
 
@@ -299,7 +232,7 @@ module _ (k : Control) where
   Unmoved j = (length j.sessions ≤ length k.sessions) × ((length j.servers ≡ length k.servers) × ((length j.volumes ≡ length k.volumes) × ((length j.pending ≡ length k.pending) × ((v : ℕ) → (j.volume v).tracks ≡ (k.volume v).tracks))))
 
   -- the tables with limits stay
-  quiet : (first : Control → Control) (told : List Event) (entries : List Entry) (says : Control → Said) → (first k).issued ≡ k.issued → Unmoved (first k) → Silent told
+  quiet : (first : Control → Control) (told : List Event) (entries : List Entry) (says : Control → Said) → (first k).issued ≡ k.issued → Unmoved (first k) → NoAnswer told
       → Modest k (record { first = first; told = told; entries = entries; follows = none_follow; last = same; says = says })
   quiet first told entries says issued stays hush = modest first told entries says (omega arith) within hush
     where
@@ -335,7 +268,7 @@ module _ (k : Control) where
   sizes-within v s tracks small h = at_cases (λ u (x : Volume). x.tracks ≤ most_tracks) k.volume v (new_volume s tracks) small (λ q ne. h.tracks q)
 
   case-modest : (events : List Event) (line : ℕ) (asked : Result Step ℕ) (p : Plan) → Case k events line asked p → Modest k p
-  case-modest events line _ _ (Says a waits) = quiet same [] [] (always a) refl unmoved refl
+  case-modest events line _ _ (Says a waits why) = quiet same [] [] (always a) refl unmoved refl
   case-modest events line _ _ (DefinesServer name free) =
       modest (server_done k name).first (server_done k name).told [] (always (Done Alone)) (omega arith)
       (λ h. record { servers = room-more k.servers (name_bytes name) most_servers (servers-left k (name_bytes name) free); volumes = h.volumes; pending = h.pending; tracks = h.tracks; sessions = h.sessions }) refl
@@ -394,7 +327,7 @@ module _ (k : Control) where
       few true = length-changed s attempted k.sessions
       few false = omega arith
 
-      silent : (b : Bool) → Silent (told_begun b s o.number)
+      silent : (b : Bool) → NoAnswer (told_begun b s o.number)
       silent true = refl
       silent false = refl
   case-modest events line _ _ (Delivers n m starts x r reaches) =
@@ -440,7 +373,7 @@ after_task-ends w t =
     let e : EndsAnswered x.world t.line (after_plan x.world t.line x.plan) = after_plan-ends x.world t.line x.plan (modest-last w t) in
     record {
       before = o.added ++ e.before;
-      silent = silent-append o.added e.before o.silent e.silent;
+      silent = none-append o.added e.before o.silent e.silent;
       says = e.says;
       events = e.events ∙ ap (λ es. es ++ answer t.line e.says ∷ []) (ap (λ es. es ++ e.before) o.events ∙ append_assoc w.events o.added e.before);
     }

@@ -74,6 +74,7 @@
 --   member that can go back and of one that can't. `TablesGo.antt` has a lemma for each change of the table of sessions.
 -- - **A set of numbers below n has no more than n** (`len-low`, `Spends.antt`): by `len-remove` and `same_set`.
 pub mod Listed
+pub mod PlanReasons
 pub mod Cases
 pub mod Does
 pub mod DoesPlans
@@ -137,7 +138,6 @@ pub mod Texts
 pub mod Agree
 pub mod ReadStops
 pub mod StopsTold
-pub mod Endless
 pub mod ChecksFirst
 pub mod RefusedPlans
 pub mod RefusedWrites
@@ -145,7 +145,6 @@ pub mod RefusedSteps
 pub mod RefusedRuns
 pub mod RefusedExamples
 pub mod TurnedExample
-pub mod CalmPlans
 pub mod Hushed
 pub mod HushedPlans
 pub mod Acknowledged

@@ -277,8 +277,8 @@ module _ (K : World → Type 0) (rider : Rider K) where
         by (inr busy) = subst (λ b. Posted i server o b K) (sym (busy-is r.master.phase busy)) (later busy (subst (λ b. Posted i server o b Sound) (busy-is r.master.phase busy) (sound-sent w s i server x r o posts)))
 
     case-rides : (asked : Result Step ℕ) (p : Plan) → Case w.control w.events line asked p → Carried p
-    case-rides _ _ (Says a waits) = tables same [] (always a) begins
-    case-rides _ _ (DefinesServer name free) = tables _ _ _ (event w _ (ServerDefined (length w.control.servers) name.len name.bytes) k refl (tt, tt) (tt, tt) (tt, tt) (histories-append w.events _) refl refl refl refl refl refl refl)
+    case-rides _ _ (Says a waits why) = tables same [] (always a) begins
+    case-rides _ _ (DefinesServer name free) = tables _ _ _ (event w _ (ServerDefined (length w.control.servers) name.len name.bytes) k refl (tt, tt) (tt, tt) (refl, tt) (histories-append w.events _) refl refl refl refl refl refl refl)
     case-rides _ _ (DefinesVolume v x tracks here free) = tables _ _ _ (rider.defines w s v x tracks here (is-new w.control v x tracks free).undefined k)
     case-rides _ _ (SetsLink a b up) = tables _ _ _ (silently w _ k refl refl refl refl refl refl refl refl)
     case-rides _ _ (Issues v t offset len bytes free) = let there = (may-issue w.control v t free).0 in tables _ _ _ (rider.issues w s v t offset len bytes there.defined there.low k)
@@ -310,11 +310,11 @@ module _ (K : World → Type 0) (rider : Rider K) where
           goes = λ v i. goes-same v.control;
         }) begins (λ v e k. k)
     case-rides _ _ (Lists told ls few) = rides-lines told ls
-    case-rides _ _ (Shows v t there) = tables _ _ _ (event w _ (Shown line v t (image_at w.events v t)) k refl (tt, tt) (tt, tt) (tt, tt) (histories-append w.events _) refl refl refl refl refl refl refl)
-    case-rides _ _ (Stops x on) = tables _ _ _ (event w _ (Stopped x 0) k refl (tt, tt) (tt, tt) (tt, tt) (histories-append w.events _) refl refl refl refl refl refl refl)
+    case-rides _ _ (Shows v t there) = tables _ _ _ (event w _ (Shown line v t (image_at w.events v t)) k refl (tt, tt) (tt, tt) (refl, tt) (histories-append w.events _) refl refl refl refl refl refl refl)
+    case-rides _ _ (Stops x on) = tables _ _ _ (event w _ (Stopped x 0) k refl (tt, tt) (tt, tt) (refl, tt) (histories-append w.events _) refl refl refl refl refl refl refl)
     case-rides _ _ (Arms writes torn x) = tables _ _ _ (silently w _ k refl refl refl refl refl refl refl refl)
     case-rides _ _ (Starts x off) =
-        let begun = event w _ (Started x) k refl (tt, tt) (tt, tt) (tt, tt) (histories-append w.events _) refl refl refl refl refl refl refl in
+        let begun = event w _ (Started x) k refl (tt, tt) (tt, tt) (refl, tt) (histories-append w.events _) refl refl refl refl refl refl refl in
         record {
           holds = plan-rides Sound RowsAt K MayDo w (start_plan w.control x) (start-hold x w s) (rider.start_acts x) begun (λ v e k. k) keeps-sound rider.acts;
           moments = moments-ride Sound RowsAt K MayDo w (start_plan w.control x) (start-hold x w s) (rider.start_acts x) begun (λ v e k. k) keeps-sound rider.acts;
@@ -390,7 +390,7 @@ module _ (K : World → Type 0) (rider : Rider K) where
     rides-plan p c =
         let u : World = (carried_out w p).0 in
         let a : Said = answered p u.control (carried_out w p).1 in
-        event u (said u line a) (answer line a) (ending-rides p c).holds refl (tt, tt) (tt, tt) (tt, tt) (histories-append u.events (answer line a ∷ [])) refl refl refl refl refl refl refl
+        event u (said u line a) (answer line a) (ending-rides p c).holds refl (tt, tt) (tt, tt) (refl, tt) (histories-append u.events (answer line a ∷ [])) refl refl refl refl refl refl refl
 
   -- masters are lost as a step ends
   lost : (w u : World) → Sound u → K u → K (masters_lost w u)

@@ -167,7 +167,7 @@ module _ (w : World) (x : Sound w) (h : IsWithin w.control) where
   posted false s n = omega arith
 
   pub case-spends : (line : ℕ) (asked : Result Step ℕ) (p : Plan) → Case w.control w.events line asked p → Spends w p
-  case-spends line _ _ (Says a waits) = tables-spends _ _ _ (omega arith)
+  case-spends line _ _ (Says a waits why) = tables-spends _ _ _ (omega arith)
   case-spends line _ _ (DefinesServer name free) = tables-spends _ _ _ (omega arith)
   case-spends line _ _ (DefinesVolume v s tracks here free) = tables-spends _ _ _ (omega arith)
   case-spends line _ _ (SetsLink a b up) = tables-spends _ _ _ (omega arith)
