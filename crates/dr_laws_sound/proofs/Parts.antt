@@ -51,6 +51,7 @@ pub record Comes (w : World) (p : Plan) : Type 0 where
   pub first : (k : Control) → p.first k ≡ k
   pub told : p.told ≡ []
   pub other : acknowledges asked ≡ false
+  pub one : own_course asked ≡ None
 
 -- such plans lead from a world to another
 pub data Goes : World → List Part → World → Type 0 where
@@ -101,16 +102,16 @@ unnamed = record { len = 0; bytes = [] }
 
 -- the plans of an `@run`
 pub comes-drain : (w : World) (a : ℕ) → has_room w.events ≡ true → Comes w (drain_plan w.control a None)
-comes-drain w a room = record { turn = Drained w.control a; room = room; asked = Ok (Drain a None); asks = refl; case = λ line. Drains a None; first = λ k. refl; told = refl; other = refl }
+comes-drain w a room = record { turn = Drained w.control a; room = room; asked = Ok (Drain a None); asks = refl; case = λ line. Drains a None; first = λ k. refl; told = refl; other = refl; one = refl }
 
 pub comes-asking : (w : World) (s server : ℕ) → has_room w.events ≡ true → Comes w (asking w.control s server true)
 comes-asking w s server room = by (session_in w.control.sessions s) refl
   where
     by : (o : Option Session) → session_in w.control.sessions s ≡ o → Comes w (exchange_on w.control s (mirror_in o) server true (members_in o))
-    by None none = record { turn = Asked w.control s server None []; room = room; asked = Ok (Exchange s unnamed true); asks = refl; case = λ line. Says (Refused (OutOfOrder phase.None)) (refused-not _) (λ one. refl); first = λ k. refl; told = refl; other = refl }
+    by None none = record { turn = Asked w.control s server None []; room = room; asked = Ok (Exchange s unnamed true); asks = refl; case = λ line. Says (Refused (OutOfOrder phase.None)) (refused-not _) (λ one. refl); first = λ k. refl; told = refl; other = refl; one = refl }
     by (Some x) there =
         let plain : Plain (exchange_on w.control s x.mirror server true x.members) = plain-exchange w.control s server x.mirror x.members in
-        record { turn = Asked w.control s server x.mirror x.members; room = room; asked = Ok (Exchange s unnamed true); asks = refl; case = λ line. on-case w.control w.events line s server true x x.mirror there refl; first = plain.first; told = plain.told; other = refl }
+        record { turn = Asked w.control s server x.mirror x.members; room = room; asked = Ok (Exchange s unnamed true); asks = refl; case = λ line. on-case w.control w.events line s server true x x.mirror there refl; first = plain.first; told = plain.told; other = refl; one = refl }
 
 -- What holds of a way that has no plan, of one that has one plan, and of one that goes on, holds of the whole line.
 pub record Ways (P : World → Way → Type 0) : Type 0 where
