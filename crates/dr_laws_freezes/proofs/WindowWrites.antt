@@ -1,4 +1,4 @@
--- Host writes that are carried out are fair: one that lands on its volume alone lands on no locked primary, and one that its
+-- Host writes that are carried out in freeze windows: one that lands on its volume alone lands on no locked primary, and one that its
 -- secondary stores first lands on both sides where nothing else is out of sync.
 use Rattle.std.proofs.Common.{ℕ, ◌≡◌, ◌<◌, ◌+◌, inl, inr, refl, ap, sym, ◌∙◌, subst, Bool, true, false, cond, not, ◌&&◌, ◌||◌, List, [], ◌∷◌, ◌++◌, append_assoc, map, filter, Option, Some, None}
 use Rattle.std.specs.List.{find}
@@ -30,23 +30,23 @@ use Rattle.dr_laws_sound.proofs.Lands.{found-alone, waits}
 use Rattle.dr_laws_sound.proofs.FitsFlash.{as_begun}
 use Rattle.dr_laws_sound.proofs.FitsPairs.{row, runs-done, part-same}
 use Rattle.dr_laws_sound.proofs.FitsWrites.{lands}
-use Rattle.dr_laws_freezes.proofs.Fair.{is_locked, Unacked}
+use Rattle.dr_laws_freezes.proofs.WindowMoves.{is_locked, Unacked}
 use Rattle.dr_laws_freezes.proofs.Tidy.{is_synced, Clean}
 use Rattle.dr_laws_freezes.proofs.Windows.{Good}
-use Rattle.dr_laws_freezes.proofs.Chains.{Fairly, fairly-nil, StopFin, EndFin, PlanFin, good-none}
-use Rattle.dr_laws_freezes.proofs.FairPlans.{Between, Leaves, leaves-fairly, move-fairly, fairly-check}
+use Rattle.dr_laws_freezes.proofs.Chains.{WindowAlong, window-nil, StopFin, EndFin, PlanFin, good-none}
+use Rattle.dr_laws_freezes.proofs.WindowActs.{Between, Leaves, window-leaves, window-move, window-check}
 use Rattle.dr_facts.proofs.Entries.{any_reason, Fine, AllFine, fine-then, fine-one, fine-append, fine-if, from-all}
 use Rattle.dr_facts.proofs.SharedEntries.{where-fine, keep-fine, copies-fine}
-use Rattle.dr_laws_freezes.proofs.FairCases.{rows-between, answers-between, begun-between, EntriesFair}
-use Rattle.dr_laws_freezes.proofs.FairTables.{issued-tidy}
-use Rattle.dr_laws_freezes.proofs.FairDrain.{locked-synced}
+use Rattle.dr_laws_freezes.proofs.WindowPlans.{rows-between, answers-between, begun-between, EntriesHold}
+use Rattle.dr_laws_freezes.proofs.WindowBegins.{issued-tidy}
+use Rattle.dr_laws_freezes.proofs.WindowDrain.{locked-synced}
 use Rattle.dr_model.specs.declared.state.Part.TheVariants.{Global}
 use Rattle.std.specs.Prelude.{is_some}
 use Rattle.std.proofs.Math.Bool.{and-false}
 use Rattle.dr_model.specs.PairEntries.{send_refusal, suspend_where, store_on, strike_on, suspend_after}
 use Rattle.dr_laws_freezes.proofs.WindowTracks.{is_firm}
 use Rattle.dr_laws_sound.proofs.KeepsRecorders.{not-metro}
-use Rattle.dr_laws_freezes.proofs.FairWithin.{after-fairly, Within, within-between, heal, Here, part-fairly, within-fairly, Keeps, copies-fairly, fairly-dropped}
+use Rattle.dr_laws_freezes.proofs.WindowWithin.{window-after, Within, within-between, heal, Here, window-part, window-within, Keeps, window-copies, window-dropped}
 use Rattle.dr_facts.proofs.Tracks.{not_removed_from}
 use Rattle.dr_logic.proofs.Truth.{false_true}
 use Rattle.dr_logic.proofs.Tables.{at_same}
@@ -79,8 +79,8 @@ module _ (p : Pending) (Fin : Option ℕ → World → Option Refusal → Type 0
   abbrev One : World → Type 0
   One w = filter (is_write n) w.control.pending ≡ p ∷ []
 
-  ends : (w : World) (m : Move) (f : Option Fuse) → Between (done w m f) → Fairly Fin None (done w m f) []
-  ends w m f b = fairly-nil Fin None (done w m f) (good-none (done w m f) b.sound.rows) (fin (done w m f) None b)
+  ends : (w : World) (m : Move) (f : Option Fuse) → Between (done w m f) → WindowAlong Fin None (done w m f) []
+  ends w m f b = window-nil Fin None (done w m f) (good-none (done w m f) b.sound.rows) (fin (done w m f) None b)
 
   -- It isn't mirrored: its volume is no Metro Mirror primary that is Full Duplex or locked, or it is a Global Copy primary, from which its
   -- track may be sent first.
@@ -124,11 +124,11 @@ module _ (p : Pending) (Fin : Option ℕ → World → Option Refusal → Type 0
         by w k true = ((tt, tt, refl), λ f. apart-stays sends w (Overwrite n v t) f refl refl refl k)
         by w k false = let off : Apart false w = apart sends w k in ((off.1, off.0, refl), λ f. apart-stays sends w (Land n v t) f refl refl refl k)
 
-    apart-fairly : (ds : List Entry) → Comes ds → (w : World) → Between w → Apart sends w → Along w ds → Fairly Fin None w ds
-    apart-fairly ds fine w k j al = leaves-fairly Fin fin (Apart sends) ds w k j (from-all (Apart sends) Ok any_reason any_reason (λ r why. why) w j ds fine) al
+    window-apart : (ds : List Entry) → Comes ds → (w : World) → Between w → Apart sends w → Along w ds → WindowAlong Fin None w ds
+    window-apart ds fine w k j al = window-leaves Fin fin (Apart sends) ds w k j (from-all (Apart sends) Ok any_reason any_reason (λ r why. why) w j ds fine) al
 
-  alone : (volumes : List ℕ) (w : World) → Between w → Apart false w → Along w (land_alone volumes n v t) → Fairly Fin None w (land_alone volumes n v t)
-  alone volumes = apart-fairly false (land_alone volumes n v t) (alone-comes false volumes)
+  alone : (volumes : List ℕ) (w : World) → Between w → Apart false w → Along w (land_alone volumes n v t) → WindowAlong Fin None w (land_alone volumes n v t)
+  alone volumes = window-apart false (land_alone volumes n v t) (alone-comes false volumes)
 
   module _ (u : ℕ) where
     abbrev Sent : Entry → Type 0
@@ -145,8 +145,8 @@ module _ (p : Pending) (Fin : Option ℕ → World → Option Refusal → Type 0
         (fine-one (Apart true) (Ok true) any_reason (where_sent v u t (strike_on v t)) (sent-one (strike_on v t) (λ w k. ((λ locked. absurd (unlocked w k locked), refl, refl), λ f. global-stays w (Strike v t (is_last (fields_at w.control v) t)) f refl k))))
     sent-comes (x ∷ xs) = fine-then (Apart true) (Ok true) any_reason (where_sent v u t (keep_on u t x)) _ (sent-one (keep_on u t x) (keep-fine (Apart true) (Ok true) any_reason (keep-ok true) (note-ok true) u t x)) (sent-comes xs)
 
-    collided : (volumes : List ℕ) (w : World) → Between w → Apart true w → Along w (send_first volumes v u t ++ land_alone volumes n v t) → Fairly Fin None w (send_first volumes v u t ++ land_alone volumes n v t)
-    collided volumes = apart-fairly true _ (fine-append (Apart true) (Ok true) any_reason (send_first volumes v u t) (land_alone volumes n v t)
+    collided : (volumes : List ℕ) (w : World) → Between w → Apart true w → Along w (send_first volumes v u t ++ land_alone volumes n v t) → WindowAlong Fin None w (send_first volumes v u t ++ land_alone volumes n v t)
+    collided volumes = window-apart true _ (fine-append (Apart true) (Ok true) any_reason (send_first volumes v u t) (land_alone volumes n v t)
         (fine-then (Apart true) (Ok true) any_reason (suspend_where (send_refusal v u) v) _
         (where-fine (Apart true) (Ok true) any_reason (λ j. is_some (send_refusal v u j)) (Make (Suspend v false)) (λ w k so. ((tt, tt, refl), λ f. global-stays w (Suspend v false) f refl k))) (sent-comes volumes)) (alone-comes true volumes))
 
@@ -168,9 +168,9 @@ module _ (p : Pending) (Fin : Option ℕ → World → Option Refusal → Type 0
             ((λ i. contains (fields_at w.control (held.volume i)).out_of_sync (held.track i)) ∙ (k.out j is).1);
       }
 
-  both-keeps : (tag : Option ℕ) (w : World) → Both tag w → (d : Entry) (m : Move) (ds : List Entry) → Keeps m → d w.control ≡ Do (Make m) → May w m → ((f : Option Fuse) → Both tag (done w m f) → Fairly Fin tag (done w m f) ds) → Fairly Fin tag w (d ∷ ds)
+  both-keeps : (tag : Option ℕ) (w : World) → Both tag w → (d : Entry) (m : Move) (ds : List Entry) → Keeps m → d w.control ≡ Do (Make m) → May w m → ((f : Option Fuse) → Both tag (done w m f) → WindowAlong Fin tag (done w m f) ds) → WindowAlong Fin tag w (d ∷ ds)
   both-keeps tag w k d (Keep u q) ds tt is may go = let m : Move = Keep u q in
-      within-fairly v t Fin stops tag w k.within d m ds is (good-both tag w k) may tt (λ there runs. k.within.tidy.clean u there runs) (λ f z. go f (record {
+      window-within v t Fin stops tag w k.within d m ds is (good-both tag w k) may tt (λ there runs. k.within.tidy.clean u there runs) (λ f z. go f (record {
         within = z;
         on = runs-done w m f v k.on;
         going = part-same w m f (λ (g : Fields). is_suspended g.primary_state) refl v ∙ k.going;
@@ -178,7 +178,7 @@ module _ (p : Pending) (Fin : Option ℕ → World → Option Refusal → Type 0
         out = λ j is. ((k.out j is).0, part-same w m f (λ (g : Fields). contains g.out_of_sync t) refl v ∙ (k.out j is).1);
       }))
   both-keeps tag w k d (Note u q) ds tt is may go = let m : Move = Note u q in
-      within-fairly v t Fin stops tag w k.within d m ds is (good-both tag w k) may tt (λ there runs. k.within.tidy.clean u there runs) (λ f z. go f (record {
+      window-within v t Fin stops tag w k.within d m ds is (good-both tag w k) may tt (λ there runs. k.within.tidy.clean u there runs) (λ f z. go f (record {
         within = z;
         on = runs-done w m f v k.on;
         going = part-same w m f (λ (g : Fields). is_suspended g.primary_state) refl v ∙ k.going;
@@ -202,11 +202,11 @@ module _ (p : Pending) (Fin : Option ℕ → World → Option Refusal → Type 0
         | inr ne ↦ not_removed_from (fields_at w.control v).out_of_sync t q (k.tidy.clean v there on h q (λ a e. absurd (ne.1 e)))
       ])
 
-  lands-both : (w : World) → Both (Some n) w → Along w (now (LandBoth n v t) ∷ []) → Fairly Fin (Some n) w (now (LandBoth n v t) ∷ [])
+  lands-both : (w : World) → Both (Some n) w → Along w (now (LandBoth n v t) ∷ []) → WindowAlong Fin (Some n) w (now (LandBoth n v t) ∷ [])
   lands-both w k al =
       let m : Move = LandBoth n v t in
       let one = comes w (now m) [] (Do (Make m)) refl al in
-      within-fairly v t Fin stops (Some n) w k.within (now m) m [] refl (good-both (Some n) w k) one.0 (refl, unacked w k.within k.one) (here-both w k.within)
+      window-within v t Fin stops (Some n) w k.within (now m) m [] refl (good-both (Some n) w k) one.0 (refl, unacked w k.within k.one) (here-both w k.within)
       (λ f z. ends w m f (heal v t (done w m f) z (λ runs. clean-both w f k.within k.on k.one)))
 
   module _ (volumes : List ℕ) (u : ℕ) where
@@ -214,15 +214,15 @@ module _ (p : Pending) (Fin : Option ℕ → World → Option Refusal → Type 0
     abbrev behind : List Entry
     behind = copy_first volumes v t ++ now (LandBoth n v t) ∷ []
 
-    mirrors : (w : World) → Both None w → Along w (now (Mirror u t v n) ∷ behind) → Fairly Fin None w (now (Mirror u t v n) ∷ behind)
+    mirrors : (w : World) → Both None w → Along w (now (Mirror u t v n) ∷ behind) → WindowAlong Fin None w (now (Mirror u t v n) ∷ behind)
     mirrors w k al =
         let m : Move = Mirror u t v n in
         let one = comes w (now m) behind (Do (Make m)) refl al in
         let there = (waits w k.within.sound p k.one).defined in
-        within-fairly v t Fin stops None w k.within (now m) m behind refl (good-both None w k) one.0
+        window-within v t Fin stops None w k.within (now m) m behind refl (good-both None w k) one.0
         ((λ locked x ne. k.within.tidy.clean v there k.on (locked-synced (fields_at w.control v) k.going locked) x (λ a e. absurd (ne e))), unacked w k.within k.one)
         (λ d r. k.within.tidy.clean u d r)
-        (λ f z. copies-fairly Fin (Some n) (Both (Some n)) (λ w k. k.within.sound) (good-both (Some n)) (both-keeps (Some n)) v t volumes (now (LandBoth n v t) ∷ []) (done w m f) (record {
+        (λ f z. window-copies Fin (Some n) (Both (Some n)) (λ w k. k.within.sound) (good-both (Some n)) (both-keeps (Some n)) v t volumes (now (LandBoth n v t) ∷ []) (done w m f) (record {
           within = z;
           on = runs-done w m f v k.on;
           going = part-same w m f (λ (g : Fields). is_suspended g.primary_state) refl v ∙ k.going;
@@ -231,16 +231,16 @@ module _ (p : Pending) (Fin : Option ℕ → World → Option Refusal → Type 0
         }) (one.1 f z.sound) lands-both)
 
     -- the track is out of sync, and the targets of u keep it first
-    mirrored : (w : World) → Between w → Runs w v → is_suspended (fields_at w.control v).primary_state ≡ false → One w → Along w (land_mirrored volumes n v t u) → Fairly Fin None w (land_mirrored volumes n v t u)
+    mirrored : (w : World) → Between w → Runs w v → is_suspended (fields_at w.control v).primary_state ≡ false → One w → Along w (land_mirrored volumes n v t u) → WindowAlong Fin None w (land_mirrored volumes n v t u)
     mirrored w k on going waiting al =
         let m : Move = Unsync v t in
         let rest : List Entry = (copy_first volumes u t ++ (now (Mirror u t v n) ∷ copy_first volumes v t)) ++ (now (LandBoth n v t) ∷ []) in
         let joined : rest ≡ copy_first volumes u t ++ (now (Mirror u t v n) ∷ behind) = append_assoc (copy_first volumes u t) (now (Mirror u t v n) ∷ copy_first volumes v t) (now (LandBoth n v t) ∷ []) in
         let one = comes w (now m) rest (Do (Make m)) refl al in
-        within-fairly v t Fin stops None w (within-between v t w k) (now m) m rest refl (good-none w k.sound.rows) one.0 tt
+        window-within v t Fin stops None w (within-between v t w k) (now m) m rest refl (good-none w k.sound.rows) one.0 tt
         (λ there runs h q other. insert_other (fields_at w.control v).out_of_sync t q (λ e. absurd (other refl e)) ∙ k.tidy.clean v there runs h q)
-        (λ f z. subst (Fairly Fin None (done w m f)) (sym joined)
-        (copies-fairly Fin None (Both None) (λ w k. k.within.sound) (good-both None) (both-keeps None) u t volumes (now (Mirror u t v n) ∷ behind) (done w m f) (record {
+        (λ f z. subst (WindowAlong Fin None (done w m f)) (sym joined)
+        (window-copies Fin None (Both None) (λ w k. k.within.sound) (good-both None) (both-keeps None) u t volumes (now (Mirror u t v n) ∷ behind) (done w m f) (record {
           within = z;
           on = runs-done w m f v on;
           going = part-same w m f (λ (g : Fields). is_suspended g.primary_state) refl v ∙ going;
@@ -259,7 +259,7 @@ module _ (p : Pending) (Fin : Option ℕ → World → Option Refusal → Type 0
     abbrev left : Bool → List Entry
     left b = cond b [] (land_alone w.control.volumes n v t)
 
-    parted-by : (h : Option Fuse) → Between (done w (Suspend v busy) h) → f.long_busy ≡ false → (b : Bool) → busy ≡ b → Along (done w (Suspend v busy) h) (left b) → Fairly Fin None (done w (Suspend v busy) h) (left b)
+    parted-by : (h : Option Fuse) → Between (done w (Suspend v busy) h) → f.long_busy ≡ false → (b : Bool) → busy ≡ b → Along (done w (Suspend v busy) h) (left b) → WindowAlong Fin None (done w (Suspend v busy) h) (left b)
     parted-by h z not_busy true is al = ends w (Suspend v busy) h z
     parted-by h z not_busy false is al =
         let m : Move = Suspend v busy in
@@ -267,14 +267,14 @@ module _ (p : Pending) (Fin : Option ℕ → World → Option Refusal → Type 0
         let off : is_synced (fields_at (done w m h).control v) ≡ false = ap (λ (y : Volume). is_synced y.fields) here ∙ and-false (is_metro f.primary) in
         alone w.control.volumes (done w m h) z (off, locked-busy (fields_at (done w m h).control v) (ap (λ (y : Volume). y.fields.long_busy) here ∙ (λ i. not_busy i || is i)) off) al
 
-    parted : f.long_busy ≡ false → Along w (land_parted w.control n v t) → Fairly Fin None w (land_parted w.control n v t)
+    parted : f.long_busy ≡ false → Along w (land_parted w.control n v t) → WindowAlong Fin None w (land_parted w.control n v t)
     parted not_busy al =
         let m : Move = Suspend v busy in
         let first = comes w (now m) (left busy) (Do (Make m)) refl al in
-        move-fairly Fin fin w k (now m) m (left busy) refl first.0 tt tt refl (λ h z. parted-by h z not_busy busy refl (first.1 h z.sound))
+        window-move Fin fin w k (now m) m (left busy) refl first.0 tt tt refl (λ h z. parted-by h z not_busy busy refl (first.1 h z.sound))
 
     over-by : f.long_busy ≡ false → is_suspended f.primary_state ≡ false → (b : Bool) → Along w (cond b (land_parted w.control n v t) (land_mirrored w.control.volumes n v t (partner_of w.control v)))
-        → Fairly Fin None w (cond b (land_parted w.control n v t) (land_mirrored w.control.volumes n v t (partner_of w.control v)))
+        → WindowAlong Fin None w (cond b (land_parted w.control n v t) (land_mirrored w.control.volumes n v t (partner_of w.control v)))
     over-by not_busy going true al = parted not_busy al
     over-by not_busy going false al = mirrored w.control.volumes (partner_of w.control v) w k on going one al
 
@@ -292,21 +292,21 @@ module _ (p : Pending) (Fin : Option ℕ → World → Option Refusal → Type 0
     abbrev ways : Bool → Bool → Bool → List Entry
     ways h g c = cond h [] (cond g (land_over w.control n v t) (cond c (land_collided w.control n v t) (land_alone w.control.volumes n v t)))
 
-    ways-fair : (h g c : Bool) → held f ≡ h → goes_over f t ≡ g → collides f t ≡ c → Along w (ways h g c) → Fairly Fin None w (ways h g c)
-    ways-fair true g c hs gs cs al = fairly-nil Fin None w (good-none w k.sound.rows) (fin w None k)
-    ways-fair false true c hs gs cs al =
+    window-ways : (h g c : Bool) → held f ≡ h → goes_over f t ≡ g → collides f t ≡ c → Along w (ways h g c) → WindowAlong Fin None w (ways h g c)
+    window-ways true g c hs gs cs al = window-nil Fin None w (good-none w k.sound.rows) (fin w None k)
+    window-ways false true c hs gs cs al =
         let both = and_parts (is_metro f.primary) _ gs in
         over-by (or_parts f.coordination f.long_busy (or_parts (f.coordination || f.long_busy) f.flash_hold hs).0).1 (not-true (is_suspended f.primary_state) (and_parts (not (is_suspended f.primary_state)) _ both.1).0) (is_parted w.control v) al
-    ways-fair false false true hs gs cs al = collided (partner_of w.control v) w.control.volumes w k (and_parts (is_kind Global f.primary) _ cs).0 al
-    ways-fair false false false hs gs cs al = alone w.control.volumes w k (not-synced gs, locked-busy f (or_parts f.coordination f.long_busy (or_parts (f.coordination || f.long_busy) f.flash_hold hs).0).1 (not-synced gs)) al
+    window-ways false false true hs gs cs al = collided (partner_of w.control v) w.control.volumes w k (and_parts (is_kind Global f.primary) _ cs).0 al
+    window-ways false false false hs gs cs al = alone w.control.volumes w k (not-synced gs, locked-busy f (or_parts f.coordination f.long_busy (or_parts (f.coordination || f.long_busy) f.flash_hold hs).0).1 (not-synced gs)) al
 
-  pub landing-fair : (w : World) → Between w → One w → Fairly Fin None w (landing w.control n v t)
-  landing-fair w k one =
-      fairly-check Fin fin w k (is_running v) _ _ (lands w k.sound p one) (λ on al.
-      fairly-dropped Fin fin w k n (is_no_secondary v) _ _ (λ ps. refl) al (λ free al.
-      fairly-dropped Fin fin w k n (is_open v) _ _ (λ ps. refl) al (λ open_to al.
-      fairly-dropped Fin fin w k n (is_settled v) _ _ (λ ps. refl) al (λ settled al.
-      ways-fair w k one on (held (fields_at w.control v)) (goes_over (fields_at w.control v) t) (collides (fields_at w.control v) t) refl refl refl al))))
+  pub window-landing : (w : World) → Between w → One w → WindowAlong Fin None w (landing w.control n v t)
+  window-landing w k one =
+      window-check Fin fin w k (is_running v) _ _ (lands w k.sound p one) (λ on al.
+      window-dropped Fin fin w k n (is_no_secondary v) _ _ (λ ps. refl) al (λ free al.
+      window-dropped Fin fin w k n (is_open v) _ _ (λ ps. refl) al (λ open_to al.
+      window-dropped Fin fin w k n (is_settled v) _ _ (λ ps. refl) al (λ settled al.
+      window-ways w k one on (held (fields_at w.control v)) (goes_over (fields_at w.control v) t) (collides (fields_at w.control v) t) refl refl refl al))))
 
 -- a plan that carries one out
 module _ (q : Plan) (p : Pending) (k0 : Control) (follows : q.follows ≡ after_write k0 p.volume p.track) (last : q.last ≡ same) where
@@ -314,27 +314,27 @@ module _ (q : Plan) (p : Pending) (k0 : Control) (follows : q.follows ≡ after_
   Fins = PlanFin Between rows-between answers-between q
 
   stops : (u : World) (s : ℕ) → Within p.volume p.track u → StopFin Fins u s u
-  stops u s k = subst (λ (g : ℕ → List Entry). Fairly (EndFin Between rows-between answers-between) None u (g s)) (sym follows) (by (collides (fields_at k0 p.volume) p.track))
+  stops u s k = subst (λ (g : ℕ → List Entry). WindowAlong (EndFin Between rows-between answers-between) None u (g s)) (sym follows) (by (collides (fields_at k0 p.volume) p.track))
     where
-      by : (c : Bool) → Fairly (EndFin Between rows-between answers-between) None u (cond c (suspend_after p.volume s) (part_after p.volume s))
-      by true = after-fairly p.volume p.track u k s
-      by false = part-fairly p.volume p.track u k s
+      by : (c : Bool) → WindowAlong (EndFin Between rows-between answers-between) None u (cond c (suspend_after p.volume s) (part_after p.volume s))
+      by true = window-after p.volume p.track u k s
+      by false = window-part p.volume p.track u k s
 
   fins : (u : World) (r : Option Refusal) → Between u → Fins None u r
   fins u None b = subst (λ (g : Control → Control). Between (record u { control = g u.control })) (sym last) b
   fins u (Some (StoppedIn s)) b = stops u s.0 (within-between p.volume p.track u b)
   fins u (Some r) b = b
 
-  pub carried-fair : (w : World) → Between w → filter (is_write p.w) w.control.pending ≡ p ∷ [] → Fairly Fins None w (landing w.control p.w p.volume p.track)
-  carried-fair w k one = landing-fair p Fins fins stops w k one
+  pub window-carried : (w : World) → Between w → filter (is_write p.w) w.control.pending ≡ p ∷ [] → WindowAlong Fins None w (landing w.control p.w p.volume p.track)
+  window-carried w k one = window-landing p Fins fins stops w k one
 
 module _ (w : World) (k : Between w) where
-  pub fair-writes : (v t offset len : ℕ) (bytes : List ℕ) → issue_refusal w.control v t ≡ None → EntriesFair w (write_done w.control v t offset len bytes)
-  fair-writes v t offset len bytes free =
+  pub window-writes : (v t offset len : ℕ) (bytes : List ℕ) → issue_refusal w.control v t ≡ None → EntriesHold w (write_done w.control v t offset len bytes)
+  window-writes v t offset len bytes free =
       let there = (may-issue w.control v t free).0 in
       let new : Pending = record { w = w.control.issued + 1; volume = v; track = t; landed = false } in
-      carried-fair (write_done w.control v t offset len bytes) new w.control refl refl (issued w k.sound v t offset len bytes there.defined there.low)
+      window-carried (write_done w.control v t offset len bytes) new w.control refl refl (issued w k.sound v t offset len bytes there.defined there.low)
       (record { sound = sound-issued w k.sound v t offset len bytes there.defined there.low; tidy = issued-tidy w k.tidy v t offset len bytes }) (one-new w k.sound v t offset len bytes there.defined there.low)
 
-  pub fair-applies : (n : ℕ) (p : Pending) → find (is_write n) w.control.pending ≡ Some p → EntriesFair w (apply_done w.control p)
-  fair-applies n p found = carried-fair (apply_done w.control p) p w.control refl refl (as_begun w) (begun-between w k) (found-alone n p w.control.pending found k.sound.queue.apart)
+  pub window-applies : (n : ℕ) (p : Pending) → find (is_write n) w.control.pending ≡ Some p → EntriesHold w (apply_done w.control p)
+  window-applies n p found = window-carried (apply_done w.control p) p w.control refl refl (as_begun w) (begun-between w k) (found-alone n p w.control.pending found k.sound.queue.apart)

@@ -1,4 +1,4 @@
--- Each step's plan is fair, and so the law of freeze windows holds of every run.
+-- Each step's plan does what freeze windows ask, and so the law of freeze windows holds of every run.
 use Rattle.std.proofs.Common.{ℕ, ◌≡◌, refl, Bool, true, false, List, [], None, Result, Ok, Err}
 use Rattle.dr_model.specs.declared.step.Step.{Step}
 use Rattle.dr_model.specs.declared.step.Step.TheVariants.{Write, Apply, Drain, Start, Copy, MakePair}
@@ -31,14 +31,14 @@ use Rattle.dr_laws_sound.proofs.Parts.{Ending, OnePlan, Imaged}
 use Rattle.dr_laws_freezes.proofs.Begun.{lines-beside, leaves}
 use Rattle.dr_laws_freezes.proofs.Windows.{Chain, freeze-cut}
 use Rattle.dr_laws_freezes.proofs.Chains.{run-chain, EndFin, retabled-none}
-use Rattle.dr_laws_freezes.proofs.FairPlans.{Between, KeepsPairs, entries-fairly}
-use Rattle.dr_laws_freezes.proofs.FairTables.{Begins, beside-begins, case-begins}
-use Rattle.dr_laws_freezes.proofs.FairCases.{rows-between, answers-between, loses-between, Fair, EntriesFair, fair-by, fair-tables, fair-entries, alone}
-use Rattle.dr_laws_freezes.proofs.FairPairs.{fair-pair}
-use Rattle.dr_laws_freezes.proofs.FairCopy.{fair-copy}
-use Rattle.dr_laws_freezes.proofs.FairDrain.{fair-drain}
-use Rattle.dr_laws_freezes.proofs.FairStart.{fair-start}
-use Rattle.dr_laws_freezes.proofs.FairWrites.{fair-writes, fair-applies}
+use Rattle.dr_laws_freezes.proofs.WindowActs.{Between, KeepsPairs, window-entries}
+use Rattle.dr_laws_freezes.proofs.WindowBegins.{Begins, beside-begins, case-begins}
+use Rattle.dr_laws_freezes.proofs.WindowPlans.{rows-between, answers-between, loses-between, PlanHolds, EntriesHold, window-by, window-tables, window-plan, alone}
+use Rattle.dr_laws_freezes.proofs.WindowPairs.{window-pair}
+use Rattle.dr_laws_freezes.proofs.WindowCopy.{window-copy}
+use Rattle.dr_laws_freezes.proofs.WindowDrain.{window-drain}
+use Rattle.dr_laws_freezes.proofs.WindowStart.{window-start}
+use Rattle.dr_laws_freezes.proofs.WindowWrites.{window-writes, window-applies}
 
 -- before the first step
 pub between-nothing : Between nothing
@@ -99,27 +99,27 @@ module _ (w : World) (k : Between w) (line : ℕ) where
   none-on _ _ (Stops s on) none = λ j. at_cases (λ j b. b ≡ true → w.control.on j ≡ true) w.control.on s false (λ h. absurd cc) (λ j ne h. h) j
   none-on _ _ c none = λ j h. h
 
-  fair-acts : (asked : Result Step ℕ) (p : Plan) → Case w.control w.events line asked p → lands_tracks asked ≡ false → Orders w p → Fair w p
-  fair-acts asked p c none orders =
+  window-acts : (asked : Result Step ℕ) (p : Plan) → Case w.control w.events line asked p → lands_tracks asked ≡ false → Orders w p → PlanHolds w p
+  window-acts asked p c none orders =
       let does : Entered w asked p = case-does w line asked p c in
       let keeps = λ (v : World) (a : Act) (d : Acts w.control asked v a). keeps-pairs w.control none v a d in
-      fair-entries w k p (case-begins w k.tidy line asked p c) (leaves w.control w.events line asked p c) (none-on asked p c none) orders
-      (λ s v b. entries-fairly (EndFin Between rows-between answers-between) (λ u r b. b) any_world any_world Sound (Acts w.control asked) (Late asked) (Late asked) (λ r why. why) (λ v any. tt) (λ v a d any. keeps v a d) (λ v a f d any. tt) (λ u b sound. b) (p.follows s) v b tt (from-all any_world (Acts w.control asked) (Late asked) (Late asked) (λ r why. why) v tt (p.follows s) (does.follows s)) (orders.follows s v b.sound))
+      window-plan w k p (case-begins w k.tidy line asked p c) (leaves w.control w.events line asked p c) (none-on asked p c none) orders
+      (λ s v b. window-entries (EndFin Between rows-between answers-between) (λ u r b. b) any_world any_world Sound (Acts w.control asked) (Late asked) (Late asked) (λ r why. why) (λ v any. tt) (λ v a d any. keeps v a d) (λ v a f d any. tt) (λ u b sound. b) (p.follows s) v b tt (from-all any_world (Acts w.control asked) (Late asked) (Late asked) (λ r why. why) v tt (p.follows s) (does.follows s)) (orders.follows s v b.sound))
       (Acts w.control asked) NoStop (Late asked) (λ r why. why.why) keeps does.entries
 
-  pub fair-case : (asked : Result Step ℕ) (p : Plan) → Case w.control w.events line asked p → Fair w p
-  fair-case asked p c =
+  pub window-case : (asked : Result Step ℕ) (p : Plan) → Case w.control w.events line asked p → PlanHolds w p
+  window-case asked p c =
       let begins : Begins w (begun w p) p.told = case-begins w k.tidy line asked p c in
       let last = leaves w.control w.events line asked p c in
-      by asked p c (fair-by w k p begins last) (fair-acts asked p c) (fair-tables w k p begins last (case-holds w k.sound line asked p c))
+      by asked p c (window-by w k p begins last) (window-acts asked p c) (window-tables w k p begins last (case-holds w k.sound line asked p c))
     where
-      by : (asked : Result Step ℕ) (p : Plan) → Case w.control w.events line asked p → (EntriesFair w p → Fair w p) → (lands_tracks asked ≡ false → Orders w p → Fair w p) → (((j : ℕ) → (begun w p).control.on j ≡ true → w.control.on j ≡ true) → p.entries ≡ [] → ((j : Control) → p.last j ≡ j) → Fair w p) → Fair w p
-      by _ _ (Writes v t offset len bytes free) made acts tables = made (fair-writes w k v t offset len bytes free)
-      by _ _ (Applies n p found) made acts tables = made (fair-applies w k n p found)
-      by _ _ (Starts s off) made acts tables = made (fair-start s w k)
-      by _ _ (Copies t most) made acts tables = made (fair-copy w k t most)
-      by _ _ (MakesPair devs a b kind choices part) made acts tables = made (fair-pair w k devs a b kind choices part)
-      by _ _ (Drains a most) made acts tables = made (fair-drain w k a most)
+      by : (asked : Result Step ℕ) (p : Plan) → Case w.control w.events line asked p → (EntriesHold w p → PlanHolds w p) → (lands_tracks asked ≡ false → Orders w p → PlanHolds w p) → (((j : ℕ) → (begun w p).control.on j ≡ true → w.control.on j ≡ true) → p.entries ≡ [] → ((j : Control) → p.last j ≡ j) → PlanHolds w p) → PlanHolds w p
+      by _ _ (Writes v t offset len bytes free) made acts tables = made (window-writes w k v t offset len bytes free)
+      by _ _ (Applies n p found) made acts tables = made (window-applies w k n p found)
+      by _ _ (Starts s off) made acts tables = made (window-start s w k)
+      by _ _ (Copies t most) made acts tables = made (window-copy w k t most)
+      by _ _ (MakesPair devs a b kind choices part) made acts tables = made (window-pair w k devs a b kind choices part)
+      by _ _ (Drains a most) made acts tables = made (window-drain w k a most)
       by _ _ (MakesFlash dev v t freeze choices) made acts tables = acts refl (alone w k.sound _ _ (along-flash w k.sound dev v t freeze choices))
       by _ _ (RemovesFlash dev v t) made acts tables = acts refl (alone w k.sound _ _ (along-withdraw w k.sound dev v t))
       by _ _ (ResyncsFlash dev v t sequence) made acts tables = acts refl (alone w k.sound _ _ (along-resync w k.sound dev v t sequence))
@@ -130,7 +130,7 @@ module _ (w : World) (k : Between w) (line : ℕ) where
       by _ _ (ResumesPair devs a b kind) made acts tables = acts refl (alone w k.sound _ _ (along-resume w k.sound devs a b kind))
       by _ _ (FailsOver devs b a kind) made acts tables = acts refl (alone w k.sound _ _ (along-failover w k.sound devs b a kind))
       by _ _ (FailsBack devs x y kind) made acts tables = acts refl (alone w k.sound _ _ (along-failback w k.sound devs x y kind))
-      by _ _ (Compares contents v u) made acts tables = fair-acts (Err 0) _ (Compares contents v u) refl (alone w k.sound _ _ (along-compare w k.sound contents v u))
+      by _ _ (Compares contents v u) made acts tables = window-acts (Err 0) _ (Compares contents v u) refl (alone w k.sound _ _ (along-compare w k.sound contents v u))
       by _ _ (Expires x on) made acts tables = acts refl (alone w k.sound _ _ (lifts x w.control.volumes (as_begun w) (sound-begun w k.sound) on.1))
       by _ _ (Freezes l m) made acts tables = acts refl (alone w k.sound _ _ (freezes l m w.control.volumes (as_begun w) (sound-begun w k.sound)))
       by _ _ (Unfreezes l m) made acts tables = acts refl (alone w k.sound _ _ (thaws l m w.control.volumes (as_begun w) (sound-begun w k.sound)))
@@ -145,13 +145,13 @@ module _ (w : World) (k : Between w) (line : ℕ) where
       by _ _ (Stops s on) made acts tables = tables (λ j. at_cases (λ j b. b ≡ true → w.control.on j ≡ true) w.control.on s false (λ h. absurd cc) (λ j ne h. h) j) refl (λ j. refl)
       by _ _ c made acts tables = tables (λ j h. h) refl (λ j. refl)
 
-  pub fair-ending : (p : Plan) → Ending w.control w.events line p → Fair w p
-  fair-ending _ (OnePlan asked p c) = fair-case asked p c
-  fair-ending _ (Imaged vs) = fair-tables w k _ (beside-begins w k.tidy w.control (image_told vs) (lines-beside w (image_told vs) (image-lines vs))) retabled-none (ending-holds w k.sound line _ (Imaged vs)) (λ j h. h) refl (λ j. refl)
+  pub window-ending : (p : Plan) → Ending w.control w.events line p → PlanHolds w p
+  window-ending _ (OnePlan asked p c) = window-case asked p c
+  window-ending _ (Imaged vs) = window-tables w k _ (beside-begins w k.tidy w.control (image_told vs) (lines-beside w (image_told vs) (image-lines vs))) retabled-none (ending-holds w k.sound line _ (Imaged vs)) (λ j h. h) refl (λ j. refl)
 
 -- the moments of a run
 pub chain-of : (tasks : List Task) → Chain None nothing (moments_from nothing tasks)
-chain-of tasks = run-chain Between rows-between answers-between loses-between (λ w line p case k. fair-ending w k line p case) tasks nothing between-nothing
+chain-of tasks = run-chain Between rows-between answers-between loses-between (λ w line p case k. window-ending w k line p case) tasks nothing between-nothing
 
 pub cut-run : (tasks : List Task) → FreezeCut tasks
 cut-run tasks = freeze-cut tasks None (chain-of tasks)

@@ -1,4 +1,4 @@
--- Sending tracks to a secondary is fair.
+-- Sending tracks to a secondary in freeze windows.
 use Rattle.std.proofs.Common.{ℕ, ◌≡◌, ◌≢◌, ◌<◌, inl, refl, ap, sym, ◌∙◌, subst, Bool, true, false, cond, not, ◌&&◌, ◌||◌, List, [], ◌∷◌, ◌++◌, append_assoc, map, Option, Some, None}
 use Rattle.std.specs.Prelude.{is_some}
 use Rattle.std.specs.Option.{option_or}
@@ -24,12 +24,12 @@ use Rattle.dr_laws_sound.proofs.KeepsSound.{Along, comes}
 use Rattle.dr_laws_sound.proofs.FitsFlash.{as_begun}
 use Rattle.dr_laws_sound.proofs.FitsPairs.{row, runs-done, part-same}
 use Rattle.dr_laws_sound.proofs.FitsDrain.{along-drain}
-use Rattle.dr_laws_freezes.proofs.Fair.{is_locked}
+use Rattle.dr_laws_freezes.proofs.WindowMoves.{is_locked}
 use Rattle.dr_laws_freezes.proofs.Tidy.{is_synced}
-use Rattle.dr_laws_freezes.proofs.Chains.{Fairly, fairly-entry, fairly-nil, good-none, PlanFin}
-use Rattle.dr_laws_freezes.proofs.FairPlans.{Between, move-fairly, fairly-check, fairly-refuse}
-use Rattle.dr_laws_freezes.proofs.FairWithin.{Keeps, copies-fairly, within-between, after-fairly}
-use Rattle.dr_laws_freezes.proofs.FairCases.{rows-between, answers-between, begun-between, EntriesFair}
+use Rattle.dr_laws_freezes.proofs.Chains.{WindowAlong, window-entry, window-nil, good-none, PlanFin}
+use Rattle.dr_laws_freezes.proofs.WindowActs.{Between, window-move, window-check, window-refuse}
+use Rattle.dr_laws_freezes.proofs.WindowWithin.{Keeps, window-copies, within-between, window-after}
+use Rattle.dr_laws_freezes.proofs.WindowPlans.{rows-between, answers-between, begun-between, EntriesHold}
 use Rattle.dr_logic.proofs.Choices.{chosen, choose_some}
 use Rattle.dr_facts.proofs.Tables.{at_part}
 use Rattle.dr_logic.proofs.Truth.{false_true}
@@ -69,18 +69,18 @@ module _ (Fin : Option ℕ → World → Option Refusal → Type 0) (fin : (w : 
     abbrev Lasts : World → Type 0
     Lasts w = Between w × Sends w
 
-    keeps-lasts : (w : World) → Lasts w → (d : Entry) (m : Move) (ds : List Entry) → Keeps m → d w.control ≡ Do (Make m) → May w m → ((f : Option Fuse) → Lasts (done w m f) → Fairly Fin None (done w m f) ds) → Fairly Fin None w (d ∷ ds)
-    keeps-lasts w k d (Keep u q) ds ok is may go = move-fairly Fin fin w k.0 d (Keep u q) ds is may tt tt refl (λ f z. go f (z, sends-done w (Keep u q) f refl refl k.1))
-    keeps-lasts w k d (Note u q) ds ok is may go = move-fairly Fin fin w k.0 d (Note u q) ds is may tt tt refl (λ f z. go f (z, sends-done w (Note u q) f refl refl k.1))
+    keeps-lasts : (w : World) → Lasts w → (d : Entry) (m : Move) (ds : List Entry) → Keeps m → d w.control ≡ Do (Make m) → May w m → ((f : Option Fuse) → Lasts (done w m f) → WindowAlong Fin None (done w m f) ds) → WindowAlong Fin None w (d ∷ ds)
+    keeps-lasts w k d (Keep u q) ds ok is may go = window-move Fin fin w k.0 d (Keep u q) ds is may tt tt refl (λ f z. go f (z, sends-done w (Keep u q) f refl refl k.1))
+    keeps-lasts w k d (Note u q) ds ok is may go = window-move Fin fin w k.0 d (Note u q) ds is may tt tt refl (λ f z. go f (z, sends-done w (Note u q) f refl refl k.1))
     keeps-lasts w k d m ds ok is may go = absurd ok
 
-    module _ (t : ℕ) (more : List Entry) (go : (v : World) → Between v → Sends v → Along v more → Fairly Fin None v more) where
-      strikes : (w : World) → Between w → Sends w → Along w (strike_on a t ∷ more) → Fairly Fin None w (strike_on a t ∷ more)
+    module _ (t : ℕ) (more : List Entry) (go : (v : World) → Between v → Sends v → Along v more → WindowAlong Fin None v more) where
+      strikes : (w : World) → Between w → Sends w → Along w (strike_on a t ∷ more) → WindowAlong Fin None w (strike_on a t ∷ more)
       strikes w k x al =
           let last : Bool = is_last (fields_at w.control a) t in
           let m : Move = Strike a t last in
           let one = comes w (strike_on a t) more (Do (Make m)) refl al in
-          move-fairly Fin fin w k (strike_on a t) m more refl one.0 (λ locked. clean w k x locked t) refl refl (λ f z. go (done w m f) z (record {
+          window-move Fin fin w k (strike_on a t) m more refl one.0 (λ locked. clean w k x locked t) refl refl (λ f z. go (done w m f) z (record {
             on = runs-done w m f a x.on;
             there = x.there;
             to = part-same w m f secondary_of refl a ∙ x.to;
@@ -94,13 +94,13 @@ module _ (Fin : Option ℕ → World → Option Refusal → Type 0) (fin : (w : 
           by true s h = refl
           by false s h = h
 
-      stores : (w : World) → Between w → Sends w → Along w (store_on a b t ∷ strike_on a t ∷ more) → Fairly Fin None w (store_on a b t ∷ strike_on a t ∷ more)
+      stores : (w : World) → Between w → Sends w → Along w (store_on a b t ∷ strike_on a t ∷ more) → WindowAlong Fin None w (store_on a b t ∷ strike_on a t ∷ more)
       stores w k x al =
           let last : Bool = is_last (fields_at w.control a) t in
           let m : Move = Store b t a last in
           let one = comes w (store_on a b t) (strike_on a t ∷ more) (Do (Make m)) refl al in
           let rows = k.sound.rows in
-          move-fairly Fin fin w k (store_on a b t) m (strike_on a t ∷ more) refl one.0
+          window-move Fin fin w k (store_on a b t) m (strike_on a t ∷ more) refl one.0
           (λ locked.
           let synced = locked-synced (fields_at w.control a) x.going locked in
           let metro = (and_parts (is_metro (fields_at w.control a).primary) _ synced).0 in
@@ -116,11 +116,11 @@ module _ (Fin : Option ℕ → World → Option Refusal → Type 0) (fin : (w : 
       abbrev refusals : List Entry
       refusals = refuse_if (send_refusal a b) ∷ refuse_if (flashed_refusal b) ∷ stored
 
-      goes : (w : World) → Between w → Sends w → Along w refusals → Fairly Fin None w refusals
+      goes : (w : World) → Between w → Sends w → Along w refusals → WindowAlong Fin None w refusals
       goes w k x al =
-          fairly-refuse Fin fin w k (send_refusal a b) (refuse_if (flashed_refusal b) ∷ stored) al (λ none al.
-          fairly-refuse Fin fin w k (flashed_refusal b) stored al (λ plain al.
-          copies-fairly Fin None Lasts (λ v y. y.0.sound) (λ v y. good-none v y.0.sound.rows) keeps-lasts b t volumes (store_on a b t ∷ strike_on a t ∷ more) w (k, x) al (λ v y. stores v y.0 y.1)))
+          window-refuse Fin fin w k (send_refusal a b) (refuse_if (flashed_refusal b) ∷ stored) al (λ none al.
+          window-refuse Fin fin w k (flashed_refusal b) stored al (λ plain al.
+          window-copies Fin None Lasts (λ v y. y.0.sound) (λ v y. good-none v y.0.sound.rows) keeps-lasts b t volumes (store_on a b t ∷ strike_on a t ∷ more) w (k, x) al (λ v y. stores v y.0 y.1)))
 
       module _ (w : World) (f : Option Fuse) (k : Between w) (x : Sends w) where
         abbrev why : ℕ → Volume → Option Refusal
@@ -134,27 +134,27 @@ module _ (Fin : Option ℕ → World → Option Refusal → Type 0) (fin : (w : 
         still-refused : send_refusal a b (done w (Suspend a false) f).control ≡ send_refusal a b w.control
         still-refused = λ i. why (at_part (λ (y : Volume). y.server) w.control.volume a (row w (Suspend a false) f) refl a i) (at_other w.control.volume a (row w (Suspend a false) f) b ne i)
 
-      suspends-by : (w : World) (o : Option Refusal) → Between w → Sends w → send_refusal a b w.control ≡ o → Along w (suspend_where (send_refusal a b) a ∷ refusals) → Fairly Fin None w (suspend_where (send_refusal a b) a ∷ refusals)
+      suspends-by : (w : World) (o : Option Refusal) → Between w → Sends w → send_refusal a b w.control ≡ o → Along w (suspend_where (send_refusal a b) a ∷ refusals) → WindowAlong Fin None w (suspend_where (send_refusal a b) a ∷ refusals)
       suspends-by w None k x is al =
           let d : Entry = suspend_where (send_refusal a b) a in
           let passes : d w.control ≡ Pass = ap (λ o. cond (is_some o) (Do (Make (Suspend a false))) Pass) is in
-          fairly-entry Fin None w d refusals Pass passes (good-none w k.sound.rows) (goes w k x (comes w d refusals Pass passes al))
+          window-entry Fin None w d refusals Pass passes (good-none w k.sound.rows) (goes w k x (comes w d refusals Pass passes al))
       suspends-by w (Some r) k x is al =
           let d : Entry = suspend_where (send_refusal a b) a in
           let does : d w.control ≡ Do (Make (Suspend a false)) = ap (λ o. cond (is_some o) (Do (Make (Suspend a false))) Pass) is in
           let one = comes w d refusals (Do (Make (Suspend a false))) does al in
-          move-fairly Fin fin w k d (Suspend a false) refusals does one.0 tt tt refl (λ f z.
+          window-move Fin fin w k d (Suspend a false) refusals does one.0 tt tt refl (λ f z.
           let u : World = done w (Suspend a false) f in
-          fairly-entry Fin None u (refuse_if (send_refusal a b)) (refuse_if (flashed_refusal b) ∷ stored) (End r) (ap end_if (still-refused w f k x ∙ is)) (good-none u z.sound.rows) (fin u (Some r) z))
+          window-entry Fin None u (refuse_if (send_refusal a b)) (refuse_if (flashed_refusal b) ∷ stored) (End r) (ap end_if (still-refused w f k x ∙ is)) (good-none u z.sound.rows) (fin u (Some r) z))
 
-      sends-one : (w : World) → Between w → Sends w → Along w (send_entries volumes a b t ++ more) → Fairly Fin None w (send_entries volumes a b t ++ more)
+      sends-one : (w : World) → Between w → Sends w → Along w (send_entries volumes a b t ++ more) → WindowAlong Fin None w (send_entries volumes a b t ++ more)
       sends-one w k x al =
           let assoc : send_entries volumes a b t ++ more ≡ suspend_where (send_refusal a b) a ∷ refusals =
           ap (λ ds. suspend_where (send_refusal a b) a ∷ refuse_if (send_refusal a b) ∷ refuse_if (flashed_refusal b) ∷ ds) (append_assoc (map (keep_on b t) volumes) (store_on a b t ∷ strike_on a t ∷ []) more) in
-          subst (Fairly Fin None w) (sym assoc) (suspends-by w (send_refusal a b w.control) k x refl (subst (Along w) assoc al))
+          subst (WindowAlong Fin None w) (sym assoc) (suspends-by w (send_refusal a b w.control) k x refl (subst (Along w) assoc al))
 
-    pub sends-all : (ts : List ℕ) (w : World) → Between w → Sends w → Along w (sends volumes a b ts) → Fairly Fin None w (sends volumes a b ts)
-    sends-all [] w k x al = fairly-nil Fin None w (good-none w k.sound.rows) (fin w None k)
+    pub sends-all : (ts : List ℕ) (w : World) → Between w → Sends w → Along w (sends volumes a b ts) → WindowAlong Fin None w (sends volumes a b ts)
+    sends-all [] w k x al = window-nil Fin None w (good-none w k.sound.rows) (fin w None k)
     sends-all (t ∷ ts) w k x al = sends-one t (sends volumes a b ts) (λ v k x al. sends-all ts v k x al) w k x al
 
 -- a primary in Copy Pending is drained
@@ -167,7 +167,7 @@ module _ (w : World) (k : Between w) (a : ℕ) (most : Option ℕ) where
 
   fins : (u : World) (r : Option Refusal) → Between u → Fins None u r
   fins u None b = b
-  fins u (Some (StoppedIn s)) b = after-fairly a 0 u (within-between a 0 u b) s.0
+  fins u (Some (StoppedIn s)) b = window-after a 0 u (within-between a 0 u b) s.0
   fins u (Some r) b = b
 
   pending-going : (s : PairState) → is_pending s ≡ true → is_suspended s ≡ false
@@ -175,13 +175,13 @@ module _ (w : World) (k : Between w) (a : ℕ) (most : Option ℕ) where
   pending-going FullDuplex h = absurd cc
   pending-going Suspended h = absurd cc
 
-  pub fair-drain : EntriesFair w p
-  fair-drain =
+  pub window-drain : EntriesHold w p
+  window-drain =
       let u : World = as_begun w in
       let b : Between u = begun-between w k in
-      fairly-check Fins fins u b (is_defined a) _ _ (along-drain w k.sound a most) (λ there al.
-      fairly-check Fins fins u b (is_running a) _ _ al (λ on al.
-      fairly-check Fins fins u b (is_copying a) _ _ al (λ copying al.
+      window-check Fins fins u b (is_defined a) _ _ (along-drain w k.sound a most) (λ there al.
+      window-check Fins fins u b (is_running a) _ _ al (λ on al.
+      window-check Fins fins u b (is_copying a) _ _ al (λ copying al.
       let both = and_parts (is_part (fields_at w.control a).primary) _ copying in
       sends-all Fins fins w.control.volumes a (fields_at w.control a).primary_partner (tracks_to_send most (w.control.volume a).tracks (fields_at w.control a).out_of_sync) u b
       (record { on = on; there = there; to = choose_some (is_part (fields_at w.control a).primary) (fields_at w.control a).primary_partner both.0; going = pending-going (fields_at w.control a).primary_state both.1 }) al)))

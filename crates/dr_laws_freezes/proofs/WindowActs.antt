@@ -1,4 +1,4 @@
--- Plans whose acts are fair wherever they come.
+-- Acts that do what windows ask, and keep what holds of pairs, and entries that come to them.
 use Rattle.std.proofs.Common.{ℕ, ◌≡◌, refl, sym, subst, Bool, true, false, cond, List, [], ◌∷◌, Option, Some, None}
 use Rattle.dr_ids.specs.declared.refusal.Refusal.{Refusal}
 use Rattle.dr_model.specs.declared.event.Event.TheVariants.{Frozen, Thawed, Recovered}
@@ -14,9 +14,9 @@ use Rattle.dr_laws_sound.proofs.KeepsSound.{MayDo, Along, Then, comes, keeps-sou
 use Rattle.dr_model.specs.Allowed.{May}
 use Rattle.dr_model.specs.PairEntries.{end_if, refuse_if}
 use Rattle.dr_facts.proofs.Entries.{any_reason, AllFine, FineFrom, FromThen, from-all}
-use Rattle.dr_laws_freezes.proofs.Fair.{Fair, tag_after, come, come-open}
+use Rattle.dr_laws_freezes.proofs.WindowMoves.{WindowMay, tag_after, come, come-open}
 use Rattle.dr_laws_freezes.proofs.Tidy.{Gentle, Tidy, tidy-done, tidy-stop, tidy-not, tidy-same, fresh-told}
-use Rattle.dr_laws_freezes.proofs.Chains.{FairAct, act_tag, CountsFin, fairly_next, Fairly, fairly-entry, fairly-nil, good-none}
+use Rattle.dr_laws_freezes.proofs.Chains.{WindowMayDo, act_tag, CountsFin, window_next, WindowAlong, window-entry, window-nil, good-none}
 use Rattle.std.proofs.lemmas.List.{append-nil}
 
 -- a sound world between steps
@@ -26,7 +26,7 @@ pub record Between (w : World) : Type 0 where
 
 -- an act that comes where no write goes on, and keeps what holds of pairs
 abbrev pub KeepsPairs : World → Act → Type 0
-KeepsPairs w (Make m) = Fair None w m × Gentle (fields_at w.control (target m)) m × (tag_after m None ≡ None)
+KeepsPairs w (Make m) = WindowMay None w m × Gentle (fields_at w.control (target m)) m × (tag_after m None ≡ None)
 KeepsPairs w (Acknowledge n) = ⊥
 KeepsPairs w a = Unit {0}
 
@@ -45,10 +45,10 @@ module _ (w : World) (tidy : Tidy w) where
   act-tidy (EndThaw l m) f may keeps = tidy-same w (thawed w l m) refl refl (λ j h. h) (fresh-told w (thawed w l m) (Thawed l m ∷ []) refl refl tidy.fresh.unacked (λ n. refl) tidy.fresh) tidy
   act-tidy (EndRecovery s n) f may keeps = tidy-same w (recovered w s n) refl refl (λ j h. h) (fresh-told w (recovered w s n) (Recovered s n ∷ []) refl refl tidy.fresh.unacked (λ n. refl) tidy.fresh) tidy
 
-act-fair : (w : World) (a : Act) → MayDo w a → KeepsPairs w a → FairAct None w a
-act-fair w (Make m) may keeps = (may, keeps.0)
-act-fair w (Acknowledge n) may keeps = absurd keeps
-act-fair w a may keeps = may
+act-may : (w : World) (a : Act) → MayDo w a → KeepsPairs w a → WindowMayDo None w a
+act-may w (Make m) may keeps = (may, keeps.0)
+act-may w (Acknowledge n) may keeps = absurd keeps
+act-may w a may keeps = may
 
 act-none : (w : World) (a : Act) → KeepsPairs w a → act_tag a None ≡ None
 act-none w (Make m) keeps = keeps.2
@@ -67,9 +67,9 @@ module _ (Fin : Option ℕ → World → Option Refusal → Type 0) (fin : (w : 
       })
   counts-fin w a k may keeps = tt
 
-  pub act-fairly : (w : World) (a : Act) (then : Option ℕ → World → Type 0) → Between w → MayDo w a → KeepsPairs w a → ((f : Option Fuse) → Between (after_act w a f) → then None (after_act w a f)) → fairly_next Fin None w (Do a) then
-  act-fairly w a then k may keeps on = (
-    act-fair w a may keeps,
+  pub window-act : (w : World) (a : Act) (then : Option ℕ → World → Type 0) → Between w → MayDo w a → KeepsPairs w a → ((f : Option Fuse) → Between (after_act w a f) → then None (after_act w a f)) → window_next Fin None w (Do a) then
+  window-act w a then k may keeps on = (
+    act-may w a may keeps,
     λ f. subst (λ tag. then tag (after_act w a f)) (sym (act-none w a keeps)) (on f (record { sound = keeps-sound.does w a f k.sound may; tidy = act-tidy w k.tidy a f may keeps })),
     (counts-fin w a k may keeps, λ d f. fin _ _ (record { sound = keeps-sound.fails w a f d k.sound may; tidy = tidy-not w (server_of w a) f k.tidy })),
   )
@@ -83,45 +83,45 @@ module _ (Fin : Option ℕ → World → Option Refusal → Type 0) (fin : (w : 
     abbrev Runs : World → List Entry → Type 0
     Runs = along.Along Sound Sound E MayDo
 
-    next-fairly : (w : World) (x : Next) (ds : List Entry) → ((v : World) → Between v → J v → Comes v ds → Runs v ds → Fairly Fin None v ds) → Between w → J w → FromThen K Ok First Why w x (Comes w ds) (AllFine K Ok Why ds) → Then w x (λ v. Runs v ds)
-        → fairly_next Fin None w x (λ tag v. Fairly Fin tag v ds)
-    next-fairly w Pass ds rest k j fine a = rest w k j fine a
-    next-fairly w (End r) ds rest k j fine a = fin w r k
-    next-fairly w (Do x) ds rest k j fine a =
-        act-fairly w x (λ tag v. Fairly Fin tag v ds) k a.0 (keeps w x fine.0 j)
+    window-decides : (w : World) (x : Next) (ds : List Entry) → ((v : World) → Between v → J v → Comes v ds → Runs v ds → WindowAlong Fin None v ds) → Between w → J w → FromThen K Ok First Why w x (Comes w ds) (AllFine K Ok Why ds) → Then w x (λ v. Runs v ds)
+        → window_next Fin None w x (λ tag v. WindowAlong Fin tag v ds)
+    window-decides w Pass ds rest k j fine a = rest w k j fine a
+    window-decides w (End r) ds rest k j fine a = fin w r k
+    window-decides w (Do x) ds rest k j fine a =
+        window-act w x (λ tag v. WindowAlong Fin tag v ds) k a.0 (keeps w x fine.0 j)
         (λ f b. let i : J (after_act w x f) = on w x f fine.0 j in rest (after_act w x f) b i (from-all K Ok First Why reasons (after_act w x f) (known (after_act w x f) i) ds fine.1) (a.1 f b.sound))
 
-    pub entries-fairly : (ds : List Entry) (w : World) → Between w → J w → Comes w ds → Runs w ds → Fairly Fin None w ds
+    pub window-entries : (ds : List Entry) (w : World) → Between w → J w → Comes w ds → Runs w ds → WindowAlong Fin None w ds
     unfolding FineFrom
-    entries-fairly [] w k j fine a = fairly-nil Fin None w (good-none w k.sound.rows) (ends w k (along.along-ends Sound Sound E MayDo w a))
-    entries-fairly (d ∷ ds) w k j fine a =
-        fairly-entry Fin None w d ds (d w.control) refl (good-none w k.sound.rows) (next-fairly w (d w.control) ds (entries-fairly ds) k j fine (along.along-comes Sound Sound E MayDo w d ds (d w.control) refl a))
+    window-entries [] w k j fine a = window-nil Fin None w (good-none w k.sound.rows) (ends w k (along.along-ends Sound Sound E MayDo w a))
+    window-entries (d ∷ ds) w k j fine a =
+        window-entry Fin None w d ds (d w.control) refl (good-none w k.sound.rows) (window-decides w (d w.control) ds (window-entries ds) k j fine (along.along-comes Sound Sound E MayDo w d ds (d w.control) refl a))
 
 -- such an act that leaves what is known
 abbrev pub Leaves : (World → Type 0) → World → Act → Type 0
 Leaves J w a = KeepsPairs w a × ((f : Option Fuse) → J (after_act w a f))
 
 module _ (Fin : Option ℕ → World → Option Refusal → Type 0) (fin : (w : World) (r : Option Refusal) → Between w → Fin None w r) where
-  pub leaves-fairly : (J : World → Type 0) (ds : List Entry) (w : World) → Between w → J w → FineFrom J (Leaves J) any_reason any_reason w ds → Along w ds → Fairly Fin None w ds
-  leaves-fairly J = entries-fairly Fin (λ w r. fin w (Some r)) J J Sound (Leaves J) any_reason any_reason (λ r why. why) (λ w j. j) (λ w a ok j. ok.0) (λ w a f ok j. ok.1 f) (λ w b sound. fin w None b)
+  pub window-leaves : (J : World → Type 0) (ds : List Entry) (w : World) → Between w → J w → FineFrom J (Leaves J) any_reason any_reason w ds → Along w ds → WindowAlong Fin None w ds
+  window-leaves J = window-entries Fin (λ w r. fin w (Some r)) J J Sound (Leaves J) any_reason any_reason (λ r why. why) (λ w j. j) (λ w a ok j. ok.0) (λ w a f ok j. ok.1 f) (λ w b sound. fin w None b)
 
   -- ---- entry by entry
 
-  pub move-fairly : (w : World) → Between w → (d : Entry) (m : Move) (ds : List Entry) → d w.control ≡ Do (Make m) → May w m → Fair None w m → Gentle (fields_at w.control (target m)) m → tag_after m None ≡ None
-      → ((f : Option Fuse) → Between (done w m f) → Fairly Fin None (done w m f) ds) → Fairly Fin None w (d ∷ ds)
-  move-fairly w k d m ds is may fair gentle none go = fairly-entry Fin None w d ds (Do (Make m)) is (good-none w k.sound.rows) (act-fairly Fin (λ w r. fin w (Some r)) w (Make m) (λ tag v. Fairly Fin tag v ds) k may (fair, gentle, none) go)
+  pub window-move : (w : World) → Between w → (d : Entry) (m : Move) (ds : List Entry) → d w.control ≡ Do (Make m) → May w m → WindowMay None w m → Gentle (fields_at w.control (target m)) m → tag_after m None ≡ None
+      → ((f : Option Fuse) → Between (done w m f) → WindowAlong Fin None (done w m f) ds) → WindowAlong Fin None w (d ∷ ds)
+  window-move w k d m ds is may fair gentle none go = window-entry Fin None w d ds (Do (Make m)) is (good-none w k.sound.rows) (window-act Fin (λ w r. fin w (Some r)) w (Make m) (λ tag v. WindowAlong Fin tag v ds) k may (fair, gentle, none) go)
 
   -- what passed a check
-  pub fairly-check : (w : World) → Between w → (ok : Control → Bool) (r : Refusal) (ds : List Entry) → Along w (check ok r ∷ ds) → (ok w.control ≡ true → Along w ds → Fairly Fin None w ds) → Fairly Fin None w (check ok r ∷ ds)
-  fairly-check w k ok r ds a go = fairly-entry Fin None w (check ok r) ds (cond (ok w.control) Pass (End r)) refl (good-none w k.sound.rows) (by (ok w.control) refl (comes w (check ok r) ds (cond (ok w.control) Pass (End r)) refl a))
+  pub window-check : (w : World) → Between w → (ok : Control → Bool) (r : Refusal) (ds : List Entry) → Along w (check ok r ∷ ds) → (ok w.control ≡ true → Along w ds → WindowAlong Fin None w ds) → WindowAlong Fin None w (check ok r ∷ ds)
+  window-check w k ok r ds a go = window-entry Fin None w (check ok r) ds (cond (ok w.control) Pass (End r)) refl (good-none w k.sound.rows) (by (ok w.control) refl (comes w (check ok r) ds (cond (ok w.control) Pass (End r)) refl a))
     where
-      by : (b : Bool) → ok w.control ≡ b → Then w (cond b Pass (End r)) (λ v. Along v ds) → fairly_next Fin None w (cond b Pass (End r)) (λ tag v. Fairly Fin tag v ds)
+      by : (b : Bool) → ok w.control ≡ b → Then w (cond b Pass (End r)) (λ v. Along v ds) → window_next Fin None w (cond b Pass (End r)) (λ tag v. WindowAlong Fin tag v ds)
       by true is a = go is a
       by false is a = fin w (Some r) k
 
-  pub fairly-refuse : (w : World) → Between w → (why : Control → Option Refusal) (ds : List Entry) → Along w (refuse_if why ∷ ds) → (why w.control ≡ None → Along w ds → Fairly Fin None w ds) → Fairly Fin None w (refuse_if why ∷ ds)
-  fairly-refuse w k why ds a go = fairly-entry Fin None w (refuse_if why) ds (end_if (why w.control)) refl (good-none w k.sound.rows) (by (why w.control) refl (comes w (refuse_if why) ds (end_if (why w.control)) refl a))
+  pub window-refuse : (w : World) → Between w → (why : Control → Option Refusal) (ds : List Entry) → Along w (refuse_if why ∷ ds) → (why w.control ≡ None → Along w ds → WindowAlong Fin None w ds) → WindowAlong Fin None w (refuse_if why ∷ ds)
+  window-refuse w k why ds a go = window-entry Fin None w (refuse_if why) ds (end_if (why w.control)) refl (good-none w k.sound.rows) (by (why w.control) refl (comes w (refuse_if why) ds (end_if (why w.control)) refl a))
     where
-      by : (o : Option Refusal) → why w.control ≡ o → Then w (end_if o) (λ v. Along v ds) → fairly_next Fin None w (end_if o) (λ tag v. Fairly Fin tag v ds)
+      by : (o : Option Refusal) → why w.control ≡ o → Then w (end_if o) (λ v. Along v ds) → window_next Fin None w (end_if o) (λ tag v. WindowAlong Fin tag v ds)
       by None is a = go is a
       by (Some r) is a = fin w (Some r) k

@@ -16,7 +16,7 @@ use Rattle.dr_laws_closed.proofs.Pendings.{each-on, all-more}
 use Rattle.dr_laws_freezes.specs.Windows.{is_ack}
 use Rattle.dr_facts.proofs.Tables.{at_cases}
 use Rattle.dr_laws_sound.proofs.Cases.{Case, is-new}
-use Rattle.dr_laws_freezes.proofs.Fair.{Unacked}
+use Rattle.dr_laws_freezes.proofs.WindowMoves.{Unacked}
 use Rattle.dr_facts.proofs.Emits.{Of, of-all}
 use Rattle.dr_laws_freezes.proofs.KeepsWindow.{takes_none, unacked}
 use Rattle.dr_laws_freezes.proofs.Begun as before

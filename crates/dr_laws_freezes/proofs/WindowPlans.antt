@@ -1,4 +1,4 @@
--- A plan is fair where its acts keep what holds of pairs.
+-- What is to be shown of a plan for freeze windows, and that it holds where its acts keep what holds of pairs.
 use Rattle.std.proofs.Common.{ℕ, ◌≡◌, ◌<◌, refl, ap, sym, ◌∙◌, subst, true, List, [], ◌∷◌, Option, Some, None}
 use Rattle.std.proofs.lemmas.List.{append-nil}
 use Rattle.dr_ids.specs.declared.refusal.Refusal.{Refusal}
@@ -20,11 +20,11 @@ use Rattle.dr_laws_sound.proofs.FitsSessions.{Orders, sound-lost}
 use Rattle.dr_laws_sound.proofs.NewMessages.{adds-same}
 use Rattle.dr_laws_sound.proofs.GoesOn.{goes-same}
 use Rattle.dr_laws_sound.proofs.Steps.{sound-said}
-use Rattle.dr_laws_freezes.proofs.Fair.{Unacked}
+use Rattle.dr_laws_freezes.proofs.WindowMoves.{Unacked}
 use Rattle.dr_laws_freezes.proofs.Tidy.{tidy-same, fresh-told}
-use Rattle.dr_laws_freezes.proofs.Chains.{ended, Fairly, fairly-nil, EndFin, PlanFin, PlanFair, Leaves, good-none}
-use Rattle.dr_laws_freezes.proofs.FairPlans.{Between, KeepsPairs, entries-fairly}
-use Rattle.dr_laws_freezes.proofs.FairTables.{Begins}
+use Rattle.dr_laws_freezes.proofs.Chains.{ended, WindowAlong, window-nil, EndFin, PlanFin, WindowHolds, Leaves, good-none}
+use Rattle.dr_laws_freezes.proofs.WindowActs.{Between, KeepsPairs, window-entries}
+use Rattle.dr_laws_freezes.proofs.WindowBegins.{Begins}
 
 pub rows-between : (w : World) → Between w → SoundRows (table w)
 rows-between w k = k.sound.rows
@@ -43,8 +43,8 @@ loses-between first w k = record {
       tidy-same w u refl refl (λ j h. h) (fresh-told w u [] (sym (append-nil w.events)) refl k.tidy.fresh.unacked (λ n. refl) k.tidy.fresh) k.tidy;
 }
 
-abbrev pub Fair : World → Plan → Type 0
-Fair = PlanFair Between rows-between answers-between
+abbrev pub PlanHolds : World → Plan → Type 0
+PlanHolds = WindowHolds Between rows-between answers-between
 
 pub begun-between : (w : World) → Between w → Between (as_begun w)
 begun-between w k = record {
@@ -53,13 +53,13 @@ begun-between w k = record {
 }
 
 -- what is to be shown of a plan's entries
-abbrev pub EntriesFair : World → Plan → Type 0
-EntriesFair w p = Fairly (PlanFin Between rows-between answers-between p) None (begun w p) p.entries
+abbrev pub EntriesHold : World → Plan → Type 0
+EntriesHold w p = WindowAlong (PlanFin Between rows-between answers-between p) None (begun w p) p.entries
 
 -- how the entries of a plan end that is nothing but them
 pub fin : (entries : List Entry) (a : Said) (u : World) (r : Option Refusal) → Between u → PlanFin Between rows-between answers-between (entries_plan entries a) None u r
 fin entries a u None b = b
-fin entries a u (Some (StoppedIn s)) b = fairly-nil (EndFin Between rows-between answers-between) None u (good-none u b.sound.rows) b
+fin entries a u (Some (StoppedIn s)) b = window-nil (EndFin Between rows-between answers-between) None u (good-none u b.sound.rows) b
 fin entries a u (Some r) b = b
 
 -- ---- plans
@@ -81,16 +81,16 @@ module _ (w : World) (k : Between w) (p : Plan) (begins : Begins w (begun w p) p
       subst (λ j. Sound (record u { control = j })) (last u.control)
       (subst (λ ds. Sound (finish p (carry u ds).0 (carry u ds).1)) none (along.plan-keeps Sound RowsAt MayDo keeps-sound (λ v s. s.rows) w p holds))
 
-  pub fair-by : EntriesFair w p → Fair w p
-  fair-by fairly = record { told = p.told; begins = begins.unchanged; entries = fairly; last = leaves }
+  pub window-by : EntriesHold w p → PlanHolds w p
+  window-by fairly = record { told = p.told; begins = begins.unchanged; entries = fairly; last = leaves }
 
-  pub fair-tables : StepHolds w p → NoneOn → p.entries ≡ [] → ((j : Control) → p.last j ≡ j) → Fair w p
-  fair-tables holds on none last =
+  pub window-tables : StepHolds w p → NoneOn → p.entries ≡ [] → ((j : Control) → p.last j ≡ j) → PlanHolds w p
+  window-tables holds on none last =
       let b : Between u = record { sound = sound-tables holds none last; tidy = begins.tidy on } in
-      fair-by (subst (Fairly Fins None u) (sym none) (fairly-nil Fins None u (good-none u b.sound.rows) (subst (λ j. Between (record u { control = j })) (sym (last u.control)) b)))
+      window-by (subst (WindowAlong Fins None u) (sym none) (window-nil Fins None u (good-none u b.sound.rows) (subst (λ j. Between (record u { control = j })) (sym (last u.control)) b)))
 
   -- of entries that come where they may
-  module _ (on : NoneOn) (orders : Orders w p) (follow : (s : ℕ) (v : World) → Between v → Fairly (EndFin Between rows-between answers-between) None v (p.follows s)) where
+  module _ (on : NoneOn) (orders : Orders w p) (follow : (s : ℕ) (v : World) → Between v → WindowAlong (EndFin Between rows-between answers-between) None v (p.follows s)) where
     first-between : Between u
     first-between = record { sound = orders.begins; tidy = begins.tidy on }
 
@@ -111,9 +111,9 @@ module _ (w : World) (k : Between w) (p : Plan) (begins : Begins w (begun w p) p
               }) b.tidy;
         }
 
-    pub fair-entries : (Ok : World → Act → Type 0) (First Why : Refusal → Type 0) → ((r : Refusal) → Why r → First r) → ((v : World) (a : Act) → Ok v a → KeepsPairs v a) → FineFrom any_world Ok First Why u p.entries → Fair w p
-    fair-entries Ok First Why reasons keeps fine =
-        fair-by (entries-fairly Fins refused any_world any_world orders.ends Ok First Why reasons (λ v any. tt) (λ v a ok any. keeps v a ok) (λ v a f ok any. tt) ended_well p.entries u first-between tt fine orders.entries)
+    pub window-plan : (Ok : World → Act → Type 0) (First Why : Refusal → Type 0) → ((r : Refusal) → Why r → First r) → ((v : World) (a : Act) → Ok v a → KeepsPairs v a) → FineFrom any_world Ok First Why u p.entries → PlanHolds w p
+    window-plan Ok First Why reasons keeps fine =
+        window-by (window-entries Fins refused any_world any_world orders.ends Ok First Why reasons (λ v any. tt) (λ v a ok any. keeps v a ok) (λ v a f ok any. tt) ended_well p.entries u first-between tt fine orders.entries)
 
 -- a plan of entries that are allowed along
 pub alone : (w : World) → Sound w → (entries : List Entry) (says : Control → Said) → Along (as_begun w) entries → Orders w (record { first = same; told = []; entries = entries; follows = none_follow; last = same; says = says })

@@ -1,4 +1,4 @@
--- The background copy of a target, and its restore onto its source, are fair.
+-- The background copy of a target, and its restore onto its source, in freeze windows.
 use Rattle.std.proofs.Common.{ℕ, ◌≡◌, refl, ap, sym, ◌∙◌, Bool, true, false, not, ◌&&◌, ◌||◌, List, ◌∷◌, Option}
 use Rattle.dr_ids.specs.declared.refusal.Refusal.{Refusal}
 use Rattle.dr_model.specs.declared.said.Addition.TheVariants.{Counted}
@@ -20,8 +20,8 @@ use Rattle.dr_laws_sound.proofs.FitsPairs.{row}
 use Rattle.dr_laws_sound.proofs.FitsCopy.{along-copy}
 use Rattle.dr_laws_freezes.proofs.Tidy.{is_synced}
 use Rattle.dr_laws_freezes.proofs.Chains.{PlanFin}
-use Rattle.dr_laws_freezes.proofs.FairPlans.{Between, Leaves, leaves-fairly}
-use Rattle.dr_laws_freezes.proofs.FairCases.{rows-between, answers-between, begun-between, EntriesFair, fin}
+use Rattle.dr_laws_freezes.proofs.WindowActs.{Between, Leaves, window-leaves}
+use Rattle.dr_laws_freezes.proofs.WindowPlans.{rows-between, answers-between, begun-between, EntriesHold, fin}
 use Rattle.dr_model.specs.declared.said.Said.{Said}
 use Rattle.dr_facts.proofs.Entries.{any_reason, FineFrom, from-check, from-all, fine-times}
 use Rattle.dr_facts.proofs.SharedEntries.{copied-fine}
@@ -72,7 +72,7 @@ module _ (w : World) (k : Between w) (t : ℕ) (most : Option ℕ) where
       (λ is q u j. ((tt, not-synced (fields_at u.control s) (j (sym (ap (λ b. not b || takes_back s w.control) is) ∙ back)), refl), λ f. stays u (Restore s q t) f refl j))
       (λ is q u j. ((tt, tt, refl), λ f. stays u (Release t q) f refl j)) (λ q u j. ((tt, tt, refl), λ f. stays u (Fetch t q) f refl j))))))))
 
-  pub fair-copy : EntriesFair w p
-  fair-copy =
+  pub window-copy : EntriesHold w p
+  window-copy =
       let said : Said = Done (Counted (at_most most (left_to_copy w.control t))) in
-      leaves-fairly (PlanFin Between rows-between answers-between p) (fin p.entries said) Stays p.entries start (begun-between w k) (λ quiet. quiet) copies (along-copy w k.sound t most)
+      window-leaves (PlanFin Between rows-between answers-between p) (fin p.entries said) Stays p.entries start (begun-between w k) (λ quiet. quiet) copies (along-copy w k.sound t most)
