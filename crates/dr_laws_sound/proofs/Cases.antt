@@ -185,7 +185,7 @@ pub data Case (k : Control) (events : List Event) (line : ℕ) : Result Step ℕ
   FailsBack : {n : ℕ} → (devs : Devs) → (x y : ℕ) → (kind : Part) → Case k events line (Ok (Failback devs x y n)) (failback_plan k devs x y kind)
   Compares : {asked : Result Step ℕ} → (contents : ℕ → ℕ → List ℕ) → (v u : ℕ) → Case k events line asked (compare_plan k contents v u)
   Drains : (a : ℕ) → (most : Option ℕ) → Case k events line (Ok (Drain a most)) (drain_plan k a most)
-  Expires : {name : Name} → (s : ℕ) → k.on s ≡ true → Case k events line (Ok (Expire name)) (expire_plan k s)
+  Expires : {name : Name} → (s : ℕ) → (server_named k (name_bytes name) ≡ Some s) × (k.on s ≡ true) → Case k events line (Ok (Expire name)) (expire_plan k s)
   Freezes : {devs : Devs} → (l m : ℕ) → Case k events line (Ok (Freeze devs l m)) (freeze_done k l m)
   Unfreezes : {devs : Devs} → (l m : ℕ) → Case k events line (Ok (Unfreeze devs l m)) (unfreeze_done k l m)
   Releases : {devs : Devs} → (l : ℕ) → Case k events line (Ok (UnfreezeFlash devs l)) (release_done k l)
@@ -269,8 +269,8 @@ module _ (k : Control) (events : List Event) (line : ℕ) where
   start-case : {name : Name} → (s : ℕ) → Is (Ok (Start name)) (start_on k s)
   start-case s = choice (k.on s) (only_says (Done Alone)) (start_plan k s) (λ on. idle) (Starts s)
 
-  expire-case : {name : Name} → (s : ℕ) → Is (Ok (Expire name)) (expire_on k s)
-  expire-case s = choice (k.on s) (expire_plan k s) (refuses (server_off s)) (Expires s) (λ off. refused _ refl)
+  expire-case : {name : Name} → (s : ℕ) → server_named k (name_bytes name) ≡ Some s → Is (Ok (Expire name)) (expire_on k s)
+  expire-case s named = choice (k.on s) (expire_plan k s) (refuses (server_off s)) (λ on. Expires s (named, on)) (λ off. refused _ refl)
 
   -- lines on sessions
   where-session : {asked : Result Step ℕ} → (o : Option Session) (p : Session → Plan) → ((x : Session) → o ≡ Some x → Is asked (p x)) → Is asked (on_session o p)
@@ -445,7 +445,7 @@ module _ (k : Control) (events : List Event) (line : ℕ) where
   of-case (Failover devs b a kind) = FailsOver devs b a (kind_of kind)
   of-case (Failback devs x y kind) = FailsBack devs x y (kind_of kind)
   of-case (Drain a most) = Drains a most
-  of-case (Expire name) = where-named (server_named k (name_bytes name)) (expire_on k) expire-case
+  of-case (Expire name) = where-placed (server_named k (name_bytes name)) (expire_on k) expire-case
   of-case (Freeze devs l m) =
       where-owned (owner_of k l) (λ s. on_owner (owner_of k m) (λ u. unless (freeze_refusal k devs l m s u) (freeze_done k l m)))
       (λ s. where-owned (owner_of k m) (λ u. unless (freeze_refusal k devs l m s u) (freeze_done k l m)) (λ u. where-none (freeze_refusal k devs l m s u) (freeze-why k devs l m s u) (freeze_done k l m) (λ free. Freezes l m)))

@@ -243,7 +243,7 @@ module _ (w : World) where
         acting c _ _ _ (sending c _ refl c.volumes a (fields_at c a).primary_partner (Drained a most (and_parts (is_part (fields_at c a).primary) _ copying).0) (tracks_to_send most (c.volume a).tracks (fields_at c a).out_of_sync)))));
     follows = λ s. after-fine any_world (Acts c _) (Late _) a s (λ u any. does.Suspends a false);
   }
-  case-does line _ _ (Expires s on) = acts-only _ _ (λ q. refl) (volumes c _ (lift_on s) c.volumes (λ v. when c _ (λ j. belongs j s v && held (fields_at j v)) (Make (moves.Lift v)) (λ j is. does.Lifts s v is)))
+  case-does line _ _ (Expires s on) = acts-only _ _ (λ q. refl) (volumes c _ (lift_on s) c.volumes (λ v. when c _ (λ j. belongs j s v && held (fields_at j v)) (Make (moves.Lift v)) (λ j is. does.Lifts s v (on.0, is))))
   case-does line _ _ (Freezes l m) = acts-only _ _ (λ q. refl) (append c _ (map (freeze_on l m) c.volumes) _
       (volumes c _ (freeze_on l m) c.volumes (λ v. when c _ (λ j. is_between j l m v) (Make (moves.Suspend v true)) (λ j is. does.Suspends v true))) (each c _ (end_freeze l m) _ (λ u any. does.EndsFreeze l m) (none c _)))
   case-does line _ _ (Unfreezes l m) = acts-only _ _ (λ q. refl) (append c _ (map (thaw_on l m) c.volumes) _

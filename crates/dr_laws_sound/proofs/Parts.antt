@@ -34,12 +34,19 @@ pub data IsTurn : Control → Plan → Type 0 where
   Drained : (k : Control) → (a : ℕ) → IsTurn k (drain_plan k a None)
   Asked : (k : Control) → (s server : ℕ) → (m : Option Mirror) → (ms : List Member) → IsTurn k (exchange_on k s m server true ms)
 
+-- the steps that ask for such plans
+abbrev pub asks_turn : Result Step ℕ → Bool
+asks_turn (Ok (Drain a most)) = true
+asks_turn (Ok (Exchange s name reply)) = true
+asks_turn asked = false
+
 -- A plan that isn't the last one of its step: the journal has room for it, its tables change and its journal is told by its entries
 -- alone, and it acknowledges no write.
 pub record Comes (w : World) (p : Plan) : Type 0 where
   pub turn : IsTurn w.control p
   pub room : has_room w.events ≡ true
   pub asked : Result Step ℕ
+  pub asks : asks_turn asked ≡ true
   pub case : (line : ℕ) → Case w.control w.events line asked p
   pub first : (k : Control) → p.first k ≡ k
   pub told : p.told ≡ []
@@ -95,16 +102,16 @@ unnamed = record { len = 0; bytes = [] }
 
 -- the plans of an `@run`
 pub comes-drain : (w : World) (a : ℕ) → has_room w.events ≡ true → Comes w (drain_plan w.control a None)
-comes-drain w a room = record { turn = Drained w.control a; room = room; asked = Ok (Drain a None); case = λ line. Drains a None; first = λ k. refl; told = refl; other = refl; one = refl }
+comes-drain w a room = record { turn = Drained w.control a; room = room; asked = Ok (Drain a None); asks = refl; case = λ line. Drains a None; first = λ k. refl; told = refl; other = refl; one = refl }
 
 pub comes-asking : (w : World) (s server : ℕ) → has_room w.events ≡ true → Comes w (asking w.control s server true)
 comes-asking w s server room = by (session_in w.control.sessions s) refl
   where
     by : (o : Option Session) → session_in w.control.sessions s ≡ o → Comes w (exchange_on w.control s (mirror_in o) server true (members_in o))
-    by None none = record { turn = Asked w.control s server None []; room = room; asked = Ok (Exchange s unnamed true); case = λ line. Says (Refused (OutOfOrder phase.None)) (refused-not _) (λ one. refl); first = λ k. refl; told = refl; other = refl; one = refl }
+    by None none = record { turn = Asked w.control s server None []; room = room; asked = Ok (Exchange s unnamed true); asks = refl; case = λ line. Says (Refused (OutOfOrder phase.None)) (refused-not _) (λ one. refl); first = λ k. refl; told = refl; other = refl; one = refl }
     by (Some x) there =
         let plain : Plain (exchange_on w.control s x.mirror server true x.members) = plain-exchange w.control s server x.mirror x.members in
-        record { turn = Asked w.control s server x.mirror x.members; room = room; asked = Ok (Exchange s unnamed true); case = λ line. on-case w.control w.events line s server true x x.mirror there refl; first = plain.first; told = plain.told; other = refl; one = refl }
+        record { turn = Asked w.control s server x.mirror x.members; room = room; asked = Ok (Exchange s unnamed true); asks = refl; case = λ line. on-case w.control w.events line s server true x x.mirror there refl; first = plain.first; told = plain.told; other = refl; one = refl }
 
 -- What holds of a way that has no plan, of one that has one plan, and of one that goes on, holds of the whole line.
 pub record Ways (P : World → Way → Type 0) : Type 0 where
@@ -211,7 +218,7 @@ imaged-case w line asked vs = by (has_room_for image_events w.events)
     by true = Imaged vs
     by false = OnePlan asked _ (Says (Refused JournalFull) (refused-not _) (λ one. refl))
 
-formed-not : (s : ℕ) (ss : List Session) (r : Option Refusal) → NotHeld (form_answer s ss r)
+pub formed-not : (s : ℕ) (ss : List Session) (r : Option Refusal) → NotHeld (form_answer s ss r)
 formed-not s ss None = phase-not (session_in ss s)
 formed-not s ss (Some r) = refused-not r
 

@@ -341,7 +341,7 @@ module _ (K : World → Type 0) (rider : Rider K) where
     case-rides _ _ (Compares contents v u) = entries _ _ (along-compare w s contents v u)
     case-rides _ _ (Drains a most) =
         moves (drain_plan w.control a most) (record { ends = Sound; complete = λ v i. i; begins = sound-begun w s; entries = along-drain w s a most; follows = λ q v i. suspends-after a q v i; last = λ v i. i; turns = λ v i. regroups-same v.control.sessions; adds = λ v i. none-added v; goes = λ v i. goes-same v.control }) begins (λ v e k. k)
-    case-rides _ _ (Expires x on) = entries _ _ (lifts x w.control.volumes (as_begun w) (sound-begun w s) on)
+    case-rides _ _ (Expires x on) = entries _ _ (lifts x w.control.volumes (as_begun w) (sound-begun w s) on.1)
     case-rides _ _ (Freezes l m) = entries _ _ (freezes l m w.control.volumes (as_begun w) (sound-begun w s))
     case-rides _ _ (Unfreezes l m) = entries _ _ (thaws l m w.control.volumes (as_begun w) (sound-begun w s))
     case-rides _ _ (Releases l) = entries _ _ (releases l w.control.volumes (as_begun w) (sound-begun w s))

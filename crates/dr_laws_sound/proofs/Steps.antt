@@ -154,7 +154,7 @@ module _ (w : World) (s : Sound w) (line : ℕ) where
   case-holds _ _ (FailsBack devs x y kind) = holds-failback w s devs x y kind
   case-holds _ _ (Compares contents v u) = holds-compare w s contents v u
   case-holds _ _ (Drains a most) = holds-drain w s a most
-  case-holds _ _ (Expires x on) = holds-expire x w s on
+  case-holds _ _ (Expires x on) = holds-expire x w s on.1
   case-holds _ _ (Freezes l m) = holds-freeze l m w s
   case-holds _ _ (Unfreezes l m) = holds-thaw l m w s
   case-holds _ _ (Releases l) = holds-release l w s
