@@ -16,18 +16,19 @@
 -- - parts of pairs fit, and a pair is equal outside what its primary records: fields `parts` and `pairs` of `SoundRows`,
 --   by `KeepsParts.antt`, `KeepsPairs.antt`; plans on pairs by `FitsPairs.antt` and `FitsFailover.antt`, host writes by `FitsWrites.antt`,
 --   freeze, thaw and expiry by `FitsHolds.antt` (`Steps.antt`)
--- - a step tells no more than it has room for: `Costs n w entries` counts what acts tell where they come: `carry-adds`,
---   `after_plan-adds` (`Costs.antt`, `CopyCosts.antt`, `PairCosts.antt`, `WriteCosts.antt` (`Brief n`: at most n entries of
---   one event each), `Spends.antt`)
+-- - a step tells no more than it has room for: as many events as it has entries, or `Costs n w entries`, which counts what acts tell where they
+--   come: `carry-adds`, `after_plan-adds` (`Costs.antt`, `PairCosts.antt`, `Spends.antt`)
 -- - a step adds to the journal, its answer last: `after_task-ends`, `after_tasks-grows` (`Journal.antt`)
 -- - no more writes are issued than there are steps: `issued-run` (`Journal.antt`)
 -- - no count of the flight is above the number of events: `counted-run`, and of a plan before masters are lost `counted-plan`
 --   (`FlightCounts.antt`): a plan raises a count by one at most, and tells its answer; a master is lost where a stop was told, too
 -- - the text of a journal comes piece by piece: `text-append`, `ends-reset` (`Texts.antt`)
--- - E21 comes exactly where the acts told a stop: `carry-tells`, `case-calm` (`StopsTold.antt`, `CalmPlans.antt`)
--- - a step with another refusal leaves what `Leaves` names: entries that end no plan are `Endless`; where checks come before them,
---   nothing was done (`ChecksFirst.antt`, `RefusedPlans.antt`); host writes, drains, orders and recoveries by `RefusedWrites.antt`,
---   each step by `plan-left` (`RefusedSteps.antt`), an `@run` and whole runs by `RefusedRuns.antt`
+-- - which acts each step comes to is `Does` (`Does.antt`), by `case-does` (`DoesPlans.antt`): what goes by acts is proved of it, with a clause for
+--   each kind of act that the law asks of, and not of each plan
+-- - E21 comes exactly where the acts told a stop: `carry-tells`, `ending-tells` (`StopsTold.antt`)
+-- - a step with another refusal leaves what `Leaves` names: entries that end no plan are `NeverRefuse`; where checks come before them,
+--   nothing was done (`ChecksFirst.antt`, `RefusedPlans.antt`: `case-still`); steps that leave more where they are refused (`leaves_more`) by
+--   `RefusedWrites.antt` and `step-left` (`RefusedSteps.antt`), an `@run` and whole runs by `RefusedRuns.antt`
 -- - what sessions and records of volumes say together (numbers differ, one place for a volume, who records, the master's
 --   server and phase): fields `groups` and `housed` of `SoundBut`, each kind of change by `dr_laws_sessions`; plans by
 --   `FitsSessions.antt`, `FitsMembers.antt`, `FitsOrders.antt`, `FitsExchanges.antt`, `FitsMessages.antt`, `FitsRecovery.antt`
