@@ -17,8 +17,8 @@
 --   by `KeepsParts.antt`, `KeepsPairs.antt`; plans on pairs by `FitsPairs.antt` and `FitsFailover.antt`, host writes by `FitsWrites.antt`,
 --   freeze, thaw and expiry by `FitsHolds.antt` (`Steps.antt`)
 -- - a step tells no more than it has room for: `Costs n w entries` counts what acts tell where they come: `carry-adds`,
---   `after_plan-adds` (`Costs.antt`, `CopyCosts.antt`, `PairCosts.antt`, `WriteCosts.antt` (`Brief n`: at most n entries of
---   one event each), `Spends.antt`)
+--   `after_plan-adds` (`Costs.antt`, `CopyCosts.antt`, `PairCosts.antt`, `Spends.antt`); an act tells two events at most, but for
+--   those of steps that may tell of each track (`does-tells`), so most plans go by how many entries they have (`EntryLengths.antt`)
 -- - a step adds to the journal, its answer last: `after_task-ends`, `after_tasks-grows` (`Journal.antt`)
 -- - no more writes are issued than there are steps: `issued-run` (`Journal.antt`)
 -- - no count of the flight is above the number of events: `counted-run`, and of a plan before masters are lost `counted-plan`
@@ -129,8 +129,7 @@ pub mod FlightCounts
 pub mod Costs
 pub mod CopyCosts
 pub mod PairCosts
-pub mod WriteCosts
-pub mod SessionCosts
+pub mod EntryLengths
 pub mod Spends
 pub mod Limits
 pub mod Texts
