@@ -110,7 +110,7 @@ ROWS = [
         (
             "dr_facts/proofs/Issued.antt dr_laws_cuts/proofs/Told.antt dr_laws_closed/proofs/Told.antt dr_laws_targets/proofs/Told.antt"
             " dr_laws_sound/proofs/Hushed.antt dr_laws_sound/proofs/Journal.antt dr_laws_sound/proofs/KeepsQueue.antt dr_laws_sound/proofs/RowsAfter.antt dr_laws_sound/proofs/StopsTold.antt"
-            " dr_facts/proofs/Heard.antt dr_laws_freezes/proofs/KeepsWindow.antt dr_laws_flashes/proofs/Takes.antt dr_laws_recovery/proofs/OnTracks.antt dr_laws_recovery/proofs/Spared.antt",
+            " dr_facts/proofs/Heard.antt dr_laws_freezes/proofs/KeepsWindow.antt dr_laws_flashes/proofs/Takes.antt dr_laws_recovery/proofs/OnTracks.antt dr_laws_recovery/proofs/Takes.antt",
             "Begin, Cut",
             "Frozen as Begin, Cut",
         ),

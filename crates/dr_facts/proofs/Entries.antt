@@ -1,5 +1,5 @@
 -- Lists of entries of which each comes to acts that are so, in worlds that are so, and ends a plan for reasons that are so.
-use Rattle.std.proofs.Common.{ℕ, zero, suc, ◌≡◌, inl, inr, refl, ap, sym, ◌∙◌, subst, Bool, true, false, cond, List, [], ◌∷◌, ◌++◌, map, Option, Some, None}
+use Rattle.std.proofs.Common.{ℕ, zero, suc, ◌≡◌, inl, inr, refl, Bool, true, false, cond, List, [], ◌∷◌, ◌++◌, map, Option, Some, None}
 use Rattle.std.specs.List.{flat_map}
 use Rattle.std.specs.Option.{option_or}
 use Rattle.dr_model.specs.Groups.{In}
@@ -15,11 +15,11 @@ use Rattle.dr_model.specs.PlanParts.{Plan}
 use Rattle.dr_model.specs.Carried.{finish, begun, carried_out}
 
 -- in any world, and for any reason
-abbrev pub anywhere : World → Type 0
-anywhere w = Unit {0}
+abbrev pub any_world : World → Type 0
+any_world w = Unit {0}
 
-abbrev pub whatever : Refusal → Type 0
-whatever r = Unit {0}
+abbrev pub any_reason : Refusal → Type 0
+any_reason r = Unit {0}
 
 -- what is asked of a reason, if there is one
 abbrev pub WhyNot : (Refusal → Type 0) → Option Refusal → Type 0
@@ -34,7 +34,7 @@ pub why-or : (Why : Refusal → Type 0) (x y : Option Refusal) → WhyNot Why x 
 why-or Why None y p q = q
 why-or Why (Some r) y p q = p
 
-pub why-any : (o : Option Refusal) → WhyNot whatever o
+pub why-any : (o : Option Refusal) → WhyNot any_reason o
 why-any None = tt
 why-any (Some r) = tt
 

@@ -1,8 +1,7 @@
 -- Why entries end their plans: for no reason that names a stop, or says that a step isn't built.
-use Rattle.std.proofs.Common.{ℕ, ◌≡◌, ◌+◌, cond, not, ◌&&◌, ◌||◌, nat_eq, nat_lt, List, refl, Bool, true, false, Option, Some, None}
+use Rattle.std.proofs.Common.{ℕ, ◌≡◌, cond, not, ◌||◌, nat_eq, nat_lt, List, refl, Bool, true, false, Option, Some, None}
 use Rattle.std.specs.Prelude.{option_map}
 use Rattle.std.specs.List.{find}
-use Rattle.std.specs.Option.{option_or}
 use Rattle.dr_ids.specs.declared.names.Member.{Member}
 use Rattle.dr_ids.specs.declared.refusal.Decision.{Decision}
 use Rattle.dr_ids.specs.declared.refusal.Refusal.{Refusal}

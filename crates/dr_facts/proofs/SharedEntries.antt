@@ -1,6 +1,6 @@
 -- Entries that several plans have, by the acts that they come to: what a source's targets keep, tracks that are sent, copied and taken back, host
 -- writes, starts, orders, recoveries. Acts and reasons are as in Entries.
-use Rattle.std.proofs.Common.{ℕ, ◌≡◌, inl, inr, refl, ap, Bool, true, false, cond, not, ◌&&◌, List, [], ◌∷◌, ◌++◌, map, Option, Some, None, is_some, nat_lt}
+use Rattle.std.proofs.Common.{ℕ, ◌≡◌, refl, Bool, true, false, cond, not, ◌&&◌, List, [], ◌∷◌, ◌++◌, map, Option, Some, None, is_some, nat_lt}
 use Rattle.std.specs.FinSet.{contains}
 use Rattle.dr_ids.specs.declared.refusal.Refusal.{Refusal}
 use Rattle.dr_ids.specs.declared.refusal.Decision.{Decision}
@@ -12,12 +12,12 @@ use Rattle.dr_model.specs.Control.{Control, World}
 use Rattle.dr_model.specs.Groups.{In}
 use Rattle.dr_model.specs.Phases as phases
 use Rattle.dr_model.specs.Moves.{Move, Land, Overwrite, Keep, Note, Fetch, Restore, Release, Store, Strike, Suspend, Unsync, Mirror, LandBoth, Restart, Hold, Free, Seal, Finish, Flash, Commit, Revert, RaiseAttempt, RaiseFloor, TakeOver, Unstage, FlashHold}
-use Rattle.dr_model.specs.Carry.{Act, Make, OpenAttempt, Redo, Acknowledge, EndRecovery, Next, Pass, Do, Entry, now}
+use Rattle.dr_model.specs.Carry.{Act, Make, OpenAttempt, Redo, Acknowledge, EndRecovery, Pass, Do, Entry, now}
 use Rattle.dr_model.specs.Entries.{fields_at, copies_from, keep_if, keep_on, copy_first, land_on, land_alone, give_back, lowest_held, lowest_missing, for_lowest, fetch_next, is_running}
-use Rattle.dr_model.specs.PairEntries.{send_refusal, suspend_where, refuse_if, flashed_refusal, store_on, strike_on, send_entries, sends, suspend_running, suspend_after, reach_refusal}
+use Rattle.dr_model.specs.PairEntries.{send_refusal, suspend_where, flashed_refusal, store_on, strike_on, send_entries, sends, suspend_running, suspend_after, reach_refusal}
 use Rattle.dr_model.specs.WriteEntries.{partner_of, is_grouped, land_mirrored, land_parted, is_parted, land_over, sends_first, where_sent, send_first, land_collided, land_entries, part_running, part_after, after_write, belongs, redo_on, restart_on, start_entries, flash_hold_on}
 use Rattle.dr_model.specs.Plans.{acknowledge_if, acknowledge_on, landed_on, hold_first, redo_now, destage_entries}
-use Rattle.dr_model.specs.SessionEntries.{last_of, hold_refusal, stale_refusal, hold_on, void_refusal, free_on, is_drained, seal_refusal, seal_on, is_flashed, flash_refusal, flash_on, is_committed, commit_refusal, commit_on, revert_on, is_past, finish_on, member_entries, order_entries, raise_attempt_on, raise_floor_on, add_entries}
+use Rattle.dr_model.specs.SessionEntries.{last_of, hold_refusal, stale_refusal, hold_on, void_refusal, free_on, seal_refusal, seal_on, is_flashed, flash_refusal, flash_on, is_committed, commit_refusal, commit_on, revert_on, is_past, finish_on, member_entries, order_entries, raise_attempt_on, raise_floor_on, add_entries}
 use Rattle.dr_model.specs.RecoveryPlans.{lets_commit, take_over_on, settle_on, end_recovery, recover_entries}
 use Rattle.dr_facts.proofs.Entries.{Fine, WhyNot, AllFine, fine-none, fine-then, fine-one, fine-now, fine-append, fine-each, fine-map, fine-flat, fine-choice, fine-if, fine-when, fine-found, fine-refuse}
 

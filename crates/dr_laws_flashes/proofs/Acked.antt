@@ -12,7 +12,7 @@ use Rattle.dr_model.specs.Moves.{Move, Land, Overwrite, LandBoth, target, told, 
 use Rattle.dr_model.specs.Allowed.{MayAck}
 use Rattle.dr_facts.proofs.Lists.{in-joined}
 use Rattle.dr_laws_freezes.specs.Windows.{last_of}
-use Rattle.dr_laws_freezes.proofs.Fair.{MayCome}
+use Rattle.dr_laws_freezes.proofs.WindowMoves.{MayCome}
 use Rattle.dr_laws_freezes.proofs.KeepsWindow.{takes_none}
 use Rattle.dr_facts.proofs.Emits.{Tag, Acks as AcksTag, Of, Lists, of-all, each-told, acks_none, unacked-stop}
 use Rattle.dr_logic.proofs.Truth.{false_true}

@@ -17,7 +17,7 @@ use Rattle.dr_model.specs.Laws.{SoundRows}
 use Rattle.dr_facts.proofs.Issued.{with-told}
 use Rattle.dr_laws_sound.proofs.Unissued.{done-writes, stopped-writes}
 use Rattle.dr_laws_freezes.specs.Windows.{last_of}
-use Rattle.dr_laws_freezes.proofs.Fair.{MayCome}
+use Rattle.dr_laws_freezes.proofs.WindowMoves.{MayCome}
 use Rattle.dr_laws_freezes.proofs.KeepsStep.{Step, Does, Stops, Acks, Others, Passes, Acknowledges}
 use Rattle.dr_laws_freezes.proofs.Windows.{Chain, Last, Then, good, Grows, step-grows, chain-grows, told-on}
 use Rattle.dr_laws_flashes.specs.Windows.{changes, reaches}

@@ -13,7 +13,7 @@ use Rattle.dr_model.specs.Allowed.{MayAck}
 use Rattle.dr_model.proofs.Images.{histories-append}
 use Rattle.dr_facts.proofs.Tables.{IsOrNot}
 use Rattle.dr_laws_sound.proofs.Due.{waiting-settled, waiting-marked_else, none_landed}
-use Rattle.dr_laws_freezes.proofs.Fair.{MayCome}
+use Rattle.dr_laws_freezes.proofs.WindowMoves.{MayCome}
 use Rattle.dr_laws_freezes.proofs.KeepsWindow.{takes_none, TakesNone}
 use Rattle.dr_logic.proofs.Truth.{false_true}
 use Rattle.dr_facts.proofs.Emits.{Tag, Acks as AcksTag, Of, Lists as ByEvents, of-all, each-told, acks_none, unacked-stop}

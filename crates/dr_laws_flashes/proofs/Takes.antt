@@ -12,7 +12,7 @@ use Rattle.dr_model.proofs.Images.{histories-append}
 use Rattle.dr_facts.proofs.Emits.{Tag, Sets, Of, any-lists, each-told, stop-onto}
 use Rattle.dr_laws_sound.proofs.RowsAfter.{calm}
 use Rattle.dr_laws_sound.proofs.Turns.{done, done_in_stop}
-use Rattle.dr_laws_freezes.proofs.Fair.{MayCome}
+use Rattle.dr_laws_freezes.proofs.WindowMoves.{MayCome}
 use Rattle.dr_laws_freezes.proofs.KeepsWindow.{TakesNone}
 use Rattle.dr_laws_freezes.proofs.KeepsStep.{Step, Does, Stops, Acks, Others, Passes}
 use Rattle.std.proofs.lemmas.Bool.{eq-eqb}

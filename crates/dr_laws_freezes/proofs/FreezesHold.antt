@@ -33,7 +33,7 @@ use Rattle.dr_laws_sound.proofs.Turns.{next_of, carried_in, done, act-cases}
 use Rattle.dr_laws_sound.proofs.HushedPlans.{if-plan, unless-plan, owner-plan}
 use Rattle.dr_laws_freezes.specs.Windows.{is_ack}
 use Rattle.dr_laws_freezes.specs.Frozen.{NoneLetsGo, FreezesHold}
-use Rattle.dr_laws_freezes.proofs.FairPlans.{Between}
+use Rattle.dr_laws_freezes.proofs.WindowActs.{Between}
 use Rattle.dr_laws_freezes.proofs.Betweens.{between-task, between-run}
 use Rattle.dr_laws_freezes.proofs.LongBusy.{Frozen}
 use Rattle.dr_laws_freezes.proofs.LongBusySteps.{none, task-kept}

@@ -26,7 +26,7 @@ use Rattle.dr_laws_sound.proofs.Due.{waiting-marked_else, waiting-marked_here}
 use Rattle.dr_facts.proofs.Issued.{told-writes, with-told}
 use Rattle.dr_laws_sound.proofs.Unissued.{stopped-writes}
 use Rattle.dr_laws_freezes.proofs.WindowTracks.{unacked, still-waits, Stays, Holds, Window, Quiet, window-quiet, unacked-told}
-use Rattle.dr_laws_freezes.proofs.Fair.{MayCome, Fair, tag_after}
+use Rattle.dr_laws_freezes.proofs.WindowMoves.{MayCome, WindowMay, tag_after}
 use Rattle.dr_facts.proofs.Emits.{Of, of-all}
 use Rattle.dr_laws_freezes.proofs.KeepsWindow.{takes_none, TakesNone, locked, Deaf, deaf, Else, deaf-told, deaf-stop, waits-done, waits-stop, quiet-changed}
 use Rattle.dr_laws_freezes.proofs.KeepsLists.{ListGrows, NoRestore, acked-none, grows-apart, apart-told, apart-stop}
@@ -64,8 +64,8 @@ others w ss = record w { control = record w.control { sessions = ss } }
 
 -- one moment of a run and the next, each with the write that goes on
 pub data Step (tag : Option ℕ) (w : World) : Option ℕ → World → Type 0 where
-  Does : (m : Move) → (f : Option Fuse) → MayCome w m → Fair tag w m → Step tag w (tag_after m tag) (done w m f)
-  Stops : (m : Move) → (f : Option Fuse) → MayCome w m → Fair tag w m → Step tag w None (done_in_stop w m f)
+  Does : (m : Move) → (f : Option Fuse) → MayCome w m → WindowMay tag w m → Step tag w (tag_after m tag) (done w m f)
+  Stops : (m : Move) → (f : Option Fuse) → MayCome w m → WindowMay tag w m → Step tag w None (done_in_stop w m f)
   Acks : (n : ℕ) → Acknowledges w n → Step tag w None (acknowledged w n)
   Others : (next : Option ℕ) → (u : World) → (ss : List Session) → Step tag w next u → Step tag w next (others u ss)
   Passes : (next : Option ℕ) → (u : World) → (es : List Event) → Unchanged w u es → ((n : ℕ) → next ≡ Some n → tag ≡ Some n) → Step tag w next u
@@ -140,14 +140,14 @@ module _ (v q : ℕ) where
     q-mirrored : (n : ℕ) → later_mirrored q g (Mirrored n q) ≡ Some n
     q-mirrored n = ap (λ b. cond b (Some n) g) (eq-eqb q q refl)
 
-    done-quiet : (m : Move) (f : Option Fuse) (next : Option ℕ) → MayCome w m → Fair tag w m → Other m → Stays v q (done w m f) → ((n : ℕ) → next ≡ Some n → tag ≡ Some n) → Window v q next (fold (later_mirrored q) g (told m (w.control.volume (target m)))) (done w m f)
+    done-quiet : (m : Move) (f : Option Fuse) (next : Option ℕ) → MayCome w m → WindowMay tag w m → Other m → Stays v q (done w m f) → ((n : ℕ) → next ≡ Some n → tag ≡ Some n) → Window v q next (fold (later_mirrored q) g (told m (w.control.volume (target m)))) (done w m f)
     done-quiet m f next may fair else st2 less =
         let u : Volume = w.control.volume (target m) in
         window-quiet v q w (done w m f) (told m u) tag g win
         (quiet-changed v q w rows st tag g win m may fair else (done w m f).control.on (done w m f).control.fuse (settled m w.control.pending) (told m u) (with-told w (told m u) (told-writes (histories w.events) m u)) (deaf-told v q w rows st tag g win m may fair else u)
         (waits-done v q w rows st tag g win m may) st2) next less
 
-    does-by : (m : Move) (f : Option Fuse) → MayCome w m → Fair tag w m → Stays v q (done w m f) → Kind m → Window v q (tag_after m tag) (fold (later_mirrored q) g (told m (w.control.volume (target m)))) (done w m f)
+    does-by : (m : Move) (f : Option Fuse) → MayCome w m → WindowMay tag w m → Stays v q (done w m f) → Kind m → Window v q (tag_after m tag) (fold (later_mirrored q) g (told m (w.control.volume (target m)))) (done w m f)
     does-by _ f may fair st2 (Own t n) =
         let m : Move = Mirror q t v n in
         subst (λ g. Window v q (Some n) g (done w m f)) (sym (q-mirrored n))
@@ -168,14 +168,14 @@ module _ (v q : ℕ) where
     abbrev stop-told : Move → List Event
     stop-told m = told_in_stop m (w.control.volume (target m)) ++ Stopped (w.control.volume (target m)).server (landed m) ∷ []
 
-    stop-quiet : (m : Move) (f : Option Fuse) → MayCome w m → Fair tag w m → Other m → Stays v q (done_in_stop w m f) → Window v q None (fold (later_mirrored q) g (stop-told m)) (done_in_stop w m f)
+    stop-quiet : (m : Move) (f : Option Fuse) → MayCome w m → WindowMay tag w m → Other m → Stays v q (done_in_stop w m f) → Window v q None (fold (later_mirrored q) g (stop-told m)) (done_in_stop w m f)
     stop-quiet m f may fair else st2 =
         let u : Volume = w.control.volume (target m) in
         window-quiet v q w (done_in_stop w m f) (stop-told m) tag g win
         (quiet-changed v q w rows st tag g win m may fair else (done_in_stop w m f).control.on (done_in_stop w m f).control.fuse (settled_in_stop m w.control.pending) (stop-told m) (stopped-writes w m) (deaf-stop v q w rows st tag g win m may fair else u u.server (landed m))
         (waits-stop v q w rows st tag g win m may fair else) st2) None (λ k h. absurd cc)
 
-    stops-by : (m : Move) (f : Option Fuse) → MayCome w m → Fair tag w m → Stays v q (done_in_stop w m f) → Kind m → Window v q None (fold (later_mirrored q) g (stop-told m)) (done_in_stop w m f)
+    stops-by : (m : Move) (f : Option Fuse) → MayCome w m → WindowMay tag w m → Stays v q (done_in_stop w m f) → Kind m → Window v q None (fold (later_mirrored q) g (stop-told m)) (done_in_stop w m f)
     stops-by _ f may fair st2 (Own t n) =
         let m : Move = Mirror q t v n in
         subst (λ g. Window v q None g (done_in_stop w m f)) (sym (q-mirrored n))

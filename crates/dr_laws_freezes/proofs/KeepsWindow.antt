@@ -1,4 +1,4 @@
--- A freeze window lasts in each kind of move that is fair, whether or not its server stops in it.
+-- A freeze window lasts in each kind of move that does what windows ask, whether or not its server stops in it.
 use Rattle.std.proofs.Common.{ℕ, ◌≡◌, ◌≢◌, ◌⊎◌, inl, inr, refl, ap, sym, ◌∙◌, Bool, true, false, cond, ◌||◌, List, [], ◌∷◌, ◌++◌, Option, Some, rules}
 use Rattle.std.proofs.lemmas.Bool.{and_from, ne_eqb, or_left}
 use Rattle.std.proofs.lemmas.Bool.Decides.{nat_tests}
@@ -25,7 +25,7 @@ use Rattle.dr_laws_sound.proofs.RowsAfter.{changed, bytes-after}
 use Rattle.dr_laws_sound.proofs.Due.{waiting-settled, waiting-marked_else, none_landed}
 use Rattle.dr_laws_sound.proofs.KeepsParts.{unrelated, unrelated_primary}
 use Rattle.dr_laws_freezes.proofs.WindowTracks.{Stays, Window, Quiet}
-use Rattle.dr_laws_freezes.proofs.Fair.{MayCome, is_locked, Fair}
+use Rattle.dr_laws_freezes.proofs.WindowMoves.{MayCome, is_locked, WindowMay}
 use Rattle.dr_laws_sound.proofs.FitsDrain.{still-out}
 use Rattle.dr_logic.proofs.Choices.{chosen}
 use Rattle.dr_logic.proofs.Sets.{still_in}
@@ -129,7 +129,7 @@ module _ (v q : ℕ) (w : World) (rows : SoundRows (table w)) (st : Stays v q w)
     is-first x e h = no_first (ap (λ j. is_part (fields_at w.control j).primary) (sym e) ∙ h)
 
     -- its own tracks stay
-    own-bytes : (m : Move) → Allowed write T m → Fair tag w m → Else m → Ours (target m) → (t : ℕ) → next_bytes write m T t ≡ w.contents (target m) t
+    own-bytes : (m : Move) → Allowed write T m → WindowMay tag w m → Else m → Ours (target m) → (t : ℕ) → next_bytes write m T t ≡ w.contents (target m) t
     own-bytes (Land n x t) a fair else (inl e) j = not-locked x e fair
     own-bytes (Land n x t) a fair else (inr e) j = false_true a.first (ap (λ j. is_part (fields_at w.control j).secondary) e ∙ second)
     own-bytes (Overwrite n x t) a fair else ours j = no-target x a.from ours a.related
@@ -151,7 +151,7 @@ module _ (v q : ℕ) (w : World) (rows : SoundRows (table w)) (st : Stays v q w)
     own-bytes m a fair else ours j = refl
 
     -- no track of the primary comes in sync
-    own-out : (m : Move) → Allowed write T m → Fair tag w m → Else m → secondary_of (next_of w m) ≡ Some q → target m ≡ v → (t : ℕ) → contains (fields_at w.control (target m)).out_of_sync t ≡ true → contains (next_of w m).out_of_sync t ≡ true
+    own-out : (m : Move) → Allowed write T m → WindowMay tag w m → Else m → secondary_of (next_of w m) ≡ Some q → target m ≡ v → (t : ℕ) → contains (fields_at w.control (target m)).out_of_sync t ≡ true → contains (next_of w m).out_of_sync t ≡ true
     own-out (Land n x t) a fair else to e j h = not-locked x e fair
     own-out (Restore x t u) a fair else to e j h = absurd (else.0 e)
     own-out (Strike x t last) a fair else to e j h =
@@ -170,7 +170,7 @@ module _ (v q : ℕ) (w : World) (rows : SoundRows (table w)) (st : Stays v q w)
     own-out (LandBoth n x t) a fair else to e j h = absurd (else e)
     own-out m a fair else to e j h = h
 
-    own-metro : (m : Move) → Allowed write T m → Fair tag w m → secondary_of (next_of w m) ≡ Some q → target m ≡ v → is_metro (fields_at w.control (target m)).primary ≡ true → is_metro (next_of w m).primary ≡ true
+    own-metro : (m : Move) → Allowed write T m → WindowMay tag w m → secondary_of (next_of w m) ≡ Some q → target m ≡ v → is_metro (fields_at w.control (target m)).primary ≡ true → is_metro (next_of w m).primary ≡ true
     own-metro (MakePrimary x u kind state full) a fair to e h = false_true fair (ap (λ j. is_part (fields_at w.control j).primary) e ∙ first)
     own-metro (DropPrimary x) a fair to e h = none_some refl to
     own-metro (TakeOver x) a fair to e h = is-second x e a.second
@@ -187,14 +187,14 @@ module _ (v q : ℕ) (w : World) (rows : SoundRows (table w)) (st : Stays v q w)
     not-overwritten : (n x t : ℕ) → Allowed write T (Overwrite n x t) → x ≢ v
     not-overwritten n x t a e = no-target x a.from (inl e) a.related
 
-    pub deaf-told : (m : Move) → MayCome w m → Fair tag w m → Else m → (u : Volume) → Deaf q g (told m u)
+    pub deaf-told : (m : Move) → MayCome w m → WindowMay tag w m → Else m → (u : Volume) → Deaf q g (told m u)
     deaf-told (Land n x t) may fair else u = other-ack n x may.ready.volume (λ e. not-locked x e fair)
     deaf-told (Overwrite n x t) may fair else u = other-ack n x may.ready.volume (not-overwritten n x t may.allowed)
     deaf-told (LandBoth n x t) may fair else u = other-ack n x may.ready.volume else
     deaf-told (Mirror x t y n) may fair else u = record { last = ap (λ b. cond b (Some n) g) (ne_eqb x q else); acks = λ k is. refl }
     deaf-told m may fair else u = each-told stores_none (Deaf q g) (deaf stores_none refl refl q g) m u refl
 
-    pub deaf-stop : (m : Move) → MayCome w m → Fair tag w m → Else m → (u : Volume) (s k : ℕ) → Deaf q g (told_in_stop m u ++ Stopped s k ∷ [])
+    pub deaf-stop : (m : Move) → MayCome w m → WindowMay tag w m → Else m → (u : Volume) (s k : ℕ) → Deaf q g (told_in_stop m u ++ Stopped s k ∷ [])
     deaf-stop (Land n x t) may fair else u s k = record { last = refl; acks = λ k is. refl }
     deaf-stop (Overwrite n x t) may fair else u s k = record { last = refl; acks = λ k is. refl }
     deaf-stop (LandBoth n x t) may fair else u s k = record { last = refl; acks = λ k is. refl }
@@ -207,14 +207,14 @@ module _ (v q : ℕ) (w : World) (rows : SoundRows (table w)) (st : Stays v q w)
     waits-done (LandBoth n x y) may t = waiting-settled n v t w.control.pending (none_landed x y _ may.ready.coming)
     waits-done m may t = refl
 
-    pub waits-stop : (m : Move) → MayCome w m → Fair tag w m → Else m → (t : ℕ) → waiting (settled_in_stop m w.control.pending) v t ≡ waiting w.control.pending v t
+    pub waits-stop : (m : Move) → MayCome w m → WindowMay tag w m → Else m → (t : ℕ) → waiting (settled_in_stop m w.control.pending) v t ≡ waiting w.control.pending v t
     waits-stop (Land n x y) may fair else t = waiting-marked_else n x y v t w.control.pending (inl (λ e. not-locked x (sym e) fair)) may.ready.coming
     waits-stop (Overwrite n x y) may fair else t = waiting-marked_else n x y v t w.control.pending (inl (λ e. not-overwritten n x y may.allowed (sym e))) may.ready.coming
     waits-stop (LandBoth n x y) may fair else t = waiting-marked_else n x y v t w.control.pending (inl (λ e. else (sym e))) may.ready.coming
     waits-stop m may fair else t = refl
 
     -- the world after it
-    module _ (m : Move) (may : MayCome w m) (fair : Fair tag w m) (else : Else m) (on : ℕ → Bool) (fuse : ℕ → Option Fuse) (ps : List Pending) (es : List Event) where
+    module _ (m : Move) (may : MayCome w m) (fair : WindowMay tag w m) (else : Else m) (on : ℕ → Bool) (fuse : ℕ → Option Fuse) (ps : List Pending) (es : List Event) where
       abbrev W : World
       W = changed w m on fuse ps (w.events ++ es)
 

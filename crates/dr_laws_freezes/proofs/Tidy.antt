@@ -21,7 +21,7 @@ use Rattle.dr_laws_freezes.specs.Windows.{is_ack}
 use Rattle.dr_facts.proofs.Tables.{IsOrNot, at_cases, at_part}
 use Rattle.dr_laws_sound.proofs.Turns.{next_of, carried_in, done, done_in_stop, not_done}
 use Rattle.dr_laws_sound.proofs.RowsAfter.{changed}
-use Rattle.dr_laws_freezes.proofs.Fair.{MayCome, Unacked}
+use Rattle.dr_laws_freezes.proofs.WindowMoves.{MayCome, Unacked}
 use Rattle.dr_laws_freezes.proofs.KeepsWindow.{unacked}
 use Rattle.dr_facts.proofs.Emits.{acks_none, unacked-stop, each-told}
 use Rattle.dr_laws_freezes.proofs.KeepsMirror.{still-unacked}

@@ -141,7 +141,7 @@ module _ (k : Control) (events : List Event) (line : ℕ) where
 
   case-one : (asked : Result Step ℕ) (p : Plan) → Case k events line asked p → KeepsOne p
   case-one _ _ (DefinesVolume v s tracks here free) = record { first = one-defined k v s tracks free; last = λ j one. one }
-  case-one _ _ (Says a waits) = record { first = λ one. one; last = λ j one. one }
+  case-one _ _ (Says a waits why) = record { first = λ one. one; last = λ j one. one }
   case-one _ _ (DefinesServer name free) = record { first = λ one. one; last = λ j one. one }
   case-one _ _ (SetsLink a b up) = record { first = λ one. one; last = λ j one. one }
   case-one _ _ (Issues v t offset len bytes free) = record { first = λ one. one; last = λ j one. one }

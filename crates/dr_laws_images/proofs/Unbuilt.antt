@@ -6,7 +6,7 @@ use Rattle.dr_ids.specs.declared.refusal.PhaseName.{PhaseName}
 use Rattle.dr_ids.specs.declared.refusal.Refusal.{Refusal}
 use Rattle.dr_ids.specs.declared.refusal.Refusal.TheVariants.{OldMessage, Syntax, Unknown, Duplicate, Limit, ServerOff, LinkDown, Void, NotPrimary, Inhibited, PairState, RelationState, InSession, NotInSession, InFormation, OutOfOrder, Unsealed, Stale, Forbidden, NotIdentical, NumbersSpent, Stopped, NoGroup, JournalFull, NotBuilt}
 use Rattle.dr_facts.proofs.Reasons.{NoStop, names_no_stop}
-use Rattle.dr_facts.proofs.Entries.{anywhere, from-ends}
+use Rattle.dr_facts.proofs.Entries.{any_world, from-ends}
 use Rattle.dr_laws_sound.proofs.Does.{Acts, Late}
 use Rattle.dr_laws_sound.proofs.DoesPlans.{case-does}
 use Rattle.dr_model.proofs.CarryLemmas.{carry-none}
@@ -35,7 +35,8 @@ use Rattle.dr_facts.proofs.Lists.{in-joined, any-none}
 use Rattle.dr_laws_sound.proofs.Parts.{comes-drain, comes-asking, course-case, Comes, Ending, OnePlan, Imaged}
 use Rattle.dr_laws_sound.proofs.Journal.{EndsAnswered, after_task-ends}
 use Rattle.dr_laws_images.specs.Unbuilt.{NoneUnbuilt}
-use Rattle.dr_laws_images.proofs.Built.{says_no_stop, Answers, plan-answers, exchange-answers, phase-says}
+use Rattle.dr_laws_sound.proofs.Cases.{says_no_stop, plan-case}
+use Rattle.dr_laws_images.proofs.Built.{Answers, case-answers, phase-says}
 
 -- a refusal that doesn't say so
 abbrev is_built : Refusal → Bool
@@ -63,7 +64,7 @@ says-built (Held n) e = refl
 
 ending-built : (w : World) (line : ℕ) (p : Plan) → Ending w.control w.events line p → built_if (carry (begun w p) p.entries).1 ≡ true
 ending-built w line _ (OnePlan asked p c) =
-    from-ends anywhere (Acts w.control asked) NoStop (Late asked) (λ v. tt) (λ o. built_if o ≡ true) refl (λ s. refl) no-stop-built (λ r late. no-stop-built r late.why) p.entries (begun w p) (case-does w line asked p c).entries
+    from-ends any_world (Acts w.control asked) NoStop (Late asked) (λ v. tt) (λ o. built_if o ≡ true) refl (λ s. refl) no-stop-built (λ r late. no-stop-built r late.why) p.entries (begun w p) (case-does w line asked p c).entries
 ending-built w line _ (Imaged vs) = ap (λ (o : Outcome). built_if o.1) (carry-none (begun w (image_plan vs)))
 
 -- ---- plans
@@ -83,11 +84,11 @@ said-built (Refused r) e = e
 said-built (Done added) e = refl
 said-built (Held n) e = refl
 
-part-built : (w : World) (p : Plan) → (has_room w.events ≡ true → Comes w p) → Answers p → built_if (part w p).refusal ≡ true
-part-built w p comes says = by (has_room w.events) refl
+part-built : (w : World) (p : Plan) → (has_room w.events ≡ true → Comes w p) → built_if (part w p).refusal ≡ true
+part-built w p comes = by (has_room w.events) refl
   where
     by : (room : Bool) → has_room w.events ≡ room → built_if (let x : Way = cond room (record { parts = record { world = w; plan = p } ∷ []; world = after_part w p; refusal = part_refusal w p }) (ends w JournalFull) in x.refusal) ≡ true
-    by true room = said-built (answered p (carried_out w p).0.control (carried_out w p).1) (plan-built w p (ending-built w 0 p (OnePlan (comes room).asked p ((comes room).case 0))) (λ k. says-built (p.says k) (says k)))
+    by true room = said-built (answered p (carried_out w p).0.control (carried_out w p).1) (let c : Comes w p = comes room in plan-built w p (ending-built w 0 p (OnePlan c.asked p (c.case 0))) (λ k. says-built (p.says k) (case-answers w.control w.events 0 c.asked p (c.case 0) c.one k)))
     by false room = refl
 
 then-built : (parts : List Part) (w : World) (r : Option Refusal) (more : World → Way) → built_if r ≡ true → ((v : World) → built_if (more v).refusal ≡ true) → built_if (goes_on parts w r more).refusal ≡ true
@@ -105,12 +106,11 @@ drains-built w (m ∷ ms) =
     let p : Plan = drain_plan w.control m.a.0 None in
     let x : Way = part w p in
     if-built (is_copying m.a.0 w.control) _ _
-    (then-built x.parts x.world x.refusal (λ v. drains v ms) (part-built w p (comes-drain w m.a.0) (λ j. refl)) (λ v. drains-built v ms))
+    (then-built x.parts x.world x.refusal (λ v. drains v ms) (part-built w p (comes-drain w m.a.0)) (λ v. drains-built v ms))
     (drains-built w ms)
 
 asked-built : (w : World) (s server : ℕ) → built_if (part w (asking w.control s server true)).refusal ≡ true
 asked-built w s server = part-built w (asking w.control s server true) (comes-asking w s server)
-    (exchange-answers w.control s server true (mirror_in (session_in w.control.sessions s)) (members_in (session_in w.control.sessions s)))
 
 ask-built : (w : World) (s : ℕ) (p : PhaseName) (ms : List Member) (server : ℕ) → built_if (ask w s p ms server).refusal ≡ true
 ask-built w s p ms server =
@@ -153,17 +153,17 @@ form-built s ss (Some r) built = built
 
 -- what the last plan of a step says, where its entries end well
 last-built : (w : World) (t : Task) (k : Control) → built_said ((course w t).last.plan.says k) ≡ true
-last-built w t k = by (own_course t.asked)
+last-built w t k = by (own_course t.asked) refl
   where
     chosen : (room : Bool) (p : Plan) → built_said (p.says k) ≡ true → built_said (let q : Plan = cond room p (refuses JournalFull) in q.says k) ≡ true
     chosen true p says = says
     chosen false p says = refl
 
-    by : (o : Option OwnCourse) → built_said ((course_of w t o).last.plan.says k) ≡ true
-    by None = says-built _ (plan-answers w.control w.events t.line t.asked k)
-    by (Some (OfGroups s n)) = let x : Way = formed w s n in form-built s x.world.control.sessions x.refusal (formed-built w s n)
-    by (Some (Volumes v u)) = chosen (has_room w.events) (compare_plan w.control w.contents v u) refl
-    by (Some Devices) = chosen (has_room_for image_events w.events) (image_plan t.listed) refl
+    by : (o : Option OwnCourse) → own_course t.asked ≡ o → built_said ((course_of w t o).last.plan.says k) ≡ true
+    by None one = says-built _ (case-answers w.control w.events t.line t.asked _ (plan-case w.control w.events t.line t.asked) one k)
+    by (Some (OfGroups s n)) is = let x : Way = formed w s n in form-built s x.world.control.sessions x.refusal (formed-built w s n)
+    by (Some (Volumes v u)) is = chosen (has_room w.events) (compare_plan w.control w.contents v u) refl
+    by (Some Devices) is = chosen (has_room_for image_events w.events) (image_plan t.listed) refl
 
 -- its answer
 task-built : (w : World) (t : Task) → let x : Part = (course w t).last in built_said (answered x.plan (carried_out x.world x.plan).0.control (carried_out x.world x.plan).1) ≡ true

@@ -148,14 +148,9 @@ start-acts x = record { does = does; counts = counts; opens = λ w v i n f j k m
   where
     does : (w : World) (a : Act) (f : Option Fuse) → starts.Inner x w → Begun w → starts.MayStart x w a → Begun (after_act w a f)
     does w (Make (Restart v)) f j k may = begun-done w (Restart v) f (starts.may-restart x w v may) k
-    does w (Make m) f j k may = absurd may
-    does w (OpenAttempt v i n) f j k may = absurd may
     does w (Redo v) f j k may = record { cuts = k.cuts; forming = k.forming; flying = k.flying }
     does w (Acknowledge n) f j k may = begun-told w _ (Ack n ∷ []) refl refl refl (tt, tt) k
-    does w (Drop n) f j k may = absurd may
-    does w (EndFreeze l m) f j k may = absurd may
-    does w (EndThaw l m) f j k may = absurd may
-    does w (EndRecovery i n) f j k may = absurd may
+    does w a f j k may = absurd may
 
     counts : (w : World) (m : Move) (f : Option Fuse) → starts.Inner x w → Begun w → starts.MayMove x w m → Begun (done_in_stop w m f)
     counts w (Restart v) f j k may = begun-stop w (Restart v) f (starts.may-restart x w v may) k

@@ -43,7 +43,7 @@ use Rattle.dr_laws_sound.proofs.Parts as parts
 use Rattle.dr_laws_sound.proofs.Hushed.{mirrors, cuts_any, Unheard, unheard-none, mirrors-then, uncut-then, HasStop, Mute, Turned, act-turned, none-then, Mum, mum-same, mum-then, StaysPending, pending-same, AllHush, Comes, carry-hushed}
 use Rattle.dr_laws_sound.proofs.HushedPlans.{HushedPlan, NotHeld, done-not, refused-not, phase-not, acknowledges, case-hushed, says-hushed, lines-hushed, if-plan, unless-plan, named-plan}
 use Rattle.dr_laws_sound.proofs.Cases.{of-case, Compares}
-use Rattle.dr_facts.proofs.Entries.{anywhere, whatever, fine-none, fine-now}
+use Rattle.dr_facts.proofs.Entries.{any_world, any_reason, fine-none, fine-now}
 use Rattle.dr_facts.proofs.SharedEntries.{copies-fine, send_first-fine, after_write-fine, starts-fine}
 
 -- what is acknowledged where a plan ends well
@@ -135,13 +135,13 @@ then-told w ds es ns hush rest = subst (λ o. Told w o ns) (sym (carry-append w 
 
 -- a source's targets keep a track
 keeps-hush : (volumes : List ℕ) (v t : ℕ) → AllHush true (copy_first volumes v t)
-keeps-hush = copies-fine anywhere (λ w a. Mute true a) whatever (λ u t w any. refl) (λ u t w any. refl)
+keeps-hush = copies-fine any_world (λ w a. Mute true a) any_reason (λ u t w any. refl) (λ u t w any. refl)
 
 now-hush : (m : Move) (ds : List Entry) → Mute true (Make m) → AllHush true ds → AllHush true (now m ∷ ds)
-now-hush m ds mute rest = fine-now anywhere (λ w a. Mute true a) whatever m ds (λ w any. mute) rest
+now-hush m ds mute rest = fine-now any_world (λ w a. Mute true a) any_reason m ds (λ w any. mute) rest
 
 none-hush : AllHush true []
-none-hush = fine-none anywhere (λ w a. Mute true a) whatever
+none-hush = fine-none any_world (λ w a. Mute true a) any_reason
 
 -- checks
 check-told : (w : World) (ok : Control → Bool) (r : Refusal) (es : List Entry) (ns : List ℕ) → (ok w.control ≡ true → Told w (carry w es) ns) → Told w (carry w (check ok r ∷ es)) ns
@@ -324,7 +324,7 @@ module _ (k : Control) (n v t : ℕ) where
       (λ x on stays. mirror-told x u (runs-on w x runs on stays)))
 
   sent-hush : (u : ℕ) → AllHush true (send_first k.volumes v u t)
-  sent-hush u = send_first-fine anywhere (λ w a. Mute true a) whatever (λ u t w any. refl) (λ u t w any. refl) k.volumes v u t (λ w any. refl) (λ last w any. refl) (λ last w any. refl)
+  sent-hush u = send_first-fine any_world (λ w a. Mute true a) any_reason (λ u t w any. refl) (λ u t w any. refl) k.volumes v u t (λ w any. refl) (λ last w any. refl) (λ last w any. refl)
 
   collided-told : (w : World) (u : ℕ) → is_running v w.control ≡ true → Told w (carry w (send_first k.volumes v u t ++ land_alone k.volumes n v t)) (n ∷ [])
   collided-told w u runs =
@@ -357,7 +357,7 @@ module _ (k : Control) (n v t : ℕ) where
       (drop-told w n (is_settled v) (relation_state k v) _ _ refl (entries-told w runs))))
 
   after-hush : (s : ℕ) → AllHush true (after_write k v t s)
-  after-hush s = after_write-fine anywhere (λ w a. Mute true a) whatever k v t s (λ busy w any. refl)
+  after-hush s = after_write-fine any_world (λ w a. Mute true a) any_reason k v t s (λ busy w any. refl)
 
 -- ---- a server starts
 
@@ -366,7 +366,7 @@ one_or_none None = []
 one_or_none (Some n) = n ∷ []
 
 start-hush : (s : ℕ) (vs : List ℕ) → AllHush true (start_entries s vs)
-start-hush s vs = starts-fine anywhere (λ w a. Mute true a) whatever s vs (λ v w any. refl) (λ v w any. refl)
+start-hush s vs = starts-fine any_world (λ w a. Mute true a) any_reason s vs (λ v w any. refl) (λ v w any. refl)
 
 same-landed : (j k : Control) (s : ℕ) → StaysPending j k → landed_on k s ≡ landed_on j s
 same-landed j k s st = λ i. option_map (λ (p : Pending). p.w) (find (λ p. p.landed && (list_any (nat_eq p.volume) (st.volumes i) && nat_eq (st.server p.volume i) s)) (st.pending i))

@@ -33,7 +33,7 @@ use Rattle.dr_laws_sound.proofs.FitsExchanges.{WorkPhase, IsLast, works}
 use Rattle.dr_laws_sound.proofs.Turns.{act-cases}
 use Rattle.dr_laws_sound.proofs.Cases.{one-passed}
 use Rattle.dr_facts.proofs.Refusals.{none-both, met}
-use Rattle.dr_facts.proofs.Entries.{whatever, why-any, AllFine, carry-kept}
+use Rattle.dr_facts.proofs.Entries.{any_reason, why-any, AllFine, carry-kept}
 use Rattle.dr_facts.proofs.SharedEntries.{order-fine}
 use Rattle.dr_logic.proofs.Truth.{false_true}
 use Rattle.dr_logic.proofs.Options.{none_some}
@@ -49,7 +49,7 @@ abbrev Has : List Session → World → Type 0
 Has ss w = w.control.sessions ≡ ss
 
 abbrev OnlyMoves : List Session → List Entry → Type 0
-OnlyMoves ss = AllFine (Has ss) IsMove whatever
+OnlyMoves ss = AllFine (Has ss) IsMove any_reason
 
 move-leaves : (ss : List Session) (w : World) (a : Act) → IsMove w a → Has ss w → Has ss (act w a).0
 move-leaves ss w (Make m) is has = act-cases w (Make m) (λ t. Has ss t.0) (λ d off. has) (λ f. has) (λ f. has) (λ d f. has)
@@ -57,14 +57,14 @@ move-leaves ss w a is has = absurd is
 
 -- wherever they lead
 moves-leave : (w v : World) (ss : List Session) (ds : List Entry) (r : Option Refusal) → Has ss w → OnlyMoves ss ds → carry w ds ≡ (v, r) → Has ss v
-moves-leave w v ss ds r has only leads = ap (λ (t : Outcome). t.0.control.sessions) (sym leads) ∙ carry-kept (Has ss) IsMove whatever (Has ss) (λ w h. h) (move-leaves ss) ds only w has
+moves-leave w v ss ds r has only leads = ap (λ (t : Outcome). t.0.control.sessions) (sym leads) ∙ carry-kept (Has ss) IsMove any_reason (Has ss) (λ w h. h) (move-leaves ss) ds only w has
 
 abbrev last_in : List Session → ℕ → ℕ
 last_in ss i = unwrap_or (option_map (λ (x : Session). x.last) (session_in ss i)) 0
 
 -- an order of an attempt that has begun
 order-moves : (work : phases.Work) (ss : List Session) (i n : ℕ) (ms : List Member) → nat_lt (last_in ss i) n ≡ false → OnlyMoves ss (order_entries work i n ms)
-order-moves work ss i n ms older = order-fine (Has ss) IsMove whatever work i n ms
+order-moves work ss i n ms older = order-fine (Has ss) IsMove any_reason work i n ms
     (λ m here. record {
       hold = λ w h. tt;
       open_attempt = λ w h newer. false_true (ap (λ ss. nat_lt (last_in ss i) n) h ∙ older) newer;

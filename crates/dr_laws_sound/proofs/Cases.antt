@@ -24,6 +24,13 @@ use Rattle.dr_model.specs.declared.step.PairChoices.{PairChoices}
 use Rattle.dr_model.specs.declared.step.TornWord.{TornWord}
 use Rattle.dr_model.specs.declared.step.Step.{Step}
 use Rattle.dr_model.specs.declared.step.Step.TheVariants.{Server, Volume, Link, Stop, StopAfter, Start, Issue, Write, Apply, Show, MakeFlash, RemoveFlash, ResyncFlash, ReverseFlash, Copy, Destage, MakePath, RemovePath, MakePair, RemovePair, PausePair, ResumePair, Failover, Failback, Drain, Expire, Freeze, Unfreeze, MakeSession, RemoveSession, AddMember, RemoveMember, MakeMirror, PauseMirror, ResumeMirror, RemoveMirror, Abort, Exchange, Send, Deliver, Lose, Recover, CommitFlash, RevertFlash, ListPairs, ListFlashes, ListSession, ShowMirror, UnfreezeFlash}
+use Rattle.dr_model.specs.Runs.{own_course}
+use Rattle.dr_facts.proofs.Reasons.{NoStop, NoneStops, names_no_stop, session-why, secondary-why, forbidden-why}
+use Rattle.dr_facts.proofs.Entries.{why-or}
+use Rattle.dr_laws_sound.proofs.PlanReasons.{name-why, off-why, outside-why, idle-why, busy-why, master-why, join-why, last-why, leave-why, make-why, drop-why, abort-why, track-why, issue-why, show-why, server-why, volume-why, copy-why, taken-why, phase-why, apart-why, full-why, old-why, exchange-why, place-why, untaken-why, named-why, path-why, unpath-why, thaw-why, release-why, freeze-why, listing-why}
+use Rattle.dr_model.specs.MessagePlans.{full_refusal, is_awaited}
+use Rattle.dr_model.specs.Messages.{is_current}
+use Rattle.dr_model.specs.SessionPlans.{phase_refusal, apart_refusal}
 use Rattle.dr_model.specs.Layout.{is_part, kind_of}
 use Rattle.dr_model.specs.Limits.{most_servers, most_volumes, most_tracks, most_pending}
 use Rattle.dr_model.specs.Refusals.{server_off, unknown, duplicate, over}
@@ -138,6 +145,11 @@ done-not x n e = cc
 pub refused-not : (r : Refusal) → NotHeld (Refused r)
 refused-not r n e = cc
 
+-- one that is a refusal names no stop, nor does it say that the step isn't built
+abbrev pub says_no_stop : Said → Bool
+says_no_stop (Refused r) = names_no_stop r
+says_no_stop a = true
+
 -- the target of a member of session s is committed, or reverted, by hand
 pub data ByHand (k : Control) (s : ℕ) (m : Member) : Step → Type 0 where
   Commits : (devs : Devs) → (source : ℕ) → (sequence : Option ℕ) → lets_commit (decided_in s k) ≡ true → ByHand k s m (CommitFlash devs source sequence)
@@ -145,7 +157,7 @@ pub data ByHand (k : Control) (s : ℕ) (m : Member) : Step → Type 0 where
 
 -- what a step comes to, with what was seen before
 pub data Case (k : Control) (events : List Event) (line : ℕ) : Result Step ℕ → Plan → Type 0 where
-  Says : {asked : Result Step ℕ} → (a : Said) → NotHeld a → Case k events line asked (only_says a)
+  Says : {asked : Result Step ℕ} → (a : Said) → NotHeld a → (own_course asked ≡ None → says_no_stop a ≡ true) → Case k events line asked (only_says a)
   DefinesServer : (name : Name) → server_refusal k (name_bytes name) ≡ None → Case k events line (Ok (Server name)) (server_done k name)
   DefinesVolume : {name : Name} → (v s tracks : ℕ) → s < length k.servers → volume_refusal k v s tracks ≡ None → Case k events line (Ok (Volume v name tracks)) (volume_done v s tracks)
   SetsLink : {one other : Name} → (a b : ℕ) → (up : Bool) → Case k events line (Ok (Link one other up)) (link_done a b up)
@@ -173,7 +185,7 @@ pub data Case (k : Control) (events : List Event) (line : ℕ) : Result Step ℕ
   FailsBack : {n : ℕ} → (devs : Devs) → (x y : ℕ) → (kind : Part) → Case k events line (Ok (Failback devs x y n)) (failback_plan k devs x y kind)
   Compares : {asked : Result Step ℕ} → (contents : ℕ → ℕ → List ℕ) → (v u : ℕ) → Case k events line asked (compare_plan k contents v u)
   Drains : (a : ℕ) → (most : Option ℕ) → Case k events line (Ok (Drain a most)) (drain_plan k a most)
-  Expires : {name : Name} → (s : ℕ) → k.on s ≡ true → Case k events line (Ok (Expire name)) (expire_plan k s)
+  Expires : {name : Name} → (s : ℕ) → (server_named k (name_bytes name) ≡ Some s) × (k.on s ≡ true) → Case k events line (Ok (Expire name)) (expire_plan k s)
   Freezes : {devs : Devs} → (l m : ℕ) → Case k events line (Ok (Freeze devs l m)) (freeze_done k l m)
   Unfreezes : {devs : Devs} → (l m : ℕ) → Case k events line (Ok (Unfreeze devs l m)) (unfreeze_done k l m)
   Releases : {devs : Devs} → (l : ℕ) → Case k events line (Ok (UnfreezeFlash devs l)) (release_done k l)
@@ -210,26 +222,26 @@ module _ (k : Control) (events : List Event) (line : ℕ) where
   abbrev Is : Result Step ℕ → Plan → Type 0
   Is = Case k events line
 
-  refused : {asked : Result Step ℕ} → (r : Refusal) → Is asked (refuses r)
-  refused r = Says (Refused r) (refused-not r)
+  refused : {asked : Result Step ℕ} → (r : Refusal) → NoStop r → Is asked (refuses r)
+  refused r why = Says (Refused r) (refused-not r) (λ one. why)
 
   idle : {asked : Result Step ℕ} → Is asked (only_says (Done Alone))
-  idle = Says (Done Alone) (done-not Alone)
+  idle = Says (Done Alone) (done-not Alone) (λ one. refl)
 
   choice : {asked : Result Step ℕ} → (b : Bool) (p q : Plan) → (b ≡ true → Is asked p) → (b ≡ false → Is asked q) → Is asked (cond b p q)
   choice true p q yea nay = yea refl
   choice false p q yea nay = nay refl
 
-  where-none : {asked : Result Step ℕ} → (r : Option Refusal) (p : Plan) → (r ≡ None → Is asked p) → Is asked (unless r p)
-  where-none None p go = go refl
-  where-none (Some r) p go = refused r
+  where-none : {asked : Result Step ℕ} → (r : Option Refusal) → NoneStops r → (p : Plan) → (r ≡ None → Is asked p) → Is asked (unless r p)
+  where-none None why p go = go refl
+  where-none (Some r) why p go = refused r why
 
   where-named : {asked : Result Step ℕ} → (o : Option ℕ) (p : ℕ → Plan) → ((s : ℕ) → Is asked (p s)) → Is asked (on_named o p)
-  where-named None p go = refused (unknown OfServer)
+  where-named None p go = refused (unknown OfServer) refl
   where-named (Some s) p go = go s
 
   where-placed : {asked : Result Step ℕ} → (o : Option ℕ) (p : ℕ → Plan) → ((s : ℕ) → o ≡ Some s → Is asked (p s)) → Is asked (on_named o p)
-  where-placed None p go = refused (unknown OfServer)
+  where-placed None p go = refused (unknown OfServer) refl
   where-placed (Some s) p go = go s refl
 
   -- a server that a line names is one of those that are defined
@@ -237,19 +249,19 @@ module _ (k : Control) (events : List Event) (line : ℕ) where
   is-defined name s is = (position-Some (bytes_eq (name_bytes name)) k.servers s [] is).0
 
   where-owned : {asked : Result Step ℕ} → (o : Option ℕ) (p : ℕ → Plan) → ((s : ℕ) → Is asked (p s)) → Is asked (on_owner o p)
-  where-owned None p go = refused (unknown OfLss)
+  where-owned None p go = refused (unknown OfLss) refl
   where-owned (Some s) p go = go s
 
   where-owner : {asked : Result Step ℕ} → (o : Option ℕ) (p : ℕ → Plan) → ((s : ℕ) → o ≡ Some s → Is asked (p s)) → Is asked (on_owner o p)
-  where-owner None p go = refused (unknown OfLss)
+  where-owner None p go = refused (unknown OfLss) refl
   where-owner (Some s) p go = go s refl
 
   apply-case : (n : ℕ) (o : Option Pending) → find (is_write n) k.pending ≡ o → Is (Ok (Apply n)) (apply_on k o)
-  apply-case n None e = refused (unknown OfWrite)
+  apply-case n None e = refused (unknown OfWrite) refl
   apply-case n (Some p) e = Applies n p e
 
   link-case : {one other : Name} → (a b : ℕ) (up : Bool) → Is (Ok (Link one other up)) (link_between a b up)
-  link-case a b up = choice (nat_eq a b) (refuses (duplicate OfServer)) (link_done a b up) (λ e. refused _) (λ e. SetsLink a b up)
+  link-case a b up = choice (nat_eq a b) (refuses (duplicate OfServer)) (link_done a b up) (λ e. refused _ refl) (λ e. SetsLink a b up)
 
   stop-case : {name : Name} → (s : ℕ) → Is (Ok (Stop name)) (stop_on k s)
   stop-case s = choice (k.on s) (stop_done s) (only_says (Done Alone)) (Stops s) (λ off. idle)
@@ -257,77 +269,77 @@ module _ (k : Control) (events : List Event) (line : ℕ) where
   start-case : {name : Name} → (s : ℕ) → Is (Ok (Start name)) (start_on k s)
   start-case s = choice (k.on s) (only_says (Done Alone)) (start_plan k s) (λ on. idle) (Starts s)
 
-  expire-case : {name : Name} → (s : ℕ) → Is (Ok (Expire name)) (expire_on k s)
-  expire-case s = choice (k.on s) (expire_plan k s) (refuses (server_off s)) (Expires s) (λ off. refused _)
+  expire-case : {name : Name} → (s : ℕ) → server_named k (name_bytes name) ≡ Some s → Is (Ok (Expire name)) (expire_on k s)
+  expire-case s named = choice (k.on s) (expire_plan k s) (refuses (server_off s)) (λ on. Expires s (named, on)) (λ off. refused _ refl)
 
   -- lines on sessions
   where-session : {asked : Result Step ℕ} → (o : Option Session) (p : Session → Plan) → ((x : Session) → o ≡ Some x → Is asked (p x)) → Is asked (on_session o p)
-  where-session None p go = refused (unknown OfSession)
+  where-session None p go = refused (unknown OfSession) refl
   where-session (Some x) p go = go x refl
 
   where-volume : {asked : Result Step ℕ} → (v : ℕ) (p : Plan) → (is_volume k v ≡ true → Is asked p) → Is asked (on_volume k v p)
-  where-volume v p go = choice (is_defined v k) p (refuses (unknown OfVolume)) go (λ none. refused _)
+  where-volume v p go = choice (is_defined v k) p (refuses (unknown OfVolume)) go (λ none. refused _ refl)
 
   join-case : {devs : Devs} → (dev : Option Name) (l s : ℕ) → Is (Ok (MakeSession devs l s)) (join_plan k dev l s)
   join-case dev l s = where-owned (owner_of k l) _ (λ owner.
       let why : Option Refusal = option_or (name_refusal k dev owner) (option_or (off_refusal k owner) (join_refusal (session_in k.sessions s) l k.sessions)) in
-      where-none why (table_plan (joined s l)) (λ free. MakesSession l s (none-both (off_refusal k owner) _ (none-both (name_refusal k dev owner) _ free).1).1))
+      where-none why (why-or NoStop (name_refusal k dev owner) _ (name-why k dev owner) (why-or NoStop (off_refusal k owner) _ (off-why k owner) (join-why k (session_in k.sessions s) l))) (table_plan (joined s l)) (λ free. MakesSession l s (none-both (off_refusal k owner) _ (none-both (name_refusal k dev owner) _ free).1).1))
 
   leave-case : {devs : Devs} → (dev : Option Name) (l s : ℕ) → Is (Ok (RemoveSession devs l s)) (leave_plan k dev l s)
   leave-case dev l s = where-owned (owner_of k l) _ (λ owner. where-session (session_in k.sessions s) _ (λ x is.
-      where-none (option_or (name_refusal k dev owner) (leave_refusal (Some x) s l)) (tables_plan (leaving s l x) [] (Done Alone)) (λ free. RemovesSession l s x is (none-both (name_refusal k dev owner) _ free).1)))
+      where-none (option_or (name_refusal k dev owner) (leave_refusal (Some x) s l)) (why-or NoStop (name_refusal k dev owner) _ (name-why k dev owner) (leave-why k x s l)) (tables_plan (leaving s l x) [] (Done Alone)) (λ free. RemovesSession l s x is (none-both (name_refusal k dev owner) _ free).1)))
 
   mirror-case : {devs : Devs} → {cginterval coordinate drain : Option ℕ} → (dev : Option Name) (l s : ℕ) → Is (Ok (MakeMirror devs l s cginterval coordinate drain)) (mirror_plan k dev l s)
   mirror-case dev l s = where-owner (owner_of k l) _ (λ owner owned. where-session (session_in k.sessions s) _ (λ x is.
       let why : Option Refusal = option_or (name_refusal k dev owner) (option_or (outside_refusal x l) (option_or (off_refusal k owner) (make_refusal x.mirror))) in
-      where-none why (tables_plan (appointed s owner) [] (Done Alone))
+      where-none why (why-or NoStop (name_refusal k dev owner) _ (name-why k dev owner) (why-or NoStop (outside_refusal x l) _ (outside-why k x l) (why-or NoStop (off_refusal k owner) _ (off-why k owner) (make-why k x.mirror)))) (tables_plan (appointed s owner) [] (Done Alone))
       (λ free. MakesMirror owner s x is (none-both (off_refusal k owner) _ (none-both (outside_refusal x l) _ (none-both (name_refusal k dev owner) _ free).1).1).1 l owned)))
 
   pause-case : {asked : Result Step ℕ} → (dev : Option Name) (l s : ℕ) (on : Bool) → Is asked (pause_mirror_plan k dev l s on)
   pause-case dev l s on = where-owned (owner_of k l) _ (λ owner. where-session (session_in k.sessions s) _ (λ x is.
-      where-none (option_or (name_refusal k dev owner) (option_or (outside_refusal x l) (master_refusal k x.mirror))) (table_plan (changed s (paused on))) (λ free. PausesMirror s on)))
+      where-none (option_or (name_refusal k dev owner) (option_or (outside_refusal x l) (master_refusal k x.mirror))) (why-or NoStop (name_refusal k dev owner) _ (name-why k dev owner) (why-or NoStop (outside_refusal x l) _ (outside-why k x l) (master-why k x.mirror))) (table_plan (changed s (paused on))) (λ free. PausesMirror s on)))
 
   unmirror-case : {devs : Devs} → (dev : Option Name) (l s : ℕ) → Is (Ok (RemoveMirror devs l s)) (unmirror_plan k dev l s)
   unmirror-case dev l s = where-owned (owner_of k l) _ (λ owner. where-session (session_in k.sessions s) _ (λ x is.
       let why : Option Refusal = option_or (name_refusal k dev owner) (option_or (outside_refusal x l) (option_or (master_refusal k x.mirror) (drop_refusal x.mirror))) in
-      where-none why (table_plan (changed s unmirrored))
+      where-none why (why-or NoStop (name_refusal k dev owner) _ (name-why k dev owner) (why-or NoStop (outside_refusal x l) _ (outside-why k x l) (why-or NoStop (master_refusal k x.mirror) _ (master-why k x.mirror) (drop-why k x.mirror)))) (table_plan (changed s unmirrored))
       (λ free. RemovesMirror s x is (none-both (master_refusal k x.mirror) _ (none-both (outside_refusal x l) _ (none-both (name_refusal k dev owner) _ free).1).1).1)))
 
   abort-case : (s : ℕ) → Is (Ok (Abort s)) (abort_plan k s)
   abort-case s = where-session (session_in k.sessions s) _ (λ x is.
-      where-none (option_or (abort_refusal x.mirror) (master_refusal k x.mirror)) (aborted s x.mirror) (λ free. Aborts s x is (none-both (abort_refusal x.mirror) _ free).0))
+      where-none (option_or (abort_refusal x.mirror) (master_refusal k x.mirror)) (why-or NoStop (abort_refusal x.mirror) _ (abort-why k x.mirror) (master-why k x.mirror)) (aborted s x.mirror) (λ free. Aborts s x is (none-both (abort_refusal x.mirror) _ free).0))
 
   target-case : {devs : Devs} → {l : ℕ} → (s a : ℕ) (x : Session) (o : Option ℕ) → ((c : ℕ) → o ≡ Some c → in_session (find (has_place_of (member_with k a c)) k.sessions) ≡ None → Joins k s a c x) → Is (Ok (AddMember devs l a s)) (add_target k s x a (fields_at k a).primary_partner o)
-  target-case s a x None go = refused _
+  target-case s a x None go = refused _ refl
   target-case s a x (Some c) go =
-      where-none (in_session (find (has_place_of (member_with k a c)) k.sessions)) (added k s x (member_with k a c)) (λ free. AddsMember s a c x (go c refl free))
+      where-none (in_session (find (has_place_of (member_with k a c)) k.sessions)) (session-why (find (has_place_of (member_with k a c)) k.sessions)) (added k s x (member_with k a c)) (λ free. AddsMember s a c x (go c refl free))
 
   add-case : {devs : Devs} → (dev : Option Name) (l a s : ℕ) → Is (Ok (AddMember devs l a s)) (add_plan k dev l a s)
   add-case dev l a s = where-owned (owner_of k l) _ (λ owner. where-volume a _ (λ there. where-session (session_in k.sessions s) _ (λ x is.
-      where-none (place_refusal k dev owner l a) (add_to k s x l a) (λ named.
-      where-none (option_or (outside_refusal x l) (option_or (taken_refusal k x a) (copy_refusal k a))) (add_target k s x a (fields_at k a).primary_partner (member_target k (fields_at k a).primary_partner)) (λ free.
+      where-none (place_refusal k dev owner l a) (place-why k dev owner l a) (add_to k s x l a) (λ named.
+      where-none (option_or (outside_refusal x l) (option_or (taken_refusal k x a) (copy_refusal k a))) (why-or NoStop (outside_refusal x l) _ (outside-why k x l) (why-or NoStop (taken_refusal k x a) _ (taken-why k x a) (copy-why k a))) (add_target k s x a (fields_at k a).primary_partner (member_target k (fields_at k a).primary_partner)) (λ free.
       let parts = none-both (outside_refusal x l) _ free in
       let rest = none-both (taken_refusal k x a) _ parts.1 in
       let lies : subsystem a ≡ l = eqb-true (subsystem a) l (not-false (nat_eq (subsystem a) l) (one-passed (not (nat_eq (subsystem a) l)) (unknown OfVolume) _ named).0) in
       target-case s a x (member_target k (fields_at k a).primary_partner) (λ c target places. record { found = is; there = there; free = rest.0; copies = rest.1; target = target; places = places; inside = ap (λ l. has_subsystem l x) lies ∙ met (has_subsystem l x) _ parts.0 }))))))
 
   found-case : {devs : Devs} → {l : ℕ} → (s a : ℕ) (x : Session) (o : Option Member) → session_in k.sessions s ≡ Some x → find (λ m. m.a.0 == a) x.members ≡ o → Is (Ok (RemoveMember devs l a s)) (expel_found k s x o)
-  found-case s a x None is none = refused _
+  found-case s a x None is none = refused _ refl
   found-case s a x (Some m) is found =
-      where-none (busy x.mirror) (expel_done k s m) (λ idle. where-none (off_refusal k (k.volume m.c.0).server) (expelled s m) (λ on. RemovesMember s a x m is found idle on))
+      where-none (busy x.mirror) (busy-why k x.mirror) (expel_done k s m) (λ idle. where-none (off_refusal k (k.volume m.c.0).server) (off-why k (k.volume m.c.0).server) (expelled s m) (λ on. RemovesMember s a x m is found idle on))
 
   expel-case : {devs : Devs} → (dev : Option Name) (l a s : ℕ) → Is (Ok (RemoveMember devs l a s)) (expel_plan k dev l a s)
   expel-case dev l a s = where-owned (owner_of k l) _ (λ owner. where-volume a _ (λ there. where-session (session_in k.sessions s) _ (λ x is.
-      where-none (name_refusal k dev owner) (expel_found k s x (find (λ m. m.a.0 == a) x.members)) (λ named. found-case s a x _ is refl))))
+      where-none (name_refusal k dev owner) (name-why k dev owner) (expel_found k s x (find (λ m. m.a.0 == a) x.members)) (λ named. found-case s a x _ is refl))))
 
   order-case : {name : Name} → (s server : ℕ) (reply : Bool) (x : Session) (r : Mirror) (o : Option phases.Order) → ((p : phases.Order) → o ≡ Some p → Ordered k s server x r p) → Is (Ok (Exchange s name reply)) (exchange_done s server reply (members_on server x.members) o)
-  order-case s server reply x r None go = refused _
+  order-case s server reply x r None go = refused _ refl
   order-case s server reply x r (Some o) go = Exchanges s server reply x r o (go o refl)
 
   pub on-case : {name : Name} → (s server : ℕ) (reply : Bool) (x : Session) (m : Option Mirror) → session_in k.sessions s ≡ Some x → x.mirror ≡ m → Is (Ok (Exchange s name reply)) (exchange_on k s m server reply x.members)
-  on-case s server reply x None is none = refused _
+  on-case s server reply x None is none = refused _ refl
   on-case s server reply x (Some r) is mirror =
-      where-none (exchange_refusal k r server x.members) (exchange_done s server reply (members_on server x.members) (order_of r server)) (λ free.
+      where-none (exchange_refusal k r server x.members) (exchange-why k r server x.members) (exchange_done s server reply (members_on server x.members) (order_of r server)) (λ free.
       order-case s server reply x r (order_of r server) (λ o order. record { found = is; mirror = mirror; allowed = free; order = order }))
 
   exchange-case : (s : ℕ) (name : Name) (reply : Bool) → Is (Ok (Exchange s name reply)) (exchange_plan k s name reply)
@@ -335,13 +347,13 @@ module _ (k : Control) (events : List Event) (line : ℕ) where
       where-named (server_named k (name_bytes name)) (λ server. exchange_on k s x.mirror server reply x.members) (λ server. on-case s server reply x x.mirror is refl))
 
   post-case : {name : Name} → (s server : ℕ) (x : Session) (r : Mirror) (o : Option phases.Order) → ((p : phases.Order) → o ≡ Some p → Posts k s server x r p) → Is (Ok (Send s name)) (send_order s (is_idle r.master.phase) server o)
-  post-case s server x r None go = refused _
+  post-case s server x r None go = refused _ refl
   post-case s server x r (Some o) go = Sends s server x r o (go o refl)
 
   send-by : {name : Name} → (s server : ℕ) (x : Session) (m : Option Mirror) → server < length k.servers → session_in k.sessions s ≡ Some x → x.mirror ≡ m → Is (Ok (Send s name)) (send_on k s m server x.members)
-  send-by s server x None here is none = refused _
+  send-by s server x None here is none = refused _ refl
   send-by s server x (Some r) here is mirror =
-      where-none (send_refusal k r server x.members) (send_order s (is_idle r.master.phase) server (order_of r server)) (λ free.
+      where-none (send_refusal k r server x.members) (why-or NoStop (off_refusal k r.server) _ (off-why k r.server) (why-or NoStop (phase_refusal r server x.members) _ (phase-why k r server x.members) (full-why k))) (send_order s (is_idle r.master.phase) server (order_of r server)) (λ free.
       post-case s server x r (order_of r server) (λ o order. record { here = here; found = is; mirror = mirror; allowed = free; order = order }))
 
   send-case : (s : ℕ) (name : Name) → Is (Ok (Send s name)) (send_plan k s name)
@@ -349,28 +361,28 @@ module _ (k : Control) (events : List Event) (line : ℕ) where
       where-placed (server_named k (name_bytes name)) (λ server. send_on k s x.mirror server x.members) (λ server named. send-by s server x x.mirror (is-defined name server named) is refl))
 
   order-by : (n : ℕ) (m : Message) (starts : ℕ) (x : Session) (o : Option Mirror) → ((r : Mirror) → o ≡ Some r → Arrives k n m (Asks starts) x r) → off_refusal k m.server ≡ None → Is (Ok (Deliver n)) (order_on k m starts x.members o)
-  order-by n m starts x None go on = refused _
+  order-by n m starts x None go on = refused _ refl
   order-by n m starts x (Some r) go on =
-      where-none (order_refusal k r m starts) (order_done m (members_on m.server x.members)) (λ free. Delivers n m starts x r (record { arrives = go r refl; on = on; allowed = free }))
+      where-none (order_refusal k r m starts) (why-or NoStop (apart_refusal k r.server m.server) _ (apart-why k r.server m.server) (why-or NoStop (full_refusal k.flight) _ (full-why k) (old-why k m (is_current k.flight m starts)))) (order_done m (members_on m.server x.members)) (λ free. Delivers n m starts x r (record { arrives = go r refl; on = on; allowed = free }))
 
   reply-by : (n : ℕ) (m : Message) (reply : phases.Reply) (x : Session) (o : Option Mirror) → ((r : Mirror) → o ≡ Some r → Arrives k n m (Replies reply) x r) → Is (Ok (Deliver n)) (reply_on k m reply o)
-  reply-by n m reply x None go = refused _
-  reply-by n m reply x (Some r) go = where-none (reply_refusal k r m) (taken m reply) (λ free. TakesReply n m reply x r (record { arrives = go r refl; allowed = free }))
+  reply-by n m reply x None go = refused _ refl
+  reply-by n m reply x (Some r) go = where-none (reply_refusal k r m) (why-or NoStop (off_refusal k r.server) _ (off-why k r.server) (why-or NoStop (apart_refusal k r.server m.server) _ (apart-why k r.server m.server) (old-why k m (is_awaited k.flight r m)))) (taken m reply) (λ free. TakesReply n m reply x r (record { arrives = go r refl; allowed = free }))
 
   body-case : (n : ℕ) (m : Message) (x : Session) (b : Body) → ((r : Mirror) → x.mirror ≡ Some r → Arrives k n m b x r) → Is (Ok (Deliver n)) (deliver_on k m x b)
-  body-case n m x (Asks starts) go = where-none (off_refusal k m.server) (order_on k m starts x.members x.mirror) (λ on. order-by n m starts x x.mirror go on)
+  body-case n m x (Asks starts) go = where-none (off_refusal k m.server) (off-why k m.server) (order_on k m starts x.members x.mirror) (λ on. order-by n m starts x x.mirror go on)
   body-case n m x (Replies reply) go = reply-by n m reply x x.mirror go
 
   deliver-case : (n : ℕ) (o : Option Message) → message_in k.flight n ≡ o → Is (Ok (Deliver n)) (on_message o (λ m. on_session (session_in k.sessions m.session) (λ x. deliver_on k m x m.body)))
-  deliver-case n None there = refused _
+  deliver-case n None there = refused _ refl
   deliver-case n (Some m) there = where-session (session_in k.sessions m.session) (λ x. deliver_on k m x m.body) (λ x is. body-case n m x m.body (λ r mirror. record { there = there; says = refl; found = is; mirror = mirror }))
 
   lose-case : (n : ℕ) (o : Option Message) → Is (Ok (Lose n)) (on_message o (λ m. tables_plan (with_flight (lost n)) [] (Done Alone)))
-  lose-case n None = refused _
+  lose-case n None = refused _ refl
   lose-case n (Some m) = Loses n
 
   recover-case : (s : ℕ) → Is (Ok (Recover s)) (recover_plan k s)
-  recover-case s = where-session (session_in k.sessions s) _ (λ x is. where-none (secondary_refusal x.members k) (recover_done s (decided_in s k) x.members) (λ on. Recovers s x is on))
+  recover-case s = where-session (session_in k.sessions s) _ (λ x is. where-none (secondary_refusal x.members k) (secondary-why x.members k) (recover_done s (decided_in s k) x.members) (λ on. Recovers s x is on))
 
   -- the member by whose target an attempt may be committed or reverted by hand
   module _ {step : Step} (lets : Decision → Bool) (b : ℕ) (hand : (s t : ℕ) (m : Member) → revertible_target k b ≡ Some t → m.c.0 ≡ t → lets (decided_in s k) ≡ true → ByHand k s m step) where
@@ -387,33 +399,33 @@ module _ (k : Control) (events : List Event) (line : ℕ) where
         Settles s x m is here rest.0 last.0 (hand s t m target own (allowed (lets (decided_in s k)) (decided_in s k) last.1))
 
     settle-found : (s t : ℕ) (o : Option Member) → revertible_target k b ≡ Some t → find (λ m. m.c.0 == t) (members_in (session_in k.sessions s)) ≡ o → Is (Ok step) (settle_member k lets b s o)
-    settle-found s t None target is = refused _
+    settle-found s t None target is = refused _ refl
     settle-found s t (Some m) target is =
         let own = found (λ (m : Member). m.c.0 == t) (members_in (session_in k.sessions s)) m is in
-        where-none (settle_refusal lets (decided_in s k) (members_in (session_in k.sessions s)) k) (entries_plan (settle_on s (decided_in s k) m ∷ []) (Done Alone))
+        where-none (settle_refusal lets (decided_in s k) (members_in (session_in k.sessions s)) k) (let ms : List Member = members_in (session_in k.sessions s) in why-or NoStop (secondary_refusal ms k) _ (secondary-why ms k) (why-or NoStop (untaken_refusal ms k) _ (untaken-why k ms) (forbidden-why (lets (decided_in s k)) (decided_in s k)))) (entries_plan (settle_on s (decided_in s k) m ∷ []) (Done Alone))
         (λ free. settle-in s t m (session_in k.sessions s) target (eqb-true m.c.0 t own.1) refl own.0 free)
 
     settle-by : (o : Option ℕ) → revertible_target k b ≡ o → Is (Ok step) (settle_target k lets b o)
-    settle-by None target = refused _
+    settle-by None target = refused _ refl
     settle-by (Some t) target = settle-found (fields_at k t).session t (member_of_target k t) target refl
 
     settle-case : (dev : Option Name) → Is (Ok step) (settle_plan k dev lets b)
     settle-case dev = where-volume b _ (λ there.
-        where-none (option_or (name_refusal k dev (k.volume b).server) (off_refusal k (k.volume b).server)) (settle_target k lets b (revertible_target k b)) (λ named. settle-by (revertible_target k b) refl))
+        where-none (option_or (name_refusal k dev (k.volume b).server) (off_refusal k (k.volume b).server)) (why-or NoStop (name_refusal k dev (k.volume b).server) _ (name-why k dev (k.volume b).server) (off-why k (k.volume b).server)) (settle_target k lets b (revertible_target k b)) (λ named. settle-by (revertible_target k b) refl))
 
   pub of-case : (step : Step) → Is (Ok step) (plan_of k events line step)
-  of-case (Server name) = where-none (server_refusal k (name_bytes name)) (server_done k name) (DefinesServer name)
+  of-case (Server name) = where-none (server_refusal k (name_bytes name)) (server-why k (name_bytes name)) (server_done k name) (DefinesServer name)
   of-case (Volume v name tracks) =
       where-placed (server_named k (name_bytes name)) (λ s. unless (volume_refusal k v s tracks) (volume_done v s tracks))
-      (λ s is. where-none (volume_refusal k v s tracks) (volume_done v s tracks) (DefinesVolume v s tracks (is-defined name s is)))
+      (λ s is. where-none (volume_refusal k v s tracks) (volume-why k v s tracks) (volume_done v s tracks) (DefinesVolume v s tracks (is-defined name s is)))
   of-case (Link a b up) = where-named (server_named k (name_bytes a)) (λ x. on_server k b (λ y. link_between x y up)) (λ x. where-named (server_named k (name_bytes b)) (λ y. link_between x y up) (λ y. link-case x y up))
-  of-case (Issue v t offset len bytes) = where-none (issue_refusal k v t) (issue_done k v t offset len bytes) (Issues v t offset len bytes)
-  of-case (Write v t offset len bytes) = where-none (issue_refusal k v t) (write_done k v t offset len bytes) (Writes v t offset len bytes)
+  of-case (Issue v t offset len bytes) = where-none (issue_refusal k v t) (issue-why k v t) (issue_done k v t offset len bytes) (Issues v t offset len bytes)
+  of-case (Write v t offset len bytes) = where-none (issue_refusal k v t) (issue-why k v t) (write_done k v t offset len bytes) (Writes v t offset len bytes)
   of-case (Apply n) = apply-case n _ refl
   of-case (Stop name) = where-named (server_named k (name_bytes name)) (stop_on k) stop-case
   of-case (StopAfter name writes torn) = where-named (server_named k (name_bytes name)) (arm_on writes torn) (Arms writes torn)
   of-case (Start name) = where-named (server_named k (name_bytes name)) (start_on k) start-case
-  of-case (Show v t) = where-none (show_refusal k v t) (show_done events line v t) (Shows v t)
+  of-case (Show v t) = where-none (show_refusal k v t) (show-why k v t) (show_done events line v t) (Shows v t)
   of-case (MakeFlash devs s t nocopy persistent recorded inhibited freeze sequence) = MakesFlash devs.dev s t freeze _
   of-case (RemoveFlash devs s t sequence) = RemovesFlash devs.dev s t
   of-case (ResyncFlash devs s t nocopy persistent recorded inhibited sequence) = ResyncsFlash devs.dev s t sequence
@@ -422,10 +434,10 @@ module _ (k : Control) (events : List Event) (line : ℕ) where
   of-case (Destage v) = Destages v
   of-case (MakePath devs src tgt group) =
       where-owned (owner_of k src) (λ s. on_owner (owner_of k tgt) (λ u. unless (path_refusal k devs s u) (make_path_done src tgt group)))
-      (λ s. where-owned (owner_of k tgt) (λ u. unless (path_refusal k devs s u) (make_path_done src tgt group)) (λ u. where-none (path_refusal k devs s u) (make_path_done src tgt group) (λ free. MakesPath src tgt group)))
+      (λ s. where-owned (owner_of k tgt) (λ u. unless (path_refusal k devs s u) (make_path_done src tgt group)) (λ u. where-none (path_refusal k devs s u) (path-why k devs s u) (make_path_done src tgt group) (λ free. MakesPath src tgt group)))
   of-case (RemovePath devs src tgt force) =
       where-owned (owner_of k src) (λ s. on_owner (owner_of k tgt) (λ u. unless (unpath_refusal k devs src tgt s u force) (remove_path_done src tgt)))
-      (λ s. where-owned (owner_of k tgt) (λ u. unless (unpath_refusal k devs src tgt s u force) (remove_path_done src tgt)) (λ u. where-none (unpath_refusal k devs src tgt s u force) (remove_path_done src tgt) (λ free. RemovesPath src tgt)))
+      (λ s. where-owned (owner_of k tgt) (λ u. unless (unpath_refusal k devs src tgt s u force) (remove_path_done src tgt)) (λ u. where-none (unpath_refusal k devs src tgt s u force) (unpath-why k devs src tgt s u force) (remove_path_done src tgt) (λ free. RemovesPath src tgt)))
   of-case (MakePair devs a b kind choices) = MakesPair devs a b (kind_of kind) choices (is-kind kind)
   of-case (RemovePair devs a b source_only) = RemovesPair devs a b source_only
   of-case (PausePair devs a b) = PausesPair devs a b
@@ -433,15 +445,15 @@ module _ (k : Control) (events : List Event) (line : ℕ) where
   of-case (Failover devs b a kind) = FailsOver devs b a (kind_of kind)
   of-case (Failback devs x y kind) = FailsBack devs x y (kind_of kind)
   of-case (Drain a most) = Drains a most
-  of-case (Expire name) = where-named (server_named k (name_bytes name)) (expire_on k) expire-case
+  of-case (Expire name) = where-placed (server_named k (name_bytes name)) (expire_on k) expire-case
   of-case (Freeze devs l m) =
       where-owned (owner_of k l) (λ s. on_owner (owner_of k m) (λ u. unless (freeze_refusal k devs l m s u) (freeze_done k l m)))
-      (λ s. where-owned (owner_of k m) (λ u. unless (freeze_refusal k devs l m s u) (freeze_done k l m)) (λ u. where-none (freeze_refusal k devs l m s u) (freeze_done k l m) (λ free. Freezes l m)))
+      (λ s. where-owned (owner_of k m) (λ u. unless (freeze_refusal k devs l m s u) (freeze_done k l m)) (λ u. where-none (freeze_refusal k devs l m s u) (freeze-why k devs l m s u) (freeze_done k l m) (λ free. Freezes l m)))
   of-case (Unfreeze devs l m) =
       where-owned (owner_of k l) (λ s. on_owner (owner_of k m) (λ u. unless (thaw_refusal k devs s u) (unfreeze_done k l m)))
-      (λ s. where-owned (owner_of k m) (λ u. unless (thaw_refusal k devs s u) (unfreeze_done k l m)) (λ u. where-none (thaw_refusal k devs s u) (unfreeze_done k l m) (λ free. Unfreezes l m)))
+      (λ s. where-owned (owner_of k m) (λ u. unless (thaw_refusal k devs s u) (unfreeze_done k l m)) (λ u. where-none (thaw_refusal k devs s u) (thaw-why k devs s u) (unfreeze_done k l m) (λ free. Unfreezes l m)))
   of-case (UnfreezeFlash devs l) =
-      where-owned (owner_of k l) (λ s. unless (release_refusal k devs.dev s) (release_done k l)) (λ s. where-none (release_refusal k devs.dev s) (release_done k l) (λ free. Releases l))
+      where-owned (owner_of k l) (λ s. unless (release_refusal k devs.dev s) (release_done k l)) (λ s. where-none (release_refusal k devs.dev s) (release-why k devs.dev s) (release_done k l) (λ free. Releases l))
   of-case (MakeSession devs l s) = join-case devs.dev l s
   of-case (RemoveSession devs l s) = leave-case devs.dev l s
   of-case (AddMember devs l a s) = add-case devs.dev l a s
@@ -458,22 +470,22 @@ module _ (k : Control) (events : List Event) (line : ℕ) where
   of-case (Recover s) = recover-case s
   of-case (CommitFlash devs source sequence) = settle-case lets_commit source (λ s t m target own lets. Commits devs source sequence lets) devs.dev
   of-case (RevertFlash devs source sequence) = settle-case lets_revert source (λ s t m target own lets. Reverts devs source sequence t target own) devs.dev
-  of-case (ListPairs devs v) = where-none (listing_refusal k devs.dev v) (lists (pair_lines line v (fields_at k v))) (λ there. Lists (pair_lines line v (fields_at k v)) (pair-lines line v (fields_at k v)) (λ groups sessions volumes. pair-few line v (fields_at k v)))
-  of-case (ListFlashes devs v) = where-none (listing_refusal k devs.dev v) (lists (flash_lines k line v)) (λ there. Lists (flash_lines k line v) (flash-lines k line v) (λ groups sessions volumes. flash-few k line v volumes))
+  of-case (ListPairs devs v) = where-none (listing_refusal k devs.dev v) (listing-why k devs.dev v) (lists (pair_lines line v (fields_at k v))) (λ there. Lists (pair_lines line v (fields_at k v)) (pair-lines line v (fields_at k v)) (λ groups sessions volumes. pair-few line v (fields_at k v)))
+  of-case (ListFlashes devs v) = where-none (listing_refusal k devs.dev v) (listing-why k devs.dev v) (lists (flash_lines k line v)) (λ there. Lists (flash_lines k line v) (flash-lines k line v) (λ groups sessions volumes. flash-few k line v volumes))
   of-case (ListSession devs l) =
-      where-owned (owner_of k l) _ (λ owner. where-none (name_refusal k devs.dev owner) (lists (flat_map (member_lines k line l) (sessions_of k l)))
+      where-owned (owner_of k l) _ (λ owner. where-none (name_refusal k devs.dev owner) (name-why k devs.dev owner) (lists (flat_map (member_lines k line l) (sessions_of k l)))
       (λ named. Lists (flat_map (member_lines k line l) (sessions_of k l)) (session-lines k line l) (session-few k line l)))
   of-case (ShowMirror devs l) =
-      where-owned (owner_of k l) _ (λ owner. where-none (name_refusal k devs.dev owner) (lists (flat_map (λ x. mirror_lines line x.number x.mirror) (sessions_of k l)))
+      where-owned (owner_of k l) _ (λ owner. where-none (name_refusal k devs.dev owner) (name-why k devs.dev owner) (lists (flat_map (λ x. mirror_lines line x.number x.mirror) (sessions_of k l)))
       (λ named. Lists (flat_map (λ x. mirror_lines line x.number x.mirror) (sessions_of k l)) (mirrors-lines k line l) (λ groups sessions volumes. mirrors-few k line l sessions)))
   of-case _ = idle
 
   step-case : (step : Step) → Is (Ok step) (step_plan k events line step)
-  step-case step = choice (has_room events) (plan_of k events line step) (refuses JournalFull) (λ room. of-case step) (λ full. refused _)
+  step-case step = choice (has_room events) (plan_of k events line step) (refuses JournalFull) (λ room. of-case step) (λ full. refused _ refl)
 
   pub plan-case : (asked : Result Step ℕ) → Is asked (plan k events line asked)
   plan-case (Ok step) = step-case step
-  plan-case (Err column) = refused (Syntax column)
+  plan-case (Err column) = refused (Syntax column) refl
 
 below : (n m : ℕ) → nat_le m n ≡ false → n < m
 below n m h = grind (arith, nat_tests, h)

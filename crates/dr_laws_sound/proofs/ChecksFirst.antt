@@ -11,7 +11,7 @@ use Rattle.dr_model.specs.PairEntries.{end_if, refuse_if}
 use Rattle.dr_model.proofs.CarryLemmas.{onward, carry-none, carry-append}
 use Rattle.dr_laws_sound.specs.Stops.{refused_stop}
 use Rattle.dr_laws_sound.proofs.Turns.{Counts, after_act, act-cases}
-use Rattle.dr_facts.proofs.Entries.{anywhere, whatever, WhyNot, AllFine, FineFrom, FromThen, from-refuse, from-all, next-ends, carry-ends}
+use Rattle.dr_facts.proofs.Entries.{any_world, any_reason, WhyNot, AllFine, FineFrom, FromThen, from-refuse, from-all, next-ends, carry-ends}
 
 -- no reason at all
 abbrev pub never : Refusal → Type 0
@@ -22,19 +22,19 @@ any_act w a = Unit {0}
 
 -- entries that end no plan
 abbrev pub NeverRefuse : List Entry → Type 0
-NeverRefuse = AllFine anywhere any_act never
+NeverRefuse = AllFine any_world any_act never
 
 -- checks, and then such entries
 abbrev pub ChecksFirst : List Entry → Type 0
-ChecksFirst ds = (w : World) → FineFrom anywhere any_act whatever never w ds
+ChecksFirst ds = (w : World) → FineFrom any_world any_act any_reason never w ds
 
 pub first-done : (ds : List Entry) → NeverRefuse ds → ChecksFirst ds
-first-done ds goes w = from-all anywhere any_act whatever never (λ r why. tt) w tt ds goes
+first-done ds goes w = from-all any_world any_act any_reason never (λ r why. tt) w tt ds goes
 
 pub first-refuse : (why : Control → Option Refusal) (ds : List Entry) → ChecksFirst ds → ChecksFirst (refuse_if why ∷ ds)
-first-refuse why ds rest w = from-refuse anywhere any_act whatever never w why ds (by (why w.control)) (rest w)
+first-refuse why ds rest w = from-refuse any_world any_act any_reason never w why ds (by (why w.control)) (rest w)
   where
-    by : (o : Option Refusal) → WhyNot whatever o
+    by : (o : Option Refusal) → WhyNot any_reason o
     by None = tt
     by (Some r) = tt
 
@@ -59,18 +59,18 @@ stop-never s r e other =
     absurd cc
 
 module _ (Ok : World → Act → Type 0) (First Why : Refusal → Type 0) (no_reason : (r : Refusal) → Why r → ⊥) where
-  pub carry-never : (w : World) (ds : List Entry) → AllFine anywhere Ok Why ds → Never (carry w ds)
-  carry-never w ds fine = carry-ends anywhere Ok Why (λ v. tt) NeverFor (λ r e other. cc) stop-never (λ r why. absurd (no_reason r why)) ds fine w
+  pub carry-never : (w : World) (ds : List Entry) → AllFine any_world Ok Why ds → Never (carry w ds)
+  carry-never w ds fine = carry-ends any_world Ok Why (λ v. tt) NeverFor (λ r e other. cc) stop-never (λ r why. absurd (no_reason r why)) ds fine w
 
-  acted-never : (w : World) (a : Act) (ds : List Entry) → Ok w a × AllFine anywhere Ok Why ds → NeverFor (go w (Do a) (λ v. carry v ds)).1
-  acted-never w a ds fine = next-ends anywhere Ok Why (λ v. tt) NeverFor (λ r e other. cc) stop-never (λ r why. absurd (no_reason r why)) w (Do a) (λ v. carry v ds) (AllFine anywhere Ok Why ds) fine (λ rest v. carry-never v ds rest)
+  acted-never : (w : World) (a : Act) (ds : List Entry) → Ok w a × AllFine any_world Ok Why ds → NeverFor (go w (Do a) (λ v. carry v ds)).1
+  acted-never w a ds fine = next-ends any_world Ok Why (λ v. tt) NeverFor (λ r e other. cc) stop-never (λ r why. absurd (no_reason r why)) w (Do a) (λ v. carry v ds) (AllFine any_world Ok Why ds) fine (λ rest v. carry-never v ds rest)
 
-  go-untouched : (w : World) (x : Next) (ds : List Entry) → FromThen anywhere Ok First Why w x (FineFrom anywhere Ok First Why w ds) (AllFine anywhere Ok Why ds) → (FineFrom anywhere Ok First Why w ds → Untouched w (carry w ds)) → Untouched w (go w x (λ v. carry v ds))
+  go-untouched : (w : World) (x : Next) (ds : List Entry) → FromThen any_world Ok First Why w x (FineFrom any_world Ok First Why w ds) (AllFine any_world Ok Why ds) → (FineFrom any_world Ok First Why w ds → Untouched w (carry w ds)) → Untouched w (go w x (λ v. carry v ds))
   go-untouched w Pass ds fine rest = rest fine
   go-untouched w (End r) ds fine rest = λ q e other. refl
   go-untouched w (Do a) ds fine rest = λ q e other. absurd (acted-never w a ds fine q e other)
 
-  pub carry-untouched : (w : World) (ds : List Entry) → FineFrom anywhere Ok First Why w ds → Untouched w (carry w ds)
+  pub carry-untouched : (w : World) (ds : List Entry) → FineFrom any_world Ok First Why w ds → Untouched w (carry w ds)
   unfolding carry FineFrom
   carry-untouched w [] fine = λ r e other. refl
   carry-untouched w (d ∷ ds) fine = go-untouched w (d w.control) ds fine (carry-untouched w ds)
@@ -80,7 +80,7 @@ pub never-leads : {P : Type 0} (w u : World) (ds : List Entry) (r : Refusal) →
 never-leads w u ds r goes leads other = absurd (carry-never any_act never never (λ r h. h) w ds goes r (ap (λ (o : Outcome). o.1) leads) other)
 
 pub first-leads : (w u : World) (ds : List Entry) (r : Refusal) → ChecksFirst ds → carry w ds ≡ (u, Some r) → refused_stop (Some r) ≡ None → u ≡ w
-first-leads w u ds r first leads other = sym (ap (λ (o : Outcome). o.0) leads) ∙ carry-untouched any_act whatever never (λ r h. h) w ds (first w) r (ap (λ (o : Outcome). o.1) leads) other
+first-leads w u ds r first leads other = sym (ap (λ (o : Outcome). o.0) leads) ∙ carry-untouched any_act any_reason never (λ r h. h) w ds (first w) r (ap (λ (o : Outcome). o.1) leads) other
 
 -- nothing follows such a refusal
 pub follow-stays : (w : World) (r : Refusal) (follows : ℕ → List Entry) → refused_stop (Some r) ≡ None → follow w r follows ≡ w

@@ -7,7 +7,7 @@ use Rattle.dr_model.specs.declared.event.Event.TheVariants.{Stopped}
 use Rattle.dr_model.specs.Control.{Control, Fuse, Volume, World}
 use Rattle.dr_model.specs.Moves.{Move, Land, Overwrite, LandBoth, Hold, target, told, told_in_stop, landed}
 use Rattle.dr_model.specs.Carry.{Act, Make, OpenAttempt, Redo, Acknowledge, Drop, EndFreeze, EndThaw, EndRecovery, Next, Pass, Do, End, Entry, Outcome, carry, continue, go, check, now}
-use Rattle.dr_facts.proofs.Entries.{anywhere, AllFine, FineThen, FineFrom, FromThen}
+use Rattle.dr_facts.proofs.Entries.{any_world, AllFine, FineThen, FineFrom, FromThen}
 use Rattle.dr_laws_sound.proofs.Turns.{act-cases, Counts, after_act, server_of, done}
 
 -- how many events an act tells
@@ -113,23 +113,23 @@ carry-adds n w (d ∷ ds) c = go-adds n w (d w.control) (λ v. carry v ds) (λ m
 -- ---- entries whose acts tell two events each, at most, cost two events each
 
 module _ (Ok : World → Act → Type 0) (First Why : Refusal → Type 0) (two : (w : World) (a : Act) → Ok w a → tells w a ≤ 2) where
-  next-costs : (w : World) (x : Next) (ds : List Entry) → FineThen anywhere Ok Why w x (AllFine anywhere Ok Why ds) → ((n : ℕ) (v : World) → AllFine anywhere Ok Why ds → length ds * 2 ≤ n → Costs n v ds)
+  next-costs : (w : World) (x : Next) (ds : List Entry) → FineThen any_world Ok Why w x (AllFine any_world Ok Why ds) → ((n : ℕ) (v : World) → AllFine any_world Ok Why ds → length ds * 2 ≤ n → Costs n v ds)
       → (n : ℕ) → length ds * 2 + 2 ≤ n → costs_next n w x (λ m v. Costs m v ds)
   next-costs w Pass ds fine on n le = on n w fine (omega arith)
   next-costs w (End r) ds fine on n le = tt
   next-costs w (Do a) ds fine on n le = let few : tells w a ≤ 2 = two w a fine.0 in (on n w fine.1 (omega arith), (length ds * 2, ((omega arith), λ f. on (length ds * 2) (after_act w a f) fine.1 (omega arith))))
 
-  pub fine-costs : (ds : List Entry) (n : ℕ) (w : World) → AllFine anywhere Ok Why ds → length ds * 2 ≤ n → Costs n w ds
+  pub fine-costs : (ds : List Entry) (n : ℕ) (w : World) → AllFine any_world Ok Why ds → length ds * 2 ≤ n → Costs n w ds
   unfolding AllFine Costs
   fine-costs [] n w fine le = tt
   fine-costs (d ∷ ds) n w fine le = next-costs w (d w.control) ds (fine w tt) (λ n v fine le. fine-costs ds n v fine le) n (omega arith)
 
-  pub from-costs : (ds : List Entry) (n : ℕ) (w : World) → FineFrom anywhere Ok First Why w ds → length ds * 2 ≤ n → Costs n w ds
+  pub from-costs : (ds : List Entry) (n : ℕ) (w : World) → FineFrom any_world Ok First Why w ds → length ds * 2 ≤ n → Costs n w ds
   unfolding FineFrom Costs
   from-costs [] n w fine le = tt
   from-costs (d ∷ ds) n w fine le = by (d w.control) (λ fine. from-costs ds n w fine (omega arith)) fine
     where
-      by : (x : Next) → (FineFrom anywhere Ok First Why w ds → Costs n w ds) → FromThen anywhere Ok First Why w x (FineFrom anywhere Ok First Why w ds) (AllFine anywhere Ok Why ds) → costs_next n w x (λ m v. Costs m v ds)
+      by : (x : Next) → (FineFrom any_world Ok First Why w ds → Costs n w ds) → FromThen any_world Ok First Why w x (FineFrom any_world Ok First Why w ds) (AllFine any_world Ok Why ds) → costs_next n w x (λ m v. Costs m v ds)
       by Pass on fine = on fine
       by (End r) on fine = tt
       by (Do a) on fine = next-costs w (Do a) ds fine (λ n v fine le. fine-costs ds n v fine le) n (omega arith)

@@ -23,6 +23,7 @@ use Rattle.dr_model.specs.Moves.{Move, is_write}
 use Rattle.dr_model.specs.Carry.{Act, Make, OpenAttempt, Redo, Acknowledge, Drop, EndFreeze, EndThaw, EndRecovery}
 use Rattle.dr_model.specs.Entries.{fields_at}
 use Rattle.dr_model.specs.PairEntries.{stands_free, may_follow, may_take_over, leads_as, leads_to, unsent_by}
+use Rattle.dr_model.specs.PlanParts.{server_named, name_bytes}
 use Rattle.dr_model.specs.WriteEntries.{partner_of, is_between, belongs}
 use Rattle.dr_model.specs.Plans.{landed_on}
 use Rattle.dr_facts.proofs.Reasons.{NoStop}
@@ -87,7 +88,7 @@ pub data Does (k : Control) : Result Step ℕ → Control → Act → Type 0 whe
   Redoes : {name : Name} → {j : Control} → (v : ℕ) → Does k (Ok (Start name)) j (Redo v)
   Restarts : {name : Name} → {j : Control} → (v : ℕ) → Does k (Ok (Start name)) j (Make (moves.Restart v))
   Acknowledges : {name : Name} → {j : Control} → (s n : ℕ) → landed_on j s ≡ Some n → Does k (Ok (Start name)) j (Acknowledge n)
-  Lifts : {name : Name} → {j : Control} → (s v : ℕ) → (belongs j s v && held (fields_at j v)) ≡ true → Does k (Ok (Expire name)) j (Make (moves.Lift v))
+  Lifts : {name : Name} → {j : Control} → (s v : ℕ) → (server_named k (name_bytes name) ≡ Some s) × ((belongs j s v && held (fields_at j v)) ≡ true) → Does k (Ok (Expire name)) j (Make (moves.Lift v))
   EndsFreeze : {devs : Devs} → {j : Control} → (l m : ℕ) → Does k (Ok (Freeze devs l m)) j (EndFreeze l m)
   Thaws : {devs : Devs} → {j : Control} → (l m v : ℕ) → (is_between j l m v && (fields_at j v).long_busy) ≡ true → Does k (Ok (Unfreeze devs l m)) j (Make (moves.Thaw v))
   EndsThaw : {devs : Devs} → {j : Control} → (l m : ℕ) → Does k (Ok (Unfreeze devs l m)) j (EndThaw l m)

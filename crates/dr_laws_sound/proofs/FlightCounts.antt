@@ -374,7 +374,7 @@ module _ (k : Control) where
   fewer n f h = counted-more n (n + 1) count f (omega arith) h
 
   case-counts : (events : List Event) (line : ℕ) (asked : Result Step ℕ) (p : Plan) → Case k events line asked p → Counting k p
-  case-counts events line _ _ (Says a waits) = calm _ refl refl (λ s. refl) (λ j. refl) (λ j. refl) (λ j s. refl)
+  case-counts events line _ _ (Says a waits why) = calm _ refl refl (λ s. refl) (λ j. refl) (λ j. refl) (λ j s. refl)
   case-counts events line _ _ (DefinesServer name free) =
       let e : length (k.servers ++ name_bytes name ∷ []) ≡ count + 1 = length-append k.servers (name_bytes name ∷ []) in
       begins-counted k _ (λ n h. counted-wider (n + 1) count (length (k.servers ++ name_bytes name ∷ [])) k.flight (omega arith) (fewer n k.flight h)) (λ s is off. false_true off is) (λ j. refl)

@@ -15,7 +15,7 @@ use Rattle.dr_model.specs.Carried.{begun, carried_out}
 use Rattle.dr_model.specs.PlanParts.{Plan}
 use Rattle.dr_ids.specs.declared.refusal.Refusal.{Refusal}
 use Rattle.dr_facts.proofs.Emits.{Tag, Acks, Mirrors, Cuts, Of, all_tags, emits, act_emits, Lists, each-told, stop-onto}
-use Rattle.dr_facts.proofs.Entries.{anywhere, whatever, AllFine, carry-kept, FineFrom, plan-from}
+use Rattle.dr_facts.proofs.Entries.{any_world, any_reason, AllFine, carry-kept, FineFrom, plan-from}
 use Rattle.dr_laws_sound.proofs.ChecksFirst.{carry-on}
 use Rattle.dr_logic.proofs.Truth.{false_true}
 use Rattle.dr_model.specs.Groups.{In}
@@ -234,7 +234,7 @@ module _ (still : Bool) (w : World) where
 -- ---- entries
 
 abbrev pub AllHush : Bool → List Entry → Type 0
-AllHush still = AllFine anywhere (λ w a. Mute still a) whatever
+AllHush still = AllFine any_world (λ w a. Mute still a) any_reason
 
 module _ (still : Bool) where
   abbrev pub Comes : World → Outcome → Type 0
@@ -249,11 +249,11 @@ module _ (still : Bool) where
 
   pub carry-hushed : (w : World) (ds : List Entry) → AllHush still ds → Comes w (carry w ds)
   carry-hushed w ds hush =
-      let since : Since w (carry w ds).0 = carry-kept anywhere (λ w a. Mute still a) whatever (Since w) (λ u h. tt) (λ u a mute h. act-since w u a mute h) ds hush w (mum-same still w, pending-same w.control) in
+      let since : Since w (carry w ds).0 = carry-kept any_world (λ w a. Mute still a) any_reason (Since w) (λ u h. tt) (λ u a mute h. act-since w u a mute h) ds hush w (mum-same still w, pending-same w.control) in
       record { mum = since.0; stays = since.1; on = carry-on w ds }
 
   -- a plan whose acts are such
-  pub plan-mum : (First Why : Refusal → Type 0) (Ok : World → Act → Type 0) → ((u : World) (a : Act) → Ok u a → Mute still a) → (w : World) (p : Plan) → Unheard still p.told → FineFrom anywhere Ok First Why (begun w p) p.entries
-      → ((s : ℕ) → AllFine anywhere Ok Why (p.follows s)) → Mum still w (carried_out w p).0
+  pub plan-mum : (First Why : Refusal → Type 0) (Ok : World → Act → Type 0) → ((u : World) (a : Act) → Ok u a → Mute still a) → (w : World) (p : Plan) → Unheard still p.told → FineFrom any_world Ok First Why (begun w p) p.entries
+      → ((s : ℕ) → AllFine any_world Ok Why (p.follows s)) → Mum still w (carried_out w p).0
   plan-mum First Why Ok mute w p told entries follows =
-      plan-from anywhere Ok First Why (Mum still w) (λ u h. tt) (λ u a ok h. mum-then still w u _ h (act-turned still u a (mute u a ok)).hushed.mum) w p (record { added = p.told; events = refl; silent = told }) entries follows (λ u h. record { added = h.added; events = h.events; silent = h.silent })
+      plan-from any_world Ok First Why (Mum still w) (λ u h. tt) (λ u a ok h. mum-then still w u _ h (act-turned still u a (mute u a ok)).hushed.mum) w p (record { added = p.told; events = refl; silent = told }) entries follows (λ u h. record { added = h.added; events = h.events; silent = h.silent })

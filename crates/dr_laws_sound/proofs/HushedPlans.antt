@@ -10,7 +10,7 @@ use Rattle.dr_model.specs.declared.said.Addition.TheVariants.{Alone}
 use Rattle.dr_model.specs.declared.said.Said.{Said}
 use Rattle.dr_model.specs.declared.said.Said.TheVariants.{Done, Refused}
 use Rattle.dr_model.specs.declared.step.Step.{Step}
-use Rattle.dr_model.specs.declared.step.Step.TheVariants.{Start, Write, Apply}
+use Rattle.dr_model.specs.declared.step.Step.TheVariants.{Start, Write, Apply, Run}
 use Rattle.dr_model.specs.Control.{Control, World}
 use Rattle.dr_model.specs.Carry.{Act}
 use Rattle.dr_model.specs.Carried.{carried_out}
@@ -21,7 +21,7 @@ use Rattle.dr_model.specs.MessagePlans.{told_begun}
 use Rattle.dr_model.specs.Listings.{lists}
 use Rattle.dr_model.specs.Plans.{Plan, refuses, unless, on_named, on_owner, on_session, is_defined, only_says}
 use Rattle.dr_facts.proofs.Reasons.{NoStop}
-use Rattle.dr_facts.proofs.Entries.{anywhere, from-none, fine-none}
+use Rattle.dr_facts.proofs.Entries.{any_world, from-none, fine-none}
 pub use Rattle.dr_laws_sound.proofs.Cases.{NotHeld, done-not, refused-not}
 use Rattle.dr_laws_sound.proofs.Cases.{Case, Says, DefinesServer, DefinesVolume, Issues, Writes, Applies, Lists, Shows, Stops, Starts, Aborts, Exchanges, Sends, TakesReply, Recovers}
 use Rattle.dr_laws_sound.proofs.Does.{Does, Acts, Late, IsWrite, Issued, Found, Lands, Overwrites, Mirrors, LandsBoth, Drops, Acknowledges}
@@ -98,7 +98,7 @@ pub record HushedPlan (w : World) (p : Plan) : Type 0 where
   pub says : (k : Control) → NotHeld (p.says k)
 
 case-says : (k : Control) (events : List Event) (line : ℕ) (asked : Result Step ℕ) (p : Plan) → Case k events line asked p → acknowledges asked ≡ false → Says_none p
-case-says k events line _ _ (Says a waits) other = record { told = unheard-none false; says = λ j. waits }
+case-says k events line _ _ (Says a waits why) other = record { told = unheard-none false; says = λ j. waits }
 case-says k events line _ _ (DefinesServer name free) other = record { told = record { none = refl; plain = refl; uncut = λ h. absurd cc }; says = λ j. done-not _ }
 case-says k events line _ _ (DefinesVolume v s tracks here free) other = record { told = record { none = refl; plain = refl; uncut = λ h. absurd cc }; says = λ j. done-not _ }
 case-says k events line _ _ (Issues v t offset len bytes free) other = record { told = record { none = refl; plain = refl; uncut = λ h. absurd cc }; says = λ j. done-not _ }
@@ -127,12 +127,12 @@ case-hushed w line asked p c other =
 
 -- an answer, and lines of listings and images
 pub says-hushed : (w : World) (a : Said) → NotHeld a → HushedPlan w (only_says a)
-says-hushed w a waits = case-hushed w 0 (Err 0) (only_says a) (Says a waits) refl
+says-hushed w a waits = case-hushed w 0 (Ok (Run 0 0)) (only_says a) (Says a waits (λ one. absurd cc)) refl
 
 pub lines-hushed : (w : World) (told : List Event) → AllLines told → HushedPlan w (lists told)
 lines-hushed w told ls =
     let p : Plain told = lines-plain told ls in
     record {
-      mum = plan-mum false NoStop NoStop (λ u a. Mute false a) (λ u a mute. mute) w (lists told) (record { none = p.none; plain = p.plain; uncut = λ h. absurd cc }) (from-none anywhere (λ u a. Mute false a) NoStop NoStop _) (λ s. fine-none anywhere (λ u a. Mute false a) NoStop);
+      mum = plan-mum false NoStop NoStop (λ u a. Mute false a) (λ u a mute. mute) w (lists told) (record { none = p.none; plain = p.plain; uncut = λ h. absurd cc }) (from-none any_world (λ u a. Mute false a) NoStop NoStop _) (λ s. fine-none any_world (λ u a. Mute false a) NoStop);
       says = λ k. done-not Alone;
     }

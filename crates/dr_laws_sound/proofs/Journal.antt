@@ -268,7 +268,7 @@ module _ (k : Control) where
   sizes-within v s tracks small h = at_cases (λ u (x : Volume). x.tracks ≤ most_tracks) k.volume v (new_volume s tracks) small (λ q ne. h.tracks q)
 
   case-modest : (events : List Event) (line : ℕ) (asked : Result Step ℕ) (p : Plan) → Case k events line asked p → Modest k p
-  case-modest events line _ _ (Says a waits) = quiet same [] [] (always a) refl unmoved refl
+  case-modest events line _ _ (Says a waits why) = quiet same [] [] (always a) refl unmoved refl
   case-modest events line _ _ (DefinesServer name free) =
       modest (server_done k name).first (server_done k name).told [] (always (Done Alone)) (omega arith)
       (λ h. record { servers = room-more k.servers (name_bytes name) most_servers (servers-left k (name_bytes name) free); volumes = h.volumes; pending = h.pending; tracks = h.tracks; sessions = h.sessions }) refl

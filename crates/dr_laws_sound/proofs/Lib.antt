@@ -74,6 +74,7 @@
 --   member that can go back and of one that can't. `TablesGo.antt` has a lemma for each change of the table of sessions.
 -- - **A set of numbers below n has no more than n** (`len-low`, `Spends.antt`): by `len-remove` and `same_set`.
 pub mod Listed
+pub mod PlanReasons
 pub mod Cases
 pub mod Does
 pub mod DoesPlans

@@ -25,6 +25,7 @@ use Rattle.dr_model.specs.Sessions.{Session, Mirror, session_in, mirror_in, memb
 use Rattle.dr_model.specs.Plans.{drain_plan, has_room, has_room_for, compare_plan}
 use Rattle.dr_model.specs.Forming.{Part, Way, stays, ends, goes_on, unless_refused, after_part, part_refusal, part, drains, is_draining, ask, next_asked, master_in, phase_in, has_committed, still_left, turn_by, turns, most_turns, form_refusal, form_in, formed, form_answer}
 use Rattle.dr_model.specs.Runs.{Task, own_course, course_of, course, plans_of, OwnCourse, Groups, Volumes, Devices, compared, image_plan, imaged}
+use Rattle.dr_logic.proofs.Options.{none_some}
 use Rattle.dr_laws_sound.proofs.Cases.{Case, Says, Drains, on-case, plan-case, Compares, NotHeld, refused-not}
 use Rattle.dr_laws_sound.proofs.HushedPlans.{acknowledges, phase-not}
 
@@ -33,16 +34,24 @@ pub data IsTurn : Control → Plan → Type 0 where
   Drained : (k : Control) → (a : ℕ) → IsTurn k (drain_plan k a None)
   Asked : (k : Control) → (s server : ℕ) → (m : Option Mirror) → (ms : List Member) → IsTurn k (exchange_on k s m server true ms)
 
+-- the steps that ask for such plans
+abbrev pub asks_turn : Result Step ℕ → Bool
+asks_turn (Ok (Drain a most)) = true
+asks_turn (Ok (Exchange s name reply)) = true
+asks_turn asked = false
+
 -- A plan that isn't the last one of its step: the journal has room for it, its tables change and its journal is told by its entries
 -- alone, and it acknowledges no write.
 pub record Comes (w : World) (p : Plan) : Type 0 where
   pub turn : IsTurn w.control p
   pub room : has_room w.events ≡ true
   pub asked : Result Step ℕ
+  pub asks : asks_turn asked ≡ true
   pub case : (line : ℕ) → Case w.control w.events line asked p
   pub first : (k : Control) → p.first k ≡ k
   pub told : p.told ≡ []
   pub other : acknowledges asked ≡ false
+  pub one : own_course asked ≡ None
 
 -- such plans lead from a world to another
 pub data Goes : World → List Part → World → Type 0 where
@@ -93,16 +102,16 @@ unnamed = record { len = 0; bytes = [] }
 
 -- the plans of an `@run`
 pub comes-drain : (w : World) (a : ℕ) → has_room w.events ≡ true → Comes w (drain_plan w.control a None)
-comes-drain w a room = record { turn = Drained w.control a; room = room; asked = Ok (Drain a None); case = λ line. Drains a None; first = λ k. refl; told = refl; other = refl }
+comes-drain w a room = record { turn = Drained w.control a; room = room; asked = Ok (Drain a None); asks = refl; case = λ line. Drains a None; first = λ k. refl; told = refl; other = refl; one = refl }
 
 pub comes-asking : (w : World) (s server : ℕ) → has_room w.events ≡ true → Comes w (asking w.control s server true)
 comes-asking w s server room = by (session_in w.control.sessions s) refl
   where
     by : (o : Option Session) → session_in w.control.sessions s ≡ o → Comes w (exchange_on w.control s (mirror_in o) server true (members_in o))
-    by None none = record { turn = Asked w.control s server None []; room = room; asked = Ok (Exchange s unnamed true); case = λ line. Says (Refused (OutOfOrder phase.None)) (refused-not _); first = λ k. refl; told = refl; other = refl }
+    by None none = record { turn = Asked w.control s server None []; room = room; asked = Ok (Exchange s unnamed true); asks = refl; case = λ line. Says (Refused (OutOfOrder phase.None)) (refused-not _) (λ one. refl); first = λ k. refl; told = refl; other = refl; one = refl }
     by (Some x) there =
         let plain : Plain (exchange_on w.control s x.mirror server true x.members) = plain-exchange w.control s server x.mirror x.members in
-        record { turn = Asked w.control s server x.mirror x.members; room = room; asked = Ok (Exchange s unnamed true); case = λ line. on-case w.control w.events line s server true x x.mirror there refl; first = plain.first; told = plain.told; other = refl }
+        record { turn = Asked w.control s server x.mirror x.members; room = room; asked = Ok (Exchange s unnamed true); asks = refl; case = λ line. on-case w.control w.events line s server true x x.mirror there refl; first = plain.first; told = plain.told; other = refl; one = refl }
 
 -- What holds of a way that has no plan, of one that has one plan, and of one that goes on, holds of the whole line.
 pub record Ways (P : World → Way → Type 0) : Type 0 where
@@ -199,7 +208,7 @@ compared-case w line asked v u = by (has_room w.events)
   where
     by : (room : Bool) → Case w.control w.events line asked (cond room (compare_plan w.control w.contents v u) (refuses JournalFull))
     by true = Compares w.contents v u
-    by false = Says _ (refused-not _)
+    by false = Says (Refused JournalFull) (refused-not _) (λ one. refl)
 
 -- an image, where the journal has room
 pub imaged-case : (w : World) (line : ℕ) (asked : Result Step ℕ) (vs : List Volume) → Ending w.control w.events line (imaged w vs)
@@ -207,30 +216,30 @@ imaged-case w line asked vs = by (has_room_for image_events w.events)
   where
     by : (room : Bool) → Ending w.control w.events line (cond room (image_plan vs) (refuses JournalFull))
     by true = Imaged vs
-    by false = OnePlan asked _ (Says _ (refused-not _))
+    by false = OnePlan asked _ (Says (Refused JournalFull) (refused-not _) (λ one. refl))
 
-formed-not : (s : ℕ) (ss : List Session) (r : Option Refusal) → NotHeld (form_answer s ss r)
+pub formed-not : (s : ℕ) (ss : List Session) (r : Option Refusal) → NotHeld (form_answer s ss r)
 formed-not s ss None = phase-not (session_in ss s)
 formed-not s ss (Some r) = refused-not r
 
 pub course-case : (w : World) (t : Task) → EndingOf t.line (course w t).last
-course-case w t = by (own_course t.asked)
+course-case w t = by (own_course t.asked) refl
   where
-    by : (o : Option OwnCourse) → EndingOf t.line (course_of w t o).last
-    by None = OnePlan t.asked _ (plan-case w.control w.events t.line t.asked)
-    by (Some (Groups s n)) = OnePlan t.asked _ (Says _ (formed-not s _ _))
-    by (Some (Volumes v u)) = OnePlan t.asked _ (compared-case w t.line t.asked v u)
-    by (Some Devices) = imaged-case w t.line t.asked t.listed
+    by : (o : Option OwnCourse) → own_course t.asked ≡ o → EndingOf t.line (course_of w t o).last
+    by None is = OnePlan t.asked _ (plan-case w.control w.events t.line t.asked)
+    by (Some (Groups s n)) is = OnePlan t.asked _ (Says _ (formed-not s _ _) (λ one. none_some one is))
+    by (Some (Volumes v u)) is = OnePlan t.asked _ (compared-case w t.line t.asked v u)
+    by (Some Devices) is = imaged-case w t.line t.asked t.listed
 
 -- a step that is no image ends in a plan of the step table
 pub plain-case : (w : World) (t : Task) → (own_course t.asked ≡ Some Devices → ⊥) → let x : Part = (course w t).last in Case x.world.control x.world.events t.line t.asked x.plan
-plain-case w t = by (own_course t.asked)
+plain-case w t = by (own_course t.asked) refl
   where
-    by : (o : Option OwnCourse) → (o ≡ Some Devices → ⊥) → let x : Part = (course_of w t o).last in Case x.world.control x.world.events t.line t.asked x.plan
-    by None other = plan-case w.control w.events t.line t.asked
-    by (Some (Groups s n)) other = Says _ (formed-not s _ _)
-    by (Some (Volumes v u)) other = compared-case w t.line t.asked v u
-    by (Some Devices) other = absurd (other refl)
+    by : (o : Option OwnCourse) → own_course t.asked ≡ o → (o ≡ Some Devices → ⊥) → let x : Part = (course_of w t o).last in Case x.world.control x.world.events t.line t.asked x.plan
+    by None is other = plan-case w.control w.events t.line t.asked
+    by (Some (Groups s n)) is other = Says _ (formed-not s _ _) (λ one. none_some one is)
+    by (Some (Volumes v u)) is other = compared-case w t.line t.asked v u
+    by (Some Devices) is other = absurd (other refl)
 
 in-either : {A : Type 0} (x y : A) (xs : List A) → In x (xs ++ y ∷ []) → In x xs ⊎ (x ≡ y)
 in-either x y [] (inl is) = inr is

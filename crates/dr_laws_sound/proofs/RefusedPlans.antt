@@ -35,7 +35,7 @@ use Rattle.dr_laws_sound.proofs.Cases.{Case, Says, DefinesServer, DefinesVolume,
 use Rattle.dr_laws_sound.proofs.Does.{Acts, Late, refuses_late}
 use Rattle.dr_laws_sound.proofs.DoesPlans.{Entered, case-does}
 use Rattle.dr_facts.proofs.Reasons.{NoStop}
-use Rattle.dr_facts.proofs.Entries.{anywhere}
+use Rattle.dr_facts.proofs.Entries.{any_world}
 use Rattle.dr_facts.proofs.SharedEntries.{start-fine}
 use Rattle.dr_logic.proofs.Truth.{false_true}
 use Rattle.dr_model.specs.declared.step.Step.{Step}
@@ -105,7 +105,7 @@ module _ (w : World) (asked : Result Step ℕ) (less : refuses_late asked ≡ fa
       ∙ begins
 
 pub case-still : (w : World) (line : ℕ) (asked : Result Step ℕ) (p : Plan) → Case w.control w.events line asked p → leaves_more asked ≡ false → Still w p
-case-still w line _ _ (Says a waits) less = still-says w a
+case-still w line _ _ (Says a waits why) less = still-says w a
 case-still w line _ _ (DefinesServer name free) less = never-refused w _ (λ k. refl) refl
 case-still w line _ _ (DefinesVolume v s tracks here free) less = never-refused w _ (λ k. refl) refl
 case-still w line _ _ (SetsLink a b up) less = never-refused w _ (λ k. refl) refl
@@ -116,7 +116,7 @@ case-still w line _ _ (Lists told ls few) less = never-refused w _ (λ k. refl) 
 case-still w line _ _ (Shows v t there) less = never-refused w _ (λ k. refl) refl
 case-still w line _ _ (Stops s on) less = never-refused w _ (λ k. refl) refl
 case-still w line _ _ (Arms writes torn s) less = never-refused w _ (λ k. refl) refl
-case-still w line _ _ (Starts s off) less = λ r refused. never-leads _ _ _ r (start-fine anywhere any_act never s w.control.volumes (λ v u any. tt) (λ v u any. tt) (λ n u any is. tt))
+case-still w line _ _ (Starts s off) less = λ r refused. never-leads _ _ _ r (start-fine any_world any_act never s w.control.volumes (λ v u any. tt) (λ v u any. tt) (λ n u any is. tt))
     (entries-refuse w (start_plan w.control s) r (λ j. acked-accepts (landed_on w.control s)) refused) refused.other
 case-still w line _ _ (MakesPath src tgt group) less = never-refused w _ (λ k. refl) refl
 case-still w line _ _ (RemovesPath src tgt) less = never-refused w _ (λ k. refl) refl

@@ -41,7 +41,7 @@ use Rattle.dr_laws_sound.specs.Stops.{refused_stop}
 use Rattle.dr_laws_sound.specs.RefusedSteps.{is_by_volume, is_off, with_issued, let_go, HasSent, HasCarriedOrder, HasOrdered, HasDelivered, NamedOrdered, Leaves}
 use Rattle.dr_laws_sound.proofs.ChecksFirst.{never, any_act, NeverRefuse, ChecksFirst, first-done, first-refuse, never-leads, blocks-leave}
 use Rattle.dr_model.specs.Pairs.{records}
-use Rattle.dr_facts.proofs.Entries.{anywhere, Fine, fine-none, fine-then, fine-one, fine-append, fine-if}
+use Rattle.dr_facts.proofs.Entries.{any_world, Fine, fine-none, fine-then, fine-one, fine-append, fine-if}
 use Rattle.dr_facts.proofs.SharedEntries.{where-fine, copies-fine, lands-fine, recover-fine}
 use Rattle.dr_laws_sound.proofs.RefusedPlans.{Refuses, entries-refuse, same-begun, still-says, never-refused, phase-accepts}
 use Rattle.dr_laws_sound.proofs.Cases.{taken}
@@ -114,7 +114,7 @@ module _ (k : Control) (n v t : ℕ) (w u : World) (r : Refusal) (other : refuse
   settled-left : carry w (check_or_drop n (is_settled v) (relation_state k v) ++ land_entries k n v t) ≡ (u, Some r) → Dropped w u n r
   settled-left leads = elim (drop-left w u n (is_settled v) (relation_state k v) r (land_entries k n v t) refl leads) [
     | inl a ↦ refused-place (relation_state k v) refl a.0 a.1
-    | inr b ↦ never-leads w u (land_entries k n v t) r (lands-fine anywhere any_act never (λ u t w any. tt) (λ u t w any. tt) k n v t (λ free. record { land = λ w any. tt; over = λ w any. tt; suspend = λ busy w any. tt; unsync = λ w any. tt; mirror = λ over w any. tt; both = λ w any. tt; store = λ met last w any. tt; strike = λ met last w any. tt })) b other
+    | inr b ↦ never-leads w u (land_entries k n v t) r (lands-fine any_world any_act never (λ u t w any. tt) (λ u t w any. tt) k n v t (λ free. record { land = λ w any. tt; over = λ w any. tt; suspend = λ busy w any. tt; unsync = λ w any. tt; mirror = λ over w any. tt; both = λ w any. tt; store = λ met last w any. tt; strike = λ met last w any. tt })) b other
   ]
 
   open-left : carry w (check_or_drop n (is_open v) (Inhibited (record { 0 = v })) ++ (check_or_drop n (is_settled v) (relation_state k v) ++ land_entries k n v t)) ≡ (u, Some r) → Dropped w u n r
@@ -235,10 +235,10 @@ module _ (volumes : List ℕ) (a b : ℕ) where
   one_sent t = refuse_if (send_refusal a b) ∷ refuse_if (flashed_refusal b) ∷ copy_first volumes b t ++ store_on a b t ∷ strike_on a t ∷ []
 
   one-never : (t : ℕ) → NeverRefuse (copy_first volumes b t ++ store_on a b t ∷ strike_on a t ∷ [])
-  one-never t = fine-append anywhere any_act never (copy_first volumes b t) _ (copies-fine anywhere any_act never (λ u t w any. tt) (λ u t w any. tt) volumes b t) (fine-then anywhere any_act never (store_on a b t) _ (λ w any. tt) (fine-one anywhere any_act never (strike_on a t) (λ w any. tt)))
+  one-never t = fine-append any_world any_act never (copy_first volumes b t) _ (copies-fine any_world any_act never (λ u t w any. tt) (λ u t w any. tt) volumes b t) (fine-then any_world any_act never (store_on a b t) _ (λ w any. tt) (fine-one any_world any_act never (strike_on a t) (λ w any. tt)))
 
   suspends-never : NeverRefuse suspends
-  suspends-never = fine-one anywhere any_act never (suspend_where (send_refusal a b) a) (where-fine anywhere any_act never (λ k. is_some (send_refusal a b k)) (Make (Suspend a false)) (λ w any so. tt))
+  suspends-never = fine-one any_world any_act never (suspend_where (send_refusal a b) a) (where-fine any_world any_act never (λ k. is_some (send_refusal a b k)) (Make (Suspend a false)) (λ w any so. tt))
 
   -- why the send of a track is refused
   abbrev why_not : Control → Option Refusal
@@ -315,11 +315,11 @@ drain-left w a most r refused =
 -- ---- orders
 
 -- an entry that refuses nothing
-first-last : (d : Entry) → ((w : World) → anywhere w → Fine anywhere any_act never w (d w.control)) → ChecksFirst (d ∷ [])
-first-last d goes = first-done (d ∷ []) (fine-one anywhere any_act never d goes)
+first-last : (d : Entry) → ((w : World) → any_world w → Fine any_world any_act never w (d w.control)) → ChecksFirst (d ∷ [])
+first-last d goes = first-done (d ∷ []) (fine-one any_world any_act never d goes)
 
-passes : (w : World) (b : Bool) (x y : Next) → Fine anywhere any_act never w x → Fine anywhere any_act never w y → Fine anywhere any_act never w (cond b x y)
-passes = fine-if anywhere any_act never
+passes : (w : World) (b : Bool) (x y : Next) → Fine any_world any_act never w x → Fine any_world any_act never w y → Fine any_world any_act never w (cond b x y)
+passes = fine-if any_world any_act never
 
 member-first : (work : phases.Work) (s n : ℕ) (m : Member) → ChecksFirst (member_entries work s n m)
 member-first phases.Hold s n m = first-refuse (hold_refusal m.a.0 m.b.0) _ (first-refuse (stale_refusal m.a.0 n) _ (first-last (hold_on s m.a.0 n) (λ w any. passes w (records n (fields_at w.control m.a.0)) Pass _ tt tt)))
@@ -329,7 +329,7 @@ member-first phases.Finish s n m = first-last (finish_on m.a.0 n) (λ w any. pas
 member-first phases.Flash s n m = first-refuse (send_refusal m.a.0 m.b.0) _ (first-refuse (flash_refusal m.b.0 m.c.0 n) _ (first-last (flash_on s m.a.0 m.b.0 m.c.0 n) (λ w any. passes w (is_flashed n (fields_at w.control m.c.0)) Pass _ tt tt)))
 member-first phases.Commit s n m = first-refuse (send_refusal m.a.0 m.b.0) _ (first-refuse (commit_refusal m.c.0 n) _ (first-last (commit_on s m.a.0 m.c.0 n) (λ w any. passes w (is_committed n (fields_at w.control m.c.0)) Pass _ tt tt)))
 member-first phases.Revert s n m = first-refuse (send_refusal m.a.0 m.b.0) _ (first-last (revert_on s m.a.0 m.c.0 n) (λ w any. passes w (is_flashed n (fields_at w.control m.c.0)) _ _ tt (passes w (nat_lt (fields_at w.control m.c.0).floor n) _ Pass tt tt)))
-member-first phases.Report s n m = first-refuse (reach_refusal m.a.0 m.b.0) [] (first-done [] (fine-none anywhere any_act never))
+member-first phases.Report s n m = first-refuse (reach_refusal m.a.0 m.b.0) [] (first-done [] (fine-none any_world any_act never))
 
 -- by the session that was looked up
 carried-left : (w u : World) (s server : ℕ) (order : phases.Order) (r : Refusal) (o : Option Session) → session_in w.control.sessions s ≡ o → carry w (order_entries order.work s order.number (members_on server (members_in o))) ≡ (u, Some r) → refused_stop (Some r) ≡ None
@@ -450,7 +450,7 @@ module _ (w : World) (s : ℕ) (r : Refusal) where
     done-left (u, None) leads e =
         subst (λ q. Leaves w (Ok (Recover s)) q u) (group-refuses (decided_in s w.control) (group_of (decided_in s u.control)) e)
         (ap (λ found. carry w (recover_entries s (decided_in s w.control) (members_in found))) here ∙ leads)
-    done-left (u, Some q) leads e = let is : q ≡ r = cc in never-leads w u p.entries q (recover-fine anywhere any_act never s (decided_in s w.control) x.members (λ m v any is. tt) (λ m here n v any. tt) (λ m here n v any. tt) (λ n v any. tt)) leads (ap (λ r. refused_stop (Some r)) is ∙ other)
+    done-left (u, Some q) leads e = let is : q ≡ r = cc in never-leads w u p.entries q (recover-fine any_world any_act never s (decided_in s w.control) x.members (λ m v any is. tt) (λ m here n v any. tt) (λ m here n v any. tt) (λ n v any. tt)) leads (ap (λ r. refused_stop (Some r)) is ∙ other)
 
     recovered-left : part_refusal w p ≡ Some r → Recovering (carried_out w p).0
     recovered-left e =

@@ -277,7 +277,7 @@ module _ (K : World → Type 0) (rider : Rider K) where
         by (inr busy) = subst (λ b. Posted i server o b K) (sym (busy-is r.master.phase busy)) (later busy (subst (λ b. Posted i server o b Sound) (busy-is r.master.phase busy) (sound-sent w s i server x r o posts)))
 
     case-rides : (asked : Result Step ℕ) (p : Plan) → Case w.control w.events line asked p → Carried p
-    case-rides _ _ (Says a waits) = tables same [] (always a) begins
+    case-rides _ _ (Says a waits why) = tables same [] (always a) begins
     case-rides _ _ (DefinesServer name free) = tables _ _ _ (event w _ (ServerDefined (length w.control.servers) name.len name.bytes) k refl (tt, tt) (tt, tt) (refl, tt) (histories-append w.events _) refl refl refl refl refl refl refl)
     case-rides _ _ (DefinesVolume v x tracks here free) = tables _ _ _ (rider.defines w s v x tracks here (is-new w.control v x tracks free).undefined k)
     case-rides _ _ (SetsLink a b up) = tables _ _ _ (silently w _ k refl refl refl refl refl refl refl refl)
@@ -341,7 +341,7 @@ module _ (K : World → Type 0) (rider : Rider K) where
     case-rides _ _ (Compares contents v u) = entries _ _ (along-compare w s contents v u)
     case-rides _ _ (Drains a most) =
         moves (drain_plan w.control a most) (record { ends = Sound; complete = λ v i. i; begins = sound-begun w s; entries = along-drain w s a most; follows = λ q v i. suspends-after a q v i; last = λ v i. i; turns = λ v i. regroups-same v.control.sessions; adds = λ v i. none-added v; goes = λ v i. goes-same v.control }) begins (λ v e k. k)
-    case-rides _ _ (Expires x on) = entries _ _ (lifts x w.control.volumes (as_begun w) (sound-begun w s) on)
+    case-rides _ _ (Expires x on) = entries _ _ (lifts x w.control.volumes (as_begun w) (sound-begun w s) on.1)
     case-rides _ _ (Freezes l m) = entries _ _ (freezes l m w.control.volumes (as_begun w) (sound-begun w s))
     case-rides _ _ (Unfreezes l m) = entries _ _ (thaws l m w.control.volumes (as_begun w) (sound-begun w s))
     case-rides _ _ (Releases l) = entries _ _ (releases l w.control.volumes (as_begun w) (sound-begun w s))

@@ -40,7 +40,7 @@ use Rattle.dr_model.specs.RecoveryPlans.{decided_in}
 use Rattle.dr_laws_sound.proofs.EntryLengths.{map-length, fetches-length, destage-length, landing-length, after_write-length, start-length, order-length, recover-length}
 use Rattle.dr_laws_sound.proofs.Does.{Does, Acts, Late, Withdraws, Reverses, GivesUp, Suspends, Lifts}
 use Rattle.dr_laws_sound.proofs.DoesPlans.{case-does}
-use Rattle.dr_facts.proofs.Entries.{anywhere, whatever, fine-one, fine-times, fine-found}
+use Rattle.dr_facts.proofs.Entries.{any_world, any_reason, fine-one, fine-times, fine-found}
 use Rattle.dr_facts.proofs.Reasons.{NoStop}
 use Rattle.dr_model.proofs.LawfulLemmas.{removed}
 use Rattle.dr_facts.proofs.Tracks.{empty_has}
@@ -158,8 +158,8 @@ module _ (w : World) (x : Sound w) (h : IsWithin w.control) where
   copy-costs : (n t : ℕ) → n ≤ most_tracks → (r : Bool) → (fields_at w.control t).reversing ≡ r
       → Costs 3585 (record w { events = w.events ++ [] }) (times n (cond r (give_back w.control.volumes (fields_at w.control t).source t) (fetch_next t ∷ [])))
   copy-costs n t le false is =
-      fine-costs (λ v a. tells v a ≤ 2) whatever whatever (λ v a le. le) (times n (fetch_next t ∷ [])) 3585 _
-      (fine-times anywhere (λ v a. tells v a ≤ 2) whatever n (fetch_next t ∷ []) (fine-one anywhere (λ v a. tells v a ≤ 2) whatever (fetch_next t) (λ v any. fine-found anywhere (λ v a. tells v a ≤ 2) whatever v (lowest_missing t v.control) (λ q. now (Fetch t q)) (λ q. omega arith))))
+      fine-costs (λ v a. tells v a ≤ 2) any_reason any_reason (λ v a le. le) (times n (fetch_next t ∷ [])) 3585 _
+      (fine-times any_world (λ v a. tells v a ≤ 2) any_reason n (fetch_next t ∷ []) (fine-one any_world (λ v a. tells v a ≤ 2) any_reason (fetch_next t) (λ v any. fine-found any_world (λ v a. tells v a ≤ 2) any_reason v (lowest_missing t v.control) (λ q. now (Fetch t q)) (λ q. omega arith))))
       (let e : length (times n (fetch_next t ∷ [])) ≡ n = fetches-length n t in omega arith)
   copy-costs n t le true is =
       let s : ℕ = (fields_at w.control t).source in
@@ -210,7 +210,7 @@ module _ (w : World) (x : Sound w) (h : IsWithin w.control) where
   pub case-spends : (line : ℕ) (asked : Result Step ℕ) (p : Plan) → Case w.control w.events line asked p → Spends w p
   case-spends line _ _ (Lists told ls few) = tables-spends _ _ told _ (few x.groups h.sessions h.volumes)
   case-spends line _ _ (Sends s server y r o posts) = let le : length (told_begun (is_idle r.master.phase) s o.number) ≤ 1 = posted (is_idle r.master.phase) s o.number in tables-spends _ _ _ _ (omega arith)
-  case-spends line _ _ (Says a waits) = tables-spends _ _ _ _ (omega arith)
+  case-spends line _ _ (Says a waits why) = tables-spends _ _ _ _ (omega arith)
   case-spends line _ _ (PausesMirror s on) = tables-spends _ _ _ _ (omega arith)
   case-spends line _ _ (Compares contents v u) = entries-spends _ _ 0 (costs-check 0 _ (is_defined v) _ _ (costs-check 0 _ (is_defined u) _ _ (costs-check 0 _ (is_running v) _ _ (costs-check 0 _ (is_running u) _ _
       (costs-check 0 _ (share_size v u) _ _ (costs-refused 0 _ (differs_at _) [] (costs-nil 0 _))))))) (omega arith)

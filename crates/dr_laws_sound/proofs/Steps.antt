@@ -121,7 +121,7 @@ module _ (w : World) (s : Sound w) (line : ℕ) where
   holds-lines told ls = holds-told w w.control.servers w.control.on w.control.fuse w.control.link w.control.paths told (Done Alone) s.housed s (lines-lists w.events told ls) ((lines-plain told ls).quiet _) (λ j h. h) same refl
 
   pub case-holds : (asked : Result Step ℕ) (p : Plan) → Case w.control w.events line asked p → StepHolds w p
-  case-holds _ _ (Says a waits) = holds-says w a s
+  case-holds _ _ (Says a waits why) = holds-says w a s
   case-holds _ _ (DefinesServer name free) =
       holds-event w (w.control.servers ++ name_bytes name ∷ []) w.control.on (ServerDefined (length w.control.servers) name.len name.bytes) _ (housed-server w.control (name_bytes name) (servers-left w.control (name_bytes name) free) s.housed) s refl tt (λ j h. h) (λ k. record k { servers = k.servers ++ name_bytes name ∷ [] }) refl
   case-holds _ _ (DefinesVolume v x tracks here free) = holds-tables w _ _ _ (sound-defined w s v x tracks here (is-new w.control v x tracks free).undefined)
@@ -154,7 +154,7 @@ module _ (w : World) (s : Sound w) (line : ℕ) where
   case-holds _ _ (FailsBack devs x y kind) = holds-failback w s devs x y kind
   case-holds _ _ (Compares contents v u) = holds-compare w s contents v u
   case-holds _ _ (Drains a most) = holds-drain w s a most
-  case-holds _ _ (Expires x on) = holds-expire x w s on
+  case-holds _ _ (Expires x on) = holds-expire x w s on.1
   case-holds _ _ (Freezes l m) = holds-freeze l m w s
   case-holds _ _ (Unfreezes l m) = holds-thaw l m w s
   case-holds _ _ (Releases l) = holds-release l w s

@@ -14,7 +14,7 @@ use Rattle.dr_model.specs.Carried.{begun}
 use Rattle.dr_model.specs.PlanParts.{Plan}
 use Rattle.dr_model.specs.Runs.{image_plan}
 use Rattle.dr_facts.proofs.Reasons.{NoStop}
-use Rattle.dr_facts.proofs.Entries.{anywhere, AllFine, FineThen, FineFrom, FromThen, from-none}
+use Rattle.dr_facts.proofs.Entries.{any_world, AllFine, FineThen, FineFrom, FromThen, from-none}
 use Rattle.dr_laws_sound.proofs.Does.{Acts, Late}
 use Rattle.dr_laws_sound.proofs.DoesPlans.{case-does}
 use Rattle.dr_laws_sound.proofs.Parts.{Ending, OnePlan, Imaged}
@@ -94,22 +94,22 @@ module _ (Ok : World → Act → Type 0) (First Why : Refusal → Type 0) (first
   end-tells : (w : World) (r : Refusal) → NoStop r → Tells w (w, Some r)
   end-tells w r other = record { events = []; told = sym (append-nil w.events); tells = sym (no-stop-refused r other) }
 
-  next-tells : (w : World) (x : Next) (next : World → Outcome) (more : Type 0) → FineThen anywhere Ok Why w x more → (more → (v : World) → Tells v (next v)) → Tells w (go w x next)
+  next-tells : (w : World) (x : Next) (next : World → Outcome) (more : Type 0) → FineThen any_world Ok Why w x more → (more → (v : World) → Tells v (next v)) → Tells w (go w x next)
   next-tells w Pass next more fine rest = rest fine w
   next-tells w (End r) next more fine rest = end-tells w r (why r fine)
   next-tells w (Do a) next more fine rest = continue-tells w (act w a) next (act-tells w a) (rest fine.1)
 
-  carry-tells : (w : World) (ds : List Entry) → AllFine anywhere Ok Why ds → Tells w (carry w ds)
+  carry-tells : (w : World) (ds : List Entry) → AllFine any_world Ok Why ds → Tells w (carry w ds)
   unfolding carry AllFine
   carry-tells w [] fine = record { events = []; told = sym (append-nil w.events); tells = refl }
-  carry-tells w (d ∷ ds) fine = next-tells w (d w.control) (λ v. carry v ds) (AllFine anywhere Ok Why ds) (fine w tt) (λ rest v. carry-tells v ds rest)
+  carry-tells w (d ∷ ds) fine = next-tells w (d w.control) (λ v. carry v ds) (AllFine any_world Ok Why ds) (fine w tt) (λ rest v. carry-tells v ds rest)
 
-  from-next : (w : World) (x : Next) (ds : List Entry) → FromThen anywhere Ok First Why w x (FineFrom anywhere Ok First Why w ds) (AllFine anywhere Ok Why ds) → (FineFrom anywhere Ok First Why w ds → Tells w (carry w ds)) → Tells w (go w x (λ v. carry v ds))
+  from-next : (w : World) (x : Next) (ds : List Entry) → FromThen any_world Ok First Why w x (FineFrom any_world Ok First Why w ds) (AllFine any_world Ok Why ds) → (FineFrom any_world Ok First Why w ds → Tells w (carry w ds)) → Tells w (go w x (λ v. carry v ds))
   from-next w Pass ds fine rest = rest fine
   from-next w (End r) ds fine rest = end-tells w r (first r fine)
   from-next w (Do a) ds fine rest = continue-tells w (act w a) (λ v. carry v ds) (act-tells w a) (λ v. carry-tells v ds fine.1)
 
-  pub from-tells : (w : World) (ds : List Entry) → FineFrom anywhere Ok First Why w ds → Tells w (carry w ds)
+  pub from-tells : (w : World) (ds : List Entry) → FineFrom any_world Ok First Why w ds → Tells w (carry w ds)
   unfolding carry FineFrom
   from-tells w [] fine = record { events = []; told = sym (append-nil w.events); tells = refl }
   from-tells w (d ∷ ds) fine = from-next w (d w.control) ds fine (from-tells w ds)
@@ -117,4 +117,4 @@ module _ (Ok : World → Act → Type 0) (First Why : Refusal → Type 0) (first
 -- the entries of each plan
 pub ending-tells : (w : World) (line : ℕ) (p : Plan) → Ending w.control w.events line p → Tells (begun w p) (carry (begun w p) p.entries)
 ending-tells w line _ (OnePlan asked p c) = from-tells (Acts w.control asked) NoStop (Late asked) (λ r e. e) (λ r late. late.why) (begun w p) p.entries (case-does w line asked p c).entries
-ending-tells w line _ (Imaged vs) = from-tells (λ u a. Unit {0}) NoStop NoStop (λ r e. e) (λ r e. e) (begun w (image_plan vs)) [] (from-none anywhere (λ u a. Unit {0}) NoStop NoStop _)
+ending-tells w line _ (Imaged vs) = from-tells (λ u a. Unit {0}) NoStop NoStop (λ r e. e) (λ r e. e) (begun w (image_plan vs)) [] (from-none any_world (λ u a. Unit {0}) NoStop NoStop _)

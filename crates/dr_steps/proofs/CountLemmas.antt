@@ -10,7 +10,7 @@ use Rattle.dr_model.specs.Messages.{Flight}
 use Rattle.dr_model.specs.PlanParts.{refuses}
 use Rattle.dr_model.specs.Plans.{Plan, plan_of, has_room}
 use Rattle.dr_model.specs.Runs.{after_plan}
-use Rattle.dr_laws_sound.proofs.Cases.{Case, plan-case}
+use Rattle.dr_laws_sound.proofs.Cases.{Case, of-case}
 use Rattle.dr_laws_sound.proofs.FlightCounts.{counted-carried}
 use Rattle.dr_laws_sound.proofs.Parts.{OnePlan}
 use Rattle.dr_steps.specs.Counts.{HasCounts}
@@ -37,6 +37,6 @@ pub behind-plan : (w u : World) (line : ℕ) (step : Step) → has_room w.events
 unfolding after_plan
 behind-plan w u line step room counted is =
     let p : Plan = plan_of w.control w.events line step in
-    let case : Case w.control w.events line p = subst (λ (b : Bool). Case w.control w.events line (cond b p (refuses JournalFull))) room (plan-case w.control w.events line (Ok step)) in
+    let case : Case w.control w.events line (Ok step) p = of-case w.control w.events line step in
     let few = with-room (length w.events) step_events most_events room in
-    subst (λ (v : World). HasCounts (length v.control.servers) v.control.flight) is (have (length w.events + 1) (length (after_plan w line p).control.servers) (after_plan w line p).control.flight (omega (arith, few)) (counted-carried w line p (OnePlan p case) counted))
+    subst (λ (v : World). HasCounts (length v.control.servers) v.control.flight) is (have (length w.events + 1) (length (after_plan w line p).control.servers) (after_plan w line p).control.flight (omega (arith, few)) (counted-carried w line p (OnePlan (Ok step) p case) counted))

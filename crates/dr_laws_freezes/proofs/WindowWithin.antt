@@ -1,5 +1,5 @@
 -- Within a host write one track of its volume may be out of sync; where a server stops then, that volume's server is off, or it is suspended.
-use Rattle.std.proofs.Common.{ℕ, ◌≡◌, inl, inr, refl, ap, sym, ◌∙◌, subst, Bool, true, false, cond, not, ◌&&◌, List, [], ◌∷◌, ◌++◌, map, Option, None}
+use Rattle.std.proofs.Common.{ℕ, ◌≡◌, inl, inr, refl, ap, sym, ◌∙◌, subst, Bool, true, false, cond, not, ◌&&◌, List, [], ◌∷◌, ◌++◌, map, Option, Some, None}
 use Rattle.std.proofs.lemmas.Bool.{and_parts, and_from}
 use Rattle.std.proofs.lemmas.Bool.Decides.{eqb_tells}
 use Rattle.std.specs.FinSet.{contains}
@@ -17,20 +17,19 @@ use Rattle.dr_model.specs.WriteEntries.{partner_of, is_grouped, part_running, pa
 use Rattle.dr_model.specs.Laws.{Sound}
 use Rattle.dr_model.specs.Allowed.{May, Runs}
 use Rattle.dr_facts.proofs.Tables.{IsOrNot, at_cases, at_part}
-use Rattle.dr_laws_sound.proofs.Turns.{next_of, carried_in, done, done_in_stop, not_done, server_at}
+use Rattle.dr_laws_sound.proofs.Turns.{next_of, carried_in, done, done_in_stop, not_done, server_at, after_act}
 use Rattle.dr_laws_sound.proofs.RowsAfter.{changed}
 use Rattle.dr_laws_sound.proofs.KeepsSound.{Along, Then, comes, keeps-sound}
 use Rattle.dr_laws_sound.proofs.FitsPairs.{row}
 use Rattle.dr_model.specs.PairEntries.{suspend_running, suspend_after}
 use Rattle.dr_laws_sound.proofs.FitsDrain.{suspends-after}
 use Rattle.dr_laws_sound.proofs.FitsWrites.{parts-after}
-use Rattle.dr_laws_freezes.proofs.Fair.{Fair as FairMove, tag_after, come}
+use Rattle.dr_laws_freezes.proofs.WindowMoves.{WindowMay, tag_after, come}
 use Rattle.dr_laws_freezes.proofs.Tidy.{is_synced, Unheld, unheld, Clean, Free, Fresh, Tidy, free-left, fresh-done, fresh-stop, fresh-told}
 use Rattle.dr_laws_freezes.proofs.Windows.{Good}
-use Rattle.dr_laws_freezes.proofs.Chains.{Fairly, fairly_next, fairly-entry, fairly-nil, StopFin, EndFin, good-none}
-use Rattle.dr_laws_freezes.proofs.FairPlans.{Between, next-easy}
-use Rattle.dr_laws_freezes.proofs.FairCases.{rows-between, answers-between}
-use Rattle.dr_laws_freezes.proofs.FairCopy.{fairly-check}
+use Rattle.dr_laws_freezes.proofs.Chains.{WindowAlong, window_next, window-entry, window-nil, StopFin, EndFin, good-none}
+use Rattle.dr_laws_freezes.proofs.WindowActs.{Between, window-act, window-check}
+use Rattle.dr_laws_freezes.proofs.WindowPlans.{rows-between, answers-between}
 use Rattle.dr_facts.proofs.Parts.{metro-part}
 use Rattle.dr_logic.proofs.Truth.{false_true}
 use Rattle.dr_logic.proofs.Tables.{at_same, off_later}
@@ -132,31 +131,31 @@ module _ (v t : ℕ) where
     off : (f : Option Fuse) → is_synced (fields_at (done w m f).control v) ≡ false
     off f = ap (λ (y : Volume). is_synced y.fields) (at_same w.control.volume v (row w m f)) ∙ and-false (is_metro (fields_at w.control v).primary)
 
-    parts-by : (c : Bool) → (is_part (fields_at w.control v).primary && is_running v w.control) ≡ c → Then w (cond c (Do (Make m)) Pass) (λ u. Along u []) → fairly_next End None w (cond c (Do (Make m)) Pass) (λ tag u. Fairly End tag u [])
+    parts-by : (c : Bool) → (is_part (fields_at w.control v).primary && is_running v w.control) ≡ c → Then w (cond c (Do (Make m)) Pass) (λ u. Along u []) → window_next End None w (cond c (Do (Make m)) Pass) (λ tag u. WindowAlong End tag u [])
     parts-by true is a = (
       (a.0, tt),
-      λ f. let b : Between (done w m f) = heal (done w m f) (within-done w m f k a.0 here) (λ runs h. false_true (off f) h) in fairly-nil End None (done w m f) (good-none (done w m f) b.sound.rows) b,
+      λ f. let b : Between (done w m f) = heal (done w m f) (within-done w m f k a.0 here) (λ runs h. false_true (off f) h) in window-nil End None (done w m f) (good-none (done w m f) b.sound.rows) b,
       (
         λ f. heal (done_in_stop w m f) (within-stop w m f k a.0 here) (λ runs h. false_true (off f) h),
         λ d f. heal (not_done w (server_at w v) f) (within-not w m f k a.0) (λ runs h. false_true (at_same w.control.on (server_at w v) false) runs),
       ),
     )
-    parts-by false is a = fairly-nil End None w (good-none w k.sound.rows)
+    parts-by false is a = window-nil End None w (good-none w k.sound.rows)
         (heal w k (λ runs h. false_true is (and_from _ _ (metro-part (fields_at w.control v).primary (and_parts (is_metro (fields_at w.control v).primary) _ h).0) runs)))
 
-    suspend-fairly : (d : Entry) → d w.control ≡ what → Along w (d ∷ []) → Fairly End None w (d ∷ [])
-    suspend-fairly d is al = fairly-entry End None w d [] what is (good-none w k.sound.rows) (parts-by _ refl (comes w d [] what is al))
+    window-suspend : (d : Entry) → d w.control ≡ what → Along w (d ∷ []) → WindowAlong End None w (d ∷ [])
+    window-suspend d is al = window-entry End None w d [] what is (good-none w k.sound.rows) (parts-by _ refl (comes w d [] what is al))
 
-  pub part-fairly : (w : World) (k : Within w) (s : ℕ) → Fairly (EndFin Between rows-between answers-between) None w (part_after v s)
-  part-fairly w k s = suspend-fairly w k (is_grouped w.control v (partner_of w.control v)) (part_running v) refl (parts-after v s w k.sound)
+  pub window-part : (w : World) (k : Within w) (s : ℕ) → WindowAlong (EndFin Between rows-between answers-between) None w (part_after v s)
+  window-part w k s = window-suspend w k (is_grouped w.control v (partner_of w.control v)) (part_running v) refl (parts-after v s w k.sound)
 
-  pub after-fairly : (w : World) (k : Within w) (s : ℕ) → Fairly (EndFin Between rows-between answers-between) None w (suspend_after v s)
-  after-fairly w k s = suspend-fairly w k false (suspend_running v) refl (suspends-after v s w k.sound)
+  pub window-after : (w : World) (k : Within w) (s : ℕ) → WindowAlong (EndFin Between rows-between answers-between) None w (suspend_after v s)
+  window-after w k s = window-suspend w k false (suspend_running v) refl (suspends-after v s w k.sound)
 
   -- a move within the write
-  pub within-fairly : (Fin : Option ℕ → World → Option Refusal → Type 0) → ((u : World) (s : ℕ) → Within u → StopFin Fin u s u) → (tag : Option ℕ) (w : World) → Within w → (d : Entry) (m : Move) (ds : List Entry) → d w.control ≡ Do (Make m) → Good tag w
-      → May w m → FairMove tag w m → Here w m → ((f : Option Fuse) → Within (done w m f) → Fairly Fin (tag_after m tag) (done w m f) ds) → Fairly Fin tag w (d ∷ ds)
-  within-fairly Fin stops tag w k d m ds is good may fair here go = fairly-entry Fin tag w d ds (Do (Make m)) is good (
+  pub window-within : (Fin : Option ℕ → World → Option Refusal → Type 0) → ((u : World) (s : ℕ) → Within u → StopFin Fin u s u) → (tag : Option ℕ) (w : World) → Within w → (d : Entry) (m : Move) (ds : List Entry) → d w.control ≡ Do (Make m) → Good tag w
+      → May w m → WindowMay tag w m → Here w m → ((f : Option Fuse) → Within (done w m f) → WindowAlong Fin (tag_after m tag) (done w m f) ds) → WindowAlong Fin tag w (d ∷ ds)
+  window-within Fin stops tag w k d m ds is good may fair here go = window-entry Fin tag w d ds (Do (Make m)) is good (
     (may, fair),
     λ f. go f (within-done w m f k may here),
     (
@@ -173,36 +172,35 @@ Keeps m = ⊥
 
 -- copy first, where K lasts over them
 module _ (Fin : Option ℕ → World → Option Refusal → Type 0) (tag : Option ℕ) (K : World → Type 0) (sound : (w : World) → K w → Sound w) (good : (w : World) → K w → Good tag w)
-    (move : (w : World) → K w → (d : Entry) (m : Move) (ds : List Entry) → Keeps m → d w.control ≡ Do (Make m) → May w m → ((f : Option Fuse) → K (done w m f) → Fairly Fin tag (done w m f) ds) → Fairly Fin tag w (d ∷ ds)) (b t : ℕ) where
-  pub copies-fairly : (xs : List ℕ) (es : List Entry) (w : World) → K w → Along w (map (keep_on b t) xs ++ es) → ((u : World) → K u → Along u es → Fairly Fin tag u es) → Fairly Fin tag w (map (keep_on b t) xs ++ es)
-  copies-fairly [] es w k al on = on w k al
-  copies-fairly (u ∷ us) es w k al on =
-      by (copies_from b (fields_at w.control u) && not (fields_at w.control u).reversing) (not (contains (fields_at w.control u).own t)) ((fields_at w.control u).recorded && not (contains (fields_at w.control u).source_changes t)) refl (λ v k al. copies-fairly us es v k al on)
+    (move : (w : World) → K w → (d : Entry) (m : Move) (ds : List Entry) → Keeps m → d w.control ≡ Do (Make m) → May w m → ((f : Option Fuse) → K (done w m f) → WindowAlong Fin tag (done w m f) ds) → WindowAlong Fin tag w (d ∷ ds)) (b t : ℕ) where
+  pub window-copies : (xs : List ℕ) (es : List Entry) (w : World) → K w → Along w (map (keep_on b t) xs ++ es) → ((u : World) → K u → Along u es → WindowAlong Fin tag u es) → WindowAlong Fin tag w (map (keep_on b t) xs ++ es)
+  window-copies [] es w k al on = on w k al
+  window-copies (u ∷ us) es w k al on =
+      by (copies_from b (fields_at w.control u) && not (fields_at w.control u).reversing) (not (contains (fields_at w.control u).own t)) ((fields_at w.control u).recorded && not (contains (fields_at w.control u).source_changes t)) refl (λ v k al. window-copies us es v k al on)
     where
       ds : List Entry
       ds = map (keep_on b t) us ++ es
 
-      by : (p c r : Bool) → keep_on b t u w.control ≡ cond p (cond c (Do (Make (Keep u t))) (cond r (Do (Make (Note u t))) Pass)) Pass → ((v : World) → K v → Along v ds → Fairly Fin tag v ds) → Fairly Fin tag w (keep_on b t u ∷ ds)
+      by : (p c r : Bool) → keep_on b t u w.control ≡ cond p (cond c (Do (Make (Keep u t))) (cond r (Do (Make (Note u t))) Pass)) Pass → ((v : World) → K v → Along v ds → WindowAlong Fin tag v ds) → WindowAlong Fin tag w (keep_on b t u ∷ ds)
       by true true r is rest =
           let one = comes w (keep_on b t u) ds (Do (Make (Keep u t))) is al in
           move w k (keep_on b t u) (Keep u t) ds tt is one.0 (λ f y. rest (done w (Keep u t) f) y (one.1 f (sound (done w (Keep u t) f) y)))
       by true false true is rest =
           let one = comes w (keep_on b t u) ds (Do (Make (Note u t))) is al in
           move w k (keep_on b t u) (Note u t) ds tt is one.0 (λ f y. rest (done w (Note u t) f) y (one.1 f (sound (done w (Note u t) f) y)))
-      by true false false is rest = fairly-entry Fin tag w (keep_on b t u) ds Pass is (good w k) (rest w k (comes w (keep_on b t u) ds Pass is al))
-      by false c r is rest = fairly-entry Fin tag w (keep_on b t u) ds Pass is (good w k) (rest w k (comes w (keep_on b t u) ds Pass is al))
+      by true false false is rest = window-entry Fin tag w (keep_on b t u) ds Pass is (good w k) (rest w k (comes w (keep_on b t u) ds Pass is al))
+      by false c r is rest = window-entry Fin tag w (keep_on b t u) ds Pass is (good w k) (rest w k (comes w (keep_on b t u) ds Pass is al))
 
 -- a check that drops the write where it doesn't pass: then the plan ends
-pub fairly-dropped : (Fin : Option ℕ → World → Option Refusal → Type 0) → ((w : World) (r : Option Refusal) → Between w → Fin None w r) → (w : World) → Between w → (n : ℕ) (ok : Control → Bool) (r : Refusal) (ds : List Entry)
-    → ((ps : List Pending) → ok (record w.control { pending = ps }) ≡ ok w.control) → Along w (check_or_drop n ok r ++ ds) → (ok w.control ≡ true → Along w ds → Fairly Fin None w ds) → Fairly Fin None w (check_or_drop n ok r ++ ds)
-fairly-dropped Fin fin w k n ok r ds same al go =
-    fairly-entry Fin None w (drop_unless n ok) more (cond (ok w.control) Pass (Do (Drop n))) refl (good-none w k.sound.rows) (by (ok w.control) refl (comes w (drop_unless n ok) more (cond (ok w.control) Pass (Do (Drop n))) refl al))
+pub window-dropped : (Fin : Option ℕ → World → Option Refusal → Type 0) → ((w : World) (r : Option Refusal) → Between w → Fin None w r) → (w : World) → Between w → (n : ℕ) (ok : Control → Bool) (r : Refusal) (ds : List Entry)
+    → ((ps : List Pending) → ok (record w.control { pending = ps }) ≡ ok w.control) → Along w (check_or_drop n ok r ++ ds) → (ok w.control ≡ true → Along w ds → WindowAlong Fin None w ds) → WindowAlong Fin None w (check_or_drop n ok r ++ ds)
+window-dropped Fin fin w k n ok r ds same al go =
+    window-entry Fin None w (drop_unless n ok) more (cond (ok w.control) Pass (Do (Drop n))) refl (good-none w k.sound.rows) (by (ok w.control) refl (comes w (drop_unless n ok) more (cond (ok w.control) Pass (Do (Drop n))) refl al))
   where
     more : List Entry
     more = check ok r ∷ ds
 
-    by : (b : Bool) → ok w.control ≡ b → Then w (cond b Pass (Do (Drop n))) (λ v. Along v more) → fairly_next Fin None w (cond b Pass (Do (Drop n))) (λ tag v. Fairly Fin tag v more)
-    by true is a = fairly-check Fin fin w k ok r ds a go
+    by : (b : Bool) → ok w.control ≡ b → Then w (cond b Pass (Do (Drop n))) (λ v. Along v more) → window_next Fin None w (cond b Pass (Do (Drop n))) (λ tag v. WindowAlong Fin tag v more)
+    by true is a = window-check Fin fin w k ok r ds a go
     by false is a =
-        next-easy Fin fin w (Do (Drop n)) (λ v. Along v more × (ok v.control ≡ false)) (λ tag v. Fairly Fin tag v more) (λ v k a. fairly-check Fin fin v k ok r ds a.0 (λ passed al. false_true a.1 passed)) k tt
-        (a.0, λ f s. (a.1 f s, same _ ∙ is))
+        window-act Fin (λ w r. fin w (Some r)) w (Drop n) (λ tag v. WindowAlong Fin tag v more) k a.0 tt (λ f b. window-check Fin fin (after_act w (Drop n) f) b ok r ds (a.1 f b.sound) (λ passed al. false_true (same _ ∙ is) passed))
