@@ -64,11 +64,8 @@ done-adds : (w : World) (a : Act) (f : Option Fuse) → length (after_act w a f)
 done-adds w (Make m) f = length-append w.events (told m (w.control.volume (target m)))
 done-adds w (OpenAttempt v s n) f = length-append w.events (told (Hold v s n true) (w.control.volume v))
 done-adds w (Redo v) f = omega arith
-done-adds w (Acknowledge n) f = length-append w.events _
 done-adds w (Drop n) f = omega arith
-done-adds w (EndFreeze l m) f = length-append w.events _
-done-adds w (EndThaw l m) f = length-append w.events _
-done-adds w (EndRecovery s n) f = length-append w.events _
+done-adds w a f = length-append w.events _
 
 stop-adds : (n : ℕ) (w : World) (m : Move) → length (told m (w.control.volume (target m))) ≤ n → let u : Volume = w.control.volume (target m) in length (w.events ++ (told_in_stop m u ++ Stopped u.server (landed m) ∷ [])) ≤ length w.events + n + 1
 stop-adds n w m le =
@@ -82,12 +79,7 @@ stop-adds n w m le =
 counts-adds : (n : ℕ) (w : World) (a : Act) (next : World → Outcome) → tells w a ≤ n → Counts w a (λ t. length (continue t.0 t.1 next).0.events ≤ length w.events + n + 1)
 counts-adds n w (Make m) next le = λ f. stop-adds n w m le
 counts-adds n w (OpenAttempt v s i) next le = λ f. stop-adds n w (Hold v s i true) le
-counts-adds n w (Redo v) next le = tt
-counts-adds n w (Acknowledge k) next le = tt
-counts-adds n w (Drop k) next le = tt
-counts-adds n w (EndFreeze l m) next le = tt
-counts-adds n w (EndThaw l m) next le = tt
-counts-adds n w (EndRecovery s i) next le = tt
+counts-adds n w a next le = tt
 
 go-adds : (n : ℕ) (w : World) (x : Next) (next : World → Outcome) (more : ℕ → World → Type 0) → ((m : ℕ) (v : World) → more m v → length (next v).0.events ≤ length v.events + m + 1) → costs_next n w x more
     → length (go w x next).0.events ≤ length w.events + n + 1

@@ -70,24 +70,24 @@ len-low (suc n) s low =
     either true e le = omega arith
     either false e le = omega arith
 
+-- what follows a stop tells three events at most
+abbrev FollowAdds : (ℕ → List Entry) → Type 0
+FollowAdds follows = (s : ℕ) (v : World) → length (carry v (follows s)).0.events ≤ length v.events + 3
+
 -- what a plan tells
 pub record Spends (w : World) (p : Plan) : Type 0 where
   pub spends : ℕ
   pub costs : Costs spends (begun w p) p.entries
-  pub after : ℕ
-  pub follows : (s : ℕ) (v : World) → length (carry v (p.follows s)).0.events ≤ length v.events + after
-  pub few : length p.told + spends + after + 2 ≤ step_events
+  pub follows : FollowAdds p.follows
+  pub few : length p.told + spends + 5 ≤ step_events
 
-follow-adds : (n : ℕ) (w : World) (r : Refusal) (follows : ℕ → List Entry) → ((s : ℕ) (v : World) → length (carry v (follows s)).0.events ≤ length v.events + n) → length (follow w r follows).events ≤ length w.events + n
-follow-adds n w (StoppedIn s) follows few = few s.0 w
-follow-adds n w r follows few = omega arith
-
-finish-adds : (n : ℕ) (p : Plan) (w : World) (r : Option Refusal) → ((s : ℕ) (v : World) → length (carry v (p.follows s)).0.events ≤ length v.events + n) → length (finish p w r).events ≤ length w.events + n
-finish-adds n p w None few = omega arith
-finish-adds n p w (Some r) few = follow-adds n w r p.follows few
+finish-adds : (p : Plan) (w : World) (r : Option Refusal) → FollowAdds p.follows → length (finish p w r).events ≤ length w.events + 3
+finish-adds p w None few = omega arith
+finish-adds p w (Some (StoppedIn s)) few = few s.0 w
+finish-adds p w (Some r) few = omega arith
 
 -- nothing follows
-none-adds : (s : ℕ) (v : World) → length (carry v []).0.events ≤ length v.events + 0
+none-adds : FollowAdds none_follow
 unfolding carry
 none-adds s v = omega arith
 
@@ -98,10 +98,9 @@ after_plan-adds w line p s =
     let n : ℕ = s.spends in
     let a : length o.0.events ≤ length (w.events ++ p.told) + n + 1 = carry-adds n (begun w p) p.entries s.costs in
     let b : length (w.events ++ p.told) ≡ length w.events + length p.told = length-append w.events p.told in
-    let m : ℕ = s.after in
-    let c : length (finish p o.0 o.1).events ≤ length o.0.events + m = finish-adds m p o.0 o.1 s.follows in
+    let c : length (finish p o.0 o.1).events ≤ length o.0.events + 3 = finish-adds p o.0 o.1 s.follows in
     let d : length (after_plan w line p).events ≡ length (finish p o.0 o.1).events + 1 = length-append (finish p o.0 o.1).events _ in
-    let few : length p.told + n + m + 2 ≤ step_events = s.few in omega arith
+    let few : length p.told + n + 5 ≤ step_events = s.few in omega arith
 
 -- without an answer it leaves room for one
 pub after_part-adds : (w : World) (p : Plan) → Spends w p → length (after_part w p).events + 1 ≤ length w.events + step_events
@@ -165,17 +164,17 @@ module _ (w : World) (x : Sound w) (h : IsWithin w.control) where
       let s : ℕ = (fields_at w.control t).source in
       rounds w.control.volumes t s n 3585 (record w { events = w.events ++ [] }) (omega arith) (record { reversing = is; small = h.tracks t; few = x.targets.few s })
 
-  entries-spends : (entries : List Entry) (said : Said) (n : ℕ) → Costs n (record w { events = w.events ++ [] }) entries → n + 2 ≤ step_events → Spends w (entries_plan entries said)
-  entries-spends entries said n c few = record { spends = n; costs = c; after = 0; follows = none-adds; few = omega arith }
+  entries-spends : (entries : List Entry) (said : Said) (n : ℕ) → Costs n (record w { events = w.events ++ [] }) entries → n + 5 ≤ step_events → Spends w (entries_plan entries said)
+  entries-spends entries said n c few = record { spends = n; costs = c; follows = none-adds; few = omega arith }
 
   tables-spends : (first last : Control → Control) (told : List Event) (says : Control → Said) → length told ≤ 256 → Spends w (record { first = first; told = told; entries = []; follows = none_follow; last = last; says = says })
-  tables-spends first last told says le = record { spends = 0; costs = costs-nil 0 _; after = 0; follows = none-adds; few = omega arith }
+  tables-spends first last told says le = record { spends = 0; costs = costs-nil 0 _; follows = none-adds; few = omega arith }
 
   module _ (line : ℕ) (asked : Result Step ℕ) (p : Plan) (case : Case w.control w.events line asked p) (other : tells_tracks asked ≡ false) where
     two : (v : World) (a : Act) → Acts w.control asked v a → tells v a ≤ 2
     two v a d = does-tells w.control asked v a other d
 
-    followed-adds : ((s : ℕ) → length (p.follows s) ≤ 1) → (s : ℕ) (v : World) → length (carry v (p.follows s)).0.events ≤ length v.events + 3
+    followed-adds : ((s : ℕ) → length (p.follows s) ≤ 1) → FollowAdds p.follows
     followed-adds one s v =
         let le : length (p.follows s) ≤ 1 = one s in
         let adds : length (carry v (p.follows s)).0.events ≤ length v.events + 2 + 1 = carry-adds 2 v (p.follows s) (fine-costs (Acts w.control asked) NoStop (Late asked) two (p.follows s) 2 v ((case-does w line asked p case).follows s) (omega arith)) in omega arith
@@ -185,7 +184,6 @@ module _ (w : World) (x : Sound w) (h : IsWithin w.control) where
     acts-spends told few one = record {
       spends = 512;
       costs = from-costs (Acts w.control asked) NoStop (Late asked) two p.entries 512 (begun w p) (case-does w line asked p case).entries (omega arith);
-      after = 3;
       follows = followed-adds one;
       few = omega arith;
     }
@@ -245,8 +243,7 @@ module _ (w : World) (x : Sound w) (h : IsWithin w.control) where
         spends = 3584;
         costs = costs-check 3584 _ (is_defined a) _ _ (costs-check 3584 _ (is_running a) _ _ (costs-check 3584 _ (is_copying a) _ _
             (sends-costs w.control.volumes f.primary_partner a ts 3584 (omega arith) _ (x.targets.few f.primary_partner))));
-        after = 3;
-        follows = followed-adds line _ _ (Drains a most) refl (λ s. omega arith);
+          follows = followed-adds line _ _ (Drains a most) refl (λ s. omega arith);
         few = omega arith;
       }
   case-spends line asked _ (Expires s on) = acts-spends line asked _ (Expires s on) refl (omega arith) (let e = length-map w.control.volumes (lift_on s) in let le = h.volumes in omega arith) (λ q. omega arith)
