@@ -70,10 +70,10 @@ module _ (k : Control) (few : length k.volumes ≤ 64) (n v t : ℕ) where
   landing-length =
       let a : length (land_alone k.volumes n v t) ≤ 65 = alone-length in
       let le : length (land_entries k n v t) ≤ 132 =
-          choice-length 132 (held (fields_at k v)) [] _ (omega arith)
-          (choice-length 132 (goes_over (fields_at k v) t) (land_over k n v t) _
-          (choice-length 132 (is_parted k v) (land_parted k n v t) (land_mirrored k.volumes n v t (partner_of k v)) parted-length (mirrored-length (partner_of k v)))
-          (choice-length 132 (collides (fields_at k v) t) (land_collided k n v t) (land_alone k.volumes n v t) (collided-length (partner_of k v)) (omega arith))) in omega arith
+      choice-length 132 (held (fields_at k v)) [] _ (omega arith)
+      (choice-length 132 (goes_over (fields_at k v) t) (land_over k n v t) _
+      (choice-length 132 (is_parted k v) (land_parted k n v t) (land_mirrored k.volumes n v t (partner_of k v)) parted-length (mirrored-length (partner_of k v)))
+      (choice-length 132 (collides (fields_at k v) t) (land_collided k n v t) (land_alone k.volumes n v t) (collided-length (partner_of k v)) (omega arith))) in omega arith
 
 pub after_write-length : (k : Control) (v t s : ℕ) → length (after_write k v t s) ≤ 1
 after_write-length k v t s = choice-length 1 (collides (fields_at k v) t) _ _ (omega arith) (omega arith)

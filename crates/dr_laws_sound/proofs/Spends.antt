@@ -243,7 +243,7 @@ module _ (w : World) (x : Sound w) (h : IsWithin w.control) where
         spends = 3584;
         costs = costs-check 3584 _ (is_defined a) _ _ (costs-check 3584 _ (is_running a) _ _ (costs-check 3584 _ (is_copying a) _ _
             (sends-costs w.control.volumes f.primary_partner a ts 3584 (omega arith) _ (x.targets.few f.primary_partner))));
-          follows = followed-adds line _ _ (Drains a most) refl (λ s. omega arith);
+        follows = followed-adds line _ _ (Drains a most) refl (λ s. omega arith);
         few = omega arith;
       }
   case-spends line asked _ (Expires s on) = acts-spends line asked _ (Expires s on) refl (omega arith) (let e = length-map w.control.volumes (lift_on s) in let le = h.volumes in omega arith) (λ q. omega arith)
