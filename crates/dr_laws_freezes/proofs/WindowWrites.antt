@@ -3,7 +3,7 @@
 use Rattle.std.proofs.Common.{ℕ, ◌≡◌, ◌<◌, ◌+◌, inl, inr, refl, ap, sym, ◌∙◌, subst, Bool, true, false, cond, not, ◌&&◌, ◌||◌, List, [], ◌∷◌, ◌++◌, append_assoc, map, filter, Option, Some, None}
 use Rattle.std.specs.List.{find}
 use Rattle.std.specs.FinSet.{contains}
-use Rattle.std.proofs.lemmas.Bool.{and_parts, and_from, not-true, or_parts}
+use Rattle.std.proofs.lemmas.Bool.{and_parts, and_from, not-true}
 use Rattle.std.proofs.lemmas.Bool.Decides.{eqb_tells}
 use Rattle.dr_ids.specs.declared.refusal.Refusal.{Refusal}
 use Rattle.dr_ids.specs.declared.refusal.Refusal.TheVariants.{Stopped as StoppedIn}
@@ -26,7 +26,7 @@ use Rattle.dr_facts.proofs.Sets.{insert_other, not_removed}
 use Rattle.dr_laws_sound.proofs.Turns.{done, next_of}
 use Rattle.dr_laws_sound.proofs.KeepsSound.{Along, comes}
 use Rattle.dr_laws_sound.proofs.Issues.{issued, sound-issued, one-new}
-use Rattle.dr_laws_sound.proofs.Lands.{found-alone, waits}
+use Rattle.dr_laws_sound.proofs.Lands.{found-alone, waits, not-busy}
 use Rattle.dr_laws_sound.proofs.FitsFlash.{as_begun}
 use Rattle.dr_laws_sound.proofs.FitsPairs.{row, runs-done, part-same}
 use Rattle.dr_laws_sound.proofs.FitsWrites.{lands}
@@ -296,9 +296,9 @@ module _ (p : Pending) (Fin : Option ℕ → World → Option Refusal → Type 0
     window-ways true g c hs gs cs al = window-nil Fin None w (good-none w k.sound.rows) (fin w None k)
     window-ways false true c hs gs cs al =
         let both = and_parts (is_metro f.primary) _ gs in
-        over-by (or_parts f.coordination f.long_busy (or_parts (f.coordination || f.long_busy) f.flash_hold hs).0).1 (not-true (is_suspended f.primary_state) (and_parts (not (is_suspended f.primary_state)) _ both.1).0) (is_parted w.control v) al
+        over-by (not-busy f hs) (not-true (is_suspended f.primary_state) (and_parts (not (is_suspended f.primary_state)) _ both.1).0) (is_parted w.control v) al
     window-ways false false true hs gs cs al = collided (partner_of w.control v) w.control.volumes w k (and_parts (is_kind Global f.primary) _ cs).0 al
-    window-ways false false false hs gs cs al = alone w.control.volumes w k (not-synced gs, locked-busy f (or_parts f.coordination f.long_busy (or_parts (f.coordination || f.long_busy) f.flash_hold hs).0).1 (not-synced gs)) al
+    window-ways false false false hs gs cs al = alone w.control.volumes w k (not-synced gs, locked-busy f (not-busy f hs) (not-synced gs)) al
 
   pub window-landing : (w : World) → Between w → One w → WindowAlong Fin None w (landing w.control n v t)
   window-landing w k one =

@@ -27,7 +27,7 @@ use Rattle.dr_model.specs.declared.step.Step.TheVariants.{Server, Volume, Link, 
 use Rattle.dr_model.specs.Runs.{own_course}
 use Rattle.dr_facts.proofs.Reasons.{NoStop, NoneStops, names_no_stop, session-why, secondary-why, forbidden-why}
 use Rattle.dr_facts.proofs.Entries.{why-or}
-use Rattle.dr_laws_sound.proofs.PlanReasons.{name-why, off-why, outside-why, idle-why, busy-why, master-why, join-why, last-why, leave-why, make-why, drop-why, abort-why, track-why, issue-why, show-why, server-why, volume-why, copy-why, taken-why, phase-why, apart-why, full-why, old-why, exchange-why, place-why, untaken-why, named-why, path-why, unpath-why, thaw-why, release-why, freeze-why, listing-why}
+use Rattle.dr_laws_sound.proofs.PlanReasons.{name-why, off-why, outside-why, idle-why, busy-why, master-why, join-why, last-why, leave-why, make-why, drop-why, abort-why, track-why, issue-why, show-why, server-why, volume-why, copy-why, taken-why, phase-why, apart-why, full-why, old-why, exchange-why, place-why, untaken-why, named-why, path-why, unpath-why, thaw-why, release-why, freeze-why, listing-why, not-forbidden}
 use Rattle.dr_model.specs.MessagePlans.{full_refusal, is_awaited}
 use Rattle.dr_model.specs.Messages.{is_current}
 use Rattle.dr_model.specs.SessionPlans.{phase_refusal, apart_refusal}
@@ -386,17 +386,13 @@ module _ (k : Control) (events : List Event) (line : ℕ) where
 
   -- the member by whose target an attempt may be committed or reverted by hand
   module _ {step : Step} (lets : Decision → Bool) (b : ℕ) (hand : (s t : ℕ) (m : Member) → revertible_target k b ≡ Some t → m.c.0 ≡ t → lets (decided_in s k) ≡ true → ByHand k s m step) where
-    allowed : (c : Bool) (d : Decision) → forbidden_unless c d ≡ None → c ≡ true
-    allowed true d h = refl
-    allowed false d h = absurd cc
-
     settle-in : (s t : ℕ) (m : Member) (o : Option Session) → revertible_target k b ≡ Some t → m.c.0 ≡ t → session_in k.sessions s ≡ o → In m (members_in o) → settle_refusal lets (decided_in s k) (members_in o) k ≡ None
         → Is (Ok step) (entries_plan (settle_on s (decided_in s k) m ∷ []) (Done Alone))
     settle-in s t m None target own is here free = absurd here
     settle-in s t m (Some x) target own is here free =
         let rest = none-both (secondary_refusal x.members k) _ free in
         let last = none-both (untaken_refusal x.members k) (forbidden_unless (lets (decided_in s k)) (decided_in s k)) rest.1 in
-        Settles s x m is here rest.0 last.0 (hand s t m target own (allowed (lets (decided_in s k)) (decided_in s k) last.1))
+        Settles s x m is here rest.0 last.0 (hand s t m target own (not-forbidden (lets (decided_in s k)) (decided_in s k) last.1))
 
     settle-found : (s t : ℕ) (o : Option Member) → revertible_target k b ≡ Some t → find (λ m. m.c.0 == t) (members_in (session_in k.sessions s)) ≡ o → Is (Ok step) (settle_member k lets b s o)
     settle-found s t None target is = refused _ refl

@@ -37,7 +37,7 @@ use Rattle.dr_model.specs.SessionEntries.{members_on}
 use Rattle.dr_model.specs.Messages.{Message, Body, Asks, Replies, message_in, is_full, is_current, lost}
 use Rattle.dr_model.specs.MessagePlans.{with_flight, on_message, full_refusal, send_refusal, send_order, send_on, old_refusal, order_refusal, order_on, is_awaited, reply_refusal, reply_on, deliver_on}
 use Rattle.dr_model.specs.SessionPlans.{with_sessions, appointed, on_both, join_plan, leave_plan, mirror_plan, pause_mirror_plan, unmirror_plan, abort_plan, add_plan, expel_plan, exchange_plan, member_target, member_with, name_refusal, off_refusal, outside_refusal, master_refusal, place_refusal, taken_refusal, copy_refusal, add_target, add_to, expel_found, exchange_refusal, phase_refusal, apart_refusal, is_idle, exchange_done, exchange_on, order_of, mirror_phase, session_phase}
-use Rattle.dr_model.specs.RecoveryPlans.{recover_plan, settle_plan, secondary_refusal, untaken_refusal, settle_refusal, lets_commit, lets_revert, settle_member, settle_target, decided_in, group_of, says_group, member_of_target, revertible_target}
+use Rattle.dr_model.specs.RecoveryPlans.{recover_plan, settle_plan, secondary_refusal, untaken_refusal, settle_refusal, lets_commit, lets_revert, settle_member, settle_target, decided_in, forbidden_unless, group_of, says_group, member_of_target, revertible_target}
 use Rattle.dr_model.specs.WriteEntries.{says_written, waits}
 use Rattle.dr_model.specs.Listings.{listing_refusal}
 use Rattle.dr_model.specs.Plans.{Plan, tables_plan, plan, plan_of, has_room, unless, on_named, on_owner, on_session, server_named, server_refusal, volume_refusal, is_foreign, track_refusal, issue_refusal, show_refusal, apply_on, stop_on, start_on, expire_on, says_acked, landed_on, path_refusal, unpath_refusal, freeze_refusal, thaw_refusal, is_named, is_owner, name_bytes, owner_of, release_refusal, release_done}
@@ -167,3 +167,8 @@ module _ (k : Control) where
 
   pub listing-why : (dev : Option Name) (v : ℕ) → NoneStops (listing_refusal k dev v)
   listing-why dev v = why-if NoStop (not (is_volume k v)) _ _ refl (why-if NoStop (is_owner dev v k) None _ tt refl)
+
+-- what a decision lets be done
+pub not-forbidden : (b : Bool) (d : Decision) → forbidden_unless b d ≡ None → b ≡ true
+not-forbidden true d h = refl
+not-forbidden false d h = absurd cc
