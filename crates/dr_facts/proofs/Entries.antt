@@ -34,6 +34,10 @@ pub why-or : (Why : Refusal → Type 0) (x y : Option Refusal) → WhyNot Why x 
 why-or Why None y p q = q
 why-or Why (Some r) y p q = p
 
+pub why-any : (o : Option Refusal) → WhyNot any_reason o
+why-any None = tt
+why-any (Some r) = tt
+
 pub why-wider : (Why Much : Refusal → Type 0) → ((r : Refusal) → Why r → Much r) → (o : Option Refusal) → WhyNot Why o → WhyNot Much o
 why-wider Why Much wider None why = tt
 why-wider Why Much wider (Some r) why = wider r why

@@ -169,7 +169,7 @@ module _ (K : World → Type 0) (Ok : World → Act → Type 0) (Why : Refusal �
   -- the acts of an order of session s with number n to member m, and why it may be refused
   pub record OrderMay (s n : ℕ) (m : Member) : Type 0 where
     pub hold : May (Make (Hold m.a.0 s n false))
-    pub open_attempt : May (OpenAttempt m.a.0 s n)
+    pub open_attempt : (w : World) → K w → nat_lt (last_of w.control s) n ≡ true → Ok w (OpenAttempt m.a.0 s n)
     pub free : May (Make (Free m.a.0))
     pub seal : May (Make (Seal m.b.0 m.a.0 s n))
     pub finish : May (Make (Finish m.a.0 n))
@@ -191,11 +191,11 @@ module _ (K : World → Type 0) (Ok : World → Act → Type 0) (Why : Refusal �
   member-fine : (work : phases.Work) (s n : ℕ) (m : Member) → OrderMay s n m → OrderWhy n m → All (member_entries work s n m)
   member-fine phases.Hold s n m may why =
       fine-refuse K Ok Why (hold_refusal m.a.0 m.b.0) _ why.hold (fine-refuse K Ok Why (stale_refusal m.a.0 n) _ why.stale
-      (fine-one K Ok Why (hold_on s m.a.0 n) (λ w k. fine-if K Ok Why w (records n (fields_at w.control m.a.0)) Pass _ tt (by w k (nat_lt (last_of w.control s) n)))))
+      (fine-one K Ok Why (hold_on s m.a.0 n) (λ w k. fine-if K Ok Why w (records n (fields_at w.control m.a.0)) Pass _ tt (by w k (nat_lt (last_of w.control s) n) refl))))
     where
-      by : (w : World) → K w → (b : Bool) → Ok w (cond b (OpenAttempt m.a.0 s n) (Make (Hold m.a.0 s n false)))
-      by w k true = may.open_attempt w k
-      by w k false = may.hold w k
+      by : (w : World) → K w → (b : Bool) → nat_lt (last_of w.control s) n ≡ b → Ok w (cond b (OpenAttempt m.a.0 s n) (Make (Hold m.a.0 s n false)))
+      by w k true newer = may.open_attempt w k newer
+      by w k false older = may.hold w k
   member-fine phases.Release s n m may why = fine-refuse K Ok Why (void_refusal m.a.0 n) _ why.void (fine-one K Ok Why (free_on m.a.0) (where-fine (λ k. (fields_at k m.a.0).coordination) (Make (Free m.a.0)) (λ w h so. may.free w h)))
   member-fine phases.Seal s n m may why =
       fine-refuse K Ok Why (void_refusal m.a.0 n) _ why.void (fine-refuse K Ok Why (seal_refusal m.a.0 m.b.0) _ why.seal

@@ -111,7 +111,7 @@ module _ (k : Control) (asked : Result Step ℕ) where
   ordering so work s n ms is = order-fine any_world (Acts k asked) (Late asked) work s n ms
       (λ m here. let i = is m here in record {
         hold = λ u any. does.OrdersHold s m i n;
-        open_attempt = λ u any. does.OrdersAttempt s m i n;
+        open_attempt = λ u any newer. does.OrdersAttempt s m i n;
         free = λ u any. does.OrdersFree s m i;
         seal = λ u any. does.OrdersSeal s m i n;
         finish = λ u any. does.OrdersFinish s m i n;

@@ -16,8 +16,9 @@
 -- - parts of pairs fit, and a pair is equal outside what its primary records: fields `parts` and `pairs` of `SoundRows`,
 --   by `KeepsParts.antt`, `KeepsPairs.antt`; plans on pairs by `FitsPairs.antt` and `FitsFailover.antt`, host writes by `FitsWrites.antt`,
 --   freeze, thaw and expiry by `FitsHolds.antt` (`Steps.antt`)
--- - a step tells no more than it has room for: as many events as it has entries, or `Costs n w entries`, which counts what acts tell where they
---   come: `carry-adds`, `after_plan-adds` (`Costs.antt`, `PairCosts.antt`, `Spends.antt`)
+-- - a step tells no more than it has room for: `Costs n w entries` counts what acts tell where they come: `carry-adds`,
+--   `after_plan-adds` (`Costs.antt`, `CopyCosts.antt`, `PairCosts.antt`, `Spends.antt`); an act tells two events at most, but for
+--   those of steps that may tell of each track (`does-tells`), so most plans go by how many entries they have (`EntryLengths.antt`)
 -- - a step adds to the journal, its answer last: `after_task-ends`, `after_tasks-grows` (`Journal.antt`)
 -- - no more writes are issued than there are steps: `issued-run` (`Journal.antt`)
 -- - no count of the flight is above the number of events: `counted-run`, and of a plan before masters are lost `counted-plan`
@@ -131,8 +132,7 @@ pub mod FlightCounts
 pub mod Costs
 pub mod CopyCosts
 pub mod PairCosts
-pub mod WriteCosts
-pub mod SessionCosts
+pub mod EntryLengths
 pub mod Spends
 pub mod Limits
 pub mod Texts
