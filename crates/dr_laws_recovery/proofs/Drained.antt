@@ -30,10 +30,10 @@ use Rattle.dr_laws_sound.proofs.FitsFlash.{as_begun}
 use Rattle.dr_laws_sound.proofs.FitsPairs.{row, part-same}
 use Rattle.dr_laws_sound.proofs.Parts.{comes-drain}
 use Rattle.dr_laws_sound.proofs.Steps.{sound-part}
-use Rattle.dr_facts.proofs.Entries.{any_world, any_reason, fine-one, fine-flat, fine-check, fine-wider}
+use Rattle.dr_facts.proofs.Entries.{any_world, any_reason, why-any, fine-one, fine-flat, fine-check, fine-wider}
 use Rattle.dr_facts.proofs.SharedEntries.{where-fine, sends-fine}
 use Rattle.dr_laws_recovery.proofs.Emptied.{drain-empties}
-use Rattle.dr_laws_recovery.proofs.Went.{any-why, Each, each-refuse, carry-keeps, Split, carry-split, Went, part-went, goes-onward}
+use Rattle.dr_laws_recovery.proofs.Went.{Each, each-refuse, carry-keeps, Split, carry-split, Went, part-went, goes-onward}
 use Rattle.dr_model.proofs.LawfulLemmas.{removed}
 use Rattle.dr_facts.proofs.Parts.{global-part}
 use Rattle.dr_facts.proofs.Refusals.{met}
@@ -84,7 +84,7 @@ sessions-act ss w x f is old = absurd is
 fine-drain : (k : Control) (a : ℕ) → Each IsSend (drain_plan k a None).entries
 fine-drain k a =
     fine-check any_world IsSend any_reason (is_defined a) _ _ tt (fine-check any_world IsSend any_reason (is_running a) _ _ tt (fine-check any_world IsSend any_reason (is_copying a) _ _ tt
-    (sends-fine any_world IsSend any_reason (λ u t w any. tt) (λ u t w any. tt) k.volumes a (fields_at k a).primary_partner (λ w any. tt) (λ t last w any. tt) (λ t last w any. tt) (λ j. any-why (send_refusal _ _ j)) (λ j. any-why (flashed_refusal _ j)) _)))
+    (sends-fine any_world IsSend any_reason (λ u t w any. tt) (λ u t w any. tt) k.volumes a (fields_at k a).primary_partner (λ w any. tt) (λ t last w any. tt) (λ t last w any. tt) (λ j. why-any (send_refusal _ _ j)) (λ j. why-any (flashed_refusal _ j)) _)))
 
 -- What drains leave where none of them was refused: the sessions are as they were, who had nothing to send has nothing to send, and nor have those
 -- that were drained.

@@ -11,12 +11,11 @@ use Rattle.dr_model.specs.Entries.{is_running, is_settled, relation_state, pair_
 use Rattle.dr_model.specs.PairEntries.{refuse_if, reach_refusal, leads_to, may_take_over, leads_as, failover_entries, failback_entries, fall_back_on, yield_on}
 use Rattle.dr_model.specs.Plans.{entries_plan, is_defined, is_owner, found_volumes, yield_refusal, failover_plan, failback_plan}
 use Rattle.dr_model.specs.Laws.{Sound}
-use Rattle.dr_facts.proofs.Entries.{any_reason, Fine, AllFine, fine-none, fine-then, fine-check, fine-refuse}
+use Rattle.dr_facts.proofs.Entries.{any_reason, why-any, Fine, AllFine, fine-none, fine-then, fine-check, fine-refuse}
 use Rattle.dr_laws_sound.proofs.KeepsSound.{Along}
 use Rattle.dr_laws_sound.proofs.FitsFlash.{as_begun}
 use Rattle.dr_laws_sound.proofs.FitsFailover.{along-failover, along-failback}
 use Rattle.dr_laws_recovery.specs.Recovered.{KeepsRecovery}
-use Rattle.dr_laws_recovery.proofs.Went.{any-why}
 use Rattle.dr_laws_recovery.proofs.Keeping.{fit-along}
 use Rattle.dr_laws_recovery.proofs.Recovers.{Keeps, Fit, begins, plan-keeps}
 
@@ -32,7 +31,7 @@ module _ (w : World) (sound : Sound w) (s : ℕ) where
   checked ok r ds rest = fine-check (Keeps w s) Ok any_reason ok r ds tt rest
 
   refused : (why : Control → Option Refusal) (ds : List Entry) → All ds → All (refuse_if why ∷ ds)
-  refused why ds rest = fine-refuse (Keeps w s) Ok any_reason why ds (λ k. any-why (why k)) rest
+  refused why ds rest = fine-refuse (Keeps w s) Ok any_reason why ds (λ k. why-any (why k)) rest
 
   found : (devs : Devs) (a b : ℕ) (ds : List Entry) → All ds → All (found_volumes devs a b ++ ds)
   found devs a b ds rest = checked (is_defined a) _ _ (checked (is_defined b) _ _ (checked (is_owner devs.dev a) _ _ (checked (is_owner devs.remotedev b) _ _ rest)))

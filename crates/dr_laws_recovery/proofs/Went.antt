@@ -10,7 +10,7 @@ use Rattle.dr_model.specs.Plans.{Plan, same, has_room}
 use Rattle.dr_model.specs.Carried.{finish, carried_out, answered, masters_lost}
 use Rattle.dr_model.specs.Forming.{Part, Way, ends, goes_on, refusal_said, after_part, part_refusal, part}
 use Rattle.dr_model.proofs.CarryLemmas.{onward, carry-append}
-use Rattle.dr_facts.proofs.Entries.{any_world, any_reason, WhyNot, AllFine, FineThen, fine-refuse}
+use Rattle.dr_facts.proofs.Entries.{any_world, any_reason, why-any, AllFine, FineThen, fine-refuse}
 use Rattle.dr_laws_sound.proofs.Awaits.{none-refused}
 use Rattle.dr_laws_sound.proofs.FitsFlash.{as_begun}
 use Rattle.dr_laws_sound.proofs.ChecksFirst.{on-stays}
@@ -20,17 +20,13 @@ use Rattle.dr_logic.proofs.Options.{none_some}
 
 -- ---- what each act keeps
 
-pub any-why : (o : Option Refusal) → WhyNot any_reason o
-any-why None = tt
-any-why (Some r) = tt
-
 -- entries that come to such acts alone, wherever they come
 module _ (Ok : World → Act → Type 0) where
   abbrev pub Each : List Entry → Type 0
   Each = AllFine any_world Ok any_reason
 
   pub each-refuse : (why : Control → Option Refusal) (ds : List Entry) → Each ds → Each (refuse_if why ∷ ds)
-  each-refuse why ds rest = fine-refuse any_world Ok any_reason why ds (λ k. any-why (why k)) rest
+  each-refuse why ds rest = fine-refuse any_world Ok any_reason why ds (λ k. why-any (why k)) rest
 
   module _ (K : World → Type 0) (keeps : (w : World) (a : Act) (f : Option Fuse) → Ok w a → K w → K (after_act w a f)) where
     counts-refused : (w v : World) (a : Act) (rest : World → Outcome) → Counts w a (λ t. continue t.0 t.1 rest ≡ (v, None) → K v)
