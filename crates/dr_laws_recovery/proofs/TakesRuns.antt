@@ -175,8 +175,8 @@ module _ (w0 : World) (s n : ℕ) where
       let t = tables w.control w.events 0 asked p c turn in
       let keeps : (v : World) (a : Act) → any_world v → Acts w.control asked v a → OkBy KeepsPartner v a = λ v a any does. does-keep w.control asked v a does turn in
       let stands : Stands u.control = plan-from any_world (OkBy KeepsPartner) any_reason any_reason StandsIn (λ v k. tt) stands-act w p (t.first g.stands)
-          (from-wider any_world any_world (Acts w.control asked) (OkBy KeepsPartner) NoStop any_reason (Late asked) any_reason (λ v any. any) keeps (λ r why. tt) (λ r why. tt) p.entries (begun w p) tt e.entries)
-          (λ x. fine-wider any_world any_world (Acts w.control asked) (OkBy KeepsPartner) (Late asked) any_reason (λ v any. any) keeps (λ r why. tt) (p.follows x) (e.follows x)) (λ v k. t.last v.control k) in
+      (from-wider any_world any_world (Acts w.control asked) (OkBy KeepsPartner) NoStop any_reason (Late asked) any_reason (λ v any. any) keeps (λ r why. tt) (λ r why. tt) p.entries (begun w p) tt e.entries)
+      (λ x. fine-wider any_world any_world (Acts w.control asked) (OkBy KeepsPartner) (Late asked) any_reason (λ v any. any) keeps (λ r why. tt) (p.follows x) (e.follows x)) (λ v k. t.last v.control k) in
       record { told = told-on Q w0.events w.events u.events g.told (case-told w Q 0 asked p c to); stands = (stands.0, lost-members s w.control.on u.control.on u.control.sessions ∙ stands.1) }
 
   -- the secondary that a member's primary names may be taken from
