@@ -21,10 +21,10 @@ use Rattle.dr_ids.specs.declared.refusal.Which.TheVariants.{Groups}
 use Rattle.dr_model.specs.Refusals.{over}
 use Rattle.dr_model.specs.Limits.{most_groups, image_events}
 use Rattle.dr_model.specs.Control.{Control, World, nothing}
-use Rattle.dr_model.specs.Carry.{Next, Pass, Do, End, Entry, Outcome, act, carry, continue, go}
+use Rattle.dr_model.specs.Carry.{Outcome, carry}
 use Rattle.dr_model.specs.Groups.{In}
 use Rattle.dr_model.specs.PairEntries.{is_copying}
-use Rattle.dr_model.specs.Sessions.{Session, no_master, session_in, mirror_in, members_in}
+use Rattle.dr_model.specs.Sessions.{Session, no_master, session_in, members_in}
 use Rattle.dr_model.specs.SessionEntries.{members_on}
 use Rattle.dr_model.specs.SessionPlans.{asking, session_phase}
 use Rattle.dr_model.specs.Plans.{Plan, has_room, has_room_for, drain_plan, compare_plan, refuses}
@@ -36,7 +36,7 @@ use Rattle.dr_laws_sound.proofs.Parts.{comes-drain, comes-asking, course-case, C
 use Rattle.dr_laws_sound.proofs.Journal.{EndsAnswered, after_task-ends}
 use Rattle.dr_laws_images.specs.Unbuilt.{NoneUnbuilt}
 use Rattle.dr_laws_sound.proofs.Cases.{says_no_stop, plan-case}
-use Rattle.dr_laws_images.proofs.Built.{Answers, case-answers, phase-says}
+use Rattle.dr_laws_images.proofs.Built.{case-answers, phase-says}
 
 -- a refusal that doesn't say so
 abbrev is_built : Refusal → Bool

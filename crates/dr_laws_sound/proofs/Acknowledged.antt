@@ -18,13 +18,11 @@ use Rattle.dr_model.specs.Answers.{answer}
 use Rattle.dr_model.specs.Refusals.{unknown}
 use Rattle.dr_ids.specs.declared.refusal.Kind.TheVariants.{Write as OfWrite}
 use Rattle.dr_model.specs.Control.{Control, Fuse, Pending, Volume, World}
-use Rattle.dr_model.specs.Layout.{is_part}
-use Rattle.dr_model.specs.Pairs.{held, goes_over, collides, must_restart}
-use Rattle.dr_model.specs.Moves.{Move, Keep, Note, Land, Overwrite, Suspend, Unsync, Mirror, LandBoth, Restart, is_write, target}
-use Rattle.dr_model.specs.Carry.{Make, Redo, Acknowledge, Drop, act, acknowledged, dropped, Next, Pass, Do, End, Entry, Turn, Outcome, carry, continue, go, now, check, follow}
+use Rattle.dr_model.specs.Pairs.{held, goes_over, collides}
+use Rattle.dr_model.specs.Moves.{Move, Keep, Note, Land, Overwrite, Suspend, Unsync, Mirror, LandBoth, is_write, target}
+use Rattle.dr_model.specs.Carry.{Make, Acknowledge, Drop, act, acknowledged, dropped, Next, Pass, Do, End, Entry, Turn, Outcome, carry, continue, go, now, check, follow}
 use Rattle.dr_model.specs.Entries.{fields_at, copies_from, is_running, is_no_secondary, is_open, is_settled, relation_state, land_on, land_alone, copy_first, drop_unless, keep_on}
-use Rattle.dr_model.specs.PairEntries.{send_refusal, suspend_where, store_on, strike_on, suspend_after}
-use Rattle.dr_model.specs.WriteEntries.{partner_of, is_grouped, is_parted, land_mirrored, land_parted, land_entries, landing, send_first, sends_first, where_sent, waits, says_written, after_write, part_after, part_running, belongs, redo_on, restart_on, start_entries}
+use Rattle.dr_model.specs.WriteEntries.{partner_of, is_grouped, is_parted, land_mirrored, land_parted, land_entries, landing, send_first, waits, says_written, after_write, start_entries}
 use Rattle.dr_model.specs.PlanParts.{Plan, only_says, refuses, server_named, name_bytes}
 use Rattle.dr_model.specs.Plans.{plan, plan_of, has_room, has_room_for, issue_refusal, write_done, apply_done, apply_on, landed_on, acknowledge_if, acknowledge_on, says_acked, start_plan, start_on, compare_plan}
 use Rattle.dr_model.specs.Forming.{Part, formed, form_said}

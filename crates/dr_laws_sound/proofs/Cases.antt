@@ -27,7 +27,7 @@ use Rattle.dr_model.specs.declared.step.Step.TheVariants.{Server, Volume, Link, 
 use Rattle.dr_model.specs.Runs.{own_course}
 use Rattle.dr_facts.proofs.Reasons.{NoStop, NoneStops, names_no_stop, session-why, secondary-why, forbidden-why}
 use Rattle.dr_facts.proofs.Entries.{why-or}
-use Rattle.dr_laws_sound.proofs.PlanReasons.{name-why, off-why, outside-why, idle-why, busy-why, master-why, join-why, last-why, leave-why, make-why, drop-why, abort-why, track-why, issue-why, show-why, server-why, volume-why, copy-why, taken-why, phase-why, apart-why, full-why, old-why, exchange-why, place-why, untaken-why, named-why, path-why, unpath-why, thaw-why, release-why, freeze-why, listing-why, not-forbidden}
+use Rattle.dr_laws_sound.proofs.PlanReasons.{name-why, off-why, outside-why, busy-why, master-why, join-why, leave-why, make-why, drop-why, abort-why, issue-why, show-why, server-why, volume-why, copy-why, taken-why, phase-why, apart-why, full-why, old-why, exchange-why, place-why, untaken-why, path-why, unpath-why, thaw-why, release-why, freeze-why, listing-why, not-forbidden}
 use Rattle.dr_model.specs.MessagePlans.{full_refusal, is_awaited}
 use Rattle.dr_model.specs.Messages.{is_current}
 use Rattle.dr_model.specs.SessionPlans.{phase_refusal, apart_refusal}

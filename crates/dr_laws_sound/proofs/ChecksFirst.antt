@@ -1,13 +1,13 @@
 -- Entries of which checks come first: a refusal comes before anything was done. So a plan of such entries that is refused, but by the stop
 -- of a server, leaves the world as it was.
-use Rattle.std.proofs.Common.{ℕ, suc, ◌≡◌, ◌⊎◌, inl, inr, refl, ap, sym, ◌∙◌, take, drop, Bool, true, false, cond, List, [], ◌∷◌, Option, Some, None}
+use Rattle.std.proofs.Common.{ℕ, suc, ◌≡◌, ◌⊎◌, refl, ap, sym, ◌∙◌, take, drop, Bool, true, false, cond, List, [], ◌∷◌, Option, Some, None}
 use Rattle.std.specs.List.{flat_map}
 use Rattle.dr_ids.specs.declared.refusal.Refusal.{Refusal}
 use Rattle.dr_ids.specs.declared.refusal.Refusal.TheVariants.{Stopped as StoppedIn}
 use Rattle.dr_model.specs.Refusals.{stopped}
 use Rattle.dr_model.specs.Control.{Control, World, Fuse}
-use Rattle.dr_model.specs.Carry.{Act, Make, OpenAttempt, Redo, Acknowledge, Drop, EndFreeze, EndThaw, EndRecovery, act, Turn, Next, Pass, Do, End, Entry, Outcome, carry, continue, go, check, follow}
-use Rattle.dr_model.specs.PairEntries.{end_if, refuse_if}
+use Rattle.dr_model.specs.Carry.{Act, Make, OpenAttempt, Redo, Acknowledge, Drop, EndFreeze, EndThaw, EndRecovery, act, Turn, Next, Pass, Do, End, Entry, Outcome, carry, continue, go, follow}
+use Rattle.dr_model.specs.PairEntries.{refuse_if}
 use Rattle.dr_model.proofs.CarryLemmas.{onward, carry-none, carry-append}
 use Rattle.dr_laws_sound.specs.Stops.{refused_stop}
 use Rattle.dr_laws_sound.proofs.Turns.{Counts, after_act, act-cases}

@@ -6,7 +6,6 @@ use Rattle.std.specs.List.{find}
 use Rattle.std.specs.Option.{option_or}
 use Rattle.std.proofs.lemmas.Option.{same_Some}
 use Rattle.dr_ids.specs.declared.names.Member.{Member}
-use Rattle.dr_ids.specs.declared.refusal.Decision.{Decision}
 use Rattle.dr_ids.specs.declared.refusal.Decision.TheVariants.{CommitRest, RevertSome}
 use Rattle.dr_model.specs.Decisions.{Shown, Numbers, NoNumber, Same, Differ, numbers_in, first_and_other, revertibles, others, decided, decision}
 use Rattle.dr_model.specs.Control.{Control, World}

@@ -19,7 +19,7 @@ use Rattle.dr_model.specs.Groups.{In}
 use Rattle.dr_model.specs.Messages.{Message, message_in}
 use Rattle.dr_model.specs.Sessions.{session_in, members_in}
 use Rattle.dr_model.specs.Moves as moves
-use Rattle.dr_model.specs.Moves.{Move, is_write}
+use Rattle.dr_model.specs.Moves.{is_write}
 use Rattle.dr_model.specs.Carry.{Act, Make, OpenAttempt, Redo, Acknowledge, Drop, EndFreeze, EndThaw, EndRecovery}
 use Rattle.dr_model.specs.Entries.{fields_at}
 use Rattle.dr_model.specs.PairEntries.{stands_free, may_follow, may_take_over, leads_as, leads_to, unsent_by}

@@ -1,45 +1,40 @@
 -- Each step's entries, and those that follow a stop in it, come to the acts that it does; and they refuse for no reason that names a stop.
-use Rattle.std.proofs.Common.{ℕ, ◌≡◌, ◌+◌, ◌&&◌, inl, inr, refl, sym, subst, Bool, true, false, cond, not, List, [], ◌∷◌, ◌++◌, map, Option, Some, None, Result, Ok, Err}
+use Rattle.std.proofs.Common.{ℕ, ◌≡◌, ◌+◌, ◌&&◌, refl, sym, subst, Bool, true, false, cond, not, List, [], ◌∷◌, ◌++◌, map, Option, Some, None, Result, Ok, Err}
 use Rattle.std.proofs.lemmas.Bool.{and_parts}
 use Rattle.dr_logic.proofs.Truth.{false_true}
 use Rattle.std.specs.Prelude.{is_some}
 use Rattle.dr_ids.specs.declared.names.Member.{Member}
 use Rattle.dr_ids.specs.declared.refusal.Refusal.{Refusal}
-use Rattle.dr_ids.specs.declared.refusal.Decision.{Decision}
-use Rattle.dr_ids.specs.declared.refusal.Decision.TheVariants.{NoMember, Nothing, RevertAll, CommitRest, RevertSome, Impossible}
 use Rattle.dr_model.specs.declared.said.Said.{Said}
-use Rattle.dr_model.specs.declared.state.Part.{Part}
 use Rattle.dr_model.specs.declared.state.PairState.TheVariants.{Suspended as SuspendedState}
 use Rattle.dr_model.specs.declared.event.Event.{Event}
 use Rattle.dr_model.specs.declared.step.Devs.{Devs}
 use Rattle.dr_model.specs.declared.step.Name.{Name}
-use Rattle.dr_model.specs.declared.step.PairChoices.{PairChoices}
 use Rattle.dr_model.specs.declared.step.Step.{Step}
 use Rattle.dr_model.specs.declared.step.Step.TheVariants.{MakeFlash, RemovePair}
 use Rattle.dr_model.specs.Layout.{is_part}
-use Rattle.dr_model.specs.Control.{Control, Pending, World}
-use Rattle.dr_model.specs.Pairs.{held, goes_over, collides, first_state}
+use Rattle.dr_model.specs.Control.{Control, World}
+use Rattle.dr_model.specs.Pairs.{held, first_state}
 use Rattle.dr_model.specs.Groups.{In}
 use Rattle.dr_model.specs.Relations.{Choices}
 use Rattle.dr_model.specs.Phases as phases
-use Rattle.dr_model.specs.Sessions.{session_in, members_in}
+use Rattle.dr_model.specs.Sessions.{members_in}
 use Rattle.dr_model.specs.Moves as moves
-use Rattle.dr_model.specs.Carry.{Act, Make, Redo, Drop, EndRecovery, Entry, Next, Pass, Do, now, check}
+use Rattle.dr_model.specs.Carry.{Act, Make, Entry, Pass, Do, now, check}
 use Rattle.dr_model.specs.Carried.{begun}
 use Rattle.dr_model.specs.Entries.{check_or_drop, give_back, fetch_next, fields_at, is_running, share_size, is_no_target, is_no_secondary, is_open, is_settled, relation_state, pair_state, share_server}
-use Rattle.dr_model.specs.PairEntries.{refuse_if, reach_refusal, two_servers, may_follow, make_entries, leads_to, belongs_to, let_go, remove_both, may_pause, tell_paused, may_resume, follow_on, resume_on, may_take_over, leads_as, fall_back_on, yield_on, stands_free, differs_at, are_linked, is_copying, sends, tracks_to_send, first_differing, send_refusal}
+use Rattle.dr_model.specs.PairEntries.{refuse_if, reach_refusal, two_servers, may_follow, leads_to, belongs_to, let_go, remove_both, may_pause, tell_paused, may_resume, follow_on, resume_on, may_take_over, leads_as, fall_back_on, yield_on, stands_free, differs_at, are_linked, is_copying, sends, tracks_to_send}
 use Rattle.dr_model.specs.WriteEntries.{partner_of, after_write, landing, land_entries, is_between, freeze_on, end_freeze, thaw_on, end_thaw, is_held_in, flash_free_on, belongs, lift_on}
 use Rattle.dr_model.specs.SessionEntries.{members_on, is_on, order_entries, first_number}
 use Rattle.dr_model.specs.SessionPlans.{member_with}
 use Rattle.dr_model.specs.RecoveryPlans.{decided_in, lets_commit, settle_on}
-use Rattle.dr_model.specs.Plans.{Plan, entries_plan, same, none_follow, is_defined, is_owner, found_pair, found_volumes, differ, is_no_source, has_few_targets, counted_refusal, is_plain_target, is_recorded_target, restore_refusal, is_lone_restore, may_return, left_by, may_copy, may_give_back, at_most, left_to_copy, member_refusal, yield_refusal, compare_entries, hold_first, redo_now}
-use Rattle.dr_facts.proofs.Entries.{any_world, WhyNot, why-wider, AllFine, fine-none, fine-then, fine-one, fine-now, fine-append, fine-map, fine-times, fine-drop, Fine, FineFrom, from-none, from-check, from-refuse, from-all}
-use Rattle.dr_facts.proofs.SharedEntries.{where-fine, last-move, after-fine, after_write-fine, hold-fine, destage-fine, start-fine, copied-fine, sends-fine, WriteMay, lands-fine, OrderMay, OrderWhy, order-fine, add-fine, settle-fine, recover-fine}
+use Rattle.dr_model.specs.Plans.{Plan, entries_plan, none_follow, is_defined, is_owner, found_pair, found_volumes, differ, is_no_source, has_few_targets, counted_refusal, is_plain_target, is_recorded_target, restore_refusal, is_lone_restore, may_return, left_by, may_copy, may_give_back, at_most, left_to_copy, member_refusal, yield_refusal, hold_first}
+use Rattle.dr_facts.proofs.Entries.{any_world, WhyNot, why-wider, AllFine, fine-none, fine-then, fine-now, fine-append, fine-map, fine-times, fine-drop, Fine, FineFrom, from-none, from-check, from-refuse, from-all}
+use Rattle.dr_facts.proofs.SharedEntries.{where-fine, after-fine, after_write-fine, hold-fine, destage-fine, start-fine, copied-fine, sends-fine, lands-fine, order-fine, add-fine, settle-fine, recover-fine}
 use Rattle.dr_facts.proofs.Reasons.{NoStop, NoneStops, reach-why, send-why, member-why, hold-why, seal-why, flashed-why, differs-why, void-why, stale-why, flash-why, commit-why, counted-why, restore-why, yield-why}
 use Rattle.dr_laws_sound.proofs.Cases.{Case, Says, DefinesServer, DefinesVolume, SetsLink, Issues, Writes, Applies, Lists, Shows, Stops, Arms, Starts, MakesFlash, RemovesFlash, ResyncsFlash, ReversesFlash, Copies, Destages, MakesPath, RemovesPath, MakesPair, RemovesPair, PausesPair, ResumesPair, FailsOver, FailsBack, Compares, Drains, Expires, Freezes, Unfreezes, Releases, MakesSession, RemovesSession, MakesMirror, PausesMirror, RemovesMirror, Aborts, AddsMember, RemovesMember, Exchanges, Sends, Delivers, TakesReply, Loses, Recovers, Settles, Commits, Reverts, ByHand}
 use Rattle.dr_laws_sound.proofs.Does as does
 use Rattle.dr_laws_sound.proofs.Does.{IsWrite, Issued, Found, IsSend, Drained, Collided, IsOrder, Exchanged, Delivered, Does, Acts, Late, refuses_late}
-use Rattle.dr_laws_sound.proofs.Listed.{AllLines}
 use Rattle.dr_facts.proofs.Lists.{from-filter}
 
 -- what a plan that was asked for comes to

@@ -2,7 +2,6 @@
 use Rattle.std.proofs.Common.{ℕ, ◌≡◌, refl, Bool, true, false, cond, not, ◌&&◌, ◌||◌, nat_eq, nat_lt, nat_le, List, [], Option, Some, None, Result, Ok, Err}
 use Rattle.std.specs.Prelude.{length, is_some, option_map, ◌+◌, ◌==◌}
 use Rattle.std.specs.List.{find, list_any}
-use Rattle.std.specs.Option.{option_or}
 use Rattle.dr_ids.specs.Paths.{path_in}
 use Rattle.dr_ids.specs.declared.names.Member.{Member}
 use Rattle.dr_ids.specs.declared.refusal.Decision.{Decision}
@@ -10,37 +9,27 @@ use Rattle.dr_ids.specs.declared.refusal.PhaseName.{PhaseName}
 use Rattle.dr_ids.specs.declared.refusal.PhaseName.TheVariants as phase
 use Rattle.dr_ids.specs.declared.refusal.Refusal.{Refusal}
 use Rattle.dr_ids.specs.declared.refusal.Refusal.TheVariants.{OutOfOrder, OldMessage}
-use Rattle.dr_facts.proofs.Reasons.{NoStop, NoneStops, names_no_stop, session-why, send-why, secondary-why, forbidden-why}
+use Rattle.dr_facts.proofs.Reasons.{NoStop, NoneStops, session-why, send-why}
 use Rattle.dr_facts.proofs.Entries.{why-if, why-or}
-use Rattle.dr_model.specs.declared.event.Event.{Event}
-use Rattle.dr_model.specs.declared.said.Said.{Said}
-use Rattle.dr_model.specs.declared.said.Said.TheVariants.{Done, Refused, Held}
-use Rattle.dr_model.specs.declared.said.Addition.TheVariants.{Alone}
-use Rattle.dr_model.specs.declared.said.Addition.TheVariants.{Wrote}
 use Rattle.dr_model.specs.declared.state.Part.TheVariants.{Global}
 use Rattle.dr_model.specs.declared.step.Name.{Name}
 use Rattle.dr_model.specs.declared.step.Devs.{Devs}
-use Rattle.dr_model.specs.declared.step.Step.{Step}
-use Rattle.dr_model.specs.declared.step.Step.TheVariants.{Server, Volume, Link, Stop, StopAfter, Start, Issue, Write, Apply, Show, MakeFlash, RemoveFlash, ResyncFlash, ReverseFlash, Copy, Destage, MakePath, RemovePath, MakePair, RemovePair, PausePair, ResumePair, Failover, Failback, Drain, Expire, Freeze, Unfreeze, MakeSession, RemoveSession, AddMember, RemoveMember, MakeMirror, PauseMirror, ResumeMirror, RemoveMirror, Abort, Exchange, Send, Deliver, Lose, Recover, CommitFlash, RevertFlash, ListPairs, ListFlashes, ListSession, ShowMirror, UnfreezeFlash}
 use Rattle.dr_model.specs.Layout.{is_part}
 use Rattle.dr_model.specs.Limits.{most_servers, most_volumes, most_tracks, most_pending}
 use Rattle.dr_model.specs.Refusals.{server_off, unknown}
 use Rattle.dr_ids.specs.declared.refusal.Kind.TheVariants.{Server as OfServer}
-use Rattle.dr_model.specs.Control.{Control, Pending, is_volume}
+use Rattle.dr_model.specs.Control.{Control, is_volume}
 use Rattle.dr_model.specs.Entries.{first_of, subsystem, fields_at, is_running, pair_state}
-use Rattle.dr_model.specs.Moves.{is_write}
 use Rattle.dr_model.specs.PairEntries.{link_down, first_active}
 use Rattle.dr_model.specs.Pairs.{is_kind}
 use Rattle.dr_model.specs.Phases as phases
-use Rattle.dr_model.specs.Sessions.{Session, Mirror, members_in, changed, paused, unmirrored, session_in, in_session, is_member, has_subsystem, has_member_in, is_only, has_place_of, formation, unless_idle, busy, join_refusal, leave_refusal, last_refusal, make_refusal, drop_refusal, abort_refusal}
-use Rattle.dr_model.specs.SessionEntries.{members_on}
-use Rattle.dr_model.specs.Messages.{Message, Body, Asks, Replies, message_in, is_full, is_current, lost}
-use Rattle.dr_model.specs.MessagePlans.{with_flight, on_message, full_refusal, send_refusal, send_order, send_on, old_refusal, order_refusal, order_on, is_awaited, reply_refusal, reply_on, deliver_on}
-use Rattle.dr_model.specs.SessionPlans.{with_sessions, appointed, on_both, join_plan, leave_plan, mirror_plan, pause_mirror_plan, unmirror_plan, abort_plan, add_plan, expel_plan, exchange_plan, member_target, member_with, name_refusal, off_refusal, outside_refusal, master_refusal, place_refusal, taken_refusal, copy_refusal, add_target, add_to, expel_found, exchange_refusal, phase_refusal, apart_refusal, is_idle, exchange_done, exchange_on, order_of, mirror_phase, session_phase}
-use Rattle.dr_model.specs.RecoveryPlans.{recover_plan, settle_plan, secondary_refusal, untaken_refusal, settle_refusal, lets_commit, lets_revert, settle_member, settle_target, decided_in, forbidden_unless, group_of, says_group, member_of_target, revertible_target}
-use Rattle.dr_model.specs.WriteEntries.{says_written, waits}
+use Rattle.dr_model.specs.Sessions.{Session, Mirror, paused, in_session, is_member, has_subsystem, has_member_in, is_only, formation, unless_idle, busy, join_refusal, leave_refusal, last_refusal, make_refusal, drop_refusal, abort_refusal}
+use Rattle.dr_model.specs.Messages.{Message, is_full}
+use Rattle.dr_model.specs.MessagePlans.{full_refusal, old_refusal}
+use Rattle.dr_model.specs.SessionPlans.{name_refusal, off_refusal, outside_refusal, master_refusal, place_refusal, taken_refusal, copy_refusal, exchange_refusal, phase_refusal, apart_refusal, is_idle}
+use Rattle.dr_model.specs.RecoveryPlans.{untaken_refusal, forbidden_unless}
 use Rattle.dr_model.specs.Listings.{listing_refusal}
-use Rattle.dr_model.specs.Plans.{Plan, tables_plan, plan, plan_of, has_room, unless, on_named, on_owner, on_session, server_named, server_refusal, volume_refusal, is_foreign, track_refusal, issue_refusal, show_refusal, apply_on, stop_on, start_on, expire_on, says_acked, landed_on, path_refusal, unpath_refusal, freeze_refusal, thaw_refusal, is_named, is_owner, name_bytes, owner_of, release_refusal, release_done}
+use Rattle.dr_model.specs.Plans.{server_named, server_refusal, volume_refusal, is_foreign, track_refusal, issue_refusal, show_refusal, path_refusal, unpath_refusal, freeze_refusal, thaw_refusal, is_named, is_owner, release_refusal}
 
 module _ (k : Control) where
   pub name-why : (dev : Option Name) (owner : ℕ) → NoneStops (name_refusal k dev owner)

@@ -3,28 +3,13 @@
 use Rattle.std.proofs.Common.{ℕ, ◌≡◌, refl, ap, sym, ◌∙◌, Bool, true, false, List, [], ◌∷◌, ◌++◌, Option, Some, None, Result, Ok, Err}
 use Rattle.dr_model.specs.Plans.{start_plan, landed_on, says_acked}
 use Rattle.dr_model.specs.Sessions.{session_in}
-use Rattle.std.specs.Prelude.{is_some}
 use Rattle.std.proofs.lemmas.List.{append-nil}
 use Rattle.dr_ids.specs.declared.refusal.Refusal.{Refusal}
-use Rattle.dr_model.specs.declared.event.Event.{Event}
 use Rattle.dr_model.specs.declared.said.Said.{Said}
-use Rattle.dr_model.specs.declared.said.Said.TheVariants.{Done, Refused}
-use Rattle.dr_model.specs.declared.said.Addition.{Addition}
-use Rattle.dr_model.specs.declared.state.Part.{Part}
-use Rattle.dr_model.specs.declared.state.PairState.TheVariants.{Suspended as SuspendedState}
-use Rattle.dr_model.specs.declared.step.Devs.{Devs}
-use Rattle.dr_model.specs.declared.step.PairChoices.{PairChoices}
-use Rattle.dr_model.specs.declared.step.Name.{Name}
 use Rattle.dr_model.specs.Control.{Control, World}
-use Rattle.dr_model.specs.Relations.{Choices}
-use Rattle.dr_model.specs.Pairs.{first_state}
 use Rattle.dr_model.specs.Sessions.{Session, Mirror}
-use Rattle.dr_model.specs.Moves.{Relate, Withdraw, Resync, Reverse, Suspend, MakeSecondary, MakePrimary, DropPrimary, DropSecondary, Follow, TakeOver}
-use Rattle.dr_model.specs.Carry.{Make, Pass, Do, Entry, Outcome, carry, now}
-use Rattle.dr_model.specs.Entries.{fields_at, is_running, relation_state, pair_state, share_server, share_size, is_no_target, is_settled}
-use Rattle.dr_model.specs.PairEntries.{are_linked, reach_refusal, differs_at, two_servers, stands_free, may_follow, leads_to, belongs_to, let_go, remove_both, may_pause, tell_paused, may_resume, follow_on, resume_on, may_take_over, leads_as, fall_back_on, yield_on, first_differing}
-use Rattle.dr_model.specs.PlanParts.{Plan, only_says, tables_plan, entries_plan, unless, on_named, on_owner, on_session}
-use Rattle.dr_model.specs.Plans.{counted_refusal, restore_refusal, left_by, member_refusal, found_volumes, found_pair, named_pair, establish_entries, withdraw_entries, make_flash_plan, remove_flash_plan, resync_flash_plan, reverse_flash_plan, copy_plan, destage_plan, copy_one, make_pair_plan, remove_pair_plan, pause_pair_plan, resume_pair_plan, yield_refusal, failover_plan, failback_plan, compare_plan, is_defined, is_owner, differ, is_no_source, has_few_targets, is_plain_target, is_recorded_target, is_lone_restore, may_return, may_give_back, may_copy, at_most, left_to_copy}
+use Rattle.dr_model.specs.Carry.{Outcome, carry}
+use Rattle.dr_model.specs.PlanParts.{Plan, only_says}
 use Rattle.dr_model.specs.SessionPlans.{mirror_phase, session_phase}
 use Rattle.dr_model.specs.Carried.{begun, finish, carried_out, answered}
 use Rattle.dr_model.specs.Forming.{refusal_said, part_refusal}

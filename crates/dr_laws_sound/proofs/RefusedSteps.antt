@@ -1,33 +1,18 @@
 -- A step that is refused, but by the stop of a server, changes nothing but what `Leaves` names: by the plan of each step.
-use Rattle.std.proofs.Common.{ℕ, ◌+◌, ◌≡◌, inl, inr, refl, ap, sym, ◌∙◌, subst, ◌||◌, Bool, true, false, cond, List, [], Option, Some, None, Result, Ok, nat_eq}
+use Rattle.std.proofs.Common.{ℕ, ◌+◌, ◌≡◌, inl, inr, refl, ap, sym, ◌∙◌, subst, ◌||◌, Bool, true, false, cond, List, [], Option, Some, None, Result, Ok}
 use Rattle.std.specs.Prelude.{◌==◌}
-use Rattle.std.specs.List.{find}
-use Rattle.std.specs.Option.{option_or}
-use Rattle.dr_ids.specs.declared.names.Member.{Member}
-use Rattle.dr_ids.specs.declared.refusal.Decision.{Decision}
 use Rattle.dr_ids.specs.declared.refusal.Refusal.{Refusal}
 use Rattle.dr_ids.specs.declared.refusal.Refusal.TheVariants.{JournalFull, NoGroup}
 use Rattle.dr_model.specs.declared.said.Said.{Said}
-use Rattle.dr_model.specs.declared.said.Said.TheVariants.{Done, Refused}
-use Rattle.dr_model.specs.declared.said.Addition.TheVariants.{Alone}
+use Rattle.dr_model.specs.declared.said.Said.TheVariants.{Refused}
 use Rattle.dr_model.specs.Carried.{losing}
-use Rattle.dr_model.specs.declared.step.Name.{Name}
 use Rattle.dr_model.specs.declared.step.Step.{Step}
-use Rattle.dr_model.specs.declared.step.Step.TheVariants.{Server, Volume, Link, Stop, StopAfter, Start, Issue, Write, Apply, Show, MakeFlash, RemoveFlash, ResyncFlash, ReverseFlash, Copy, Destage, MakePath, RemovePath, MakePair, RemovePair, PausePair, ResumePair, Failover, Failback, Drain, Expire, Freeze, Unfreeze, MakeSession, RemoveSession, AddMember, RemoveMember, MakeMirror, PauseMirror, ResumeMirror, RemoveMirror, Abort, Exchange, Send, Deliver, Lose, Recover, CommitFlash, RevertFlash, Run, ListPairs, ListFlashes, ListSession, ShowMirror, UnfreezeFlash}
-use Rattle.dr_model.specs.Layout.{kind_of}
-use Rattle.dr_model.specs.Listings.{listing_refusal}
-use Rattle.dr_model.specs.Control.{Control, World}
+use Rattle.dr_model.specs.declared.step.Step.TheVariants.{Write, Apply, Drain, Exchange, Deliver, Recover, Run}
+use Rattle.dr_model.specs.Control.{World}
 use Rattle.dr_model.specs.Phases as phases
-use Rattle.dr_model.specs.Sessions.{Session, Mirror, session_in, has_place_of, changed, paused, unmirrored, busy, in_session, not_in_session, join_refusal, make_refusal, abort_refusal}
 use Rattle.dr_model.specs.Carry.{dropped}
-use Rattle.dr_model.specs.Entries.{fields_at}
-use Rattle.dr_model.specs.SessionEntries.{first_number}
-use Rattle.dr_model.specs.PlanParts.{Plan, tables_plan, refuses, unless, on_session, on_owner, owner_of, server_named, name_bytes, is_defined}
-use Rattle.dr_model.specs.Messages.{Message, message_in, lost}
-use Rattle.dr_model.specs.MessagePlans.{with_flight, on_message, send_refusal, send_order, send_on}
-use Rattle.dr_model.specs.SessionPlans.{with_sessions, leaving, name_refusal, off_refusal, outside_refusal, master_refusal, place_refusal, taken_refusal, copy_refusal, member_target, member_with, add_target, expel_found, is_idle, order_of, abort_plan, add_plan, expel_plan}
-use Rattle.dr_model.specs.RecoveryPlans.{decided_in, lets_commit, lets_revert, settle_on, member_of_target, revertible_target, settle_refusal, settle_member, settle_target, settle_plan}
-use Rattle.dr_model.specs.Plans.{plan_of, step_plan, has_room, server_refusal, volume_refusal, issue_refusal, show_refusal, start_plan, landed_on, says_acked, path_refusal, unpath_refusal, freeze_refusal, thaw_refusal, release_refusal}
+use Rattle.dr_model.specs.PlanParts.{Plan, refuses}
+use Rattle.dr_model.specs.Plans.{plan_of, step_plan, has_room}
 use Rattle.dr_model.specs.Carried.{carried_out, answered, said, masters_lost, after_plan}
 use Rattle.dr_model.specs.Forming.{refusal_said, part_refusal}
 use Rattle.dr_model.specs.Runs.{own_course}

@@ -23,7 +23,7 @@ use Rattle.dr_model.specs.Phases as phases
 use Rattle.dr_model.specs.Sessions.{Session, Mirror, session_in, mirror_in, members_in}
 use Rattle.dr_model.specs.Moves.{is_write, Suspend}
 use Rattle.dr_model.specs.Carry.{Make, Drop, Pass, Do, End, Entry, Outcome, carry, check, dropped, Next}
-use Rattle.dr_model.specs.Entries.{fields_at, is_running, relation_state, pair_state, is_no_secondary, is_open, is_settled, drop_unless, check_or_drop, copy_first, keep_on}
+use Rattle.dr_model.specs.Entries.{fields_at, is_running, relation_state, pair_state, is_no_secondary, is_open, is_settled, drop_unless, check_or_drop, copy_first}
 use Rattle.dr_model.specs.PairEntries.{end_if, reach_refusal, send_refusal, flashed_refusal, suspend_where, refuse_if, store_on, strike_on, send_entries, sends, tracks_to_send, is_copying}
 use Rattle.dr_model.specs.WriteEntries.{landing, land_entries, waits, says_written}
 use Rattle.dr_model.specs.SessionEntries.{member_entries, members_on, order_entries, hold_refusal, stale_refusal, hold_on, void_refusal, free_on, is_drained, is_committed, is_past, seal_refusal, seal_on, flash_refusal, flash_on, commit_refusal, commit_on, revert_on, finish_on, is_flashed}

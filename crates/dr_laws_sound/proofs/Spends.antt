@@ -19,7 +19,7 @@ use Rattle.dr_model.specs.Relations.{rest, turned}
 use Rattle.dr_model.specs.Limits.{step_events, most_volumes, most_tracks}
 use Rattle.dr_model.specs.Control.{Control, World}
 use Rattle.dr_model.specs.Moves.{Withdraw, Fetch, Reverse, Suspend, Lift, told, told_left}
-use Rattle.dr_model.specs.Carry.{Act, Entry, Outcome, carry, follow, now}
+use Rattle.dr_model.specs.Carry.{Act, Entry, Outcome, carry, now}
 use Rattle.dr_model.specs.Entries.{fields_at, is_running, times, lowest_missing, fetch_next, give_back, share_size}
 use Rattle.dr_model.specs.PairEntries.{tracks_to_send, is_copying, differs_at}
 use Rattle.dr_model.specs.WriteEntries.{lift_on, flash_free_on, freeze_on, end_freeze, thaw_on, end_thaw}

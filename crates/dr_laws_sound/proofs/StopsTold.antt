@@ -4,10 +4,10 @@ use Rattle.std.proofs.Common.{ℕ, ◌≡◌, List, [], ◌∷◌, ◌++◌, ref
 use Rattle.std.proofs.lemmas.List.{append-nil}
 use Rattle.std.specs.Option.{option_or}
 use Rattle.dr_ids.specs.declared.refusal.Refusal.{Refusal}
-use Rattle.dr_ids.specs.declared.refusal.Refusal.TheVariants.{NotBuilt, Stopped as StoppedIn}
+use Rattle.dr_ids.specs.declared.refusal.Refusal.TheVariants.{Stopped as StoppedIn}
 use Rattle.dr_model.specs.declared.event.Event.{Event}
 use Rattle.dr_model.specs.declared.event.Event.TheVariants.{Ack, Stopped, Frozen, Thawed, Recovered}
-use Rattle.dr_model.specs.Control.{Control, Fuse, Volume as VolumeRow, World}
+use Rattle.dr_model.specs.Control.{Fuse, Volume as VolumeRow, World}
 use Rattle.dr_model.specs.Relations.{rest}
 use Rattle.dr_model.specs.Moves.{Move, Hold, told, told_in_stop, landed, target}
 use Rattle.dr_model.specs.Carried.{begun}

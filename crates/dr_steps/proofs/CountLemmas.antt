@@ -1,13 +1,11 @@
 -- What is counted of the messages in flight has room for one more, where the journal has room for a step.
 use Rattle.std.proofs.Common.{ℕ, ◌≡◌, ◌≤◌, ◌+◌, subst, arith, Bool, true, cond, length, nat_le, Ok}
 use Rattle.std.proofs.lemmas.Bool.Decides.{nat_tests}
-use Rattle.dr_ids.specs.declared.refusal.Refusal.TheVariants.{JournalFull}
 use Rattle.dr_model.specs.declared.step.Step.{Step}
 use Rattle.dr_model.specs.Control.{World}
 use Rattle.dr_model.specs.Laws.{IsCounted, FlightCounted}
 use Rattle.dr_model.specs.Limits.{most_events, step_events}
 use Rattle.dr_model.specs.Messages.{Flight}
-use Rattle.dr_model.specs.PlanParts.{refuses}
 use Rattle.dr_model.specs.Plans.{Plan, plan_of, has_room}
 use Rattle.dr_model.specs.Runs.{after_plan}
 use Rattle.dr_laws_sound.proofs.Cases.{Case, of-case}
