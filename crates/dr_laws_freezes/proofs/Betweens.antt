@@ -70,5 +70,5 @@ between-run tasks = between-tasks nothing tasks between-nothing
 
 pub in-sync-run : (tasks : List Task) → DuplexInSync tasks
 in-sync-run tasks before behind is =
-    let tidy = (between-run before).tidy in
-    record { sent = λ v t there runs metro full. tidy.clean v there runs (and_from _ _ metro full) t; unchanged = λ v t metro. (tidy.free v).changes metro t }
+    let in_sync = (between-run before).in_sync in
+    record { sent = λ v t there runs metro full. in_sync.clean v there runs (and_from _ _ metro full) t; unchanged = λ v t metro. (in_sync.free v).changes metro t }

@@ -1,5 +1,5 @@
 -- **A law over a stretch of a run** (freeze windows: `WindowTracks.antt`, `KeepsWindow.antt`, `KeepsStep.antt`,
--- `Chains.antt`, `Tidy.antt`, the `Window*.antt`). It isn't one on worlds, so it doesn't go by the recipe above:
+-- `Chains.antt`, `InSync.antt`, the `Window*.antt`). It isn't one on worlds, so it doesn't go by the recipe above:
 -- - The moments are a chain (`Chain` in `Windows.antt`), one step of which is a move done, a move in a stop, an
 --   acknowledgement, or nothing that matters. The window's invariant goes along the chain (`window-step`), one clause
 --   for each kind of move.
@@ -12,8 +12,8 @@
 -- - What is told along the stretch is a law of its own (`KeepsLists.antt`): each event is `Apart` from the volume's
 --   list, but for what it acknowledges; one fold over the events of a step gives the list, and `grows-more` joins two
 --   stretches. Say it of events and not of moves, so that the acknowledgements need no case.
--- - A law between steps that a step breaks and restores (`Tidy`: nothing is out of sync on a Full Duplex primary whose
---   server is on) has a form with a hole for the volume at work (`TidyBut`, `WindowWithin.antt`), and one lemma that fills
+-- - A law between steps that a step breaks and restores (`FullDuplexInSync`: nothing is out of sync on a Full Duplex primary whose
+--   server is on) has a form with a hole for the volume at work (`FullDuplexInSyncBut`, `WindowWithin.antt`), and one lemma that fills
 --   it again (`heal`).
 -- **A law over the steps behind one** (`no_write_lands_after_a_freeze`: `LongBusy.antt`, `LongBusySteps.antt`, `FreezesHold.antt`). What
 -- lasts is a record on a world (`Frozen`); `frozen-act` says which acts keep it, and `does-frozen` that a step which doesn't let the
@@ -26,7 +26,7 @@ pub mod KeepsLists
 pub mod KeepsMirror
 pub mod KeepsStep
 pub mod Windows
-pub mod Tidy
+pub mod InSync
 pub mod Chains
 pub mod Begun
 pub mod WindowActs

@@ -20,7 +20,7 @@ use Rattle.dr_facts.proofs.Tables.{IsOrNot, at_cases}
 use Rattle.dr_laws_closed.proofs.Pendings.{each-on, all-filter}
 use Rattle.dr_laws_sound.specs.Acknowledged.{acknowledgements}
 use Rattle.dr_laws_sound.proofs.Turns.{next_of, carried_in, done, done_in_stop, not_done, after_act, act-cases, Counts}
-use Rattle.dr_laws_sound.proofs.Hushed.{Mute, Hushed, act-turned}
+use Rattle.dr_laws_sound.proofs.Unacknowledged.{AcknowledgesNothing, EndsUnacknowledged, act-turned}
 
 -- a primary of b that is long busy
 pub record Busy (b : ℕ) (f : Fields) : Type 0 where
@@ -155,10 +155,10 @@ module _ (v b s : ℕ) (N : ℕ → Type 0) where
     silent-told w u es events writes same none pending k =
         silent-by w u es events writes same (λ n here. absurd (unacked-in n es none here)) (subst (AllPending Waits) (sym pending) k.waits) (subst (AllPending (Issued w)) (sym pending) k.issued) k
 
-    mute-silent : (w : World) (a : Act) → Mute false a → (act w a).0.control.issued ≡ w.control.issued → Silent w → Silent (act w a).0
-    mute-silent w a mute same k =
-        let h : Hushed false w (act w a).0 (act w a).1 = (act-turned false w a mute).hushed in
-        silent-told w (act w a).0 h.mum.added h.mum.events (act-writes w a) same h.mum.silent.none h.stays.pending k
+    unacknowledged-silent : (w : World) (a : Act) → AcknowledgesNothing false a → (act w a).0.control.issued ≡ w.control.issued → Silent w → Silent (act w a).0
+    unacknowledged-silent w a nothing same k =
+        let h : EndsUnacknowledged false w (act w a).0 (act w a).1 = (act-turned false w a nothing).unacknowledged in
+        silent-told w (act w a).0 h.since.added h.since.events (act-writes w a) same h.since.silent.none h.stays.pending k
 
     -- a write that lands in a stop is marked
     waits-marked : (w : World) (n : ℕ) → Elsewhere w n → (ps : List Pending) → AllPending (Issued w) ps → AllPending Waits ps → AllPending Waits (marked n ps)
@@ -225,7 +225,7 @@ module _ (v b s : ℕ) (N : ℕ → Type 0) where
         one-acked : (j : ℕ) → In (Ack j) (Ack n ∷ []) → Elsewhere w j
         one-acked j (inl is) = let same : j ≡ n = cc in subst (Elsewhere w) (sym same) ok
         one-acked j (inr none) = absurd none
-    act-silent w a ok same k = mute-silent w a refl same k
+    act-silent w a ok same k = unacknowledged-silent w a refl same k
 
     pub record Frozen (w : World) : Type 0 where
       pub rooted : Rooted w.control

@@ -15,14 +15,14 @@ use Rattle.dr_model.specs.Allowed.{May}
 use Rattle.dr_model.specs.PairEntries.{end_if, refuse_if}
 use Rattle.dr_facts.proofs.Entries.{any_reason, AllFine, FineFrom, FromThen, from-all}
 use Rattle.dr_laws_freezes.proofs.WindowMoves.{WindowMay, tag_after, come, come-open}
-use Rattle.dr_laws_freezes.proofs.Tidy.{Gentle, Tidy, tidy-done, tidy-stop, tidy-not, tidy-same, fresh-told}
+use Rattle.dr_laws_freezes.proofs.InSync.{Gentle, FullDuplexInSync, in_sync-done, in_sync-stop, in_sync-not, in_sync-same, fresh-told}
 use Rattle.dr_laws_freezes.proofs.Chains.{WindowMayDo, act_tag, CountsFin, window_next, WindowAlong, window-entry, window-nil, good-none}
 use Rattle.std.proofs.lemmas.List.{append-nil}
 
 -- a sound world between steps
 pub record Between (w : World) : Type 0 where
   pub sound : Sound w
-  pub tidy : Tidy w
+  pub in_sync : FullDuplexInSync w
 
 -- an act that comes where no write goes on, and keeps what holds of pairs
 abbrev pub KeepsPairs : World → Act → Type 0
@@ -30,20 +30,20 @@ KeepsPairs w (Make m) = WindowMay None w m × Gentle (fields_at w.control (targe
 KeepsPairs w (Acknowledge n) = ⊥
 KeepsPairs w a = Unit {0}
 
-module _ (w : World) (tidy : Tidy w) where
-  act-tidy : (a : Act) (f : Option Fuse) → MayDo w a → KeepsPairs w a → Tidy (after_act w a f)
-  act-tidy (Make m) f may keeps = tidy-done w m f (come w m may) keeps.1 tidy
-  act-tidy (OpenAttempt v s n) f may keeps =
+module _ (w : World) (in_sync : FullDuplexInSync w) where
+  act-in_sync : (a : Act) (f : Option Fuse) → MayDo w a → KeepsPairs w a → FullDuplexInSync (after_act w a f)
+  act-in_sync (Make m) f may keeps = in_sync-done w m f (come w m may) keeps.1 in_sync
+  act-in_sync (OpenAttempt v s n) f may keeps =
       let m : Move = Hold v s n true in
-      let y : Tidy (done w m f) = tidy-done w m f (come-open w v s n may) tt tidy in
-      tidy-same (done w m f) (attempt_begun (done w m f) s) refl refl (λ j h. h) (record { unacked = y.fresh.unacked; later = y.fresh.later }) y
-  act-tidy (Redo v) f may keeps = tidy-same w (fused w (server_at w v) f) refl refl (λ j h. h) (record { unacked = tidy.fresh.unacked; later = tidy.fresh.later }) tidy
-  act-tidy (Acknowledge n) f may keeps = absurd keeps
-  act-tidy (Drop n) f may keeps =
-      tidy-same w (dropped w n) refl refl (λ j h. h) (fresh-told w (dropped w n) [] (sym (append-nil w.events)) refl (all-filter _ (is_other n) w.control.pending tidy.fresh.unacked) (λ n. refl) tidy.fresh) tidy
-  act-tidy (EndFreeze l m) f may keeps = tidy-same w (frozen w l m) refl refl (λ j h. h) (fresh-told w (frozen w l m) (Frozen l m ∷ []) refl refl tidy.fresh.unacked (λ n. refl) tidy.fresh) tidy
-  act-tidy (EndThaw l m) f may keeps = tidy-same w (thawed w l m) refl refl (λ j h. h) (fresh-told w (thawed w l m) (Thawed l m ∷ []) refl refl tidy.fresh.unacked (λ n. refl) tidy.fresh) tidy
-  act-tidy (EndRecovery s n) f may keeps = tidy-same w (recovered w s n) refl refl (λ j h. h) (fresh-told w (recovered w s n) (Recovered s n ∷ []) refl refl tidy.fresh.unacked (λ n. refl) tidy.fresh) tidy
+      let y : FullDuplexInSync (done w m f) = in_sync-done w m f (come-open w v s n may) tt in_sync in
+      in_sync-same (done w m f) (attempt_begun (done w m f) s) refl refl (λ j h. h) (record { unacked = y.fresh.unacked; later = y.fresh.later }) y
+  act-in_sync (Redo v) f may keeps = in_sync-same w (fused w (server_at w v) f) refl refl (λ j h. h) (record { unacked = in_sync.fresh.unacked; later = in_sync.fresh.later }) in_sync
+  act-in_sync (Acknowledge n) f may keeps = absurd keeps
+  act-in_sync (Drop n) f may keeps =
+      in_sync-same w (dropped w n) refl refl (λ j h. h) (fresh-told w (dropped w n) [] (sym (append-nil w.events)) refl (all-filter _ (is_other n) w.control.pending in_sync.fresh.unacked) (λ n. refl) in_sync.fresh) in_sync
+  act-in_sync (EndFreeze l m) f may keeps = in_sync-same w (frozen w l m) refl refl (λ j h. h) (fresh-told w (frozen w l m) (Frozen l m ∷ []) refl refl in_sync.fresh.unacked (λ n. refl) in_sync.fresh) in_sync
+  act-in_sync (EndThaw l m) f may keeps = in_sync-same w (thawed w l m) refl refl (λ j h. h) (fresh-told w (thawed w l m) (Thawed l m ∷ []) refl refl in_sync.fresh.unacked (λ n. refl) in_sync.fresh) in_sync
+  act-in_sync (EndRecovery s n) f may keeps = in_sync-same w (recovered w s n) refl refl (λ j h. h) (fresh-told w (recovered w s n) (Recovered s n ∷ []) refl refl in_sync.fresh.unacked (λ n. refl) in_sync.fresh) in_sync
 
 act-may : (w : World) (a : Act) → MayDo w a → KeepsPairs w a → WindowMayDo None w a
 act-may w (Make m) may keeps = (may, keeps.0)
@@ -57,21 +57,21 @@ act-none w a keeps = refl
 
 module _ (Fin : Option ℕ → World → Option Refusal → Type 0) (fin : (w : World) (r : Refusal) → Between w → Fin None w (Some r)) where
   counts-fin : (w : World) (a : Act) → Between w → MayDo w a → KeepsPairs w a → CountsFin Fin w a
-  counts-fin w (Make m) k may keeps = λ f. fin (done_in_stop w m f) _ (record { sound = keeps-sound.counts w m f k.sound may; tidy = tidy-stop w m f (come w m may) keeps.1 k.tidy })
+  counts-fin w (Make m) k may keeps = λ f. fin (done_in_stop w m f) _ (record { sound = keeps-sound.counts w m f k.sound may; in_sync = in_sync-stop w m f (come w m may) keeps.1 k.in_sync })
   counts-fin w (OpenAttempt v s n) k may keeps = λ f.
       let m : Move = Hold v s n true in
-      let y : Tidy (done_in_stop w m f) = tidy-stop w m f (come-open w v s n may) tt k.tidy in
+      let y : FullDuplexInSync (done_in_stop w m f) = in_sync-stop w m f (come-open w v s n may) tt k.in_sync in
       fin (opened_in_stop w v s n f) _ (record {
         sound = keeps-sound.opens w v s n f k.sound may;
-        tidy = tidy-same (done_in_stop w m f) (opened_in_stop w v s n f) refl refl (λ j h. h) (record { unacked = y.fresh.unacked; later = y.fresh.later }) y;
+        in_sync = in_sync-same (done_in_stop w m f) (opened_in_stop w v s n f) refl refl (λ j h. h) (record { unacked = y.fresh.unacked; later = y.fresh.later }) y;
       })
   counts-fin w a k may keeps = tt
 
   pub window-act : (w : World) (a : Act) (then : Option ℕ → World → Type 0) → Between w → MayDo w a → KeepsPairs w a → ((f : Option Fuse) → Between (after_act w a f) → then None (after_act w a f)) → window_next Fin None w (Do a) then
   window-act w a then k may keeps on = (
     act-may w a may keeps,
-    λ f. subst (λ tag. then tag (after_act w a f)) (sym (act-none w a keeps)) (on f (record { sound = keeps-sound.does w a f k.sound may; tidy = act-tidy w k.tidy a f may keeps })),
-    (counts-fin w a k may keeps, λ d f. fin _ _ (record { sound = keeps-sound.fails w a f d k.sound may; tidy = tidy-not w (server_of w a) f k.tidy })),
+    λ f. subst (λ tag. then tag (after_act w a f)) (sym (act-none w a keeps)) (on f (record { sound = keeps-sound.does w a f k.sound may; in_sync = act-in_sync w k.in_sync a f may keeps })),
+    (counts-fin w a k may keeps, λ d f. fin _ _ (record { sound = keeps-sound.fails w a f d k.sound may; in_sync = in_sync-not w (server_of w a) f k.in_sync })),
   )
 
   -- entries that come to such acts, where J is known: where they end well, more may be known

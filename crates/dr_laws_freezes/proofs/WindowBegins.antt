@@ -23,7 +23,7 @@ use Rattle.dr_laws_freezes.proofs.Begun as before
 use Rattle.dr_laws_freezes.proofs.Begun.{Beside}
 use Rattle.dr_laws_freezes.proofs.KeepsStep.{Unchanged}
 use Rattle.dr_laws_freezes.proofs.KeepsMirror.{still-unacked}
-use Rattle.dr_laws_freezes.proofs.Tidy.{Clean, Free, Fresh, Tidy, tidy-same, fresh-told}
+use Rattle.dr_laws_freezes.proofs.InSync.{Clean, Free, Fresh, FullDuplexInSync, in_sync-same, fresh-told}
 use Rattle.dr_laws_freezes.proofs.Chains.{told-unchanged}
 use Rattle.dr_logic.proofs.Truth.{false_true}
 use Rattle.dr_logic.proofs.Tables.{at_other}
@@ -33,7 +33,7 @@ use Rattle.std.proofs.lemmas.List.Folds.{list_any-append}
 -- No volume that was defined changed, and where no server went on, what holds between steps holds.
 pub record Begins (w u : World) (told : List Event) : Type 0 where
   pub unchanged : Unchanged w u told
-  pub tidy : ((j : ℕ) → u.control.on j ≡ true → w.control.on j ≡ true) → Tidy u
+  pub in_sync : ((j : ℕ) → u.control.on j ≡ true → w.control.on j ≡ true) → FullDuplexInSync u
 
 -- a volume that was defined before
 not-new : (vs : List ℕ) (x v : ℕ) → x ≢ v → list_any (nat_eq x) (vs ++ v ∷ []) ≡ true → list_any (nat_eq x) vs ≡ true
@@ -55,7 +55,7 @@ waiting-new [] p v t h = ap (λ b. cond (b && here) (p.w ∷ []) []) h
     here = nat_eq p.volume v && nat_eq p.track t
 waiting-new (x ∷ xs) p v t h = ap (λ ws. cond (x.landed && (nat_eq x.volume v && nat_eq x.track t)) (x.w ∷ ws) ws) (waiting-new xs p v t h)
 
-module _ (w : World) (tidy : Tidy w) (v t offset len : ℕ) (bytes : List ℕ) where
+module _ (w : World) (in_sync : FullDuplexInSync w) (v t offset len : ℕ) (bytes : List ℕ) where
   abbrev e : Event
   e = Issue (w.control.issued + 1) v t offset len bytes
 
@@ -74,22 +74,22 @@ module _ (w : World) (tidy : Tidy w) (v t offset len : ℕ) (bytes : List ℕ) w
     holds = λ x h. h;
     contents = λ x there q. refl;
     lists = λ x there q. ap (λ (h : Histories). h.now x q) (histories-append w.events (e ∷ []));
-    acked = λ n h. ap (λ (h : Histories). h.write n) (histories-append w.events (e ∷ [])) ∙ at_other (histories w.events).write (w.control.issued + 1) _ n (λ is. false_true (tidy.fresh.later n (let h : n ≡ w.control.issued + 1 = is in omega arith)) h);
+    acked = λ n h. ap (λ (h : Histories). h.write n) (histories-append w.events (e ∷ [])) ∙ at_other (histories w.events).write (w.control.issued + 1) _ n (λ is. false_true (in_sync.fresh.later n (let h : n ≡ w.control.issued + 1 = is in omega arith)) h);
   }
 
-  pub issued-tidy : Tidy issued
-  issued-tidy = tidy-same w issued refl refl (λ j h. h) (record {
-    unacked = all-more (λ p. Unacked issued p.w) w.control.pending _ (each-on (λ p a. still-unacked w.events (e ∷ []) p.w a refl) w.control.pending tidy.fresh.unacked) (late-unacked w (w.control.issued + 1) tidy.fresh (omega arith) (e ∷ []) refl);
-    later = λ n lt. late-unacked w n tidy.fresh (omega arith) (e ∷ []) refl;
-  }) tidy
+  pub issued-in_sync : FullDuplexInSync issued
+  issued-in_sync = in_sync-same w issued refl refl (λ j h. h) (record {
+    unacked = all-more (λ p. Unacked issued p.w) w.control.pending _ (each-on (λ p a. still-unacked w.events (e ∷ []) p.w a refl) w.control.pending in_sync.fresh.unacked) (late-unacked w (w.control.issued + 1) in_sync.fresh (omega arith) (e ∷ []) refl);
+    later = λ n lt. late-unacked w n in_sync.fresh (omega arith) (e ∷ []) refl;
+  }) in_sync
 
-module _ (w : World) (h : Tidy w) where
+module _ (w : World) (h : FullDuplexInSync w) where
   pub beside-begins : (j : Control) (told : List Event) → Beside w j told → Begins w (record w { control = j; events = w.events ++ told }) told
   beside-begins j told x =
       let u : World = record w { control = j; events = w.events ++ told } in
       record {
         unchanged = told-unchanged w u told refl x.takes x.lists x.volume refl x.issued x.volumes (λ v t. ap (λ ps. waiting ps v t) x.pending);
-        tidy = λ on. tidy-same w u x.volume x.volumes on (fresh-told w u told refl x.issued (subst (AllPending (λ p. Unacked w p.w)) (sym x.pending) h.fresh.unacked) (λ n. of-all (Of takes_none) _ (unacked takes_none refl n) told x.takes) h.fresh) h;
+        in_sync = λ on. in_sync-same w u x.volume x.volumes on (fresh-told w u told refl x.issued (subst (AllPending (λ p. Unacked w p.w)) (sym x.pending) h.fresh.unacked) (λ n. of-all (Of takes_none) _ (unacked takes_none refl n) told x.takes) h.fresh) h;
       }
 
   -- a new volume is no primary
@@ -112,7 +112,7 @@ module _ (w : World) (h : Tidy w) where
           lists = λ x there t. ap (λ (h : Histories). h.now x t) (histories-append w.events (e ∷ [])) ∙ ap (λ (f : ℕ → List ℕ). f t) (at_other (lists w.events) v (λ t. []) x (other x there));
           acked = λ n h. ap (λ (h : Histories). h.write n) (histories-append w.events (e ∷ []));
         };
-        tidy = λ on. record {
+        in_sync = λ on. record {
           clean = λ x. at_cases (λ x (y : Volume). is_volume u.control x ≡ true → w.control.on y.server ≡ true → Clean y.fields) w.control.volume v (new_volume s tracks) (λ there on h t. absurd cc)
               (λ x ne there. h.clean x (not-new w.control.volumes x v ne there)) x;
           free = λ x. at_cases (λ x (y : Volume). Free y.fields) w.control.volume v (new_volume s tracks) (record { coordination = λ h. refl; recording = λ h. refl; changes = λ h t. absurd cc }) (λ x ne. h.free x) x;
@@ -122,4 +122,4 @@ module _ (w : World) (h : Tidy w) where
 
   pub case-begins : (line : ℕ) (asked : Result Step ℕ) (p : Plan) → Case w.control w.events line asked p → Begins w (begun w p) p.told
   case-begins = before.begins w (λ j told. Begins w (record w { control = j; events = w.events ++ told }) told) beside-begins defines
-      (λ v t offset len bytes. record { unchanged = issued-unchanged w h v t offset len bytes; tidy = λ on. issued-tidy w h v t offset len bytes })
+      (λ v t offset len bytes. record { unchanged = issued-unchanged w h v t offset len bytes; in_sync = λ on. issued-in_sync w h v t offset len bytes })

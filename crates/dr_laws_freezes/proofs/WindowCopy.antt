@@ -18,7 +18,7 @@ use Rattle.dr_laws_sound.proofs.Turns.{done}
 use Rattle.dr_laws_sound.proofs.FitsFlash.{as_begun}
 use Rattle.dr_laws_sound.proofs.FitsPairs.{row}
 use Rattle.dr_laws_sound.proofs.FitsCopy.{along-copy}
-use Rattle.dr_laws_freezes.proofs.Tidy.{is_synced}
+use Rattle.dr_laws_freezes.proofs.InSync.{is_synced}
 use Rattle.dr_laws_freezes.proofs.Chains.{PlanFin}
 use Rattle.dr_laws_freezes.proofs.WindowActs.{Between, Leaves, window-leaves}
 use Rattle.dr_laws_freezes.proofs.WindowPlans.{rows-between, answers-between, begun-between, EntriesHold, fin}

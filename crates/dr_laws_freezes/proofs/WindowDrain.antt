@@ -25,7 +25,7 @@ use Rattle.dr_laws_sound.proofs.FitsFlash.{as_begun}
 use Rattle.dr_laws_sound.proofs.FitsPairs.{row, runs-done, part-same}
 use Rattle.dr_laws_sound.proofs.FitsDrain.{along-drain}
 use Rattle.dr_laws_freezes.proofs.WindowMoves.{is_locked}
-use Rattle.dr_laws_freezes.proofs.Tidy.{is_synced}
+use Rattle.dr_laws_freezes.proofs.InSync.{is_synced}
 use Rattle.dr_laws_freezes.proofs.Chains.{WindowAlong, window-entry, window-nil, good-none, PlanFin}
 use Rattle.dr_laws_freezes.proofs.WindowActs.{Between, window-move, window-check, window-refuse}
 use Rattle.dr_laws_freezes.proofs.WindowWithin.{Keeps, window-copies, within-between, window-after}
@@ -63,7 +63,7 @@ module _ (Fin : Option ℕ → World → Option Refusal → Type 0) (fin : (w : 
 
     -- where it is locked it is clean
     clean : (w : World) → Between w → Sends w → is_locked (fields_at w.control a) ≡ true → (t : ℕ) → contains (fields_at w.control a).out_of_sync t ≡ false
-    clean w k x locked = k.tidy.clean a x.there x.on (locked-synced (fields_at w.control a) x.going locked)
+    clean w k x locked = k.in_sync.clean a x.there x.on (locked-synced (fields_at w.control a) x.going locked)
 
     -- over what the targets of b keep
     abbrev Lasts : World → Type 0
@@ -105,7 +105,7 @@ module _ (Fin : Option ℕ → World → Option Refusal → Type 0) (fin : (w : 
           let synced = locked-synced (fields_at w.control a) x.going locked in
           let metro = (and_parts (is_metro (fields_at w.control a).primary) _ synced).0 in
           rows.pairs a b x.to (inl one.0.allowed.takes) t (subst (λ n. t < n) (sym (rows.parts.secondary a b x.to).same_tracks) one.0.allowed.low)
-          (λ i. clean w k x locked t i || (k.tidy.free a).changes metro t i)
+          (λ i. clean w k x locked t i || (k.in_sync.free a).changes metro t i)
           (λ back. false_true ((rows.parts.one b).one (chosen _ _ a back).0) (chosen _ _ a one.0.allowed.takes).0))
           tt refl (λ f z. strikes (done w m f) z (sends-done w m f refl refl x) (one.1 f z.sound))
 

@@ -21,7 +21,7 @@ use Rattle.dr_laws_sound.proofs.NewMessages.{adds-same}
 use Rattle.dr_laws_sound.proofs.GoesOn.{goes-same}
 use Rattle.dr_laws_sound.proofs.Steps.{sound-said}
 use Rattle.dr_laws_freezes.proofs.WindowMoves.{Unacked}
-use Rattle.dr_laws_freezes.proofs.Tidy.{tidy-same, fresh-told}
+use Rattle.dr_laws_freezes.proofs.InSync.{in_sync-same, fresh-told}
 use Rattle.dr_laws_freezes.proofs.Chains.{ended, WindowAlong, window-nil, EndFin, PlanFin, WindowHolds, Leaves, good-none}
 use Rattle.dr_laws_freezes.proofs.WindowActs.{Between, KeepsPairs, window-entries}
 use Rattle.dr_laws_freezes.proofs.WindowBegins.{Begins}
@@ -32,15 +32,15 @@ rows-between w k = k.sound.rows
 pub answers-between : (first w : World) (line : ℕ) (a : Said) → Between w → Between (ended first w line a)
 answers-between first w line a k = record {
   sound = sound-lost first (said w line a) (sound-said w line a k.sound);
-  tidy = tidy-same w (ended first w line a) refl refl (λ j h. h) (fresh-told w (ended first w line a) (answer line a ∷ []) refl refl k.tidy.fresh.unacked (λ n. refl) k.tidy.fresh) k.tidy;
+  in_sync = in_sync-same w (ended first w line a) refl refl (λ j h. h) (fresh-told w (ended first w line a) (answer line a ∷ []) refl refl k.in_sync.fresh.unacked (λ n. refl) k.in_sync.fresh) k.in_sync;
 }
 
 pub loses-between : (first w : World) → Between w → Between (masters_lost first w)
 loses-between first w k = record {
   sound = sound-lost first w k.sound;
-  tidy =
+  in_sync =
       let u : World = masters_lost first w in
-      tidy-same w u refl refl (λ j h. h) (fresh-told w u [] (sym (append-nil w.events)) refl k.tidy.fresh.unacked (λ n. refl) k.tidy.fresh) k.tidy;
+      in_sync-same w u refl refl (λ j h. h) (fresh-told w u [] (sym (append-nil w.events)) refl k.in_sync.fresh.unacked (λ n. refl) k.in_sync.fresh) k.in_sync;
 }
 
 abbrev pub PlanHolds : World → Plan → Type 0
@@ -49,7 +49,7 @@ PlanHolds = WindowHolds Between rows-between answers-between
 pub begun-between : (w : World) → Between w → Between (as_begun w)
 begun-between w k = record {
   sound = sound-begun w k.sound;
-  tidy = tidy-same w (as_begun w) refl refl (λ j h. h) (fresh-told w (as_begun w) [] refl refl k.tidy.fresh.unacked (λ n. refl) k.tidy.fresh) k.tidy;
+  in_sync = in_sync-same w (as_begun w) refl refl (λ j h. h) (fresh-told w (as_begun w) [] refl refl k.in_sync.fresh.unacked (λ n. refl) k.in_sync.fresh) k.in_sync;
 }
 
 -- what is to be shown of a plan's entries
@@ -86,13 +86,13 @@ module _ (w : World) (k : Between w) (p : Plan) (begins : Begins w (begun w p) p
 
   pub window-tables : StepHolds w p → NoneOn → p.entries ≡ [] → ((j : Control) → p.last j ≡ j) → PlanHolds w p
   window-tables holds on none last =
-      let b : Between u = record { sound = sound-tables holds none last; tidy = begins.tidy on } in
+      let b : Between u = record { sound = sound-tables holds none last; in_sync = begins.in_sync on } in
       window-by (subst (WindowAlong Fins None u) (sym none) (window-nil Fins None u (good-none u b.sound.rows) (subst (λ j. Between (record u { control = j })) (sym (last u.control)) b)))
 
   -- of entries that come where they may
   module _ (on : NoneOn) (orders : Orders w p) (follow : (s : ℕ) (v : World) → Between v → WindowAlong (EndFin Between rows-between answers-between) None v (p.follows s)) where
     first-between : Between u
-    first-between = record { sound = orders.begins; tidy = begins.tidy on }
+    first-between = record { sound = orders.begins; in_sync = begins.in_sync on }
 
     refused : (v : World) (r : Refusal) → Between v → Fins None v (Some r)
     refused v (StoppedIn s) b = follow s.0 v b
@@ -104,11 +104,11 @@ module _ (w : World) (k : Between w) (p : Plan) (begins : Begins w (begun w p) p
         let same_control : (p.last v.control ≡ record v.control { sessions = (leaves v.control).sessions; flight = (leaves v.control).flight }) = (leaves v.control).is in
         record {
           sound = orders.last v e;
-          tidy = tidy-same v x (ap (λ (k : Control). k.volume) same_control) (ap (λ (k : Control). k.volumes) same_control) (λ j h. sym (ap (λ (k : Control). k.on j) same_control) ∙ h)
+          in_sync = in_sync-same v x (ap (λ (k : Control). k.volume) same_control) (ap (λ (k : Control). k.volumes) same_control) (λ j h. sym (ap (λ (k : Control). k.on j) same_control) ∙ h)
               (record {
-                unacked = subst (λ (k : Control). AllPending (λ p. Unacked v p.w) k.pending) (sym same_control) b.tidy.fresh.unacked;
-                later = λ n lt. b.tidy.fresh.later n (subst (λ (k : Control). k.issued < n) same_control lt);
-              }) b.tidy;
+                unacked = subst (λ (k : Control). AllPending (λ p. Unacked v p.w) k.pending) (sym same_control) b.in_sync.fresh.unacked;
+                later = λ n lt. b.in_sync.fresh.later n (subst (λ (k : Control). k.issued < n) same_control lt);
+              }) b.in_sync;
         }
 
     pub window-plan : (Ok : World → Act → Type 0) (First Why : Refusal → Type 0) → ((r : Refusal) → Why r → First r) → ((v : World) (a : Act) → Ok v a → KeepsPairs v a) → FineFrom any_world Ok First Why u p.entries → PlanHolds w p

@@ -28,7 +28,7 @@ use Rattle.dr_laws_sound.proofs.Turns.{done, done_in_stop, not_done, fused}
 use Rattle.dr_laws_sound.proofs.FitsPairs.{row}
 use Rattle.dr_laws_sound.proofs.Starts as starts
 use Rattle.dr_laws_freezes.proofs.WindowMoves.{Unacked, come}
-use Rattle.dr_laws_freezes.proofs.Tidy.{Clean, Free, free-left, clean-left, Fresh, Tidy, fresh-by, fresh-told, fresh-done, fresh-stop, all-other, above}
+use Rattle.dr_laws_freezes.proofs.InSync.{Clean, Free, free-left, clean-left, Fresh, FullDuplexInSync, fresh-by, fresh-told, fresh-done, fresh-stop, all-other, above}
 use Rattle.dr_laws_freezes.proofs.Chains.{WindowAlong, window_next, window-entry, window-nil, PlanFin, EndFin, good-none}
 use Rattle.dr_laws_freezes.proofs.WindowActs.{Between}
 use Rattle.dr_laws_freezes.proofs.WindowPlans.{rows-between, answers-between, EntriesHold}
@@ -64,9 +64,9 @@ module _ (s : ℕ) where
     fresh : Fresh w
 
   -- the server stopped again: the others are clean
-  off-tidy : (w u : World) (left : List ℕ) → Going left w → u.control.volumes ≡ w.control.volumes → u.control.on ≡ at w.control.on s false → ((v : ℕ) → (servers w.control v ≡ s → ⊥) → u.control.volume v ≡ w.control.volume v) → ((v : ℕ) → servers u.control v ≡ servers w.control v)
-      → ((v : ℕ) → Free (fields_at u.control v)) → Fresh u → Tidy u
-  off-tidy w u left g volumes on same server free fresh = record {
+  off-in_sync : (w u : World) (left : List ℕ) → Going left w → u.control.volumes ≡ w.control.volumes → u.control.on ≡ at w.control.on s false → ((v : ℕ) → (servers w.control v ≡ s → ⊥) → u.control.volume v ≡ w.control.volume v) → ((v : ℕ) → servers u.control v ≡ servers w.control v)
+      → ((v : ℕ) → Free (fields_at u.control v)) → Fresh u → FullDuplexInSync u
+  off-in_sync w u left g volumes on same server free fresh = record {
     clean = λ v there runs.
         let here : at w.control.on s false (servers w.control v) ≡ true = (λ i. at w.control.on s false (sym (server v) i)) ∙ (λ i. sym on i (servers u.control v)) ∙ runs in
         let ne : (servers w.control v ≡ s → ⊥) = λ e. false≢true (sym (ap (at w.control.on s false) e ∙ at_same w.control.on s false) ∙ here) in
@@ -94,7 +94,7 @@ module _ (s : ℕ) where
         by None none =
             let b : Between w = record {
               sound = starts.sound-free s w g.inner.sound (starts.none-found (servers w.control) (is_volume w.control) s w.control.pending (starts.are-defined s w g.inner.sound) none);
-              tidy = record { clean = λ v there runs. g.clean v there runs (λ e. refl); free = g.free; fresh = g.fresh };
+              in_sync = record { clean = λ v there runs. g.clean v there runs (λ e. refl); free = g.free; fresh = g.fresh };
             } in
             window-nil Fin None w (good-none w g.inner.sound.rows) b
         by (Some x) first =
@@ -103,7 +103,7 @@ module _ (s : ℕ) where
             let waits = starts.waits s w g.inner.sound x first in
             let b : Between u = record {
               sound = starts.sound-free s u (starts.acknowledges s w g.inner.sound x first) gone.free;
-              tidy = record {
+              in_sync = record {
                 clean = λ v there runs. g.clean v there runs (λ e. refl);
                 free = g.free;
                 fresh = fresh-by w u (Ack x.w ∷ []) refl refl (each-on (λ y a. (a.0, ap (λ b. b || false) (ne_eqb x.w y.w (λ e. a.1 (sym e))))) _ (all-other (λ y. Unacked w y.w) x.w w.control.pending g.fresh.unacked))
@@ -131,7 +131,7 @@ module _ (s : ℕ) where
                 tt,
                 λ d f. fin (not_done w x f) (Some (StoppedIn (record { 0 = x }))) (record {
                   sound = (starts.keeps s).fails w (Redo v) f d g.inner may;
-                  tidy = off-tidy w (not_done w x f) left g refl (ap (λ x. at w.control.on x false) own) (λ v ne. refl) (λ v. refl) g.free (fresh-told w (not_done w x f) (Stopped x 0 ∷ []) refl refl g.fresh.unacked (λ n. refl) g.fresh);
+                  in_sync = off-in_sync w (not_done w x f) left g refl (ap (λ x. at w.control.on x false) own) (λ v ne. refl) (λ v. refl) g.free (fresh-told w (not_done w x f) (Stopped x 0 ∷ []) refl refl g.fresh.unacked (λ n. refl) g.fresh);
                 }),
               ),
             )
@@ -173,12 +173,12 @@ module _ (s : ℕ) where
               (
                 λ f. fin (done_in_stop w (Restart v) f) (Some (StoppedIn (record { 0 = servers w.control v }))) (record {
                   sound = (starts.keeps s).counts w (Restart v) f g.inner may;
-                  tidy = off-tidy w (done_in_stop w (Restart v) f) (v ∷ left) g refl (ap (λ x. at w.control.on x false) own) (λ u ne. at_other w.control.volume v (row w (Restart v) f) u (λ e. ne (ap (servers w.control) e ∙ own))) (servers_are f) (frees f)
+                  in_sync = off-in_sync w (done_in_stop w (Restart v) f) (v ∷ left) g refl (ap (λ x. at w.control.on x false) own) (λ u ne. at_other w.control.volume v (row w (Restart v) f) u (λ e. ne (ap (servers w.control) e ∙ own))) (servers_are f) (frees f)
                       (fresh-stop w (Restart v) f g.fresh);
                 }),
                 λ d f. fin (not_done w (servers w.control v) f) (Some (StoppedIn (record { 0 = servers w.control v }))) (record {
                   sound = (starts.keeps s).fails w (Make (Restart v)) f d g.inner may;
-                  tidy = off-tidy w (not_done w (servers w.control v) f) (v ∷ left) g refl (ap (λ x. at w.control.on x false) own) (λ v ne. refl) (λ v. refl) g.free (fresh-told w (not_done w (servers w.control v) f) (Stopped (servers w.control v) 0 ∷ []) refl refl g.fresh.unacked (λ n. refl) g.fresh);
+                  in_sync = off-in_sync w (not_done w (servers w.control v) f) (v ∷ left) g refl (ap (λ x. at w.control.on x false) own) (λ v ne. refl) (λ v. refl) g.free (fresh-told w (not_done w (servers w.control v) f) (Stopped (servers w.control v) 0 ∷ []) refl refl g.fresh.unacked (λ n. refl) g.fresh);
                 }),
               ),
             )
@@ -194,8 +194,8 @@ module _ (s : ℕ) where
           inner = starts.begins s w0 k.sound;
           clean = λ v there runs none. elim (eqb_tells (servers w0.control v) s) [
             | inl own ↦ absurd (false≢true (sym (none own.1) ∙ there))
-            | inr apart ↦ k.tidy.clean v there (sym (at_other w0.control.on s true (servers w0.control v) apart.1) ∙ runs)
+            | inr apart ↦ k.in_sync.clean v there (sym (at_other w0.control.on s true (servers w0.control v) apart.1) ∙ runs)
           ];
-          free = k.tidy.free;
-          fresh = fresh-told w0 u (Started s ∷ []) refl refl k.tidy.fresh.unacked (λ n. refl) k.tidy.fresh;
+          free = k.in_sync.free;
+          fresh = fresh-told w0 u (Started s ∷ []) refl refl k.in_sync.fresh.unacked (λ n. refl) k.in_sync.fresh;
         })

@@ -44,7 +44,7 @@ use Rattle.dr_laws_freezes.proofs.WindowWrites.{window-writes, window-applies}
 pub between-nothing : Between nothing
 between-nothing = record {
   sound = sound-nothing;
-  tidy = record {
+  in_sync = record {
     clean = λ v there runs h t. absurd cc;
     free = λ v. record { coordination = λ h. refl; recording = λ h. refl; changes = λ h t. absurd cc };
     fresh = record { unacked = tt; later = λ n lt. refl };
@@ -103,13 +103,13 @@ module _ (w : World) (k : Between w) (line : ℕ) where
   window-acts asked p c none orders =
       let does : Entered w asked p = case-does w line asked p c in
       let keeps = λ (v : World) (a : Act) (d : Acts w.control asked v a). keeps-pairs w.control none v a d in
-      window-plan w k p (case-begins w k.tidy line asked p c) (leaves w.control w.events line asked p c) (none-on asked p c none) orders
+      window-plan w k p (case-begins w k.in_sync line asked p c) (leaves w.control w.events line asked p c) (none-on asked p c none) orders
       (λ s v b. window-entries (EndFin Between rows-between answers-between) (λ u r b. b) any_world any_world Sound (Acts w.control asked) (Late asked) (Late asked) (λ r why. why) (λ v any. tt) (λ v a d any. keeps v a d) (λ v a f d any. tt) (λ u b sound. b) (p.follows s) v b tt (from-all any_world (Acts w.control asked) (Late asked) (Late asked) (λ r why. why) v tt (p.follows s) (does.follows s)) (orders.follows s v b.sound))
       (Acts w.control asked) NoStop (Late asked) (λ r why. why.why) keeps does.entries
 
   pub window-case : (asked : Result Step ℕ) (p : Plan) → Case w.control w.events line asked p → PlanHolds w p
   window-case asked p c =
-      let begins : Begins w (begun w p) p.told = case-begins w k.tidy line asked p c in
+      let begins : Begins w (begun w p) p.told = case-begins w k.in_sync line asked p c in
       let last = leaves w.control w.events line asked p c in
       by asked p c (window-by w k p begins last) (window-acts asked p c) (window-tables w k p begins last (case-holds w k.sound line asked p c))
     where
@@ -147,7 +147,7 @@ module _ (w : World) (k : Between w) (line : ℕ) where
 
   pub window-ending : (p : Plan) → Ending w.control w.events line p → PlanHolds w p
   window-ending _ (OnePlan asked p c) = window-case asked p c
-  window-ending _ (Imaged vs) = window-tables w k _ (beside-begins w k.tidy w.control (image_told vs) (lines-beside w (image_told vs) (image-lines vs))) retabled-none (ending-holds w k.sound line _ (Imaged vs)) (λ j h. h) refl (λ j. refl)
+  window-ending _ (Imaged vs) = window-tables w k _ (beside-begins w k.in_sync w.control (image_told vs) (lines-beside w (image_told vs) (image-lines vs))) retabled-none (ending-holds w k.sound line _ (Imaged vs)) (λ j h. h) refl (λ j. refl)
 
 -- the moments of a run
 pub chain-of : (tasks : List Task) → Chain None nothing (moments_from nothing tasks)

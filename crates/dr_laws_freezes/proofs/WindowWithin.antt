@@ -25,7 +25,7 @@ use Rattle.dr_model.specs.PairEntries.{suspend_running, suspend_after}
 use Rattle.dr_laws_sound.proofs.FitsDrain.{suspends-after}
 use Rattle.dr_laws_sound.proofs.FitsWrites.{parts-after}
 use Rattle.dr_laws_freezes.proofs.WindowMoves.{WindowMay, tag_after, come}
-use Rattle.dr_laws_freezes.proofs.Tidy.{is_synced, Unheld, unheld, Clean, Free, Fresh, Tidy, free-left, fresh-done, fresh-stop, fresh-told}
+use Rattle.dr_laws_freezes.proofs.InSync.{is_synced, Unheld, unheld, Clean, Free, Fresh, FullDuplexInSync, free-left, fresh-done, fresh-stop, fresh-told}
 use Rattle.dr_laws_freezes.proofs.Windows.{Good}
 use Rattle.dr_laws_freezes.proofs.Chains.{WindowAlong, window_next, window-entry, window-nil, StopFin, EndFin, good-none}
 use Rattle.dr_laws_freezes.proofs.WindowActs.{Between, window-act, window-check}
@@ -42,37 +42,37 @@ module _ (v t : ℕ) where
   abbrev pub CleanBut : ℕ → Fields → Type 0
   CleanBut x f = is_synced f ≡ true → (q : ℕ) → Else x q → contains f.out_of_sync q ≡ false
 
-  pub record TidyBut (w : World) : Type 0 where
+  pub record FullDuplexInSyncBut (w : World) : Type 0 where
     pub clean : (x : ℕ) → is_volume w.control x ≡ true → Runs w x → CleanBut x (fields_at w.control x)
     pub free : (x : ℕ) → Free (fields_at w.control x)
     pub fresh : Fresh w
 
   pub record Within (w : World) : Type 0 where
     pub sound : Sound w
-    pub tidy : TidyBut w
+    pub in_sync : FullDuplexInSyncBut w
 
-  pub tidy-but : (w : World) → Tidy w → TidyBut w
-  tidy-but w y = record { clean = λ x there runs h q other. y.clean x there runs h q; free = y.free; fresh = y.fresh }
+  pub in_sync-but : (w : World) → FullDuplexInSync w → FullDuplexInSyncBut w
+  in_sync-but w y = record { clean = λ x there runs h q other. y.clean x there runs h q; free = y.free; fresh = y.fresh }
 
   pub within-between : (w : World) → Between w → Within w
-  within-between w k = record { sound = k.sound; tidy = tidy-but w k.tidy }
+  within-between w k = record { sound = k.sound; in_sync = in_sync-but w k.in_sync }
 
   -- where v is clean again
   pub heal : (w : World) → Within w → (Runs w v → Clean (fields_at w.control v)) → Between w
   heal w k here = record {
     sound = k.sound;
-    tidy = record { clean = λ x. by x (eqb_tells x v); free = k.tidy.free; fresh = k.tidy.fresh };
+    in_sync = record { clean = λ x. by x (eqb_tells x v); free = k.in_sync.free; fresh = k.in_sync.fresh };
   }
     where
       by : (x : ℕ) → IsOrNot x v → is_volume w.control x ≡ true → Runs w x → Clean (fields_at w.control x)
       by x (inl is) there runs = subst (λ j. Clean (fields_at w.control j)) (sym is.1) (here (subst (Runs w) is.1 runs))
-      by x (inr ne) there runs = λ h q. k.tidy.clean x there runs h q (λ e. absurd (ne.1 e))
+      by x (inr ne) there runs = λ h q. k.in_sync.clean x there runs h q (λ e. absurd (ne.1 e))
 
   -- what a move makes of its volume is so
   abbrev pub Here : World → Move → Type 0
   Here w m = is_volume w.control (target m) ≡ true → Runs w (target m) → CleanBut (target m) (next_of w m)
 
-  module _ (w : World) (m : Move) (here : Here w m) (none : Unheld (fields_at w.control (target m)) m) (tidy : TidyBut w) (on : ℕ → Bool) (fuse : ℕ → Option Fuse) (ps : List Pending) (es : List Event) (less : (j : ℕ) → on j ≡ true → w.control.on j ≡ true) where
+  module _ (w : World) (m : Move) (here : Here w m) (none : Unheld (fields_at w.control (target m)) m) (in_sync : FullDuplexInSyncBut w) (on : ℕ → Bool) (fuse : ℕ → Option Fuse) (ps : List Pending) (es : List Event) (less : (j : ℕ) → on j ≡ true → w.control.on j ≡ true) where
     abbrev W : World
     W = changed w m on fuse ps es
 
@@ -82,11 +82,11 @@ module _ (v t : ℕ) where
     abbrev new : Volume
     new = moved_keeping (keeps_staged m) (w.control.volume x) (next_of w m) (carried_in w m)
 
-    but-changed : Fresh W → TidyBut W
+    but-changed : Fresh W → FullDuplexInSyncBut W
     but-changed fresh = record {
-      clean = λ j there runs. at_cases (λ j (y : Volume). is_volume w.control j ≡ true → Runs w j → CleanBut j y.fields) w.control.volume x new here (λ j ne. tidy.clean j) j there
+      clean = λ j there runs. at_cases (λ j (y : Volume). is_volume w.control j ≡ true → Runs w j → CleanBut j y.fields) w.control.volume x new here (λ j ne. in_sync.clean j) j there
           (sym (ap w.control.on (at_part (λ (y : Volume). y.server) w.control.volume x new refl j)) ∙ less _ runs);
-      free = λ j. at_cases (λ j (y : Volume). Free y.fields) w.control.volume x new (free-left m (w.control.volume x) none (tidy.free x)) (λ j ne. tidy.free j) j;
+      free = λ j. at_cases (λ j (y : Volume). Free y.fields) w.control.volume x new (free-left m (w.control.volume x) none (in_sync.free x)) (λ j ne. in_sync.free j) j;
       fresh = fresh;
     }
 
@@ -95,22 +95,22 @@ module _ (v t : ℕ) where
     pub within-done : Here w m → Within (done w m f)
     within-done here = record {
       sound = keeps-sound.does w (Make m) f k.sound may;
-      tidy = but-changed w m here (unheld w m (come w m may)) k.tidy (done w m f).control.on (done w m f).control.fuse (settled m w.control.pending) (done w m f).events (λ j h. h) (fresh-done w m f (come w m may) k.tidy.fresh);
+      in_sync = but-changed w m here (unheld w m (come w m may)) k.in_sync (done w m f).control.on (done w m f).control.fuse (settled m w.control.pending) (done w m f).events (λ j h. h) (fresh-done w m f (come w m may) k.in_sync.fresh);
     }
 
     pub within-stop : Here w m → Within (done_in_stop w m f)
     within-stop here = record {
       sound = keeps-sound.counts w m f k.sound may;
-      tidy = but-changed w m here (unheld w m (come w m may)) k.tidy (done_in_stop w m f).control.on (done_in_stop w m f).control.fuse (settled_in_stop m w.control.pending) (done_in_stop w m f).events (off_later w.control.on (w.control.volume (target m)).server) (fresh-stop w m f k.tidy.fresh);
+      in_sync = but-changed w m here (unheld w m (come w m may)) k.in_sync (done_in_stop w m f).control.on (done_in_stop w m f).control.fuse (settled_in_stop m w.control.pending) (done_in_stop w m f).events (off_later w.control.on (w.control.volume (target m)).server) (fresh-stop w m f k.in_sync.fresh);
     }
 
     pub within-not : Within (not_done w (server_at w (target m)) f)
     within-not = let s : ℕ = server_at w (target m) in record {
       sound = keeps-sound.fails w (Make m) f tt k.sound may;
-      tidy = record {
-        clean = λ x there runs. k.tidy.clean x there (off_later w.control.on s _ runs);
-        free = k.tidy.free;
-        fresh = fresh-told w (not_done w s f) (Stopped s 0 ∷ []) refl refl k.tidy.fresh.unacked (λ n. refl) k.tidy.fresh;
+      in_sync = record {
+        clean = λ x there runs. k.in_sync.clean x there (off_later w.control.on s _ runs);
+        free = k.in_sync.free;
+        fresh = fresh-told w (not_done w s f) (Stopped s 0 ∷ []) refl refl k.in_sync.fresh.unacked (λ n. refl) k.in_sync.fresh;
       };
     }
 

@@ -31,14 +31,14 @@ use Rattle.dr_laws_sound.proofs.FitsFlash.{as_begun}
 use Rattle.dr_laws_sound.proofs.FitsPairs.{row, runs-done, part-same}
 use Rattle.dr_laws_sound.proofs.FitsWrites.{lands}
 use Rattle.dr_laws_freezes.proofs.WindowMoves.{is_locked, Unacked}
-use Rattle.dr_laws_freezes.proofs.Tidy.{is_synced, Clean}
+use Rattle.dr_laws_freezes.proofs.InSync.{is_synced, Clean}
 use Rattle.dr_laws_freezes.proofs.Windows.{Good}
 use Rattle.dr_laws_freezes.proofs.Chains.{WindowAlong, window-nil, StopFin, EndFin, PlanFin, good-none}
 use Rattle.dr_laws_freezes.proofs.WindowActs.{Between, Leaves, window-leaves, window-move, window-check}
 use Rattle.dr_facts.proofs.Entries.{any_reason, Fine, AllFine, fine-then, fine-one, fine-append, fine-if, from-all}
 use Rattle.dr_facts.proofs.SharedEntries.{where-fine, keep-fine, copies-fine}
 use Rattle.dr_laws_freezes.proofs.WindowPlans.{rows-between, answers-between, begun-between, EntriesHold}
-use Rattle.dr_laws_freezes.proofs.WindowBegins.{issued-tidy}
+use Rattle.dr_laws_freezes.proofs.WindowBegins.{issued-in_sync}
 use Rattle.dr_laws_freezes.proofs.WindowDrain.{locked-synced}
 use Rattle.dr_model.specs.declared.state.Part.TheVariants.{Global}
 use Rattle.std.specs.Prelude.{is_some}
@@ -170,7 +170,7 @@ module _ (p : Pending) (Fin : Option ℕ → World → Option Refusal → Type 0
 
   both-keeps : (tag : Option ℕ) (w : World) → Both tag w → (d : Entry) (m : Move) (ds : List Entry) → Keeps m → d w.control ≡ Do (Make m) → May w m → ((f : Option Fuse) → Both tag (done w m f) → WindowAlong Fin tag (done w m f) ds) → WindowAlong Fin tag w (d ∷ ds)
   both-keeps tag w k d (Keep u q) ds tt is may go = let m : Move = Keep u q in
-      window-within v t Fin stops tag w k.within d m ds is (good-both tag w k) may tt (λ there runs. k.within.tidy.clean u there runs) (λ f z. go f (record {
+      window-within v t Fin stops tag w k.within d m ds is (good-both tag w k) may tt (λ there runs. k.within.in_sync.clean u there runs) (λ f z. go f (record {
         within = z;
         on = runs-done w m f v k.on;
         going = part-same w m f (λ (g : Fields). is_suspended g.primary_state) refl v ∙ k.going;
@@ -178,7 +178,7 @@ module _ (p : Pending) (Fin : Option ℕ → World → Option Refusal → Type 0
         out = λ j is. ((k.out j is).0, part-same w m f (λ (g : Fields). contains g.out_of_sync t) refl v ∙ (k.out j is).1);
       }))
   both-keeps tag w k d (Note u q) ds tt is may go = let m : Move = Note u q in
-      window-within v t Fin stops tag w k.within d m ds is (good-both tag w k) may tt (λ there runs. k.within.tidy.clean u there runs) (λ f z. go f (record {
+      window-within v t Fin stops tag w k.within d m ds is (good-both tag w k) may tt (λ there runs. k.within.in_sync.clean u there runs) (λ f z. go f (record {
         within = z;
         on = runs-done w m f v k.on;
         going = part-same w m f (λ (g : Fields). is_suspended g.primary_state) refl v ∙ k.going;
@@ -188,18 +188,18 @@ module _ (p : Pending) (Fin : Option ℕ → World → Option Refusal → Type 0
   both-keeps tag w k d m ds e is may go = absurd e
 
   unacked : (w : World) → Within v t w → One w → Unacked w n
-  unacked w k one = (subst (AllPending (λ q. Unacked w q.w)) one (all-filter _ (is_write n) w.control.pending k.tidy.fresh.unacked)).0
+  unacked w k one = (subst (AllPending (λ q. Unacked w q.w)) one (all-filter _ (is_write n) w.control.pending k.in_sync.fresh.unacked)).0
 
   -- it lands on v, whose track is in sync again
   here-both : (w : World) → Within v t w → Here v t w (LandBoth n v t)
-  here-both w k there runs h q other = not_removed_from (fields_at w.control v).out_of_sync t q (k.tidy.clean v there runs h q other)
+  here-both w k there runs h q other = not_removed_from (fields_at w.control v).out_of_sync t q (k.in_sync.clean v there runs h q other)
 
   clean-both : (w : World) (f : Option Fuse) → Within v t w → Runs w v → One w → Clean (fields_at (done w (LandBoth n v t) f).control v)
   clean-both w f k on one =
       let there = (waits w k.sound p one).defined in
       subst (λ (y : Volume). Clean y.fields) (sym (at_same w.control.volume v (row w (LandBoth n v t) f))) (λ h q. elim (eqb_tells q t) [
         | inl is ↦ ap (contains _) is.1 ∙ not_removed (fields_at w.control v).out_of_sync t
-        | inr ne ↦ not_removed_from (fields_at w.control v).out_of_sync t q (k.tidy.clean v there on h q (λ a e. absurd (ne.1 e)))
+        | inr ne ↦ not_removed_from (fields_at w.control v).out_of_sync t q (k.in_sync.clean v there on h q (λ a e. absurd (ne.1 e)))
       ])
 
   lands-both : (w : World) → Both (Some n) w → Along w (now (LandBoth n v t) ∷ []) → WindowAlong Fin (Some n) w (now (LandBoth n v t) ∷ [])
@@ -220,8 +220,8 @@ module _ (p : Pending) (Fin : Option ℕ → World → Option Refusal → Type 0
         let one = comes w (now m) behind (Do (Make m)) refl al in
         let there = (waits w k.within.sound p k.one).defined in
         window-within v t Fin stops None w k.within (now m) m behind refl (good-both None w k) one.0
-        ((λ locked x ne. k.within.tidy.clean v there k.on (locked-synced (fields_at w.control v) k.going locked) x (λ a e. absurd (ne e))), unacked w k.within k.one)
-        (λ d r. k.within.tidy.clean u d r)
+        ((λ locked x ne. k.within.in_sync.clean v there k.on (locked-synced (fields_at w.control v) k.going locked) x (λ a e. absurd (ne e))), unacked w k.within k.one)
+        (λ d r. k.within.in_sync.clean u d r)
         (λ f z. window-copies Fin (Some n) (Both (Some n)) (λ w k. k.within.sound) (good-both (Some n)) (both-keeps (Some n)) v t volumes (now (LandBoth n v t) ∷ []) (done w m f) (record {
           within = z;
           on = runs-done w m f v k.on;
@@ -238,7 +238,7 @@ module _ (p : Pending) (Fin : Option ℕ → World → Option Refusal → Type 0
         let joined : rest ≡ copy_first volumes u t ++ (now (Mirror u t v n) ∷ behind) = append_assoc (copy_first volumes u t) (now (Mirror u t v n) ∷ copy_first volumes v t) (now (LandBoth n v t) ∷ []) in
         let one = comes w (now m) rest (Do (Make m)) refl al in
         window-within v t Fin stops None w (within-between v t w k) (now m) m rest refl (good-none w k.sound.rows) one.0 tt
-        (λ there runs h q other. insert_other (fields_at w.control v).out_of_sync t q (λ e. absurd (other refl e)) ∙ k.tidy.clean v there runs h q)
+        (λ there runs h q other. insert_other (fields_at w.control v).out_of_sync t q (λ e. absurd (other refl e)) ∙ k.in_sync.clean v there runs h q)
         (λ f z. subst (WindowAlong Fin None (done w m f)) (sym joined)
         (window-copies Fin None (Both None) (λ w k. k.within.sound) (good-both None) (both-keeps None) u t volumes (now (Mirror u t v n) ∷ behind) (done w m f) (record {
           within = z;
@@ -285,7 +285,7 @@ module _ (p : Pending) (Fin : Option ℕ → World → Option Refusal → Type 0
         by : (b : Bool) → is_synced f ≡ b → b ≡ false
         by true is =
             let both = and_parts (is_metro f.primary) _ is in
-            let clean : contains f.out_of_sync t ≡ false = k.tidy.clean v (waits w k.sound p one).defined on is t in
+            let clean : contains f.out_of_sync t ≡ false = k.in_sync.clean v (waits w k.sound p one).defined on is t in
             sym (and_from _ _ both.0 (and_from _ _ (ap not (not-suspended f.primary_state both.1)) (ap not clean))) ∙ none
         by false is = refl
 
@@ -334,7 +334,7 @@ module _ (w : World) (k : Between w) where
       let there = (may-issue w.control v t free).0 in
       let new : Pending = record { w = w.control.issued + 1; volume = v; track = t; landed = false } in
       window-carried (write_done w.control v t offset len bytes) new w.control refl refl (issued w k.sound v t offset len bytes there.defined there.low)
-      (record { sound = sound-issued w k.sound v t offset len bytes there.defined there.low; tidy = issued-tidy w k.tidy v t offset len bytes }) (one-new w k.sound v t offset len bytes there.defined there.low)
+      (record { sound = sound-issued w k.sound v t offset len bytes there.defined there.low; in_sync = issued-in_sync w k.in_sync v t offset len bytes }) (one-new w k.sound v t offset len bytes there.defined there.low)
 
   pub window-applies : (n : ℕ) (p : Pending) → find (is_write n) w.control.pending ≡ Some p → EntriesHold w (apply_done w.control p)
   window-applies n p found = window-carried (apply_done w.control p) p w.control refl refl (as_begun w) (begun-between w k) (found-alone n p w.control.pending found k.sound.queue.apart)

@@ -38,8 +38,8 @@ use Rattle.dr_facts.proofs.Tables.{at_part}
 use Rattle.dr_laws_sound.specs.Acknowledged.{acknowledgements, wrote, acked, acknowledged_by, said_in, IsUnlanded, AcknowledgesAnswered, AcknowledgedIsAnswered}
 use Rattle.dr_laws_sound.proofs.Turns.{act-cases, after_act, done_in_stop, server_at, server_of}
 use Rattle.dr_laws_sound.proofs.Parts as parts
-use Rattle.dr_laws_sound.proofs.Hushed.{mirrors, cuts_any, Unheard, unheard-none, mirrors-then, uncut-then, HasStop, Mute, Turned, act-turned, none-then, Mum, mum-same, mum-then, StaysPending, pending-same, AllHush, Comes, carry-hushed}
-use Rattle.dr_laws_sound.proofs.HushedPlans.{HushedPlan, NotHeld, done-not, refused-not, phase-not, acknowledges, case-hushed, says-hushed, lines-hushed, if-plan, unless-plan, named-plan}
+use Rattle.dr_laws_sound.proofs.Unacknowledged.{mirrors, cuts_any, NoAcknowledgement, no_acknowledgement-none, mirrors-then, uncut-then, HasStop, AcknowledgesNothing, Turned, act-turned, none-then, NothingAcknowledged, since-same, since-then, StaysPending, pending-same, AllAcknowledgeNothing, Comes, carry-unacknowledged}
+use Rattle.dr_laws_sound.proofs.AcknowledgingSteps.{PlanAcknowledgesNothing, NotHeld, done-not, refused-not, phase-not, acknowledges, case-unacknowledged, says-unacknowledged, lines-unacknowledged, if-plan, unless-plan, named-plan}
 use Rattle.dr_laws_sound.proofs.Cases.{of-case, Compares}
 use Rattle.dr_facts.proofs.Entries.{any_world, any_reason, fine-none, fine-now}
 use Rattle.dr_facts.proofs.SharedEntries.{copies-fine, send_first-fine, after_write-fine, starts-fine}
@@ -111,35 +111,35 @@ record Told (w : World) (o : Outcome) (ns : List ℕ) : Type 0 where
 refused-told : (w : World) (r : Refusal) (ns : List ℕ) → Told w (w, Some r) ns
 refused-told w r ns = record { added = []; events = sym (append-nil w.events); acks = refl; kept = λ e q. refl; uncut = refl; way = inl refl }
 
-hush-told : (w : World) (o : Outcome) → Comes true w o → Told w o []
-hush-told w o h = record { added = h.mum.added; events = h.mum.events; acks = h.mum.silent.none ∙ sym (well-none o.1); kept = λ e q. h.stays.pending; uncut = h.mum.silent.uncut refl; way = inl h.mum.silent.plain }
+unacknowledged-told : (w : World) (o : Outcome) → Comes true w o → Told w o []
+unacknowledged-told w o h = record { added = h.since.added; events = h.since.events; acks = h.since.silent.none ∙ sym (well-none o.1); kept = λ e q. h.stays.pending; uncut = h.since.silent.uncut refl; way = inl h.since.silent.plain }
 
 -- entries that acknowledge nothing, and others behind them
-then-told : (w : World) (ds es : List Entry) (ns : List ℕ) → AllHush true ds → ((v : World) → v.control.on ≡ w.control.on → StaysPending w.control v.control → Told v (carry v es) ns) → Told w (carry w (ds ++ es)) ns
-then-told w ds es ns hush rest = subst (λ o. Told w o ns) (sym (carry-append w ds es)) (by (carry w ds) (carry-hushed true w ds hush))
+then-told : (w : World) (ds es : List Entry) (ns : List ℕ) → AllAcknowledgeNothing true ds → ((v : World) → v.control.on ≡ w.control.on → StaysPending w.control v.control → Told v (carry v es) ns) → Told w (carry w (ds ++ es)) ns
+then-told w ds es ns nothing rest = subst (λ o. Told w o ns) (sym (carry-append w ds es)) (by (carry w ds) (carry-unacknowledged true w ds nothing))
   where
     by : (o : Outcome) → Comes true w o → Told w (onward o (λ v. carry v es)) ns
     by (v, None) h =
         let t : Told v (carry v es) ns = rest v (h.on refl) h.stays in
         record {
-          added = h.mum.added ++ t.added;
-          events = t.events ∙ ap (λ es. es ++ t.added) h.mum.events ∙ append_assoc w.events h.mum.added t.added;
-          acks = none-then h.mum.added t.added h.mum.silent.none ∙ t.acks;
+          added = h.since.added ++ t.added;
+          events = t.events ∙ ap (λ es. es ++ t.added) h.since.events ∙ append_assoc w.events h.since.added t.added;
+          acks = none-then h.since.added t.added h.since.silent.none ∙ t.acks;
           kept = λ e q. t.kept e q ∙ h.stays.pending;
-          uncut = uncut-then h.mum.added t.added (h.mum.silent.uncut refl) t.uncut;
-          way = settles-first h.mum.added t.added h.mum.silent.plain t.way;
+          uncut = uncut-then h.since.added t.added (h.since.silent.uncut refl) t.uncut;
+          way = settles-first h.since.added t.added h.since.silent.plain t.way;
         }
-    by (v, Some r) h = record { added = h.mum.added; events = h.mum.events; acks = h.mum.silent.none; kept = λ e q. absurd cc; uncut = h.mum.silent.uncut refl; way = inl h.mum.silent.plain }
+    by (v, Some r) h = record { added = h.since.added; events = h.since.events; acks = h.since.silent.none; kept = λ e q. absurd cc; uncut = h.since.silent.uncut refl; way = inl h.since.silent.plain }
 
 -- a source's targets keep a track
-keeps-hush : (volumes : List ℕ) (v t : ℕ) → AllHush true (copy_first volumes v t)
-keeps-hush = copies-fine any_world (λ w a. Mute true a) any_reason (λ u t w any. refl) (λ u t w any. refl)
+keeps-unacknowledged : (volumes : List ℕ) (v t : ℕ) → AllAcknowledgeNothing true (copy_first volumes v t)
+keeps-unacknowledged = copies-fine any_world (λ w a. AcknowledgesNothing true a) any_reason (λ u t w any. refl) (λ u t w any. refl)
 
-now-hush : (m : Move) (ds : List Entry) → Mute true (Make m) → AllHush true ds → AllHush true (now m ∷ ds)
-now-hush m ds mute rest = fine-now any_world (λ w a. Mute true a) any_reason m ds (λ w any. mute) rest
+now-unacknowledged : (m : Move) (ds : List Entry) → AcknowledgesNothing true (Make m) → AllAcknowledgeNothing true ds → AllAcknowledgeNothing true (now m ∷ ds)
+now-unacknowledged m ds nothing rest = fine-now any_world (λ w a. AcknowledgesNothing true a) any_reason m ds (λ w any. nothing) rest
 
-none-hush : AllHush true []
-none-hush = fine-none any_world (λ w a. Mute true a) any_reason
+none-unacknowledged : AllAcknowledgeNothing true []
+none-unacknowledged = fine-none any_world (λ w a. AcknowledgesNothing true a) any_reason
 
 -- checks
 check-told : (w : World) (ok : Control → Bool) (r : Refusal) (es : List Entry) (ns : List ℕ) → (ok w.control ≡ true → Told w (carry w es) ns) → Told w (carry w (check ok r ∷ es)) ns
@@ -219,7 +219,7 @@ module _ (k : Control) (n v t : ℕ) where
   runs-on w u runs on stays = (λ i. on i (stays.server v i)) ∙ runs
 
   alone-told : (w : World) → is_running v w.control ≡ true → Told w (carry w (land_alone k.volumes n v t)) (n ∷ [])
-  alone-told w runs = then-told w (copy_first k.volumes v t) (land_on n v t ∷ []) (n ∷ []) (keeps-hush k.volumes v t) (λ u on stays. land-told u n v (runs-on w u runs on stays) t)
+  alone-told w runs = then-told w (copy_first k.volumes v t) (land_on n v t ∷ []) (n ∷ []) (keeps-unacknowledged k.volumes v t) (λ u on stays. land-told u n v (runs-on w u runs on stays) t)
 
   -- behind a mirrored write v's targets keep the track, and it lands, or a server stops
   record Rest (w : World) (o : Outcome) : Type 0 where
@@ -246,30 +246,30 @@ module _ (k : Control) (n v t : ℕ) where
 
   rest-turned : (w : World) (r : Turn) (es : List Entry) → Turned true w r → ((u : World) → u.control.on ≡ w.control.on → StaysPending w.control u.control → Rest u (carry u es)) → Rest w (continue r.0 r.1 (λ u. carry u es))
   rest-turned w (u, None) es h more =
-      let t : Rest u (carry u es) = more u (h.hushed.on refl) h.hushed.stays in
+      let t : Rest u (carry u es) = more u (h.unacknowledged.on refl) h.unacknowledged.stays in
       record {
-        added = h.hushed.mum.added ++ t.added;
-        events = t.events ∙ ap (λ es. es ++ t.added) h.hushed.mum.events ∙ append_assoc w.events h.hushed.mum.added t.added;
-        acks = none-then h.hushed.mum.added t.added h.hushed.mum.silent.none ∙ t.acks;
-        uncut = uncut-then h.hushed.mum.added t.added (h.hushed.mum.silent.uncut refl) t.uncut;
-        plain = mirrors-then h.hushed.mum.added t.added h.hushed.mum.silent.plain ∙ t.plain;
+        added = h.unacknowledged.since.added ++ t.added;
+        events = t.events ∙ ap (λ es. es ++ t.added) h.unacknowledged.since.events ∙ append_assoc w.events h.unacknowledged.since.added t.added;
+        acks = none-then h.unacknowledged.since.added t.added h.unacknowledged.since.silent.none ∙ t.acks;
+        uncut = uncut-then h.unacknowledged.since.added t.added (h.unacknowledged.since.silent.uncut refl) t.uncut;
+        plain = mirrors-then h.unacknowledged.since.added t.added h.unacknowledged.since.silent.plain ∙ t.plain;
         closed = by t.closed;
       }
     where
-      by : In (Ack n) (more u (h.hushed.on refl) h.hushed.stays).added ⊎ HasStop (more u (h.hushed.on refl) h.hushed.stays).added
-          → In (Ack n) (h.hushed.mum.added ++ (more u (h.hushed.on refl) h.hushed.stays).added) ⊎ HasStop (h.hushed.mum.added ++ (more u (h.hushed.on refl) h.hushed.stays).added)
-      by (inl acked) = inl (in-second h.hushed.mum.added _ (Ack n) acked)
-      by (inr s) = inr (record { server = s.server; landed = s.landed; here = in-second h.hushed.mum.added _ (Stopped s.server s.landed) s.here })
-  rest-turned w (u, Some s) es h more = record { added = h.hushed.mum.added; events = h.hushed.mum.events; acks = h.hushed.mum.silent.none; uncut = h.hushed.mum.silent.uncut refl; plain = h.hushed.mum.silent.plain; closed = inr (by h.ends) }
+      by : In (Ack n) (more u (h.unacknowledged.on refl) h.unacknowledged.stays).added ⊎ HasStop (more u (h.unacknowledged.on refl) h.unacknowledged.stays).added
+          → In (Ack n) (h.unacknowledged.since.added ++ (more u (h.unacknowledged.on refl) h.unacknowledged.stays).added) ⊎ HasStop (h.unacknowledged.since.added ++ (more u (h.unacknowledged.on refl) h.unacknowledged.stays).added)
+      by (inl acked) = inl (in-second h.unacknowledged.since.added _ (Ack n) acked)
+      by (inr s) = inr (record { server = s.server; landed = s.landed; here = in-second h.unacknowledged.since.added _ (Stopped s.server s.landed) s.here })
+  rest-turned w (u, Some s) es h more = record { added = h.unacknowledged.since.added; events = h.unacknowledged.since.events; acks = h.unacknowledged.since.silent.none; uncut = h.unacknowledged.since.silent.uncut refl; plain = h.unacknowledged.since.silent.plain; closed = inr (by h.ends) }
     where
-      by : (◌≡◌ {A = Option ℕ} (Some s) None) ⊎ HasStop h.hushed.mum.added → HasStop h.hushed.mum.added
+      by : (◌≡◌ {A = Option ℕ} (Some s) None) ⊎ HasStop h.unacknowledged.since.added → HasStop h.unacknowledged.since.added
       by (inl none) = absurd cc
       by (inr stop) = stop
 
   -- what an entry that does something or nothing comes to
   abbrev Doing : Next → Type 0
   Doing Pass = Unit {0}
-  Doing (Do a) = Mute true a
+  Doing (Do a) = AcknowledgesNothing true a
   Doing (End r) = ⊥
 
   keep-does : (u : ℕ) (k : Control) → Doing (keep_on v t u k)
@@ -318,15 +318,15 @@ module _ (k : Control) (n v t : ℕ) where
   mirrored-told : (w : World) (u : ℕ) → is_running v w.control ≡ true → Told w (carry w (land_mirrored k.volumes n v t u)) (n ∷ [])
   mirrored-told w u runs =
       subst (λ ds. Told w (carry w ds) (n ∷ [])) (sym (append_assoc (now (Unsync v t) ∷ copy_first k.volumes u t) (now (Mirror u t v n) ∷ copy_first k.volumes v t) (now (LandBoth n v t) ∷ [])))
-      (then-told w (now (Unsync v t) ∷ copy_first k.volumes u t) (now (Mirror u t v n) ∷ lands_behind k.volumes) (n ∷ []) (now-hush (Unsync v t) _ refl (keeps-hush k.volumes u t))
+      (then-told w (now (Unsync v t) ∷ copy_first k.volumes u t) (now (Mirror u t v n) ∷ lands_behind k.volumes) (n ∷ []) (now-unacknowledged (Unsync v t) _ refl (keeps-unacknowledged k.volumes u t))
       (λ x on stays. mirror-told x u (runs-on w x runs on stays)))
 
-  sent-hush : (u : ℕ) → AllHush true (send_first k.volumes v u t)
-  sent-hush u = send_first-fine any_world (λ w a. Mute true a) any_reason (λ u t w any. refl) (λ u t w any. refl) k.volumes v u t (λ w any. refl) (λ last w any. refl) (λ last w any. refl)
+  sent-unacknowledged : (u : ℕ) → AllAcknowledgeNothing true (send_first k.volumes v u t)
+  sent-unacknowledged u = send_first-fine any_world (λ w a. AcknowledgesNothing true a) any_reason (λ u t w any. refl) (λ u t w any. refl) k.volumes v u t (λ w any. refl) (λ last w any. refl) (λ last w any. refl)
 
   collided-told : (w : World) (u : ℕ) → is_running v w.control ≡ true → Told w (carry w (send_first k.volumes v u t ++ land_alone k.volumes n v t)) (n ∷ [])
   collided-told w u runs =
-      then-told w (send_first k.volumes v u t) (land_alone k.volumes n v t) (n ∷ []) (sent-hush u)
+      then-told w (send_first k.volumes v u t) (land_alone k.volumes n v t) (n ∷ []) (sent-unacknowledged u)
       (λ x on stays. alone-told x (runs-on w x runs on stays))
 
   -- what is acknowledged where the write waits, and where it doesn't
@@ -334,14 +334,14 @@ module _ (k : Control) (n v t : ℕ) where
   unless_waits b = cond b [] (n ∷ [])
 
   parted-told : (w : World) (busy : Bool) → is_running v w.control ≡ true → Told w (carry w (now (Suspend v busy) ∷ cond busy [] (land_alone k.volumes n v t))) (unless_waits busy)
-  parted-told w true runs = hush-told w _ (carry-hushed true w _ (now-hush (Suspend v true) [] refl none-hush))
-  parted-told w false runs = then-told w (now (Suspend v false) ∷ []) (land_alone k.volumes n v t) (n ∷ []) (now-hush (Suspend v false) [] refl none-hush) (λ x on stays. alone-told x (runs-on w x runs on stays))
+  parted-told w true runs = unacknowledged-told w _ (carry-unacknowledged true w _ (now-unacknowledged (Suspend v true) [] refl none-unacknowledged))
+  parted-told w false runs = then-told w (now (Suspend v false) ∷ []) (land_alone k.volumes n v t) (n ∷ []) (now-unacknowledged (Suspend v false) [] refl none-unacknowledged) (λ x on stays. alone-told x (runs-on w x runs on stays))
 
   entries-told : (w : World) → is_running v w.control ≡ true → Told w (carry w (land_entries k n v t)) (unless_waits (waits k v t))
   entries-told w runs = by (held (fields_at k v)) (goes_over (fields_at k v) t) (is_parted k v) (collides (fields_at k v) t)
     where
       by : (a c d e : Bool) → Told w (carry w (cond a [] (cond c (cond d (land_parted k n v t) (land_mirrored k.volumes n v t (partner_of k v))) (cond e (send_first k.volumes v (partner_of k v) t ++ land_alone k.volumes n v t) (land_alone k.volumes n v t))))) (unless_waits (a || (c && (d && is_grouped k v (partner_of k v)))))
-      by true c d e = hush-told w _ (carry-hushed true w [] none-hush)
+      by true c d e = unacknowledged-told w _ (carry-unacknowledged true w [] none-unacknowledged)
       by false true true e = parted-told w (is_grouped k v (partner_of k v)) runs
       by false true false e = mirrored-told w (partner_of k v) runs
       by false false d true = collided-told w (partner_of k v) runs
@@ -354,8 +354,8 @@ module _ (k : Control) (n v t : ℕ) where
       (drop-told w n (is_open v) _ _ _ refl
       (drop-told w n (is_settled v) (relation_state k v) _ _ refl (entries-told w runs))))
 
-  after-hush : (s : ℕ) → AllHush true (after_write k v t s)
-  after-hush s = after_write-fine any_world (λ w a. Mute true a) any_reason k v t s (λ busy w any. refl)
+  after-unacknowledged : (s : ℕ) → AllAcknowledgeNothing true (after_write k v t s)
+  after-unacknowledged s = after_write-fine any_world (λ w a. AcknowledgesNothing true a) any_reason k v t s (λ busy w any. refl)
 
 -- ---- a server starts
 
@@ -363,8 +363,8 @@ abbrev one_or_none : Option ℕ → List ℕ
 one_or_none None = []
 one_or_none (Some n) = n ∷ []
 
-start-hush : (s : ℕ) (vs : List ℕ) → AllHush true (start_entries s vs)
-start-hush s vs = starts-fine any_world (λ w a. Mute true a) any_reason s vs (λ v w any. refl) (λ v w any. refl)
+start-unacknowledged : (s : ℕ) (vs : List ℕ) → AllAcknowledgeNothing true (start_entries s vs)
+start-unacknowledged s vs = starts-fine any_world (λ w a. AcknowledgesNothing true a) any_reason s vs (λ v w any. refl) (λ v w any. refl)
 
 same-landed : (j k : Control) (s : ℕ) → StaysPending j k → landed_on k s ≡ landed_on j s
 same-landed j k s st = λ i. option_map (λ (p : Pending). p.w) (find (λ p. p.landed && (list_any (nat_eq p.volume) (st.volumes i) && nat_eq (st.server p.volume i) s)) (st.pending i))
@@ -375,13 +375,13 @@ acknowledge-told w s (Some n) is = subst (λ x. Told w x (n ∷ [])) (sym (carry
     (record { added = Ack n ∷ []; events = refl; acks = refl; kept = λ e q. absurd cc; uncut = refl; way = inl refl })
 
 starting-told : (w : World) (s : ℕ) (vs : List ℕ) → Told w (carry w (start_entries s vs ++ acknowledge_on s ∷ [])) (one_or_none (landed_on w.control s))
-starting-told w s vs = then-told w (start_entries s vs) (acknowledge_on s ∷ []) _ (start-hush s vs) (λ u on stays. acknowledge-told u s (landed_on w.control s) (same-landed w.control u.control s stays))
+starting-told w s vs = then-told w (start_entries s vs) (acknowledge_on s ∷ []) _ (start-unacknowledged s vs) (λ u on stays. acknowledge-told u s (landed_on w.control s) (same-landed w.control u.control s stays))
 
 -- ---- plans
 
-follow-told : (still : Bool) (w u : World) (r : Refusal) (follows : ℕ → List Entry) → ((s : ℕ) → AllHush still (follows s)) → Mum still u (follow u r follows)
-follow-told still w u (StoppedIn s) follows hush = (carry-hushed still u (follows s.0) (hush s.0)).mum
-follow-told still w u r follows hush = mum-same still u
+follow-told : (still : Bool) (w u : World) (r : Refusal) (follows : ℕ → List Entry) → ((s : ℕ) → AllAcknowledgeNothing still (follows s)) → NothingAcknowledged still u (follow u r follows)
+follow-told still w u (StoppedIn s) follows nothing = (carry-unacknowledged still u (follows s.0) (nothing s.0)).since
+follow-told still w u r follows nothing = since-same still u
 
 -- what a plan tells before its answer where its entries end so, and what it leaves pending
 record TellsAt (w : World) (p : Plan) (ns : List ℕ) (o : Outcome) : Type 0 where
@@ -395,7 +395,7 @@ record TellsAt (w : World) (p : Plan) (ns : List ℕ) (o : Outcome) : Type 0 whe
 abbrev PlanTold : World → Plan → List ℕ → Type 0
 PlanTold w p ns = TellsAt w p ns (carry (begun w p) p.entries)
 
-plan-told : (w : World) (p : Plan) (ns : List ℕ) → Unheard true p.told → ((s : ℕ) → AllHush true (p.follows s)) → ((k : Control) → (p.last k).pending ≡ k.pending) → (o : Outcome) → Told (begun w p) o ns → TellsAt w p ns o
+plan-told : (w : World) (p : Plan) (ns : List ℕ) → NoAcknowledgement true p.told → ((s : ℕ) → AllAcknowledgeNothing true (p.follows s)) → ((k : Control) → (p.last k).pending ≡ k.pending) → (o : Outcome) → Told (begun w p) o ns → TellsAt w p ns o
 plan-told w p ns first follows last (u, None) t = record {
   told = p.told ++ t.added;
   events = t.events ∙ append_assoc w.events p.told t.added;
@@ -405,7 +405,7 @@ plan-told w p ns first follows last (u, None) t = record {
   way = settles-first p.told t.added first.plain t.way;
 }
 plan-told w p ns first follows last (u, Some r) t =
-    let m : Mum true u (follow u r p.follows) = follow-told true w u r p.follows follows in
+    let m : NothingAcknowledged true u (follow u r p.follows) = follow-told true w u r p.follows follows in
     record {
       told = p.told ++ (t.added ++ m.added);
       events = m.events ∙ ap (λ es. es ++ m.added) t.events ∙ append_assoc (w.events ++ p.told) t.added m.added ∙ append_assoc w.events p.told (t.added ++ m.added);
@@ -445,15 +445,15 @@ other-none (Apply n) said other = absurd cc
 other-none (Start name) said other = absurd cc
 other-none step said other = refl
 
-hushed-answers : (asked : Result Step ℕ) → ((said : Said) → acknowledged_by asked said ≡ []) → (w : World) (p : Plan) → HushedPlan w p → Answers asked w p
-hushed-answers asked none w p h =
-    let m : Mum false w (carried_out w p).0 = h.mum in
+unacknowledged-answers : (asked : Result Step ℕ) → ((said : Said) → acknowledged_by asked said ≡ []) → (w : World) (p : Plan) → PlanAcknowledgesNothing w p → Answers asked w p
+unacknowledged-answers asked none w p h =
+    let m : NothingAcknowledged false w (carried_out w p).0 = h.since in
     record { told = m.added; events = m.events; acks = m.silent.none ∙ sym (none _); held = λ n e. absurd (answered-not p (carried_out w p).0.control (carried_out w p).1 h.says n e); way = inl m.silent.plain }
 
 -- a refusal
 refused-answers : (asked : Result Step ℕ) → ((r : Refusal) → acknowledged_by asked (Refused r) ≡ []) → (w : World) (r : Refusal) → Answers asked w (refuses r)
 refused-answers asked none w r =
-    let m : Mum false w (carried_out w (refuses r)).0 = (says-hushed w (Refused r) (refused-not r)).mum in
+    let m : NothingAcknowledged false w (carried_out w (refuses r)).0 = (says-unacknowledged w (Refused r) (refused-not r)).since in
     record { told = m.added; events = m.events; acks = m.silent.none ∙ sym (by (carry (begun w (refuses r)) []) (carry-none (begun w (refuses r)))); held = λ n e. absurd (answered-not (refuses r) (carried_out w (refuses r)).0.control (carried_out w (refuses r)).1 (λ k. refused-not r) n e); way = inl m.silent.plain }
   where
     by : (o : Outcome) → o ≡ (begun w (refuses r), None) → acknowledged_by asked (answered (refuses r) (finish (refuses r) o.0 o.1).control o.1) ≡ []
@@ -492,14 +492,14 @@ write-answers w v t offset len bytes =
     let p : Plan = write_done k v t offset len bytes in
     written-answers (Ok (Write v t offset len bytes)) (λ said. refl) w k n v t p (λ j. refl)
     (record { waits = record { w = n; volume = v; track = t; landed = false }; here = in-second k.pending (record { w = n; volume = v; track = t; landed = false } ∷ []) (record { w = n; volume = v; track = t; landed = false }) (inl refl); is = refl })
-    (plan-told w p (cond (waits k v t) [] (n ∷ [])) (record { none = refl; plain = refl; uncut = λ h. refl }) (after-hush k n v t) (λ j. refl) _ (landing-told k n v t (begun w p)))
+    (plan-told w p (cond (waits k v t) [] (n ∷ [])) (record { none = refl; plain = refl; uncut = λ h. refl }) (after-unacknowledged k n v t) (λ j. refl) _ (landing-told k n v t (begun w p)))
 
 apply-answers : (w : World) (n : ℕ) (p : Pending) → find (is_write n) w.control.pending ≡ Some p → Answers (Ok (Apply n)) w (apply_done w.control p)
 apply-answers w n p is =
     let k : Control = w.control in
     written-answers (Ok (Apply n)) (λ said. refl) w k p.w p.volume p.track (apply_done k p) (λ j. refl)
     (record { waits = p; here = (found (is_write n) k.pending p is).0; is = refl })
-    (plan-told w (apply_done k p) (cond (waits k p.volume p.track) [] (p.w ∷ [])) (unheard-none true) (after-hush k p.w p.volume p.track) (λ j. refl) _ (landing-told k p.w p.volume p.track (begun w (apply_done k p))))
+    (plan-told w (apply_done k p) (cond (waits k p.volume p.track) [] (p.w ∷ [])) (no_acknowledgement-none true) (after-unacknowledged k p.w p.volume p.track) (λ j. refl) _ (landing-told k p.w p.volume p.track (begun w (apply_done k p))))
 
 -- a server that starts
 module _ (w : World) (name : Name) (s : ℕ) where
@@ -521,7 +521,7 @@ module _ (w : World) (name : Name) (s : ℕ) where
   start-answers : Answers (Ok (Start name)) w starts
   start-answers =
       let o : Outcome = carry (begun w starts) starts.entries in
-      let t : PlanTold w starts (one_or_none (landed_on w.control s)) = plan-told w starts (one_or_none (landed_on w.control s)) (record { none = refl; plain = refl; uncut = λ h. refl }) (λ q. none-hush) (λ j. refl) o (starting-told (begun w starts) s w.control.volumes) in
+      let t : PlanTold w starts (one_or_none (landed_on w.control s)) = plan-told w starts (one_or_none (landed_on w.control s)) (record { none = refl; plain = refl; uncut = λ h. refl }) (λ q. none-unacknowledged) (λ j. refl) o (starting-told (begun w starts) s w.control.volumes) in
       record {
         told = t.told;
         events = t.events;
@@ -547,13 +547,13 @@ module _ (w : World) (line : ℕ) where
       on : (s : ℕ) → Answers (Ok (Start name)) w (only_says (Done Alone))
       on s =
           let p : Plan = only_says (Done Alone) in
-          let m : Mum false w (carried_out w p).0 = (says-hushed w (Done Alone) (done-not Alone)).mum in
+          let m : NothingAcknowledged false w (carried_out w p).0 = (says-unacknowledged w (Done Alone) (done-not Alone)).since in
           record { told = m.added; events = m.events; acks = m.silent.none ∙ sym (none (carry (begun w p) [])); held = λ n e. absurd (answered-not p (carried_out w p).0.control (carried_out w p).1 (λ k. done-not Alone) n e); way = inl m.silent.plain }
         where
           none : (o : Outcome) → acked (answered (only_says (Done Alone)) (finish (only_says (Done Alone)) o.0 o.1).control o.1) ≡ []
           none (u, None) = refl
           none (u, Some r) = refl
-  step-answers step alone = hushed-answers (Ok step) (λ said. other-none step said refl) w (plan_of w.control w.events line step) (case-hushed w line (Ok step) (plan_of w.control w.events line step) (of-case w.control w.events line step) refl)
+  step-answers step alone = unacknowledged-answers (Ok step) (λ said. other-none step said refl) w (plan_of w.control w.events line step) (case-unacknowledged w line (Ok step) (plan_of w.control w.events line step) (of-case w.control w.events line step) refl)
 
   none-refused : (step : Step) (r : Refusal) → acknowledged_by (Ok step) (Refused r) ≡ []
   none-refused (Write v t offset len bytes) r = refl
@@ -570,7 +570,7 @@ pub record StepTold (w : World) (t : Task) : Type 0 where
   pub answers : AcknowledgesAnswered w t
   pub way : StepWay answers.told
 
-answers-task : (v : World) (t : Task) → let x : Part = (course v t).last in (a : Answers t.asked x.world x.plan) → (m : Mum false v x.world) → StepWay (m.added ++ a.told) → StepTold v t
+answers-task : (v : World) (t : Task) → let x : Part = (course v t).last in (a : Answers t.asked x.world x.plan) → (m : NothingAcknowledged false v x.world) → StepWay (m.added ++ a.told) → StepTold v t
 unfolding after_plan
 answers-task v t a m way =
     let x : Part = (course v t).last in
@@ -585,15 +585,15 @@ answers-task v t a m way =
     }
 
 -- an `@run`
-run-mum : (w : World) (t : Task) → Mum false w (course w t).last.world
-run-mum w t = parts.last-plan (Mum false w) (λ u p comes m. let h = mum-then false w u (carried_out u p).0 m (case-hushed u 0 comes.asked p (comes.case 0) comes.other).mum in record { added = h.added; events = h.events; silent = h.silent }) w t (mum-same false w)
+run-since : (w : World) (t : Task) → NothingAcknowledged false w (course w t).last.world
+run-since w t = parts.last-plan (NothingAcknowledged false w) (λ u p comes m. let h = since-then false w u (carried_out u p).0 m (case-unacknowledged u 0 comes.asked p (comes.case 0) comes.other).since in record { added = h.added; events = h.events; silent = h.silent }) w t (since-same false w)
 
 form-not : (s : ℕ) (k : Control) (r : Option Refusal) → NotHeld (form_said s k r)
 form-not s k None = phase-not (session_in k.sessions s)
 form-not s k (Some r) = refused-not r
 
 pub told-task : (w : World) (t : Task) → StepTold w t
-unfolding hushed-answers
+unfolding unacknowledged-answers
 told-task w t = by t.asked
   where
     by : (asked : Result Step ℕ) → StepTold w (record { line = t.line; asked = asked; listed = t.listed })
@@ -601,23 +601,23 @@ told-task w t = by t.asked
         let x = formed w s n in
         let said : Said = form_said s x.world.control x.refusal in
         let run : Task = record { line = t.line; asked = Ok (Run s n); listed = t.listed } in
-        let m : Mum false w x.world = run-mum w run in
-        let a : Answers (Ok (Run s n)) x.world (only_says said) = hushed-answers (Ok (Run s n)) (λ a. refl) x.world (only_says said) (says-hushed x.world said (form-not s x.world.control x.refusal)) in
-        answers-task w run a m (inl (mirrors-then m.added a.told m.silent.plain ∙ (says-hushed x.world said (form-not s x.world.control x.refusal)).mum.silent.plain))
+        let m : NothingAcknowledged false w x.world = run-since w run in
+        let a : Answers (Ok (Run s n)) x.world (only_says said) = unacknowledged-answers (Ok (Run s n)) (λ a. refl) x.world (only_says said) (says-unacknowledged x.world said (form-not s x.world.control x.refusal)) in
+        answers-task w run a m (inl (mirrors-then m.added a.told m.silent.plain ∙ (says-unacknowledged x.world said (form-not s x.world.control x.refusal)).since.silent.plain))
     by (Ok (Compare v u)) =
         let asked : Result Step ℕ = Ok (Compare v u) in
         let a : Answers asked w (compared w v u) =
         if-plan (Answers asked w) (refused-answers asked (λ r. refl) w) (has_room w.events) (compare_plan w.control w.contents v u) (refuses JournalFull)
-        (hushed-answers asked (λ a. refl) w (compare_plan w.control w.contents v u) (case-hushed w t.line asked (compare_plan w.control w.contents v u) (Compares w.contents v u) refl)) (refused-answers asked (λ r. refl) w JournalFull) in
-        answers-task w (record { line = t.line; asked = asked; listed = t.listed }) a (record { added = []; events = sym (append-nil w.events); silent = unheard-none false }) a.way
+        (unacknowledged-answers asked (λ a. refl) w (compare_plan w.control w.contents v u) (case-unacknowledged w t.line asked (compare_plan w.control w.contents v u) (Compares w.contents v u) refl)) (refused-answers asked (λ r. refl) w JournalFull) in
+        answers-task w (record { line = t.line; asked = asked; listed = t.listed }) a (record { added = []; events = sym (append-nil w.events); silent = no_acknowledgement-none false }) a.way
     by (Ok Image) =
         let asked : Result Step ℕ = Ok Image in
         let a : Answers asked w (imaged w t.listed) =
         if-plan (Answers asked w) (refused-answers asked (λ r. refl) w) (has_room_for image_events w.events) (image_plan t.listed) (refuses JournalFull)
-        (hushed-answers asked (λ a. refl) w (image_plan t.listed) (lines-hushed w (image_told t.listed) (image-lines t.listed))) (refused-answers asked (λ r. refl) w JournalFull) in
-        answers-task w (record { line = t.line; asked = asked; listed = t.listed }) a (record { added = []; events = sym (append-nil w.events); silent = unheard-none false }) a.way
-    by (Ok step) = let a = plan-answers w t.line step refl in answers-task w (record { line = t.line; asked = Ok step; listed = t.listed }) a (record { added = []; events = sym (append-nil w.events); silent = unheard-none false }) a.way
-    by (Err column) = let a = refused-answers (Err column) (λ r. refl) w (Syntax column) in answers-task w (record { line = t.line; asked = Err column; listed = t.listed }) a (record { added = []; events = sym (append-nil w.events); silent = unheard-none false }) a.way
+        (unacknowledged-answers asked (λ a. refl) w (image_plan t.listed) (lines-unacknowledged w (image_told t.listed) (image-lines t.listed))) (refused-answers asked (λ r. refl) w JournalFull) in
+        answers-task w (record { line = t.line; asked = asked; listed = t.listed }) a (record { added = []; events = sym (append-nil w.events); silent = no_acknowledgement-none false }) a.way
+    by (Ok step) = let a = plan-answers w t.line step refl in answers-task w (record { line = t.line; asked = Ok step; listed = t.listed }) a (record { added = []; events = sym (append-nil w.events); silent = no_acknowledgement-none false }) a.way
+    by (Err column) = let a = refused-answers (Err column) (λ r. refl) w (Syntax column) in answers-task w (record { line = t.line; asked = Err column; listed = t.listed }) a (record { added = []; events = sym (append-nil w.events); silent = no_acknowledgement-none false }) a.way
 
 pub acked-task : (w : World) (t : Task) → AcknowledgesAnswered w t
 acked-task w t = (told-task w t).answers

@@ -180,7 +180,7 @@ carry-onward w [] = onward-same w
 carry-onward w (d ∷ ds) = go-onward w (d w.control) (λ v. carry v ds) (λ v. carry-onward v ds)
 
 -- What a step may do: issue one write, and stay within the limits; and what it tells is no answer.
-pub record Modest (k : Control) (p : Plan) : Type 0 where
+pub record AnswersNothing (k : Control) (p : Plan) : Type 0 where
   pub one : (p.first k).issued ≤ k.issued + 1
   pub within : IsWithin k → IsWithin (p.first k)
   pub last : (j : Control) → Stays j (p.last j)
@@ -190,11 +190,11 @@ follow-onward : (w : World) (r : Refusal) (follows : ℕ → List Entry) → Onw
 follow-onward w (StoppedIn s) follows = carry-onward w (follows s.0)
 follow-onward w r follows = onward-same w
 
-finish-onward : (k : Control) (p : Plan) → (m : Modest k p) → (w : World) (r : Option Refusal) → Onward w (finish p w r)
+finish-onward : (k : Control) (p : Plan) → (m : AnswersNothing k p) → (w : World) (r : Option Refusal) → Onward w (finish p w r)
 finish-onward k p m w None = record { stays = m.last w.control; added = []; events = sym (append-nil w.events); silent = refl }
 finish-onward k p m w (Some r) = follow-onward w r p.follows
 
-module _ (w : World) (p : Plan) (m : Modest w.control p) where
+module _ (w : World) (p : Plan) (m : AnswersNothing w.control p) where
   carried_out-onward : Onward (begun w p) (carried_out w p).0
   carried_out-onward =
       let o : Outcome = carry (begun w p) p.entries in
@@ -211,7 +211,7 @@ pub record EndsAnswered (w : World) (line : ℕ) (u : World) : Type 0 where
   pub says : Said
   pub events : u.events ≡ (w.events ++ before) ++ answer line says ∷ []
 
-pub after_plan-ends : (w : World) (line : ℕ) (p : Plan) → Modest w.control p → EndsAnswered w line (after_plan w line p)
+pub after_plan-ends : (w : World) (line : ℕ) (p : Plan) → AnswersNothing w.control p → EndsAnswered w line (after_plan w line p)
 unfolding after_plan
 after_plan-ends w line p m =
     let goes : Onward (begun w p) (carried_out w p).0 = carried_out-onward w p m in
@@ -224,17 +224,17 @@ after_plan-ends w line p m =
 
 -- every plan of a step is such
 module _ (k : Control) where
-  modest : (first : Control → Control) (told : List Event) (entries : List Entry) (says : Control → Said) → (first k).issued ≤ k.issued + 1 → (IsWithin k → IsWithin (first k)) → NoAnswer told
-      → Modest k (record { first = first; told = told; entries = entries; follows = none_follow; last = same; says = says })
-  modest first told entries says one within hush = record { one = one; within = within; last = stays-same; silent = hush }
+  answers-nothing : (first : Control → Control) (told : List Event) (entries : List Entry) (says : Control → Said) → (first k).issued ≤ k.issued + 1 → (IsWithin k → IsWithin (first k)) → NoAnswer told
+      → AnswersNothing k (record { first = first; told = told; entries = entries; follows = none_follow; last = same; says = says })
+  answers-nothing first told entries says one within hush = record { one = one; within = within; last = stays-same; silent = hush }
 
   abbrev Unmoved : Control → Type 0
   Unmoved j = (length j.sessions ≤ length k.sessions) × ((length j.servers ≡ length k.servers) × ((length j.volumes ≡ length k.volumes) × ((length j.pending ≡ length k.pending) × ((v : ℕ) → (j.volume v).tracks ≡ (k.volume v).tracks))))
 
   -- the tables with limits stay
   quiet : (first : Control → Control) (told : List Event) (entries : List Entry) (says : Control → Said) → (first k).issued ≡ k.issued → Unmoved (first k) → NoAnswer told
-      → Modest k (record { first = first; told = told; entries = entries; follows = none_follow; last = same; says = says })
-  quiet first told entries says issued stays hush = modest first told entries says (omega arith) within hush
+      → AnswersNothing k (record { first = first; told = told; entries = entries; follows = none_follow; last = same; says = says })
+  quiet first told entries says issued stays hush = answers-nothing first told entries says (omega arith) within hush
     where
       within : IsWithin k → IsWithin (first k)
       within h = record {
@@ -252,75 +252,75 @@ module _ (k : Control) where
   retabled : (f : List Session → List Session) → length (f k.sessions) ≤ length k.sessions → Unmoved (with_sessions f k)
   retabled f few = (few, (refl, (refl, (refl, λ v. refl))))
 
-  entries-modest : (entries : List Entry) (said : Said) → Modest k (entries_plan entries said)
-  entries-modest entries said = quiet same [] entries (always said) refl unmoved refl
+  entries-answer_nothing : (entries : List Entry) (said : Said) → AnswersNothing k (entries_plan entries said)
+  entries-answer_nothing entries said = quiet same [] entries (always said) refl unmoved refl
 
   room-more : {X : Type 0} (xs : List X) (x : X) (n : ℕ) → length xs < n → length (xs ++ x ∷ []) ≤ n
   room-more xs x n lt = let e : length (xs ++ x ∷ []) ≡ length xs + 1 = length-append xs (x ∷ []) in omega arith
 
-  issue-modest : (v t offset len : ℕ) (bytes : List ℕ) → length k.pending < most_pending → Modest k (issue_done k v t offset len bytes)
-  issue-modest v t offset len bytes left =
-      modest (with_pending v t) (Issue (k.issued + 1) v t offset len bytes ∷ []) [] (always (Done (Wrote (k.issued + 1)))) (omega arith)
+  issue-answers_nothing : (v t offset len : ℕ) (bytes : List ℕ) → length k.pending < most_pending → AnswersNothing k (issue_done k v t offset len bytes)
+  issue-answers_nothing v t offset len bytes left =
+      answers-nothing (with_pending v t) (Issue (k.issued + 1) v t offset len bytes ∷ []) [] (always (Done (Wrote (k.issued + 1)))) (omega arith)
       (λ h. record { servers = h.servers; volumes = h.volumes; pending = room-more k.pending (record { w = k.issued + 1; volume = v; track = t; landed = false }) most_pending left; tracks = h.tracks; sessions = h.sessions }) refl
 
   -- a volume is defined, which isn't too large
   sizes-within : (v s tracks : ℕ) → tracks ≤ most_tracks → IsWithin k → (u : ℕ) → (at k.volume v (new_volume s tracks) u).tracks ≤ most_tracks
   sizes-within v s tracks small h = at_cases (λ u (x : Volume). x.tracks ≤ most_tracks) k.volume v (new_volume s tracks) small (λ q ne. h.tracks q)
 
-  case-modest : (events : List Event) (line : ℕ) (asked : Result Step ℕ) (p : Plan) → Case k events line asked p → Modest k p
-  case-modest events line _ _ (Says a waits why) = quiet same [] [] (always a) refl unmoved refl
-  case-modest events line _ _ (DefinesServer name free) =
-      modest (server_done k name).first (server_done k name).told [] (always (Done Alone)) (omega arith)
+  case-answers_nothing : (events : List Event) (line : ℕ) (asked : Result Step ℕ) (p : Plan) → Case k events line asked p → AnswersNothing k p
+  case-answers_nothing events line _ _ (Says a waits why) = quiet same [] [] (always a) refl unmoved refl
+  case-answers_nothing events line _ _ (DefinesServer name free) =
+      answers-nothing (server_done k name).first (server_done k name).told [] (always (Done Alone)) (omega arith)
       (λ h. record { servers = room-more k.servers (name_bytes name) most_servers (servers-left k (name_bytes name) free); volumes = h.volumes; pending = h.pending; tracks = h.tracks; sessions = h.sessions }) refl
-  case-modest events line _ _ (DefinesVolume v s tracks here free) =
+  case-answers_nothing events line _ _ (DefinesVolume v s tracks here free) =
       let new = is-new k v s tracks free in
-      modest (volume_done v s tracks).first (volume_done v s tracks).told [] (always (Done Alone)) (omega arith)
+      answers-nothing (volume_done v s tracks).first (volume_done v s tracks).told [] (always (Done Alone)) (omega arith)
       (λ h. record { servers = h.servers; volumes = room-more k.volumes v most_volumes new.left; pending = h.pending; tracks = sizes-within v s tracks new.small h; sessions = h.sessions }) refl
-  case-modest events line _ _ (SetsLink a b up) = quiet (link_done a b up).first [] [] (always (Done Alone)) refl unmoved refl
-  case-modest events line _ _ (Issues v t offset len bytes free) = issue-modest v t offset len bytes (may-issue k v t free).1
-  case-modest events line _ _ (Writes v t offset len bytes free) =
-      let issues : Modest k (issue_done k v t offset len bytes) = issue-modest v t offset len bytes (may-issue k v t free).1 in record { one = issues.one; within = issues.within; last = issues.last; silent = issues.silent }
-  case-modest events line _ _ (Applies n p found) = record { one = omega arith; within = λ h. h; last = stays-same; silent = refl }
-  case-modest events line _ _ (Lists told ls few) = quiet same told [] (always (Done Alone)) refl unmoved (lines-plain told ls).silent
-  case-modest events line _ _ (Shows v t there) = quiet same (show_done events line v t).told [] (always (Done Showed)) refl unmoved refl
-  case-modest events line _ _ (Stops s on) = quiet (stop_done s).first (Stopped s 0 ∷ []) [] (always (Done Alone)) refl unmoved refl
-  case-modest events line _ _ (Arms writes torn s) = quiet (arm_on writes torn s).first [] [] (always (Done Alone)) refl unmoved refl
-  case-modest events line _ _ (Starts s off) = quiet (starting s) (Started s ∷ []) (start_plan k s).entries (start_plan k s).says refl unmoved refl
-  case-modest events line _ _ (MakesFlash dev s t freeze choices) = entries-modest _ _
-  case-modest events line _ _ (RemovesFlash dev s t) = entries-modest _ _
-  case-modest events line _ _ (ResyncsFlash dev s t sequence) = entries-modest _ _
-  case-modest events line _ _ (ReversesFlash dev s t) = entries-modest _ _
-  case-modest events line _ _ (Copies t most) = entries-modest _ _
-  case-modest events line _ _ (Destages v) = entries-modest _ _
-  case-modest events line _ _ (MakesPath src tgt group) = quiet (make_path_done src tgt group).first [] [] (always (Done Alone)) refl unmoved refl
-  case-modest events line _ _ (RemovesPath src tgt) = quiet (remove_path_done src tgt).first [] [] (always (Done Alone)) refl unmoved refl
-  case-modest events line _ _ (MakesPair devs a b kind choices part) = entries-modest _ _
-  case-modest events line _ _ (RemovesPair devs a b source_only) = entries-modest _ _
-  case-modest events line _ _ (PausesPair devs a b) = entries-modest _ _
-  case-modest events line _ _ (ResumesPair devs a b kind) = entries-modest _ _
-  case-modest events line _ _ (FailsOver devs b a kind) = entries-modest _ _
-  case-modest events line _ _ (FailsBack devs x y kind) = entries-modest _ _
-  case-modest events line _ _ (Compares contents v u) = entries-modest _ _
-  case-modest events line _ _ (Drains a most) = record { one = omega arith; within = λ h. h; last = stays-same; silent = refl }
-  case-modest events line _ _ (Expires s on) = entries-modest _ _
-  case-modest events line _ _ (Freezes l m) = entries-modest _ _
-  case-modest events line _ _ (Unfreezes l m) = entries-modest _ _
-  case-modest events line _ _ (Releases l) = entries-modest _ _
-  case-modest events line _ _ (MakesSession l s free) = modest (table_plan (joined s l)).first [] [] (always (Done Alone)) (omega arith)
+  case-answers_nothing events line _ _ (SetsLink a b up) = quiet (link_done a b up).first [] [] (always (Done Alone)) refl unmoved refl
+  case-answers_nothing events line _ _ (Issues v t offset len bytes free) = issue-answers_nothing v t offset len bytes (may-issue k v t free).1
+  case-answers_nothing events line _ _ (Writes v t offset len bytes free) =
+      let issues : AnswersNothing k (issue_done k v t offset len bytes) = issue-answers_nothing v t offset len bytes (may-issue k v t free).1 in record { one = issues.one; within = issues.within; last = issues.last; silent = issues.silent }
+  case-answers_nothing events line _ _ (Applies n p found) = record { one = omega arith; within = λ h. h; last = stays-same; silent = refl }
+  case-answers_nothing events line _ _ (Lists told ls few) = quiet same told [] (always (Done Alone)) refl unmoved (lines-plain told ls).silent
+  case-answers_nothing events line _ _ (Shows v t there) = quiet same (show_done events line v t).told [] (always (Done Showed)) refl unmoved refl
+  case-answers_nothing events line _ _ (Stops s on) = quiet (stop_done s).first (Stopped s 0 ∷ []) [] (always (Done Alone)) refl unmoved refl
+  case-answers_nothing events line _ _ (Arms writes torn s) = quiet (arm_on writes torn s).first [] [] (always (Done Alone)) refl unmoved refl
+  case-answers_nothing events line _ _ (Starts s off) = quiet (starting s) (Started s ∷ []) (start_plan k s).entries (start_plan k s).says refl unmoved refl
+  case-answers_nothing events line _ _ (MakesFlash dev s t freeze choices) = entries-answer_nothing _ _
+  case-answers_nothing events line _ _ (RemovesFlash dev s t) = entries-answer_nothing _ _
+  case-answers_nothing events line _ _ (ResyncsFlash dev s t sequence) = entries-answer_nothing _ _
+  case-answers_nothing events line _ _ (ReversesFlash dev s t) = entries-answer_nothing _ _
+  case-answers_nothing events line _ _ (Copies t most) = entries-answer_nothing _ _
+  case-answers_nothing events line _ _ (Destages v) = entries-answer_nothing _ _
+  case-answers_nothing events line _ _ (MakesPath src tgt group) = quiet (make_path_done src tgt group).first [] [] (always (Done Alone)) refl unmoved refl
+  case-answers_nothing events line _ _ (RemovesPath src tgt) = quiet (remove_path_done src tgt).first [] [] (always (Done Alone)) refl unmoved refl
+  case-answers_nothing events line _ _ (MakesPair devs a b kind choices part) = entries-answer_nothing _ _
+  case-answers_nothing events line _ _ (RemovesPair devs a b source_only) = entries-answer_nothing _ _
+  case-answers_nothing events line _ _ (PausesPair devs a b) = entries-answer_nothing _ _
+  case-answers_nothing events line _ _ (ResumesPair devs a b kind) = entries-answer_nothing _ _
+  case-answers_nothing events line _ _ (FailsOver devs b a kind) = entries-answer_nothing _ _
+  case-answers_nothing events line _ _ (FailsBack devs x y kind) = entries-answer_nothing _ _
+  case-answers_nothing events line _ _ (Compares contents v u) = entries-answer_nothing _ _
+  case-answers_nothing events line _ _ (Drains a most) = record { one = omega arith; within = λ h. h; last = stays-same; silent = refl }
+  case-answers_nothing events line _ _ (Expires s on) = entries-answer_nothing _ _
+  case-answers_nothing events line _ _ (Freezes l m) = entries-answer_nothing _ _
+  case-answers_nothing events line _ _ (Unfreezes l m) = entries-answer_nothing _ _
+  case-answers_nothing events line _ _ (Releases l) = entries-answer_nothing _ _
+  case-answers_nothing events line _ _ (MakesSession l s free) = answers-nothing (table_plan (joined s l)).first [] [] (always (Done Alone)) (omega arith)
       (λ h. record { servers = h.servers; volumes = h.volumes; pending = h.pending; tracks = h.tracks; sessions = joined-few k.sessions s l h.sessions free }) refl
-  case-modest events line _ _ (RemovesSession l s x found free) = quiet (leaving s l x) [] [] (always (Done Alone)) refl (retabled (left s l) (length-left k.sessions s l)) refl
-  case-modest events line _ _ (MakesMirror owner s x found free l owned) = quiet (appointed s owner) [] [] (always (Done Alone)) refl (retabled (changed s (mirrored_by owner)) (length-changed s (mirrored_by owner) k.sessions)) refl
-  case-modest events line _ _ (PausesMirror s on) = quiet (table_plan (changed s (paused on))).first [] [] (always (Done Alone)) refl (retabled (changed s (paused on)) (length-changed s (paused on) k.sessions)) refl
-  case-modest events line _ _ (RemovesMirror s x found free) = quiet (table_plan (changed s unmirrored)).first [] [] (always (Done Alone)) refl (retabled (changed s unmirrored) (length-changed s unmirrored k.sessions)) refl
-  case-modest events line _ _ (Aborts s x found free) = quiet (aborting s x.mirror) [] [] (says_phase s) refl (retabled (changed s (with_master phases.aborted)) (length-changed s (with_master phases.aborted) k.sessions)) refl
-  case-modest events line _ _ (AddsMember s a c x joins) =
+  case-answers_nothing events line _ _ (RemovesSession l s x found free) = quiet (leaving s l x) [] [] (always (Done Alone)) refl (retabled (left s l) (length-left k.sessions s l)) refl
+  case-answers_nothing events line _ _ (MakesMirror owner s x found free l owned) = quiet (appointed s owner) [] [] (always (Done Alone)) refl (retabled (changed s (mirrored_by owner)) (length-changed s (mirrored_by owner) k.sessions)) refl
+  case-answers_nothing events line _ _ (PausesMirror s on) = quiet (table_plan (changed s (paused on))).first [] [] (always (Done Alone)) refl (retabled (changed s (paused on)) (length-changed s (paused on) k.sessions)) refl
+  case-answers_nothing events line _ _ (RemovesMirror s x found free) = quiet (table_plan (changed s unmirrored)).first [] [] (always (Done Alone)) refl (retabled (changed s unmirrored) (length-changed s unmirrored k.sessions)) refl
+  case-answers_nothing events line _ _ (Aborts s x found free) = quiet (aborting s x.mirror) [] [] (says_phase s) refl (retabled (changed s (with_master phases.aborted)) (length-changed s (with_master phases.aborted) k.sessions)) refl
+  case-answers_nothing events line _ _ (AddsMember s a c x joins) =
       let m : Member = member_with k a c in
       let n : ℕ = first_number k x.last m in
       record { one = omega arith; within = λ h. h; last = λ j. stays-sessions (λ ss. changed s (with_member m) (changed s (raised n) ss)) j (changed-twice s (with_member m) (raised n) j.sessions); silent = refl }
-  case-modest events line _ _ (RemovesMember s a x m found is idle on) = record { one = omega arith; within = λ h. h; last = λ j. stays-sessions (changed s (without_member m.a.0)) j (length-changed s (without_member m.a.0) j.sessions); silent = refl }
-  case-modest events line _ _ (Recovers s x found on) = quiet same [] (recover_done s (decided_in s k) x.members).entries (recover_done s (decided_in s k) x.members).says refl unmoved refl
-  case-modest events line _ _ (Settles s x m found here on free hand) = entries-modest _ _
-  case-modest events line _ _ (Sends s server x r o posts) =
+  case-answers_nothing events line _ _ (RemovesMember s a x m found is idle on) = record { one = omega arith; within = λ h. h; last = λ j. stays-sessions (changed s (without_member m.a.0)) j (length-changed s (without_member m.a.0) j.sessions); silent = refl }
+  case-answers_nothing events line _ _ (Recovers s x found on) = quiet same [] (recover_done s (decided_in s k) x.members).entries (recover_done s (decided_in s k) x.members).says refl unmoved refl
+  case-answers_nothing events line _ _ (Settles s x m found here on free hand) = entries-answer_nothing _ _
+  case-answers_nothing events line _ _ (Sends s server x r o posts) =
       quiet (sending s (is_idle r.master.phase) server o) (told_begun (is_idle r.master.phase) s o.number) [] says_posted refl (few (is_idle r.master.phase), (refl, (refl, (refl, λ v. refl)))) (silent (is_idle r.master.phase))
     where
       few : (b : Bool) → length (sending s b server o k).sessions ≤ length k.sessions
@@ -330,20 +330,20 @@ module _ (k : Control) where
       silent : (b : Bool) → NoAnswer (told_begun b s o.number)
       silent true = refl
       silent false = refl
-  case-modest events line _ _ (Delivers n m starts x r reaches) =
+  case-answers_nothing events line _ _ (Delivers n m starts x r reaches) =
       record { one = omega arith; within = λ h. h; last = λ j. record { servers = refl; tracks = λ v. refl; volumes = refl; issued = refl; pending = omega arith; sessions = omega arith }; silent = refl }
-  case-modest events line _ _ (TakesReply n m reply x r returns) =
+  case-answers_nothing events line _ _ (TakesReply n m reply x r returns) =
       let f : Session → Session = with_master (λ q. phases.taken q m.server reply) in quiet (taking m reply) [] [] (says_phase m.session) refl (retabled (changed m.session f) (length-changed m.session f k.sessions)) refl
-  case-modest events line _ _ (Loses n) = quiet (with_flight (lost n)) [] [] (always (Done Alone)) refl unmoved refl
-  case-modest events line _ _ (Exchanges s server reply x r o allowed) = record { one = omega arith; within = λ h. h; last = by reply; silent = refl }
+  case-answers_nothing events line _ _ (Loses n) = quiet (with_flight (lost n)) [] [] (always (Done Alone)) refl unmoved refl
+  case-answers_nothing events line _ _ (Exchanges s server reply x r o allowed) = record { one = omega arith; within = λ h. h; last = by reply; silent = refl }
     where
       by : (b : Bool) (j : Control) → Stays j (exchanged s server b o.work (members_on server x.members) j)
       by true j = record { servers = refl; tracks = λ v. refl; volumes = refl; issued = refl; pending = omega arith; sessions = length-changed s (with_master (λ m. phases.taken m server (reply_after s o.work (members_on server x.members) j))) j.sessions }
       by false j = record { servers = refl; tracks = λ v. refl; volumes = refl; issued = refl; pending = omega arith; sessions = omega arith }
 
-pub ending-modest : (k : Control) (events : List Event) (line : ℕ) (p : Plan) → Ending k events line p → Modest k p
-ending-modest k events line _ (OnePlan asked p c) = case-modest k events line asked p c
-ending-modest k events line _ (Imaged vs) = quiet k same (image_told vs) [] (always (Done Alone)) refl (unmoved k) (lines-plain (image_told vs) (image-lines vs)).silent
+pub ending-answers_nothing : (k : Control) (events : List Event) (line : ℕ) (p : Plan) → Ending k events line p → AnswersNothing k p
+ending-answers_nothing k events line _ (OnePlan asked p c) = case-answers_nothing k events line asked p c
+ending-answers_nothing k events line _ (Imaged vs) = quiet k same (image_told vs) [] (always (Done Alone)) refl (unmoved k) (lines-plain (image_told vs) (image-lines vs)).silent
 
 -- masters are lost as a step ends, and sessions are as many
 pub few-lost : (w u : World) (k : Control) → length u.control.sessions ≤ length k.sessions → length (masters_lost w u).control.sessions ≤ length k.sessions
@@ -352,7 +352,7 @@ few-lost w u k le = let e : length (masters_lost w u).control.sessions ≡ lengt
 -- a plan before the last one of its step adds to the journal, and no answer
 pub onward-part : (w : World) (p : Plan) → Comes w p → Onward w (after_part w p)
 onward-part w p comes =
-    let goes : Onward (begun w p) (carried_out w p).0 = carried_out-onward w p (case-modest w.control w.events 0 comes.asked p (comes.case 0)) in
+    let goes : Onward (begun w p) (carried_out w p).0 = carried_out-onward w p (case-answers_nothing w.control w.events 0 comes.asked p (comes.case 0)) in
     record {
       stays = subst (λ k. Stays k (after_part w p).control) (comes.first w.control) (record { servers = goes.stays.servers; tracks = goes.stays.tracks; volumes = goes.stays.volumes; issued = goes.stays.issued; pending = goes.stays.pending; sessions = few-lost w (carried_out w p).0 (begun w p).control goes.stays.sessions });
       added = goes.added;
@@ -363,14 +363,14 @@ onward-part w p comes =
 pub onward-last : (w : World) (t : Task) → Onward w (course w t).last.world
 onward-last w t = last-plan (Onward w) (λ u p comes on. onward-then w u _ on (onward-part u p comes)) w t (onward-same w)
 
-pub modest-last : (w : World) (t : Task) → let x : Part = (course w t).last in Modest x.world.control x.plan
-modest-last w t = let x : Part = (course w t).last in ending-modest x.world.control x.world.events t.line x.plan (course-case w t)
+pub answers_nothing-last : (w : World) (t : Task) → let x : Part = (course w t).last in AnswersNothing x.world.control x.plan
+answers_nothing-last w t = let x : Part = (course w t).last in ending-answers_nothing x.world.control x.world.events t.line x.plan (course-case w t)
 
 pub after_task-ends : (w : World) (t : Task) → EndsAnswered w t.line (after_task w t)
 after_task-ends w t =
     let x : Part = (course w t).last in
     let o : Onward w x.world = onward-last w t in
-    let e : EndsAnswered x.world t.line (after_plan x.world t.line x.plan) = after_plan-ends x.world t.line x.plan (modest-last w t) in
+    let e : EndsAnswered x.world t.line (after_plan x.world t.line x.plan) = after_plan-ends x.world t.line x.plan (answers_nothing-last w t) in
     record {
       before = o.added ++ e.before;
       silent = none-append o.added e.before o.silent e.silent;
@@ -399,7 +399,7 @@ after_tasks-grows w (t ∷ tasks) =
 pub issued-task : (w : World) (t : Task) → (after_task w t).control.issued ≤ w.control.issued + 1
 issued-task w t =
     let x : Part = (course w t).last in
-    let m : Modest x.world.control x.plan = modest-last w t in
+    let m : AnswersNothing x.world.control x.plan = answers_nothing-last w t in
     let few : (x.plan.first x.world.control).issued ≤ w.control.issued + 1 = subst (λ n. (x.plan.first x.world.control).issued ≤ n + 1) (onward-last w t).stays.issued m.one in
     subst (λ n. n ≤ w.control.issued + 1) (sym (after_plan-stays x.world x.plan m t.line).issued) few
 

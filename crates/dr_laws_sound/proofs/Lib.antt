@@ -146,8 +146,8 @@ pub mod RefusedSteps
 pub mod RefusedRuns
 pub mod RefusedExamples
 pub mod TurnedExample
-pub mod Hushed
-pub mod HushedPlans
+pub mod Unacknowledged
+pub mod AcknowledgingSteps
 pub mod Acknowledged
 pub mod Shows
 pub mod Unissued

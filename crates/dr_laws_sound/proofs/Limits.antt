@@ -23,7 +23,7 @@ use Rattle.dr_laws_sound.specs.Limits.{IsWithin}
 use Rattle.dr_laws_sound.proofs.Cases.{Case}
 use Rattle.dr_laws_sound.proofs.Parts.{Comes, plain-case, last-plan}
 use Rattle.dr_laws_sound.proofs.Steps.{sound-part}
-use Rattle.dr_laws_sound.proofs.Journal.{Stays, few-lost, Onward, Modest, after_plan-stays, onward-part, onward-last, modest-last}
+use Rattle.dr_laws_sound.proofs.Journal.{Stays, few-lost, Onward, AnswersNothing, after_plan-stays, onward-part, onward-last, answers_nothing-last}
 use Rattle.dr_laws_sound.proofs.Spends.{after_plan-adds, after_part-adds, case-spends}
 
 -- every run is within the limits
@@ -42,7 +42,7 @@ within-onward w u o h = within-stays w.control u.control o.stays h
 pub within-task : (w : World) (t : Task) → IsWithin w.control → IsWithin (after_task w t).control
 within-task w t h =
     let x : Part = (course w t).last in
-    let m : Modest x.world.control x.plan = modest-last w t in
+    let m : AnswersNothing x.world.control x.plan = answers_nothing-last w t in
     within-stays (x.plan.first x.world.control) (after_task w t).control (let e = after_plan-stays x.world x.plan m t.line in record { servers = e.servers; tracks = e.tracks; volumes = e.volumes; issued = e.issued; pending = e.pending; sessions = few-lost x.world (after_plan x.world t.line x.plan) (x.plan.first x.world.control) e.sessions }) (m.within (within-onward w x.world (onward-last w t) h))
 
 pub within-tasks : (w : World) (tasks : List Task) → IsWithin w.control → IsWithin (after_tasks w tasks).control

@@ -22,7 +22,7 @@ use Rattle.dr_laws_cuts.specs.Once.{NoCuts}
 use Rattle.dr_laws_closed.specs.Silent.{AllStill}
 use Rattle.dr_laws_sessions.proofs.Members.{session-few as of-session}
 use Rattle.dr_laws_sound.specs.Acknowledged.{acknowledgements}
-use Rattle.dr_laws_sound.proofs.Hushed.{mirrors, cuts_any}
+use Rattle.dr_laws_sound.proofs.Unacknowledged.{mirrors, cuts_any}
 use Rattle.dr_facts.proofs.Emits.{Tag, Begins, Of, AllOf}
 use Rattle.dr_laws_sound.proofs.KeepsQueue.{AllQuiet}
 

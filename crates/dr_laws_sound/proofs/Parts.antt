@@ -27,7 +27,7 @@ use Rattle.dr_model.specs.Forming.{Part, Way, stays, ends, goes_on, unless_refus
 use Rattle.dr_model.specs.Runs.{Task, own_course, course_of, course, plans_of, OwnCourse, Groups, Volumes, Devices, compared, image_plan, imaged}
 use Rattle.dr_logic.proofs.Options.{none_some}
 use Rattle.dr_laws_sound.proofs.Cases.{Case, Says, Drains, on-case, plan-case, Compares, NotHeld, refused-not}
-use Rattle.dr_laws_sound.proofs.HushedPlans.{acknowledges, phase-not}
+use Rattle.dr_laws_sound.proofs.AcknowledgingSteps.{acknowledges, phase-not}
 
 -- the drain of a primary, or what a master asks of a server
 pub data IsTurn : Control → Plan → Type 0 where

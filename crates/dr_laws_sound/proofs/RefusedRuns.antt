@@ -26,7 +26,7 @@ use Rattle.dr_laws_sound.specs.Stops.{refused_stop}
 use Rattle.dr_laws_sound.specs.RefusedSteps.{HasFormed, Stays, Drains, Asks, DrainEnds, AskEnds, StaysRefused, RefusedStay}
 use Rattle.dr_laws_sound.proofs.ChecksFirst.{on-stays}
 use Rattle.dr_laws_sound.proofs.RefusedPlans.{Refuses, Still, still-says, never-refused, phase-accepts, case-still}
-use Rattle.dr_laws_sound.proofs.HushedPlans.{if-plan}
+use Rattle.dr_laws_sound.proofs.AcknowledgingSteps.{if-plan}
 use Rattle.dr_laws_sound.proofs.Parts.{compared-case}
 use Rattle.dr_laws_sound.proofs.RefusedWrites.{drain-left, asking-left}
 use Rattle.dr_laws_sound.proofs.RefusedSteps.{step-left, lost-stays, after-refused, one-stays}

@@ -25,7 +25,7 @@ pub use Rattle.dr_laws_sound.proofs.Cases.{NotHeld, done-not, refused-not}
 use Rattle.dr_laws_sound.proofs.Cases.{Case, Says, DefinesServer, DefinesVolume, Issues, Writes, Applies, Lists, Shows, Stops, Starts, Aborts, Exchanges, Sends, TakesReply, Recovers}
 use Rattle.dr_laws_sound.proofs.Does.{Does, Acts, Late, IsWrite, Issued, Found, Lands, Overwrites, Mirrors, LandsBoth, Drops, Acknowledges}
 use Rattle.dr_laws_sound.proofs.DoesPlans.{case-does}
-use Rattle.dr_laws_sound.proofs.Hushed.{Unheard, unheard-none, Mute, Mum, plan-mum}
+use Rattle.dr_laws_sound.proofs.Unacknowledged.{NoAcknowledgement, no_acknowledgement-none, AcknowledgesNothing, NothingAcknowledged, plan-since}
 use Rattle.dr_laws_sound.proofs.Listed.{AllLines, Plain, lines-plain}
 
 mirror-not : (m : Option Mirror) → NotHeld (mirror_phase m)
@@ -77,27 +77,27 @@ write-acknowledges k _ _ _ _ (Issued v t offset len bytes) = refl
 write-acknowledges k _ _ _ _ (Found n p found) = refl
 
 -- what other steps do
-does-mute : (k : Control) (asked : Result Step ℕ) (j : Control) (a : Act) → acknowledges asked ≡ false → Does k asked j a → Mute false a
-does-mute k asked j _ other (Lands n v t is free) = false_true other (write-acknowledges k asked n v t is)
-does-mute k asked j _ other (Overwrites n v t is free) = false_true other (write-acknowledges k asked n v t is)
-does-mute k asked j _ other (Mirrors n v t is over) = false_true other (write-acknowledges k asked n v t is)
-does-mute k asked j _ other (LandsBoth n v t is free) = false_true other (write-acknowledges k asked n v t is)
-does-mute k asked j _ other (Drops n v t is) = false_true other (write-acknowledges k asked n v t is)
-does-mute k asked j _ other (Acknowledges s n landed) = absurd cc
-does-mute k asked j _ other d = refl
+does-unacknowledged : (k : Control) (asked : Result Step ℕ) (j : Control) (a : Act) → acknowledges asked ≡ false → Does k asked j a → AcknowledgesNothing false a
+does-unacknowledged k asked j _ other (Lands n v t is free) = false_true other (write-acknowledges k asked n v t is)
+does-unacknowledged k asked j _ other (Overwrites n v t is free) = false_true other (write-acknowledges k asked n v t is)
+does-unacknowledged k asked j _ other (Mirrors n v t is over) = false_true other (write-acknowledges k asked n v t is)
+does-unacknowledged k asked j _ other (LandsBoth n v t is free) = false_true other (write-acknowledges k asked n v t is)
+does-unacknowledged k asked j _ other (Drops n v t is) = false_true other (write-acknowledges k asked n v t is)
+does-unacknowledged k asked j _ other (Acknowledges s n landed) = absurd cc
+does-unacknowledged k asked j _ other d = refl
 
 -- what they tell as they begin, and what they say
 record Says_none (p : Plan) : Type 0 where
-  told : Unheard false p.told
+  told : NoAcknowledgement false p.told
   says : (k : Control) → NotHeld (p.says k)
 
 -- an answer of a step that can't acknowledge anything
-pub record HushedPlan (w : World) (p : Plan) : Type 0 where
-  pub mum : Mum false w (carried_out w p).0
+pub record PlanAcknowledgesNothing (w : World) (p : Plan) : Type 0 where
+  pub since : NothingAcknowledged false w (carried_out w p).0
   pub says : (k : Control) → NotHeld (p.says k)
 
 case-says : (k : Control) (events : List Event) (line : ℕ) (asked : Result Step ℕ) (p : Plan) → Case k events line asked p → acknowledges asked ≡ false → Says_none p
-case-says k events line _ _ (Says a waits why) other = record { told = unheard-none false; says = λ j. waits }
+case-says k events line _ _ (Says a waits why) other = record { told = no_acknowledgement-none false; says = λ j. waits }
 case-says k events line _ _ (DefinesServer name free) other = record { told = record { none = refl; plain = refl; uncut = λ h. absurd cc }; says = λ j. done-not _ }
 case-says k events line _ _ (DefinesVolume v s tracks here free) other = record { told = record { none = refl; plain = refl; uncut = λ h. absurd cc }; says = λ j. done-not _ }
 case-says k events line _ _ (Issues v t offset len bytes free) other = record { told = record { none = refl; plain = refl; uncut = λ h. absurd cc }; says = λ j. done-not _ }
@@ -107,31 +107,31 @@ case-says k events line _ _ (Starts s off) other = absurd cc
 case-says k events line _ _ (Lists told ls few) other = let p : Plain told = lines-plain told ls in record { told = record { none = p.none; plain = p.plain; uncut = λ h. absurd cc }; says = λ j. done-not Alone }
 case-says k events line _ _ (Shows v t there) other = record { told = record { none = refl; plain = refl; uncut = λ h. absurd cc }; says = λ j. done-not _ }
 case-says k events line _ _ (Stops s on) other = record { told = record { none = refl; plain = refl; uncut = λ h. absurd cc }; says = λ j. done-not _ }
-case-says k events line _ _ (Aborts s x found free) other = record { told = unheard-none false; says = λ j. phase-not (session_in j.sessions s) }
-case-says k events line _ _ (Exchanges s server reply x r o allowed) other = record { told = unheard-none false; says = λ j. phase-not (session_in j.sessions s) }
+case-says k events line _ _ (Aborts s x found free) other = record { told = no_acknowledgement-none false; says = λ j. phase-not (session_in j.sessions s) }
+case-says k events line _ _ (Exchanges s server reply x r o allowed) other = record { told = no_acknowledgement-none false; says = λ j. phase-not (session_in j.sessions s) }
 case-says k events line _ _ (Sends s server x r o posts) other = record { told = by (is_idle r.master.phase); says = λ j. done-not _ }
   where
-    by : (b : Bool) → Unheard false (told_begun b s o.number)
+    by : (b : Bool) → NoAcknowledgement false (told_begun b s o.number)
     by true = record { none = refl; plain = refl; uncut = λ h. absurd cc }
-    by false = unheard-none false
-case-says k events line _ _ (TakesReply n m reply x r returns) other = record { told = unheard-none false; says = λ j. phase-not (session_in j.sessions m.session) }
-case-says k events line _ _ (Recovers s x found on) other = record { told = unheard-none false; says = λ j. group-not (decided_in s k) (group_of (decided_in s j)) }
-case-says k events line _ _ c other = record { told = unheard-none false; says = λ j. done-not _ }
+    by false = no_acknowledgement-none false
+case-says k events line _ _ (TakesReply n m reply x r returns) other = record { told = no_acknowledgement-none false; says = λ j. phase-not (session_in j.sessions m.session) }
+case-says k events line _ _ (Recovers s x found on) other = record { told = no_acknowledgement-none false; says = λ j. group-not (decided_in s k) (group_of (decided_in s j)) }
+case-says k events line _ _ c other = record { told = no_acknowledgement-none false; says = λ j. done-not _ }
 
-pub case-hushed : (w : World) (line : ℕ) (asked : Result Step ℕ) (p : Plan) → Case w.control w.events line asked p → acknowledges asked ≡ false → HushedPlan w p
-case-hushed w line asked p c other =
+pub case-unacknowledged : (w : World) (line : ℕ) (asked : Result Step ℕ) (p : Plan) → Case w.control w.events line asked p → acknowledges asked ≡ false → PlanAcknowledgesNothing w p
+case-unacknowledged w line asked p c other =
     let says : Says_none p = case-says w.control w.events line asked p c other in
     let d = case-does w line asked p c in
-    record { mum = plan-mum false NoStop (Late asked) (Acts w.control asked) (λ u a d. does-mute w.control asked u.control a other d) w p says.told d.entries d.follows; says = says.says }
+    record { since = plan-since false NoStop (Late asked) (Acts w.control asked) (λ u a d. does-unacknowledged w.control asked u.control a other d) w p says.told d.entries d.follows; says = says.says }
 
 -- an answer, and lines of listings and images
-pub says-hushed : (w : World) (a : Said) → NotHeld a → HushedPlan w (only_says a)
-says-hushed w a waits = case-hushed w 0 (Ok (Run 0 0)) (only_says a) (Says a waits (λ one. absurd cc)) refl
+pub says-unacknowledged : (w : World) (a : Said) → NotHeld a → PlanAcknowledgesNothing w (only_says a)
+says-unacknowledged w a waits = case-unacknowledged w 0 (Ok (Run 0 0)) (only_says a) (Says a waits (λ one. absurd cc)) refl
 
-pub lines-hushed : (w : World) (told : List Event) → AllLines told → HushedPlan w (lists told)
-lines-hushed w told ls =
+pub lines-unacknowledged : (w : World) (told : List Event) → AllLines told → PlanAcknowledgesNothing w (lists told)
+lines-unacknowledged w told ls =
     let p : Plain told = lines-plain told ls in
     record {
-      mum = plan-mum false NoStop NoStop (λ u a. Mute false a) (λ u a mute. mute) w (lists told) (record { none = p.none; plain = p.plain; uncut = λ h. absurd cc }) (from-none any_world (λ u a. Mute false a) NoStop NoStop _) (λ s. fine-none any_world (λ u a. Mute false a) NoStop);
+      since = plan-since false NoStop NoStop (λ u a. AcknowledgesNothing false a) (λ u a nothing. nothing) w (lists told) (record { none = p.none; plain = p.plain; uncut = λ h. absurd cc }) (from-none any_world (λ u a. AcknowledgesNothing false a) NoStop NoStop _) (λ s. fine-none any_world (λ u a. AcknowledgesNothing false a) NoStop);
       says = λ k. done-not Alone;
     }

@@ -152,7 +152,7 @@ pub record Fresh (w : World) : Type 0 where
   pub unacked : AllPending (λ p. Unacked w p.w) w.control.pending
   pub later : (n : ℕ) → w.control.issued < n → Unacked w n
 
-pub record Tidy (w : World) : Type 0 where
+pub record FullDuplexInSync (w : World) : Type 0 where
   pub clean : (v : ℕ) → is_volume w.control v ≡ true → Runs w v → Clean (fields_at w.control v)
   pub free : (v : ℕ) → Free (fields_at w.control v)
   pub fresh : Fresh w
@@ -235,7 +235,7 @@ fresh-stop w m f fresh =
     let u : Volume = w.control.volume (target m) in
     fresh-told w (done_in_stop w m f) (told_in_stop m u ++ Stopped u.server (landed m) ∷ []) refl refl (stop-unacked w m fresh) (λ n. stop-acked m u n u.server (landed m)) fresh
 
-module _ (w : World) (m : Move) (gentle : Gentle (fields_at w.control (target m)) m) (none : Unheld (fields_at w.control (target m)) m) (tidy : Tidy w) (on : ℕ → Bool) (fuse : ℕ → Option Fuse) (ps : List Pending) (es : List Event) (less : (j : ℕ) → on j ≡ true → w.control.on j ≡ true) where
+module _ (w : World) (m : Move) (gentle : Gentle (fields_at w.control (target m)) m) (none : Unheld (fields_at w.control (target m)) m) (in_sync : FullDuplexInSync w) (on : ℕ → Bool) (fuse : ℕ → Option Fuse) (ps : List Pending) (es : List Event) (less : (j : ℕ) → on j ≡ true → w.control.on j ≡ true) where
   abbrev W : World
   W = changed w m on fuse ps es
 
@@ -245,29 +245,29 @@ module _ (w : World) (m : Move) (gentle : Gentle (fields_at w.control (target m)
   abbrev row : Volume
   row = moved_keeping (keeps_staged m) (w.control.volume x) (next_of w m) (carried_in w m)
 
-  pub tidy-changed : Fresh W → Tidy W
-  tidy-changed fresh = record {
+  pub in_sync-changed : Fresh W → FullDuplexInSync W
+  in_sync-changed fresh = record {
     clean = λ v there runs. at_cases (λ j (y : Volume). is_volume w.control j ≡ true → Runs w j → Clean y.fields) w.control.volume x row
-        (λ d r. clean-left m (w.control.volume x) gentle (tidy.free x) (tidy.clean x d r)) (λ j ne d r. tidy.clean j d r) v there
+        (λ d r. clean-left m (w.control.volume x) gentle (in_sync.free x) (in_sync.clean x d r)) (λ j ne d r. in_sync.clean j d r) v there
         (sym (ap w.control.on (at_part (λ (y : Volume). y.server) w.control.volume x row refl v)) ∙ less _ runs);
-    free = λ v. at_cases (λ j (y : Volume). Free y.fields) w.control.volume x row (free-left m (w.control.volume x) none (tidy.free x)) (λ j ne. tidy.free j) v;
+    free = λ v. at_cases (λ j (y : Volume). Free y.fields) w.control.volume x row (free-left m (w.control.volume x) none (in_sync.free x)) (λ j ne. in_sync.free j) v;
     fresh = fresh;
   }
 
 -- other worlds in which no volume changes, and no server starts
-pub tidy-same : (w u : World) → u.control.volume ≡ w.control.volume → u.control.volumes ≡ w.control.volumes → ((j : ℕ) → u.control.on j ≡ true → w.control.on j ≡ true) → Fresh u → Tidy w → Tidy u
-tidy-same w u volume volumes less fresh tidy = record {
-  clean = λ v there runs. subst (λ (y : Volume). Clean y.fields) (λ i. sym volume i v) (tidy.clean v (sym (ap (λ vs. list_any (nat_eq v) vs) volumes) ∙ there) ((λ i. w.control.on (sym volume i v).server) ∙ less (u.control.volume v).server runs));
-  free = λ v. subst (λ (y : Volume). Free y.fields) (λ i. sym volume i v) (tidy.free v);
+pub in_sync-same : (w u : World) → u.control.volume ≡ w.control.volume → u.control.volumes ≡ w.control.volumes → ((j : ℕ) → u.control.on j ≡ true → w.control.on j ≡ true) → Fresh u → FullDuplexInSync w → FullDuplexInSync u
+in_sync-same w u volume volumes less fresh in_sync = record {
+  clean = λ v there runs. subst (λ (y : Volume). Clean y.fields) (λ i. sym volume i v) (in_sync.clean v (sym (ap (λ vs. list_any (nat_eq v) vs) volumes) ∙ there) ((λ i. w.control.on (sym volume i v).server) ∙ less (u.control.volume v).server runs));
+  free = λ v. subst (λ (y : Volume). Free y.fields) (λ i. sym volume i v) (in_sync.free v);
   fresh = fresh;
 }
 
-pub tidy-done : (w : World) (m : Move) (f : Option Fuse) → MayCome w m → Gentle (fields_at w.control (target m)) m → Tidy w → Tidy (done w m f)
-tidy-done w m f may gentle tidy = tidy-changed w m gentle (unheld w m may) tidy (done w m f).control.on (done w m f).control.fuse (settled m w.control.pending) (done w m f).events (λ j h. h) (fresh-done w m f may tidy.fresh)
+pub in_sync-done : (w : World) (m : Move) (f : Option Fuse) → MayCome w m → Gentle (fields_at w.control (target m)) m → FullDuplexInSync w → FullDuplexInSync (done w m f)
+in_sync-done w m f may gentle in_sync = in_sync-changed w m gentle (unheld w m may) in_sync (done w m f).control.on (done w m f).control.fuse (settled m w.control.pending) (done w m f).events (λ j h. h) (fresh-done w m f may in_sync.fresh)
 
-pub tidy-stop : (w : World) (m : Move) (f : Option Fuse) → MayCome w m → Gentle (fields_at w.control (target m)) m → Tidy w → Tidy (done_in_stop w m f)
-tidy-stop w m f may gentle tidy =
-    tidy-changed w m gentle (unheld w m may) tidy (done_in_stop w m f).control.on (done_in_stop w m f).control.fuse (settled_in_stop m w.control.pending) (done_in_stop w m f).events (off_later w.control.on (w.control.volume (target m)).server) (fresh-stop w m f tidy.fresh)
+pub in_sync-stop : (w : World) (m : Move) (f : Option Fuse) → MayCome w m → Gentle (fields_at w.control (target m)) m → FullDuplexInSync w → FullDuplexInSync (done_in_stop w m f)
+in_sync-stop w m f may gentle in_sync =
+    in_sync-changed w m gentle (unheld w m may) in_sync (done_in_stop w m f).control.on (done_in_stop w m f).control.fuse (settled_in_stop m w.control.pending) (done_in_stop w m f).events (off_later w.control.on (w.control.volume (target m)).server) (fresh-stop w m f in_sync.fresh)
 
-pub tidy-not : (w : World) (s : ℕ) (f : Option Fuse) → Tidy w → Tidy (not_done w s f)
-tidy-not w s f tidy = tidy-same w (not_done w s f) refl refl (off_later w.control.on s) (fresh-told w (not_done w s f) (Stopped s 0 ∷ []) refl refl tidy.fresh.unacked (λ n. refl) tidy.fresh) tidy
+pub in_sync-not : (w : World) (s : ℕ) (f : Option Fuse) → FullDuplexInSync w → FullDuplexInSync (not_done w s f)
+in_sync-not w s f in_sync = in_sync-same w (not_done w s f) refl refl (off_later w.control.on s) (fresh-told w (not_done w s f) (Stopped s 0 ∷ []) refl refl in_sync.fresh.unacked (λ n. refl) in_sync.fresh) in_sync
