@@ -12,12 +12,9 @@ use Rattle.dr_ids.specs.declared.refusal.Refusal.TheVariants.{OutOfOrder, Journa
 use Rattle.dr_model.specs.Phases as phases
 use Rattle.dr_model.specs.Sessions.{Session, Mirror, session_in, mirror_in, members_in, begin_refusal, begun, with_master}
 use Rattle.dr_model.specs.Control.{Control, World, Fuse}
-use Rattle.dr_model.specs.Moves.{Hold}
-use Rattle.dr_model.specs.Carry.{Act, Make, OpenAttempt, Next, Pass, Entry, carry}
-use Rattle.dr_model.specs.Pairs.{records}
+use Rattle.dr_model.specs.Carry.{Act, Make, OpenAttempt, Entry, carry}
 use Rattle.dr_model.specs.Entries.{fields_at}
-use Rattle.dr_model.specs.PairEntries.{reach_refusal, send_refusal}
-use Rattle.dr_model.specs.SessionEntries.{last_of, hold_refusal, stale_refusal, hold_on, void_refusal, free_on, is_drained, seal_refusal, seal_on, is_past, finish_on, member_entries, members_on, order_entries, reply_after, is_flashed, is_committed, flash_refusal, flash_on, commit_refusal, commit_on, revert_on}
+use Rattle.dr_model.specs.SessionEntries.{last_of, is_drained, members_on, order_entries, reply_after}
 use Rattle.dr_model.specs.SessionPlans as plans
 use Rattle.dr_model.specs.SessionPlans.{exchange_refusal, order_of, answered_by, exchange_done, exchange_on, asking, says_phase}
 use Rattle.dr_model.specs.PlanParts.{Plan, none_follow, unless, refuses}
@@ -36,8 +33,9 @@ use Rattle.dr_laws_sound.proofs.FitsExchanges.{WorkPhase, works}
 use Rattle.dr_laws_sound.proofs.Awaits.{Awaited, exchange-begins, exchange-next, exchange-awaits}
 use Rattle.dr_laws_sound.proofs.Parts.{comes-asking}
 use Rattle.dr_laws_sound.proofs.Steps.{sound-part}
-use Rattle.dr_facts.proofs.Entries.{any_world, any_reason, Fine, fine-none, fine-one, fine-flat, fine-if}
-use Rattle.dr_laws_recovery.proofs.Went.{Each, each-refuse, carry-keeps, Went, part-went, goes-onward}
+use Rattle.dr_facts.proofs.Entries.{any_world, any_reason, why-any}
+use Rattle.dr_facts.proofs.SharedEntries.{order-fine}
+use Rattle.dr_laws_recovery.proofs.Went.{Each, carry-keeps, Went, part-went, goes-onward}
 use Rattle.dr_laws_recovery.proofs.Drained.{SentAll, Drained, drains-drained, seals-done}
 use Rattle.dr_laws_recovery.proofs.TurnsLeft.{turns_left, Shrinks, taken-shrinks, begins-shrinks, left-most}
 use Rattle.dr_logic.proofs.Truth.{false_true}
@@ -55,29 +53,29 @@ module _ (i n : ℕ) where
   abbrev Ok : World → Act → Type 0
   Ok = OfOrder i n
 
-  one : (d : Entry) → ((w : World) → any_world w → Fine any_world Ok any_reason w (d w.control)) → Each Ok (d ∷ [])
-  one = fine-one any_world Ok any_reason
-
-  if : (w : World) (b : Bool) (x y : Next) → Fine any_world Ok any_reason w x → Fine any_world Ok any_reason w y → Fine any_world Ok any_reason w (cond b x y)
-  if = fine-if any_world Ok any_reason
-
-  member-fine : (work : phases.Work) (m : Member) → Each Ok (member_entries work i n m)
-  member-fine phases.Hold m = each-refuse Ok (hold_refusal m.a.0 m.b.0) _ (each-refuse Ok (stale_refusal m.a.0 n) _ (one (hold_on i m.a.0 n) (λ w any. if w (records n (fields_at w.control m.a.0)) Pass _ tt (by w (nat_lt (last_of w.control i) n) refl))))
-    where
-      by : (w : World) (b : Bool) → nat_lt (last_of w.control i) n ≡ b → Ok w (cond b (OpenAttempt m.a.0 i n) (Make (Hold m.a.0 i n false)))
-      by w true newer = (refl, newer)
-      by w false older = tt
-  member-fine phases.Release m = each-refuse Ok (void_refusal m.a.0 n) _ (one (free_on m.a.0) (λ w any. if w (fields_at w.control m.a.0).coordination _ Pass tt tt))
-  member-fine phases.Seal m = each-refuse Ok (void_refusal m.a.0 n) _ (each-refuse Ok (seal_refusal m.a.0 m.b.0) _ (one (seal_on i m.a.0 m.b.0 n) (λ w any. if w (is_drained m.a.0 w.control && not (nat_eq (fields_at w.control m.b.0).seal n)) _ Pass tt tt)))
-  member-fine phases.Finish m = one (finish_on m.a.0 n) (λ w any. if w (is_past n (fields_at w.control m.a.0)) Pass _ tt tt)
-  member-fine phases.Flash m = each-refuse Ok (send_refusal m.a.0 m.b.0) _ (each-refuse Ok (flash_refusal m.b.0 m.c.0 n) _ (one (flash_on i m.a.0 m.b.0 m.c.0 n) (λ w any. if w (is_flashed n (fields_at w.control m.c.0)) Pass _ tt tt)))
-  member-fine phases.Commit m = each-refuse Ok (send_refusal m.a.0 m.b.0) _ (each-refuse Ok (commit_refusal m.c.0 n) _ (one (commit_on i m.a.0 m.c.0 n) (λ w any. if w (is_committed n (fields_at w.control m.c.0)) Pass _ tt tt)))
-  member-fine phases.Revert m =
-      each-refuse Ok (send_refusal m.a.0 m.b.0) _ (one (revert_on i m.a.0 m.c.0 n) (λ w any. if w (is_flashed n (fields_at w.control m.c.0)) _ _ tt (if w (nat_lt (fields_at w.control m.c.0).floor n) _ Pass tt tt)))
-  member-fine phases.Report m = each-refuse Ok (reach_refusal m.a.0 m.b.0) [] (fine-none any_world Ok any_reason)
-
-  order-fine : (work : phases.Work) (ms : List Member) → Each Ok (order_entries work i n ms)
-  order-fine work ms = fine-flat any_world Ok any_reason (member_entries work i n) ms (λ m here. member-fine work m)
+  order-turns : (work : phases.Work) (ms : List Member) → Each Ok (order_entries work i n ms)
+  order-turns work ms = order-fine any_world Ok any_reason work i n ms
+      (λ m here. record {
+        hold = λ w any. tt;
+        open_attempt = λ w any newer. (refl, newer);
+        free = λ w any. tt;
+        seal = λ w any. tt;
+        finish = λ w any. tt;
+        flash = λ w any. tt;
+        commit = λ w any. tt;
+        revert = λ w any. tt;
+        raise = λ w any. tt;
+      })
+      (λ m. record {
+        hold = λ k. why-any _;
+        stale = λ k. why-any _;
+        void = λ k. why-any _;
+        seal = λ k. why-any _;
+        send = λ k. why-any _;
+        flash = λ k. why-any _;
+        commit = λ k. why-any _;
+        reach = λ k. why-any _;
+      })
 
   -- The session is as it was, or its next attempt has begun.
   module _ (x : Session) (next : n ≤ x.last + 1) where
@@ -94,7 +92,7 @@ module _ (i n : ℕ) where
     stands-act w a f is old = absurd is
 
     order-stands : (work : phases.Work) (ms : List Member) (w v : World) → carry w (order_entries work i n ms) ≡ (v, None) → session_in w.control.sessions i ≡ Some x → Stands v
-    order-stands work ms w v leads found = carry-keeps Ok Stands stands-act w v (order_entries work i n ms) (order-fine work ms) leads (inl found)
+    order-stands work ms w v leads found = carry-keeps Ok Stands stands-act w v (order_entries work i n ms) (order-turns work ms) leads (inl found)
 
 -- ---- an exchange that wasn't refused
 
