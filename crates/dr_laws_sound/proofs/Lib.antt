@@ -28,7 +28,7 @@
 --   each kind of act that the law asks of, and not of each plan
 -- - E21 comes exactly where the acts told a stop: `carry-tells`, `ending-tells` (`StopsTold.antt`)
 -- - a step with another refusal leaves what `Leaves` names: entries that end no plan are `NeverRefuse`; where checks come before them,
---   nothing was done (`ChecksFirst.antt`, `RefusedPlans.antt`: `case-still`); steps that leave more where they are refused (`leaves_more`) by
+--   nothing was done (`ChecksFirst.antt`, `RefusedPlans.antt`: `case-leaves_world`); steps that leave more where they are refused (`leaves_more`) by
 --   `RefusedWrites.antt` and `step-left` (`RefusedSteps.antt`), an `@run` and whole runs by `RefusedRuns.antt`
 -- - what sessions and records of volumes say together (numbers differ, one place for a volume, who records, the master's
 --   server and phase): fields `groups` and `housed` of `SoundBut`, each kind of change by `dr_laws_sessions`; plans by

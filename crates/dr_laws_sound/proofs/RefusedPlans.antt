@@ -46,18 +46,18 @@ entries-refuse w p r accepts refused = by (carry (begun w p) p.entries) refused.
         λ i. (sym (follow-stays u q p.follows (ap (λ r. refused_stop (Some r)) is ∙ refused.other)) i, Some (is i))
 
 -- a plan that is refused so leaves the world
-abbrev pub Still : World → Plan → Type 0
-Still w p = (r : Refusal) → Refuses w p r → (carried_out w p).0 ≡ w
+abbrev pub LeavesWorld : World → Plan → Type 0
+LeavesWorld w p = (r : Refusal) → Refuses w p r → (carried_out w p).0 ≡ w
 
 pub same-begun : (w : World) → record w { events = w.events ++ [] } ≡ w
 same-begun w = λ i. record w { events = append-nil w.events i }
 
 -- one that only answers
-pub still-says : (w : World) (a : Said) → Still w (only_says a)
-still-says w a r refused = ap (λ (o : Outcome). finish (only_says a) o.0 o.1) (carry-none (begun w (only_says a))) ∙ same-begun w
+pub leaves_world-says : (w : World) (a : Said) → LeavesWorld w (only_says a)
+leaves_world-says w a r refused = ap (λ (o : Outcome). finish (only_says a) o.0 o.1) (carry-none (begun w (only_says a))) ∙ same-begun w
 
 -- one without entries is never refused
-pub never-refused : (w : World) (p : Plan) → Accepts p → p.entries ≡ [] → Still w p
+pub never-refused : (w : World) (p : Plan) → Accepts p → p.entries ≡ [] → LeavesWorld w p
 never-refused w p accepts none r refused =
     let ends : carry (begun w p) p.entries ≡ (begun w p, None) = ap (carry (begun w p)) none ∙ carry-none (begun w p) in
     let no : None ≡ Some r = ap (λ (o : Outcome). o.1) (sym ends ∙ entries-refuse w p r accepts refused) in
@@ -82,43 +82,43 @@ leaves_more asked = refuses_late asked
 
 module _ (w : World) (asked : Result Step ℕ) (less : refuses_late asked ≡ false) where
   -- the checks of a plan come first, and it begins with no change
-  by-checks : (p : Plan) → Accepts p → begun w p ≡ w → Entered w asked p → Still w p
+  by-checks : (p : Plan) → Accepts p → begun w p ≡ w → Entered w asked p → LeavesWorld w p
   by-checks p accepts begins d r refused =
       let leads = entries-refuse w p r accepts refused in
       sym (ap (λ (o : Outcome). o.0) leads)
       ∙ carry-untouched (Acts w.control asked) NoStop (Late asked) (λ r why. false_true less why.late) (begun w p) p.entries d.entries r (ap (λ (o : Outcome). o.1) leads) refused.other
       ∙ begins
 
-pub case-still : (w : World) (line : ℕ) (asked : Result Step ℕ) (p : Plan) → Case w.control w.events line asked p → leaves_more asked ≡ false → Still w p
-case-still w line _ _ (Says a waits why) less = still-says w a
-case-still w line _ _ (DefinesServer name free) less = never-refused w _ (λ k. refl) refl
-case-still w line _ _ (DefinesVolume v s tracks here free) less = never-refused w _ (λ k. refl) refl
-case-still w line _ _ (SetsLink a b up) less = never-refused w _ (λ k. refl) refl
-case-still w line _ _ (Issues v t offset len bytes free) less = never-refused w _ (λ k. refl) refl
-case-still w line _ _ (Writes v t offset len bytes free) less = absurd cc
-case-still w line _ _ (Applies n p found) less = absurd cc
-case-still w line _ _ (Lists told ls few) less = never-refused w _ (λ k. refl) refl
-case-still w line _ _ (Shows v t there) less = never-refused w _ (λ k. refl) refl
-case-still w line _ _ (Stops s on) less = never-refused w _ (λ k. refl) refl
-case-still w line _ _ (Arms writes torn s) less = never-refused w _ (λ k. refl) refl
-case-still w line _ _ (Starts s off) less = λ r refused. never-leads _ _ _ r (start-fine any_world any_act never s w.control.volumes (λ v u any. tt) (λ v u any. tt) (λ n u any is. tt))
+pub case-leaves_world : (w : World) (line : ℕ) (asked : Result Step ℕ) (p : Plan) → Case w.control w.events line asked p → leaves_more asked ≡ false → LeavesWorld w p
+case-leaves_world w line _ _ (Says a waits why) less = leaves_world-says w a
+case-leaves_world w line _ _ (DefinesServer name free) less = never-refused w _ (λ k. refl) refl
+case-leaves_world w line _ _ (DefinesVolume v s tracks here free) less = never-refused w _ (λ k. refl) refl
+case-leaves_world w line _ _ (SetsLink a b up) less = never-refused w _ (λ k. refl) refl
+case-leaves_world w line _ _ (Issues v t offset len bytes free) less = never-refused w _ (λ k. refl) refl
+case-leaves_world w line _ _ (Writes v t offset len bytes free) less = absurd cc
+case-leaves_world w line _ _ (Applies n p found) less = absurd cc
+case-leaves_world w line _ _ (Lists told ls few) less = never-refused w _ (λ k. refl) refl
+case-leaves_world w line _ _ (Shows v t there) less = never-refused w _ (λ k. refl) refl
+case-leaves_world w line _ _ (Stops s on) less = never-refused w _ (λ k. refl) refl
+case-leaves_world w line _ _ (Arms writes torn s) less = never-refused w _ (λ k. refl) refl
+case-leaves_world w line _ _ (Starts s off) less = λ r refused. never-leads _ _ _ r (start-fine any_world any_act never s w.control.volumes (λ v u any. tt) (λ v u any. tt) (λ n u any is. tt))
     (entries-refuse w (start_plan w.control s) r (λ j. acked-accepts (landed_on w.control s)) refused) refused.other
-case-still w line _ _ (MakesPath src tgt group) less = never-refused w _ (λ k. refl) refl
-case-still w line _ _ (RemovesPath src tgt) less = never-refused w _ (λ k. refl) refl
-case-still w line _ _ (Drains a most) less = absurd cc
-case-still w line _ _ (MakesSession l s free) less = never-refused w _ (λ k. refl) refl
-case-still w line _ _ (RemovesSession l s x found free) less = never-refused w _ (λ k. refl) refl
-case-still w line _ _ (MakesMirror owner s x found free l owned) less = never-refused w _ (λ k. refl) refl
-case-still w line _ _ (PausesMirror s on) less = never-refused w _ (λ k. refl) refl
-case-still w line _ _ (RemovesMirror s x found free) less = never-refused w _ (λ k. refl) refl
-case-still w line _ _ (Aborts s x found free) less = never-refused w _ (λ k. phase-accepts (session_in k.sessions s)) refl
-case-still w line _ _ (Loses n) less = never-refused w _ (λ k. refl) refl
-case-still w line _ _ (Sends s server x r o posts) less = never-refused w _ (λ k. refl) refl
-case-still w line _ _ (TakesReply n m reply x r returns) less = absurd cc
-case-still w line _ _ (Exchanges s server reply x r o allowed) less = absurd cc
-case-still w line _ _ (Delivers n m starts x r reaches) less = absurd cc
-case-still w line _ _ (Recovers s x found on) less = absurd cc
-case-still w line asked p c less = by-checks w asked (by asked less) p (λ k. refl) (same-begun w) (case-does w line asked p c)
+case-leaves_world w line _ _ (MakesPath src tgt group) less = never-refused w _ (λ k. refl) refl
+case-leaves_world w line _ _ (RemovesPath src tgt) less = never-refused w _ (λ k. refl) refl
+case-leaves_world w line _ _ (Drains a most) less = absurd cc
+case-leaves_world w line _ _ (MakesSession l s free) less = never-refused w _ (λ k. refl) refl
+case-leaves_world w line _ _ (RemovesSession l s x found free) less = never-refused w _ (λ k. refl) refl
+case-leaves_world w line _ _ (MakesMirror owner s x found free l owned) less = never-refused w _ (λ k. refl) refl
+case-leaves_world w line _ _ (PausesMirror s on) less = never-refused w _ (λ k. refl) refl
+case-leaves_world w line _ _ (RemovesMirror s x found free) less = never-refused w _ (λ k. refl) refl
+case-leaves_world w line _ _ (Aborts s x found free) less = never-refused w _ (λ k. phase-accepts (session_in k.sessions s)) refl
+case-leaves_world w line _ _ (Loses n) less = never-refused w _ (λ k. refl) refl
+case-leaves_world w line _ _ (Sends s server x r o posts) less = never-refused w _ (λ k. refl) refl
+case-leaves_world w line _ _ (TakesReply n m reply x r returns) less = absurd cc
+case-leaves_world w line _ _ (Exchanges s server reply x r o allowed) less = absurd cc
+case-leaves_world w line _ _ (Delivers n m starts x r reaches) less = absurd cc
+case-leaves_world w line _ _ (Recovers s x found on) less = absurd cc
+case-leaves_world w line asked p c less = by-checks w asked (by asked less) p (λ k. refl) (same-begun w) (case-does w line asked p c)
   where
     by : (asked : Result Step ℕ) → leaves_more asked ≡ false → refuses_late asked ≡ false
     by (Ok (Recover s)) less = refl

@@ -19,7 +19,7 @@ use Rattle.dr_model.specs.Runs.{own_course}
 use Rattle.dr_facts.proofs.Sessions.{losing-none}
 use Rattle.dr_laws_sound.specs.RefusedSteps.{is_by_volume, is_off, with_issued, Leaves}
 use Rattle.dr_laws_sound.proofs.ChecksFirst.{on-stays}
-use Rattle.dr_laws_sound.proofs.RefusedPlans.{Refuses, case-still}
+use Rattle.dr_laws_sound.proofs.RefusedPlans.{Refuses, case-leaves_world}
 use Rattle.dr_laws_sound.proofs.Cases.{of-case}
 use Rattle.dr_laws_sound.proofs.RefusedWrites.{says-left, write-left, applied-left, drain-left, exchange-left, deliver-left, recover-left}
 
@@ -37,7 +37,7 @@ plan-left w line (Exchange s name reply) one = λ r. exchange-left w s reply r n
 plan-left w line (Deliver n) one = deliver-left w n
 plan-left w line (Recover s) one = recover-left w s
 plan-left w line (Run s n) one = absurd cc
-plan-left w line step one = case-still w line (Ok step) (plan_of w.control w.events line step) (of-case w.control w.events line step) refl
+plan-left w line step one = case-leaves_world w line (Ok step) (plan_of w.control w.events line step) (of-case w.control w.events line step) refl
 
 -- a step without room
 kept-full : (w : World) (step : Step) → own_course (Ok step) ≡ None → Leaves w (Ok step) JournalFull w

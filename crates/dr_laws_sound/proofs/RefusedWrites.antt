@@ -43,7 +43,7 @@ use Rattle.dr_laws_sound.proofs.ChecksFirst.{never, any_act, NeverRefuse, Checks
 use Rattle.dr_model.specs.Pairs.{records}
 use Rattle.dr_facts.proofs.Entries.{any_world, Fine, fine-none, fine-then, fine-one, fine-append, fine-if}
 use Rattle.dr_facts.proofs.SharedEntries.{where-fine, copies-fine, lands-fine, recover-fine}
-use Rattle.dr_laws_sound.proofs.RefusedPlans.{Refuses, entries-refuse, same-begun, still-says, never-refused, phase-accepts}
+use Rattle.dr_laws_sound.proofs.RefusedPlans.{Refuses, entries-refuse, same-begun, leaves_world-says, never-refused, phase-accepts}
 use Rattle.dr_laws_sound.proofs.Cases.{taken}
 
 -- ---- what refuses a plan before its entries
@@ -54,7 +54,7 @@ refuses-with w q r says = cc
 
 -- a plan that is only a refusal leaves the world
 pub says-left : (w : World) (q r : Refusal) (P : World → Type 0) → (q ≡ r → P w) → Refuses w (refuses q) r → P (carried_out w (refuses q)).0
-says-left w q r P stays refused = subst P (sym (still-says w (Refused q) r refused)) (stays (refuses-with w q r refused.says))
+says-left w q r P stays refused = subst P (sym (leaves_world-says w (Refused q) r refused)) (stays (refuses-with w q r refused.says))
 
 pub unless-left : (w : World) (o : Option Refusal) (p : Plan) (r : Refusal) (P : World → Type 0) → ((q : Refusal) → o ≡ Some q → q ≡ r → P w) → (Refuses w p r → P (carried_out w p).0) → Refuses w (unless o p) r → P (carried_out w (unless o p)).0
 unless-left w None p r P stays goes refused = goes refused
