@@ -116,6 +116,7 @@ ROWS = [
         (facts("Emits"), "emits (Hold v s n first) = Begins ∷ Cuts ∷ []", "emits (Hold v s n first) = Freezes ∷ Cuts ∷ []"),
         (facts("Emits"), "act_emits (OpenAttempt v s n) = Begins ∷", "act_emits (OpenAttempt v s n) = Freezes ∷"),
         (facts("Emits"), "all_tags p (Begins ∷ Cuts ∷ []) ≡ true → L es → L (cond first (Begin s n", "all_tags p (Freezes ∷ Cuts ∷ []) ≡ true → L es → L (cond first (Frozen s n"),
+        (facts("Emits"), "by_moves Freezes = false\n", ""),
         (facts("Emits"), "known (Begin s n ∷ Cut s n v", "known (Frozen s n ∷ Cut s n v"),
         (facts("Emits"), "rest-tags p Begins (Cuts", "rest-tags p Freezes (Cuts"),
         (
@@ -145,6 +146,11 @@ ROWS = [
         "recovery_commits_what_goes_back",
         "a recovery commits the targets that were decided to go back",
         (spec("RecoveryPlans"), "settle_on s (RevertAll n) m = revert_flashed s m n", "settle_on s (RevertAll n) m = commit_flashed s m n"),
+        (
+            facts("SharedEntries"),
+            "settle-fine s (RevertAll n) m commit revert = where-fine (λ k. is_flashed n (fields_at k m.c.0)) (Make (Revert m.c.0 m.a.0 s n)) (λ w h so. revert refl n w h)",
+            "settle-fine s (RevertAll n) m commit revert = where-fine (λ k. is_flashed n (fields_at k m.c.0)) (Make (Commit m.c.0 m.a.0 s n)) (λ w h so. commit n w h)",
+        ),
         (sound("RecoveryEntries"), "P Pass → (lets_revert d ≡ false →", "P Pass → (lets_revert d ≡ lets_revert d →"),
         (sound("RecoveryEntries"), "by : (d : Decision) → (lets_revert d ≡ false →", "by : (d : Decision) → (lets_revert d ≡ lets_revert d →"),
         (sound("RecoveryEntries"), "by (RevertAll n) commits reverts = if (is_flashed n (fields_at k m.c.0)) _ (reverts refl n)", "by (RevertAll n) commits reverts = if (is_flashed n (fields_at k m.c.0)) _ (commits refl n)"),
