@@ -26,7 +26,7 @@ CRATES = (
     "dr_laws_targets dr_laws_sound dr_laws_freezes dr_laws_flashes dr_laws_recovery dr_laws_orders dr_laws_commits dr_laws_return"
 ).split()
 # What counts events, lists what is told of which kind, or says how a definition is cut into parts: no law.
-TECHNICAL = re.compile(r"Costs|Spends|Counting|Limits|Texts|Cases|Journal")
+TECHNICAL = re.compile(r"Costs|Spends|EntryLengths|Counting|Limits|Texts|Cases|Does|Journal|Emits")
 ERROR = re.compile(r"^\./(?:proofs|specs)/(\S+?)\.antt:(\d+):\d+: error: (.*)$")
 BEHIND = re.compile(r"declarations? that depends? on")
 LOST = re.compile(r"^fn (\S+): (?!proved)(.*)$")
@@ -55,6 +55,10 @@ def messages(name):
     return f"dr_laws_messages/proofs/{name}.antt"
 
 
+def facts(name):
+    return f"dr_facts/proofs/{name}.antt"
+
+
 def sound(name):
     return f"dr_laws_sound/proofs/{name}.antt"
 
@@ -66,7 +70,7 @@ UNRECORDED = (
     "-- nor any other\nabbrev pub unrecorded_refusal : ℕ → ℕ → Control → Option Refusal\nunrecorded_refusal a n k = if (fields_at k a).recording then None else Some (Void n)\n\n-- it is let go, where it is held\n",
 )
 IN_ORDERS = (
-    " ".join(map(sound, ("HushedPlans", "CalmPlans", "SessionCosts", "RefusedWrites", "Awaits", "FitsOrders"))),
+    " ".join((facts("SharedEntries"), sound("RefusedWrites"), sound("FitsOrders"))),
     "hold_on, void_refusal, free_on,",
     "hold_on, void_refusal, unrecorded_refusal, free_on,",
 )
@@ -85,11 +89,13 @@ ROWS = [
         "dropped_write_says_wrote",
         "a write on a FlashCopy target is dropped, and the answer is that it was written",
         (spec("Entries"), "land_on n v t k = Do (Make (if (fields_at k v).related then Overwrite n v t else Land n v t))", "land_on n v t k = Do (if (fields_at k v).related then Drop n else Make (Land n v t))"),
-        (sound("WriteCosts"), "Do (Make (cond b (Overwrite n v t) (Land n v t)))", "Do (cond b (Drop n) (Make (Land n v t)))"),
-        (sound("WriteCosts"), "by true = small-do w (Make (Overwrite n v t))", "by true = small-do w (Drop n)"),
+        (facts("SharedEntries"), "pub over : May (Make (Overwrite n v t))", "pub over : May (Drop n)"),
+        (facts("SharedEntries"), "Ok w (Make (cond b (Overwrite n v t) (Land n v t)))", "Ok w (cond b (Drop n) (Make (Land n v t)))"),
+        (facts("SharedEntries"), "Carry.{Act, Make, ", "Carry.{Act, Make, Drop, "),
+        (sound("DoesPlans"), "over = λ u any. does.Overwrites n v t is free;", "over = λ u any. does.Drops n v t is;"),
         (sound("Lands"), "Do (Make (cond b (Overwrite p.w v p.track) (Land p.w v p.track)))) is_k", "Do (cond b (Drop p.w) (Make (Land p.w v p.track)))) is_k"),
         (sound("Lands"), "(Do (Make (Overwrite p.w v p.track))) (ap (λ b. Do (Make (cond b (Overwrite p.w v p.track) (Land p.w v p.track)))) is)", "(Do (Drop p.w)) (ap (λ b. Do (cond b (Drop p.w) (Make (Land p.w v p.track)))) is)"),
-        (sound("Lands"), "        record { runs = on; allowed = record { low = (waits w s p one).low; from = f.source; related = related; forward = forward; settled = settled; let_go = (or_parts f.coordination f.flash_hold open_to).1 }; fits = tt; group = ((s.rows.structure.flags v).persists, uncounted-by w.control s.attempts v (λ t. false_true writable t.inhibits)); ready = may-ack w s p one on },", "        each-on (λ p a. a.landed) _ (may-ack w s p one on).coming,"),
+        (sound("Lands"), "        record { runs = on; allowed = record { low = (waits w s p one).low; from = f.source; related = related; forward = forward; settled = settled; let_go = (back-parts f open_to).1 }; fits = tt; group = ((s.rows.structure.flags v).persists, uncounted-by w.control s.attempts v (λ t. false_true writable t.inhibits)); ready = may-ack w s p one on },", "        each-on (λ p a. a.landed) _ (may-ack w s p one on).coming,"),
         (sound("Lands"), "use Rattle.dr_model.specs.Allowed.", "use Rattle.dr_laws_closed.proofs.Pendings.{each-on}\nuse Rattle.dr_model.specs.Allowed."),
     ),
     Row(
@@ -107,10 +113,14 @@ ROWS = [
         "hold_without_begin",
         "the first hold of an attempt tells a freeze, and not that the attempt begins",
         (spec("Moves"), "Suspended, TakenOver, Begin, Cut,", "Suspended, TakenOver, Frozen as Begin, Cut,"),
+        (facts("Emits"), "emits (Hold v s n first) = Begins ∷ Cuts ∷ []", "emits (Hold v s n first) = Freezes ∷ Cuts ∷ []"),
+        (facts("Emits"), "act_emits (OpenAttempt v s n) = Begins ∷", "act_emits (OpenAttempt v s n) = Freezes ∷"),
+        (facts("Emits"), "all_tags p (Begins ∷ Cuts ∷ []) ≡ true → L es → L (cond first (Begin s n", "all_tags p (Freezes ∷ Cuts ∷ []) ≡ true → L es → L (cond first (Frozen s n"),
+        (facts("Emits"), "by_moves Freezes = false\n", ""),
+        (facts("Emits"), "known (Begin s n ∷ Cut s n v", "known (Frozen s n ∷ Cut s n v"),
+        (facts("Emits"), "rest-tags p Begins (Cuts", "rest-tags p Freezes (Cuts"),
         (
-            "dr_facts/proofs/Issued.antt dr_laws_cuts/proofs/Told.antt dr_laws_closed/proofs/Told.antt dr_laws_targets/proofs/Told.antt"
-            " dr_laws_sound/proofs/Hushed.antt dr_laws_sound/proofs/Journal.antt dr_laws_sound/proofs/KeepsQueue.antt dr_laws_sound/proofs/RowsAfter.antt dr_laws_sound/proofs/StopsTold.antt"
-            " dr_facts/proofs/Heard.antt dr_laws_freezes/proofs/KeepsWindow.antt dr_laws_flashes/proofs/Takes.antt dr_laws_recovery/proofs/OnTracks.antt dr_laws_recovery/proofs/Spared.antt",
+            "dr_laws_cuts/proofs/Told.antt dr_laws_closed/proofs/Told.antt dr_laws_recovery/proofs/OnTracks.antt dr_laws_recovery/proofs/Takes.antt",
             "Begin, Cut",
             "Frozen as Begin, Cut",
         ),
@@ -120,10 +130,7 @@ ROWS = [
         "a freeze suspends its primaries, and doesn't make them long busy",
         (spec("WriteEntries"), "freeze_on l m v k = if is_between k l m v then Do (Make (Suspend v true)) else Pass", "freeze_on l m v k = if is_between k l m v then Do (Make (Suspend v false)) else Pass"),
         (sound("FitsHolds"), "Then w (cond b (Do (Make (Suspend v true))) Pass)", "Then w (cond b (Do (Make (Suspend v false))) Pass)"),
-        (sound("Endless"), "choice-goes (is_between k l m v) (Do (Make (Suspend v true))) Pass", "choice-goes (is_between k l m v) (Do (Make (Suspend v false))) Pass"),
-        (sound("HushedPlans"), "(is_between k l m v) (Do (Make (Suspend v true))) Pass", "(is_between k l m v) (Do (Make (Suspend v false))) Pass"),
-        (sound("WriteCosts"), "(λ k. is_between k l m v) (Suspend v true) (suspend-once v true", "(λ k. is_between k l m v) (Suspend v false) (suspend-once v false"),
-        ("dr_laws_freezes/proofs/FairCases.antt", "pass-or k _ (Do (Make (Suspend v true)))", "pass-or k _ (Do (Make (Suspend v false)))"),
+        (sound("DoesPlans"), "(Make (moves.Suspend v true)) (λ j is. does.Suspends v true)", "(Make (moves.Suspend v false)) (λ j is. does.Suspends v false)"),
     ),
     Row(
         "flash_hold_holds_nothing",
@@ -139,10 +146,16 @@ ROWS = [
         "recovery_commits_what_goes_back",
         "a recovery commits the targets that were decided to go back",
         (spec("RecoveryPlans"), "settle_on s (RevertAll n) m = revert_flashed s m n", "settle_on s (RevertAll n) m = commit_flashed s m n"),
+        (
+            facts("SharedEntries"),
+            "settle-fine s (RevertAll n) m commit revert = where-fine (λ k. is_flashed n (fields_at k m.c.0)) (Make (Revert m.c.0 m.a.0 s n)) (λ w h so. revert refl n w h)",
+            "settle-fine s (RevertAll n) m commit revert = where-fine (λ k. is_flashed n (fields_at k m.c.0)) (Make (Commit m.c.0 m.a.0 s n)) (λ w h so. commit n w h)",
+        ),
         (sound("RecoveryEntries"), "P Pass → (lets_revert d ≡ false →", "P Pass → (lets_revert d ≡ lets_revert d →"),
         (sound("RecoveryEntries"), "by : (d : Decision) → (lets_revert d ≡ false →", "by : (d : Decision) → (lets_revert d ≡ lets_revert d →"),
         (sound("RecoveryEntries"), "by (RevertAll n) commits reverts = if (is_flashed n (fields_at k m.c.0)) _ (reverts refl n)", "by (RevertAll n) commits reverts = if (is_flashed n (fields_at k m.c.0)) _ (commits refl n)"),
-        (sound("RecoveryEntries"), "pub commits : lets_revert d ≡ false →", "pub commits : lets_revert d ≡ lets_revert d →"),
+        (sound("RecoveryEntries"), "fit-settle : (s : ℕ) (d : Decision) (m : Member) → (lets_revert d ≡ false →", "fit-settle : (s : ℕ) (d : Decision) (m : Member) → (lets_revert d ≡ lets_revert d →"),
+        (sound("RecoveryEntries"), "→ ((m : Member) → In m ms → lets_revert d ≡ false →", "→ ((m : Member) → In m ms → lets_revert d ≡ lets_revert d →"),
         (sound("FitsRecovery"), "Then v (settle_on i (RevertAll n) m v.control) more", "Then v (settle_on i (RevertSome n n) m v.control) more"),
         (sound("FitsRecovery"), "Along v (map (settle_on i (RevertAll n)) ms ++ ds)", "Along v (map (settle_on i (RevertSome n n)) ms ++ ds)"),
         (sound("FitsRecovery"), "loop Reverts (settle_on i (RevertAll n)) ds", "loop Reverts (settle_on i (RevertSome n n)) ds"),
@@ -266,11 +279,11 @@ ROWS = [
         UNRECORDED,
         (spec("SessionEntries"), "release_entries a n = refuse_if (void_refusal a n)", "release_entries a n = refuse_if (unrecorded_refusal a n)"),
         IN_ORDERS,
-        (sound("HushedPlans"), "member-hush phases.Release m = refused-hush (void_refusal m.a.0 n)", "member-hush phases.Release m = refused-hush (unrecorded_refusal m.a.0 n)"),
-        (sound("CalmPlans"), "member-calm ReleaseWork m = refused-calm (void_refusal m.a.0 n) _ (void-mild m.a.0)", "member-calm ReleaseWork m = refused-calm (unrecorded_refusal m.a.0 n) _ (λ k. mild-choice (fields_at k m.a.0).recording None _ mild-none (mild-some (Void n) refl))"),
-        (sound("SessionCosts"), "modest-member Release s n m =\n    modest-then (refuse_if (void_refusal m.a.0 n)) _ (modest-refuse (void_refusal m.a.0 n))", "modest-member Release s n m =\n    modest-then (refuse_if (unrecorded_refusal m.a.0 n)) _ (modest-refuse (unrecorded_refusal m.a.0 n))"),
+        (facts("SharedEntries"), "member-fine phases.Release s n m may why = fine-refuse K Ok Why (void_refusal m.a.0 n) _ why.void", "member-fine phases.Release s n m may why = fine-refuse K Ok Why (unrecorded_refusal m.a.0 n) _ why.unrecorded"),
+        (facts("SharedEntries"), "    pub void : (k : Control) → WhyNot Why (void_refusal m.a.0 n k)", "    pub void : (k : Control) → WhyNot Why (void_refusal m.a.0 n k)\n    pub unrecorded : (k : Control) → WhyNot Why (unrecorded_refusal m.a.0 n k)"),
+        (sound("Awaits"), "      void = λ k. why-any _;", "      void = λ k. why-any _;\n      unrecorded = λ k. why-any _;"),
+        (sound("DoesPlans"), "        void = λ j. late so _ (void-why m.a.0 n j);", "        void = λ j. late so _ (void-why m.a.0 n j);\n        unrecorded = λ j. late so _ (why-if NoStop (fields_at j m.a.0).recording None (Some (Void n)) tt refl);"),
         (sound("RefusedWrites"), "member-first phases.Release s n m = first-refuse (void_refusal m.a.0 n)", "member-first phases.Release s n m = first-refuse (unrecorded_refusal m.a.0 n)"),
-        (sound("Awaits"), "still-member phases.Release ss i n m older =\n    still-then ss (refuse_if (void_refusal m.a.0 n)) _ (λ k e. still-refuse (void_refusal m.a.0 n) k)", "still-member phases.Release ss i n m older =\n    still-then ss (refuse_if (unrecorded_refusal m.a.0 n)) _ (λ k e. still-refuse (unrecorded_refusal m.a.0 n) k)"),
         (sound("FitsOrders"), "refused v (void_refusal m.a.0 n) (free_on m.a.0 ∷ ds) st.sound", "refused v (unrecorded_refusal m.a.0 n) (free_on m.a.0 ∷ ds) st.sound"),
         (sound("FitsOrders"), "(by (last-recorded v m rest st (met (records n (fields_at v.control m.a.0)) (Void n) none)) (fields_at v.control m.a.0).coordination)", "(by (records-last v m rest st (met (fields_at v.control m.a.0).recording (Void n) none)) (fields_at v.control m.a.0).coordination)"),
     ),
@@ -288,11 +301,10 @@ ROWS = [
         "late_revert_of_any_flash",
         "a revert takes back whatever is revertible, not only what its attempt flashed",
         (spec("SessionEntries"), "    if is_flashed n (fields_at k c) then Do (Make (Revert c a s n))", "    if (fields_at k c).revertible then Do (Make (Revert c a s (fields_at k c).sequence))"),
-        (sound("HushedPlans"), "choice-hush false (is_flashed n (fields_at k m.c.0)) (Do (Make (RevertMove m.c.0 m.a.0 s n)))", "choice-hush false (fields_at k m.c.0).revertible (Do (Make (RevertMove m.c.0 m.a.0 s (fields_at k m.c.0).sequence)))"),
-        (sound("CalmPlans"), "choice-goes (is_flashed n (fields_at k m.c.0)) _ _", "choice-goes (fields_at k m.c.0).revertible _ _"),
-        (sound("SessionCosts"), "(is_flashed n (fields_at w.control m.c.0)) _ _ (modest-do w (Make (RevertMove m.c.0 m.a.0 s n)) (omega arith))", "(fields_at w.control m.c.0).revertible _ _ (modest-do w (Make (RevertMove m.c.0 m.a.0 s (fields_at w.control m.c.0).sequence)) (omega arith))"),
-        (sound("RefusedWrites"), "choice-goes (is_flashed n (fields_at k m.c.0)) _ _", "choice-goes (fields_at k m.c.0).revertible _ _"),
-        (sound("Awaits"), "still-choice (is_flashed n (fields_at k m.c.0)) _ _", "still-choice (fields_at k m.c.0).revertible _ _"),
+        (facts("SharedEntries"), "pub revert : May (Make (Revert m.c.0 m.a.0 s n))", "pub revert : (w : World) → K w → Ok w (Make (Revert m.c.0 m.a.0 s (fields_at w.control m.c.0).sequence))"),
+        (facts("SharedEntries"), "(is_flashed n (fields_at w.control m.c.0)) (Do (Make (Revert m.c.0 m.a.0 s n)))", "(fields_at w.control m.c.0).revertible (Do (Make (Revert m.c.0 m.a.0 s (fields_at w.control m.c.0).sequence)))"),
+        (sound("DoesPlans"), "does.OrdersRevert s m i n", "does.OrdersRevert s m i (fields_at u.control m.c.0).sequence"),
+        (sound("RefusedWrites"), "(is_flashed n (fields_at w.control m.c.0)) _ _ tt", "(fields_at w.control m.c.0).revertible _ _ tt"),
         (sound("FitsOrders"), "(by send (is_flashed n (fields_at v.control m.c.0)) (nat_lt", "(by send (fields_at v.control m.c.0).revertible (nat_lt"),
         (sound("FitsOrders"), "(b under : Bool) → is_flashed n (fields_at v.control m.c.0) ≡ b", "(b under : Bool) → (fields_at v.control m.c.0).revertible ≡ b"),
         (sound("FitsOrders"), "(Do (Make (Revert m.c.0 m.a.0 i n)))", "(Do (Make (Revert m.c.0 m.a.0 i (fields_at v.control m.c.0).sequence)))"),
@@ -308,13 +320,13 @@ ROWS = [
         (attempts("Orders"), "by (or_cases (is_committed n (fields_at k c)) (is_flashed n (fields_at k c)) (either (is_committed n (fields_at k c) || is_flashed n (fields_at k c)) h))", "by (or_cases (is_committed n (fields_at k c)) (fields_at k c).revertible (either (is_committed n (fields_at k c) || (fields_at k c).revertible) h))"),
         (attempts("Orders"), "(is_committed n (fields_at k c) ≡ true) ⊎ (is_flashed n (fields_at k c) ≡ true) → is_flashed n (fields_at k c) ≡ true", "(is_committed n (fields_at k c) ≡ true) ⊎ ((fields_at k c).revertible ≡ true) → (fields_at k c).revertible ≡ true"),
         (attempts("Orders"), "flag = (and_parts (fields_at k m.c.0).revertible (nat_eq (fields_at k m.c.0).sequence n) (commit-passed m.c.0 n k passes none)).0", "flag = commit-passed m.c.0 n k passes none"),
-        (sound("HushedPlans"), "(CommitMove m.c.0 m.a.0 s n)", "(CommitMove m.c.0 m.a.0 s (fields_at k m.c.0).sequence)"),
-        (sound("CalmPlans"), "(is_committed n (fields_at k m.c.0) || is_flashed n (fields_at k m.c.0))", "(is_committed n (fields_at k m.c.0) || (fields_at k m.c.0).revertible)"),
+        (facts("SharedEntries"), "pub commit : May (Make (Commit m.c.0 m.a.0 s n))", "pub commit : (w : World) → K w → Ok w (Make (Commit m.c.0 m.a.0 s (fields_at w.control m.c.0).sequence))"),
         (
-            sound("SessionCosts"),
-            "(is_committed n (fields_at w.control m.c.0)) Pass _ (modest-pass w) (modest-do w (Make (CommitMove m.c.0 m.a.0 s n)) (omega arith))",
-            "(is_committed n (fields_at w.control m.c.0)) Pass _ (modest-pass w) (modest-do w (Make (CommitMove m.c.0 m.a.0 s (fields_at w.control m.c.0).sequence)) (omega arith))",
+            facts("SharedEntries"),
+            "(unless-fine (λ k. is_committed n (fields_at k m.c.0)) (Make (Commit m.c.0 m.a.0 s n)) may.commit)",
+            "(λ w k. fine-if K Ok Why w (is_committed n (fields_at w.control m.c.0)) Pass (Do (Make (Commit m.c.0 m.a.0 s (fields_at w.control m.c.0).sequence))) tt (may.commit w k))",
         ),
+        (sound("DoesPlans"), "does.OrdersCommit s m i n", "does.OrdersCommit s m i (fields_at u.control m.c.0).sequence"),
         (sound("FitsOrders"), "(Do (Make (Commit m.c.0 m.a.0 i n)))", "(Do (Make (Commit m.c.0 m.a.0 i (fields_at v.control m.c.0).sequence)))"),
     ),
     Row(
@@ -338,11 +350,8 @@ ROWS = [
         "repeated_hold_empties_again",
         "a hold that comes again is done again, and what changed since counts no more",
         (spec("SessionEntries"), "    if records n (fields_at k a) then Pass\n", "    if records n (fields_at k a) then Do (Make (Hold a s n false))\n"),
-        (sound("HushedPlans"), "(records n (fields_at k m.a.0)) Pass _ tt (by", "(records n (fields_at k m.a.0)) (Do (Make (HoldMove m.a.0 s n false))) _ refl (by"),
-        (sound("CalmPlans"), "choice-goes (records n (fields_at k m.a.0)) Pass _ pass-goes (do-goes _)", "choice-goes (records n (fields_at k m.a.0)) _ _ (do-goes _) (do-goes _)"),
-        (sound("SessionCosts"), "(records n (fields_at w.control m.a.0)) Pass _ (modest-pass w) (either", "(records n (fields_at w.control m.a.0)) (Do (Make (HoldMove m.a.0 s n false))) _ (modest-do w (Make (HoldMove m.a.0 s n false)) (omega arith)) (either"),
-        (sound("RefusedWrites"), "(last-endless (hold_on s m.a.0 n) (λ k. choice-goes _ Pass _ pass-goes (do-goes _)))", "(last-endless (hold_on s m.a.0 n) (λ k. choice-goes _ _ _ (do-goes _) (do-goes _)))"),
-        (sound("Awaits"), "still-choice (records n (fields_at k a)) Pass _ tt", "still-choice (records n (fields_at k a)) (Do (Make (Hold a i n false))) _ tt"),
+        (facts("SharedEntries"), "(records n (fields_at w.control m.a.0)) Pass _ tt (by", "(records n (fields_at w.control m.a.0)) (Do (Make (Hold m.a.0 s n false))) _ (may.hold w k) (by"),
+        (sound("RefusedWrites"), "(records n (fields_at w.control m.a.0)) Pass _ tt tt", "(records n (fields_at w.control m.a.0)) _ _ tt tt"),
         (sound("Awaits"), "attempt o.number) Pass (Do (cond", "attempt o.number) (Do (Make (Hold m.a.0 i o.number false))) (Do (cond"),
         (sound("FitsOrders"), "Then v (cond p Pass (Do (cond q (OpenAttempt", "Then v (cond p (Do (Make (Hold m.a.0 i n false))) (Do (cond q (OpenAttempt"),
         (sound("FitsOrders"), "Then v (cond p Pass (Do (cond (nat_lt (last_of v.control i) n) (OpenAttempt", "Then v (cond p (Do (Make (Hold m.a.0 i n false))) (Do (cond (nat_lt (last_of v.control i) n) (OpenAttempt"),
@@ -351,15 +360,8 @@ ROWS = [
         "repeated_flash_sets_aside_again",
         "a flash that comes again is done again, and sets the view of the first one aside",
         (spec("SessionEntries"), "if is_flashed n (fields_at k c) then Pass else Do (Make (Flash c b a s n))", "if is_flashed n (fields_at k c) then Do (Make (Flash c b a s n)) else Do (Make (Flash c b a s n))"),
-        (sound("HushedPlans"), "(is_flashed n (fields_at k m.c.0)) Pass (Do (Make (FlashMove m.c.0 m.b.0 m.a.0 s n)))", "(is_flashed n (fields_at k m.c.0)) (Do (Make (FlashMove m.c.0 m.b.0 m.a.0 s n))) (Do (Make (FlashMove m.c.0 m.b.0 m.a.0 s n)))"),
-        (sound("CalmPlans"), "choice-goes (is_flashed n (fields_at k m.c.0)) Pass _ pass-goes (do-goes _)", "choice-goes (is_flashed n (fields_at k m.c.0)) _ _ (do-goes _) (do-goes _)"),
-        (
-            sound("SessionCosts"),
-            "(is_flashed n (fields_at w.control m.c.0)) Pass _ (modest-pass w) (modest-do w (Make (FlashMove m.c.0 m.b.0 m.a.0 s n)) (omega arith))",
-            "(is_flashed n (fields_at w.control m.c.0)) _ _ (modest-do w (Make (FlashMove m.c.0 m.b.0 m.a.0 s n)) (omega arith)) (modest-do w (Make (FlashMove m.c.0 m.b.0 m.a.0 s n)) (omega arith))",
-        ),
-        (sound("RefusedWrites"), "(last-endless (flash_on s m.a.0 m.b.0 m.c.0 n) (λ k. choice-goes _ Pass _ pass-goes (do-goes _)))", "(last-endless (flash_on s m.a.0 m.b.0 m.c.0 n) (λ k. choice-goes _ _ _ (do-goes _) (do-goes _)))"),
-        (sound("Awaits"), "still-choice (is_flashed n (fields_at k m.c.0)) Pass _ tt tt", "still-choice (is_flashed n (fields_at k m.c.0)) _ _ tt tt"),
+        (facts("SharedEntries"), "(unless-fine (λ k. is_flashed n (fields_at k m.c.0)) (Make (Flash m.c.0 m.b.0 m.a.0 s n)) may.flash)", "(λ w k. fine-if K Ok Why w (is_flashed n (fields_at w.control m.c.0)) _ _ (may.flash w k) (may.flash w k))"),
+        (sound("RefusedWrites"), "(is_flashed n (fields_at w.control m.c.0)) Pass _ tt tt", "(is_flashed n (fields_at w.control m.c.0)) _ _ tt tt"),
         (sound("FitsOrders"), "Then v (cond b Pass (Do (Make (Flash m.c.0 m.b.0 m.a.0 i n))))", "Then v (cond b (Do (Make (Flash m.c.0 m.b.0 m.a.0 i n))) (Do (Make (Flash m.c.0 m.b.0 m.a.0 i n))))"),
     ),
     Row(
@@ -367,12 +369,8 @@ ROWS = [
         "a member that is added has its attempt and its target's floor as they were",
         (spec("SessionEntries"), "raise_attempt_on a n k = if nat_lt (fields_at k a).attempt n then", "raise_attempt_on a n k = if nat_lt (fields_at k a).attempt 0 then"),
         (spec("SessionEntries"), "raise_floor_on c n k = if nat_lt (fields_at k c).floor n then", "raise_floor_on c n k = if nat_lt (fields_at k c).floor 0 then"),
-        (sound("HushedPlans"), "(nat_lt (fields_at k m.a.0).attempt n) (Do (Make (RaiseAttempt", "(nat_lt (fields_at k m.a.0).attempt 0) (Do (Make (RaiseAttempt"),
-        (sound("HushedPlans"), "(raise_floor_on m.c.0 n) (λ k. choice-hush false (nat_lt (fields_at k m.c.0).floor n)", "(raise_floor_on m.c.0 n) (λ k. choice-hush false (nat_lt (fields_at k m.c.0).floor 0)"),
-        (sound("Endless"), "(nat_lt (fields_at k m.a.0).attempt n)", "(nat_lt (fields_at k m.a.0).attempt 0)"),
-        (sound("Endless"), "(nat_lt (fields_at k m.c.0).floor n)", "(nat_lt (fields_at k m.c.0).floor 0)"),
-        (sound("SessionCosts"), "(nat_lt (fields_at w.control m.a.0).attempt n)", "(nat_lt (fields_at w.control m.a.0).attempt 0)"),
-        (sound("SessionCosts"), "small-choice w (nat_lt (fields_at w.control m.c.0).floor n)", "small-choice w (nat_lt (fields_at w.control m.c.0).floor 0)"),
+        (facts("SharedEntries"), "where-fine (λ k. nat_lt (fields_at k m.a.0).attempt n) (Make (RaiseAttempt", "where-fine (λ k. nat_lt (fields_at k m.a.0).attempt 0) (Make (RaiseAttempt"),
+        (facts("SharedEntries"), "where-fine (λ k. nat_lt (fields_at k m.c.0).floor n) (Make (RaiseFloor", "where-fine (λ k. nat_lt (fields_at k m.c.0).floor 0) (Make (RaiseFloor"),
         (sound("FitsMembers"), "refl (by (nat_lt (fields_at v.control c).floor n) refl)", "refl (by (nat_lt (fields_at v.control c).floor 0) refl)"),
         (sound("FitsMembers"), "by : (b : Bool) → nat_lt (fields_at v.control c).floor n ≡ b", "by : (b : Bool) → nat_lt (fields_at v.control c).floor 0 ≡ b"),
         (sound("FitsMembers"), "past = ltb-false (fields_at v.control c).floor n lt", "past = ltb-false (fields_at v.control c).floor 0 lt"),

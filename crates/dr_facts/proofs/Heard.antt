@@ -1,19 +1,29 @@
 -- What an event makes of the lists of volumes: those that hear nothing of it stay, and what holds of each list goes on to hold.
-use Rattle.std.proofs.Common.{ℕ, ◌≡◌, ◌≢◌, refl, ap, ◌∙◌, Bool, true, false, cond, nat_eq, List, [], ◌∷◌, ◌++◌, map}
+use Rattle.std.proofs.Common.{ℕ, ◌≡◌, ◌≢◌, refl, ap, ◌∙◌, Bool, true, false, cond, nat_eq, List, [], ◌∷◌, ◌++◌, map, subst}
 use Rattle.std.specs.List.{fold}
 use Rattle.std.proofs.lemmas.Bool.{ne_eqb}
+use Rattle.std.proofs.lemmas.List.{append-nil}
 use Rattle.dr_logic.specs.Tables.{at, at2}
 use Rattle.dr_model.specs.declared.event.Event.{Event}
-use Rattle.dr_model.specs.declared.event.Event.TheVariants.{Volume as VolumeDefined, Issue, Ack, Mirrored, Sent, Flashed, Committed, Reverted, Set, Back, Blanked, Restored, Suspended, Begin, Cut}
+use Rattle.dr_model.specs.declared.event.Event.TheVariants.{Volume as VolumeDefined, Issue, Ack, Mirrored, Sent, Flashed, Committed, Reverted, Set, Back, Blanked}
 use Rattle.dr_model.specs.Histories.{Lists, Histories, joined, after_event}
 use Rattle.dr_model.specs.Layout.{Tracks}
-use Rattle.dr_model.specs.Relations.{rest, in_order}
-use Rattle.dr_model.specs.Moves.{told_blank, told_freed}
+use Rattle.dr_model.specs.Control.{Volume as VolumeRow}
+use Rattle.dr_model.specs.Moves.{Move, told, told_restored}
 use Rattle.dr_facts.specs.Heard.{Unheard, AllUnheard}
 use Rattle.dr_facts.proofs.Tables.{at_cases, at2_cases}
+use Rattle.dr_facts.proofs.Emits.{Lists as ByEvents, Tag, Suspends, Frees, Begins, Cuts, Of, all_tags, emits, restored-onto, each-told}
 
 pub elsewhere : {X : Type 0} (v x : ℕ) (new old : X) → v ≢ x → cond (nat_eq v x) new old ≡ old
 elsewhere v x new old ne = ap (λ b. cond b new old) (ne_eqb v x ne)
+
+-- kinds of events that change no history, and that a move tells or doesn't by what it finds
+abbrev pub changes_none : Tag → Bool
+changes_none Suspends = true
+changes_none Frees = true
+changes_none Begins = true
+changes_none Cuts = true
+changes_none k = false
 
 -- ---- lists that hear nothing stay
 
@@ -42,27 +52,24 @@ module _ (P : ℕ → Type 0) where
   unheard-append v [] fs a b = b
   unheard-append v (e ∷ es) fs a b = (a.0, unheard-append v es fs a.1 b)
 
-  -- ---- what moves tell in several events
+  -- ---- what moves tell
+
+  unheard-lists : (v : ℕ) → ByEvents (Unheard P v) (AllUnheard P v)
+  unheard-lists v = record { none = tt; more = λ e es here behind. (here, behind) }
 
   pub unheard-blanked : (v x : ℕ) (ts : List ℕ) → v ≢ x → AllUnheard P v (map (Blanked x) ts)
   unheard-blanked v x [] ne = tt
   unheard-blanked v x (t ∷ ts) ne = (ne, unheard-blanked v x ts ne)
 
-  pub unheard-restored : (v x s n : ℕ) (own : Tracks) (b : Bool) → v ≢ x → AllUnheard P v (cond b (told_blank x n own ++ Restored s x ∷ []) [])
-  unheard-restored v x s n own true ne = unheard-append v (told_blank x n own) (Restored s x ∷ []) (unheard-blanked v x (in_order n (rest n own)) ne) (tt, tt)
-  unheard-restored v x s n own false ne = tt
+  pub unheard-restored : (v x s n : ℕ) (own : Tracks) → v ≢ x → AllUnheard P v (told_restored x s n own)
+  unheard-restored v x s n own ne = subst (AllUnheard P v) (append-nil _) (restored-onto (Unheard P v) (AllUnheard P v) (unheard-lists v) x s n own [] (λ t. ne) tt tt)
 
-  pub unheard-suspended : (v x : ℕ) (b : Bool) → AllUnheard P v (cond b [] (Suspended x ∷ []))
-  unheard-suspended v x true = tt
-  unheard-suspended v x false = (tt, tt)
+  unheard-kind : (v : ℕ) (e : Event) → Of changes_none e → Unheard P v e
+  unheard-kind v (Ack n) h = absurd cc
+  unheard-kind v e h = first_of (assumption, cc)
 
-  pub unheard-freed : (v x : ℕ) (b : Bool) → AllUnheard P v (told_freed x b)
-  unheard-freed v x true = (tt, tt)
-  unheard-freed v x false = tt
-
-  pub unheard-held : (v x s n : ℕ) (first : Bool) → AllUnheard P v (cond first (Begin s n ∷ Cut s n x ∷ []) (Cut s n x ∷ []))
-  unheard-held v x s n true = (tt, (tt, tt))
-  unheard-held v x s n false = (tt, tt)
+  pub unheard-told : (v : ℕ) (m : Move) (u : VolumeRow) → all_tags changes_none (emits m) ≡ true → AllUnheard P v (told m u)
+  unheard-told v = each-told changes_none (AllUnheard P v) (record { none = tt; more = λ e es h behind. (unheard-kind v e h, behind) })
 
 -- ---- what holds of each list goes on to hold
 

@@ -1,59 +1,34 @@
 -- No act of a step issues a write: however entries end, the writes that the journal tells of are as before.
-use Rattle.std.proofs.Common.{ℕ, ◌≡◌, inl, inr, List, [], ◌∷◌, ◌++◌, map, refl, ap, ◌∙◌, Bool, true, false, not, cond, Option, Some, None}
+use Rattle.std.proofs.Common.{ℕ, ◌≡◌, inl, inr, List, [], ◌∷◌, ◌++◌, refl, ap, ◌∙◌, Bool, true, false, not, cond, Option, Some, None}
 use Rattle.std.specs.List.{fold}
-use Rattle.std.proofs.lemmas.List.Sums.{fold-append}
 use Rattle.dr_ids.specs.declared.refusal.Refusal.{Refusal}
 use Rattle.dr_model.specs.declared.event.Event.{Event}
-use Rattle.dr_model.specs.declared.event.Event.TheVariants.{Blanked, Restored, Stopped, Ack, Suspended, Frozen, Thawed, Begin, Cut, Recovered}
-use Rattle.dr_model.specs.Layout.{Tracks, Fields}
-use Rattle.dr_model.specs.Relations.{rest, in_order, is_bare, turned, given_up}
+use Rattle.dr_model.specs.declared.event.Event.TheVariants.{Issue, Stopped, Ack, Frozen, Thawed, Recovered}
+use Rattle.dr_model.specs.Layout.{Fields}
 use Rattle.dr_model.specs.Histories.{Histories, histories, after_event}
 use Rattle.dr_model.specs.Control.{Volume, World}
-use Rattle.dr_model.specs.Pairs.{is_suspended}
-use Rattle.dr_model.specs.Moves.{Move, Carried, Land, Overwrite, LandBoth, Withdraw, Reverse, Release, Suspend, Lift, Hold, target, next_fields, carried, told, told_in_stop, told_blank, told_freed, landed, keeps_staged}
+use Rattle.dr_model.specs.Moves.{Move, Carried, Hold, target, next_fields, carried, told, told_in_stop, landed, keeps_staged}
 use Rattle.dr_model.specs.Carry.{Act, Make, OpenAttempt, Redo, Acknowledge, Drop, EndFreeze, EndThaw, EndRecovery, Next, Pass, Do, End, Entry, Turn, Ended, ended, update_keeping, spent, off, pass, turn, finished, cut_short, redo, redo_writes, act, equal, attempt_begun}
 use Rattle.dr_model.specs.ReadStops.{GoesOff, IsEnd, EndsTurn, EndsNext, Ends}
+use Rattle.dr_facts.proofs.Emits.{Of, Lists, by_moves, emitted, all-told, stop-onto}
 use Rattle.dr_model.proofs.CarryLemmas.{update-cases}
 use Rattle.dr_model.proofs.Images.{histories-append}
 
 abbrev pub after : Histories → List Event → Histories
 after h es = fold after_event h es
 
-pub blanked : (h : Histories) (v : ℕ) (ts : List ℕ) → (after h (map (Blanked v) ts)).write ≡ h.write
-blanked h v [] = refl
-blanked h v (t ∷ ts) = blanked (after_event h (Blanked v t)) v ts
+no-issue : (h : Histories) (e : Event) → Of by_moves e → (after_event h e).write ≡ h.write
+no-issue h (Issue n v t offset len bytes) by = absurd cc
+no-issue h e by = refl
 
-restored : (h : Histories) (ends : Bool) (v s n : ℕ) (own : Tracks) → (after h (cond ends (told_blank v n own ++ Restored s v ∷ []) [])).write ≡ h.write
-restored h true v s n own = ap (λ (x : Histories). x.write) (fold-append after_event h (told_blank v n own) (Restored s v ∷ [])) ∙ blanked h v (in_order n (rest n own))
-restored h false v s n own = refl
-
-suspended : (h : Histories) (none : Bool) (v : ℕ) → (after h (cond none [] (Suspended v ∷ []))).write ≡ h.write
-suspended h true v = refl
-suspended h false v = refl
-
-freed : (h : Histories) (v : ℕ) (had : Bool) → (after h (told_freed v had)).write ≡ h.write
-freed h v true = refl
-freed h v false = refl
-
-held : (h : Histories) (first : Bool) (s n v : ℕ) → (after h (cond first (Begin s n ∷ Cut s n v ∷ []) (Cut s n v ∷ []))).write ≡ h.write
-held h true s n v = refl
-held h false s n v = refl
+writes-stay : Lists (Of by_moves) (λ es. (h : Histories) → (after h es).write ≡ h.write)
+writes-stay = record { none = λ h. refl; more = λ e es by behind h. behind (after_event h e) ∙ no-issue h e by }
 
 pub told-writes : (h : Histories) (m : Move) (u : Volume) → (after h (told m u)).write ≡ h.write
-told-writes h (Withdraw v) u = blanked h v (in_order u.tracks (rest u.tracks u.fields.own))
-told-writes h (Reverse v None) u = restored h (is_bare (turned u.fields).own) v u.fields.source u.tracks (turned u.fields).own
-told-writes h (Reverse v (Some p)) u = restored h (is_bare (turned u.fields).own) v u.fields.source u.tracks (turned u.fields).own
-told-writes h (Release v t) u = restored h (is_bare (given_up u.fields t).own) v u.fields.source u.tracks (given_up u.fields t).own
-told-writes h (Hold v s n first) u = held h first s n v
-told-writes h (Suspend v busy) u = suspended h (is_suspended u.fields.primary_state) v
-told-writes h (Lift v) u = freed h v u.fields.flash_hold
-told-writes h m u = refl
+told-writes h m u = all-told _ writes-stay m u h
 
-pub stop-writes : (h : Histories) (m : Move) (u : Volume) → (after h (told_in_stop m u)).write ≡ h.write
-stop-writes h (Land n v t) u = refl
-stop-writes h (Overwrite n v t) u = refl
-stop-writes h (LandBoth n v t) u = refl
-stop-writes h m u = told-writes h m u
+pub stop-writes : (h : Histories) (m : Move) (u : Volume) (s n : ℕ) → (after h (told_in_stop m u ++ Stopped s n ∷ [])).write ≡ h.write
+stop-writes h m u s n = stop-onto by_moves _ writes-stay m u (Stopped s n ∷ []) (emitted m) (λ h. refl) h
 
 -- the writes of one world are those of another
 abbrev pub Alike : World → World → Type 0
@@ -68,8 +43,7 @@ update-events keeps w v f c = update-cases keeps w v f c (λ e. e.world.events �
 
 cut-writes : (w x : World) (m : Move) (u : Volume) → x.events ≡ w.events → (done : Bool) → Alike (cut_short x m u done) w
 cut-writes w x m u same true =
-    with-told x (told_in_stop m u ++ Stopped u.server (landed m) ∷ []) (ap (λ (y : Histories). y.write) (fold-append after_event (histories x.events) (told_in_stop m u) (Stopped u.server (landed m) ∷ [])) ∙ stop-writes (histories x.events) m u)
-    ∙ ap (λ es. (histories es).write) same
+    with-told x (told_in_stop m u ++ Stopped u.server (landed m) ∷ []) (stop-writes (histories x.events) m u u.server (landed m)) ∙ ap (λ es. (histories es).write) same
 cut-writes w x m u same false = with-told x (Stopped u.server 0 ∷ []) refl ∙ ap (λ es. (histories es).write) same
 
 turn_by-writes : (w x : World) (m : Move) (u : Volume) → x.events ≡ w.events → (on stopped done : Bool)

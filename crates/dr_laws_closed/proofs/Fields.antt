@@ -4,7 +4,7 @@ use Rattle.dr_model.specs.Layout.{Fields}
 use Rattle.dr_model.specs.Control.{Volume}
 use Rattle.dr_model.specs.Pairs.{primary_of}
 use Rattle.dr_model.specs.Moves.{Move, Overwrite, Keep, Relate, Withdraw, Fetch, Reverse, Release, Flash, Commit, Revert, Store, Suspend, MakeSecondary, MakePrimary, DropPrimary, DropSecondary, TakeOver, FallBack, Yield, Lift, Restart, Hold, Free, Seal, Finish, RaiseAttempt, fields_left}
-use Rattle.dr_laws_cuts.proofs.Told.{IsNoHold}
+use Rattle.dr_laws_cuts.proofs.Told.{TellsNoCut}
 use Rattle.dr_laws_attempts.proofs.Facts.{stood}
 use Rattle.dr_logic.proofs.Truth.{false_true}
 
@@ -18,8 +18,8 @@ abbrev pub Idles : Move → Fields → Type 0
 Idles (RaiseAttempt v n) f = f.recording ≡ false
 Idles m f = Unit {0}
 
-pub goes : (m : Move) (u : Volume) → IsNoHold m → Idles m u.fields → Goes u.fields (fields_left m u)
-goes (Hold v s n first) u other idle = absurd other
+pub goes : (m : Move) (u : Volume) → TellsNoCut m → Idles m u.fields → Goes u.fields (fields_left m u)
+goes (Hold v s n first) u other idle = absurd cc
 goes (Suspend v busy) u other idle = record { recorded = λ h. absurd cc; attempt = λ h. refl; held = λ h. absurd cc }
 goes (MakePrimary v a kind state full) u other idle = record { recorded = λ h. absurd cc; attempt = λ h. refl; held = λ h. absurd cc }
 goes (DropPrimary v) u other idle = record { recorded = λ h. absurd cc; attempt = λ h. refl; held = λ h. absurd cc }

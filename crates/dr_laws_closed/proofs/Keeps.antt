@@ -19,7 +19,7 @@ use Rattle.dr_model.specs.Allowed.{May}
 use Rattle.dr_model.specs.Cuts.{Cuts, cuts, next_cuts}
 use Rattle.dr_laws_attempts.proofs.Moves.{at-place}
 use Rattle.dr_facts.proofs.Tables.{at_cases}
-use Rattle.dr_laws_cuts.proofs.Told.{IsNoHold}
+use Rattle.dr_laws_cuts.proofs.Told.{TellsNoCut}
 use Rattle.dr_laws_closed.specs.Moments.{Moments, Standing, moments, standing}
 use Rattle.dr_laws_closed.specs.Closing.{Whole, AllFields, HeldAsCut, LandedFree, RecordsWhole, AwaitsFlash, SealedWhole, RevertibleWhole, StandsWhole, Members, ClosingIn, Closing}
 use Rattle.dr_laws_closed.specs.Next.{next_moments, next_standing, Untouched}
@@ -32,12 +32,12 @@ use Rattle.dr_laws_closed.proofs.Standings.{added}
 use Rattle.dr_laws_attempts.proofs.Facts.{stood}
 use Rattle.dr_laws_closed.proofs.Counts.{stands-then}
 
-pub no-other-cut : (now : Lists) (m : Move) (c : Cuts) → IsNoHold m → next_cuts now m c ≡ c
-no-other-cut now (Hold v s n first) c other = absurd other
+pub no-other-cut : (now : Lists) (m : Move) (c : Cuts) → TellsNoCut m → next_cuts now m c ≡ c
+no-other-cut now (Hold v s n first) c other = absurd cc
 no-other-cut now m c other = refl
 
-pub no-other-moment : (now : Lists) (m : Move) (M : Moments) → IsNoHold m → next_moments now m M ≡ M
-no-other-moment now (Hold v s n first) M other = absurd other
+pub no-other-moment : (now : Lists) (m : Move) (M : Moments) → TellsNoCut m → next_moments now m M ≡ M
+no-other-moment now (Hold v s n first) M other = absurd cc
 no-other-moment now m M other = refl
 
 its-primary : (f : Fields) (a : ℕ) → is_secondary_of a f ≡ true → primary_of f ≡ Some a
@@ -47,7 +47,7 @@ idles : (w : World) (m : Move) → May w m → Idles m (fields_at w.control (tar
 idles w (RaiseAttempt v n) may = may.allowed.idle
 idles w m may = tt
 
-module _ (starts : Option ℕ) (w : World) (sound : SoundBut starts w) (old : Closing w) (m : Move) (may : May w m) (other : IsNoHold m) where
+module _ (starts : Option ℕ) (w : World) (sound : SoundBut starts w) (old : Closing w) (m : Move) (may : May w m) (other : TellsNoCut m) where
   abbrev k : Control
   k = w.control
 

@@ -1,17 +1,15 @@
 -- What a move tells makes of moments, of who stands in groups, and of lists.
-use Rattle.std.proofs.Common.{ℕ, ◌≡◌, ◌≢◌, refl, ap, sym, ◌∙◌, Bool, true, false, cond, List, [], ◌∷◌, ◌++◌, map, Some, None, subst}
+use Rattle.std.proofs.Common.{ℕ, ◌≡◌, ◌≢◌, refl, ap, sym, ◌∙◌, Bool, true, false, List, [], ◌∷◌, ◌++◌, Some, None, subst}
 use Rattle.std.specs.List.{fold}
 use Rattle.std.proofs.lemmas.List.{append_assoc}
 use Rattle.dr_model.specs.declared.event.Event.{Event}
-use Rattle.dr_model.specs.declared.event.Event.TheVariants.{Blanked, Restored, Suspended, Begin, Cut, Flashed, Reverted, Left}
-use Rattle.dr_model.specs.Layout.{Tracks}
+use Rattle.dr_model.specs.declared.event.Event.TheVariants.{Begin, Cut, Flashed, Reverted, Left}
 use Rattle.dr_model.specs.Histories.{Histories, Write, histories, after_event, lists}
-use Rattle.dr_model.specs.Relations.{rest, in_order, is_bare, turned, given_up}
 use Rattle.dr_model.specs.Control.{Volume}
-use Rattle.dr_model.specs.Pairs.{is_suspended}
-use Rattle.dr_model.specs.Moves.{Move, Land, Overwrite, Relate, Withdraw, Resync, Reverse, Restore, Release, Store, Suspend, Mirror, LandBoth, Hold, Leave, Flash, Revert, Keep, Fetch, TakeOver, Seal, Commit, told, told_in_stop, told_blank, FlashHold, FlashFree, Lift, told_freed}
+use Rattle.dr_model.specs.Moves.{Move, Land, Overwrite, Withdraw, Reverse, Release, LandBoth, Hold, Leave, Flash, Revert, Commit, told, told_in_stop}
 use Rattle.dr_model.proofs.Images.{histories-append}
-use Rattle.dr_facts.proofs.Heard.{elsewhere, unheard-event, unheard-write, unheard-blanked, unheard-restored, unheard-suspended, unheard-held, unheard-freed}
+use Rattle.dr_facts.proofs.Heard.{elsewhere, unheard-event, unheard-write, unheard-blanked, unheard-restored, unheard-told}
+use Rattle.dr_facts.proofs.Emits.{Lists as ByEvents, Tag, Flashes, Commits, Reverts, Leaves, Of, all_tags, emits, each-told, each-ended}
 use Rattle.dr_laws_cuts.specs.Once.{NoCut, NoCuts}
 use Rattle.dr_model.specs.Cuts.{cuts, next_cuts}
 use Rattle.dr_laws_cuts.proofs.Journal.{cuts-quiet}
@@ -38,29 +36,29 @@ module _ (events : List Event) where
   pub moments-told : (m : Move) (u : Volume) → moments (events ++ told m u) ≡ next_moments (lists events) m (moments events)
   moments-told (Hold v s n true) u = moments-append events (Begin s n ∷ Cut s n v ∷ []) ∙ ap (λ (h : Histories). next_moments h.now (Hold v s n true) (moments events)) (memory-history events)
   moments-told (Hold v s n false) u = moments-append events (Cut s n v ∷ []) ∙ ap (λ (h : Histories). next_moments h.now (Hold v s n false) (moments events)) (memory-history events)
-  moments-told m u = moments-quiet events (told m u) (told-quiet m u tt)
+  moments-told m u = moments-quiet events (told m u) (told-quiet m u refl)
 
 -- ---- who stands in groups
 
-pub still-append : (es fs : List Event) → AllStill es → AllStill fs → AllStill (es ++ fs)
-still-append [] fs a b = b
-still-append (e ∷ es) fs a b = (a.0, still-append es fs a.1 b)
+abbrev no_group : Tag → Bool
+no_group Flashes = false
+no_group Commits = false
+no_group Reverts = false
+no_group Leaves = false
+no_group k = true
 
-pub still-blanked : (v : ℕ) (ts : List ℕ) → AllStill (map (Blanked v) ts)
-still-blanked v [] = tt
-still-blanked v (t ∷ ts) = (tt, still-blanked v ts)
+still-kind : (e : Event) → Of no_group e → Still e
+still-kind (Left s a) h = absurd cc
+still-kind e h = first_of (assumption, cc)
 
-pub still-restored : (v s n : ℕ) (own : Tracks) (b : Bool) → AllStill (cond b (told_blank v n own ++ Restored s v ∷ []) [])
-still-restored v s n own true = still-append (told_blank v n own) (Restored s v ∷ []) (still-blanked v (in_order n (rest n own))) (tt, tt)
-still-restored v s n own false = tt
+still : ByEvents (Of no_group) AllStill
+still = record { none = tt; more = λ e es h behind. (still-kind e h, behind) }
 
-pub still-freed : (v : ℕ) (b : Bool) → AllStill (told_freed v b)
-still-freed v true = (tt, tt)
-still-freed v false = tt
+pub still-told : (m : Move) (u : Volume) → all_tags no_group (emits m) ≡ true → AllStill (told m u)
+still-told = each-told no_group AllStill still
 
-pub still-suspended : (v : ℕ) (b : Bool) → AllStill (cond b [] (Suspended v ∷ []))
-still-suspended v true = tt
-still-suspended v false = (tt, tt)
+pub still-ended : (v : ℕ) (u : Volume) → AllStill (told (Reverse v None) u)
+still-ended v u = each-ended no_group AllStill still v u refl
 
 no-change : (g : Standing) (e : Event) → Still e → standing_event g e ≡ g
 no-change g (Flashed s n a b c) quiet = absurd quiet
@@ -68,26 +66,23 @@ no-change g (Reverted s n a c) quiet = absurd quiet
 no-change g (Left s a) quiet = absurd quiet
 no-change g e quiet = refl
 
-fold-still : (g : Standing) (es : List Event) → AllStill es → fold standing_event g es ≡ g
-fold-still g [] quiet = refl
-fold-still g (e ∷ es) quiet = fold-still (standing_event g e) es quiet.1 ∙ no-change g e quiet.0
+-- a fold that passes over them
+pub fold-still : (f : Standing → Event → Standing) → ((g : Standing) (e : Event) → Still e → f g e ≡ g) → (g : Standing) (es : List Event) → AllStill es → fold f g es ≡ g
+fold-still f same g [] quiet = refl
+fold-still f same g (e ∷ es) quiet = fold-still f same (f g e) es quiet.1 ∙ same g e quiet.0
 
 pub standing-still : (events more : List Event) → AllStill more → standing (events ++ more) ≡ standing events
-standing-still events more quiet = standing-append events more ∙ fold-still (standing events) more quiet
+standing-still events more quiet = standing-append events more ∙ fold-still standing_event no-change (standing events) more quiet
 
 module _ (events : List Event) where
   pub standing-told : (m : Move) (u : Volume) → standing (events ++ told m u) ≡ next_standing m u (standing events)
-  standing-told (Withdraw v) u = standing-still events _ (still-blanked v (in_order u.tracks (rest u.tracks u.fields.own)))
-  standing-told (Reverse v None) u = standing-still events _ (still-restored v u.fields.source u.tracks (turned u.fields).own (is_bare (turned u.fields).own))
-  standing-told (Reverse v (Some a)) u =
-      standing-append events (told (Reverse v (Some a)) u)
-      ∙ fold-still (standing_event (standing events) (Left u.fields.session a)) _ (still-restored v u.fields.source u.tracks (turned u.fields).own (is_bare (turned u.fields).own))
-  standing-told (Release v t) u = standing-still events _ (still-restored v u.fields.source u.tracks (given_up u.fields t).own (is_bare (given_up u.fields t).own))
-  standing-told (Suspend v busy) u = standing-still events _ (still-suspended v (is_suspended u.fields.primary_state))
-  standing-told (Lift v) u = standing-still events _ (still-freed v u.fields.flash_hold)
-  standing-told (Hold v s n true) u = standing-append events (Begin s n ∷ Cut s n v ∷ [])
-  standing-told (Hold v s n false) u = standing-append events (Cut s n v ∷ [])
-  standing-told m u = standing-append events (told m u)
+  standing-told (Reverse v None) u = standing-still events _ (still-ended v u)
+  standing-told (Reverse v (Some a)) u = standing-append events (told (Reverse v (Some a)) u) ∙ fold-still standing_event no-change _ _ (still-ended v u)
+  standing-told (Leave v a s) u = standing-append events _
+  standing-told (Flash v from a s n) u = standing-append events _
+  standing-told (Commit v a s n) u = standing-append events _
+  standing-told (Revert v a s n) u = standing-append events _
+  standing-told m u = standing-still events _ (still-told m u refl)
 
 -- ---- lists
 
@@ -104,32 +99,11 @@ apart-fold h (e ∷ es) v t a =
     apart-fold (after_event h e) es v t (subst (λ (f : ℕ → Write). AllApart f v es) (sym (unheard-write (OfOther h.write v) h e v a.0)) a.1) ∙ apart-event h e v t a.0
 
 told-apart : (write : ℕ → Write) (m : Move) (u : Volume) (v : ℕ) → Untouched write m v → AllApart write v (told m u)
-told-apart write (Land n x t) u v ne = (ne, tt)
-told-apart write (Overwrite n x t) u v ne = (ne, tt)
-told-apart write (LandBoth n x t) u v ne = (ne, tt)
-told-apart write (Keep x t) u v ne = (tt, tt)
-told-apart write (Fetch x t) u v ne = (tt, tt)
-told-apart write (Relate x s choices) u v ne = (ne, tt)
-told-apart write (Withdraw x) u v ne = unheard-blanked (OfOther write v) v x (in_order u.tracks (rest u.tracks u.fields.own)) ne
-told-apart write (Resync x sequence) u v ne = (ne, tt)
-told-apart write (Reverse x None) u v ne = unheard-restored (OfOther write v) v x u.fields.source u.tracks (turned u.fields).own _ ne
-told-apart write (Reverse x (Some p)) u v ne = (tt, unheard-restored (OfOther write v) v x u.fields.source u.tracks (turned u.fields).own _ ne)
-told-apart write (Restore x t from) u v ne = (ne, tt)
-told-apart write (Release x t) u v ne = unheard-restored (OfOther write v) v x u.fields.source u.tracks (given_up u.fields t).own _ ne
-told-apart write (Store x t from last) u v ne = (ne, tt)
-told-apart write (Suspend x busy) u v ne = unheard-suspended (OfOther write v) v x _
-told-apart write (FlashHold x) u v ne = (tt, tt)
-told-apart write (FlashFree x) u v ne = (tt, tt)
-told-apart write (Lift x) u v ne = unheard-freed (OfOther write v) v x _
-told-apart write (TakeOver x) u v ne = (tt, tt)
-told-apart write (Mirror x t from n) u v ne = (ne, tt)
-told-apart write (Hold x s n first) u v ne = unheard-held (OfOther write v) v x s n first
-told-apart write (Seal x a s n) u v ne = (tt, tt)
-told-apart write (Leave x a s) u v ne = (tt, tt)
-told-apart write (Flash x from a s n) u v ne = (ne, tt)
-told-apart write (Commit x a s n) u v ne = (tt, tt)
-told-apart write (Revert x a s n) u v ne = (ne, tt)
-told-apart write m u v ne = tt
+told-apart write (Withdraw x) u v ne = unheard-blanked (OfOther write v) v x _ ne
+told-apart write (Reverse x None) u v ne = unheard-restored (OfOther write v) v x _ _ _ ne
+told-apart write (Reverse x (Some p)) u v ne = (tt, unheard-restored (OfOther write v) v x _ _ _ ne)
+told-apart write (Release x t) u v ne = unheard-restored (OfOther write v) v x _ _ _ ne
+told-apart write m u v ne = first_of (assumption, search (unheard-told (OfOther write v) v m u))
 
 pub lists-apart : (events more : List Event) (v t : ℕ) → AllApart (histories events).write v more → lists (events ++ more) v t ≡ lists events v t
 lists-apart events more v t a = ap (λ (h : Histories). h.now v t) (histories-append events more) ∙ apart-fold (histories events) more v t a

@@ -28,33 +28,33 @@ use Rattle.dr_laws_sound.proofs.Listed.{NoBegins}
 use Rattle.dr_laws_sound.proofs.Rides.{Rides}
 use Rattle.dr_laws_sound.proofs.Riders.{Unheard, Rider, rides-tasks}
 use Rattle.dr_laws_commits.proofs.Journal.{none-of, comes, told-none, stopped-none}
-use Rattle.dr_laws_commits.proofs.Ripe.{AllFields, Ripe, AllRipe}
-use Rattle.dr_laws_commits.proofs.Moves.{TellsFlash, ripe-moved}
-use Rattle.dr_laws_commits.proofs.Stills.{SameTarget, same-target, ripe-still}
-use Rattle.dr_laws_commits.proofs.Tables.{ripe-regrouped}
-use Rattle.dr_laws_commits.proofs.Begins.{ripe-begun}
+use Rattle.dr_laws_commits.proofs.WereFlashed.{AllFields, WereFlashed, AllWereFlashed}
+use Rattle.dr_laws_commits.proofs.Moves.{TellsFlash, were_flashed-moved}
+use Rattle.dr_laws_commits.proofs.Stills.{SameTarget, same-target, were_flashed-still}
+use Rattle.dr_laws_commits.proofs.Tables.{were_flashed-regrouped}
+use Rattle.dr_laws_commits.proofs.Begins.{were_flashed-begun}
 use Rattle.dr_logic.proofs.Tables.{at_other}
 
 -- ---- what moves nothing
 
 -- events by which no attempt begins, and other fields of what is no member's target
-ripe-same : (w u : World) (more : List Event) → NoBegins more → u.events ≡ w.events ++ more → u.control.sessions ≡ w.control.sessions → u.control.flight.messages ≡ w.control.flight.messages → u.control.flight.epoch ≡ w.control.flight.epoch
-    → ((x : Session) (m : Member) → In x w.control.sessions → In m x.members → SameTarget (fields_at w.control m.c.0) (fields_at u.control m.c.0)) → AllRipe w → AllRipe u
-ripe-same w u more none events sessions messages epoch same k x i =
+were_flashed-same : (w u : World) (more : List Event) → NoBegins more → u.events ≡ w.events ++ more → u.control.sessions ≡ w.control.sessions → u.control.flight.messages ≡ w.control.flight.messages → u.control.flight.epoch ≡ w.control.flight.epoch
+    → ((x : Session) (m : Member) → In x w.control.sessions → In m x.members → SameTarget (fields_at w.control m.c.0) (fields_at u.control m.c.0)) → AllWereFlashed w → AllWereFlashed u
+were_flashed-same w u more none events sessions messages epoch same k x i =
     let there : In x w.control.sessions = subst (In x) sessions i in
-    subst (λ es. Ripe u.control.flight (fields_at u.control) es x) (sym events)
-    (ripe-still w.control.flight u.control.flight (fields_at w.control) (fields_at u.control) w.events more x (λ m here. subst (In m) messages here) (ap (λ (e : ℕ → ℕ). e x.number) epoch) (λ m here. same x m there here) (none-of x.number more none) (k x there))
+    subst (λ es. WereFlashed u.control.flight (fields_at u.control) es x) (sym events)
+    (were_flashed-still w.control.flight u.control.flight (fields_at w.control) (fields_at u.control) w.events more x (λ m here. subst (In m) messages here) (ap (λ (e : ℕ → ℕ). e x.number) epoch) (λ m here. same x m there here) (none-of x.number more none) (k x there))
 
 -- where volumes stay
-ripe-told : (w u : World) (more : List Event) → NoBegins more → u.events ≡ w.events ++ more → u.control.sessions ≡ w.control.sessions → u.control.flight.messages ≡ w.control.flight.messages → u.control.flight.epoch ≡ w.control.flight.epoch → u.control.volume ≡ w.control.volume → AllRipe w → AllRipe u
-ripe-told w u more none events sessions messages epoch volume k =
-    ripe-same w u more none events sessions messages epoch (λ x m i here. subst (λ (volumes : ℕ → Volume). SameTarget (fields_at w.control m.c.0) (volumes m.c.0).fields) (sym volume) (same-target (fields_at w.control m.c.0))) k
+were_flashed-told : (w u : World) (more : List Event) → NoBegins more → u.events ≡ w.events ++ more → u.control.sessions ≡ w.control.sessions → u.control.flight.messages ≡ w.control.flight.messages → u.control.flight.epoch ≡ w.control.flight.epoch → u.control.volume ≡ w.control.volume → AllWereFlashed w → AllWereFlashed u
+were_flashed-told w u more none events sessions messages epoch volume k =
+    were_flashed-same w u more none events sessions messages epoch (λ x m i here. subst (λ (volumes : ℕ → Volume). SameTarget (fields_at w.control m.c.0) (volumes m.c.0).fields) (sym volume) (same-target (fields_at w.control m.c.0))) k
 
-ripe-not : (w : World) (x : ℕ) (f : Option Fuse) → AllRipe w → AllRipe (not_done w x f)
-ripe-not w x f k = ripe-told w (not_done w x f) (Stopped x 0 ∷ []) (tt, tt) refl refl refl refl refl k
+were_flashed-not : (w : World) (x : ℕ) (f : Option Fuse) → AllWereFlashed w → AllWereFlashed (not_done w x f)
+were_flashed-not w x f k = were_flashed-told w (not_done w x f) (Stopped x 0 ∷ []) (refl, tt) refl refl refl refl refl k
 
-ripe-unheard : (w u : World) (more : List Event) → AllRipe w → Unheard w u more → NoBegins more → AllRipe u
-ripe-unheard w u more k q none = ripe-told w u more none q.events q.sessions q.messages q.epoch q.volume k
+were_flashed-unheard : (w u : World) (more : List Event) → AllWereFlashed w → Unheard w u more → NoBegins more → AllWereFlashed u
+were_flashed-unheard w u more k q none = were_flashed-told w u more none q.events q.sessions q.messages q.epoch q.volume k
 
 -- ---- moves
 
@@ -63,64 +63,64 @@ tells-done events (Flash v b a s n) u = comes events [] s n a b v (λ k none. no
 tells-done events m u = tt
 
 tells-stop : (events : List Event) (m : Move) (u : Volume) (x n : ℕ) → TellsFlash (events ++ (told_in_stop m u ++ Stopped x n ∷ [])) m
-tells-stop events (Flash v b a s n) u x j = comes events (Stopped x j ∷ []) s n a b v (none-of s (Stopped x j ∷ []) (tt, tt))
+tells-stop events (Flash v b a s n) u x j = comes events (Stopped x j ∷ []) s n a b v (none-of s (Stopped x j ∷ []) (refl, tt))
 tells-stop events m u x j = tt
 
-module _ (starts : Option ℕ) (w : World) (s : SoundBut starts w) (k : AllRipe w) where
-  ripe-by : (m : Move) → May w m → (more : List Event) → NoBegins more → TellsFlash (w.events ++ more) m → (x : Session) → In x w.control.sessions → Ripe w.control.flight (fields_at (done w m None).control) (w.events ++ more) x
-  ripe-by m may more none tells x i = subst (λ (F : AllFields). Ripe w.control.flight F (w.events ++ more) x) (sym (fields-then w m)) (ripe-moved w.control s.groups s.attempts s.flights m may.group w.events more none x i (k x i) tells)
+module _ (starts : Option ℕ) (w : World) (s : SoundBut starts w) (k : AllWereFlashed w) where
+  were_flashed-by : (m : Move) → May w m → (more : List Event) → NoBegins more → TellsFlash (w.events ++ more) m → (x : Session) → In x w.control.sessions → WereFlashed w.control.flight (fields_at (done w m None).control) (w.events ++ more) x
+  were_flashed-by m may more none tells x i = subst (λ (F : AllFields). WereFlashed w.control.flight F (w.events ++ more) x) (sym (fields-then w m)) (were_flashed-moved w.control s.groups s.attempts s.flights m may.group w.events more none x i (k x i) tells)
 
-  ripe-done : (m : Move) (f : Option Fuse) → May w m → AllRipe (done w m f)
-  ripe-done m f may = let u : Volume = w.control.volume (target m) in ripe-by m may (told m u) (told-none w.control m u may.group) (tells-done w.events m u)
+  were_flashed-done : (m : Move) (f : Option Fuse) → May w m → AllWereFlashed (done w m f)
+  were_flashed-done m f may = let u : Volume = w.control.volume (target m) in were_flashed-by m may (told m u) (told-none w.control m u may.group) (tells-done w.events m u)
 
-  ripe-stop : (m : Move) (f : Option Fuse) → May w m → AllRipe (done_in_stop w m f)
-  ripe-stop m f may =
+  were_flashed-stop : (m : Move) (f : Option Fuse) → May w m → AllWereFlashed (done_in_stop w m f)
+  were_flashed-stop m f may =
       let u : Volume = w.control.volume (target m) in
-      ripe-by m may (told_in_stop m u ++ Stopped u.server (landed m) ∷ []) (stopped-none w.control m u (Stopped u.server (landed m)) may.group tt) (tells-stop w.events m u u.server (landed m))
+      were_flashed-by m may (told_in_stop m u ++ Stopped u.server (landed m) ∷ []) (stopped-none w.control m u (Stopped u.server (landed m)) may.group refl) (tells-stop w.events m u u.server (landed m))
 
   -- the first hold of an attempt
   held-same : (v i n : ℕ) (u : ℕ) → SameTarget (fields_at w.control u) (fields_at (done w (Hold v i n true) None).control u)
   held-same v i n u = subst (λ (F : AllFields). SameTarget (fields_at w.control u) (F u)) (sym (fields-then w (Hold v i n true)))
       (at_cases (λ u y. SameTarget (fields_at w.control u) y) (fields_at w.control) v (held_for n (fields_at w.control v)) (record { revertible = refl; member = refl; sequence = refl; floor = refl }) (λ u ne. same-target (fields_at w.control u)) u)
 
-  ripe-opened : (v i n : ℕ) (f : Option Fuse) → MayOpen w v i n → AllRipe (after_act w (OpenAttempt v i n) f)
-  ripe-opened v i n f may = let o = may.opens in ripe-begun w.control s.groups s.attempts i n o.place.session o.place.mirror o.place.listed o.place.number o.place.has_master o.idle (fields_at (done w (Hold v i n true) None).control) (held-same v i n) w.events (Cut i n v ∷ []) (tt, tt) k
+  were_flashed-opened : (v i n : ℕ) (f : Option Fuse) → MayOpen w v i n → AllWereFlashed (after_act w (OpenAttempt v i n) f)
+  were_flashed-opened v i n f may = let o = may.opens in were_flashed-begun w.control s.groups s.attempts i n o.place.session o.place.mirror o.place.listed o.place.number o.place.has_master o.idle (fields_at (done w (Hold v i n true) None).control) (held-same v i n) w.events (Cut i n v ∷ []) (refl, tt) k
 
-  ripe-opened_stop : (v i n : ℕ) (f : Option Fuse) → MayOpen w v i n → AllRipe (opened_in_stop w v i n f)
-  ripe-opened_stop v i n f may = let o = may.opens in
-      ripe-begun w.control s.groups s.attempts i n o.place.session o.place.mirror o.place.listed o.place.number o.place.has_master o.idle (fields_at (done w (Hold v i n true) None).control) (held-same v i n) w.events (Cut i n v ∷ Stopped (server_at w v) 0 ∷ []) (tt, (tt, tt)) k
+  were_flashed-opened_stop : (v i n : ℕ) (f : Option Fuse) → MayOpen w v i n → AllWereFlashed (opened_in_stop w v i n f)
+  were_flashed-opened_stop v i n f may = let o = may.opens in
+      were_flashed-begun w.control s.groups s.attempts i n o.place.session o.place.mirror o.place.listed o.place.number o.place.has_master o.idle (fields_at (done w (Hold v i n true) None).control) (held-same v i n) w.events (Cut i n v ∷ Stopped (server_at w v) 0 ∷ []) (refl, (refl, tt)) k
 
 -- the acts of plans but a start's
-acts : Rides Sound AllRipe MayDo
-acts = record { does = does; counts = λ w m f s k may. ripe-stop None w s k m f may; opens = λ w v i n f s k may. ripe-opened_stop None w s k v i n f may; fails = λ w a f d s k may. ripe-not w _ f k }
+acts : Rides Sound AllWereFlashed MayDo
+acts = record { does = does; counts = λ w m f s k may. were_flashed-stop None w s k m f may; opens = λ w v i n f s k may. were_flashed-opened_stop None w s k v i n f may; fails = λ w a f d s k may. were_flashed-not w _ f k }
   where
-    does : (w : World) (a : Act) (f : Option Fuse) → Sound w → AllRipe w → MayDo w a → AllRipe (after_act w a f)
-    does w (Make m) f s k may = ripe-done None w s k m f may
-    does w (OpenAttempt v i n) f s k may = ripe-opened None w s k v i n f may
-    does w (Redo v) f s k may = ripe-told w (fused w (server_at w v) f) [] tt (sym (append-nil w.events)) refl refl refl refl k
+    does : (w : World) (a : Act) (f : Option Fuse) → Sound w → AllWereFlashed w → MayDo w a → AllWereFlashed (after_act w a f)
+    does w (Make m) f s k may = were_flashed-done None w s k m f may
+    does w (OpenAttempt v i n) f s k may = were_flashed-opened None w s k v i n f may
+    does w (Redo v) f s k may = were_flashed-told w (fused w (server_at w v) f) [] tt (sym (append-nil w.events)) refl refl refl refl k
     does w (Acknowledge n) f s k may = absurd may
-    does w (Drop n) f s k may = ripe-told w (dropped w n) [] tt (sym (append-nil w.events)) refl refl refl refl k
-    does w (EndFreeze l m) f s k may = ripe-told w (frozen w l m) (Frozen l m ∷ []) (tt, tt) refl refl refl refl refl k
-    does w (EndThaw l m) f s k may = ripe-told w (thawed w l m) (Thawed l m ∷ []) (tt, tt) refl refl refl refl refl k
-    does w (EndRecovery i n) f s k may = ripe-told w (recovered w i n) (Recovered i n ∷ []) (tt, tt) refl refl refl refl refl k
+    does w (Drop n) f s k may = were_flashed-told w (dropped w n) [] tt (sym (append-nil w.events)) refl refl refl refl k
+    does w (EndFreeze l m) f s k may = were_flashed-told w (frozen w l m) (Frozen l m ∷ []) (refl, tt) refl refl refl refl refl k
+    does w (EndThaw l m) f s k may = were_flashed-told w (thawed w l m) (Thawed l m ∷ []) (refl, tt) refl refl refl refl refl k
+    does w (EndRecovery i n) f s k may = were_flashed-told w (recovered w i n) (Recovered i n ∷ []) (refl, tt) refl refl refl refl refl k
 
 -- and those of the start of server x
-start-acts : (x : ℕ) → Rides (starts.Inner x) AllRipe (starts.MayStart x)
-start-acts x = record { does = does; counts = counts; opens = λ w v i n f j k may. absurd may; fails = λ w a f d j k may. ripe-not w _ f k }
+start-acts : (x : ℕ) → Rides (starts.Inner x) AllWereFlashed (starts.MayStart x)
+start-acts x = record { does = does; counts = counts; opens = λ w v i n f j k may. absurd may; fails = λ w a f d j k may. were_flashed-not w _ f k }
   where
-    does : (w : World) (a : Act) (f : Option Fuse) → starts.Inner x w → AllRipe w → starts.MayStart x w a → AllRipe (after_act w a f)
-    does w (Make (Restart v)) f j k may = ripe-done (Some x) w j.sound k (Restart v) f (starts.may-restart x w v may)
+    does : (w : World) (a : Act) (f : Option Fuse) → starts.Inner x w → AllWereFlashed w → starts.MayStart x w a → AllWereFlashed (after_act w a f)
+    does w (Make (Restart v)) f j k may = were_flashed-done (Some x) w j.sound k (Restart v) f (starts.may-restart x w v may)
     does w (Make m) f j k may = absurd may
     does w (OpenAttempt v i n) f j k may = absurd may
-    does w (Redo v) f j k may = ripe-told w (fused w (server_at w v) f) [] tt (sym (append-nil w.events)) refl refl refl refl k
-    does w (Acknowledge n) f j k may = ripe-told w (acknowledged w n) (Ack n ∷ []) (tt, tt) refl refl refl refl refl k
+    does w (Redo v) f j k may = were_flashed-told w (fused w (server_at w v) f) [] tt (sym (append-nil w.events)) refl refl refl refl k
+    does w (Acknowledge n) f j k may = were_flashed-told w (acknowledged w n) (Ack n ∷ []) (refl, tt) refl refl refl refl refl k
     does w (Drop n) f j k may = absurd may
     does w (EndFreeze l m) f j k may = absurd may
     does w (EndThaw l m) f j k may = absurd may
     does w (EndRecovery i n) f j k may = absurd may
 
-    counts : (w : World) (m : Move) (f : Option Fuse) → starts.Inner x w → AllRipe w → starts.MayMove x w m → AllRipe (done_in_stop w m f)
-    counts w (Restart v) f j k may = ripe-stop (Some x) w j.sound k (Restart v) f (starts.may-restart x w v may)
+    counts : (w : World) (m : Move) (f : Option Fuse) → starts.Inner x w → AllWereFlashed w → starts.MayMove x w m → AllWereFlashed (done_in_stop w m f)
+    counts w (Restart v) f j k may = were_flashed-stop (Some x) w j.sound k (Restart v) f (starts.may-restart x w v may)
     counts w m f j k may = absurd may
 
 -- ---- every step
@@ -130,19 +130,19 @@ defined-same : (w : World) (v server tracks : ℕ) → Groups w.control → is_v
 defined-same w v server tracks groups undefined x m i here =
     subst (λ (y : Volume). SameTarget (fields_at w.control m.c.0) y.fields) (sym (at_other w.control.volume v (new_volume server tracks) m.c.0 (λ e. no-place w.control v undefined groups x m i here (inr (inr (sym e)))))) (same-target (fields_at w.control m.c.0))
 
-pub ripe-ride : Rider AllRipe
-ripe-ride = record {
+pub were_flashed-ride : Rider AllWereFlashed
+were_flashed-ride = record {
   acts = acts;
   start_acts = start-acts;
-  unheard = ripe-unheard;
-  issues = λ w s v t offset len bytes defined low k. ripe-told w (issued w s v t offset len bytes defined low) (Issue (w.control.issued + 1) v t offset len bytes ∷ []) (tt, tt) refl refl refl refl refl k;
-  regroups = λ w ss f s t turn adds goes k y i. ripe-regrouped w.control s.groups ss f t.attempts turn adds goes w.events k y i;
-  opens = λ w i n x r s t found has idle next k. let there = session-found w.control.sessions i x found in ripe-begun w.control s.groups s.attempts i n x r there.0 there.1 has idle (fields_at w.control) (λ v. same-target (fields_at w.control v)) w.events [] tt k;
-  defines = λ w s v server tracks here undefined k. ripe-same w (with_volume w s v server tracks here undefined) (VolumeDefined v server tracks ∷ []) (tt, tt) refl refl refl refl (defined-same w v server tracks s.groups undefined) k;
+  unheard = were_flashed-unheard;
+  issues = λ w s v t offset len bytes defined low k. were_flashed-told w (issued w s v t offset len bytes defined low) (Issue (w.control.issued + 1) v t offset len bytes ∷ []) (refl, tt) refl refl refl refl refl k;
+  regroups = λ w ss f s t turn adds goes k y i. were_flashed-regrouped w.control s.groups ss f t.attempts turn adds goes w.events k y i;
+  opens = λ w i n x r s t found has idle next k. let there = session-found w.control.sessions i x found in were_flashed-begun w.control s.groups s.attempts i n x r there.0 there.1 has idle (fields_at w.control) (λ v. same-target (fields_at w.control v)) w.events [] tt k;
+  defines = λ w s v server tracks here undefined k. were_flashed-same w (with_volume w s v server tracks here undefined) (VolumeDefined v server tracks ∷ []) (refl, tt) refl refl refl refl (defined-same w v server tracks s.groups undefined) k;
 }
 
-none-ripe : AllRipe nothing
-none-ripe x i = absurd i
+none-were_flashed : AllWereFlashed nothing
+none-were_flashed x i = absurd i
 
-pub ripe-run : (tasks : List Task) → AllRipe (run tasks)
-ripe-run tasks = rides-tasks AllRipe ripe-ride nothing tasks steps.sound-nothing none-ripe
+pub were_flashed-run : (tasks : List Task) → AllWereFlashed (run tasks)
+were_flashed-run tasks = rides-tasks AllWereFlashed were_flashed-ride nothing tasks steps.sound-nothing none-were_flashed

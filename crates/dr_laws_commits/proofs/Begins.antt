@@ -18,9 +18,9 @@ use Rattle.dr_laws_sessions.proofs.Volumes.{idle-quiet}
 use Rattle.dr_laws_attempts.proofs.Tables.{quiet-unflashed}
 use Rattle.dr_laws_sound.proofs.Listed.{NoBegins}
 use Rattle.dr_laws_commits.proofs.Journal.{NoneOf, none-of}
-use Rattle.dr_laws_commits.proofs.Ripe.{AllFields, members_seen, Ripe}
-use Rattle.dr_laws_commits.proofs.Stills.{SameTarget, ripe-still}
-use Rattle.dr_laws_commits.proofs.Tables.{ripe-none}
+use Rattle.dr_laws_commits.proofs.WereFlashed.{AllFields, members_seen, WereFlashed}
+use Rattle.dr_laws_commits.proofs.Stills.{SameTarget, were_flashed-still}
+use Rattle.dr_laws_commits.proofs.Tables.{were_flashed-none}
 
 -- the session of which an attempt begins
 abbrev session_of : Event → ℕ
@@ -33,7 +33,7 @@ none-other s i n more ne none k (inr h) = none-of s more none k h
 
 -- attempt n of session i begins, and then come these events; targets show what they did
 module _ (k : Control) (groups : Groups k) (law : Attempts k) (i n : ℕ) (x : Session) (r : Mirror) (listed : In x k.sessions) (number : x.number ≡ i) (has : x.mirror ≡ Some r) (idle : r.master.phase ≡ phase.Idle) (S : AllFields) (same : (v : ℕ) → SameTarget (fields_at k v) (S v))
-    (events more : List Event) (none : NoBegins more) (old : (x : Session) → In x k.sessions → Ripe k.flight (fields_at k) events x) where
+    (events more : List Event) (none : NoBegins more) (old : (x : Session) → In x k.sessions → WereFlashed k.flight (fields_at k) events x) where
   plain : NoneRevertible (seen_in k x)
   plain = quiet-unflashed (roles k) x (idle-quiet x r has idle) (law.sessions x listed)
 
@@ -52,8 +52,8 @@ module _ (k : Control) (groups : Groups k) (law : Attempts k) (i n : ℕ) (x : S
       let is : (S m.c.0).floor ≡ (fields_at k m.c.0).floor = (same m.c.0).floor in
       absurd (omega arith)
 
-  ripe-new : Ripe k.flight S (events ++ Begin i n ∷ more) (begun x)
-  ripe-new = ripe-none k.flight S (events ++ Begin i n ∷ more) (begun x) none-open each (λ early m here high. unreached m here high) (λ e. apart-lost (sym coordinates ∙ e)) (λ e. apart (sym coordinates ∙ e))
+  were_flashed-new : WereFlashed k.flight S (events ++ Begin i n ∷ more) (begun x)
+  were_flashed-new = were_flashed-none k.flight S (events ++ Begin i n ∷ more) (begun x) none-open each (λ early m here high. unreached m here high) (λ e. apart-lost (sym coordinates ∙ e)) (λ e. apart (sym coordinates ∙ e))
     where
       apart-lost : ◌≡◌ {A = PhaseName} phase.Coordinating phase.Lost → ⊥
       apart-lost e = cc
@@ -61,9 +61,9 @@ module _ (k : Control) (groups : Groups k) (law : Attempts k) (i n : ℕ) (x : S
       apart : ◌≡◌ {A = PhaseName} phase.Coordinating phase.Committing → ⊥
       apart e = cc
 
-  pub ripe-begun : (y : Session) → In y (changed i begun k.sessions) → Ripe k.flight S (events ++ Begin i n ∷ more) y
-  ripe-begun y j = by (changed-in i begun k.sessions y groups.once j)
+  pub were_flashed-begun : (y : Session) → In y (changed i begun k.sessions) → WereFlashed k.flight S (events ++ Begin i n ∷ more) y
+  were_flashed-begun y j = by (changed-in i begun k.sessions y groups.once j)
     where
-      by : (In y k.sessions × (y.number ≢ i)) ⊎ Became i begun k.sessions y → Ripe k.flight S (events ++ Begin i n ∷ more) y
-      by (inl o) = ripe-still k.flight k.flight (fields_at k) S events (Begin i n ∷ more) y (λ m here. here) (λ j. k.flight.epoch y.number) (λ m here. same m.c.0) (none-other y.number i n more o.1 none) (old y o.0)
-      by (inr b) = subst (Ripe k.flight S (events ++ Begin i n ∷ more)) (sym (b.is ∙ ap begun (same-session k.sessions b.from x groups.once b.listed listed (b.number ∙ sym number)))) ripe-new
+      by : (In y k.sessions × (y.number ≢ i)) ⊎ Became i begun k.sessions y → WereFlashed k.flight S (events ++ Begin i n ∷ more) y
+      by (inl o) = were_flashed-still k.flight k.flight (fields_at k) S events (Begin i n ∷ more) y (λ m here. here) (λ j. k.flight.epoch y.number) (λ m here. same m.c.0) (none-other y.number i n more o.1 none) (old y o.0)
+      by (inr b) = subst (WereFlashed k.flight S (events ++ Begin i n ∷ more)) (sym (b.is ∙ ap begun (same-session k.sessions b.from x groups.once b.listed listed (b.number ∙ sym number)))) were_flashed-new

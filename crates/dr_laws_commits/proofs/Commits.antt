@@ -20,10 +20,10 @@ use Rattle.dr_laws_sound.proofs.Steps.{sound-part, sound-run}
 use Rattle.dr_laws_sound.proofs.Riders.{rides-begins, rides-makes}
 use Rattle.dr_laws_commits.specs.Flashed.{AllFlashedIn}
 use Rattle.dr_laws_commits.specs.Commits.{AsksForFlashed, SessionFlashed, CommitsAreOfFlashed}
-use Rattle.dr_laws_commits.proofs.Ripe.{Ripe, AllRipe}
+use Rattle.dr_laws_commits.proofs.WereFlashed.{WereFlashed, AllWereFlashed}
 use Rattle.dr_laws_commits.proofs.Turns.{commit-phase}
 use Rattle.dr_laws_commits.proofs.Sends.{plan-sends}
-use Rattle.dr_laws_commits.proofs.Along.{ripe-ride, ripe-run}
+use Rattle.dr_laws_commits.proofs.Along.{were_flashed-ride, were_flashed-run}
 
 -- ---- what masters ask
 
@@ -32,7 +32,7 @@ commit-asks : (r : Mirror) (server : ℕ) (o : phases.Order) → order_of r serv
 commit-asks r server o is work =
     subst (λ (work : phases.Work). WorkPhase work r.master.phase × IsLast work o.number r.master.number) work (works r.master.phase (phases.is_among server r.master.owed) r.master.number o is)
 
-module _ (w : World) (s : Sound w) (k : AllRipe w) where
+module _ (w : World) (s : Sound w) (k : AllWereFlashed w) where
   ordered : (x : Session) (r : Mirror) (server : ℕ) (o : phases.Order) → In x w.control.sessions → x.mirror ≡ Some r → order_of r server ≡ Some o → o.work ≡ phases.Commit → (o.number ≡ x.last) × AllFlashedIn w.events x o.number
   ordered x r server o i has is work =
       let c = commit-asks r server o is work in
@@ -49,27 +49,27 @@ module _ (w : World) (s : Sound w) (k : AllRipe w) where
 
 -- ---- a target is committed
 
-module _ (w : World) (k : AllRipe w) (c a s n : ℕ) (may : CommitsMember w.control c a s n) where
+module _ (w : World) (k : AllWereFlashed w) (c a s n : ℕ) (may : CommitsMember w.control c a s n) where
   abbrev x : Session
   x = may.place.session
 
-  ripe : Ripe w.control.flight (fields_at w.control) w.events x
-  ripe = k x may.place.listed
+  were_flashed : WereFlashed w.control.flight (fields_at w.control) w.events x
+  were_flashed = k x may.place.listed
 
   -- it could go back
   opened : Any (λ (v : Seen). v.revertible ≡ true) (seen_in w.control x)
   opened = record { one = seen (roles w.control) may.place.member; here = to-map (seen (roles w.control)) x.members may.place.member may.place.here; is = subst (λ u. (fields_at w.control u).revertible ≡ true) (sym may.target) may.revertible }
 
   by-order : Due w.control.flight x may.place.member.server.0 phases.Commit x.last → AllFlashedIn w.events x x.last
-  by-order (inl owes) = ripe.commits (commit-phase (phase_of x.mirror) (owed-works x may.place.member.server.0 phases.Commit x.last owes))
-  by-order (inr coming) = ripe.settles (inl opened) (inr (inr (record { one = coming.message; here = coming.order.order.here; is = coming.order })))
+  by-order (inl owes) = were_flashed.commits (commit-phase (phase_of x.mirror) (owed-works x may.place.member.server.0 phases.Commit x.last owes))
+  by-order (inr coming) = were_flashed.settles (inl opened) (inr (inr (record { one = coming.message; here = coming.order.order.here; is = coming.order })))
 
   all-flashed : AllFlashedIn w.events x x.last
   all-flashed = by may.way
     where
       by : (Due w.control.flight x may.place.member.server.0 phases.Commit n × (is_secondary_of a (fields_at w.control may.place.member.b.0) ≡ true)) ⊎ SomeCommitted n (seen_in w.control x) → AllFlashedIn w.events x x.last
       by (inl due) = by-order (subst (Due w.control.flight x may.place.member.server.0 phases.Commit) may.last due.0)
-      by (inr had) = ripe.settles (inl opened) (inl (subst (λ j. SomeCommitted j (seen_in w.control x)) may.last had))
+      by (inr had) = were_flashed.settles (inl opened) (inl (subst (λ j. SomeCommitted j (seen_in w.control x)) may.last had))
 
   session-flashed : SessionFlashed w s n
   session-flashed = record { one = x; here = may.place.listed; is = (may.place.number, (sym may.last, subst (AllFlashedIn w.events x) (sym may.last) all-flashed)) }
@@ -80,9 +80,9 @@ pub commits-run : (tasks : List Task) → CommitsAreOfFlashed tasks
 commits-run tasks =
     let w : World = run tasks in
     let s : Sound w = sound-run tasks in
-    let k : AllRipe w = ripe-run tasks in
+    let k : AllWereFlashed w = were_flashed-run tasks in
     record {
       ends = asks w s k;
-      plans = λ t p there. asks p.world (each-plan Sound sound-part w t s p there).0 (rides-begins AllRipe ripe-ride w t p s k there);
-      moves = λ t p v c a z n there makes. let here = rides-makes AllRipe ripe-ride w t p s k there v (Commit c a z n) makes in session-flashed v here.law c a z n here.group;
+      plans = λ t p there. asks p.world (each-plan Sound sound-part w t s p there).0 (rides-begins AllWereFlashed were_flashed-ride w t p s k there);
+      moves = λ t p v c a z n there makes. let here = rides-makes AllWereFlashed were_flashed-ride w t p s k there v (Commit c a z n) makes in session-flashed v here.law c a z n here.group;
     }

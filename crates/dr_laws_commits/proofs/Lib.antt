@@ -1,7 +1,7 @@
--- Read first: `Ripe.antt`: what goes along every step; `Journal.antt`: what the journal has stays; `Turns.antt`, `Moves.antt`: each kind of move;
+-- Read first: `WereFlashed.antt`: what goes along every step; `Journal.antt`: what the journal has stays; `Turns.antt`, `Moves.antt`: each kind of move;
 -- `Tables.antt`: other tables of sessions and messages; `Along.antt`: every run; `Commits.antt`: what is read off.
 pub mod Journal
-pub mod Ripe
+pub mod WereFlashed
 pub mod Turns
 pub mod Moves
 pub mod Stills

@@ -24,7 +24,7 @@ use Rattle.dr_laws_closed.proofs.Fields.{was-revertible}
 use Rattle.dr_laws_sound.proofs.Listed.{NoBegins}
 use Rattle.dr_laws_commits.specs.Flashed.{FlashedIn, AllFlashedIn}
 use Rattle.dr_laws_commits.proofs.Journal.{none-of, stays}
-use Rattle.dr_laws_commits.proofs.Ripe.{AllFields, members_seen, ToldOf, IsBound, Ripe}
+use Rattle.dr_laws_commits.proofs.WereFlashed.{AllFields, members_seen, ToldOf, IsBound, WereFlashed}
 use Rattle.dr_laws_commits.proofs.Turns.{turning-settles}
 
 -- no revert was asked for before the last flash
@@ -75,7 +75,7 @@ module _ (k : Control) (groups : Groups k) (law : Attempts k) (flights : Flights
   abbrev then_at : AllFields
   then_at = at F (target m) new
 
-  module _ (x : Session) (i : In x k.sessions) (old : Ripe k.flight F events x) (tells : TellsFlash (events ++ more) m) where
+  module _ (x : Session) (i : In x k.sessions) (old : WereFlashed k.flight F events x) (tells : TellsFlash (events ++ more) m) where
     abbrev Was : Member → Type 0
     Was q = FlashedIn (events ++ more) x.number x.last q.a.0
 
@@ -132,5 +132,5 @@ module _ (k : Control) (groups : Groups k) (law : Attempts k) (flights : Flights
         (record { numbers = (law.sessions x i).numbers; follows = (law.sessions x i).follows }) (ToldOf k.flight x true) (IsBound k.flight x) (AllFlashedIn (events ++ more) x x.last) commits-then
         (λ can settling q here. on q (old.settles can settling q here)) (λ flies. inr flies) (bound-flashed k law flights x i) ((keeps k groups law flights m a).turns x i))
 
-    pub ripe-moved : Ripe k.flight then_at (events ++ more) x
-    ripe-moved = record { turned = turned-then; reached = reached-then; commits = commits-then; settles = settles-then }
+    pub were_flashed-moved : WereFlashed k.flight then_at (events ++ more) x
+    were_flashed-moved = record { turned = turned-then; reached = reached-then; commits = commits-then; settles = settles-then }

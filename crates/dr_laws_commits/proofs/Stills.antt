@@ -11,7 +11,7 @@ use Rattle.dr_model.specs.Attempts.{Any, committed, role_of, seen, owed_of, repo
 use Rattle.dr_model.specs.Flights.{IsAwaited, shown_in}
 use Rattle.dr_facts.proofs.Lists.{from-map, to-map}
 use Rattle.dr_laws_commits.proofs.Journal.{NoneOf, stays}
-use Rattle.dr_laws_commits.proofs.Ripe.{AllFields, ToldOf, IsOpen, CommitFlies, IsSettling, Ripe}
+use Rattle.dr_laws_commits.proofs.WereFlashed.{AllFields, ToldOf, IsOpen, CommitFlies, IsSettling, WereFlashed}
 
 -- a target shows the same
 pub record SameTarget (f g : Fields) : Type 0 where
@@ -24,7 +24,7 @@ pub same-target : (f : Fields) → SameTarget f f
 same-target f = record { revertible = λ i. f.revertible; member = λ i. f.member; sequence = λ i. f.sequence; floor = λ i. f.floor }
 
 module _ (f g : Flight) (F S : AllFields) (events more : List Event) (x : Session) (messages : (m : Message) → In m g.messages → In m f.messages) (epoch : g.epoch x.number ≡ f.epoch x.number)
-    (same : (m : Member) → In m x.members → SameTarget (F m.c.0) (S m.c.0)) (none : NoneOf x.number more) (old : Ripe f F events x) where
+    (same : (m : Member) → In m x.members → SameTarget (F m.c.0) (S m.c.0)) (none : NoneOf x.number more) (old : WereFlashed f F events x) where
   told-was : (b : Bool) → ToldOf g x b → ToldOf f x b
   told-was b told = (told.0, by told.1)
     where
@@ -64,8 +64,8 @@ module _ (f g : Flight) (F S : AllFields) (events more : List Event) (x : Sessio
   settling-was (inr (inl told)) = inr (inl (told-was _ told))
   settling-was (inr (inr flies)) = inr (inr (flies-was flies))
 
-  pub ripe-still : Ripe g S (events ++ more) x
-  ripe-still = record {
+  pub were_flashed-still : WereFlashed g S (events ++ more) x
+  were_flashed-still = record {
     turned = λ m here rev. stays events more x.number x.last m.a.0 none (old.turned m here (sym (same m here).revertible ∙ rev));
     reached = λ early m here low. stays events more x.number x.last m.a.0 none (old.reached early m here (subst (λ n. x.last ≤ n) (same m here).floor low));
     commits = λ e m here. stays events more x.number x.last m.a.0 none (old.commits e m here);

@@ -21,7 +21,7 @@ use Rattle.dr_laws_closed.specs.Regroups.{Stays, Rests, Regroups}
 use Rattle.dr_laws_sound.proofs.NewMessages.{IsAskedIn, Adds}
 use Rattle.dr_laws_sound.proofs.GoesOn.{Knows, GoesOn, AllGoOn}
 use Rattle.dr_laws_commits.specs.Flashed.{FlashedIn, AllFlashedIn}
-use Rattle.dr_laws_commits.proofs.Ripe.{AllFields, members_seen, IsOpen, CommitFlies, IsSettling, Ripe}
+use Rattle.dr_laws_commits.proofs.WereFlashed.{AllFields, members_seen, IsOpen, CommitFlies, IsSettling, WereFlashed}
 use Rattle.dr_laws_commits.proofs.Turns.{commit-phase}
 use Rattle.dr_logic.proofs.Truth.{false_true}
 
@@ -43,9 +43,9 @@ quiet-apart phase.None quiet = (λ e. cc, λ e. cc)
 quiet-apart p quiet = absurd quiet
 
 -- where none can go back, in a phase that isn't early, and neither Lost nor Committing, nothing is asked
-pub ripe-none : (f : Flight) (F : AllFields) (events : List Event) (x : Session) → NoneRevertible (members_seen F x) → ((m : Member) → In m x.members → (F m.c.0).revertible ≡ false) → (IsEarly (phase_of x.mirror) → (m : Member) → In m x.members → x.last ≤ (F m.c.0).floor → ⊥)
-    → phase_of x.mirror ≢ phase.Lost → phase_of x.mirror ≢ phase.Committing → Ripe f F events x
-ripe-none f F events x plain each late found other = record {
+pub were_flashed-none : (f : Flight) (F : AllFields) (events : List Event) (x : Session) → NoneRevertible (members_seen F x) → ((m : Member) → In m x.members → (F m.c.0).revertible ≡ false) → (IsEarly (phase_of x.mirror) → (m : Member) → In m x.members → x.last ≤ (F m.c.0).floor → ⊥)
+    → phase_of x.mirror ≢ phase.Lost → phase_of x.mirror ≢ phase.Committing → WereFlashed f F events x
+were_flashed-none f F events x plain each late found other = record {
   turned = λ m here rev. false_true (each m here) rev;
   reached = λ early m here low. absurd (late early m here low);
   commits = λ e. absurd (other e);
@@ -59,15 +59,15 @@ ripe-none f F events x plain each late found other = record {
 -- ---- another table
 
 module _ (k : Control) (groups : Groups k) (ss : List Session) (g : Flight) (law : Attempts (record k { sessions = ss; flight = g })) (turn : Regroups k.sessions ss) (adds : Adds k.sessions k.flight g) (goes : AllGoOn k ss g) (events : List Event)
-    (old : (x : Session) → In x k.sessions → Ripe k.flight (fields_at k) events x) (y : Session) (i : In y ss) where
+    (old : (x : Session) → In x k.sessions → WereFlashed k.flight (fields_at k) events x) (y : Session) (i : In y ss) where
   abbrev F : AllFields
   F = fields_at k
 
-  ripe-quiet : IsQuiet (phase_of y.mirror) → Ripe g F events y
-  ripe-quiet quiet =
+  were_flashed-quiet : IsQuiet (phase_of y.mirror) → WereFlashed g F events y
+  were_flashed-quiet quiet =
       let plain = quiet-none (phase_of y.mirror) y.last (owed_of y.mirror) (reports_of y.mirror) (seen_in k y) quiet (law.sessions y i).phase in
       let apart = quiet-apart (phase_of y.mirror) quiet in
-      ripe-none g F events y plain (λ m here. plain (seen (roles k) m) (to-map (seen (roles k)) y.members m here)) (λ early m here low. quiet-late (phase_of y.mirror) quiet early) apart.0 apart.1
+      were_flashed-none g F events y plain (λ m here. plain (seen (roles k) m) (to-map (seen (roles k)) y.members m here)) (λ early m here low. quiet-late (phase_of y.mirror) quiet early) apart.0 apart.1
 
   -- it was session x
   module _ (x : Session) (listed : In x k.sessions) (h : GoesOn k g x y) where
@@ -129,7 +129,7 @@ module _ (k : Control) (groups : Groups k) (ss : List Session) (g : Flight) (law
       where
         by : Came m ⊎ IsQuiet (phase_of y.mirror) → Was m
         by (inl c) = over m c.last ((old x listed).turned m c.here rev)
-        by (inr quiet) = (ripe-quiet quiet).turned m there rev
+        by (inr quiet) = (were_flashed-quiet quiet).turned m there rev
 
     reached-now : IsEarly (phase_of y.mirror) → (m : Member) → In m y.members → y.last ≤ (F m.c.0).floor → Was m
     reached-now early m there low = by (came m there)
@@ -206,7 +206,7 @@ module _ (k : Control) (groups : Groups k) (ss : List Session) (g : Flight) (law
     settles-now can settles m there = by (came m there)
       where
         resting : IsQuiet (phase_of y.mirror) → Was m
-        resting quiet = (ripe-quiet quiet).settles can settles m there
+        resting quiet = (were_flashed-quiet quiet).settles can settles m there
 
         both : (c : Came m) → IsOpen k.flight F x ⊎ IsQuiet (phase_of y.mirror) → IsSettling k.flight F x ⊎ (IsQuiet (phase_of y.mirror) ⊎ AllFlashedIn events x x.last) → Was m
         both c (inr quiet) s = resting quiet
@@ -218,12 +218,12 @@ module _ (k : Control) (groups : Groups k) (ss : List Session) (g : Flight) (law
         by (inl c) = both c (opened c.last can) (settling c.last settles)
         by (inr quiet) = resting quiet
 
-    ripe-from : Ripe g F events y
-    ripe-from = record { turned = turned-now; reached = reached-now; commits = commits-now; settles = settles-now }
+    were_flashed-from : WereFlashed g F events y
+    were_flashed-from = record { turned = turned-now; reached = reached-now; commits = commits-now; settles = settles-now }
 
-  pub ripe-regrouped : Ripe g F events y
-  ripe-regrouped = by (goes y i)
+  pub were_flashed-regrouped : WereFlashed g F events y
+  were_flashed-regrouped = by (goes y i)
     where
-      by : IsQuiet (phase_of y.mirror) ⊎ Any (λ x. GoesOn k g x y) k.sessions → Ripe g F events y
-      by (inl quiet) = ripe-quiet quiet
-      by (inr any) = ripe-from any.one any.here any.is
+      by : IsQuiet (phase_of y.mirror) ⊎ Any (λ x. GoesOn k g x y) k.sessions → WereFlashed g F events y
+      by (inl quiet) = were_flashed-quiet quiet
+      by (inr any) = were_flashed-from any.one any.here any.is

@@ -1,13 +1,10 @@
 -- The cuts of a journal, one event further and several.
-use Rattle.std.proofs.Common.{ℕ, ◌≡◌, refl, ap, ◌∙◌, Bool, true, false, cond, List, [], ◌∷◌, ◌++◌, map}
+use Rattle.std.proofs.Common.{ℕ, ◌≡◌, refl, ap, ◌∙◌, List, [], ◌∷◌, ◌++◌}
 use Rattle.std.proofs.lemmas.List.Sums.{fold-append}
 use Rattle.std.specs.List.{fold}
 use Rattle.dr_model.specs.declared.event.Event.{Event}
-use Rattle.dr_model.specs.declared.event.Event.TheVariants.{Cut, Blanked, Restored, Suspended}
+use Rattle.dr_model.specs.declared.event.Event.TheVariants.{Cut}
 use Rattle.dr_model.specs.Histories.{Histories, histories, after_event, lists}
-use Rattle.dr_model.specs.Layout.{Tracks}
-use Rattle.dr_model.specs.Relations.{rest, in_order}
-use Rattle.dr_model.specs.Moves.{told_blank, told_freed}
 use Rattle.dr_model.specs.Cuts.{Past, past, cuts, past_event, cuts_after, cut_for}
 use Rattle.dr_laws_cuts.specs.Once.{no_past, IsNew, AllNew, CutOnce, NoCut, NoCuts}
 
@@ -74,28 +71,3 @@ once-quiet events more quiet here = once-append events more here (quiet-new (pas
 -- a cut takes the lists of the journal
 pub cut-pushed : (events : List Event) (s n a : ℕ) → cuts (events ++ Cut s n a ∷ []) ≡ cut_for s n a (lists events) (cuts events)
 cut-pushed events s n a = cuts-push events (Cut s n a) ∙ ap (λ (h : Histories). cut_for s n a h.now (cuts events)) (past-history events)
-
--- what a move tells: a hold alone cuts
-pub no-more : (es fs : List Event) → NoCuts es → NoCuts fs → NoCuts (es ++ fs)
-no-more [] fs here later = later
-no-more (e ∷ es) fs here later = (here.0, no-more es fs here.1 later)
-
-pub blank-quiet : (v : ℕ) (ts : List ℕ) → NoCuts (map (Blanked v) ts)
-blank-quiet v [] = tt
-blank-quiet v (t ∷ ts) = (tt, blank-quiet v ts)
-
-pub map-quiet : {X : Type 0} (f : X → Event) (xs : List X) → ((x : X) → NoCut (f x)) → NoCuts (map f xs)
-map-quiet f [] quiet = tt
-map-quiet f (x ∷ xs) quiet = (quiet x, map-quiet f xs quiet)
-
-pub restored-quiet : (v s n : ℕ) (own : Tracks) (b : Bool) → NoCuts (cond b (told_blank v n own ++ Restored s v ∷ []) [])
-restored-quiet v s n own true = no-more (told_blank v n own) (Restored s v ∷ []) (blank-quiet v (in_order n (rest n own))) (tt, tt)
-restored-quiet v s n own false = tt
-
-pub freed-quiet : (v : ℕ) (b : Bool) → NoCuts (told_freed v b)
-freed-quiet v true = (tt, tt)
-freed-quiet v false = tt
-
-pub suspended-quiet : (v : ℕ) (b : Bool) → NoCuts (cond b [] (Suspended v ∷ []))
-suspended-quiet v true = tt
-suspended-quiet v false = (tt, tt)

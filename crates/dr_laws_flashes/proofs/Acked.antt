@@ -1,19 +1,21 @@
 -- No write on a volume with a flash hold is acknowledged, from each moment of a run to the next and along a stretch of moments.
-use Rattle.std.proofs.Common.{ℕ, ◌≡◌, ◌≢◌, ◌<◌, ◌+◌, inl, inr, ap, sym, ◌∙◌, subst, List, [], ◌∷◌, ◌++◌, Option}
+use Rattle.std.proofs.Common.{ℕ, ◌≡◌, ◌≢◌, ◌<◌, ◌+◌, inl, inr, refl, Bool, false, ap, sym, ◌∙◌, subst, List, [], ◌∷◌, ◌++◌, Option}
 use Rattle.std.specs.Prelude.{All}
 use Rattle.std.proofs.lemmas.List.{append_cancel_left}
 use Rattle.std.proofs.lemmas.List.Elements.{All-head, All-tail}
 use Rattle.dr_model.specs.declared.event.Event.{Event}
-use Rattle.dr_model.specs.declared.event.Event.TheVariants.{Ack, Mirrored, Stopped}
+use Rattle.dr_model.specs.declared.event.Event.TheVariants.{Ack, Stopped}
 use Rattle.dr_model.specs.Histories.{Write, histories}
 use Rattle.dr_model.specs.Control.{Volume, World}
 use Rattle.dr_model.specs.Groups.{In}
-use Rattle.dr_model.specs.Moves.{Move, Land, Overwrite, LandBoth, Mirror, target, told, told_in_stop, landed}
+use Rattle.dr_model.specs.Moves.{Move, Land, Overwrite, LandBoth, target, told, told_in_stop, landed}
 use Rattle.dr_model.specs.Allowed.{MayAck}
 use Rattle.dr_facts.proofs.Lists.{in-joined}
 use Rattle.dr_laws_freezes.specs.Windows.{last_of}
-use Rattle.dr_laws_freezes.proofs.Fair.{MayCome}
-use Rattle.dr_laws_freezes.proofs.KeepsWindow.{AllSilent, Silent, silent-told, silent-append, passing-silent}
+use Rattle.dr_laws_freezes.proofs.WindowMoves.{MayCome}
+use Rattle.dr_laws_freezes.proofs.KeepsWindow.{takes_none}
+use Rattle.dr_facts.proofs.Emits.{Tag, Acks as AcksTag, Of, Lists, of-all, each-told, acks_none, unacked-stop}
+use Rattle.dr_logic.proofs.Truth.{false_true}
 use Rattle.dr_laws_freezes.proofs.KeepsStep.{Step, Does, Stops, Acks, Others, Passes}
 use Rattle.dr_laws_freezes.proofs.Windows.{Chain, Last, Then, step-grows}
 use Rattle.dr_laws_flashes.proofs.Waits.{Holds, Still, LandsElse, lands-else, step-still}
@@ -23,14 +25,8 @@ use Rattle.dr_laws_flashes.proofs.Lasts.{acks-else, chain-alike}
 abbrev Elsewhere : World → ℕ → ℕ → Type 0
 Elsewhere w v n = (n < w.control.issued + 1) × (((histories w.events).write n).volume ≢ v)
 
-silent-acks : (es : List Event) → AllSilent es → (n : ℕ) → In (Ack n) es → ⊥
-silent-acks [] silent n here = absurd here
-silent-acks (e ∷ es) silent n (inl same) = absurd (subst Silent (sym same) silent.0)
-silent-acks (e ∷ es) silent n (inr there) = silent-acks es silent.1 n there
-
-mirror-acks : (es : List Event) → AllSilent es → (k x n : ℕ) → In (Ack n) (Mirrored k x ∷ es) → ⊥
-mirror-acks es silent k x n (inl same) = absurd cc
-mirror-acks es silent k x n (inr there) = silent-acks es silent n there
+none-acked : (p : Tag → Bool) → p AcksTag ≡ false → Lists (Of p) (λ es. (n : ℕ) → In (Ack n) es → ⊥)
+none-acked p acks = record { none = λ n here. here; more = λ e es by behind n here. elim here as (λ _. ⊥) [ inl same ↦ false_true acks (subst (Of p) (sym same) by) | inr there ↦ behind n there ] }
 
 module _ (w : World) (v : ℕ) where
   -- a move that lands write k on another volume
@@ -42,15 +38,10 @@ module _ (w : World) (v : ℕ) where
   told-else (Land k x t) u may ne n here = one-else k x t n may.ready ne here
   told-else (Overwrite k x t) u may ne n here = one-else k x t n may.ready ne here
   told-else (LandBoth k x t) u may ne n here = one-else k x t n may.ready ne here
-  told-else (Mirror x t y k) u may ne n here = absurd (mirror-acks [] tt k x n here)
-  told-else m u may ne n here = absurd (silent-acks (told m u) (silent-told m u tt) n here)
+  told-else m u may ne n here = absurd (each-told acks_none _ (none-acked acks_none refl) m u refl n here)
 
   stop-acks : (m : Move) (u : Volume) (s k n : ℕ) → In (Ack n) (told_in_stop m u ++ Stopped s k ∷ []) → ⊥
-  stop-acks (Land i x t) u s k n here = silent-acks (Stopped s k ∷ []) (tt, tt) n here
-  stop-acks (Overwrite i x t) u s k n here = silent-acks (Stopped s k ∷ []) (tt, tt) n here
-  stop-acks (LandBoth i x t) u s k n here = silent-acks (Stopped s k ∷ []) (tt, tt) n here
-  stop-acks (Mirror x t y i) u s k n here = mirror-acks (Stopped s k ∷ []) (tt, tt) i x n here
-  stop-acks m u s k n here = silent-acks (told m u ++ Stopped s k ∷ []) (silent-append (told m u) (Stopped s k ∷ []) (silent-told m u tt) (tt, tt)) n here
+  stop-acks m u s k = unacked-stop _ (none-acked acks_none refl) m u (Stopped s k ∷ []) (of-all (Of acks_none) _ (none-acked acks_none refl) (Stopped s k ∷ []) (refl, tt))
 
   step-acks : (tag next : Option ℕ) (u : World) → Step tag w next u → Still w → Holds v w → (es : List Event) → u.events ≡ w.events ++ es → (n : ℕ) → In (Ack n) es → Elsewhere w v n
   step-acks tag _ _ (Does m f may fair) still h es is n here =
@@ -65,7 +56,7 @@ module _ (w : World) (v : ℕ) where
       by (inl same) = let one : n ≡ k = cc in subst (Elsewhere w v) (sym one) (a.number, λ e. acks-else w v k still h a (sym e ∙ a.on_volume))
       by (inr none) = absurd none
   step-acks tag _ _ (Others next u ss step) still h es is n here = step-acks tag next u step still h es is n here
-  step-acks tag _ _ (Passes next u fs x less) still h es is n here = absurd (silent-acks fs (passing-silent fs x.silent) n (subst (In (Ack n)) (append_cancel_left w.events es fs (sym is ∙ x.events)) here))
+  step-acks tag _ _ (Passes next u fs x less) still h es is n here = absurd (of-all (Of takes_none) _ (none-acked takes_none refl) fs x.takes n (subst (In (Ack n)) (append_cancel_left w.events es fs (sym is ∙ x.events)) here))
 
 -- along a stretch of moments
 module _ (after : List World) (v n : ℕ) where

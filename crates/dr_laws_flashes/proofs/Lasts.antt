@@ -1,5 +1,5 @@
 -- Along a stretch of moments: what a source with a flash hold holds stays, and so does each track of a target that no host write reaches.
-use Rattle.std.proofs.Common.{ℕ, ◌≡◌, ◌≢◌, ◌<◌, ◌+◌, inl, inr, refl, ap, sym, ◌∙◌, subst, Bool, true, false, ◌||◌, List, [], ◌∷◌, ◌++◌, Option}
+use Rattle.std.proofs.Common.{ℕ, ◌≡◌, ◌≢◌, ◌<◌, ◌+◌, inl, inr, refl, ap, sym, ◌∙◌, subst, Bool, true, false, List, [], ◌∷◌, ◌++◌, Option}
 use Rattle.std.proofs.Math.Bool.{or-false}
 use Rattle.std.specs.Prelude.{All}
 use Rattle.std.specs.List.{list_any}
@@ -17,8 +17,7 @@ use Rattle.dr_model.specs.Laws.{SoundRows}
 use Rattle.dr_facts.proofs.Issued.{with-told}
 use Rattle.dr_laws_sound.proofs.Unissued.{done-writes, stopped-writes}
 use Rattle.dr_laws_freezes.specs.Windows.{last_of}
-use Rattle.dr_laws_freezes.proofs.Fair.{MayCome}
-use Rattle.dr_laws_freezes.proofs.KeepsWindow.{passing-silent}
+use Rattle.dr_laws_freezes.proofs.WindowMoves.{MayCome}
 use Rattle.dr_laws_freezes.proofs.KeepsStep.{Step, Does, Stops, Acks, Others, Passes, Acknowledges}
 use Rattle.dr_laws_freezes.proofs.Windows.{Chain, Last, Then, good, Grows, step-grows, chain-grows, told-on}
 use Rattle.dr_laws_flashes.specs.Windows.{changes, reaches}
@@ -53,7 +52,7 @@ source-step v q tag w _ _ (Stops m f may fair) still h none =
     lists-after w (done_in_stop w m f) (told_in_stop m u ++ Stopped u.server (landed m) ∷ []) v q refl (stop-stays w m u u.server (landed m) v q (none _ refl))
 source-step v q tag w _ _ (Acks n a) still h none = lists-after w (acknowledged w n) (Ack n ∷ []) v q refl (ack-stays w n v q (inl (λ e. acks-else w v n still h a (e ∙ a.on_volume))))
 source-step v q tag w _ _ (Others next u ss step) still h none = source-step v q tag w next u step still h none
-source-step v q tag w _ _ (Passes next u es x less) still h none = lists-after w u es v q x.events (passing-stays w es v q (passing-silent es x.silent) (none es x.events))
+source-step v q tag w _ _ (Passes next u es x less) still h none = lists-after w u es v q x.events (passing-stays w es v q x.takes (none es x.events))
 
 -- ---- a track that no write reaches
 
@@ -110,7 +109,7 @@ target-step v q write tag w _ _ (Acks n a) same none untouched =
     by (inr ne) = inr (λ e. ne (e ∙ sym a.on_track))
 target-step v q write tag w _ _ (Others next u ss step) same none untouched = let s = target-step v q write tag w next u step same none untouched in record { lists = s.lists; waits = s.waits }
 target-step v q write tag w _ _ (Passes next u es x less) same none untouched =
-    record { lists = lists-after w u es v q x.events (passing-stays w es v q (passing-silent es x.silent) (none es x.events)); waits = x.waits v q }
+    record { lists = lists-after w u es v q x.events (passing-stays w es v q x.takes (none es x.events)); waits = x.waits v q }
 
 -- ---- the writes of a journal, from each moment to the last
 

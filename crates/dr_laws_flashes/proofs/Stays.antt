@@ -7,14 +7,16 @@ use Rattle.dr_model.specs.declared.event.Event.{Event}
 use Rattle.dr_model.specs.declared.event.Event.TheVariants.{Volume as VolumeDefined, Ack, Mirrored, Sent, Flashed, Reverted, Set, Back, Blanked, Stopped}
 use Rattle.dr_model.specs.Histories.{Write, Histories, histories, lists, joined, after_event}
 use Rattle.dr_model.specs.Control.{Volume, World}
-use Rattle.dr_model.specs.Moves.{Move, Land, Overwrite, LandBoth, Mirror, told, told_in_stop, settled, settled_in_stop}
+use Rattle.dr_model.specs.Moves.{Move, Land, Overwrite, LandBoth, told, told_in_stop, settled, settled_in_stop}
 use Rattle.dr_model.specs.Table.{waiting}
 use Rattle.dr_model.specs.Allowed.{MayAck}
 use Rattle.dr_model.proofs.Images.{histories-append}
 use Rattle.dr_facts.proofs.Tables.{IsOrNot}
 use Rattle.dr_laws_sound.proofs.Due.{waiting-settled, waiting-marked_else, none_landed}
-use Rattle.dr_laws_freezes.proofs.Fair.{MayCome}
-use Rattle.dr_laws_freezes.proofs.KeepsWindow.{AllSilent, Silent, silent-told, silent-append}
+use Rattle.dr_laws_freezes.proofs.WindowMoves.{MayCome}
+use Rattle.dr_laws_freezes.proofs.KeepsWindow.{takes_none, TakesNone}
+use Rattle.dr_logic.proofs.Truth.{false_true}
+use Rattle.dr_facts.proofs.Emits.{Tag, Acks as AcksTag, Of, Lists as ByEvents, of-all, each-told, acks_none, unacked-stop}
 use Rattle.dr_laws_flashes.specs.Windows.{changes, is_for, reaches}
 
 -- another volume, or another track
@@ -49,11 +51,11 @@ abbrev pub After : Histories → List Event → Histories
 After h es = fold after_event h es
 
 -- that acknowledge nothing
-silent-stays : (es : List Event) (h : Histories) (v q : ℕ) → AllSilent es → list_any (changes v) es ≡ false → (After h es).now v q ≡ h.now v q
-silent-stays [] h v q silent none = refl
-silent-stays (e ∷ es) h v q silent none =
-    let parts = or_parts (changes v e) (list_any (changes v) es) none in
-    silent-stays es (after_event h e) v q silent.1 parts.1 ∙ changed-else h e v q parts.0 (λ n is. absurd (subst Silent is silent.0))
+unacked-stays : (p : Tag → Bool) → p AcksTag ≡ false → (v q : ℕ) → ByEvents (Of p) (λ es. (h : Histories) → list_any (changes v) es ≡ false → (After h es).now v q ≡ h.now v q)
+unacked-stays p acks v q = record {
+  none = λ h none. refl;
+  more = λ e es by behind h none. let parts = or_parts (changes v e) (list_any (changes v) es) none in behind (after_event h e) parts.1 ∙ changed-else h e v q parts.0 (λ n is. false_true acks (subst (Of p) is by));
+}
 
 -- where a move lands a write, it is one for that volume and track
 lands-off : (w : World) (n x t v q : ℕ) → MayAck w n x t → Off v q x t → Off v q ((histories w.events).write n).volume ((histories w.events).write n).track
@@ -62,11 +64,6 @@ lands-off w n x t v q may (inr ne) = inr (λ e. ne (e ∙ may.track))
 
 one-ack : (w : World) (n x t v q : ℕ) → MayAck w n x t → Off v q x t → (After (histories w.events) (Ack n ∷ [])).now v q ≡ lists w.events v q
 one-ack w n x t v q may off = ack-off (histories w.events) n v q (lands-off w n x t v q may off)
-
-one-mirror : (h : Histories) (n x v q : ℕ) (es : List Event) → AllSilent es → list_any (changes v) (Mirrored n x ∷ es) ≡ false → (After h (Mirrored n x ∷ es)).now v q ≡ h.now v q
-one-mirror h n x v q es silent none =
-    let parts = or_parts (changes v (Mirrored n x)) (list_any (changes v) es) none in
-    silent-stays es (after_event h (Mirrored n x)) v q silent parts.1 ∙ changed-else h (Mirrored n x) v q parts.0 (λ n is. absurd cc)
 
 -- a move lands no write on track q of v
 abbrev pub LandsOff : ℕ → ℕ → Move → Type 0
@@ -80,21 +77,16 @@ pub told-stays : (w : World) (m : Move) (u : Volume) (v q : ℕ) → MayCome w m
 told-stays w (Land n x t) u v q may off none = one-ack w n x t v q may.ready off
 told-stays w (Overwrite n x t) u v q may off none = one-ack w n x t v q may.ready off
 told-stays w (LandBoth n x t) u v q may off none = one-ack w n x t v q may.ready off
-told-stays w (Mirror x t y n) u v q may off none = one-mirror (histories w.events) n x v q [] tt none
-told-stays w m u v q may off none = silent-stays (told m u) (histories w.events) v q (silent-told m u tt) none
+told-stays w m u v q may off none = each-told acks_none _ (unacked-stays acks_none refl v q) m u refl (histories w.events) none
 
 pub stop-stays : (w : World) (m : Move) (u : Volume) (s k v q : ℕ) → list_any (changes v) (told_in_stop m u ++ Stopped s k ∷ []) ≡ false → (After (histories w.events) (told_in_stop m u ++ Stopped s k ∷ [])).now v q ≡ lists w.events v q
-stop-stays w (Land n x t) u s k v q none = silent-stays (Stopped s k ∷ []) (histories w.events) v q (tt, tt) none
-stop-stays w (Overwrite n x t) u s k v q none = silent-stays (Stopped s k ∷ []) (histories w.events) v q (tt, tt) none
-stop-stays w (LandBoth n x t) u s k v q none = silent-stays (Stopped s k ∷ []) (histories w.events) v q (tt, tt) none
-stop-stays w (Mirror x t y n) u s k v q none = one-mirror (histories w.events) n x v q (Stopped s k ∷ []) (tt, tt) none
-stop-stays w m u s k v q none = silent-stays (told m u ++ Stopped s k ∷ []) (histories w.events) v q (silent-append (told m u) (Stopped s k ∷ []) (silent-told m u tt) (tt, tt)) none
+stop-stays w m u s k v q none = unacked-stop _ (unacked-stays acks_none refl v q) m u (Stopped s k ∷ []) (λ h none. refl) (histories w.events) none
 
 pub ack-stays : (w : World) (n v q : ℕ) → Off v q ((histories w.events).write n).volume ((histories w.events).write n).track → (After (histories w.events) (Ack n ∷ [])).now v q ≡ lists w.events v q
 ack-stays w n v q off = ack-off (histories w.events) n v q off
 
-pub passing-stays : (w : World) (es : List Event) (v q : ℕ) → AllSilent es → list_any (changes v) es ≡ false → (After (histories w.events) es).now v q ≡ lists w.events v q
-passing-stays w es v q silent none = silent-stays es (histories w.events) v q silent none
+pub passing-stays : (w : World) (es : List Event) (v q : ℕ) → TakesNone es → list_any (changes v) es ≡ false → (After (histories w.events) es).now v q ≡ lists w.events v q
+passing-stays w es v q takes none = of-all (Of takes_none) _ (unacked-stays takes_none refl v q) es takes (histories w.events) none
 
 -- so in the world after them
 pub lists-after : (w u : World) (es : List Event) (v q : ℕ) → u.events ≡ w.events ++ es → (After (histories w.events) es).now v q ≡ lists w.events v q → lists u.events v q ≡ lists w.events v q

@@ -1,22 +1,19 @@
 -- The step in which a target takes its source's tracks: it holds what the source holds, and no write waits on it.
-use Rattle.std.proofs.Common.{ℕ, ◌≡◌, refl, ap, sym, ◌∙◌, subst, Bool, true, false, cond, ◌||◌, nat_eq, List, [], ◌∷◌, ◌++◌, map, Option, Some, None}
+use Rattle.std.proofs.Common.{ℕ, ◌≡◌, refl, ap, sym, ◌∙◌, subst, Bool, true, false, cond, nat_eq, List, [], ◌∷◌, ◌++◌, Option}
 use Rattle.std.proofs.lemmas.List.{append_cancel_left}
-use Rattle.std.proofs.lemmas.List.Folds.{list_any-append}
 use Rattle.std.specs.List.{list_any, fold}
 use Rattle.dr_model.specs.declared.event.Event.{Event}
-use Rattle.dr_model.specs.declared.event.Event.TheVariants.{Ack, Set, Stopped, Blanked, Restored, Suspended, Begin, Cut}
-use Rattle.dr_model.specs.Layout.{Tracks}
-use Rattle.dr_model.specs.Relations.{rest, in_order, is_bare, turned, given_up}
-use Rattle.dr_model.specs.Pairs.{is_suspended}
+use Rattle.dr_model.specs.declared.event.Event.TheVariants.{Ack, Set, Stopped}
 use Rattle.dr_model.specs.Histories.{Histories, histories, lists, after_event}
 use Rattle.dr_model.specs.Control.{Volume, World, Fuse, is_volume}
-use Rattle.dr_model.specs.Moves.{Move, Land, Overwrite, LandBoth, Relate, Withdraw, Resync, Reverse, Release, Suspend, Lift, Hold, target, told, told_in_stop, told_blank, told_restored, told_freed, landed}
+use Rattle.dr_model.specs.Moves.{Move, Relate, Resync, target, told, told_in_stop, landed}
 use Rattle.dr_model.specs.Table.{table, waiting}
 use Rattle.dr_model.proofs.Images.{histories-append}
+use Rattle.dr_facts.proofs.Emits.{Tag, Sets, Of, any-lists, each-told, stop-onto}
 use Rattle.dr_laws_sound.proofs.RowsAfter.{calm}
 use Rattle.dr_laws_sound.proofs.Turns.{done, done_in_stop}
-use Rattle.dr_laws_freezes.proofs.Fair.{MayCome}
-use Rattle.dr_laws_freezes.proofs.KeepsWindow.{AllPassing}
+use Rattle.dr_laws_freezes.proofs.WindowMoves.{MayCome}
+use Rattle.dr_laws_freezes.proofs.KeepsWindow.{TakesNone}
 use Rattle.dr_laws_freezes.proofs.KeepsStep.{Step, Does, Stops, Acks, Others, Passes}
 use Rattle.std.proofs.lemmas.Bool.{eq-eqb}
 use Rattle.dr_model.specs.Laws.{SoundRows}
@@ -35,60 +32,18 @@ abbrev is_set : Event → Bool
 is_set (Set v from) = true
 is_set e = false
 
-abbrev Unset : List Event → Type 0
-Unset es = list_any is_set es ≡ false
+abbrev NoSet : List Event → Type 0
+NoSet es = list_any is_set es ≡ false
 
-unset-append : (es fs : List Event) → Unset es → Unset fs → Unset (es ++ fs)
-unset-append es fs a b = list_any-append is_set es fs ∙ (λ i. a i || b i)
+abbrev sets_none : Tag → Bool
+sets_none Sets = false
+sets_none k = true
 
-unset-blank : (v : ℕ) (ts : List ℕ) → Unset (map (Blanked v) ts)
-unset-blank v [] = refl
-unset-blank v (t ∷ ts) = unset-blank v ts
+no-set : (e : Event) → Of sets_none e → is_set e ≡ false
+no-set (Set v from) h = absurd cc
+no-set e h = refl
 
-unset-restored : (v s n : ℕ) (own : Tracks) → Unset (told_restored v s n own)
-unset-restored v s n own = by (is_bare own)
-  where
-    by : (b : Bool) → Unset (cond b (told_blank v n own ++ Restored s v ∷ []) [])
-    by true = unset-append (told_blank v n own) (Restored s v ∷ []) (unset-blank v (in_order n (rest n own))) refl
-    by false = refl
-
-unset-suspended : (v : ℕ) (b : Bool) → Unset (cond b [] (Suspended v ∷ []))
-unset-suspended v true = refl
-unset-suspended v false = refl
-
-unset-freed : (v : ℕ) (b : Bool) → Unset (told_freed v b)
-unset-freed v true = refl
-unset-freed v false = refl
-
-unset-held : (v s n : ℕ) (b : Bool) → Unset (cond b (Begin s n ∷ Cut s n v ∷ []) (Cut s n v ∷ []))
-unset-held v s n true = refl
-unset-held v s n false = refl
-
--- a move that isn't one of the two that tell it
-abbrev Other : Move → Type 0
-Other (Relate v s choices) = ⊥
-Other (Resync v sequence) = ⊥
-Other m = Unit {0}
-
-unset-told : (m : Move) (u : Volume) → Other m → Unset (told m u)
-unset-told (Relate v s choices) u other = absurd other
-unset-told (Resync v sequence) u other = absurd other
-unset-told (Withdraw v) u other = unset-blank v (in_order u.tracks (rest u.tracks u.fields.own))
-unset-told (Reverse v None) u other = unset-restored v u.fields.source u.tracks (turned u.fields).own
-unset-told (Reverse v (Some p)) u other = unset-restored v u.fields.source u.tracks (turned u.fields).own
-unset-told (Release v t) u other = unset-restored v u.fields.source u.tracks (given_up u.fields t).own
-unset-told (Suspend v busy) u other = unset-suspended v (is_suspended u.fields.primary_state)
-unset-told (Lift v) u other = unset-freed v u.fields.flash_hold
-unset-told (Hold v s n first) u other = unset-held v s n first
-unset-told m u other = refl
-
-unset-stop : (m : Move) (u : Volume) → Other m → Unset (told_in_stop m u)
-unset-stop (Land n v t) u other = refl
-unset-stop (Overwrite n v t) u other = refl
-unset-stop (LandBoth n v t) u other = refl
-unset-stop m u other = unset-told m u other
-
-never : {P : Type 0} (t s : ℕ) (es behind : List Event) → Unset es → es ≡ Set t s ∷ behind → P
+never : {P : Type 0} (t s : ℕ) (es behind : List Event) → NoSet es → es ≡ Set t s ∷ behind → P
 never t s es behind none is = let no : true ≡ false = sym (ap (list_any is_set) is) ∙ none in absurd cc
 
 -- ---- what those two leave
@@ -132,7 +87,7 @@ does-takes w rows (Relate v x choices) f may s t behind is = same-pair w _ v x t
 does-takes w rows (Resync v sequence) f may s t behind is =
     let x : ℕ = (w.control.volume v).fields.source in
     same-pair w _ v x t s [] behind is (done-takes w v x (done w (Resync v sequence) f) refl refl (calm w v may.ready) (rows.structure.defined v (chosen _ _ may.allowed.from may.allowed.related).0))
-does-takes w rows m f may s t behind is = never t s (told m (w.control.volume (target m))) behind (unset-told m (w.control.volume (target m)) tt) is
+does-takes w rows m f may s t behind is = never t s (told m (w.control.volume (target m))) behind (each-told sets_none NoSet (any-lists (Of sets_none) is_set no-set) m (w.control.volume (target m)) refl) is
 
 stops-takes : (w : World) → SoundRows (table w) → (m : Move) (f : Option Fuse) → MayCome w m → (s t : ℕ) (behind : List Event) → let u : Volume = w.control.volume (target m) in
     told_in_stop m u ++ Stopped u.server (landed m) ∷ [] ≡ Set t s ∷ behind → Takes w (done_in_stop w m f) s t
@@ -143,7 +98,7 @@ stops-takes w rows (Resync v sequence) f may s t behind is =
     same-pair w _ v x t s (Stopped (w.control.volume v).server 0 ∷ []) behind is (stop-takes w v x (w.control.volume v).server 0 (done_in_stop w (Resync v sequence) f) refl refl (calm w v may.ready) (rows.structure.defined v (chosen _ _ may.allowed.from may.allowed.related).0))
 stops-takes w rows m f may s t behind is =
     let u : Volume = w.control.volume (target m) in
-    never t s (told_in_stop m u ++ Stopped u.server (landed m) ∷ []) behind (unset-append (told_in_stop m u) (Stopped u.server (landed m) ∷ []) (unset-stop m u tt) refl) is
+    never t s (told_in_stop m u ++ Stopped u.server (landed m) ∷ []) behind (stop-onto sets_none NoSet (any-lists (Of sets_none) is_set no-set) m u (Stopped u.server (landed m) ∷ []) refl refl) is
 
 -- the step that tells it
 pub step-takes : (tag : Option ℕ) (w : World) → SoundRows (table w) → (next : Option ℕ) (u : World) → Step tag w next u → (s t : ℕ) (behind : List Event) → u.events ≡ w.events ++ (Set t s ∷ behind) → Takes w u s t
@@ -154,4 +109,4 @@ step-takes tag w rows _ _ (Stops m f may fair) s t behind is =
 step-takes tag w rows _ _ (Acks n a) s t behind is = never t s (Ack n ∷ []) behind refl (append_cancel_left w.events (Ack n ∷ []) (Set t s ∷ behind) is)
 step-takes tag w rows _ _ (Others next u ss step) s t behind is = let x = step-takes tag w rows next u step s t behind is in record { target = x.target; source = x.source; waits = x.waits; defined = x.defined }
 step-takes tag w rows _ _ (Passes next u es x less) s t behind is =
-    absurd (subst AllPassing (append_cancel_left w.events es (Set t s ∷ behind) (sym x.events ∙ is)) x.silent).0
+    let no = (subst TakesNone (append_cancel_left w.events es (Set t s ∷ behind) (sym x.events ∙ is)) x.takes).0 in absurd cc

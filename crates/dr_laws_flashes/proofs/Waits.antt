@@ -10,7 +10,7 @@ use Rattle.dr_facts.proofs.Tables.{at_cases}
 use Rattle.dr_laws_sound.proofs.RowsAfter.{calm}
 use Rattle.dr_laws_sound.proofs.Due.{waiting-marked_else}
 use Rattle.dr_laws_sound.proofs.FitsFlash.{row}
-use Rattle.dr_laws_freezes.proofs.Fair.{MayCome}
+use Rattle.dr_laws_freezes.proofs.WindowMoves.{MayCome}
 use Rattle.dr_laws_freezes.proofs.KeepsStep.{Step, Does, Stops, Acks, Others, Passes}
 use Rattle.dr_laws_freezes.proofs.Windows.{Chain, Last, Then}
 use Rattle.dr_logic.proofs.Truth.{false_true}

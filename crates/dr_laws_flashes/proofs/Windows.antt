@@ -18,7 +18,7 @@ use Rattle.dr_laws_freezes.specs.Moments.{moments_from, moments}
 use Rattle.dr_laws_freezes.specs.Windows.{last_of, told_since}
 use Rattle.dr_laws_freezes.proofs.KeepsStep.{Step}
 use Rattle.dr_laws_freezes.proofs.Windows.{Chain, Last, Then, From, chain-from}
-use Rattle.dr_laws_freezes.proofs.FairSteps.{chain-of}
+use Rattle.dr_laws_freezes.proofs.WindowSteps.{chain-of}
 use Rattle.dr_laws_freezes.proofs.EndsInCut.{last-behind}
 use Rattle.dr_laws_flashes.specs.Windows.{FlashPairs, changes, reaches, Taken, IsHeldPair, IsSoundWindow, LeavesOneCut, FlashCut}
 use Rattle.dr_laws_flashes.specs.Held.{NoneWaitsHeld, NoneLandsHeld}

@@ -1,4 +1,4 @@
--- The moments of a run come one after the other as they may, where the acts of its plans are fair.
+-- The moments of a run come one after the other as they may, where its acts do what windows ask.
 use Rattle.std.proofs.Common.{ℕ, ◌≡◌, ◌<◌, ◌+◌, refl, ap, sym, ◌∙◌, subst, true, false, nat_eq, List, [], ◌∷◌, ◌++◌, append_assoc, filter, Option, Some, None}
 use Rattle.std.proofs.lemmas.List.{append-nil}
 use Rattle.dr_ids.specs.declared.refusal.Refusal.{Refusal}
@@ -23,25 +23,26 @@ use Rattle.dr_model.proofs.Images.{histories-append}
 use Rattle.dr_laws_freezes.specs.Moments.{on_from, on_next, worlds, worlds_after, plan_moments, part_moments, parts_moments, task_moments, moments_from}
 use Rattle.dr_laws_sound.proofs.Turns.{done, done_in_stop, opened_in_stop, not_done, fused, place, server_of, server_at, after_act, Writes, Counts, act-cases}
 use Rattle.dr_laws_sound.proofs.Due.{waiting-settled}
-use Rattle.dr_laws_freezes.proofs.Fair.{Fair, tag_after, come, come-open}
-use Rattle.dr_laws_freezes.proofs.KeepsWindow.{AllPassing}
+use Rattle.dr_laws_freezes.proofs.WindowMoves.{WindowMay, tag_after, come, come-open}
+use Rattle.dr_laws_freezes.proofs.KeepsWindow.{TakesNone}
 use Rattle.dr_laws_freezes.proofs.KeepsStep.{Step, Does, Stops, Acks, Others, Passes, Acknowledges, Unchanged}
 use Rattle.dr_laws_freezes.proofs.Windows.{Good, Chain, Last, Then}
 use Rattle.dr_laws_sound.proofs.Cases.{Says, plan-case}
-use Rattle.dr_laws_sound.proofs.Parts.{Comes, Ways, way-formed, compared-case, Ending, OnePlan, imaged-case}
+use Rattle.dr_laws_sound.proofs.Parts.{Comes, Ways, way-formed, compared-case, formed-not, Ending, OnePlan, imaged-case}
+use Rattle.dr_logic.proofs.Options.{none_some}
 use Rattle.dr_logic.proofs.Truth.{false_true}
 use Rattle.std.specs.List.{list_any}
 
 -- what an act asks where it comes
-abbrev pub FairAct : Option ℕ → World → Act → Type 0
-FairAct tag w (Make m) = May w m × Fair tag w m
-FairAct tag w (OpenAttempt v s n) = MayOpen w v s n
-FairAct tag w (Redo v) = Runs w v
-FairAct tag w (Acknowledge n) = Acknowledges w n
-FairAct tag w (Drop n) = AllPending (λ p. p.landed ≡ false) (filter (is_write n) w.control.pending)
-FairAct tag w (EndFreeze l m) = Unit {0}
-FairAct tag w (EndThaw l m) = Unit {0}
-FairAct tag w (EndRecovery s n) = Unit {0}
+abbrev pub WindowMayDo : Option ℕ → World → Act → Type 0
+WindowMayDo tag w (Make m) = May w m × WindowMay tag w m
+WindowMayDo tag w (OpenAttempt v s n) = MayOpen w v s n
+WindowMayDo tag w (Redo v) = Runs w v
+WindowMayDo tag w (Acknowledge n) = Acknowledges w n
+WindowMayDo tag w (Drop n) = AllPending (λ p. p.landed ≡ false) (filter (is_write n) w.control.pending)
+WindowMayDo tag w (EndFreeze l m) = Unit {0}
+WindowMayDo tag w (EndThaw l m) = Unit {0}
+WindowMayDo tag w (EndRecovery s n) = Unit {0}
 
 -- the write that goes on after it
 abbrev pub act_tag : Act → Option ℕ → Option ℕ
@@ -50,11 +51,11 @@ act_tag (OpenAttempt v s n) tag = tag
 act_tag a tag = None
 
 -- events that no list hears of
-pub told-unchanged : (w u : World) (es : List Event) → u.events ≡ w.events ++ es → AllPassing es → histories (w.events ++ es) ≡ histories w.events → u.control.volume ≡ w.control.volume → u.contents ≡ w.contents → u.control.issued ≡ w.control.issued
+pub told-unchanged : (w u : World) (es : List Event) → u.events ≡ w.events ++ es → TakesNone es → histories (w.events ++ es) ≡ histories w.events → u.control.volume ≡ w.control.volume → u.contents ≡ w.contents → u.control.issued ≡ w.control.issued
     → u.control.volumes ≡ w.control.volumes → ((v t : ℕ) → waiting u.control.pending v t ≡ waiting w.control.pending v t) → Unchanged w u es
-told-unchanged w u es events silent same volume contents issued volumes waits = record {
+told-unchanged w u es events takes same volume contents issued volumes waits = record {
   events = events;
-  silent = silent;
+  takes = takes;
   writes = λ n lt. ap (λ es. (histories es).write n) events ∙ ap (λ (h : Histories). h.write n) same;
   issued = λ n lt. subst (λ i. n < i + 1) (sym issued) lt;
   waits = waits;
@@ -67,29 +68,25 @@ told-unchanged w u es events silent same volume contents issued volumes waits = 
 }
 
 pub not-unchanged : (w : World) (s : ℕ) (f : Option Fuse) → Unchanged w (not_done w s f) (Stopped s 0 ∷ [])
-not-unchanged w s f = told-unchanged w (not_done w s f) (Stopped s 0 ∷ []) refl (tt, tt) (histories-append w.events (Stopped s 0 ∷ [])) refl refl refl refl (λ v t. refl)
+not-unchanged w s f = told-unchanged w (not_done w s f) (Stopped s 0 ∷ []) refl (refl, tt) (histories-append w.events (Stopped s 0 ∷ [])) refl refl refl refl (λ v t. refl)
 
 -- an act that is done
-act-step : (tag : Option ℕ) (w : World) (a : Act) (f : Option Fuse) → FairAct tag w a → Step tag w (act_tag a tag) (after_act w a f)
+act-step : (tag : Option ℕ) (w : World) (a : Act) (f : Option Fuse) → WindowMayDo tag w a → Step tag w (act_tag a tag) (after_act w a f)
 act-step tag w (Make m) f fair = Does m f (come w m fair.0) fair.1
 act-step tag w (OpenAttempt v s n) f fair = let m : Move = Hold v s n true in Others tag (done w m f) _ (Does m f (come-open w v s n fair) tt)
 act-step tag w (Redo v) f fair = Passes None (fused w (server_at w v) f) [] (told-unchanged w (fused w (server_at w v) f) [] (sym (append-nil w.events)) tt (ap histories (append-nil w.events)) refl refl refl refl (λ v t. refl)) (λ n h. absurd cc)
 act-step tag w (Acknowledge n) f fair = Acks n fair
 act-step tag w (Drop n) f fair =
     Passes None (dropped w n) [] (told-unchanged w (dropped w n) [] (sym (append-nil w.events)) tt (ap histories (append-nil w.events)) refl refl refl refl (λ v t. waiting-settled n v t w.control.pending fair)) (λ n h. absurd cc)
-act-step tag w (EndFreeze l m) f fair = Passes None (frozen w l m) (Frozen l m ∷ []) (told-unchanged w (frozen w l m) (Frozen l m ∷ []) refl (tt, tt) (histories-append w.events (Frozen l m ∷ [])) refl refl refl refl (λ v t. refl)) (λ n h. absurd cc)
-act-step tag w (EndThaw l m) f fair = Passes None (thawed w l m) (Thawed l m ∷ []) (told-unchanged w (thawed w l m) (Thawed l m ∷ []) refl (tt, tt) (histories-append w.events (Thawed l m ∷ [])) refl refl refl refl (λ v t. refl)) (λ n h. absurd cc)
-act-step tag w (EndRecovery s n) f fair = Passes None (recovered w s n) (Recovered s n ∷ []) (told-unchanged w (recovered w s n) (Recovered s n ∷ []) refl (tt, tt) (histories-append w.events (Recovered s n ∷ [])) refl refl refl refl (λ v t. refl)) (λ n h. absurd cc)
+act-step tag w (EndFreeze l m) f fair = Passes None (frozen w l m) (Frozen l m ∷ []) (told-unchanged w (frozen w l m) (Frozen l m ∷ []) refl (refl, tt) (histories-append w.events (Frozen l m ∷ [])) refl refl refl refl (λ v t. refl)) (λ n h. absurd cc)
+act-step tag w (EndThaw l m) f fair = Passes None (thawed w l m) (Thawed l m ∷ []) (told-unchanged w (thawed w l m) (Thawed l m ∷ []) refl (refl, tt) (histories-append w.events (Thawed l m ∷ [])) refl refl refl refl (λ v t. refl)) (λ n h. absurd cc)
+act-step tag w (EndRecovery s n) f fair = Passes None (recovered w s n) (Recovered s n ∷ []) (told-unchanged w (recovered w s n) (Recovered s n ∷ []) refl (refl, tt) (histories-append w.events (Recovered s n ∷ [])) refl refl refl refl (λ v t. refl)) (λ n h. absurd cc)
 
-pub act-runs : (tag : Option ℕ) (w : World) (a : Act) → Writes a → FairAct tag w a → Runs w (place a)
+pub act-runs : (tag : Option ℕ) (w : World) (a : Act) → Writes a → WindowMayDo tag w a → Runs w (place a)
 act-runs tag w (Make m) d fair = fair.0.runs
 act-runs tag w (OpenAttempt v s n) d fair = fair.runs
 act-runs tag w (Redo v) d fair = fair
-act-runs tag w (Acknowledge n) d fair = absurd d
-act-runs tag w (Drop n) d fair = absurd d
-act-runs tag w (EndFreeze l m) d fair = absurd d
-act-runs tag w (EndThaw l m) d fair = absurd d
-act-runs tag w (EndRecovery s n) d fair = absurd d
+act-runs tag w a d fair = absurd d
 
 -- what is to be shown of entries, where this holds of how they end
 module _ (Fin : Option ℕ → World → Option Refusal → Type 0) where
@@ -102,24 +99,24 @@ module _ (Fin : Option ℕ → World → Option Refusal → Type 0) where
   CountsFin w (OpenAttempt v s n) = (f : Option Fuse) → StopFin w (server_at w v) (opened_in_stop w v s n f)
   CountsFin w a = Unit {0}
 
-  abbrev pub fairly_next : Option ℕ → World → Next → (Option ℕ → World → Type 0) → Type 0
-  fairly_next tag w Pass more = more tag w
-  fairly_next tag w (End r) more = Fin tag w (Some r)
-  fairly_next tag w (Do a) more =
-      FairAct tag w a × ((f : Option Fuse) → more (act_tag a tag) (after_act w a f)) × (CountsFin w a × (Writes a → (f : Option Fuse) → StopFin w (server_of w a) (not_done w (server_of w a) f)))
+  abbrev pub window_next : Option ℕ → World → Next → (Option ℕ → World → Type 0) → Type 0
+  window_next tag w Pass more = more tag w
+  window_next tag w (End r) more = Fin tag w (Some r)
+  window_next tag w (Do a) more =
+      WindowMayDo tag w a × ((f : Option Fuse) → more (act_tag a tag) (after_act w a f)) × (CountsFin w a × (Writes a → (f : Option Fuse) → StopFin w (server_of w a) (not_done w (server_of w a) f)))
 
-  -- each act is fair where it comes, and each moment good
-  unfoldable pub Fairly : Option ℕ → World → List Entry → Type 0
-  Fairly tag w [] = Good tag w × Fin tag w None
-  Fairly tag w (d ∷ ds) = Good tag w × fairly_next tag w (d w.control) (λ tag v. Fairly tag v ds)
+  -- each act does what windows ask where it comes, and each moment is good
+  unfoldable pub WindowAlong : Option ℕ → World → List Entry → Type 0
+  WindowAlong tag w [] = Good tag w × Fin tag w None
+  WindowAlong tag w (d ∷ ds) = Good tag w × window_next tag w (d w.control) (λ tag v. WindowAlong tag v ds)
 
-  pub fairly-entry : (tag : Option ℕ) (w : World) (d : Entry) (ds : List Entry) (x : Next) → d w.control ≡ x → Good tag w → fairly_next tag w x (λ tag v. Fairly tag v ds) → Fairly tag w (d ∷ ds)
-  unfolding Fairly
-  fairly-entry tag w d ds x is good a = (good, subst (λ x. fairly_next tag w x (λ tag v. Fairly tag v ds)) (sym is) a)
+  pub window-entry : (tag : Option ℕ) (w : World) (d : Entry) (ds : List Entry) (x : Next) → d w.control ≡ x → Good tag w → window_next tag w x (λ tag v. WindowAlong tag v ds) → WindowAlong tag w (d ∷ ds)
+  unfolding WindowAlong
+  window-entry tag w d ds x is good a = (good, subst (λ x. window_next tag w x (λ tag v. WindowAlong tag v ds)) (sym is) a)
 
-  pub fairly-nil : (tag : Option ℕ) (w : World) → Good tag w → Fin tag w None → Fairly tag w []
-  unfolding Fairly
-  fairly-nil tag w good fin = (good, fin)
+  pub window-nil : (tag : Option ℕ) (w : World) → Good tag w → Fin tag w None → WindowAlong tag w []
+  unfolding WindowAlong
+  window-nil tag w good fin = (good, fin)
 
   -- then their moments come one after the other, and those behind them
   module _ (rest : Outcome → List World) (ends : (tag : Option ℕ) (w : World) (r : Option Refusal) → Good tag w → Fin tag w r → Chain tag w (rest (w, r)))
@@ -127,20 +124,15 @@ module _ (Fin : Option ℕ → World → Option Refusal → Type 0) where
     abbrev Turned : Option ℕ → World → (World → List World) → (World → Outcome) → Turn → Type 0
     Turned tag w more go t = Chain tag w (on_from t.0 t.1 more ++ rest (continue t.0 t.1 go))
 
-    counts-chain : (tag : Option ℕ) (w : World) (a : Act) (more : World → List World) (go : World → Outcome) → Good tag w → FairAct tag w a → CountsFin w a → Counts w a (Turned tag w more go)
+    counts-chain : (tag : Option ℕ) (w : World) (a : Act) (more : World → List World) (go : World → Outcome) → Good tag w → WindowMayDo tag w a → CountsFin w a → Counts w a (Turned tag w more go)
     counts-chain tag w (Make m) more go good fair fin =
         λ f. let c = fin f in Then tag None w (done_in_stop w m f) _ good (Stops m f (come w m fair.0) fair.1) (ends None _ _ (good_fin _ _ c) c)
     counts-chain tag w (OpenAttempt v s n) more go good fair fin =
         λ f. let c = fin f in let m : Move = Hold v s n true in Then tag None w (opened_in_stop w v s n f) _ good (Others None (done_in_stop w m f) _ (Stops m f (come-open w v s n fair) tt)) (ends None _ _ (good_fin _ _ c) c)
-    counts-chain tag w (Redo v) more go good fair fin = tt
-    counts-chain tag w (Acknowledge n) more go good fair fin = tt
-    counts-chain tag w (Drop n) more go good fair fin = tt
-    counts-chain tag w (EndFreeze l m) more go good fair fin = tt
-    counts-chain tag w (EndThaw l m) more go good fair fin = tt
-    counts-chain tag w (EndRecovery s n) more go good fair fin = tt
+    counts-chain tag w a more go good fair fin = tt
 
     next-chain : (tag : Option ℕ) (w : World) (x : Next) (more : World → List World) (go_on : World → Outcome) (then : Option ℕ → World → Type 0)
-        → ((tag : Option ℕ) (v : World) → then tag v → Chain tag v (more v ++ rest (go_on v))) → Good tag w → fairly_next tag w x then → Chain tag w (on_next w x more ++ rest (go w x go_on))
+        → ((tag : Option ℕ) (v : World) → then tag v → Chain tag v (more v ++ rest (go_on v))) → Good tag w → window_next tag w x then → Chain tag w (on_next w x more ++ rest (go w x go_on))
     next-chain tag w Pass more go_on then on good a = on tag w a
     next-chain tag w (End r) more go_on then on good a = ends tag w (Some r) good a
     next-chain tag w (Do x) more go_on then on good a =
@@ -150,10 +142,10 @@ module _ (Fin : Option ℕ → World → Option Refusal → Type 0) where
         (counts-chain tag w x more go_on good a.0 a.2.0)
         (λ d f. let c = a.2.1 d f in Then tag None w (not_done w (server_of w x) f) _ good (Passes None _ _ (not-unchanged w (server_of w x) f) (λ n h. absurd cc)) (ends None _ _ (good_fin _ _ c) c))
 
-    pub entries-chain : (ds : List Entry) (tag : Option ℕ) (w : World) → Fairly tag w ds → Chain tag w (worlds w ds ++ rest (carry w ds))
-    unfolding Fairly worlds carry
+    pub entries-chain : (ds : List Entry) (tag : Option ℕ) (w : World) → WindowAlong tag w ds → Chain tag w (worlds w ds ++ rest (carry w ds))
+    unfolding WindowAlong worlds carry
     entries-chain [] tag w a = ends tag w None a.0 a.1
-    entries-chain (d ∷ ds) tag w a = next-chain tag w (d w.control) (λ v. worlds v ds) (λ v. carry v ds) (λ tag v. Fairly tag v ds) (λ tag v b. entries-chain ds tag v b) a.0 a.1
+    entries-chain (d ∷ ds) tag w a = next-chain tag w (d w.control) (λ v. worlds v ds) (λ v. carry v ds) (λ tag v. WindowAlong tag v ds) (λ tag v b. entries-chain ds tag v b) a.0 a.1
 
 pub good-none : (w : World) → SoundRows (table w) → Good None w
 good-none w rows = record { rows = rows; low = λ n is. absurd cc; out = λ n is. absurd cc }
@@ -171,10 +163,10 @@ retabled-none k = record { sessions = k.sessions; flight = k.flight; is = refl }
 abbrev pub Closes : World → (World → Option Refusal → World) → Type 0
 Closes first over = (w : World) (k : Control) (r : Option Refusal) → Retabled w.control k → (told : List Event) × Unchanged w (over (record w { control = k }) r) told
 
-close : (w u : World) (k : Control) (told : List Event) → Retabled w.control k → AllPassing told → histories (w.events ++ told) ≡ histories w.events
+close : (w u : World) (k : Control) (told : List Event) → Retabled w.control k → TakesNone told → histories (w.events ++ told) ≡ histories w.events
     → u.events ≡ w.events ++ told → u.control.volume ≡ k.volume → u.contents ≡ w.contents → u.control.issued ≡ k.issued → u.control.volumes ≡ k.volumes → u.control.pending ≡ k.pending → Unchanged w u told
-close w u k told other silent lists events volume contents issued volumes pending =
-    told-unchanged w u told events silent lists (volume ∙ ap (λ (k : Control). k.volume) other.is) contents (issued ∙ ap (λ (k : Control). k.issued) other.is) (volumes ∙ ap (λ (k : Control). k.volumes) other.is)
+close w u k told other takes lists events volume contents issued volumes pending =
+    told-unchanged w u told events takes lists (volume ∙ ap (λ (k : Control). k.volume) other.is) contents (issued ∙ ap (λ (k : Control). k.issued) other.is) (volumes ∙ ap (λ (k : Control). k.volumes) other.is)
     (λ v t. ap (λ ps. waiting ps v t) pending ∙ ap (λ (k : Control). waiting k.pending v t) other.is)
 
 abbrev pub ended : World → World → ℕ → Said → World
@@ -183,7 +175,7 @@ ended first w line a = masters_lost first (said w line a)
 said-closes : (first : World) (line : ℕ) (p : Plan) → Closes first (λ w r. ended first w line (answered p w.control r))
 said-closes first line p w k r other =
     let a : Said = answered p k r in
-    (answer line a ∷ [], close w (ended first (record w { control = k }) line a) k (answer line a ∷ []) other (tt, tt) (histories-append w.events (answer line a ∷ [])) refl refl refl refl refl refl)
+    (answer line a ∷ [], close w (ended first (record w { control = k }) line a) k (answer line a ∷ []) other (refl, tt) (histories-append w.events (answer line a ∷ [])) refl refl refl refl refl refl)
 
 lost-closes : (first : World) → Closes first (λ w r. masters_lost first w)
 lost-closes first w k r other = ([], close w (masters_lost first (record w { control = k })) k [] other tt (ap histories (append-nil w.events)) (sym (append-nil w.events)) refl refl refl refl refl)
@@ -196,7 +188,7 @@ module _ (K : World → Type 0) (rows : (w : World) → K w → SoundRows (table
 
   abbrev pub PlanFin : Plan → Option ℕ → World → Option Refusal → Type 0
   PlanFin p tag w None = K (record w { control = p.last w.control })
-  PlanFin p tag w (Some (StoppedIn s)) = Fairly EndFin tag w (p.follows s.0)
+  PlanFin p tag w (Some (StoppedIn s)) = WindowAlong EndFin tag w (p.follows s.0)
   PlanFin p tag w (Some r) = K w
 
   -- the tables as a plan ends differ in the sessions and messages alone
@@ -204,25 +196,25 @@ module _ (K : World → Type 0) (rows : (w : World) → K w → SoundRows (table
   Leaves p = (k : Control) → Retabled k (p.last k)
 
   -- what is to be shown of a plan
-  pub record PlanFair (w : World) (p : Plan) : Type 0 where
+  pub record WindowHolds (w : World) (p : Plan) : Type 0 where
     pub told : List Event
     pub begins : Unchanged w (begun w p) told
-    pub entries : Fairly (PlanFin p) None (begun w p) p.entries
+    pub entries : WindowAlong (PlanFin p) None (begun w p) p.entries
     pub last : Leaves p
 
   good-end : (w : World) (r : Option Refusal) → EndFin None w r → Good None w
   good-end w r k = good-none w (rows w k)
 
-  good-fairly : (Fin : Option ℕ → World → Option Refusal → Type 0) (tag : Option ℕ) (w : World) (ds : List Entry) → Fairly Fin tag w ds → Good tag w
-  unfolding Fairly
-  good-fairly Fin tag w [] a = a.0
-  good-fairly Fin tag w (d ∷ ds) a = a.0
+  good-window : (Fin : Option ℕ → World → Option Refusal → Type 0) (tag : Option ℕ) (w : World) (ds : List Entry) → WindowAlong Fin tag w ds → Good tag w
+  unfolding WindowAlong
+  good-window Fin tag w [] a = a.0
+  good-window Fin tag w (d ∷ ds) a = a.0
 
   good-plan : (p : Plan) → Leaves p → (w : World) (r : Option Refusal) → PlanFin p None w r → Good None w
   good-plan p last w None k =
       let same : table (record w { control = p.last w.control }) ≡ table w = ap (λ (k : Control). table (record w { control = k })) (last w.control).is in
       good-none w (subst SoundRows same (rows (record w { control = p.last w.control }) k))
-  good-plan p last w (Some (StoppedIn s)) a = good-fairly EndFin None w (p.follows s.0) a
+  good-plan p last w (Some (StoppedIn s)) a = good-window EndFin None w (p.follows s.0) a
   good-plan p last w (Some r) k = good-none w (rows w k)
 
   module _ (first : World) (p : Plan) (last : Leaves p) (over : World → Option Refusal → World) (closes : Closes first over) (kept : (w : World) (r : Option Refusal) → K w → K (over w r))
@@ -243,19 +235,19 @@ module _ (K : World → Type 0) (rows : (w : World) → K w → SoundRows (table
         entries-chain EndFin (λ o. over o.0 r ∷ more (over o.0 r)) (λ tag u x good k. close-chain tag u u.control r (retabled-none u.control) good k) good-end (p.follows s.0) tag w a
     ends tag w (Some r) good k = close-chain tag w w.control (Some r) (retabled-none w.control) good k
 
-    pub plan-chain : K first → PlanFair first p → Chain None first (begun first p ∷ (worlds (begun first p) p.entries ++ rest (carry (begun first p) p.entries)))
+    pub plan-chain : K first → WindowHolds first p → Chain None first (begun first p ∷ (worlds (begun first p) p.entries ++ rest (carry (begun first p) p.entries)))
     plan-chain k fair =
         Then None None first (begun first p) _ (good-none first (rows first k)) (Passes None (begun first p) fair.told fair.begins (λ n h. absurd cc)) (entries-chain (PlanFin p) rest ends (good-plan p last) p.entries None (begun first p) fair.entries)
 
     -- the same as its moments are listed
-    pub moments-chain : K first → PlanFair first p → let o : Outcome = carry (begun first p) p.entries in
+    pub moments-chain : K first → WindowHolds first p → let o : Outcome = carry (begun first p) p.entries in
         Chain None first (plan_moments first p ++ (over (finish p o.0 o.1) o.1 ∷ more (over (finish p o.0 o.1) o.1)))
     moments-chain k fair =
         let o : Outcome = carry (begun first p) p.entries in
         subst (λ us. Chain None first (begun first p ∷ us)) (sym (append_assoc (worlds (begun first p) p.entries) (worlds_after o.0 o.1 p.follows) _)) (plan-chain k fair)
 
-  -- a run whose plans are fair
-  module _ (loses : (first w : World) → K w → K (masters_lost first w)) (each : (w : World) (line : ℕ) (p : Plan) → Ending w.control w.events line p → K w → PlanFair w p) where
+  -- a run of such plans
+  module _ (loses : (first w : World) → K w → K (masters_lost first w)) (each : (w : World) (line : ℕ) (p : Plan) → Ending w.control w.events line p → K w → WindowHolds w p) where
     -- what comes after a way, by the world that it led to and the refusal that ended it
     abbrev After : Type 0
     After = World → Option Refusal → List World
@@ -280,7 +272,7 @@ module _ (K : World → Type 0) (rows : (w : World) → K w → SoundRows (table
     one-chains : (w : World) (p : Plan) → Comes w p → WayChains w (record { parts = record { world = w; plan = p } ∷ []; world = after_part w p; refusal = part_refusal w p })
     unfolding parts_moments
     one-chains w p comes more follows k =
-        let fair : PlanFair w p = each w 0 p (OnePlan p (comes.case 0)) k in
+        let fair : WindowHolds w p = each w 0 p (OnePlan comes.asked p (comes.case 0)) k in
         let r : Option Refusal = part_refusal w p in
         subst (λ us. Chain None w us) (sym (append_assoc (plan_moments w p) (after_part w p ∷ []) (more (after_part w p) r)))
         (moments-chain w p fair.last (λ u r. masters_lost w u) (lost-closes w) (λ u r k. loses w u k) (λ v. more v r) (λ v k. follows v r k) k fair)
@@ -311,7 +303,7 @@ module _ (K : World → Type 0) (rows : (w : World) → K w → SoundRows (table
     unfolding after_plan
     last-chain line x case more goes_on k =
         let w : World = x.world in
-        let fair : PlanFair w x.plan = each w line x.plan case k in
+        let fair : WindowHolds w x.plan = each w line x.plan case k in
         moments-chain w x.plan fair.last (λ u r. ended w u line (answered x.plan u.control r)) (said-closes w line x.plan) (λ u r k. answers w u line _ k) more goes_on k fair
 
     task-chain : (w : World) (t : Task) → K w → (more : World → List World) → ((v : World) → K v → Chain None v (more v)) → Chain None w (task_moments w t ++ more (after_task w t))
@@ -319,18 +311,18 @@ module _ (K : World → Type 0) (rows : (w : World) → K w → SoundRows (table
     task-chain w t k more goes_on =
         let x : Part = (course w t).last in
         subst (λ us. Chain None w us) (sym (append_assoc (parts_moments (course w t).before) (part_moments x ++ after_task w t ∷ []) (more (after_task w t)) ∙ ap (λ us. parts_moments (course w t).before ++ us) (append_assoc (part_moments x) (after_task w t ∷ []) (more (after_task w t)))))
-        (by (own_course t.asked))
+        (by (own_course t.asked) refl)
       where
         ended_by : Part → List World
         ended_by x = part_moments x ++ (answered_part t.line x ∷ more (answered_part t.line x))
 
-        by : (o : Option OwnCourse) → let c : Course = course_of w t o in Chain None w (parts_moments c.before ++ ended_by c.last)
-        by None = last-chain t.line (record { world = w; plan = plan w.control w.events t.line t.asked }) (OnePlan _ (plan-case w.control w.events t.line t.asked)) more goes_on k
-        by (Some (Groups s n)) =
+        by : (o : Option OwnCourse) → own_course t.asked ≡ o → let c : Course = course_of w t o in Chain None w (parts_moments c.before ++ ended_by c.last)
+        by None is = last-chain t.line (record { world = w; plan = plan w.control w.events t.line t.asked }) (OnePlan t.asked _ (plan-case w.control w.events t.line t.asked)) more goes_on k
+        by (Some (Groups s n)) is =
             way-formed WayChains ways w s n (λ v r. ended_by (record { world = v; plan = only_says (form_said s v.control r) }))
-            (λ v r k. last-chain t.line (record { world = v; plan = only_says (form_said s v.control r) }) (OnePlan _ (Says (form_said s v.control r))) more goes_on k) k
-        by (Some (Volumes v u)) = last-chain t.line (record { world = w; plan = compared w v u }) (OnePlan _ (compared-case w t.line v u)) more goes_on k
-        by (Some Devices) = last-chain t.line (record { world = w; plan = imaged w t.listed }) (imaged-case w t.line t.listed) more goes_on k
+            (λ v r k. last-chain t.line (record { world = v; plan = only_says (form_said s v.control r) }) (OnePlan t.asked _ (Says (form_said s v.control r) (formed-not s v.control.sessions r) (λ one. none_some one is))) more goes_on k) k
+        by (Some (Volumes v u)) is = last-chain t.line (record { world = w; plan = compared w v u }) (OnePlan t.asked _ (compared-case w t.line t.asked v u)) more goes_on k
+        by (Some Devices) is = last-chain t.line (record { world = w; plan = imaged w t.listed }) (imaged-case w t.line t.asked t.listed) more goes_on k
 
     pub run-chain : (tasks : List Task) (w : World) → K w → Chain None w (moments_from w tasks)
     unfolding moments_from

@@ -9,7 +9,7 @@ use Rattle.dr_model.specs.Runs.{Task, course, after_task, after_tasks, run}
 use Rattle.dr_laws_freezes.specs.Moments.{part_moments, parts_moments, moments_from, moments}
 use Rattle.dr_laws_freezes.specs.Windows.{last_of, FreezeCut, EndsInCut}
 use Rattle.dr_laws_freezes.proofs.Windows.{Ends, window-ends}
-use Rattle.dr_laws_freezes.proofs.FairSteps.{chain-of}
+use Rattle.dr_laws_freezes.proofs.WindowSteps.{chain-of}
 
 -- the last of the moments is the run's world
 pub last-behind : (before : List World) (w first : World) (later : List World) → last_of w (before ++ (first ∷ later)) ≡ last_of first later

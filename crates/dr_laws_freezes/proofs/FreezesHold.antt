@@ -30,10 +30,10 @@ use Rattle.dr_laws_closed.proofs.Pendings.{each-on}
 use Rattle.dr_laws_sound.specs.Acknowledged.{said_in}
 use Rattle.dr_laws_sound.proofs.Awaits.{none-refused}
 use Rattle.dr_laws_sound.proofs.Turns.{next_of, carried_in, done, act-cases}
-use Rattle.dr_laws_sound.proofs.HushedPlans.{if-plan, unless-plan, owner-plan}
+use Rattle.dr_laws_sound.proofs.AcknowledgingSteps.{if-plan, unless-plan, owner-plan}
 use Rattle.dr_laws_freezes.specs.Windows.{is_ack}
 use Rattle.dr_laws_freezes.specs.Frozen.{NoneLetsGo, FreezesHold}
-use Rattle.dr_laws_freezes.proofs.FairPlans.{Between}
+use Rattle.dr_laws_freezes.proofs.WindowActs.{Between}
 use Rattle.dr_laws_freezes.proofs.Betweens.{between-task, between-run}
 use Rattle.dr_laws_freezes.proofs.LongBusy.{Frozen}
 use Rattle.dr_laws_freezes.proofs.LongBusySteps.{none, task-kept}
@@ -168,7 +168,7 @@ begins u l m v k held = record {
     by p a on true is = false_true (a.calm is refl) (subst (λ j. is_running j u.control ≡ true) (sym on) runs)
 
     issued-is : (n : ℕ) → In (Ack n) u.events → (b : Bool) → nat_lt u.control.issued n ≡ b → n < u.control.issued + 1
-    issued-is n here true is = false_true (k.tidy.fresh.later n (let h = is in grind (arith, nat_tests, h))) (any-some (is_ack n) u.events (Ack n) here (eq-eqb n n refl))
+    issued-is n here true is = false_true (k.in_sync.fresh.later n (let h = is in grind (arith, nat_tests, h))) (any-some (is_ack n) u.events (Ack n) here (eq-eqb n n refl))
     issued-is n here false is = let h = is in grind (arith, nat_tests, h)
 
 -- and it lasts

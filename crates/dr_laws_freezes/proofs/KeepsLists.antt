@@ -9,10 +9,8 @@ use Rattle.dr_model.specs.declared.event.Event.{Event}
 use Rattle.dr_model.specs.declared.event.Event.TheVariants.{Ack, Stopped}
 use Rattle.dr_model.specs.Histories.{Write, Histories, histories, lists, joined, after_event}
 use Rattle.dr_model.specs.Layout.{is_part}
-use Rattle.dr_model.specs.Relations.{rest, in_order, is_bare, turned, given_up}
 use Rattle.dr_model.specs.Control.{Volume, World}
-use Rattle.dr_model.specs.Pairs.{is_suspended}
-use Rattle.dr_model.specs.Moves.{Move, Land, Overwrite, Keep, Relate, Withdraw, Fetch, Resync, Reverse, Restore, Release, Store, Suspend, TakeOver, Mirror, LandBoth, Hold, Seal, Leave, Flash, Commit, Revert, told, told_in_stop, FlashHold, FlashFree, Lift}
+use Rattle.dr_model.specs.Moves.{Move, Land, Relate, Withdraw, Resync, Reverse, Restore, Release, Store, Mirror, Flash, Revert, told, told_in_stop}
 use Rattle.dr_model.specs.Entries.{fields_at}
 use Rattle.dr_model.specs.Table.{table}
 use Rattle.dr_model.specs.Laws.{SoundRows, source}
@@ -21,9 +19,10 @@ use Rattle.dr_model.proofs.Images.{histories-append}
 use Rattle.dr_laws_freezes.specs.Windows.{is_ack, acked_in, acked_on}
 use Rattle.dr_facts.specs.Heard.{Unheard, AllUnheard}
 use Rattle.dr_facts.proofs.Tables.{IsOrNot}
-use Rattle.dr_facts.proofs.Heard.{unheard-event, unheard-write, unheard-writes, unheard-append, unheard-blanked, unheard-restored, unheard-suspended, unheard-held, unheard-freed}
+use Rattle.dr_facts.proofs.Heard.{unheard-event, unheard-write, unheard-writes, unheard-append, unheard-blanked, unheard-restored, unheard-told}
+use Rattle.dr_facts.proofs.Emits.{Of}
 use Rattle.dr_laws_freezes.proofs.WindowTracks.{Stays}
-use Rattle.dr_laws_freezes.proofs.KeepsWindow.{first, no_second, no-target, Silent, AllSilent}
+use Rattle.dr_laws_freezes.proofs.KeepsWindow.{first, no_second, no-target, takes_none, TakesNone}
 use Rattle.dr_logic.proofs.Choices.{chosen}
 use Rattle.dr_logic.proofs.Truth.{false_true}
 
@@ -80,13 +79,13 @@ acked-same f g v t (e ∷ es) same =
     let more = acked-same f g v t es (λ n h. same n (or_right (is_ack n e) (list_any (is_ack n) es) h)) in
     λ i. one i ++ more i
 
-silent-acked : (f : ℕ → Write) (v t : ℕ) (e : Event) → Silent e → acked_in f v t e ≡ []
-silent-acked f v t (Ack n) s = absurd s
-silent-acked f v t e s = refl
+none-acked : (f : ℕ → Write) (v t : ℕ) (e : Event) → Of takes_none e → acked_in f v t e ≡ []
+none-acked f v t (Ack n) h = absurd cc
+none-acked f v t e h = refl
 
-pub silent-none : (f : ℕ → Write) (v t : ℕ) (es : List Event) → AllSilent es → acked_on f v t es ≡ []
-silent-none f v t [] a = refl
-silent-none f v t (e ∷ es) a = λ i. silent-acked f v t e a.0 i ++ silent-none f v t es a.1 i
+pub acked-none : (f : ℕ → Write) (v t : ℕ) (es : List Event) → TakesNone es → acked_on f v t es ≡ []
+acked-none f v t [] a = refl
+acked-none f v t (e ∷ es) a = λ i. none-acked f v t e a.0 i ++ acked-none f v t es a.1 i
 
 -- from w to u, where these events were told
 pub record ListGrows (v : ℕ) (w u : World) (es : List Event) : Type 0 where
@@ -137,34 +136,17 @@ module _ (v q : ℕ) (w : World) (rows : SoundRows (table w)) (st : Stays v q w)
 
   pub apart-told : (m : Move) → Allowed (histories w.events).write (table w) m → NoRestore v m → (u : Volume) → AllApart v (told m u)
   apart-told (Relate x s choices) a off u = (not-single x a.no_primary, tt)
-  apart-told (Withdraw x) a off u = unheard-blanked OfAny v x (in_order u.tracks (rest u.tracks u.fields.own)) (not-target x a.from a.related)
+  apart-told (Withdraw x) a off u = unheard-blanked OfAny v x _ (not-target x a.from a.related)
   apart-told (Resync x s) a off u = (not-target x a.from a.related, tt)
-  apart-told (Reverse x None) a off u = unheard-restored OfAny v x u.fields.source u.tracks (turned u.fields).own (is_bare (turned u.fields).own) (not-target x a.resync.from a.resync.related)
-  apart-told (Reverse x (Some p)) a off u = (tt, unheard-restored OfAny v x u.fields.source u.tracks (turned u.fields).own (is_bare (turned u.fields).own) (not-target x a.resync.from a.resync.related))
-  apart-told (Restore x t y) a off u = (off, tt)
-  apart-told (Release x t) a off u = unheard-restored OfAny v x u.fields.source u.tracks (given_up u.fields t).own (is_bare (given_up u.fields t).own) (not-target x a.from a.related)
+  apart-told (Reverse x None) a off u = unheard-restored OfAny v x _ _ _ (not-target x a.resync.from a.resync.related)
+  apart-told (Reverse x (Some p)) a off u = (tt, unheard-restored OfAny v x _ _ _ (not-target x a.resync.from a.resync.related))
+  apart-told (Release x t) a off u = unheard-restored OfAny v x _ _ _ (not-target x a.from a.related)
   apart-told (Store x t y last) a off u = (not-second x (chosen _ _ y a.takes).0, tt)
-  apart-told (Suspend x busy) a off u = unheard-suspended OfAny v x (is_suspended u.fields.primary_state)
-  apart-told (FlashHold x) a off u = (tt, tt)
-  apart-told (FlashFree x) a off u = (tt, tt)
-  apart-told (Lift x) a off u = unheard-freed OfAny v x u.fields.flash_hold
   apart-told (Mirror x t y n) a off u = (not-second x (chosen _ _ y a.takes).0, tt)
-  apart-told (Land n x t) a off u = (tt, tt)
-  apart-told (Overwrite n x t) a off u = (tt, tt)
-  apart-told (LandBoth n x t) a off u = (tt, tt)
-  apart-told (Keep x t) a off u = (tt, tt)
-  apart-told (Fetch x t) a off u = (tt, tt)
-  apart-told (TakeOver x) a off u = (tt, tt)
-  apart-told (Hold x s n first) a off u = unheard-held OfAny v x s n first
-  apart-told (Seal x y s n) a off u = (tt, tt)
-  apart-told (Leave x y s) a off u = (tt, tt)
   apart-told (Flash x y p s n) a off u = (not-target x a.resync.from a.resync.related, tt)
-  apart-told (Commit x p s n) a off u = (tt, tt)
   apart-told (Revert x p s n) a off u = (not-target x a.from a.related, tt)
-  apart-told m a off u = tt
+  apart-told m a off u = first_of (assumption, search (unheard-told OfAny v m u))
 
   pub apart-stop : (m : Move) → Allowed (histories w.events).write (table w) m → NoRestore v m → (u : Volume) (s k : ℕ) → AllApart v (told_in_stop m u ++ Stopped s k ∷ [])
   apart-stop (Land n x t) a off u s k = (tt, tt)
-  apart-stop (Overwrite n x t) a off u s k = (tt, tt)
-  apart-stop (LandBoth n x t) a off u s k = (tt, tt)
-  apart-stop m a off u s k = unheard-append OfAny v (told m u) (Stopped s k ∷ []) (apart-told m a off u) (tt, tt)
+  apart-stop m a off u s k = first_of (assumption, assumption (unheard-append OfAny v (told m u) (Stopped s k ∷ []) (apart-told m a off u) (tt, tt)))

@@ -21,7 +21,7 @@ use Rattle.dr_facts.proofs.Tables.{IsOrNot, at_part}
 use Rattle.dr_laws_sound.proofs.Turns.{next_of, carried_in}
 use Rattle.dr_laws_sound.proofs.RowsAfter.{calm, changed, bytes-after}
 use Rattle.dr_laws_freezes.proofs.WindowTracks.{unacked, unacked-is, Stays, Holds, Window}
-use Rattle.dr_laws_freezes.proofs.Fair.{MayCome, OnlyOut, Unacked}
+use Rattle.dr_laws_freezes.proofs.WindowMoves.{MayCome, OnlyOut, Unacked}
 use Rattle.dr_laws_freezes.proofs.KeepsWindow.{two}
 use Rattle.dr_logic.proofs.Choices.{chosen}
 use Rattle.dr_logic.proofs.Truth.{false_true}

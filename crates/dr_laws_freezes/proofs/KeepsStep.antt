@@ -1,15 +1,14 @@
 -- A freeze window lasts from each moment of a run to the next.
-use Rattle.std.proofs.Common.{ℕ, ◌≡◌, ◌≢◌, ◌<◌, ◌+◌, ◌⊎◌, inl, inr, refl, ap, sym, ◌∙◌, subst, Bool, true, false, cond, not, ◌||◌, List, [], ◌∷◌, ◌++◌, filter, Option, Some, None}
+use Rattle.std.proofs.Common.{ℕ, ◌≡◌, ◌≢◌, ◌<◌, ◌+◌, ◌⊎◌, inl, inr, refl, ap, sym, ◌∙◌, subst, true, false, cond, not, ◌||◌, List, [], ◌∷◌, ◌++◌, filter, Option, Some, None}
 use Rattle.std.proofs.Math.Bool.{or-false}
 use Rattle.std.proofs.lemmas.List.{append-nil}
-use Rattle.std.proofs.lemmas.List.Sums.{fold-append}
 use Rattle.std.proofs.lemmas.Bool.{ne_eqb, eq-eqb, eqb-false}
 use Rattle.std.proofs.lemmas.Bool.Decides.{eqb_tells}
 use Rattle.std.specs.List.{list_any, fold}
 use Rattle.std.specs.FinSet.{contains}
 use Rattle.dr_model.specs.declared.event.Event.{Event}
 use Rattle.dr_model.specs.declared.event.Event.TheVariants.{Ack, Mirrored, Stopped}
-use Rattle.dr_model.specs.Histories.{Write, Histories, histories, lists, after_event}
+use Rattle.dr_model.specs.Histories.{Write, histories, lists}
 use Rattle.dr_model.specs.Contents.{with_write}
 use Rattle.dr_model.specs.Control.{Pending, Volume, Fuse, World, is_volume}
 use Rattle.dr_model.specs.Pairs.{is_metro}
@@ -24,11 +23,13 @@ use Rattle.dr_facts.proofs.Tables.{IsOrNot, at_part}
 use Rattle.dr_laws_sound.proofs.Turns.{done, done_in_stop}
 use Rattle.dr_laws_sound.proofs.RowsAfter.{calm}
 use Rattle.dr_laws_sound.proofs.Due.{waiting-marked_else, waiting-marked_here}
-use Rattle.dr_facts.proofs.Issued.{told-writes, stop-writes, with-told}
+use Rattle.dr_facts.proofs.Issued.{told-writes, with-told}
+use Rattle.dr_laws_sound.proofs.Unissued.{stopped-writes}
 use Rattle.dr_laws_freezes.proofs.WindowTracks.{unacked, still-waits, Stays, Holds, Window, Quiet, window-quiet, unacked-told}
-use Rattle.dr_laws_freezes.proofs.Fair.{MayCome, Fair, tag_after}
-use Rattle.dr_laws_freezes.proofs.KeepsWindow.{AllPassing, passing-silent, locked, Deaf, deaf-silent, Else, deaf-told, deaf-stop, waits-done, waits-stop, quiet-changed}
-use Rattle.dr_laws_freezes.proofs.KeepsLists.{ListGrows, NoRestore, silent-none, grows-apart, apart-told, apart-stop}
+use Rattle.dr_laws_freezes.proofs.WindowMoves.{MayCome, WindowMay, tag_after}
+use Rattle.dr_facts.proofs.Emits.{Of, of-all}
+use Rattle.dr_laws_freezes.proofs.KeepsWindow.{takes_none, TakesNone, locked, Deaf, deaf, Else, deaf-told, deaf-stop, waits-done, waits-stop, quiet-changed}
+use Rattle.dr_laws_freezes.proofs.KeepsLists.{ListGrows, NoRestore, acked-none, grows-apart, apart-told, apart-stop}
 use Rattle.dr_laws_freezes.proofs.KeepsMirror.{off-track, on-track, acked, acked-here, just-acked, still-unacked, window-mirrored, window-landed}
 use Rattle.dr_logic.proofs.Choices.{chosen}
 
@@ -46,7 +47,7 @@ pub record Acknowledges (w : World) (n : ℕ) : Type 0 where
 -- from w to u no volume changes that is defined, and no write lands; these events are told
 pub record Unchanged (w u : World) (es : List Event) : Type 0 where
   pub events : u.events ≡ w.events ++ es
-  pub silent : AllPassing es
+  pub takes : TakesNone es
   pub writes : (n : ℕ) → n < w.control.issued + 1 → (histories u.events).write n ≡ (histories w.events).write n
   pub issued : (n : ℕ) → n < w.control.issued + 1 → n < u.control.issued + 1
   pub waits : (v t : ℕ) → waiting u.control.pending v t ≡ waiting w.control.pending v t
@@ -63,8 +64,8 @@ others w ss = record w { control = record w.control { sessions = ss } }
 
 -- one moment of a run and the next, each with the write that goes on
 pub data Step (tag : Option ℕ) (w : World) : Option ℕ → World → Type 0 where
-  Does : (m : Move) → (f : Option Fuse) → MayCome w m → Fair tag w m → Step tag w (tag_after m tag) (done w m f)
-  Stops : (m : Move) → (f : Option Fuse) → MayCome w m → Fair tag w m → Step tag w None (done_in_stop w m f)
+  Does : (m : Move) → (f : Option Fuse) → MayCome w m → WindowMay tag w m → Step tag w (tag_after m tag) (done w m f)
+  Stops : (m : Move) → (f : Option Fuse) → MayCome w m → WindowMay tag w m → Step tag w None (done_in_stop w m f)
   Acks : (n : ℕ) → Acknowledges w n → Step tag w None (acknowledged w n)
   Others : (next : Option ℕ) → (u : World) → (ss : List Session) → Step tag w next u → Step tag w next (others u ss)
   Passes : (next : Option ℕ) → (u : World) → (es : List Event) → Unchanged w u es → ((n : ℕ) → next ≡ Some n → tag ≡ Some n) → Step tag w next u
@@ -139,14 +140,14 @@ module _ (v q : ℕ) where
     q-mirrored : (n : ℕ) → later_mirrored q g (Mirrored n q) ≡ Some n
     q-mirrored n = ap (λ b. cond b (Some n) g) (eq-eqb q q refl)
 
-    done-quiet : (m : Move) (f : Option Fuse) (next : Option ℕ) → MayCome w m → Fair tag w m → Other m → Stays v q (done w m f) → ((n : ℕ) → next ≡ Some n → tag ≡ Some n) → Window v q next (fold (later_mirrored q) g (told m (w.control.volume (target m)))) (done w m f)
+    done-quiet : (m : Move) (f : Option Fuse) (next : Option ℕ) → MayCome w m → WindowMay tag w m → Other m → Stays v q (done w m f) → ((n : ℕ) → next ≡ Some n → tag ≡ Some n) → Window v q next (fold (later_mirrored q) g (told m (w.control.volume (target m)))) (done w m f)
     done-quiet m f next may fair else st2 less =
         let u : Volume = w.control.volume (target m) in
         window-quiet v q w (done w m f) (told m u) tag g win
         (quiet-changed v q w rows st tag g win m may fair else (done w m f).control.on (done w m f).control.fuse (settled m w.control.pending) (told m u) (with-told w (told m u) (told-writes (histories w.events) m u)) (deaf-told v q w rows st tag g win m may fair else u)
         (waits-done v q w rows st tag g win m may) st2) next less
 
-    does-by : (m : Move) (f : Option Fuse) → MayCome w m → Fair tag w m → Stays v q (done w m f) → Kind m → Window v q (tag_after m tag) (fold (later_mirrored q) g (told m (w.control.volume (target m)))) (done w m f)
+    does-by : (m : Move) (f : Option Fuse) → MayCome w m → WindowMay tag w m → Stays v q (done w m f) → Kind m → Window v q (tag_after m tag) (fold (later_mirrored q) g (told m (w.control.volume (target m)))) (done w m f)
     does-by _ f may fair st2 (Own t n) =
         let m : Move = Mirror q t v n in
         subst (λ g. Window v q (Some n) g (done w m f)) (sym (q-mirrored n))
@@ -167,31 +168,26 @@ module _ (v q : ℕ) where
     abbrev stop-told : Move → List Event
     stop-told m = told_in_stop m (w.control.volume (target m)) ++ Stopped (w.control.volume (target m)).server (landed m) ∷ []
 
-    stop-same : (m : Move) → (histories (w.events ++ stop-told m)).write ≡ write
-    stop-same m =
-        let u : Volume = w.control.volume (target m) in
-        with-told w (stop-told m) (ap (λ (h : Histories). h.write) (fold-append after_event (histories w.events) (told_in_stop m u) (Stopped u.server (landed m) ∷ [])) ∙ stop-writes (histories w.events) m u)
-
-    stop-quiet : (m : Move) (f : Option Fuse) → MayCome w m → Fair tag w m → Other m → Stays v q (done_in_stop w m f) → Window v q None (fold (later_mirrored q) g (stop-told m)) (done_in_stop w m f)
+    stop-quiet : (m : Move) (f : Option Fuse) → MayCome w m → WindowMay tag w m → Other m → Stays v q (done_in_stop w m f) → Window v q None (fold (later_mirrored q) g (stop-told m)) (done_in_stop w m f)
     stop-quiet m f may fair else st2 =
         let u : Volume = w.control.volume (target m) in
         window-quiet v q w (done_in_stop w m f) (stop-told m) tag g win
-        (quiet-changed v q w rows st tag g win m may fair else (done_in_stop w m f).control.on (done_in_stop w m f).control.fuse (settled_in_stop m w.control.pending) (stop-told m) (stop-same m) (deaf-stop v q w rows st tag g win m may fair else u u.server (landed m))
+        (quiet-changed v q w rows st tag g win m may fair else (done_in_stop w m f).control.on (done_in_stop w m f).control.fuse (settled_in_stop m w.control.pending) (stop-told m) (stopped-writes w m) (deaf-stop v q w rows st tag g win m may fair else u u.server (landed m))
         (waits-stop v q w rows st tag g win m may fair else) st2) None (λ k h. absurd cc)
 
-    stops-by : (m : Move) (f : Option Fuse) → MayCome w m → Fair tag w m → Stays v q (done_in_stop w m f) → Kind m → Window v q None (fold (later_mirrored q) g (stop-told m)) (done_in_stop w m f)
+    stops-by : (m : Move) (f : Option Fuse) → MayCome w m → WindowMay tag w m → Stays v q (done_in_stop w m f) → Kind m → Window v q None (fold (later_mirrored q) g (stop-told m)) (done_in_stop w m f)
     stops-by _ f may fair st2 (Own t n) =
         let m : Move = Mirror q t v n in
         subst (λ g. Window v q None g (done_in_stop w m f)) (sym (q-mirrored n))
-        (window-mirrored v q w rows st tag g win t n may (fair.0 (locked v q w rows st tag g win)) fair.1 (done_in_stop w m f).control.on (done_in_stop w m f).control.fuse (stop-told m) (stop-same m) refl None (λ k h. absurd cc))
+        (window-mirrored v q w rows st tag g win t n may (fair.0 (locked v q w rows st tag g win)) fair.1 (done_in_stop w m f).control.on (done_in_stop w m f).control.fuse (stop-told m) (stopped-writes w m) refl None (λ k h. absurd cc))
     stops-by _ f may fair st2 (Lands t n) =
         let m : Move = LandBoth n v t in
         let last : g ≡ Some n = win.goes_on n fair.0 may.ready.volume in
         let ps : List Pending = w.control.pending in
         let here : waiting (marked n ps) v t ≡ n ∷ [] = waiting-marked_here n v t ps may.ready.coming (calm w v may.ready.idle t) ∙ may.ready.one in
-        let stored : unacked (w.events ++ stop-told m) t (Some n) ≡ n ∷ [] = on-track (w.events ++ stop-told m) t n (ap (λ (g : ℕ → Write). (g n).track) (stop-same m) ∙ may.ready.track) (still-unacked w.events (stop-told m) n fair.1 refl) in
+        let stored : unacked (w.events ++ stop-told m) t (Some n) ≡ n ∷ [] = on-track (w.events ++ stop-told m) t n (ap (λ (g : ℕ → Write). (g n).track) (stopped-writes w m) ∙ may.ready.track) (still-unacked w.events (stop-told m) n fair.1 refl) in
         subst (λ g. Window v q None g (done_in_stop w m f)) (sym last)
-        (window-landed v q w rows st tag g win t n may last (done_in_stop w m f).control.on (done_in_stop w m f).control.fuse (settled_in_stop m ps) (stop-told m) (stop-same m)
+        (window-landed v q w rows st tag g win t n may last (done_in_stop w m f).control.on (done_in_stop w m f).control.fuse (settled_in_stop m ps) (stop-told m) (stopped-writes w m)
         (stored ∙ sym here) (λ j ne. waiting-marked_else n v t v j ps (inr ne) may.ready.coming))
     stops-by _ f may fair st2 (Plain m else less) = stop-quiet m f may fair else st2
     stops-by _ f may fair st2 (Mirrors x t u n ne other) = stop-quiet (Mirror x t u n) f may fair ne st2
@@ -246,13 +242,13 @@ module _ (v q : ℕ) where
     unchanged u es x =
         let there_v : is_volume w.control v ≡ true = (rows.parts.primary q v st.takes).defined in
         let there_q : is_volume w.control q ≡ true = (rows.parts.secondary v q st.to).defined in
-        let deaf : Deaf q g es = deaf-silent q g es (passing-silent es x.silent) in
+        let hears : Deaf q g es = of-all (Of takes_none) (Deaf q g) (deaf takes_none refl refl q g) es x.takes in
         record {
           events = x.events;
           writes = x.writes;
           issued = x.issued;
-          last = deaf.last;
-          acks = deaf.acks;
+          last = hears.last;
+          acks = hears.acks;
           waits = x.waits v;
           size = ap (λ (y : Volume). y.tracks) (x.volume v there_v);
           primary = λ t lt. x.contents v there_v t;
@@ -267,7 +263,7 @@ module _ (v q : ℕ) where
 
     unchanged-list : (u : World) (es : List Event) → Unchanged w u es → ListGrows v w u es
     unchanged-list u es x = record {
-      list = λ t. x.lists v (rows.parts.primary q v st.takes).defined t ∙ sym (append-nil (lists w.events v t)) ∙ ap (λ ns. lists w.events v t ++ ns) (sym (silent-none (histories u.events).write v t es (passing-silent es x.silent)));
+      list = λ t. x.lists v (rows.parts.primary q v st.takes).defined t ∙ sym (append-nil (lists w.events v t)) ∙ ap (λ ns. lists w.events v t ++ ns) (sym (acked-none (histories u.events).write v t es x.takes));
       writes = x.acked;
     }
 

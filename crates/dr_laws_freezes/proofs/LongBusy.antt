@@ -11,7 +11,7 @@ use Rattle.dr_model.specs.Control.{Control, Fuse, Pending, Volume, World, is_vol
 use Rattle.dr_model.specs.Groups.{In}
 use Rattle.dr_model.specs.Laws.{AllPending}
 use Rattle.dr_model.specs.Moves.{Move, Land, Overwrite, MakeSecondary, MakePrimary, DropPrimary, DropSecondary, Resume, TakeOver, Yield, Mirror, LandBoth, Thaw, Lift, Suspend, Hold, target, told, told_in_stop, landed, settled, settled_in_stop, fields_left, is_write, is_other, marked, keeps_staged, moved_keeping}
-use Rattle.dr_model.specs.Carry.{Act, Make, OpenAttempt, Redo, Acknowledge, Drop, EndFreeze, EndThaw, EndRecovery, Turn, act, dropped, acknowledged}
+use Rattle.dr_model.specs.Carry.{Act, Make, OpenAttempt, Acknowledge, Drop, Turn, act, dropped, acknowledged}
 use Rattle.dr_model.specs.Entries.{fields_at}
 use Rattle.dr_facts.proofs.Issued.{Alike, with-told, act-writes}
 use Rattle.dr_laws_sound.proofs.Unissued.{done-writes, stopped-writes}
@@ -20,7 +20,7 @@ use Rattle.dr_facts.proofs.Tables.{IsOrNot, at_cases}
 use Rattle.dr_laws_closed.proofs.Pendings.{each-on, all-filter}
 use Rattle.dr_laws_sound.specs.Acknowledged.{acknowledgements}
 use Rattle.dr_laws_sound.proofs.Turns.{next_of, carried_in, done, done_in_stop, not_done, after_act, act-cases, Counts}
-use Rattle.dr_laws_sound.proofs.Hushed.{Mute, Hushed, act-turned}
+use Rattle.dr_laws_sound.proofs.Unacknowledged.{AcknowledgesNothing, EndsUnacknowledged, act-turned}
 
 -- a primary of b that is long busy
 pub record Busy (b : ℕ) (f : Fields) : Type 0 where
@@ -101,22 +101,12 @@ module _ (v b s : ℕ) (N : ℕ → Type 0) where
   done-rooted : (w : World) (a : Act) (f : Option Fuse) → Ok w a → Rooted w.control → Keeps w (after_act w a f, None)
   done-rooted w (Make m) f ok r = let new = changed-rooted w m ok r refl in (record { there = r.there; busy = new.0; server = new.1 }, refl)
   done-rooted w (OpenAttempt x i n) f ok r = let new = changed-rooted w (Hold x i n true) tt r refl in (record { there = r.there; busy = new.0; server = new.1 }, refl)
-  done-rooted w (Redo x) f ok r = (record { there = r.there; busy = r.busy; server = r.server }, refl)
-  done-rooted w (Acknowledge n) f ok r = (record { there = r.there; busy = r.busy; server = r.server }, refl)
-  done-rooted w (Drop n) f ok r = (record { there = r.there; busy = r.busy; server = r.server }, refl)
-  done-rooted w (EndFreeze l m) f ok r = (record { there = r.there; busy = r.busy; server = r.server }, refl)
-  done-rooted w (EndThaw l m) f ok r = (record { there = r.there; busy = r.busy; server = r.server }, refl)
-  done-rooted w (EndRecovery i n) f ok r = (record { there = r.there; busy = r.busy; server = r.server }, refl)
+  done-rooted w a f ok r = (record { there = r.there; busy = r.busy; server = r.server }, refl)
 
   stop-rooted : (w : World) (a : Act) → Ok w a → Rooted w.control → Counts w a (Keeps w)
   stop-rooted w (Make m) ok r = λ f. let new = changed-rooted w m ok r refl in (record { there = r.there; busy = new.0; server = new.1 }, refl)
   stop-rooted w (OpenAttempt x i n) ok r = λ f. let new = changed-rooted w (Hold x i n true) tt r refl in (record { there = r.there; busy = new.0; server = new.1 }, refl)
-  stop-rooted w (Redo x) ok r = tt
-  stop-rooted w (Acknowledge n) ok r = tt
-  stop-rooted w (Drop n) ok r = tt
-  stop-rooted w (EndFreeze l m) ok r = tt
-  stop-rooted w (EndThaw l m) ok r = tt
-  stop-rooted w (EndRecovery i n) ok r = tt
+  stop-rooted w a ok r = tt
 
   act-rooted : (w : World) (a : Act) → Ok w a → Rooted w.control → Keeps w (act w a)
   act-rooted w a ok r = act-cases w a (Keeps w) (λ d off. (r, refl)) (λ f. done-rooted w a f ok r) (stop-rooted w a ok r) (λ d f. (record { there = r.there; busy = r.busy; server = r.server }, refl))
@@ -165,10 +155,10 @@ module _ (v b s : ℕ) (N : ℕ → Type 0) where
     silent-told w u es events writes same none pending k =
         silent-by w u es events writes same (λ n here. absurd (unacked-in n es none here)) (subst (AllPending Waits) (sym pending) k.waits) (subst (AllPending (Issued w)) (sym pending) k.issued) k
 
-    mute-silent : (w : World) (a : Act) → Mute false a → (act w a).0.control.issued ≡ w.control.issued → Silent w → Silent (act w a).0
-    mute-silent w a mute same k =
-        let h : Hushed false w (act w a).0 (act w a).1 = (act-turned false w a mute).hushed in
-        silent-told w (act w a).0 h.mum.added h.mum.events (act-writes w a) same h.mum.silent.none h.stays.pending k
+    unacknowledged-silent : (w : World) (a : Act) → AcknowledgesNothing false a → (act w a).0.control.issued ≡ w.control.issued → Silent w → Silent (act w a).0
+    unacknowledged-silent w a nothing same k =
+        let h : EndsUnacknowledged false w (act w a).0 (act w a).1 = (act-turned false w a nothing).unacknowledged in
+        silent-told w (act w a).0 h.since.added h.since.events (act-writes w a) same h.since.silent.none h.stays.pending k
 
     -- a write that lands in a stop is marked
     waits-marked : (w : World) (n : ℕ) → Elsewhere w n → (ps : List Pending) → AllPending (Issued w) ps → AllPending Waits ps → AllPending Waits (marked n ps)
@@ -227,13 +217,6 @@ module _ (v b s : ℕ) (N : ℕ → Type 0) where
     act-silent w (Make (Overwrite n x t)) ok same k = land-silent w (Overwrite n x t) n (k.elsewhere n ok) (λ u. refl) (λ u. refl) (λ ps. refl) (λ ps. refl) k
     act-silent w (Make (LandBoth n x t)) ok same k = land-silent w (LandBoth n x t) n (k.elsewhere n ok) (λ u. refl) (λ u. refl) (λ ps. refl) (λ ps. refl) k
     act-silent w (Make (Mirror x t a n)) ok same k = mirror-silent w x t a n k
-    act-silent w (Make (Hold x i n first)) ok same k = mute-silent w (Make (Hold x i n first)) refl same k
-    act-silent w (Make m) ok same k = mute-silent w (Make m) tt same k
-    act-silent w (OpenAttempt x i n) ok same k = mute-silent w (OpenAttempt x i n) refl same k
-    act-silent w (Redo x) ok same k = mute-silent w (Redo x) tt same k
-    act-silent w (EndFreeze l m) ok same k = mute-silent w (EndFreeze l m) tt same k
-    act-silent w (EndThaw l m) ok same k = mute-silent w (EndThaw l m) tt same k
-    act-silent w (EndRecovery i n) ok same k = mute-silent w (EndRecovery i n) tt same k
     act-silent w (Drop n) ok same k = act-cases w (Drop n) (λ t. Silent t.0) (λ d off. k)
         (λ f. silent-by w (dropped w n) [] (sym (append-nil w.events)) refl refl (λ j here. absurd here) (all-filter Waits (is_other n) w.control.pending k.waits) (all-filter (Issued w) (is_other n) w.control.pending k.issued) k) tt (λ d f. absurd d)
     act-silent w (Acknowledge n) ok same k = act-cases w (Acknowledge n) (λ t. Silent t.0) (λ d off. k)
@@ -242,6 +225,7 @@ module _ (v b s : ℕ) (N : ℕ → Type 0) where
         one-acked : (j : ℕ) → In (Ack j) (Ack n ∷ []) → Elsewhere w j
         one-acked j (inl is) = let same : j ≡ n = cc in subst (Elsewhere w) (sym same) ok
         one-acked j (inr none) = absurd none
+    act-silent w a ok same k = unacknowledged-silent w a refl same k
 
     pub record Frozen (w : World) : Type 0 where
       pub rooted : Rooted w.control

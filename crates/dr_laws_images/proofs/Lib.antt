@@ -5,8 +5,8 @@
 --   function of numbers is that of a list of them (`six`), so blocks that are the same one by one give the same record.
 -- - **A law on tables that only one kind of step changes** (`Servers.antt`): acts keep it whatever they are, so it goes along entries without
 --   their plan; what is left is a clause for each case on the first tables and the last ones.
--- - **What no answer says** (`Built.antt`, `Unbuilt.antt`): entries by `CalmPlans.antt` of `dr_laws_sound`, which asks of each refusal that it is
---   calm; answers by a walk over the step table, with a lemma for each kind of test; a line of groups by its turns.
+-- - **What no answer says** (`Built.antt`, `Unbuilt.antt`): entries by why they refuse (`case-does` of `dr_laws_sound`); answers by `case-answers`,
+--   with a clause for each case that says more than one thing; a line of groups by its turns.
 pub mod Blocks
 pub mod Built
 pub mod Proper

@@ -1,5 +1,6 @@
 -- In every run the volumes of a logical subsystem are on one server: only where a volume is defined does another one come, and this asks for it.
-use Rattle.std.proofs.Common.{ℕ, ◌≡◌, ◌⊎◌, inl, inr, refl, ap, sym, ◌∙◌, List, [], ◌∷◌, ◌++◌, Bool, true, false, ◌||◌, nat_eq, Option, Some, None}
+use Rattle.std.proofs.Common.{ℕ, ◌≡◌, ◌⊎◌, inl, inr, refl, ap, sym, ◌∙◌, List, [], ◌∷◌, ◌++◌, Bool, true, false, ◌||◌, nat_eq, Option, Some, None, Result}
+use Rattle.dr_model.specs.declared.step.Step.{Step}
 use Rattle.std.specs.List.{list_any}
 use Rattle.std.proofs.lemmas.Bool.{eqb-true, eq-eqb, not-false}
 use Rattle.std.proofs.lemmas.List.Folds.{list_any-append}
@@ -138,58 +139,58 @@ module _ (k : Control) (events : List Event) (line : ℕ) where
     first : OneServer k → OneServer (p.first k)
     last : (j : Control) → OneServer j → OneServer (p.last j)
 
-  case-one : (p : Plan) → Case k events line p → KeepsOne p
-  case-one _ (DefinesVolume v s tracks here free) = record { first = one-defined k v s tracks free; last = λ j one. one }
-  case-one _ (Says a) = record { first = λ one. one; last = λ j one. one }
-  case-one _ (DefinesServer name free) = record { first = λ one. one; last = λ j one. one }
-  case-one _ (SetsLink a b up) = record { first = λ one. one; last = λ j one. one }
-  case-one _ (Issues v t offset len bytes free) = record { first = λ one. one; last = λ j one. one }
-  case-one _ (Writes v t offset len bytes free) = record { first = λ one. one; last = λ j one. one }
-  case-one _ (Applies n p found) = record { first = λ one. one; last = λ j one. one }
-  case-one _ (Lists told ls few) = record { first = λ one. one; last = λ j one. one }
-  case-one _ (Shows v t there) = record { first = λ one. one; last = λ j one. one }
-  case-one _ (Stops s on) = record { first = λ one. one; last = λ j one. one }
-  case-one _ (Arms writes torn s) = record { first = λ one. one; last = λ j one. one }
-  case-one _ (Starts s off) = record { first = λ one. one; last = λ j one. one }
-  case-one _ (MakesFlash dev s t freeze choices) = record { first = λ one. one; last = λ j one. one }
-  case-one _ (RemovesFlash dev s t) = record { first = λ one. one; last = λ j one. one }
-  case-one _ (ResyncsFlash dev s t sequence) = record { first = λ one. one; last = λ j one. one }
-  case-one _ (ReversesFlash dev s t) = record { first = λ one. one; last = λ j one. one }
-  case-one _ (Copies t most) = record { first = λ one. one; last = λ j one. one }
-  case-one _ (Destages v) = record { first = λ one. one; last = λ j one. one }
-  case-one _ (MakesPath src tgt group) = record { first = λ one. one; last = λ j one. one }
-  case-one _ (RemovesPath src tgt) = record { first = λ one. one; last = λ j one. one }
-  case-one _ (MakesPair devs a b kind choices part) = record { first = λ one. one; last = λ j one. one }
-  case-one _ (RemovesPair devs a b source_only) = record { first = λ one. one; last = λ j one. one }
-  case-one _ (PausesPair devs a b) = record { first = λ one. one; last = λ j one. one }
-  case-one _ (ResumesPair devs a b kind) = record { first = λ one. one; last = λ j one. one }
-  case-one _ (FailsOver devs b a kind) = record { first = λ one. one; last = λ j one. one }
-  case-one _ (FailsBack devs x y kind) = record { first = λ one. one; last = λ j one. one }
-  case-one _ (Compares contents v u) = record { first = λ one. one; last = λ j one. one }
-  case-one _ (Drains a most) = record { first = λ one. one; last = λ j one. one }
-  case-one _ (Expires s on) = record { first = λ one. one; last = λ j one. one }
-  case-one _ (Freezes l m) = record { first = λ one. one; last = λ j one. one }
-  case-one _ (Unfreezes l m) = record { first = λ one. one; last = λ j one. one }
-  case-one _ (Releases l) = record { first = λ one. one; last = λ j one. one }
-  case-one _ (MakesSession l s free) = record { first = λ one. one; last = λ j one. one }
-  case-one _ (RemovesSession l s x found free) = record { first = λ one. one; last = λ j one. one }
-  case-one _ (MakesMirror owner s x found free l owned) = record { first = λ one. one; last = λ j one. one }
-  case-one _ (PausesMirror s on) = record { first = λ one. one; last = λ j one. one }
-  case-one _ (RemovesMirror s x found free) = record { first = λ one. one; last = λ j one. one }
-  case-one _ (Aborts s x found free) = record { first = λ one. one; last = λ j one. one }
-  case-one _ (Sends s server x r o posts) = record { first = λ one. one; last = λ j one. one }
-  case-one _ (Delivers n m starts x r reaches) = record { first = λ one. one; last = λ j one. one }
-  case-one _ (TakesReply n m reply x r returns) = record { first = λ one. one; last = λ j one. one }
-  case-one _ (Loses n) = record { first = λ one. one; last = λ j one. one }
-  case-one _ (AddsMember s a c x joins) = record { first = λ one. one; last = λ j one. one }
-  case-one _ (RemovesMember s a x m found is idle on) = record { first = λ one. one; last = λ j one. one }
-  case-one _ (Recovers s x found on) = record { first = λ one. one; last = λ j one. one }
-  case-one _ (Settles s x m found here on free) = record { first = λ one. one; last = λ j one. one }
-  case-one _ (Exchanges s server true x r o allowed) = record { first = λ one. one; last = λ j one. one }
-  case-one _ (Exchanges s server false x r o allowed) = record { first = λ one. one; last = λ j one. one }
+  case-one : (asked : Result Step ℕ) (p : Plan) → Case k events line asked p → KeepsOne p
+  case-one _ _ (DefinesVolume v s tracks here free) = record { first = one-defined k v s tracks free; last = λ j one. one }
+  case-one _ _ (Says a waits why) = record { first = λ one. one; last = λ j one. one }
+  case-one _ _ (DefinesServer name free) = record { first = λ one. one; last = λ j one. one }
+  case-one _ _ (SetsLink a b up) = record { first = λ one. one; last = λ j one. one }
+  case-one _ _ (Issues v t offset len bytes free) = record { first = λ one. one; last = λ j one. one }
+  case-one _ _ (Writes v t offset len bytes free) = record { first = λ one. one; last = λ j one. one }
+  case-one _ _ (Applies n p found) = record { first = λ one. one; last = λ j one. one }
+  case-one _ _ (Lists told ls few) = record { first = λ one. one; last = λ j one. one }
+  case-one _ _ (Shows v t there) = record { first = λ one. one; last = λ j one. one }
+  case-one _ _ (Stops s on) = record { first = λ one. one; last = λ j one. one }
+  case-one _ _ (Arms writes torn s) = record { first = λ one. one; last = λ j one. one }
+  case-one _ _ (Starts s off) = record { first = λ one. one; last = λ j one. one }
+  case-one _ _ (MakesFlash dev s t freeze choices) = record { first = λ one. one; last = λ j one. one }
+  case-one _ _ (RemovesFlash dev s t) = record { first = λ one. one; last = λ j one. one }
+  case-one _ _ (ResyncsFlash dev s t sequence) = record { first = λ one. one; last = λ j one. one }
+  case-one _ _ (ReversesFlash dev s t) = record { first = λ one. one; last = λ j one. one }
+  case-one _ _ (Copies t most) = record { first = λ one. one; last = λ j one. one }
+  case-one _ _ (Destages v) = record { first = λ one. one; last = λ j one. one }
+  case-one _ _ (MakesPath src tgt group) = record { first = λ one. one; last = λ j one. one }
+  case-one _ _ (RemovesPath src tgt) = record { first = λ one. one; last = λ j one. one }
+  case-one _ _ (MakesPair devs a b kind choices part) = record { first = λ one. one; last = λ j one. one }
+  case-one _ _ (RemovesPair devs a b source_only) = record { first = λ one. one; last = λ j one. one }
+  case-one _ _ (PausesPair devs a b) = record { first = λ one. one; last = λ j one. one }
+  case-one _ _ (ResumesPair devs a b kind) = record { first = λ one. one; last = λ j one. one }
+  case-one _ _ (FailsOver devs b a kind) = record { first = λ one. one; last = λ j one. one }
+  case-one _ _ (FailsBack devs x y kind) = record { first = λ one. one; last = λ j one. one }
+  case-one _ _ (Compares contents v u) = record { first = λ one. one; last = λ j one. one }
+  case-one _ _ (Drains a most) = record { first = λ one. one; last = λ j one. one }
+  case-one _ _ (Expires s on) = record { first = λ one. one; last = λ j one. one }
+  case-one _ _ (Freezes l m) = record { first = λ one. one; last = λ j one. one }
+  case-one _ _ (Unfreezes l m) = record { first = λ one. one; last = λ j one. one }
+  case-one _ _ (Releases l) = record { first = λ one. one; last = λ j one. one }
+  case-one _ _ (MakesSession l s free) = record { first = λ one. one; last = λ j one. one }
+  case-one _ _ (RemovesSession l s x found free) = record { first = λ one. one; last = λ j one. one }
+  case-one _ _ (MakesMirror owner s x found free l owned) = record { first = λ one. one; last = λ j one. one }
+  case-one _ _ (PausesMirror s on) = record { first = λ one. one; last = λ j one. one }
+  case-one _ _ (RemovesMirror s x found free) = record { first = λ one. one; last = λ j one. one }
+  case-one _ _ (Aborts s x found free) = record { first = λ one. one; last = λ j one. one }
+  case-one _ _ (Sends s server x r o posts) = record { first = λ one. one; last = λ j one. one }
+  case-one _ _ (Delivers n m starts x r reaches) = record { first = λ one. one; last = λ j one. one }
+  case-one _ _ (TakesReply n m reply x r returns) = record { first = λ one. one; last = λ j one. one }
+  case-one _ _ (Loses n) = record { first = λ one. one; last = λ j one. one }
+  case-one _ _ (AddsMember s a c x joins) = record { first = λ one. one; last = λ j one. one }
+  case-one _ _ (RemovesMember s a x m found is idle on) = record { first = λ one. one; last = λ j one. one }
+  case-one _ _ (Recovers s x found on) = record { first = λ one. one; last = λ j one. one }
+  case-one _ _ (Settles s x m found here on free hand) = record { first = λ one. one; last = λ j one. one }
+  case-one _ _ (Exchanges s server true x r o allowed) = record { first = λ one. one; last = λ j one. one }
+  case-one _ _ (Exchanges s server false x r o allowed) = record { first = λ one. one; last = λ j one. one }
 
   ending-one : (p : Plan) → Ending k events line p → KeepsOne p
-  ending-one _ (OnePlan p c) = case-one p c
+  ending-one _ (OnePlan asked p c) = case-one asked p c
   ending-one _ (Imaged vs) = record { first = λ one. one; last = λ j one. one }
 
 finish-one : (p : Plan) → ((j : Control) → OneServer j → OneServer (p.last j)) → (w : World) (r : Option Refusal) → One w → One (finish p w r)
@@ -207,7 +208,7 @@ task-one : (w : World) (t : Task) → One w → One (after_task w t)
 task-one w t one =
     let x : Part = (course w t).last in
     plan-one x.world x.plan t.line (ending-one x.world.control x.world.events t.line x.plan (course-case w t))
-    (last-plan One (λ u p comes one. carried-one u p 0 (case-one u.control u.events 0 p (comes.case 0)) one) w t one)
+    (last-plan One (λ u p comes one. carried-one u p 0 (case-one u.control u.events 0 comes.asked p (comes.case 0)) one) w t one)
 
 tasks-one : (w : World) (tasks : List Task) → One w → One (after_tasks w tasks)
 unfolding after_tasks

@@ -5,6 +5,11 @@ use Rattle.dr_ids.specs.declared.names.Member.{Member}
 use Rattle.dr_ids.specs.declared.refusal.PhaseName.{PhaseName}
 use Rattle.dr_ids.specs.declared.refusal.Refusal.{Refusal}
 use Rattle.dr_ids.specs.declared.refusal.Refusal.TheVariants.{OldMessage, Syntax, Unknown, Duplicate, Limit, ServerOff, LinkDown, Void, NotPrimary, Inhibited, PairState, RelationState, InSession, NotInSession, InFormation, OutOfOrder, Unsealed, Stale, Forbidden, NotIdentical, NumbersSpent, Stopped, NoGroup, JournalFull, NotBuilt}
+use Rattle.dr_facts.proofs.Reasons.{NoStop, names_no_stop}
+use Rattle.dr_facts.proofs.Entries.{any_world, from-ends}
+use Rattle.dr_laws_sound.proofs.Does.{Acts, Late}
+use Rattle.dr_laws_sound.proofs.DoesPlans.{case-does}
+use Rattle.dr_model.proofs.CarryLemmas.{carry-none}
 use Rattle.dr_model.specs.declared.event.Event.{Event}
 use Rattle.dr_model.specs.declared.event.Event.TheVariants.{Answer}
 use Rattle.dr_model.specs.declared.said.Addition.TheVariants.{Posted, Alone, Wrote, Acked, Counted, InPhase, InGroup, Showed}
@@ -16,10 +21,10 @@ use Rattle.dr_ids.specs.declared.refusal.Which.TheVariants.{Groups}
 use Rattle.dr_model.specs.Refusals.{over}
 use Rattle.dr_model.specs.Limits.{most_groups, image_events}
 use Rattle.dr_model.specs.Control.{Control, World, nothing}
-use Rattle.dr_model.specs.Carry.{Next, Pass, Do, End, Entry, Outcome, act, carry, continue, go}
+use Rattle.dr_model.specs.Carry.{Outcome, carry}
 use Rattle.dr_model.specs.Groups.{In}
 use Rattle.dr_model.specs.PairEntries.{is_copying}
-use Rattle.dr_model.specs.Sessions.{Session, no_master, session_in, mirror_in, members_in}
+use Rattle.dr_model.specs.Sessions.{Session, no_master, session_in, members_in}
 use Rattle.dr_model.specs.SessionEntries.{members_on}
 use Rattle.dr_model.specs.SessionPlans.{asking, session_phase}
 use Rattle.dr_model.specs.Plans.{Plan, has_room, has_room_for, drain_plan, compare_plan, refuses}
@@ -27,12 +32,11 @@ use Rattle.dr_model.specs.Forming.{Part, Way, after_part, stays, ends, goes_on, 
 use Rattle.dr_model.specs.Runs.{Task, OwnCourse, Groups as OfGroups, Volumes, Devices, own_course, course, course_of, image_plan, begun, carried_out, answered, after_plan, after_task, after_tasks, run}
 use Rattle.dr_logic.proofs.Truth.{false_true}
 use Rattle.dr_facts.proofs.Lists.{in-joined, any-none}
-use Rattle.dr_laws_sound.proofs.Parts.{comes-drain, comes-asking, course-case}
+use Rattle.dr_laws_sound.proofs.Parts.{comes-drain, comes-asking, course-case, Comes, Ending, OnePlan, Imaged}
 use Rattle.dr_laws_sound.proofs.Journal.{EndsAnswered, after_task-ends}
-use Rattle.dr_laws_sound.proofs.StopsTold.{is_calm, Unstopped}
-use Rattle.dr_laws_sound.proofs.CalmPlans.{case-calm, ending-calm}
 use Rattle.dr_laws_images.specs.Unbuilt.{NoneUnbuilt}
-use Rattle.dr_laws_images.proofs.Built.{calm_said, Answers, plan-answers, exchange-answers, phase-calm}
+use Rattle.dr_laws_sound.proofs.Cases.{says_no_stop, plan-case}
+use Rattle.dr_laws_images.proofs.Built.{case-answers, phase-says}
 
 -- a refusal that doesn't say so
 abbrev is_built : Refusal → Bool
@@ -47,30 +51,21 @@ abbrev built_said : Said → Bool
 built_said (Refused r) = is_built r
 built_said _ = true
 
-calm-built : (r : Refusal) → is_calm r ≡ true → is_built r ≡ true
-calm-built NotBuilt e = absurd cc
-calm-built r e = refl
+no-stop-built : (r : Refusal) → names_no_stop r ≡ true → is_built r ≡ true
+no-stop-built NotBuilt e = absurd cc
+no-stop-built r e = refl
 
-says-built : (a : Said) → calm_said a ≡ true → built_said a ≡ true
-says-built (Refused r) e = calm-built r e
+says-built : (a : Said) → says_no_stop a ≡ true → built_said a ≡ true
+says-built (Refused r) e = no-stop-built r e
 says-built (Done added) e = refl
 says-built (Held n) e = refl
 
 -- ---- entries
 
-continue-built : (u : World) (server : Option ℕ) (next : World → Outcome) → ((v : World) → built_if (next v).1 ≡ true) → built_if (continue u server next).1 ≡ true
-continue-built u None next each = each u
-continue-built u (Some s) next each = refl
-
-go-built : (w : World) (x : Next) (next : World → Outcome) → ((r : Refusal) → x ≡ End r → is_calm r ≡ true) → ((v : World) → built_if (next v).1 ≡ true) → built_if (go w x next).1 ≡ true
-go-built w Pass next calm each = each w
-go-built w (End r) next calm each = calm-built r (calm r refl)
-go-built w (Do a) next calm each = continue-built (act w a).0 (act w a).1 next each
-
-carry-built : (w : World) (ds : List Entry) → Unstopped ds → built_if (carry w ds).1 ≡ true
-unfolding carry Unstopped
-carry-built w [] calm = refl
-carry-built w (d ∷ ds) calm = go-built w (d w.control) (λ v. carry v ds) (calm.0 w.control) (λ v. carry-built v ds calm.1)
+ending-built : (w : World) (line : ℕ) (p : Plan) → Ending w.control w.events line p → built_if (carry (begun w p) p.entries).1 ≡ true
+ending-built w line _ (OnePlan asked p c) =
+    from-ends any_world (Acts w.control asked) NoStop (Late asked) (λ v. tt) (λ o. built_if o ≡ true) refl (λ s. refl) no-stop-built (λ r late. no-stop-built r late.why) p.entries (begun w p) (case-does w line asked p c).entries
+ending-built w line _ (Imaged vs) = ap (λ (o : Outcome). built_if o.1) (carry-none (begun w (image_plan vs)))
 
 -- ---- plans
 
@@ -79,8 +74,8 @@ answered-built : (p : Plan) (k : Control) (r : Option Refusal) → built_said (p
 answered-built p k None says built = says
 answered-built p k (Some r) says built = built
 
-plan-built : (w : World) (p : Plan) → Unstopped p.entries → ((k : Control) → built_said (p.says k) ≡ true) → built_said (answered p (carried_out w p).0.control (carried_out w p).1) ≡ true
-plan-built w p calm says = answered-built p (carried_out w p).0.control (carried_out w p).1 (says (carried_out w p).0.control) (carry-built (begun w p) p.entries calm)
+plan-built : (w : World) (p : Plan) → built_if (carry (begun w p) p.entries).1 ≡ true → ((k : Control) → built_said (p.says k) ≡ true) → built_said (answered p (carried_out w p).0.control (carried_out w p).1) ≡ true
+plan-built w p built says = answered-built p (carried_out w p).0.control (carried_out w p).1 (says (carried_out w p).0.control) built
 
 -- ---- a line of groups
 
@@ -89,11 +84,11 @@ said-built (Refused r) e = e
 said-built (Done added) e = refl
 said-built (Held n) e = refl
 
-part-built : (w : World) (p : Plan) → (has_room w.events ≡ true → Unstopped p.entries) → Answers p → built_if (part w p).refusal ≡ true
-part-built w p calm says = by (has_room w.events) refl
+part-built : (w : World) (p : Plan) → (has_room w.events ≡ true → Comes w p) → built_if (part w p).refusal ≡ true
+part-built w p comes = by (has_room w.events) refl
   where
     by : (room : Bool) → has_room w.events ≡ room → built_if (let x : Way = cond room (record { parts = record { world = w; plan = p } ∷ []; world = after_part w p; refusal = part_refusal w p }) (ends w JournalFull) in x.refusal) ≡ true
-    by true room = said-built (answered p (carried_out w p).0.control (carried_out w p).1) (plan-built w p (calm room) (λ k. says-built (p.says k) (says k)))
+    by true room = said-built (answered p (carried_out w p).0.control (carried_out w p).1) (let c : Comes w p = comes room in plan-built w p (ending-built w 0 p (OnePlan c.asked p (c.case 0))) (λ k. says-built (p.says k) (case-answers w.control w.events 0 c.asked p (c.case 0) c.one k)))
     by false room = refl
 
 then-built : (parts : List Part) (w : World) (r : Option Refusal) (more : World → Way) → built_if r ≡ true → ((v : World) → built_if (more v).refusal ≡ true) → built_if (goes_on parts w r more).refusal ≡ true
@@ -111,12 +106,11 @@ drains-built w (m ∷ ms) =
     let p : Plan = drain_plan w.control m.a.0 None in
     let x : Way = part w p in
     if-built (is_copying m.a.0 w.control) _ _
-    (then-built x.parts x.world x.refusal (λ v. drains v ms) (part-built w p (λ room. case-calm w.control w.events 0 p ((comes-drain w m.a.0 room).case 0)) (λ j. refl)) (λ v. drains-built v ms))
+    (then-built x.parts x.world x.refusal (λ v. drains v ms) (part-built w p (comes-drain w m.a.0)) (λ v. drains-built v ms))
     (drains-built w ms)
 
 asked-built : (w : World) (s server : ℕ) → built_if (part w (asking w.control s server true)).refusal ≡ true
-asked-built w s server = part-built w (asking w.control s server true) (λ room. case-calm w.control w.events 0 _ ((comes-asking w s server room).case 0))
-    (exchange-answers w.control s server true (mirror_in (session_in w.control.sessions s)) (members_in (session_in w.control.sessions s)))
+asked-built w s server = part-built w (asking w.control s server true) (comes-asking w s server)
 
 ask-built : (w : World) (s : ℕ) (p : PhaseName) (ms : List Member) (server : ℕ) → built_if (ask w s p ms server).refusal ≡ true
 ask-built w s p ms server =
@@ -154,28 +148,28 @@ formed-built w s n = if-built (has_room w.events) _ _ (by (session_in w.control.
 -- ---- every step
 
 form-built : (s : ℕ) (ss : List Session) (r : Option Refusal) → built_if r ≡ true → built_said (form_answer s ss r) ≡ true
-form-built s ss None built = says-built (session_phase (session_in ss s)) (phase-calm (session_in ss s))
+form-built s ss None built = says-built (session_phase (session_in ss s)) (phase-says (session_in ss s))
 form-built s ss (Some r) built = built
 
 -- what the last plan of a step says, where its entries end well
 last-built : (w : World) (t : Task) (k : Control) → built_said ((course w t).last.plan.says k) ≡ true
-last-built w t k = by (own_course t.asked)
+last-built w t k = by (own_course t.asked) refl
   where
     chosen : (room : Bool) (p : Plan) → built_said (p.says k) ≡ true → built_said (let q : Plan = cond room p (refuses JournalFull) in q.says k) ≡ true
     chosen true p says = says
     chosen false p says = refl
 
-    by : (o : Option OwnCourse) → built_said ((course_of w t o).last.plan.says k) ≡ true
-    by None = says-built _ (plan-answers w.control w.events t.line t.asked k)
-    by (Some (OfGroups s n)) = let x : Way = formed w s n in form-built s x.world.control.sessions x.refusal (formed-built w s n)
-    by (Some (Volumes v u)) = chosen (has_room w.events) (compare_plan w.control w.contents v u) refl
-    by (Some Devices) = chosen (has_room_for image_events w.events) (image_plan t.listed) refl
+    by : (o : Option OwnCourse) → own_course t.asked ≡ o → built_said ((course_of w t o).last.plan.says k) ≡ true
+    by None one = says-built _ (case-answers w.control w.events t.line t.asked _ (plan-case w.control w.events t.line t.asked) one k)
+    by (Some (OfGroups s n)) is = let x : Way = formed w s n in form-built s x.world.control.sessions x.refusal (formed-built w s n)
+    by (Some (Volumes v u)) is = chosen (has_room w.events) (compare_plan w.control w.contents v u) refl
+    by (Some Devices) is = chosen (has_room_for image_events w.events) (image_plan t.listed) refl
 
 -- its answer
 task-built : (w : World) (t : Task) → let x : Part = (course w t).last in built_said (answered x.plan (carried_out x.world x.plan).0.control (carried_out x.world x.plan).1) ≡ true
 task-built w t =
     let x : Part = (course w t).last in
-    plan-built x.world x.plan (ending-calm x.world.control x.world.events t.line x.plan (course-case w t)) (last-built w t)
+    plan-built x.world x.plan (ending-built x.world t.line x.plan (course-case w t)) (last-built w t)
 
 -- ---- its events
 

@@ -1,7 +1,6 @@
 -- A flight only goes on, over every step: no count and no fence falls, and no number of a message comes again.
-use Rattle.std.proofs.Common.{ℕ, max, ◌≡◌, ◌≤◌, ◌<◌, ◌+◌, ◌⊎◌, inl, inr, refl, ap, sym, ◌∙◌, subst, arith, Bool, true, false, cond, not, ◌==◌, List, [], ◌∷◌, filter, Option, Some, None}
-use Rattle.dr_ids.specs.declared.refusal.Refusal.{Refusal}
-use Rattle.dr_ids.specs.declared.refusal.Refusal.TheVariants.{Stopped as StoppedIn}
+use Rattle.std.proofs.Common.{ℕ, max, ◌≡◌, ◌≤◌, ◌<◌, ◌+◌, ◌⊎◌, inl, inr, refl, ap, sym, subst, arith, Bool, true, false, cond, not, ◌==◌, List, [], ◌∷◌, filter, Option, Some, None, Result}
+use Rattle.dr_model.specs.declared.step.Step.{Step}
 use Rattle.dr_ids.specs.declared.names.Member.{Member}
 use Rattle.dr_model.specs.declared.event.Event.{Event}
 use Rattle.dr_model.specs.Phases as phases
@@ -10,16 +9,17 @@ use Rattle.dr_model.specs.Messages.{Flight, Message, Body, Asks, Replies, is_los
 use Rattle.dr_model.specs.Messages as messages
 use Rattle.dr_model.specs.Groups.{In}
 use Rattle.dr_model.specs.Control.{Control, Fuse, World}
-use Rattle.dr_model.specs.Carry.{Act, Make, OpenAttempt, Redo, Acknowledge, Drop, EndFreeze, EndThaw, EndRecovery, act, Next, Pass, Do, End, Entry, Outcome, carry, continue, go, follow}
-use Rattle.dr_model.specs.PlanParts.{Plan, unless}
-use Rattle.dr_model.specs.SessionPlans.{order_of, exchanged, exchange_refusal, exchange_done, exchange_on}
+use Rattle.dr_model.specs.Carry.{Act, Make, OpenAttempt, act, Next, Pass, Do, End, Entry}
+use Rattle.dr_model.specs.PlanParts.{Plan}
+use Rattle.dr_model.specs.SessionPlans.{exchanged}
 use Rattle.dr_model.specs.SessionEntries.{members_on, reply_after}
 use Rattle.dr_model.specs.Forming.{Part, after_part}
-use Rattle.dr_model.specs.Runs.{Task, course, masters_lost, begun, finish, carried_out, after_plan, after_task, after_tasks}
+use Rattle.dr_model.specs.Runs.{Task, course, masters_lost, carried_out, after_plan, after_task, after_tasks}
+use Rattle.dr_facts.proofs.Entries.{any_world, any_reason, Fine, AllFine, fine-none, fine-then, plan-kept}
 use Rattle.dr_facts.proofs.Lists.{in-joined, from-filter}
 use Rattle.dr_facts.proofs.Tables.{at_cases, at2_cases}
-use Rattle.dr_laws_sound.proofs.Cases.{Case, Says, DefinesServer, DefinesVolume, SetsLink, Issues, Writes, Applies, Lists, Shows, Stops, Arms, Starts, MakesFlash, RemovesFlash, ResyncsFlash, ReversesFlash, Copies, Destages, MakesPath, RemovesPath, MakesPair, RemovesPair, PausesPair, ResumesPair, FailsOver, FailsBack, Compares, Drains, Expires, Freezes, Unfreezes, MakesSession, RemovesSession, MakesMirror, PausesMirror, RemovesMirror, Aborts, AddsMember, RemovesMember, Exchanges, Sends, Delivers, TakesReply, Loses, Recovers, Settles, Releases}
-use Rattle.dr_laws_sound.proofs.Parts.{IsTurn, Drained, Asked, Ending, OnePlan, Imaged, course-case, last-plan}
+use Rattle.dr_laws_sound.proofs.Cases.{Case, Starts, RemovesSession, MakesMirror, Aborts, Exchanges, Sends, Delivers, Loses}
+use Rattle.dr_laws_sound.proofs.Parts.{Ending, OnePlan, Imaged, course-case, last-plan}
 use Rattle.dr_laws_sound.proofs.Turns.{act-cases, Counts, after_act}
 use Rattle.dr_laws_orders.specs.FlightGoesOn.{FlightGoesOn}
 
@@ -104,45 +104,29 @@ Leaves w u = u.control.flight ≡ w.control.flight
 
 done-leaves : (w : World) (a : Act) (f : Option Fuse) → Leaves w (after_act w a f)
 done-leaves w (Make m) f = refl
-done-leaves w (OpenAttempt v s n) f = refl
-done-leaves w (Redo v) f = refl
-done-leaves w (Acknowledge n) f = refl
-done-leaves w (Drop n) f = refl
-done-leaves w (EndFreeze l m) f = refl
-done-leaves w (EndThaw l m) f = refl
-done-leaves w (EndRecovery s n) f = refl
+done-leaves w a f = refl
 
 counts-leaves : (w : World) (a : Act) → Counts w a (λ t. Leaves w t.0)
 counts-leaves w (Make m) = λ f. refl
 counts-leaves w (OpenAttempt v s n) = λ f. refl
-counts-leaves w (Redo v) = tt
-counts-leaves w (Acknowledge n) = tt
-counts-leaves w (Drop n) = tt
-counts-leaves w (EndFreeze l m) = tt
-counts-leaves w (EndThaw l m) = tt
-counts-leaves w (EndRecovery s n) = tt
+counts-leaves w a = tt
 
 -- however an act ends
 act-leaves : (w : World) (a : Act) → Leaves w (act w a).0
 act-leaves w a = act-cases w a (λ t. Leaves w t.0) (λ d off. refl) (done-leaves w a) (counts-leaves w a) (λ d f. refl)
 
-continue-leaves : (w u : World) (server : Option ℕ) (next : World → Outcome) → ((v : World) → Leaves v (next v).0) → Leaves w u → Leaves w (continue u server next).0
-continue-leaves w u None next each h = each u ∙ h
-continue-leaves w u (Some s) next each h = h
+-- so any entries leave it
+abbrev Any : World → Act → Type 0
+Any w a = Unit {0}
 
-go-leaves : (w : World) (x : Next) (next : World → Outcome) → ((v : World) → Leaves v (next v).0) → Leaves w (go w x next).0
-go-leaves w Pass next each = each w
-go-leaves w (End r) next each = refl
-go-leaves w (Do a) next each = continue-leaves w (act w a).0 (act w a).1 next each (act-leaves w a)
+any-next : (w : World) (x : Next) → Fine any_world Any any_reason w x
+any-next w Pass = tt
+any-next w (End r) = tt
+any-next w (Do a) = tt
 
-carry-leaves : (w : World) (entries : List Entry) → Leaves w (carry w entries).0
-unfolding carry
-carry-leaves w [] = refl
-carry-leaves w (d ∷ ds) = go-leaves w (d w.control) (λ v. carry v ds) (λ v. carry-leaves v ds)
-
-follow-leaves : (w : World) (r : Refusal) (follows : ℕ → List Entry) → Leaves w (follow w r follows)
-follow-leaves w (StoppedIn s) follows = carry-leaves w (follows s.0)
-follow-leaves w r follows = refl
+any-fine : (ds : List Entry) → AllFine any_world Any any_reason ds
+any-fine [] = fine-none any_world Any any_reason
+any-fine (d ∷ ds) = fine-then any_world Any any_reason d ds (λ w k. any-next w (d w.control)) (any-fine ds)
 
 -- ---- plans
 
@@ -153,11 +137,8 @@ record Going (k : Control) (p : Plan) : Type 0 where
 
 -- it is carried out; its masters are lost as it is answered, or as the next one begins
 carried-goes : (w : World) (p : Plan) → Going w.control p → FlightGoesOn w.control.flight (carried_out w p).0.control.flight
-carried-goes w p g = let o : Outcome = carry (begun w p) p.entries in by o.0 o.1 (carry-leaves (begun w p) p.entries)
-  where
-    by : (u : World) (r : Option Refusal) → Leaves (begun w p) u → FlightGoesOn w.control.flight (finish p u r).control.flight
-    by u None e = goes-then _ _ _ g.first (subst (λ f. FlightGoesOn f (p.last u.control).flight) e (g.last u.control))
-    by u (Some r) e = goes-then _ _ _ g.first (goes-equal _ _ (follow-leaves u r p.follows ∙ e))
+carried-goes w p g = plan-kept any_world Any any_reason (λ v. FlightGoesOn w.control.flight v.control.flight) (λ v j. tt) (λ v a any j. subst (FlightGoesOn w.control.flight) (sym (act-leaves v a)) j) w p
+    g.first (any-fine p.entries) (λ s. any-fine (p.follows s)) (λ v j. goes-then _ _ _ j (g.last v.control))
 
 answered-goes : (w : World) (line : ℕ) (p : Plan) → Going w.control p → FlightGoesOn w.control.flight (masters_lost w (after_plan w line p)).control.flight
 unfolding after_plan
@@ -174,84 +155,33 @@ exchanged-goes i server true work ms k = goes-heard i server (k.flight.epoch i) 
 exchanged-goes i server false work ms k = goes-heard i server (k.flight.epoch i) work k.flight
 
 module _ (k : Control) where
-  calm : (p : Plan) → (p.first k).flight ≡ k.flight → ((j : Control) → (p.last j).flight ≡ j.flight) → Going k p
-  calm p first last = record { first = goes-equal _ _ first; last = λ j. goes-equal _ _ (last j) }
+  stays : (p : Plan) → (p.first k).flight ≡ k.flight → ((j : Control) → (p.last j).flight ≡ j.flight) → Going k p
+  stays p first last = record { first = goes-equal _ _ first; last = λ j. goes-equal _ _ (last j) }
 
   -- one that changes its tables as it begins
   begins : (p : Plan) → FlightGoesOn k.flight (p.first k).flight → ((j : Control) → (p.last j).flight ≡ j.flight) → Going k p
   begins p first last = record { first = first; last = λ j. goes-equal _ _ (last j) }
 
-  case-goes : (events : List Event) (line : ℕ) (p : Plan) → Case k events line p → Going k p
-  case-goes events line _ (Says a) = calm _ refl (λ j. refl)
-  case-goes events line _ (DefinesServer name free) = calm _ refl (λ j. refl)
-  case-goes events line _ (DefinesVolume v x tracks here free) = calm _ refl (λ j. refl)
-  case-goes events line _ (SetsLink a b up) = calm _ refl (λ j. refl)
-  case-goes events line _ (Issues v t offset len bytes free) = calm _ refl (λ j. refl)
-  case-goes events line _ (Writes v t offset len bytes free) = calm _ refl (λ j. refl)
-  case-goes events line _ (Applies n p found) = calm _ refl (λ j. refl)
-  case-goes events line _ (Lists told ls few) = calm _ refl (λ j. refl)
-  case-goes events line _ (Shows v t there) = calm _ refl (λ j. refl)
-  case-goes events line _ (Arms writes torn x) = calm _ refl (λ j. refl)
-  case-goes events line _ (MakesFlash dev v t freeze choices) = calm _ refl (λ j. refl)
-  case-goes events line _ (RemovesFlash dev v t) = calm _ refl (λ j. refl)
-  case-goes events line _ (ResyncsFlash dev v t sequence) = calm _ refl (λ j. refl)
-  case-goes events line _ (ReversesFlash dev v t) = calm _ refl (λ j. refl)
-  case-goes events line _ (Copies t most) = calm _ refl (λ j. refl)
-  case-goes events line _ (Destages v) = calm _ refl (λ j. refl)
-  case-goes events line _ (MakesPath src tgt group) = calm _ refl (λ j. refl)
-  case-goes events line _ (RemovesPath src tgt) = calm _ refl (λ j. refl)
-  case-goes events line _ (MakesPair devs a b kind choices part) = calm _ refl (λ j. refl)
-  case-goes events line _ (RemovesPair devs a b source_only) = calm _ refl (λ j. refl)
-  case-goes events line _ (PausesPair devs a b) = calm _ refl (λ j. refl)
-  case-goes events line _ (ResumesPair devs a b kind) = calm _ refl (λ j. refl)
-  case-goes events line _ (FailsOver devs b a kind) = calm _ refl (λ j. refl)
-  case-goes events line _ (FailsBack devs x y kind) = calm _ refl (λ j. refl)
-  case-goes events line _ (Compares contents v u) = calm _ refl (λ j. refl)
-  case-goes events line _ (Drains a most) = calm _ refl (λ j. refl)
-  case-goes events line _ (Expires x on) = calm _ refl (λ j. refl)
-  case-goes events line _ (Freezes l m) = calm _ refl (λ j. refl)
-  case-goes events line _ (Unfreezes l m) = calm _ refl (λ j. refl)
-  case-goes events line _ (Releases l) = calm _ refl (λ j. refl)
-  case-goes events line _ (MakesSession l i free) = calm _ refl (λ j. refl)
-  case-goes events line _ (PausesMirror i on) = calm _ refl (λ j. refl)
-  case-goes events line _ (RemovesMirror i x found free) = calm _ refl (λ j. refl)
-  case-goes events line _ (AddsMember i a c x joins) = calm _ refl (λ j. refl)
-  case-goes events line _ (RemovesMember i a x m found is idle on) = calm _ refl (λ j. refl)
-  case-goes events line _ (Recovers i x found on) = calm _ refl (λ j. refl)
-  case-goes events line _ (Settles i x m found here on free) = calm _ refl (λ j. refl)
-  case-goes events line _ (Stops x on) = calm _ refl (λ j. refl)
-  case-goes events line _ (Starts x off) = begins _ (goes-started x k.flight) (λ j. refl)
-  case-goes events line _ (RemovesSession l i x found free) = begins _ (goes-left i l x k.flight) (λ j. refl)
-  case-goes events line _ (MakesMirror owner i x found free l owned) = begins _ (goes-raised i k.flight) (λ j. refl)
-  case-goes events line _ (Aborts i x found free) = begins _ (goes-aborted i x.mirror k.flight) (λ j. refl)
-  case-goes events line _ (Sends i server x r o posts) = begins _ (goes-made i (k.flight.epoch i) server o (Asks (k.flight.starts server)) k.flight) (λ j. refl)
-  case-goes events line _ (TakesReply n m reply x r returns) = calm _ refl (λ j. refl)
-  case-goes events line _ (Delivers q m starts x r reaches) = record {
+  case-goes : (events : List Event) (line : ℕ) (asked : Result Step ℕ) (p : Plan) → Case k events line asked p → Going k p
+  case-goes events line _ _ (Starts x off) = begins _ (goes-started x k.flight) (λ j. refl)
+  case-goes events line _ _ (RemovesSession l i x found free) = begins _ (goes-left i l x k.flight) (λ j. refl)
+  case-goes events line _ _ (MakesMirror owner i x found free l owned) = begins _ (goes-raised i k.flight) (λ j. refl)
+  case-goes events line _ _ (Aborts i x found free) = begins _ (goes-aborted i x.mirror k.flight) (λ j. refl)
+  case-goes events line _ _ (Sends i server x r o posts) = begins _ (goes-made i (k.flight.epoch i) server o (Asks (k.flight.starts server)) k.flight) (λ j. refl)
+  case-goes events line _ _ (Delivers q m starts x r reaches) = record {
     first = goes-same k.flight;
     last = λ j.
         let reply : phases.Reply = reply_after m.session m.order.work (members_on m.server x.members) j in
         let heard : Flight = messages.heard m.session m.server m.epoch m.order.work j.flight in
         goes-then _ heard _ (goes-heard m.session m.server m.epoch m.order.work j.flight) (goes-made m.session m.epoch m.server m.order (Replies reply) heard);
   }
-  case-goes events line _ (Loses n) = begins _ (goes-fewer (λ (q : Message). not (q.number == n)) k.flight) (λ j. refl)
-  case-goes events line _ (Exchanges i server reply x r o allowed) = record { first = goes-same k.flight; last = exchanged-goes i server reply o.work (members_on server x.members) }
+  case-goes events line _ _ (Loses n) = begins _ (goes-fewer (λ (q : Message). not (q.number == n)) k.flight) (λ j. refl)
+  case-goes events line _ _ (Exchanges i server reply x r o allowed) = record { first = goes-same k.flight; last = exchanged-goes i server reply o.work (members_on server x.members) }
+  case-goes events line _ _ c = stays _ refl (λ j. refl)
 
   ending-goes : (events : List Event) (line : ℕ) (p : Plan) → Ending k events line p → Going k p
-  ending-goes events line _ (OnePlan p c) = case-goes events line p c
-  ending-goes events line _ (Imaged vs) = calm _ refl (λ j. refl)
-
-  asks-goes : (i server : ℕ) (m : Option Mirror) (ms : List Member) → Going k (exchange_on k i m server true ms)
-  asks-goes i server None ms = calm _ refl (λ j. refl)
-  asks-goes i server (Some r) ms = by (exchange_refusal k r server ms) (order_of r server)
-    where
-      by : (o : Option Refusal) (order : Option phases.Order) → Going k (unless o (exchange_done i server true (members_on server ms) order))
-      by None None = calm _ refl (λ j. refl)
-      by None (Some o) = record { first = goes-same k.flight; last = exchanged-goes i server true o.work (members_on server ms) }
-      by (Some q) order = calm _ refl (λ j. refl)
-
-turn-goes : (k : Control) (p : Plan) → IsTurn k p → Going k p
-turn-goes _ _ (Drained k a) = calm k _ refl (λ j. refl)
-turn-goes _ _ (Asked k i server m ms) = asks-goes k i server m ms
+  ending-goes events line _ (OnePlan asked p c) = case-goes events line asked p c
+  ending-goes events line _ (Imaged vs) = stays _ refl (λ j. refl)
 
 -- ---- steps
 
@@ -260,7 +190,7 @@ task-goes : (w : World) (t : Task) → FlightGoesOn w.control.flight (after_task
 task-goes w t =
     let x : Part = (course w t).last in
     goes-then _ x.world.control.flight _
-    (last-plan (λ u. FlightGoesOn w.control.flight u.control.flight) (λ u p comes h. goes-then _ _ _ h (part-goes u p (turn-goes u.control p comes.turn))) w t (goes-same w.control.flight))
+    (last-plan (λ u. FlightGoesOn w.control.flight u.control.flight) (λ u p comes h. goes-then _ _ _ h (part-goes u p (case-goes u.control u.events t.line comes.asked p (comes.case t.line)))) w t (goes-same w.control.flight))
     (answered-goes x.world t.line x.plan (ending-goes x.world.control x.world.events t.line x.plan (course-case w t)))
 
 -- and steps

@@ -1,5 +1,5 @@
 -- An order of an older attempt: each of its checks finds another number, or nothing is left to do but to raise an attempt or a floor.
-use Rattle.std.proofs.Common.{ℕ, ◌≡◌, ◌≤◌, ◌<◌, inl, inr, refl, ap, sym, ◌∙◌, subst, arith, Bool, true, false, cond, nat_eq, nat_lt, List, [], ◌∷◌, ◌++◌, Option, Some, None}
+use Rattle.std.proofs.Common.{ℕ, ◌≡◌, ◌≤◌, ◌<◌, inl, refl, ap, sym, ◌∙◌, subst, arith, Bool, true, false, cond, nat_eq, nat_lt, List, [], ◌∷◌, Option, Some, None}
 use Rattle.std.proofs.lemmas.Bool.{and_parts, or_parts, eqb-true, ltb-true, ltb-false, false_from_ne_true, true_from_ne_false}
 use Rattle.dr_ids.specs.declared.names.Member.{Member}
 use Rattle.dr_ids.specs.declared.refusal.PhaseName.TheVariants as phase
@@ -13,10 +13,10 @@ use Rattle.dr_model.specs.Messages.{Message}
 use Rattle.dr_model.specs.MessagePlans.{order_refusal, order_done, order_on, deliver_plan}
 use Rattle.dr_model.specs.Pairs.{records}
 use Rattle.dr_model.specs.Moves.{Commit, Revert, RaiseFloor, Finish}
-use Rattle.dr_model.specs.Carry.{Act, Make, Next, Pass, Do, End, Entry}
+use Rattle.dr_model.specs.Carry.{Act, Make, Next, Pass, Do, Entry}
 use Rattle.dr_model.specs.Entries.{fields_at}
 use Rattle.dr_model.specs.PairEntries.{send_refusal, reach_refusal, end_if, refuse_if}
-use Rattle.dr_model.specs.SessionEntries.{hold_refusal, stale_refusal, hold_on, void_refusal, free_on, seal_refusal, seal_on, is_flashed, flash_refusal, flash_on, is_committed, commit_refusal, commit_on, revert_on, is_past, finish_on, member_entries, members_on, order_entries}
+use Rattle.dr_model.specs.SessionEntries.{hold_refusal, stale_refusal, void_refusal, is_flashed, flash_refusal, is_committed, commit_refusal, commit_on, revert_on, is_past, finish_on, member_entries, members_on, order_entries}
 use Rattle.dr_model.specs.SessionPlans.{off_refusal}
 use Rattle.dr_model.specs.PlanParts.{Plan, unless, on_session}
 use Rattle.dr_model.specs.Groups.{In, IsOrder}
@@ -30,15 +30,14 @@ use Rattle.dr_laws_sessions.proofs.Changes.{session-found}
 use Rattle.dr_laws_sessions.proofs.Silent.{on-members, member-records}
 use Rattle.dr_laws_attempts.proofs.Orders.{newer, flash-passed, commit-passed}
 use Rattle.dr_laws_messages.proofs.Losses.{past-less}
-use Rattle.dr_laws_sound.proofs.KeepsSound.{MayDo}
 use Rattle.dr_laws_sound.proofs.Steps.{sound-run}
 use Rattle.dr_laws_sound.proofs.FitsFlash.{as_begun, sound-begun}
 use Rattle.dr_laws_sound.proofs.FitsSessions.{Orders}
 use Rattle.dr_laws_sound.proofs.FitsMessages.{orders-delivered}
 use Rattle.dr_laws_sound.proofs.Cases.{Reaches}
 use Rattle.dr_laws_sound.proofs.Rides.{Both}
-use Rattle.dr_laws_sound.proofs.Along as along
-use Rattle.dr_laws_recovery.proofs.Keeping.{MayFit, keeps-fit, Keeping, Goes, refused-goes, goes-unless, goes-moment, goes-ends, goes-after}
+use Rattle.dr_facts.proofs.Entries.{any_reason, FineThen, AllFine, fine-none, fine-flat}
+use Rattle.dr_laws_recovery.proofs.Keeping.{MayFit, keeps-fit, fit-along, Keeping, Goes, refused-goes, goes-unless, goes-moment, goes-ends, goes-after}
 use Rattle.dr_logic.proofs.Truth.{false_true}
 use Rattle.dr_laws_orders.specs.OlderNumbers.{IsOlder, LeavesVolumes, OlderOrdersLeaveVolumes}
 use Rattle.dr_laws_orders.proofs.Arrivals.{order-plan}
@@ -129,19 +128,19 @@ module _ (w : World) (sound : Sound w) (i : ℕ) (m : Message) (older : IsOlder 
 
   -- ---- the entries of an order
 
-  abbrev FitNext : World → Next → Type 0 → Type 0
-  FitNext u Pass more = more
-  FitNext u (End r) more = Unit {0}
-  FitNext u (Do a) more = Fit w sound n u a × more
-
   -- entries whose acts fit wherever they come
-  unfoldable AllFit : List Entry → Type 0
-  AllFit [] = Unit {0}
-  AllFit (d ∷ ds) = (u : World) → Law u → FitNext u (d u.control) (AllFit ds)
+  abbrev FitNext : World → Next → Type 0 → Type 0
+  FitNext = FineThen Law (Fit w sound n) any_reason
+
+  abbrev AllFit : List Entry → Type 0
+  AllFit = AllFine Law (Fit w sound n) any_reason
 
   fits : (d : Entry) (ds : List Entry) → ((u : World) → Law u → FitNext u (d u.control) (AllFit ds)) → AllFit (d ∷ ds)
-  unfolding AllFit
+  unfolding AllFine
   fits d ds go = go
+
+  none : AllFit []
+  none = fine-none Law (Fit w sound n) any_reason
 
   -- a check: what follows comes only where it passes
   refused : (why : Control → Option Refusal) (ds : List Entry) → ((u : World) → Law u → why u.control ≡ None → AllFit ds) → AllFit (refuse_if why ∷ ds)
@@ -155,7 +154,7 @@ module _ (w : World) (sound : Sound w) (i : ℕ) (m : Message) (older : IsOlder 
   never : (why : Control → Option Refusal) (ds : List Entry) → ((u : World) → Law u → why u.control ≡ None → ⊥) → AllFit (refuse_if why ∷ ds)
   never why ds fails = refused why ds (λ u h is. absurd (fails u h is))
 
-  module _ (q : Member) (here : In q x.members) (ds : List Entry) (go : AllFit ds) where
+  module _ (q : Member) (here : In q x.members) where
     -- no check of a Release or a Seal passes, nor does one of a Hold or a Flash
     unrecorded : (u : World) → Law u → void_refusal q.a.0 n u.control ≡ None → ⊥
     unrecorded u h passes = false_true (never-records q here u h) (met (records n (fields_at u.control q.a.0)) (Void n) passes)
@@ -175,61 +174,38 @@ module _ (w : World) (sound : Sound w) (i : ℕ) (m : Message) (older : IsOlder 
         omega arith
 
     -- a Revert takes nothing back, and may raise a floor; a Finish lets nothing go, and may raise an attempt
-    reverts : (u : World) → Law u → FitNext u (revert_on m.session q.a.0 q.c.0 n u.control) (AllFit ds)
+    reverts : (u : World) → Law u → FitNext u (revert_on m.session q.a.0 q.c.0 n u.control) (AllFit [])
     reverts u h =
-        subst (λ b. FitNext u (cond b (Do (Make (Revert q.c.0 q.a.0 m.session n))) (cond (nat_lt (fields_at u.control q.c.0).floor n) (Do (Make (RaiseFloor q.c.0 n))) Pass)) (AllFit ds)) (sym (never-flashed q here u h))
+        subst (λ b. FitNext u (cond b (Do (Make (Revert q.c.0 q.a.0 m.session n))) (cond (nat_lt (fields_at u.control q.c.0).floor n) (Do (Make (RaiseFloor q.c.0 n))) Pass)) (AllFit [])) (sym (never-flashed q here u h))
         (by (nat_lt (fields_at u.control q.c.0).floor n) refl)
       where
-        by : (b : Bool) → nat_lt (fields_at u.control q.c.0).floor n ≡ b → FitNext u (cond b (Do (Make (RaiseFloor q.c.0 n))) Pass) (AllFit ds)
-        by true is = ((refl, (let under : (fields_at u.control q.c.0).floor < n = ltb-true _ _ is in omega arith)), go)
-        by false is = go
+        by : (b : Bool) → nat_lt (fields_at u.control q.c.0).floor n ≡ b → FitNext u (cond b (Do (Make (RaiseFloor q.c.0 n))) Pass) (AllFit [])
+        by true is = ((refl, (let under : (fields_at u.control q.c.0).floor < n = ltb-true _ _ is in omega arith)), none)
+        by false is = none
 
-    finishes : (u : World) → Law u → FitNext u (finish_on q.a.0 n u.control) (AllFit ds)
+    finishes : (u : World) → Law u → FitNext u (finish_on q.a.0 n u.control) (AllFit [])
     finishes u h = by (is_past n (fields_at u.control q.a.0)) refl
       where
-        by : (b : Bool) → is_past n (fields_at u.control q.a.0) ≡ b → FitNext u (cond b Pass (Do (Make (Finish q.a.0 n)))) (AllFit ds)
-        by true is = go
-        by false is = ((refl, unpast-silent q here u h is), go)
+        by : (b : Bool) → is_past n (fields_at u.control q.a.0) ≡ b → FitNext u (cond b Pass (Do (Make (Finish q.a.0 n)))) (AllFit [])
+        by true is = none
+        by false is = ((refl, unpast-silent q here u h is), none)
 
     -- each order of an older number fits
-    fit-member : (work : phases.Work) → m.order.work ≡ work → AllFit (member_entries work m.session n q ++ ds)
-    fit-member phases.Hold is = refused (hold_refusal q.a.0 q.b.0) _ (λ u h free. never (stale_refusal q.a.0 n) (hold_on m.session q.a.0 n ∷ ds) (unheld is))
-    fit-member phases.Release is = never (void_refusal q.a.0 n) (free_on q.a.0 ∷ ds) unrecorded
-    fit-member phases.Seal is = never (void_refusal q.a.0 n) (refuse_if (seal_refusal q.a.0 q.b.0) ∷ seal_on m.session q.a.0 q.b.0 n ∷ ds) unrecorded
-    fit-member phases.Flash is = refused (send_refusal q.a.0 q.b.0) _ (λ u h sends. never (flash_refusal q.b.0 q.c.0 n) (flash_on m.session q.a.0 q.b.0 q.c.0 n ∷ ds) (unflashed is))
+    fit-member : (work : phases.Work) → m.order.work ≡ work → AllFit (member_entries work m.session n q)
+    fit-member phases.Hold is = refused (hold_refusal q.a.0 q.b.0) _ (λ u h free. never (stale_refusal q.a.0 n) _ (unheld is))
+    fit-member phases.Release is = never (void_refusal q.a.0 n) _ unrecorded
+    fit-member phases.Seal is = never (void_refusal q.a.0 n) _ unrecorded
+    fit-member phases.Flash is = refused (send_refusal q.a.0 q.b.0) _ (λ u h sends. never (flash_refusal q.b.0 q.c.0 n) _ (unflashed is))
     fit-member phases.Commit is =
         refused (send_refusal q.a.0 q.b.0) _ (λ u h sends.
-        refused (commit_refusal q.c.0 n) (commit_on m.session q.a.0 q.c.0 n ∷ ds) (λ u h passes.
-        fits (commit_on m.session q.a.0 q.c.0 n) ds (λ v k. subst (λ b. FitNext v (cond b Pass (Do (Make (Commit q.c.0 q.a.0 m.session n)))) (AllFit ds)) (sym (committed-there q here u v h k passes)) go)))
-    fit-member phases.Revert is = refused (send_refusal q.a.0 q.b.0) (revert_on m.session q.a.0 q.c.0 n ∷ ds) (λ u h sends. fits (revert_on m.session q.a.0 q.c.0 n) ds reverts)
-    fit-member phases.Finish is = fits (finish_on q.a.0 n) ds finishes
-    fit-member phases.Report is = refused (reach_refusal q.a.0 q.b.0) ds (λ u h near. go)
+        refused (commit_refusal q.c.0 n) _ (λ u h passes.
+        fits (commit_on m.session q.a.0 q.c.0 n) [] (λ v k. subst (λ b. FitNext v (cond b Pass (Do (Make (Commit q.c.0 q.a.0 m.session n)))) (AllFit [])) (sym (committed-there q here u v h k passes)) none)))
+    fit-member phases.Revert is = refused (send_refusal q.a.0 q.b.0) _ (λ u h sends. fits (revert_on m.session q.a.0 q.c.0 n) [] reverts)
+    fit-member phases.Finish is = fits (finish_on q.a.0 n) [] finishes
+    fit-member phases.Report is = refused (reach_refusal q.a.0 q.b.0) [] (λ u h near. none)
 
   fit-order : (qs : List Member) → ((q : Member) → In q qs → In q x.members) → AllFit (order_entries m.order.work m.session n qs)
-  unfolding AllFit
-  fit-order [] each = tt
-  fit-order (q ∷ qs) each = fit-member q (each q (inl refl)) (order_entries m.order.work m.session n qs) (fit-order qs (λ p h. each p (inr h))) m.order.work refl
-
-  -- ---- beside soundness
-
-  module _ (E : World → Type 0) (complete : (v : World) → E v → Sound v) where
-    abbrev To : World → List Entry → Type 0
-    To = along.Along Sound Sound E MayDo
-
-    abbrev Fits : World → List Entry → Type 0
-    Fits = along.Along I I I May
-
-    fit-next : (u : World) (d : Next) (ds : List Entry) → (AllFit ds → (v : World) → Law v → To v ds → Fits v ds) → Law u → FitNext u d (AllFit ds) → along.along_next Sound Sound MayDo u d (λ v. To v ds) → along.along_next I I May u d (λ v. Fits v ds)
-    fit-next u Pass ds on h fit a = on fit u h a
-    fit-next u (End r) ds on h fit a = (a, h)
-    fit-next u (Do b) ds on h fit a = ((a.0, fit.0), λ f j. on fit.1 _ j.1 (a.1 f j.0))
-
-    fit-along : (ds : List Entry) → AllFit ds → (u : World) → Law u → To u ds → Fits u ds
-    unfolding AllFit
-    fit-along [] fit u h a = along.along-nil I I I May u (complete u (along.along-ends Sound Sound E MayDo u a), h)
-    fit-along (d ∷ ds) fit u h a =
-        along.along-entry I I I May u d ds (d u.control) refl
-        (fit-next u (d u.control) ds (λ all v k a. fit-along ds all v k a) h (fit u h) (along.along-comes Sound Sound E MayDo u d ds (d u.control) refl a))
+  fit-order qs each = fine-flat Law (Fit w sound n) any_reason (member_entries m.order.work m.session n) qs (λ q here. fit-member q (each q here) m.order.work refl)
 
   -- ---- the plan
 
@@ -253,7 +229,7 @@ module _ (w : World) (sound : Sound w) (i : ℕ) (m : Message) (older : IsOlder 
       let h : Orders w (order_done m ms) = orders-delivered w sound i m older.order.starts x r reaches in
       record {
         begins = keeping.begins;
-        entries = fit-along h.ends h.complete (order_entries m.order.work m.session n ms) (fit-order ms (λ q h. (on-members m.server x.members q h).0)) (as_begun w) (as-begins w sound n) h.entries;
+        entries = fit-along Law (Fit w sound n) any_reason h.ends h.complete (order_entries m.order.work m.session n ms) (fit-order ms (λ q h. (on-members m.server x.members q h).0)) (as_begun w) (as-begins w sound n) h.entries;
         last = λ v h. h;
         follows = λ q. refl;
       }

@@ -44,11 +44,11 @@ HoldBegun es m = Unit {0}
 told-begun : (es : List Event) (m : Move) (u : Volume) → HoldBegun es m → AllBegun es → AllBegun (es ++ told m u)
 told-begun es (Hold v s n true) u h old = begun-opened es s n v old
 told-begun es (Hold v s n false) u h old = begun-cut es s n v h old
-told-begun es m u h old = begun-quiet es (told m u) (told-quiet m u tt) old
+told-begun es m u h old = begun-quiet es (told m u) (told-quiet m u refl) old
 
 in_stop-begun : (es : List Event) (m : Move) (u : Volume) → HoldBegun es m → AllBegun es → AllBegun (es ++ told_in_stop m u)
 in_stop-begun es (Hold v s n first) u h old = told-begun es (Hold v s n first) u h old
-in_stop-begun es m u h old = begun-quiet es (told_in_stop m u) (stop-quiet m u tt) old
+in_stop-begun es m u h old = begun-quiet es (told_in_stop m u) (stop-quiet m u refl) old
 
 stopped-begun : (es : List Event) (m : Move) (u : Volume) (x n : ℕ) → HoldBegun es m → AllBegun es → AllBegun (es ++ (told_in_stop m u ++ Stopped x n ∷ []))
 stopped-begun es m u x n h old = subst AllBegun (append_assoc es (told_in_stop m u) (Stopped x n ∷ [])) (begun-quiet (es ++ told_in_stop m u) (Stopped x n ∷ []) (tt, tt) (in_stop-begun es m u h old))
@@ -148,14 +148,9 @@ start-acts x = record { does = does; counts = counts; opens = λ w v i n f j k m
   where
     does : (w : World) (a : Act) (f : Option Fuse) → starts.Inner x w → Begun w → starts.MayStart x w a → Begun (after_act w a f)
     does w (Make (Restart v)) f j k may = begun-done w (Restart v) f (starts.may-restart x w v may) k
-    does w (Make m) f j k may = absurd may
-    does w (OpenAttempt v i n) f j k may = absurd may
     does w (Redo v) f j k may = record { cuts = k.cuts; forming = k.forming; flying = k.flying }
     does w (Acknowledge n) f j k may = begun-told w _ (Ack n ∷ []) refl refl refl (tt, tt) k
-    does w (Drop n) f j k may = absurd may
-    does w (EndFreeze l m) f j k may = absurd may
-    does w (EndThaw l m) f j k may = absurd may
-    does w (EndRecovery i n) f j k may = absurd may
+    does w a f j k may = absurd may
 
     counts : (w : World) (m : Move) (f : Option Fuse) → starts.Inner x w → Begun w → starts.MayMove x w m → Begun (done_in_stop w m f)
     counts w (Restart v) f j k may = begun-stop w (Restart v) f (starts.may-restart x w v may) k

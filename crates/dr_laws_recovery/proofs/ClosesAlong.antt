@@ -2,12 +2,11 @@
 use Rattle.std.proofs.Common.{ℕ, ◌≡◌, ◌<◌, ◌+◌, length, refl, ap, sym, ◌∙◌, subst, true, false, List, [], ◌∷◌, Option, Some, None}
 use Rattle.std.proofs.Math.Path.{fun_ext}
 use Rattle.std.proofs.lemmas.List.{append-nil}
-use Rattle.dr_logic.specs.Tables.{at}
 use Rattle.dr_model.specs.declared.event.Event.{Event}
 use Rattle.dr_model.specs.declared.event.Event.TheVariants.{Begin, Issue, Stopped, Frozen, Thawed, Recovered, Volume as VolumeDefined}
 use Rattle.dr_model.specs.Histories.{Histories, histories, lists}
 use Rattle.dr_model.specs.Control.{Pending, Volume, World, Fuse, is_volume, new_volume, nothing}
-use Rattle.dr_model.specs.Moves.{Move, Restart, Hold, is_other, landed, target, fields_left, keeps_staged, moved_keeping}
+use Rattle.dr_model.specs.Moves.{Move, Restart, Hold, is_other, landed, target}
 use Rattle.dr_model.specs.Entries.{fields_at}
 use Rattle.dr_model.specs.Carry.{Act, Make, OpenAttempt, Redo, Acknowledge, Drop, EndFreeze, EndThaw, EndRecovery, acknowledged, dropped, frozen, thawed, recovered}
 use Rattle.dr_model.specs.Plans.{has_landed}
@@ -121,14 +120,9 @@ module _ (x : ℕ) where
     where
       does : (w : World) (a : Act) (f : Option Fuse) → starts.Inner x w → Closes w → starts.MayStart x w a → Closing (after_act w a f)
       does w (Make (Restart v)) f j k may = closing-done (Some x) w j.sound k (Restart v) f (starts.may-restart x w v may)
-      does w (Make m) f j k may = absurd may
-      does w (OpenAttempt v i n) f j k may = absurd may
       does w (Redo v) f j k may = closing-pending w (fused w (server_at w v) f) k.1 refl refl refl refl k.1.free
       does w (Acknowledge n) f j k may = closing-acked w n j k.1 may
-      does w (Drop n) f j k may = absurd may
-      does w (EndFreeze l m) f j k may = absurd may
-      does w (EndThaw l m) f j k may = absurd may
-      does w (EndRecovery i n) f j k may = absurd may
+      does w a f j k may = absurd may
 
       counts : (w : World) (m : Move) (f : Option Fuse) → starts.Inner x w → Closes w → starts.MayMove x w m → Closing (done_in_stop w m f)
       counts w (Restart v) f j k may = closing-stop (Some x) w j.sound k (Restart v) f (starts.may-restart x w v may)

@@ -115,14 +115,9 @@ module _ (x : ℕ) where
     where
       does : (w : World) (a : Act) (f : Option Fuse) → starts.Inner x w → Counts w → starts.MayStart x w a → TargetsShowCuts (after_act w a f)
       does w (Make (Restart v)) f j k may = done-keeps (Some x) w j.sound k (Restart v) f (starts.may-restart x w v may)
-      does w (Make m) f j k may = absurd may
-      does w (OpenAttempt v i n) f j k may = absurd may
       does w (Redo v) f j k may = counted-told w (fused w (server_at w v) f) k.1 [] tt tt (sym (append-nil w.events)) refl refl refl
       does w (Acknowledge n) f j k may = acked-keeps w n j k.1 may
-      does w (Drop n) f j k may = absurd may
-      does w (EndFreeze l m) f j k may = absurd may
-      does w (EndThaw l m) f j k may = absurd may
-      does w (EndRecovery i n) f j k may = absurd may
+      does w a f j k may = absurd may
 
       counts : (w : World) (m : Move) (f : Option Fuse) → starts.Inner x w → Counts w → starts.MayMove x w m → TargetsShowCuts (done_in_stop w m f)
       counts w (Restart v) f j k may = stop-keeps (Some x) w j.sound k (Restart v) f (starts.may-restart x w v may)

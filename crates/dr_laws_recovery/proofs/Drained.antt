@@ -1,22 +1,20 @@
 -- Primaries that were drained have nothing left to send, and that stays so while others are drained and secondaries are sealed.
-use Rattle.std.proofs.Common.{ℕ, zero, suc, ◌≡◌, ◌≢◌, ◌≤◌, ◌<◌, ◌+◌, inl, inr, refl, ap, sym, ◌∙◌, subst, Bool, true, false, cond, not, ◌&&◌, ◌||◌, nat_eq, arith, List, [], ◌∷◌, map, Option, Some, None}
-use Rattle.std.specs.Prelude.{is_some}
-use Rattle.std.specs.FinSet.{contains, remove, len}
-use Rattle.std.specs.List.{list_any, range_with_len}
+use Rattle.std.proofs.Common.{ℕ, ◌≡◌, ◌≤◌, inl, inr, refl, ap, sym, ◌∙◌, subst, Bool, true, false, cond, not, ◌&&◌, ◌||◌, nat_eq, arith, List, [], ◌∷◌, Option, Some, None}
+use Rattle.std.specs.FinSet.{contains, len}
+use Rattle.std.specs.List.{list_any}
 use Rattle.std.proofs.lemmas.Bool.{and_parts, and_from, eq-eqb}
-use Rattle.std.proofs.lemmas.Bool.Decides.{eqb_tells}
 use Rattle.dr_ids.specs.declared.names.Member.{Member}
 use Rattle.dr_ids.specs.declared.refusal.Refusal.{Refusal}
 use Rattle.dr_ids.specs.declared.refusal.Refusal.TheVariants.{Void}
 use Rattle.dr_model.specs.Layout.{Tracks, Fields, is_part}
-use Rattle.dr_model.specs.Relations.{in_order, is_bare}
-use Rattle.dr_model.specs.Pairs.{is_pending, records, struck, is_last}
+use Rattle.dr_model.specs.Relations.{is_bare}
+use Rattle.dr_model.specs.Pairs.{is_pending, records}
 use Rattle.dr_model.specs.Control.{Control, Fuse, Volume, World}
 use Rattle.dr_model.specs.Sessions.{Session}
 use Rattle.dr_model.specs.Moves.{Move, Keep, Note, Store, Strike, Suspend, Seal, target, fields_left}
-use Rattle.dr_model.specs.Carry.{Act, Make, Pass, Do, End, Entry, Outcome, continue, carry, go, check}
-use Rattle.dr_model.specs.Entries.{fields_at, is_running, keep_on, keep_if, copies_from, running_check}
-use Rattle.dr_model.specs.PairEntries.{end_if, refuse_if, send_refusal, suspend_where, flashed_refusal, store_on, strike_on, send_entries, sends, is_copying, suspend_after}
+use Rattle.dr_model.specs.Carry.{Act, Make, Entry, Outcome, carry, go}
+use Rattle.dr_model.specs.Entries.{fields_at, is_running}
+use Rattle.dr_model.specs.PairEntries.{end_if, refuse_if, send_refusal, flashed_refusal, is_copying, suspend_after}
 use Rattle.dr_model.specs.SessionEntries.{void_refusal, is_drained, seal_refusal, seal_on, member_entries, order_entries}
 use Rattle.dr_model.specs.Phases as phases
 use Rattle.dr_model.specs.Plans.{Plan, drain_plan, is_defined, same}
@@ -24,25 +22,23 @@ use Rattle.dr_model.specs.Forming.{Way, goes_on, part, drains}
 use Rattle.dr_model.specs.Groups.{In}
 use Rattle.dr_model.specs.Laws.{Sound, Recorders}
 use Rattle.dr_model.specs.Table.{table}
-use Rattle.dr_model.specs.Allowed.{Runs}
-use Rattle.dr_model.proofs.CarryLemmas.{carry-none, carry-first}
-use Rattle.dr_facts.proofs.Lists.{to-filter}
-use Rattle.dr_facts.proofs.Tables.{IsOrNot, at_cases}
-use Rattle.dr_facts.proofs.Sets.{not_removed}
-use Rattle.dr_laws_sound.proofs.Turns.{done, next_of, after_act, act-cases}
+use Rattle.dr_model.proofs.CarryLemmas.{carry-first}
+use Rattle.dr_facts.proofs.Tables.{at_cases}
+use Rattle.dr_laws_sound.proofs.Turns.{after_act}
 use Rattle.dr_laws_sound.proofs.Spends.{len-low}
 use Rattle.dr_laws_sound.proofs.FitsFlash.{as_begun}
-use Rattle.dr_laws_sound.proofs.FitsPairs.{row, runs-done, part-same}
+use Rattle.dr_laws_sound.proofs.FitsPairs.{row, part-same}
 use Rattle.dr_laws_sound.proofs.Parts.{comes-drain}
 use Rattle.dr_laws_sound.proofs.Steps.{sound-part}
-use Rattle.dr_laws_sound.proofs.Turned.{passed-check as passed}
-use Rattle.dr_laws_recovery.proofs.Went.{Fine, AllFine, fine-none, fine-then, fine-append, fine-choice, fine-wider, carry-keeps, Split, carry-split, Went, part-went, goes-onward}
+use Rattle.dr_facts.proofs.Entries.{any_world, any_reason, why-any, fine-one, fine-flat, fine-check, fine-wider}
+use Rattle.dr_facts.proofs.SharedEntries.{where-fine, sends-fine}
+use Rattle.dr_laws_recovery.proofs.Emptied.{drain-empties}
+use Rattle.dr_laws_recovery.proofs.Went.{Each, each-refuse, carry-keeps, Split, carry-split, Went, part-went, goes-onward}
 use Rattle.dr_model.proofs.LawfulLemmas.{removed}
 use Rattle.dr_facts.proofs.Parts.{global-part}
 use Rattle.dr_facts.proofs.Refusals.{met}
 use Rattle.dr_logic.proofs.Truth.{false_true}
 use Rattle.dr_logic.proofs.Options.{none_some}
-use Rattle.dr_logic.proofs.Tables.{at_same}
 
 -- ---- moves that leave nothing more to send
 
@@ -55,176 +51,48 @@ Sends (Suspend v busy) = Unit {0}
 Sends (Seal v u s n) = Unit {0}
 Sends m = ⊥
 
-abbrev IsSend : Control → Act → Type 0
-IsSend k (Make m) = Sends m
-IsSend k a = ⊥
+abbrev IsSend : World → Act → Type 0
+IsSend w (Make m) = Sends m
+IsSend w a = ⊥
 
--- a primary in Copy Pending has only these tracks to send
-abbrev pub Within : List ℕ → Fields → Type 0
-Within ts f = (is_part f.primary && is_pending f.primary_state) ≡ true → (q : ℕ) → contains f.out_of_sync q ≡ true → In q ts
+-- a primary in Copy Pending has nothing to send
+abbrev pub SentAll : Fields → Type 0
+SentAll f = (is_part f.primary && is_pending f.primary_state) ≡ true → (q : ℕ) → contains f.out_of_sync q ≡ true → ⊥
 
-within-struck : (ts us : List ℕ) (last : Bool) (f : Fields) (t : ℕ) → ((q : ℕ) → contains (remove f.out_of_sync t) q ≡ true → In q ts → In q us) → Within ts f → Within us (struck last f t)
-within-struck ts us true f t on old = λ h. let no : false ≡ true = (and_parts (is_part f.primary) false h).1 in absurd cc
-within-struck ts us false f t on old = λ h q c. on q c (old h q (removed f.out_of_sync t q c))
+sent-left : (m : Move) (u : Volume) → Sends m → SentAll u.fields → SentAll (fields_left m u)
+sent-left (Keep v t) u is old = old
+sent-left (Note v t) u is old = old
+sent-left (Store v t from last) u is old = old
+sent-left (Strike v t true) u is old = λ h. let no : false ≡ true = (and_parts (is_part u.fields.primary) false h).1 in absurd cc
+sent-left (Strike v t false) u is old = λ h q c. old h q (removed u.fields.out_of_sync t q c)
+sent-left (Suspend v busy) u is old = λ h. let no : false ≡ true = (and_parts (is_part u.fields.primary) false h).1 in absurd cc
+sent-left (Seal v a s n) u is old = old
+sent-left m u is old = absurd is
 
-within-left : (m : Move) (ts : List ℕ) (u : Volume) → Sends m → Within ts u.fields → Within ts (fields_left m u)
-within-left (Keep v t) ts u is old = old
-within-left (Note v t) ts u is old = old
-within-left (Store v t from last) ts u is old = old
-within-left (Strike v t last) ts u is old = within-struck ts ts last u.fields t (λ q c h. h) old
-within-left (Suspend v busy) ts u is old = λ h. let no : false ≡ true = (and_parts (is_part u.fields.primary) false h).1 in absurd cc
-within-left (Seal v a s n) ts u is old = old
-within-left m ts u is old = absurd is
-
-within-done : (w : World) (m : Move) (f : Option Fuse) (a : ℕ) (ts us : List ℕ) → (Within ts (fields_at w.control (target m)) → Within us (next_of w m)) → ((q : ℕ) → q ≢ target m → Within ts (fields_at w.control q) → Within us (fields_at w.control q))
-    → Within ts (fields_at w.control a) → Within us (fields_at (done w m f).control a)
-within-done w m f a ts us here there = at_cases (λ j (y : Volume). Within ts (fields_at w.control j) → Within us y.fields) w.control.volume (target m) (row w m f) here there a
-
-within-act : (a : ℕ) (ts : List ℕ) (w : World) (x : Act) (f : Option Fuse) → IsSend w.control x → Within ts (fields_at w.control a) → Within ts (fields_at (after_act w x f).control a)
-within-act a ts w (Make m) f is old = within-done w m f a ts ts (within-left m ts (w.control.volume (target m)) is) (λ q ne h. h) old
-within-act a ts w x f is old = absurd is
+sent-act : (a : ℕ) (w : World) (x : Act) (f : Option Fuse) → IsSend w x → SentAll (fields_at w.control a) → SentAll (fields_at (after_act w x f).control a)
+sent-act a w (Make m) f is old =
+    at_cases (λ j (y : Volume). SentAll (fields_at w.control j) → SentAll y.fields) w.control.volume (target m) (row w m f) (sent-left m (w.control.volume (target m)) is) (λ q ne h. h) a old
+sent-act a w x f is old = absurd is
 
 -- and nothing of the sessions changes
-sessions-act : (ss : List Session) (w : World) (x : Act) (f : Option Fuse) → IsSend w.control x → w.control.sessions ≡ ss → (after_act w x f).control.sessions ≡ ss
+sessions-act : (ss : List Session) (w : World) (x : Act) (f : Option Fuse) → IsSend w x → w.control.sessions ≡ ss → (after_act w x f).control.sessions ≡ ss
 sessions-act ss w (Make m) f is old = old
 sessions-act ss w x f is old = absurd is
 
--- ---- a track is sent
-
-fine-refuse : (why : Control → Option Refusal) (k : Control) → Fine IsSend k (refuse_if why k)
-fine-refuse why k = by (why k)
-  where
-    by : (o : Option Refusal) → Fine IsSend k (end_if o)
-    by None = tt
-    by (Some r) = tt
-
-fine-keep : (b t u : ℕ) (k : Control) → Fine IsSend k (keep_on b t u k)
-fine-keep b t u k =
-    let f : Fields = fields_at k u in
-    fine-choice IsSend k (copies_from b f && not f.reversing) (keep_if f u t) Pass
-    (fine-choice IsSend k (not (contains f.own t)) (Do (Make (Keep u t))) _ tt (fine-choice IsSend k (f.recorded && not (contains f.source_changes t)) (Do (Make (Note u t))) Pass tt tt)) tt
-
-fine-copy : (b t : ℕ) (us : List ℕ) → AllFine IsSend (map (keep_on b t) us)
-fine-copy b t [] = fine-none IsSend
-fine-copy b t (u ∷ us) = fine-then IsSend (keep_on b t u) _ (fine-keep b t u) (fine-copy b t us)
-
--- what comes before the secondary stores a track
-abbrev before : List ℕ → ℕ → ℕ → ℕ → List Entry
-before volumes a b t = suspend_where (send_refusal a b) a ∷ refuse_if (send_refusal a b) ∷ refuse_if (flashed_refusal b) ∷ map (keep_on b t) volumes
-
-fine-before : (volumes : List ℕ) (a b t : ℕ) → AllFine IsSend (before volumes a b t)
-fine-before volumes a b t =
-    fine-then IsSend (suspend_where (send_refusal a b) a) _ (λ k. fine-choice IsSend k (is_some (send_refusal a b k)) _ Pass tt tt)
-    (fine-then IsSend (refuse_if (send_refusal a b)) _ (fine-refuse (send_refusal a b)) (fine-then IsSend (refuse_if (flashed_refusal b)) _ (fine-refuse (flashed_refusal b)) (fine-copy b t volumes)))
-
-fine-store : (a b t : ℕ) → AllFine IsSend (store_on a b t ∷ [])
-fine-store a b t = fine-then IsSend (store_on a b t) [] (λ k. tt) (fine-none IsSend)
-
-fine-strike : (a t : ℕ) → AllFine IsSend (strike_on a t ∷ [])
-fine-strike a t = fine-then IsSend (strike_on a t) [] (λ k. tt) (fine-none IsSend)
-
-fine-sends : (volumes : List ℕ) (a b : ℕ) (ts : List ℕ) → AllFine IsSend (sends volumes a b ts)
-fine-sends volumes a b [] = fine-none IsSend
-fine-sends volumes a b (t ∷ ts) =
-    fine-append IsSend (send_entries volumes a b t) (sends volumes a b ts)
-    (fine-append IsSend (before volumes a b t) (store_on a b t ∷ strike_on a t ∷ []) (fine-before volumes a b t) (fine-append IsSend (store_on a b t ∷ []) (strike_on a t ∷ []) (fine-store a b t) (fine-strike a t)))
-    (fine-sends volumes a b ts)
-
--- a primary whose server is on has these tracks to send
-record Sending (a : ℕ) (ts : List ℕ) (w : World) : Type 0 where
-  runs : Runs w a
-  within : Within ts (fields_at w.control a)
-
-sending-act : (a : ℕ) (ts : List ℕ) (w : World) (x : Act) (f : Option Fuse) → IsSend w.control x → Sending a ts w → Sending a ts (after_act w x f)
-sending-act a ts w (Make m) f is old = record { runs = runs-done w m f a old.runs; within = within-act a ts w (Make m) f is old.within }
-sending-act a ts w x f is old = absurd is
-
-sending-on : (a : ℕ) (ts : List ℕ) (w v : World) (ds : List Entry) → AllFine IsSend ds → carry w ds ≡ (v, None) → Sending a ts w → Sending a ts v
-sending-on a ts w v ds fine leads old = carry-keeps IsSend (Sending a ts) (sending-act a ts) w v ds fine leads old
-
--- it strikes the first one off
-struck-off : (a t : ℕ) (ts : List ℕ) (w v : World) → carry w (strike_on a t ∷ []) ≡ (v, None) → Sending a (t ∷ ts) w → Sending a ts v
-struck-off a t ts w v leads old =
-    act-cases w (Make m) (λ r. continue r.0 r.1 (λ u. carry u []) ≡ (v, None) → Sending a ts v)
-    (λ d off h. false_true off old.runs) (λ f h. subst (Sending a ts) (ap (λ (o : Outcome). o.0) (sym (carry-none (done w m f)) ∙ h)) (next f)) (λ f h. none_some (ap (λ (o : Outcome). o.1) h) refl) (λ d f h. none_some (ap (λ (o : Outcome). o.1) h) refl)
-    (sym (carry-first w (strike_on a t) [] (Do (Make m)) refl) ∙ leads)
-  where
-    m : Move
-    m = Strike a t (is_last (fields_at w.control a) t)
-
-    rest : (q : ℕ) (s : Tracks) → contains (remove s t) q ≡ true → In q (t ∷ ts) → In q ts
-    rest q s c (inl is) = false_true (ap (contains (remove s t)) is ∙ not_removed s t) c
-    rest q s c (inr there) = there
-
-    next : (f : Option Fuse) → Sending a ts (done w m f)
-    next f = record {
-      runs = runs-done w m f a old.runs;
-      within = ap-within (at_same w.control.volume a (row w m f)) (within-struck (t ∷ ts) ts (is_last (fields_at w.control a) t) (fields_at w.control a) t (λ q c h. rest q (fields_at w.control a).out_of_sync c h) old.within);
-    }
-      where
-        ap-within : {y z : Volume} → y ≡ z → Within ts z.fields → Within ts y.fields
-        ap-within e h = subst (λ (x : Volume). Within ts x.fields) (sym e) h
-
-sent-all : (volumes : List ℕ) (a b : ℕ) (ts : List ℕ) (w v : World) → carry w (sends volumes a b ts) ≡ (v, None) → Sending a ts w → Sending a [] v
-sent-all volumes a b [] w v leads old = subst (Sending a []) (ap (λ (o : Outcome). o.0) (sym (carry-none w) ∙ leads)) old
-sent-all volumes a b (t ∷ ts) w v leads old =
-    let one : Split w v (send_entries volumes a b t) (sends volumes a b ts) = carry-split w v (send_entries volumes a b t) (sends volumes a b ts) leads in
-    let two : Split w one.middle (before volumes a b t) (store_on a b t ∷ strike_on a t ∷ []) = carry-split w one.middle (before volumes a b t) (store_on a b t ∷ strike_on a t ∷ []) one.first in
-    let three : Split two.middle one.middle (store_on a b t ∷ []) (strike_on a t ∷ []) = carry-split two.middle one.middle (store_on a b t ∷ []) (strike_on a t ∷ []) two.rest in
-    let before_it : Sending a (t ∷ ts) two.middle = sending-on a (t ∷ ts) w two.middle (before volumes a b t) (fine-before volumes a b t) two.first old in
-    let stored : Sending a (t ∷ ts) three.middle = sending-on a (t ∷ ts) two.middle three.middle (store_on a b t ∷ []) (fine-store a b t) three.first before_it in
-    sent-all volumes a b ts one.middle v one.rest (struck-off a t ts three.middle one.middle three.rest stored)
-
 -- ---- a primary is drained
 
-fine-check : (ok : Control → Bool) (r : Refusal) (k : Control) → Fine IsSend k (check ok r k)
-fine-check ok r k = fine-choice IsSend k (ok k) Pass (End r) tt tt
-
--- the tracks of a set are in it in order
-in-range : (n b q : ℕ) → b < q + 1 → q < b + n → In q (range_with_len b n)
-in-range zero b q above below = absurd (omega (arith, above, below))
-in-range (suc n) b q above below = by (eqb_tells q b) (λ ne. in-range n (b + 1) q (omega (arith, ne, above)) (omega (arith, below)))
-  where
-    by : IsOrNot q b → (q ≢ b → In q (range_with_len (b + 1) n)) → In q (range_with_len b (suc n))
-    by (inl is) further = inl is.1
-    by (inr other) further = inr (further other.1)
-
-pub in-in_order : (n : ℕ) (s : Tracks) (q : ℕ) → q < n → contains s q ≡ true → In q (in_order n s)
-unfolding in_order
-in-in_order n s q low here = to-filter (contains s) (range_with_len 0 n) q (in-range n 0 q (omega arith) (omega (arith, low))) here
-
-module _ (w : World) (s : Sound w) (a : ℕ) where
-  abbrev k : Control
-  k = w.control
-
-  abbrev ts : List ℕ
-  ts = in_order (k.volume a).tracks (fields_at k a).out_of_sync
-
-  abbrev p : Plan
-  p = drain_plan k a None
-
-  fine-drain : AllFine IsSend p.entries
-  fine-drain =
-      fine-then IsSend (check (is_defined a) _) _ (fine-check (is_defined a) _) (fine-then IsSend (running_check k a) _ (fine-check (is_running a) _)
-      (fine-then IsSend (check (is_copying a) _) _ (fine-check (is_copying a) _) (fine-sends k.volumes a (fields_at k a).primary_partner ts)))
-
-  begins : Within ts (fields_at k a)
-  begins h q c = in-in_order (k.volume a).tracks (fields_at k a).out_of_sync q ((s.rows.structure.lawful a).sets.out_of_sync_low q c) c
-
-  drain-sends : (v : World) → carry (as_begun w) p.entries ≡ (v, None) → Within [] (fields_at v.control a)
-  drain-sends v leads =
-      let there = passed (as_begun w) v (is_defined a) _ _ leads in
-      let on = passed (as_begun w) v (is_running a) _ _ there.1 in
-      let copying = passed (as_begun w) v (is_copying a) _ _ on.1 in
-      (sent-all k.volumes a (fields_at k a).primary_partner ts (as_begun w) v copying.1 (record { runs = on.0; within = begins })).within
+fine-drain : (k : Control) (a : ℕ) → Each IsSend (drain_plan k a None).entries
+fine-drain k a =
+    fine-check any_world IsSend any_reason (is_defined a) _ _ tt (fine-check any_world IsSend any_reason (is_running a) _ _ tt (fine-check any_world IsSend any_reason (is_copying a) _ _ tt
+    (sends-fine any_world IsSend any_reason (λ u t w any. tt) (λ u t w any. tt) k.volumes a (fields_at k a).primary_partner (λ w any. tt) (λ t last w any. tt) (λ t last w any. tt) (λ j. why-any (send_refusal _ _ j)) (λ j. why-any (flashed_refusal _ j)) _)))
 
 -- What drains leave where none of them was refused: the sessions are as they were, who had nothing to send has nothing to send, and nor have those
 -- that were drained.
 pub record Drained (w : World) (ms : List Member) (u : World) : Type 0 where
   pub sound : Sound u
   pub sessions : u.control.sessions ≡ w.control.sessions
-  pub stays : (a : ℕ) → Within [] (fields_at w.control a) → Within [] (fields_at u.control a)
-  pub drained : (m : Member) → In m ms → Within [] (fields_at u.control m.a.0)
+  pub stays : (a : ℕ) → SentAll (fields_at w.control a) → SentAll (fields_at u.control a)
+  pub drained : (m : Member) → In m ms → SentAll (fields_at u.control m.a.0)
 
 module _ (w : World) (s : Sound w) (m : Member) where
   -- one of them
@@ -233,16 +101,16 @@ module _ (w : World) (s : Sound w) (m : Member) where
       let a : ℕ = m.a.0 in
       let p : Plan = drain_plan w.control a None in
       let went : Went w p.entries (suspend_after a) same p.says (λ k. refl) (part w p).world = part-went w p.entries (suspend_after a) same p.says (λ k. refl) none in
-      let dry : Within [] (fields_at (part w p).world.control a) = subst (λ (u : World). Within [] (fields_at u.control a)) (sym went.is) (drain-sends w s a went.led went.leads) in
+      let dry : SentAll (fields_at (part w p).world.control a) = subst (λ (u : World). SentAll (fields_at u.control a)) (sym went.is) (λ h q c. false_true (drain-empties w s a went.led went.leads q) c) in
       record {
         sound = subst Sound (sym went.after) (sound-part w p (comes-drain w a went.room) s);
-        sessions = ap (λ (u : World). u.control.sessions) went.is ∙ carry-keeps IsSend (λ u. u.control.sessions ≡ w.control.sessions) (sessions-act w.control.sessions) (as_begun w) went.led p.entries (fine-drain w s a) went.leads refl;
-        stays = λ j h. subst (λ (u : World). Within [] (fields_at u.control j)) (sym went.is) (carry-keeps IsSend (λ u. Within [] (fields_at u.control j)) (within-act j []) (as_begun w) went.led p.entries (fine-drain w s a) went.leads h);
+        sessions = ap (λ (u : World). u.control.sessions) went.is ∙ carry-keeps IsSend (λ u. u.control.sessions ≡ w.control.sessions) (sessions-act w.control.sessions) (as_begun w) went.led p.entries (fine-drain w.control a) went.leads refl;
+        stays = λ j h. subst (λ (u : World). SentAll (fields_at u.control j)) (sym went.is) (carry-keeps IsSend (λ u. SentAll (fields_at u.control j)) (sent-act j) (as_begun w) went.led p.entries (fine-drain w.control a) went.leads h);
         drained = λ q here. by (part w p).world q here dry;
       }
     where
-      by : (u : World) (q : Member) → In q (m ∷ []) → Within [] (fields_at u.control m.a.0) → Within [] (fields_at u.control q.a.0)
-      by u q (inl is) h = subst (λ (z : Member). Within [] (fields_at u.control z.a.0)) (sym is) h
+      by : (u : World) (q : Member) → In q (m ∷ []) → SentAll (fields_at u.control m.a.0) → SentAll (fields_at u.control q.a.0)
+      by u q (inl is) h = subst (λ (z : Member). SentAll (fields_at u.control z.a.0)) (sym is) h
       by u q (inr none) h = absurd none
 
 drained-then : (w v u : World) (m : Member) (ms : List Member) → Drained w (m ∷ []) v → Drained v ms u → Drained w (m ∷ ms) u
@@ -253,7 +121,7 @@ drained-then w v u m ms one rest = record {
   drained = by;
 }
   where
-    by : (q : Member) → In q (m ∷ ms) → Within [] (fields_at u.control q.a.0)
+    by : (q : Member) → In q (m ∷ ms) → SentAll (fields_at u.control q.a.0)
     by q (inl is) = rest.stays q.a.0 (one.drained q (inl is))
     by q (inr there) = rest.drained q there
 
@@ -261,7 +129,7 @@ drained-then w v u m ms one rest = record {
 drained-passed : (w : World) (s : Sound w) (m : Member) → is_copying m.a.0 w.control ≡ false → Drained w (m ∷ []) w
 drained-passed w s m not_so = record { sound = s; sessions = refl; stays = λ a h. h; drained = by }
   where
-    by : (q : Member) → In q (m ∷ []) → Within [] (fields_at w.control q.a.0)
+    by : (q : Member) → In q (m ∷ []) → SentAll (fields_at w.control q.a.0)
     by q (inl is) = λ h. false_true (ap (λ (z : Member). is_copying z.a.0 w.control) is ∙ not_so) h
     by q (inr none) = absurd none
 
@@ -286,36 +154,28 @@ abbrev Seals : Move → Type 0
 Seals (Seal v a s n) = Unit {0}
 Seals m = ⊥
 
-abbrev IsSeal : Control → Act → Type 0
-IsSeal k (Make m) = Seals m
-IsSeal k a = ⊥
+abbrev IsSeal : World → Act → Type 0
+IsSeal w (Make m) = Seals m
+IsSeal w a = ⊥
 
-seal-sends : (k : Control) (x : Act) → IsSeal k x → IsSend k x
-seal-sends k (Make (Seal v a s n)) is = tt
-seal-sends k (Make m) is = absurd is
-seal-sends k x is = absurd is
+seal-sends : (w : World) (x : Act) → any_world w → IsSeal w x → IsSend w x
+seal-sends w (Make (Seal v a s n)) any is = tt
+seal-sends w (Make m) any is = absurd is
+seal-sends w x any is = absurd is
 
 -- who records goes on recording
-recording-act : (a : ℕ) (w : World) (x : Act) (f : Option Fuse) → IsSeal w.control x → (fields_at w.control a).recording ≡ true → (fields_at (after_act w x f).control a).recording ≡ true
+recording-act : (a : ℕ) (w : World) (x : Act) (f : Option Fuse) → IsSeal w x → (fields_at w.control a).recording ≡ true → (fields_at (after_act w x f).control a).recording ≡ true
 recording-act a w (Make (Seal v u s n)) f is old = part-same w (Seal v u s n) f (λ (g : Fields). g.recording) refl a ∙ old
 recording-act a w (Make m) f is old = absurd is
 recording-act a w x f is old = absurd is
 
-refuse-seals : (why : Control → Option Refusal) (k : Control) → Fine IsSeal k (refuse_if why k)
-refuse-seals why k = by (why k)
-  where
-    by : (o : Option Refusal) → Fine IsSeal k (end_if o)
-    by None = tt
-    by (Some r) = tt
-
-member-seals : (i n : ℕ) (m : Member) → AllFine IsSeal (member_entries phases.Seal i n m)
+member-seals : (i n : ℕ) (m : Member) → Each IsSeal (member_entries phases.Seal i n m)
 member-seals i n m =
-    fine-then IsSeal (refuse_if (void_refusal m.a.0 n)) _ (refuse-seals (void_refusal m.a.0 n)) (fine-then IsSeal (refuse_if (seal_refusal m.a.0 m.b.0)) _ (refuse-seals (seal_refusal m.a.0 m.b.0))
-    (fine-then IsSeal (seal_on i m.a.0 m.b.0 n) [] (λ k. fine-choice IsSeal k (is_drained m.a.0 k && not (nat_eq (fields_at k m.b.0).seal n)) _ Pass tt tt) (fine-none IsSeal)))
+    each-refuse IsSeal (void_refusal m.a.0 n) _ (each-refuse IsSeal (seal_refusal m.a.0 m.b.0) _
+    (fine-one any_world IsSeal any_reason (seal_on i m.a.0 m.b.0 n) (where-fine any_world IsSeal any_reason (λ k. is_drained m.a.0 k && not (nat_eq (fields_at k m.b.0).seal n)) (Make (Seal m.b.0 m.a.0 i n)) (λ w any so. tt))))
 
-order-seals : (i n : ℕ) (ms : List Member) → AllFine IsSeal (order_entries phases.Seal i n ms)
-order-seals i n [] = fine-none IsSeal
-order-seals i n (m ∷ ms) = fine-append IsSeal (member_entries phases.Seal i n m) (order_entries phases.Seal i n ms) (member-seals i n m) (order-seals i n ms)
+order-seals : (i n : ℕ) (ms : List Member) → Each IsSeal (order_entries phases.Seal i n ms)
+order-seals i n ms = fine-flat any_world IsSeal any_reason (member_entries phases.Seal i n) ms (λ m here. member-seals i n m)
 
 refuse-passed : (w v : World) (why : Control → Option Refusal) (ds : List Entry) → carry w (refuse_if why ∷ ds) ≡ (v, None) → why w.control ≡ None
 refuse-passed w v why ds leads = by (why w.control) (sym (carry-first w (refuse_if why) ds (end_if (why w.control)) refl) ∙ leads)
@@ -352,7 +212,7 @@ none-bare : (s : Tracks) → ((q : ℕ) → contains s q ≡ true → ⊥) → i
 none-bare s none = let few : len s ≤ 0 = len-low 0 s (λ q h. absurd (none q h)) in let e : len s ≡ 0 = omega (arith, few) in eq-eqb (len s) 0 e
 
 -- and where nothing was left to send of those in Copy Pending, nothing is left that their seals have to wait for
-pub seals-done : (i n : ℕ) (ms : List Member) (w v : World) → carry w (order_entries phases.Seal i n ms) ≡ (v, None) → ((m : Member) → In m ms → Within [] (fields_at w.control m.a.0)) → Recorders (table v) → list_any (λ (m : Member). not (is_drained m.a.0 v.control)) ms ≡ false
+pub seals-done : (i n : ℕ) (ms : List Member) (w v : World) → carry w (order_entries phases.Seal i n ms) ≡ (v, None) → ((m : Member) → In m ms → SentAll (fields_at w.control m.a.0)) → Recorders (table v) → list_any (λ (m : Member). not (is_drained m.a.0 v.control)) ms ≡ false
 seals-done i n ms w v leads dry records = none-any (λ (m : Member). not (is_drained m.a.0 v.control)) ms each
   where
     each : (m : Member) → In m ms → not (is_drained m.a.0 v.control) ≡ false
@@ -361,5 +221,5 @@ seals-done i n ms w v leads dry records = none-any (λ (m : Member). not (is_dra
         let recording : f.recording ≡ true = seals-record i n ms w v leads m here in
         let row = records m.a.0 in
         let copying : (is_part f.primary && is_pending f.primary_state) ≡ true = and_from (is_part f.primary) _ (global-part f.primary (row.global recording)) (row.pending recording) in
-        let still : Within [] f = carry-keeps IsSend (λ u. Within [] (fields_at u.control m.a.0)) (within-act m.a.0 []) w v (order_entries phases.Seal i n ms) (fine-wider IsSeal IsSend seal-sends (order_entries phases.Seal i n ms) (order-seals i n ms)) leads (dry m here) in
+        let still : SentAll f = carry-keeps IsSend (λ u. SentAll (fields_at u.control m.a.0)) (sent-act m.a.0) w v (order_entries phases.Seal i n ms) (fine-wider any_world any_world IsSeal IsSend any_reason any_reason (λ w any. any) seal-sends (λ r why. tt) (order_entries phases.Seal i n ms) (order-seals i n ms)) leads (dry m here) in
         ap not (none-bare f.out_of_sync (λ q c. still copying q c))

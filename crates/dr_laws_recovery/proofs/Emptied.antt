@@ -1,18 +1,20 @@
 -- A drain of all tracks that ends well leaves nothing out of sync, also where its pair is Full Duplex then.
-use Rattle.std.proofs.Common.{ℕ, ◌≡◌, inl, inr, refl, ap, sym, ◌∙◌, subst, true, false, cond, not, ◌&&◌, List, [], ◌∷◌, map, Option, Some, None}
+use Rattle.std.proofs.Common.{ℕ, zero, suc, ◌≡◌, ◌≢◌, ◌<◌, ◌+◌, inl, inr, refl, ap, sym, ◌∙◌, subst, true, false, cond, not, arith, List, [], ◌∷◌, Option, Some, None}
 use Rattle.std.specs.Prelude.{is_some}
 use Rattle.std.specs.Option.{option_or}
 use Rattle.std.specs.FinSet.{contains, remove}
+use Rattle.std.specs.List.{range_with_len}
+use Rattle.std.proofs.lemmas.Bool.Decides.{eqb_tells}
 use Rattle.dr_ids.specs.declared.refusal.Refusal.{Refusal}
 use Rattle.dr_ids.specs.declared.refusal.Kind.TheVariants.{Path as OfPath}
 use Rattle.dr_model.specs.Refusals.{unknown, server_off}
-use Rattle.dr_model.specs.Layout.{Fields}
+use Rattle.dr_model.specs.Layout.{Tracks, Fields}
 use Rattle.dr_model.specs.Relations.{in_order}
 use Rattle.dr_model.specs.Pairs.{is_secondary_of, is_last}
 use Rattle.dr_model.specs.Control.{Control, Fuse, Volume, World}
 use Rattle.dr_model.specs.Moves.{Move, Keep, Note, Store, Strike, Suspend}
 use Rattle.dr_model.specs.Carry.{Act, Make, Pass, Do, Entry, carry}
-use Rattle.dr_model.specs.Entries.{fields_at, is_running, keep_on, keep_if, copies_from, copy_first, pair_state}
+use Rattle.dr_model.specs.Entries.{fields_at, is_running, copy_first, pair_state}
 use Rattle.dr_model.specs.PairEntries.{link_down, has_path, reach_refusal, belongs_to, refuse_if, send_refusal, suspend_where, flashed_refusal, store_on, strike_on, send_entries, sends, is_copying}
 use Rattle.dr_model.specs.Plans.{drain_plan, is_defined}
 use Rattle.dr_model.specs.Groups.{In}
@@ -21,7 +23,8 @@ use Rattle.dr_model.specs.Allowed.{Runs}
 use Rattle.dr_model.proofs.CarryLemmas.{carry-skips}
 use Rattle.dr_facts.proofs.Refusals.{none-both, met}
 use Rattle.dr_facts.proofs.Sets.{not_removed}
-use Rattle.dr_facts.proofs.Tables.{at_part}
+use Rattle.dr_facts.proofs.Lists.{to-filter}
+use Rattle.dr_facts.proofs.Tables.{IsOrNot, at_part}
 use Rattle.dr_model.proofs.LawfulLemmas.{removed}
 use Rattle.dr_laws_sound.specs.Turning.{Leaves}
 use Rattle.dr_laws_sound.proofs.Turns.{done, after_act}
@@ -30,12 +33,26 @@ use Rattle.dr_laws_sound.proofs.FitsPairs.{row, runs-done, part-same}
 use Rattle.dr_laws_sound.proofs.FitsDrain.{along-drain}
 use Rattle.dr_laws_sound.proofs.CopyFirst.{unturned}
 use Rattle.dr_laws_sound.proofs.Turned.{passed-check, passed-refuse, move-led, nothing-left, sound-led, pair-equal}
-use Rattle.dr_laws_recovery.proofs.Went.{AllFine, fine-none, fine-then, fine-choice, carry-keeps, Split, carry-split}
+use Rattle.dr_facts.proofs.Entries.{any_world, any_reason, fine-one}
+use Rattle.dr_facts.proofs.SharedEntries.{copies-fine}
+use Rattle.dr_laws_recovery.proofs.Went.{carry-keeps, Split, carry-split}
 use Rattle.dr_laws_recovery.specs.Emptied.{IsEmptied, EqualAfter}
-use Rattle.dr_laws_recovery.proofs.Drained.{in-in_order}
 use Rattle.dr_logic.proofs.Truth.{false_true}
 use Rattle.dr_logic.proofs.Options.{none_some}
 use Rattle.dr_logic.proofs.Tables.{at_same}
+
+-- the tracks of a set are in it in order
+in-range : (n b q : ℕ) → b < q + 1 → q < b + n → In q (range_with_len b n)
+in-range zero b q above below = absurd (omega (arith, above, below))
+in-range (suc n) b q above below = by (eqb_tells q b) (λ ne. in-range n (b + 1) q (omega (arith, ne, above)) (omega (arith, below)))
+  where
+    by : IsOrNot q b → (q ≢ b → In q (range_with_len (b + 1) n)) → In q (range_with_len b (suc n))
+    by (inl is) further = inl is.1
+    by (inr other) further = inr (further other.1)
+
+in-in_order : (n : ℕ) (s : Tracks) (q : ℕ) → q < n → contains s q ≡ true → In q (in_order n s)
+unfolding in_order
+in-in_order n s q low here = to-filter (contains s) (range_with_len 0 n) q (in-range n 0 q (omega arith) (omega (arith, low))) here
 
 -- moves that leave what is out of sync
 abbrev Stays : Move → Type 0
@@ -44,9 +61,9 @@ Stays (Note v t) = Unit {0}
 Stays (Store v t u last) = Unit {0}
 Stays m = ⊥
 
-abbrev Ok : Control → Act → Type 0
-Ok k (Make m) = Stays m
-Ok k a = ⊥
+abbrev Ok : World → Act → Type 0
+Ok w (Make m) = Stays m
+Ok w a = ⊥
 
 module _ (a b : ℕ) where
   -- the server of a is on, and what is out of sync there is one of these tracks
@@ -60,17 +77,9 @@ module _ (a b : ℕ) where
   same-out w (Store v t u last) f is = part-same w (Store v t u last) f (λ (g : Fields). g.out_of_sync) refl a
   same-out w m f is = absurd is
 
-  leaving-act : (ts : List ℕ) (w : World) (x : Act) (f : Option Fuse) → Ok w.control x → Leaving ts w → Leaving ts (after_act w x f)
+  leaving-act : (ts : List ℕ) (w : World) (x : Act) (f : Option Fuse) → Ok w x → Leaving ts w → Leaving ts (after_act w x f)
   leaving-act ts w (Make m) f is old = record { runs = runs-done w m f a old.runs; rest = λ q h. old.rest q (sym (ap (λ s. contains s q) (same-out w m f is)) ∙ h) }
   leaving-act ts w x f is old = absurd is
-
-  -- what keeps the secondary's targets, and stores the track
-  keeps-fine : (t : ℕ) (us : List ℕ) → AllFine Ok (map (keep_on b t) us)
-  keeps-fine t [] = fine-none Ok
-  keeps-fine t (u ∷ us) = fine-then Ok (keep_on b t u) _ (λ k. let f : Fields = fields_at k u in
-      fine-choice Ok k (copies_from b f && not f.reversing) (keep_if f u t) Pass
-      (fine-choice Ok k (not (contains f.own t)) (Do (Make (Keep u t))) _ tt (fine-choice Ok k (f.recorded && not (contains f.source_changes t)) (Do (Make (Note u t))) Pass tt tt)) tt)
-      (keeps-fine t us)
 
   -- a suspension leaves why a track can't be sent, so the plan ends behind it
   module _ (w : World) (f : Option Fuse) where
@@ -95,16 +104,24 @@ module _ (a b : ℕ) where
         ap (λ o. option_or o (cond (belongs_to a b w.control) None (Some (pair_state w.control b)))) (sym still-reach ∙ parts.0)
         ∙ ap (λ c. cond c None (Some (pair_state w.control b))) belongs
 
-  passed-sends : (w v : World) (ds : List Entry) → Runs w a → carry w (suspend_where (send_refusal a b) a ∷ refuse_if (send_refusal a b) ∷ ds) ≡ (v, None) → carry w ds ≡ (v, None)
-  passed-sends w v ds on leads = by (send_refusal a b w.control) refl
+  -- so a send that isn't refused finds the secondary in place and reached
+  pub record Sendable (w v : World) (ds : List Entry) : Type 0 where
+    pub free : send_refusal a b w.control ≡ None
+    pub leads : carry w ds ≡ (v, None)
+
+  pub can-send : (w v : World) (ds : List Entry) → Runs w a → carry w (suspend_where (send_refusal a b) a ∷ refuse_if (send_refusal a b) ∷ ds) ≡ (v, None) → Sendable w v ds
+  can-send w v ds on leads = by (send_refusal a b w.control) refl
     where
       d : Entry
       d = suspend_where (send_refusal a b) a
 
-      by : (o : Option Refusal) → send_refusal a b w.control ≡ o → carry w ds ≡ (v, None)
-      by None is = (passed-refuse w v (send_refusal a b) ds (sym (carry-skips w d (refuse_if (send_refusal a b) ∷ ds) (ap (λ o. cond (is_some o) (Do (Make (Suspend a false))) Pass) is)) ∙ leads)).1
+      comes : (o : Option Refusal) → send_refusal a b w.control ≡ o → d w.control ≡ cond (is_some o) (Do (Make (Suspend a false))) Pass
+      comes o is = ap (λ o. cond (is_some o) (Do (Make (Suspend a false))) Pass) is
+
+      by : (o : Option Refusal) → send_refusal a b w.control ≡ o → Sendable w v ds
+      by None is = record { free = is; leads = (passed-refuse w v (send_refusal a b) ds (sym (carry-skips w d (refuse_if (send_refusal a b) ∷ ds) (comes None is)) ∙ leads)).1 }
       by (Some r) is =
-          let led = move-led w v d (Suspend a false) (refuse_if (send_refusal a b) ∷ ds) (ap (λ o. cond (is_some o) (Do (Make (Suspend a false))) Pass) is) on leads in
+          let led = move-led w v d (Suspend a false) (refuse_if (send_refusal a b) ∷ ds) (comes (Some r) is) on leads in
           none_some (still-sends w led.fuse (passed-refuse (done w (Suspend a false) led.fuse) v (send_refusal a b) ds led.leads).0) is
 
   -- a track is struck off
@@ -125,11 +142,11 @@ module _ (a b : ℕ) where
   sent-left volumes [] w v leads old = subst (Leaving []) (nothing-left w v leads) old
   sent-left volumes (t ∷ ts) w v leads old =
       let one : Split w v (send_entries volumes a b t) (sends volumes a b ts) = carry-split w v (send_entries volumes a b t) (sends volumes a b ts) leads in
-      let free = (passed-refuse w one.middle (flashed_refusal b) _ (passed-sends w one.middle _ old.runs one.first)).1 in
+      let free = (passed-refuse w one.middle (flashed_refusal b) _ (can-send w one.middle _ old.runs one.first).leads).1 in
       let two : Split w one.middle (copy_first volumes b t) (store_on a b t ∷ strike_on a t ∷ []) = carry-split w one.middle (copy_first volumes b t) (store_on a b t ∷ strike_on a t ∷ []) free in
       let three : Split two.middle one.middle (store_on a b t ∷ []) (strike_on a t ∷ []) = carry-split two.middle one.middle (store_on a b t ∷ []) (strike_on a t ∷ []) two.rest in
-      let kept = carry-keeps Ok (Leaving (t ∷ ts)) (leaving-act (t ∷ ts)) w two.middle (copy_first volumes b t) (keeps-fine t volumes) two.first old in
-      let stored = carry-keeps Ok (Leaving (t ∷ ts)) (leaving-act (t ∷ ts)) two.middle three.middle (store_on a b t ∷ []) (fine-then Ok (store_on a b t) [] (λ k. tt) (fine-none Ok)) three.first kept in
+      let kept = carry-keeps Ok (Leaving (t ∷ ts)) (leaving-act (t ∷ ts)) w two.middle (copy_first volumes b t) (copies-fine any_world Ok any_reason (λ u t w any. tt) (λ u t w any. tt) volumes b t) two.first old in
+      let stored = carry-keeps Ok (Leaving (t ∷ ts)) (leaving-act (t ∷ ts)) two.middle three.middle (store_on a b t ∷ []) (fine-one any_world Ok any_reason (store_on a b t) (λ w any. tt)) three.first kept in
       sent-left volumes ts one.middle v one.rest (struck-left t ts three.middle one.middle three.rest stored)
 
 module _ (w : World) (s : Sound w) (a : ℕ) where

@@ -1,5 +1,5 @@
 -- Laws that hold along every exchange and every delivery: what an order's entries do to the members that they are about.
-use Rattle.std.proofs.Common.{ℕ, ◌≡◌, inl, inr, refl, Bool, true, false, cond, not, ◌&&◌, nat_eq, nat_lt, List, [], ◌∷◌, ◌++◌, Option, Some, None}
+use Rattle.std.proofs.Common.{ℕ, ◌≡◌, refl, Bool, true, false, cond, not, ◌&&◌, nat_eq, nat_lt, List, [], ◌∷◌, Option, Some, None}
 use Rattle.dr_ids.specs.declared.names.Member.{Member}
 use Rattle.dr_ids.specs.declared.refusal.PhaseName.TheVariants as phase
 use Rattle.dr_ids.specs.declared.refusal.Refusal.{Refusal}
@@ -13,7 +13,7 @@ use Rattle.dr_model.specs.Phases as phases
 use Rattle.dr_model.specs.Sessions.{Session, Mirror, session_in, mirror_in, members_in}
 use Rattle.dr_model.specs.Pairs.{records}
 use Rattle.dr_model.specs.Moves.{Hold, Free, Seal, Flash, Commit, Revert, RaiseFloor, Finish}
-use Rattle.dr_model.specs.Carry.{Act, Make, OpenAttempt, Next, Pass, Do, End, Entry}
+use Rattle.dr_model.specs.Carry.{Act, Make, OpenAttempt, Next, Pass, Entry}
 use Rattle.dr_model.specs.Entries.{fields_at}
 use Rattle.dr_model.specs.PairEntries.{send_refusal, reach_refusal, end_if, refuse_if}
 use Rattle.dr_model.specs.SessionEntries.{last_of, hold_refusal, stale_refusal, hold_on, void_refusal, free_on, is_drained, seal_refusal, seal_on, is_flashed, flash_refusal, flash_on, is_committed, commit_refusal, commit_on, revert_on, is_past, finish_on, member_entries, members_on, order_entries}
@@ -25,14 +25,14 @@ use Rattle.dr_model.specs.Carried.{begun}
 use Rattle.dr_model.specs.Groups.{In}
 use Rattle.dr_model.specs.Laws.{Sound}
 use Rattle.dr_laws_sessions.proofs.Silent.{on-members}
-use Rattle.dr_laws_sound.proofs.KeepsSound.{MayDo}
 use Rattle.dr_laws_sound.proofs.FitsFlash.{as_begun, sound-begun}
 use Rattle.dr_laws_sound.proofs.FitsSessions.{Orders}
 use Rattle.dr_laws_sound.proofs.FitsExchanges.{orders-ordered}
 use Rattle.dr_laws_sound.proofs.FitsMessages.{orders-delivered, sound-taken}
 use Rattle.dr_laws_sound.proofs.Cases.{Ordered, Arrives, Reaches, Returns, ordered, taken}
 use Rattle.dr_laws_sound.proofs.Rides.{Rides, Both}
-use Rattle.dr_laws_recovery.proofs.Keeping.{MayFit, keeps-fit, Keeping, Goes, refused-goes, goes-unless}
+use Rattle.dr_facts.proofs.Entries.{any_reason, Fine, FineThen, AllFine, fine-none, fine-then, fine-flat, fine-if}
+use Rattle.dr_laws_recovery.proofs.Keeping.{MayFit, keeps-fit, fit-along, Keeping, Goes, refused-goes, goes-unless}
 use Rattle.dr_laws_sound.proofs.Along as along
 
 -- ---- the acts of an exchange
@@ -71,96 +71,61 @@ module _ (w : World) (sound : Sound w) (W : World → Type 0) (x : Exchanging w 
 
   -- ---- entries whose acts fit wherever they come
 
-  abbrev FitNext : Next → Type 0 → Type 0
-  FitNext Pass more = more
-  FitNext (End r) more = Unit {0}
-  FitNext (Do a) more = x.fit a × more
+  abbrev AllFit : List Entry → Type 0
+  AllFit = AllFine x.law (λ u. x.fit) any_reason
 
-  unfoldable AllFit : List Entry → Type 0
-  AllFit [] = Unit {0}
-  AllFit (d ∷ ds) = (u : World) → x.law u → FitNext (d u.control) (AllFit ds)
+  abbrev FitNext : World → Next → Type 0 → Type 0
+  FitNext = FineThen x.law (λ u. x.fit) any_reason
 
-  fits : (d : Entry) (ds : List Entry) → ((u : World) → x.law u → FitNext (d u.control) (AllFit ds)) → AllFit (d ∷ ds)
-  unfolding AllFit
+  fits : (d : Entry) (ds : List Entry) → ((u : World) → x.law u → FitNext u (d u.control) (AllFit ds)) → AllFit (d ∷ ds)
+  unfolding AllFine
   fits d ds go = go
 
   -- a check: what follows comes only where it passes
   refused : (why : Control → Option Refusal) (ds : List Entry) → ((u : World) → x.law u → why u.control ≡ None → AllFit ds) → AllFit (refuse_if why ∷ ds)
-  refused why ds go = fits (refuse_if why) ds (λ u h. by (why u.control) (go u h))
+  refused why ds go = fits (refuse_if why) ds (λ u h. by u (why u.control) (go u h))
     where
-      by : (o : Option Refusal) → (o ≡ None → AllFit ds) → FitNext (end_if o) (AllFit ds)
-      by None go = go refl
-      by (Some r) go = tt
+      by : (u : World) (o : Option Refusal) → (o ≡ None → AllFit ds) → FitNext u (end_if o) (AllFit ds)
+      by u None go = go refl
+      by u (Some r) go = tt
 
-  does-if : (b : Bool) (a : Act) (more : Type 0) → x.fit a → more → FitNext (cond b (Do a) Pass) more
-  does-if true a more fit go = (fit, go)
-  does-if false a more fit go = go
+  none : AllFit []
+  none = fine-none x.law (λ u. x.fit) any_reason
 
-  does-else : (b : Bool) (a : Act) (more : Type 0) → x.fit a → more → FitNext (cond b Pass (Do a)) more
-  does-else true a more fit go = go
-  does-else false a more fit go = (fit, go)
+  does : (d : Entry) (ds : List Entry) → ((u : World) → x.law u → Fine x.law (λ u. x.fit) any_reason u (d u.control)) → AllFit ds → AllFit (d ∷ ds)
+  does = fine-then x.law (λ u. x.fit) any_reason
 
-  module _ (E : World → Type 0) (complete : (v : World) → E v → Sound v) where
-    abbrev To : World → List Entry → Type 0
-    To = along.Along Sound Sound E MayDo
-
-    abbrev Fits : World → List Entry → Type 0
-    Fits = along.Along I I I May
-
-    fit-next : (u : World) (d : Next) (ds : List Entry) (all : Type 0) → (all → (v : World) → x.law v → To v ds → Fits v ds) → x.law u → FitNext d all → along.along_next Sound Sound MayDo u d (λ v. To v ds) → along.along_next I I May u d (λ v. Fits v ds)
-    fit-next u Pass ds all on h fit a = on fit u h a
-    fit-next u (End r) ds all on h fit a = (a, h)
-    fit-next u (Do b) ds all on h fit a = ((a.0, fit.0), λ f j. on fit.1 _ j.1 (a.1 f j.0))
-
-    fit-along : (ds : List Entry) → AllFit ds → (u : World) → x.law u → To u ds → Fits u ds
-    unfolding AllFit
-    fit-along [] fit u h a = along.along-nil I I I May u (complete u (along.along-ends Sound Sound E MayDo u a), h)
-    fit-along (d ∷ ds) fit u h a =
-        along.along-entry I I I May u d ds (d u.control) refl
-        (fit-next u (d u.control) ds (AllFit ds) (λ all v k a. fit-along ds all v k a) h (fit u h) (along.along-comes Sound Sound E MayDo u d ds (d u.control) refl a))
+  if : (u : World) (b : Bool) (p q : Next) → Fine x.law (λ u. x.fit) any_reason u p → Fine x.law (λ u. x.fit) any_reason u q → Fine x.law (λ u. x.fit) any_reason u (cond b p q)
+  if = fine-if x.law (λ u. x.fit) any_reason
 
   -- ---- the entries of an order
 
-  fit-member : (work : phases.Work) (s n : ℕ) (q : Member) → FitsMember x.law x.fit s q → (ds : List Entry) → AllFit ds → AllFit (member_entries work s n q ++ ds)
-  fit-member phases.Hold s n q m ds go =
-      refused (hold_refusal q.a.0 q.b.0) (refuse_if (stale_refusal q.a.0 n) ∷ hold_on s q.a.0 n ∷ ds) (λ u h free.
-      refused (stale_refusal q.a.0 n) (hold_on s q.a.0 n ∷ ds) (λ u h stale.
-      fits (hold_on s q.a.0 n) ds (λ u h. does-else (records n (fields_at u.control q.a.0)) _ (AllFit ds) (by (nat_lt (last_of u.control s) n)) go)))
+  fit-member : (work : phases.Work) (s n : ℕ) (q : Member) → FitsMember x.law x.fit s q → AllFit (member_entries work s n q)
+  fit-member phases.Hold s n q m =
+      refused (hold_refusal q.a.0 q.b.0) _ (λ u h free. refused (stale_refusal q.a.0 n) _ (λ u h stale.
+      does (hold_on s q.a.0 n) [] (λ u h. if u (records n (fields_at u.control q.a.0)) Pass _ tt (by (nat_lt (last_of u.control s) n))) none))
     where
       by : (b : Bool) → x.fit (cond b (OpenAttempt q.a.0 s n) (Make (Hold q.a.0 s n false)))
       by true = m.opens n
       by false = m.holds n
-  fit-member phases.Release s n q m ds go =
-      refused (void_refusal q.a.0 n) (free_on q.a.0 ∷ ds) (λ u h void.
-      fits (free_on q.a.0) ds (λ u h. does-if (fields_at u.control q.a.0).coordination (Make (Free q.a.0)) (AllFit ds) m.frees go))
-  fit-member phases.Seal s n q m ds go =
-      refused (void_refusal q.a.0 n) (refuse_if (seal_refusal q.a.0 q.b.0) ∷ seal_on s q.a.0 q.b.0 n ∷ ds) (λ u h void.
-      refused (seal_refusal q.a.0 q.b.0) (seal_on s q.a.0 q.b.0 n ∷ ds) (λ u h free.
-      fits (seal_on s q.a.0 q.b.0 n) ds (λ u h. does-if (is_drained q.a.0 u.control && not (nat_eq (fields_at u.control q.b.0).seal n)) (Make (Seal q.b.0 q.a.0 s n)) (AllFit ds) (m.seals n) go)))
-  fit-member phases.Flash s n q m ds go =
-      refused (send_refusal q.a.0 q.b.0) (refuse_if (flash_refusal q.b.0 q.c.0 n) ∷ flash_on s q.a.0 q.b.0 q.c.0 n ∷ ds) (λ u h sends.
-      refused (flash_refusal q.b.0 q.c.0 n) (flash_on s q.a.0 q.b.0 q.c.0 n ∷ ds) (λ v k free.
-      fits (flash_on s q.a.0 q.b.0 q.c.0 n) ds (λ v k. does-else (is_flashed n (fields_at v.control q.c.0)) (Make (Flash q.c.0 q.b.0 q.a.0 s n)) (AllFit ds) (m.flashes u h sends n) go)))
-  fit-member phases.Commit s n q m ds go =
-      refused (send_refusal q.a.0 q.b.0) (refuse_if (commit_refusal q.c.0 n) ∷ commit_on s q.a.0 q.c.0 n ∷ ds) (λ u h sends.
-      refused (commit_refusal q.c.0 n) (commit_on s q.a.0 q.c.0 n ∷ ds) (λ v k free.
-      fits (commit_on s q.a.0 q.c.0 n) ds (λ v k. does-else (is_committed n (fields_at v.control q.c.0)) (Make (Commit q.c.0 q.a.0 s n)) (AllFit ds) (m.commits u h sends n) go)))
-  fit-member phases.Revert s n q m ds go =
-      refused (send_refusal q.a.0 q.b.0) (revert_on s q.a.0 q.c.0 n ∷ ds) (λ u h sends.
-      fits (revert_on s q.a.0 q.c.0 n) ds (λ v k. by (m.reverts u h sends n) (m.raises u h sends n) (is_flashed n (fields_at v.control q.c.0)) (nat_lt (fields_at v.control q.c.0).floor n)))
-    where
-      by : x.fit (Make (Revert q.c.0 q.a.0 s n)) → x.fit (Make (RaiseFloor q.c.0 n)) → (b low : Bool) → FitNext (cond b (Do (Make (Revert q.c.0 q.a.0 s n))) (cond low (Do (Make (RaiseFloor q.c.0 n))) Pass)) (AllFit ds)
-      by back raise true low = (back, go)
-      by back raise false true = (raise, go)
-      by back raise false false = go
-  fit-member phases.Finish s n q m ds go =
-      fits (finish_on q.a.0 n) ds (λ u h. does-else (is_past n (fields_at u.control q.a.0)) (Make (Finish q.a.0 n)) (AllFit ds) (m.finishes n) go)
-  fit-member phases.Report s n q m ds go = refused (reach_refusal q.a.0 q.b.0) ds (λ u h near. go)
+  fit-member phases.Release s n q m = refused (void_refusal q.a.0 n) _ (λ u h void. does (free_on q.a.0) [] (λ u h. if u (fields_at u.control q.a.0).coordination _ Pass m.frees tt) none)
+  fit-member phases.Seal s n q m =
+      refused (void_refusal q.a.0 n) _ (λ u h void. refused (seal_refusal q.a.0 q.b.0) _ (λ u h free.
+      does (seal_on s q.a.0 q.b.0 n) [] (λ u h. if u (is_drained q.a.0 u.control && not (nat_eq (fields_at u.control q.b.0).seal n)) _ Pass (m.seals n) tt) none))
+  fit-member phases.Flash s n q m =
+      refused (send_refusal q.a.0 q.b.0) _ (λ u h sends. refused (flash_refusal q.b.0 q.c.0 n) _ (λ v k free.
+      does (flash_on s q.a.0 q.b.0 q.c.0 n) [] (λ v k. if v (is_flashed n (fields_at v.control q.c.0)) Pass _ tt (m.flashes u h sends n)) none))
+  fit-member phases.Commit s n q m =
+      refused (send_refusal q.a.0 q.b.0) _ (λ u h sends. refused (commit_refusal q.c.0 n) _ (λ v k free.
+      does (commit_on s q.a.0 q.c.0 n) [] (λ v k. if v (is_committed n (fields_at v.control q.c.0)) Pass _ tt (m.commits u h sends n)) none))
+  fit-member phases.Revert s n q m =
+      refused (send_refusal q.a.0 q.b.0) _ (λ u h sends.
+      does (revert_on s q.a.0 q.c.0 n) [] (λ v k. if v (is_flashed n (fields_at v.control q.c.0)) _ _ (m.reverts u h sends n) (if v (nat_lt (fields_at v.control q.c.0).floor n) _ Pass (m.raises u h sends n) tt)) none)
+  fit-member phases.Finish s n q m = does (finish_on q.a.0 n) [] (λ u h. if u (is_past n (fields_at u.control q.a.0)) Pass _ tt (m.finishes n)) none
+  fit-member phases.Report s n q m = refused (reach_refusal q.a.0 q.b.0) [] (λ u h near. none)
 
   fit-order : (work : phases.Work) (s n : ℕ) (qs : List Member) → ((q : Member) → In q qs → FitsMember x.law x.fit s q) → AllFit (order_entries work s n qs)
-  unfolding AllFit
-  fit-order work s n [] each = tt
-  fit-order work s n (q ∷ qs) each = fit-member work s n q (each q (inl refl)) (order_entries work s n qs) (fit-order work s n qs (λ p h. each p (inr h)))
+  fit-order work s n qs each = fine-flat x.law (λ u. x.fit) any_reason (member_entries work s n) qs (λ q here. fit-member work s n q (each q here))
 
   -- ---- the plans
 
@@ -190,7 +155,7 @@ module _ (w : World) (sound : Sound w) (W : World → Type 0) (x : Exchanging w 
         let h : Orders w (ordered s server reply (members_on server y.members) o) = orders-ordered w sound s server y r o allowed reply in
         record {
           begins = keeping.begins;
-          entries = fit-along h.ends h.complete (order_entries o.work s o.number (members_on server y.members))
+          entries = fit-along x.law (λ u. x.fit) any_reason h.ends h.complete (order_entries o.work s o.number (members_on server y.members))
               (fit-order o.work s o.number (members_on server y.members) (λ q h. x.members s y found q (on-members server y.members q h).0)) (as_begun w) x.begins h.entries;
           last = reply-last reply s server o.work (members_on server y.members);
           follows = λ q. refl;
@@ -235,7 +200,7 @@ module _ (w : World) (sound : Sound w) (W : World → Type 0) (x : Exchanging w 
       let h : Orders w (order_done m ms) = orders-delivered w sound n m starts y r reaches in
       record {
         begins = keeping.begins;
-        entries = fit-along h.ends h.complete (order_entries m.order.work m.session m.order.number ms)
+        entries = fit-along x.law (λ u. x.fit) any_reason h.ends h.complete (order_entries m.order.work m.session m.order.number ms)
             (fit-order m.order.work m.session m.order.number ms (λ q h. x.members m.session y reaches.arrives.found q (on-members m.server y.members q h).0)) (as_begun w) x.begins h.entries;
         last = λ v h. x.regroups v v.control.sessions _ h;
         follows = λ q. refl;

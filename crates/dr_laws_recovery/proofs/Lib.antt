@@ -5,9 +5,9 @@
 -- - each target that counts shows the cut of its number: `counts-run` (`CountedAlong.antt`)
 -- - each cut stands behind the begin of its attempt: `begins-run` (`Begins.antt`)
 -- - each step keeps the writes of lists but those that it may take away: `told-task`, `keeps-run` (`KeepsWrites.antt`),
---   on what moves tell (`Spared.antt`), entries (`SparedEntries.antt`), steps of one plan (`SparedSteps.antt`) and an
---   `@run` (`SparedRuns.antt`). A new kind of move has a row in `Takes` and in `told-spared`; a new step one in
---   `takes_from` and in `of-step`
+--   on what moves tell (`Takes.antt`), steps of one plan by their acts (`TakesSteps.antt`) and an `@run` (`TakesRuns.antt`). A new
+--   kind of move that takes writes has a row in `Takes` and in `takes-onto`, and its act a clause in `does-takes`; a new step that may
+--   take one is a row of `takes_from`. All others fall to their last clauses
 -- - where a list lost a write there is the step that may have taken it: `step-at`, `kept-or-taken`, `holds-run`
 --   (`TakenAt.antt`)
 -- - what a secondary stored is acknowledged, or a server stops in that step, after each step and wherever a volume is cut: `stored-run`
@@ -32,13 +32,14 @@
 --   `failback-keeps`, `hand-keeps`, `has-ended`, `answers-group`, `tells-recovery`, `same-on` (`Recovers.antt`,
 --   `RecoversStart.antt`, `RecoversFailover.antt`, `RecoversEnd.antt`, `RecoveredOn.antt`)
 -- - That a bound isn't felt (`TurnsEnd.antt`): a measure of the master that each turn lessens, and two bounds above it
---   give the same way (`turns-alike`). `Went.antt` has what an unrefused plan leaves: `carry-keeps` with `AllFine`
---   carries any property of acts over entries.
+--   give the same way (`turns-alike`). `Went.antt` has what an unrefused plan leaves: `carry-keeps` carries what acts keep over
+--   entries that come to such acts alone (`Each`).
 -- - **What a recovery makes of a session** (`Recovered.antt`) reads of a decision only whether it lets targets be
 --   reverted, so the law (`Keeps` in `Recovers.antt`) says: records are alike by that truth value, and where a volume is
 --   left to commit or revert, the decision still has it. A move's part is `alike-..` (`Recovered.antt` of the proofs),
 --   on the one row that changes, and `some-commits` or `none-reverts` (`DecidedOver.antt`). Acts that may come are cut
---   down by a test of the entries alone (`Fit`, `AllFit`); so the plan's own lemma is used as it stands (`fit-along`).
+--   down by a test of the entries alone (`AllFine`, of acts that fit); so the plan's own lemma is used as it stands (`fit-along` in
+--   `Keeping.antt`).
 -- - **What holds only at the end of a plan** (`RecoversEnd.antt`): go along the entries again with another law for the
 --   end. `first` passes over entries that matter no more, and a state in the list of those left (`LeftBut`) goes over
 --   the others.
@@ -88,10 +89,9 @@ pub mod Stored
 pub mod OnTracks
 pub mod Headline
 pub mod HeadlineAlong
-pub mod Spared
-pub mod SparedEntries
-pub mod SparedSteps
-pub mod SparedRuns
+pub mod Takes
+pub mod TakesSteps
+pub mod TakesRuns
 pub mod KeepsWrites
 pub mod TakenAt
 pub mod Begins

@@ -1,17 +1,13 @@
 -- Each write of a list was issued for the track whose list it is, at every place of a run's journal.
-use Rattle.std.proofs.Common.{ℕ, ◌≡◌, ◌≢◌, ◌<◌, ◌+◌, ◌⊎◌, inl, inr, refl, ap, sym, ◌∙◌, subst, append_assoc, arith, Bool, true, false, cond, ◌||◌, List, [], ◌∷◌, ◌++◌, map, Option, Some, None}
+use Rattle.std.proofs.Common.{ℕ, ◌≡◌, ◌≢◌, ◌<◌, ◌+◌, ◌⊎◌, inl, inr, refl, ap, sym, ◌∙◌, subst, append_assoc, arith, Bool, true, false, List, [], ◌∷◌, ◌++◌, Option}
 use Rattle.std.specs.List.{list_any}
 use Rattle.std.proofs.lemmas.List.{append-nil}
 use Rattle.std.proofs.lemmas.Bool.{or_parts}
-use Rattle.std.proofs.lemmas.List.Folds.{list_any-append}
 use Rattle.dr_model.specs.declared.event.Event.{Event}
-use Rattle.dr_model.specs.declared.event.Event.TheVariants.{Issue, Ack, Mirrored, Blanked, Restored, Stopped, Suspended, Frozen, Thawed, Recovered, Begin, Cut}
+use Rattle.dr_model.specs.declared.event.Event.TheVariants.{Issue, Ack, Mirrored, Stopped, Frozen, Thawed, Recovered, Begin, Cut}
 use Rattle.dr_model.specs.Histories.{Write, Histories, joined, after_event, histories}
-use Rattle.dr_model.specs.Layout.{Tracks}
-use Rattle.dr_model.specs.Relations.{is_bare, in_order, rest, turned, given_up}
-use Rattle.dr_model.specs.Pairs.{is_suspended}
-use Rattle.dr_model.specs.Control.{Fuse, Volume, World, nothing}
-use Rattle.dr_model.specs.Moves.{Move, Land, Overwrite, Withdraw, Reverse, Release, Suspend, LandBoth, Hold, target, told, told_in_stop, told_blank, told_restored, landed, Lift, told_freed}
+use Rattle.dr_model.specs.Control.{Fuse, World, nothing}
+use Rattle.dr_model.specs.Moves.{Move, Hold, target, told, told_in_stop, landed}
 use Rattle.dr_model.specs.Carry.{Act, Make, OpenAttempt, Redo, Acknowledge, Drop, EndFreeze, EndThaw, EndRecovery}
 use Rattle.dr_model.specs.Groups.{In}
 use Rattle.dr_model.specs.Laws.{Below, Sound}
@@ -19,6 +15,7 @@ use Rattle.dr_model.specs.Runs.{Task, run}
 use Rattle.dr_model.proofs.Images.{histories-push}
 use Rattle.dr_logic.proofs.Tables.{at_other}
 use Rattle.dr_facts.proofs.Lists.{in-joined}
+use Rattle.dr_facts.proofs.Emits.{Lists, Of, any-lists, by_moves, emitted, stop-onto, all-told}
 use Rattle.dr_facts.proofs.Heard.{OfEach, OfJoined, each-event}
 use Rattle.dr_laws_sound.proofs.Turns.{after_act, server_at}
 use Rattle.dr_laws_sound.proofs.KeepsSound.{MayDo}
@@ -100,57 +97,20 @@ unheard-on es fs more k is quiet same = record {
   ];
 }
 
--- ---- what acts tell
-
-none-then : (es fs : List Event) → list_any is_issue es ≡ false → list_any is_issue fs ≡ false → list_any is_issue (es ++ fs) ≡ false
-none-then es fs first last = list_any-append is_issue es fs ∙ ap (λ b. b || list_any is_issue fs) first ∙ last
-
-blanks-none : (v : ℕ) (ts : List ℕ) → list_any is_issue (map (Blanked v) ts) ≡ false
-blanks-none v [] = refl
-blanks-none v (t ∷ ts) = blanks-none v ts
-
-restored-none : (v s n : ℕ) (own : Tracks) → list_any is_issue (told_restored v s n own) ≡ false
-restored-none v s n own = by (is_bare own)
-  where
-    by : (b : Bool) → list_any is_issue (cond b (told_blank v n own ++ Restored s v ∷ []) []) ≡ false
-    by true = none-then (told_blank v n own) (Restored s v ∷ []) (blanks-none v (in_order n (rest n own))) refl
-    by false = refl
-
-suspended-none : (none : Bool) (v : ℕ) → list_any is_issue (cond none [] (Suspended v ∷ [])) ≡ false
-suspended-none true v = refl
-suspended-none false v = refl
-
-freed-none : (v : ℕ) (had : Bool) → list_any is_issue (told_freed v had) ≡ false
-freed-none v true = refl
-freed-none v false = refl
-
-held-none : (first : Bool) (v s n : ℕ) → list_any is_issue (cond first (Begin s n ∷ Cut s n v ∷ []) (Cut s n v ∷ [])) ≡ false
-held-none true v s n = refl
-held-none false v s n = refl
-
-told-none : (m : Move) (u : Volume) → list_any is_issue (told m u) ≡ false
-told-none (Withdraw v) u = blanks-none v (in_order u.tracks (rest u.tracks u.fields.own))
-told-none (Reverse v None) u = restored-none v u.fields.source u.tracks (turned u.fields).own
-told-none (Reverse v (Some p)) u = restored-none v u.fields.source u.tracks (turned u.fields).own
-told-none (Release v t) u = restored-none v u.fields.source u.tracks (given_up u.fields t).own
-told-none (Suspend v busy) u = suspended-none (is_suspended u.fields.primary_state) v
-told-none (Lift v) u = freed-none v u.fields.flash_hold
-told-none (Hold v s n first) u = held-none first v s n
-told-none m u = refl
-
-stop-none : (m : Move) (u : Volume) → list_any is_issue (told_in_stop m u) ≡ false
-stop-none (Land n v t) u = refl
-stop-none (Overwrite n v t) u = refl
-stop-none (LandBoth n v t) u = refl
-stop-none m u = told-none m u
-
 -- ---- it rides along every step
+
+no-issue : (e : Event) → Of by_moves e → is_issue e ≡ false
+no-issue (Issue n v t offset len bytes) by = absurd cc
+no-issue e by = refl
+
+no-issues : Lists (Of by_moves) (λ es. list_any is_issue es ≡ false)
+no-issues = any-lists (Of by_moves) is_issue no-issue
 
 abbrev pub Tracked : World → Type 0
 Tracked w = TrackedAt w.events
 
 does : (w : World) (a : Act) (f : Option Fuse) → Tracked w → Tracked (after_act w a f)
-does w (Make m) f k = more-on w.events (told m (w.control.volume (target m))) (told-none m (w.control.volume (target m))) k
+does w (Make m) f k = more-on w.events (told m (w.control.volume (target m))) (all-told _ no-issues m _) k
 does w (OpenAttempt v s n) f k = more-on w.events (told (Hold v s n true) (w.control.volume v)) refl k
 does w (Redo v) f k = k
 does w (Acknowledge n) f k = more-on w.events (Ack n ∷ []) refl k
@@ -160,7 +120,7 @@ does w (EndThaw l m) f k = more-on w.events (Thawed l m ∷ []) refl k
 does w (EndRecovery s n) f k = more-on w.events (Recovered s n ∷ []) refl k
 
 stops : (w : World) (m : Move) → Tracked w → TrackedAt (w.events ++ (told_in_stop m (w.control.volume (target m)) ++ Stopped (server_at w (target m)) (landed m) ∷ []))
-stops w m k = more-on w.events _ (none-then (told_in_stop m (w.control.volume (target m))) (Stopped (server_at w (target m)) (landed m) ∷ []) (stop-none m (w.control.volume (target m))) refl) k
+stops w m k = more-on w.events _ (stop-onto by_moves _ no-issues m (w.control.volume (target m)) (Stopped (server_at w (target m)) (landed m) ∷ []) (emitted m) refl) k
 
 rides : (J : World → Type 0) (May : World → Act → Type 0) → Rides J Tracked May
 rides J May = record {

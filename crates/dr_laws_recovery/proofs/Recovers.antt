@@ -17,7 +17,7 @@ use Rattle.dr_model.specs.Control.{Fuse, Pending, Volume, World}
 use Rattle.dr_model.specs.Relations.{committed, reverted}
 use Rattle.dr_model.specs.Pairs.{taken_over}
 use Rattle.dr_model.specs.Moves.{Move, TakeOver, FallBack, Yield, Commit, Revert, target, keeps_staged, moved_keeping}
-use Rattle.dr_model.specs.Carry.{Act, Make, EndRecovery, OpenAttempt, Redo, Acknowledge, Drop, EndFreeze, EndThaw, Next, Pass, Do, End, Entry}
+use Rattle.dr_model.specs.Carry.{Act, Make, EndRecovery}
 use Rattle.dr_model.specs.ReadStops.{Ends}
 use Rattle.dr_model.specs.Entries.{fields_at, relation_state}
 use Rattle.dr_model.specs.SessionEntries.{counts_in, shown_of, shown_by_members}
@@ -46,12 +46,13 @@ use Rattle.dr_laws_recovery.specs.Recovered.{recovered_in, SameRecovery, KeepsRe
 use Rattle.dr_facts.proofs.Tables.{at_cases}
 use Rattle.dr_laws_sound.proofs.Turns.{next_of, carried_in, done, done_in_stop, after_act}
 use Rattle.dr_laws_sound.proofs.RowsAfter.{table-done, table-stop}
-use Rattle.dr_laws_sound.proofs.KeepsSound.{Along, Then, MayDo, sound-done, sound-stop}
+use Rattle.dr_laws_sound.proofs.KeepsSound.{sound-done, sound-stop}
 use Rattle.dr_laws_sound.proofs.FitsFlash.{as_begun, sound-begun}
 use Rattle.dr_laws_sound.proofs.FitsRecovery.{along-recover, along-settle}
-use Rattle.dr_laws_sound.proofs.Rides.{Rides, Both, along-with}
-use Rattle.dr_laws_recovery.proofs.Keeping.{MayFit, keeps-fit, Keeping, Goes, refused-goes, goes-unless, goes-moment, goes-ends, goes-after, finish-goes}
-use Rattle.dr_laws_sound.proofs.RecoveryEntries.{FitNext, AllFit, FitsTargets, fit-one, fit-settle, fit-recover}
+use Rattle.dr_laws_sound.proofs.Rides.{Rides, Both}
+use Rattle.dr_laws_recovery.proofs.Keeping.{MayFit, keeps-fit, fit-along, Keeping, Goes, refused-goes, goes-unless, goes-moment, goes-ends, goes-after, finish-goes}
+use Rattle.dr_laws_sound.proofs.RecoveryEntries.{fit-settle, fit-recover}
+use Rattle.dr_facts.proofs.Entries.{any_reason, AllFine, fine-one}
 use Rattle.dr_laws_recovery.proofs.Recovered.{Alike, alike-refl, alike-then, alike-still, alike-away, alike-committed, alike-reverted}
 use Rattle.dr_laws_recovery.proofs.DecidedOver.{members-decide, some-commits, none-reverts, commit-some, revert-none}
 use Rattle.dr_laws_recovery.proofs.RecoverySame.{recovery-same, is-revertible, elsewhere, left-away, part-stays, decided-still, others-count, decided-away}
@@ -210,33 +211,23 @@ module _ (w : World) (s : ℕ) where
     where
       does : (u : World) (a : Act) (f : Option Fuse) → Sound u → Keeps u → MayRecover u a → Keeps (after_act u a f)
       does u (Make m) f j k may = keeps-moved u (done u m f) j (sound-done None u m f j may.0) refl k m may.0 may.1 (table-done u j.rows.structure m f j.rows.images.blank may.0.allowed may.0.ready) (record { volumes = refl; keeps = keeps_staged m; volume = refl })
-      does u (OpenAttempt v i n) f j k may = absurd may.1
-      does u (Redo v) f j k may = absurd may.1
-      does u (Acknowledge n) f j k may = absurd may.1
-      does u (Drop n) f j k may = absurd may.1
-      does u (EndFreeze l m) f j k may = absurd may.1
-      does u (EndThaw l m) f j k may = absurd may.1
       does u (EndRecovery i n) f j k may = keeps-told u _ _ _ _ _ k
+      does u a f j k may = absurd may.1
 
       counts : (u : World) (m : Move) (f : Option Fuse) → Sound u → Keeps u → MayRecover u (Make m) → Keeps (done_in_stop u m f)
       counts u m f j k may = keeps-moved u (done_in_stop u m f) j (sound-stop None u m f j may.0) refl k m may.0 may.1 (table-stop u j.rows.structure m f j.rows.images.blank may.0.allowed may.0.ready) (record { volumes = refl; keeps = keeps_staged m; volume = refl })
 
   -- ---- the entries
 
-  fit-next : (u : World) (x : Next) (more less : World → Type 0) → ((v : World) → more v → less v) → FitNext Fit x → Then u x more → along.along_next Sound Sound MayRecover u x less
-  fit-next u Pass more less on fit a = on u a
-  fit-next u (End r) more less on fit a = absurd fit
-  fit-next u (Do x) more less on fit a = ((a.0, fit), λ f j. on _ (a.1 f j))
+  -- what is decided lets commits or reverts fit
+  abbrev Decides : ℕ → Decision → Type 0
+  Decides r d = r ≡ s → lets_revert d ≡ reverts w
 
-  fit-along : (u : World) (ds : List Entry) → AllFit Fit ds → Along u ds → along.Along Sound Sound Sound MayRecover u ds
-  unfolding AllFit
-  fit-along u [] fit a = along.along-nil Sound Sound Sound MayRecover u (along.along-ends Sound Sound Sound MayDo u a)
-  fit-along u (d ∷ ds) fit a =
-      along.along-entry Sound Sound Sound MayRecover u d ds (d u.control) refl
-      (fit-next u (d u.control) (λ v. Along v ds) (λ v. along.Along Sound Sound Sound MayRecover v ds) (λ v a. fit-along v ds fit.1 a) (fit.0 u.control) (along.along-comes Sound Sound Sound MayDo u d ds (d u.control) refl a))
+  recover-fits : (r : ℕ) (d : Decision) → Decides r d → (ms : List Member) → AllFine Keeps (λ u. Fit) any_reason (recover_entries r d ms)
+  recover-fits r d is ms = fit-recover Keeps (λ u. Fit) any_reason r d ms (λ m here u k. tt) (λ m here no n u k e. sym (is e) ∙ no) (λ m here yes n u k e. sym (is e) ∙ yes) (λ n u k. tt)
 
-  fits-targets : (r : ℕ) (d : Decision) → (r ≡ s → lets_revert d ≡ reverts w) → (ms : List Member) → FitsTargets Fit r d ms
-  fits-targets r d is ms = record { commits = λ no m here n e. sym (is e) ∙ no; reverts = λ yes m here n e. sym (is e) ∙ yes }
+  settle-fits : (r : ℕ) (d : Decision) → Decides r d → (m : Member) → AllFine Keeps (λ u. Fit) any_reason (settle_on r d m ∷ [])
+  settle-fits r d is m = fine-one Keeps (λ u. Fit) any_reason (settle_on r d m) (fit-settle Keeps (λ u. Fit) any_reason r d m (λ no n u k e. sym (is e) ∙ no) (λ yes n u k e. sym (is e) ∙ yes))
 
 -- ---- a recovery
 
@@ -277,8 +268,7 @@ module _ (w : World) (sound : Sound w) (s : ℕ) where
     pub done-goes : (x : Session) → session_in w.control.sessions r ≡ Some x → secondary_refusal x.members w.control ≡ None → GoesOn (recover_done r told x.members)
     done-goes x found running = record {
       begins = keeping.begins;
-      entries = along-with Sound Sound Sound (Keeps w s) (MayRecover w s) (as_begun w) (recover_entries r told x.members) begins.1
-          (fit-along w s (as_begun w) (recover_entries r told x.members) (fit-recover (Fit w s) r told x.members (λ m here. tt) (fits-targets w s r told (as-decided r x found) x.members) (λ n. tt)) (along-recover w sound r x found running));
+      entries = fit-along (Keeps w s) (λ u. Fit w s) any_reason Sound (λ v h. h) (recover_entries r told x.members) (recover-fits w s r told (as-decided r x found) x.members) (as_begun w) begins.1 (along-recover w sound r x found running);
       last = λ v h. h;
       follows = λ q. refl;
     }
@@ -298,8 +288,7 @@ module _ (w : World) (sound : Sound w) (s : ℕ) where
     hand-goes : (x : Session) → session_in w.control.sessions r ≡ Some x → secondary_refusal x.members w.control ≡ None → untaken_refusal x.members w.control ≡ None → (m : Member) → In m x.members → GoesOn (hand m)
     hand-goes x found running free m here = record {
       begins = keeping.begins;
-      entries = along-with Sound Sound Sound (Keeps w s) (MayRecover w s) (as_begun w) (settle_on r told m ∷ []) begins.1
-          (fit-along w s (as_begun w) (settle_on r told m ∷ []) (fit-one (Fit w s) (settle_on r told m) (fit-settle (Fit w s) r told x.members (fits-targets w s r told (as-decided r x found) x.members) m here)) (along-settle w sound r x found running free m here));
+      entries = fit-along (Keeps w s) (λ u. Fit w s) any_reason Sound (λ v h. h) (settle_on r told m ∷ []) (settle-fits w s r told (as-decided r x found) m) (as_begun w) begins.1 (along-settle w sound r x found running free m here);
       last = λ v h. h;
       follows = λ q. refl;
     }

@@ -1,5 +1,5 @@
 -- At the end of a recovery none of the session is revertible, and what it answers is the group that was to be.
-use Rattle.std.proofs.Common.{ℕ, ◌≡◌, ◌⊎◌, inl, inr, refl, ap, sym, ◌∙◌, subst, Bool, true, false, cond, ◌&&◌, List, [], ◌∷◌, ◌++◌, map, filter, Option, Some, None, rules}
+use Rattle.std.proofs.Common.{ℕ, ◌≡◌, inl, inr, refl, ap, sym, ◌∙◌, subst, Bool, true, false, cond, ◌&&◌, List, [], ◌∷◌, ◌++◌, map, filter, Option, Some, None, rules}
 use Rattle.dr_ids.specs.declared.names.Member.{Member}
 use Rattle.dr_ids.specs.declared.refusal.Refusal.{Refusal}
 use Rattle.dr_ids.specs.declared.refusal.Decision.{Decision}
@@ -34,6 +34,8 @@ use Rattle.dr_laws_sound.proofs.FitsFlash.{as_begun}
 use Rattle.dr_laws_recovery.proofs.DecidedOver.{members-decide, turns, turns-last, counts-plain, counts-one, plain-group}
 use Rattle.dr_laws_recovery.proofs.RecoverySame.{filter-same, map-same}
 use Rattle.dr_laws_recovery.proofs.Recovers.{MayRecover, Inner, each-act, begins, done-goes, reverts, keeps-recovery}
+use Rattle.dr_laws_recovery.proofs.Keeping.{LeftBut, left-passes, none-left}
+use Rattle.dr_logic.proofs.Tables.{at_same}
 use Rattle.dr_laws_sound.proofs.Along as along
 
 module _ (w : World) (sound : Sound w) (s : ℕ) (x : Session) (found : session_in w.control.sessions s ≡ Some x) where
@@ -79,48 +81,34 @@ module _ (w : World) (sound : Sound w) (s : ℕ) (x : Session) (found : session_
   -- ---- one target after another
 
   -- each is left to do, or not revertible
-  abbrev LeftBut : World → List Member → Type 0
-  LeftBut u rest = (m : Member) → In m x.members → In m rest ⊎ ((fields_at u.control m.c.0).revertible ≡ false)
+  abbrev NotRevertible : World → Member → Type 0
+  NotRevertible u m = (fields_at u.control m.c.0).revertible ≡ false
 
-  left-passes : (u : World) (q : Member) (rest : List Member) → LeftBut u (q ∷ rest) → (fields_at u.control q.c.0).revertible ≡ false → LeftBut u rest
-  left-passes u q rest left plain m here = by (left m here)
-    where
-      by : In m (q ∷ rest) ⊎ ((fields_at u.control m.c.0).revertible ≡ false) → In m rest ⊎ ((fields_at u.control m.c.0).revertible ≡ false)
-      by (inl (inl same)) = inr (ap (λ (q : Member). (fields_at u.control q.c.0).revertible) same ∙ plain)
-      by (inl (inr more)) = inl more
-      by (inr h) = inr h
+  abbrev Left : World → List Member → Type 0
+  Left u = LeftBut x.members (NotRevertible u)
 
-  left-done : (u : World) (a : Move) (f : Option Fuse) (q : Member) (rest : List Member) → target a ≡ q.c.0 → (next_of u a).revertible ≡ false → LeftBut u (q ∷ rest) → LeftBut (done u a f) rest
-  left-done u a f q rest is plain left m here = by
-      (at_cases (λ c (y : Volume). (c ≡ q.c.0 → y.fields.revertible ≡ false) × ((fields_at u.control c).revertible ≡ false → y.fields.revertible ≡ false)) u.control.volume (target a) (moved_keeping (keeps_staged a) (u.control.volume (target a)) (next_of u a) (carried_in u a))
-      ((λ e. plain), (λ h. plain)) (λ c ne. ((λ e. absurd (ne (e ∙ sym is))), (λ h. h))) m.c.0)
-      (left m here)
-    where
-      by : (m.c.0 ≡ q.c.0 → (fields_at (done u a f).control m.c.0).revertible ≡ false) × ((fields_at u.control m.c.0).revertible ≡ false → (fields_at (done u a f).control m.c.0).revertible ≡ false)
-          → In m (q ∷ rest) ⊎ ((fields_at u.control m.c.0).revertible ≡ false) → In m rest ⊎ ((fields_at (done u a f).control m.c.0).revertible ≡ false)
-      by p (inl (inl same)) = inr (p.0 (ap (λ (q : Member). q.c.0) same))
-      by p (inl (inr more)) = inl more
-      by p (inr h) = inr (p.1 h)
+  left-done : (u : World) (a : Move) (f : Option Fuse) (q : Member) (rest : List Member) → target a ≡ q.c.0 → (next_of u a).revertible ≡ false → Left u (q ∷ rest) → Left (done u a f) rest
+  left-done u a f q rest is plain left =
+      let y : Volume = moved_keeping (keeps_staged a) (u.control.volume (target a)) (next_of u a) (carried_in u a) in
+      left-passes x.members (NotRevertible u) (NotRevertible (done u a f)) q rest left
+      (λ m. at_cases (λ c (y : Volume). (fields_at u.control c).revertible ≡ false → y.fields.revertible ≡ false) u.control.volume (target a) y (λ h. plain) (λ c ne h. h) m.c.0)
+      (subst (λ c. (fields_at (done u a f).control c).revertible ≡ false) is (ap (λ (y : Volume). y.fields.revertible) (at_same u.control.volume (target a) y) ∙ plain))
 
   -- an entry that makes a move of its member's target where that is revertible from attempt n
   module _ (n : ℕ) (last : n ≡ x.last) (act : Member → Move) (at_target : (m : Member) → target (act m) ≡ m.c.0) (plain : (u : World) (m : Member) → (next_of u (act m)).revertible ≡ false) where
     abbrev turn_on : Member → Entry
     turn_on m k = cond (is_flashed n (fields_at k m.c.0)) (Do (Make (act m))) Pass
 
-    all-turn : (ms : List Member) (es : List Entry) → ((m : Member) → In m ms → In m x.members) → ((u : World) → I u → Settled u → Some_way u es → To_end u es) → (u : World) → I u → LeftBut u ms → Some_way u (map turn_on ms ++ es) → To_end u (map turn_on ms ++ es)
-    all-turn [] es here go u i left a = go u i (λ m h. none (left m h)) a
-      where
-        none : {P : Type 0} → ⊥ ⊎ P → P
-        none (inl never) = absurd never
-        none (inr p) = p
+    all-turn : (ms : List Member) (es : List Entry) → ((m : Member) → In m ms → In m x.members) → ((u : World) → I u → Settled u → Some_way u es → To_end u es) → (u : World) → I u → Left u ms → Some_way u (map turn_on ms ++ es) → To_end u (map turn_on ms ++ es)
+    all-turn [] es here go u i left a = go u i (none-left x.members (NotRevertible u) left) a
     all-turn (m ∷ ms) es here go u i left a =
         along.along-entry I I E May u (turn_on m) (map turn_on ms ++ es) (turn_on m u.control) refl
         (by (λ v i left a. all-turn ms es (λ q h. here q (inr h)) go v i left a) (is_flashed n (fields_at u.control m.c.0)) refl (along.along-comes I I I May u (turn_on m) (map turn_on ms ++ es) (turn_on m u.control) refl a))
       where
-        by : ((v : World) → I v → LeftBut v ms → Some_way v (map turn_on ms ++ es) → To_end v (map turn_on ms ++ es)) → (b : Bool) → is_flashed n (fields_at u.control m.c.0) ≡ b
+        by : ((v : World) → I v → Left v ms → Some_way v (map turn_on ms ++ es) → To_end v (map turn_on ms ++ es)) → (b : Bool) → is_flashed n (fields_at u.control m.c.0) ≡ b
             → along.along_next I I May u (cond b (Do (Make (act m))) Pass) (λ v. Some_way v (map turn_on ms ++ es)) → along.along_next I I May u (cond b (Do (Make (act m))) Pass) (λ v. To_end v (map turn_on ms ++ es))
         by on true is a = (a.0, λ f j. on (done u (act m) f) j (left-done u (act m) f m ms (at_target m) (plain u m) left) (a.1 f j))
-        by on false is a = on u i (left-passes u m ms left (unflashed-plain u.control i.0.groups i.0.attempts s x (found-in u i) m (here m (inl refl)) n (sym last) is)) a
+        by on false is a = on u i (left-passes x.members (NotRevertible u) (NotRevertible u) m ms left (λ q h. h) (unflashed-plain u.control i.0.groups i.0.attempts s x (found-in u i) m (here m (inl refl)) n (sym last) is)) a
 
   -- ---- the group that is left
 

@@ -6,7 +6,7 @@ use Rattle.dr_ids.specs.declared.refusal.Refusal.TheVariants.{Stopped as Stopped
 use Rattle.dr_model.specs.declared.event.Event.TheVariants.{Started}
 use Rattle.dr_model.specs.Control.{Fuse, World}
 use Rattle.dr_model.specs.Moves.{Move, Restart}
-use Rattle.dr_model.specs.Carry.{Act, Make, OpenAttempt, Redo, Acknowledge, Drop, EndFreeze, EndThaw, EndRecovery, carry}
+use Rattle.dr_model.specs.Carry.{Act, Make, Redo, Acknowledge, carry}
 use Rattle.dr_model.specs.WriteEntries.{start_entries}
 use Rattle.dr_model.specs.Plans.{acknowledge_on, start_plan, starting}
 use Rattle.dr_model.specs.Runs.{begun, finish, after_plan}
@@ -37,14 +37,9 @@ module _ (w : World) (sound : Sound w) (x s : ℕ) where
     where
       does : (u : World) (a : Act) (f : Option Fuse) → starts.Inner x u → Keeps w s u → starts.MayStart x u a → Keeps w s (after_act u a f)
       does u (Make (Restart v)) f j k may = restart-done u v f j k may
-      does u (Make m) f j k may = absurd may
-      does u (OpenAttempt v i n) f j k may = absurd may
       does u (Redo v) f j k may = keeps-told w s u _ _ _ _ _ k
       does u (Acknowledge n) f j k may = keeps-told w s u _ _ _ _ _ k
-      does u (Drop n) f j k may = absurd may
-      does u (EndFreeze l m) f j k may = absurd may
-      does u (EndThaw l m) f j k may = absurd may
-      does u (EndRecovery i n) f j k may = absurd may
+      does u a f j k may = absurd may
 
       counts : (u : World) (m : Move) (f : Option Fuse) → starts.Inner x u → Keeps w s u → starts.MayMove x u m → Keeps w s (done_in_stop u m f)
       counts u (Restart v) f j k may = restart-stop u v f j k may

@@ -8,7 +8,7 @@ use Rattle.dr_ids.specs.declared.refusal.Decision.{Decision}
 use Rattle.dr_model.specs.Refusals.{server_off, stopped}
 use Rattle.dr_model.specs.Control.{Control, Fuse, Volume, World}
 use Rattle.dr_model.specs.Moves.{Move, target, keeps_staged, moved_keeping}
-use Rattle.dr_model.specs.Carry.{Act, Make, OpenAttempt, Redo, Acknowledge, Drop, EndFreeze, EndThaw, EndRecovery, act, Turn, Next, Pass, Do, End, Entry, Outcome, carry, continue, go}
+use Rattle.dr_model.specs.Carry.{Act, Make, EndRecovery, act, Turn, Next, Pass, Do, End, Entry, Outcome, carry, continue, go}
 use Rattle.dr_model.specs.Carried.{begun}
 use Rattle.dr_model.specs.Entries.{fields_at, is_running}
 use Rattle.dr_model.specs.RecoveryPlans.{decided_in, secondary_refusal, recover_entries, recover_done, recover_plan, says_group}
@@ -23,7 +23,8 @@ use Rattle.dr_laws_recovery.specs.RecoveryAnswers.{secondary_server, FirstOff, S
 use Rattle.dr_laws_sound.proofs.Turns.{server_at, next_of, carried_in, done, done_in_stop, not_done, turn-armed}
 use Rattle.dr_laws_sound.proofs.FitsFlash.{as_begun}
 use Rattle.dr_laws_sound.proofs.Counting.{listed-found}
-use Rattle.dr_laws_sound.proofs.RecoveryEntries.{FitNext, AllFit, fit-recover}
+use Rattle.dr_facts.proofs.Entries.{any_world, AllFine, FineThen}
+use Rattle.dr_laws_sound.proofs.RecoveryEntries.{fit-recover}
 use Rattle.dr_laws_recovery.proofs.RecoversEnd.{answers-group}
 use Rattle.dr_facts.proofs.Tables.{at_part}
 use Rattle.dr_logic.proofs.Tables.{at_same}
@@ -118,30 +119,29 @@ module _ (w : World) (x : Session) (on : (m : Member) → In m x.members → w.c
       (λ armed f. inl (stops u (done_in_stop u m f) m s fit armed (at_same u.control.on q false)))
       (λ armed f. inl (stops u (not_done u q f) m s fit armed (at_same u.control.on q false)))
   act-ends u (EndRecovery i n) rest s fit more = more _ (record { servers = s.servers; is_on = s.is_on; armed = s.armed })
-  act-ends u (OpenAttempt v i n) rest s fit more = absurd fit
-  act-ends u (Redo v) rest s fit more = absurd fit
-  act-ends u (Acknowledge n) rest s fit more = absurd fit
-  act-ends u (Drop n) rest s fit more = absurd fit
-  act-ends u (EndFreeze l m) rest s fit more = absurd fit
-  act-ends u (EndThaw l m) rest s fit more = absurd fit
+  act-ends u a rest s fit more = absurd fit
 
-  next-ends : (u : World) (n : Next) (rest : World → Outcome) → Stays u → FitNext Fit n → ((v : World) → Stays v → EndsFor (rest v).0 (rest v).1) → EndsFor (go u n rest).0 (go u n rest).1
-  next-ends u Pass rest s fit more = more u s
-  next-ends u (End r) rest s fit more = absurd fit
-  next-ends u (Do a) rest s fit more = act-ends u a rest s fit more
+  -- entries whose acts fit, and that refuse nothing
+  abbrev All : List Entry → Type 0
+  All = AllFine any_world (λ u. Fit) (λ r. ⊥)
 
-  ends-for : (u : World) (ds : List Entry) → Stays u → AllFit Fit ds → EndsFor (carry u ds).0 (carry u ds).1
-  unfolding carry AllFit
+  next-ends : (u : World) (n : Next) (rest : World → Outcome) (more : Type 0) → Stays u → FineThen any_world (λ u. Fit) (λ r. ⊥) u n more → (more → (v : World) → Stays v → EndsFor (rest v).0 (rest v).1) → EndsFor (go u n rest).0 (go u n rest).1
+  next-ends u Pass rest more s fit on = on fit u s
+  next-ends u (End r) rest more s fit on = absurd fit
+  next-ends u (Do a) rest more s fit on = act-ends u a rest s fit.0 (on fit.1)
+
+  ends-for : (u : World) (ds : List Entry) → Stays u → All ds → EndsFor (carry u ds).0 (carry u ds).1
+  unfolding carry AllFine
   ends-for u [] s fit = inr refl
-  ends-for u (d ∷ ds) s fit = next-ends u (d u.control) (λ v. carry v ds) s (fit.0 u.control) (λ v s. ends-for v ds s fit.1)
+  ends-for u (d ∷ ds) s fit = next-ends u (d u.control) (λ v. carry v ds) (All ds) s (fit u tt) (λ rest v s. ends-for v ds s rest)
 
   -- ---- the entries of a recovery, where targets are on the servers of their secondaries
 
   recovery-ends : ((m : Member) → In m x.members → server_at w m.c.0 ≡ secondary_server w.control m) → (s : ℕ) (d : Decision) → let e : Outcome = carry (as_begun w) (recover_entries s d x.members) in EndsFor e.0 e.1
   recovery-ends together s d =
       ends-for (as_begun w) (recover_entries s d x.members) (record { servers = λ v. refl; is_on = λ q. refl; armed = λ q. refl })
-      (fit-recover Fit s d x.members (λ m here. record { member = m; here = here; is = refl })
-      (record { commits = λ no m here n. record { member = m; here = here; is = together m here }; reverts = λ yes m here n. record { member = m; here = here; is = together m here } }) (λ n. tt))
+      (fit-recover any_world (λ u. Fit) (λ r. ⊥) s d x.members (λ m here u any. record { member = m; here = here; is = refl }) (λ m here no n u any. record { member = m; here = here; is = together m here })
+      (λ m here yes n u any. record { member = m; here = here; is = together m here }) (λ n u any. tt))
 
 -- ---- the answer
 

@@ -25,7 +25,7 @@ use Rattle.dr_model.specs.Relations.{committed as committed_fields}
 use Rattle.dr_model.specs.Moves.{Move, Commit, Finish, target, moved}
 use Rattle.dr_model.specs.Carry.{Act, Make, Pass, Do, Entry, Outcome, carry, go, continue}
 use Rattle.dr_model.specs.Entries.{fields_at, is_running}
-use Rattle.dr_model.specs.PairEntries.{has_path, reach_refusal, send_refusal, end_if, refuse_if}
+use Rattle.dr_model.specs.PairEntries.{has_path, reach_refusal, send_refusal}
 use Rattle.dr_model.specs.Sessions.{Session, Mirror, session_in, mirror_in, members_in, servers_of, no_master, with_master}
 use Rattle.dr_model.specs.SessionEntries.{is_flashed, is_committed, is_past, commit_refusal, commit_on, finish_on, member_entries, members_on, order_entries, reply_after}
 use Rattle.dr_model.specs.SessionPlans.{is_idle, exchange_refusal, order_of, exchanged, exchange_done, exchange_on, asking, says_phase, session_phase, mirror_phase}
@@ -59,7 +59,9 @@ use Rattle.dr_laws_sound.proofs.Riders.{rides-task}
 use Rattle.dr_laws_recovery.specs.Formed.{SaysNewest, RunForms, FormedIsFound}
 use Rattle.dr_laws_recovery.proofs.CountedAlong.{Counts, counts-ride, counts-run}
 use Rattle.dr_facts.proofs.Sessions.{lost-none}
-use Rattle.dr_laws_recovery.proofs.Went.{Fine, AllFine, fine-none, fine-then, fine-append, fine-choice, carry-keeps, Split, carry-split, Went, part-went, goes-onward}
+use Rattle.dr_facts.proofs.Entries.{any_world, any_reason, fine-one, fine-flat}
+use Rattle.dr_facts.proofs.SharedEntries.{unless-fine}
+use Rattle.dr_laws_recovery.proofs.Went.{Each, each-refuse, carry-keeps, Split, carry-split, Went, part-went, goes-onward}
 use Rattle.dr_laws_recovery.proofs.TurnsEnd.{refused-part, Exchanged, Asks, asks-by, turn-done}
 use Rattle.dr_model.proofs.CarryLemmas.{carry-none, carry-first}
 use Rattle.dr_logic.proofs.Truth.{false_true}
@@ -76,9 +78,9 @@ record LastStands (w : World) (i : ℕ) : Type 0 where
 -- ---- what orders to commit and to finish do
 
 -- moves alone: the sessions stay
-abbrev OnlyMoves : (Move → Type 0) → Control → Act → Type 0
-OnlyMoves Only k (Make m) = Only m
-OnlyMoves Only k a = ⊥
+abbrev OnlyMoves : (Move → Type 0) → World → Act → Type 0
+OnlyMoves Only w (Make m) = Only m
+OnlyMoves Only w a = ⊥
 
 abbrev IsCommit : Move → Type 0
 IsCommit (Commit v a s n) = Unit {0}
@@ -89,32 +91,22 @@ IsFinish (Finish v n) = Unit {0}
 IsFinish m = ⊥
 
 module _ (Only : Move → Type 0) where
-  sessions-act : (ss : List Session) (w : World) (a : Act) (f : Option Fuse) → OnlyMoves Only w.control a → w.control.sessions ≡ ss → (after_act w a f).control.sessions ≡ ss
+  sessions-act : (ss : List Session) (w : World) (a : Act) (f : Option Fuse) → OnlyMoves Only w a → w.control.sessions ≡ ss → (after_act w a f).control.sessions ≡ ss
   sessions-act ss w (Make m) f is old = old
   sessions-act ss w a f is old = absurd is
 
-  sessions-stay : (w v : World) (ds : List Entry) → AllFine (OnlyMoves Only) ds → carry w ds ≡ (v, None) → v.control.sessions ≡ w.control.sessions
+  sessions-stay : (w v : World) (ds : List Entry) → Each (OnlyMoves Only) ds → carry w ds ≡ (v, None) → v.control.sessions ≡ w.control.sessions
   sessions-stay w v ds fine leads = carry-keeps (OnlyMoves Only) (λ u. u.control.sessions ≡ w.control.sessions) (sessions-act w.control.sessions) w v ds fine leads refl
 
-  refuses : (why : Control → Option Refusal) (ds : List Entry) → AllFine (OnlyMoves Only) ds → AllFine (OnlyMoves Only) (refuse_if why ∷ ds)
-  refuses why ds rest = fine-then (OnlyMoves Only) (refuse_if why) ds (λ k. by k (why k)) rest
-    where
-      by : (k : Control) (o : Option Refusal) → Fine (OnlyMoves Only) k (end_if o)
-      by k None = tt
-      by k (Some r) = tt
-
 module _ (i n : ℕ) where
-  commit-entry : (m : Member) (k : Control) → Fine (OnlyMoves IsCommit) k (commit_on i m.a.0 m.c.0 n k)
-  commit-entry m k = fine-choice (OnlyMoves IsCommit) k (is_committed n (fields_at k m.c.0)) Pass (Do (Make (Commit m.c.0 m.a.0 i n))) tt tt
+  commits-fine : (ms : List Member) → Each (OnlyMoves IsCommit) (order_entries phases.Commit i n ms)
+  commits-fine ms = fine-flat any_world (OnlyMoves IsCommit) any_reason (member_entries phases.Commit i n) ms (λ m here.
+      each-refuse (OnlyMoves IsCommit) (send_refusal m.a.0 m.b.0) _ (each-refuse (OnlyMoves IsCommit) (commit_refusal m.c.0 n) _
+      (fine-one any_world (OnlyMoves IsCommit) any_reason (commit_on i m.a.0 m.c.0 n) (unless-fine any_world (OnlyMoves IsCommit) any_reason (λ k. is_committed n (fields_at k m.c.0)) (Make (Commit m.c.0 m.a.0 i n)) (λ w any. tt)))))
 
-  commits-fine : (ms : List Member) → AllFine (OnlyMoves IsCommit) (order_entries phases.Commit i n ms)
-  commits-fine [] = fine-none (OnlyMoves IsCommit)
-  commits-fine (m ∷ ms) = fine-append (OnlyMoves IsCommit) (member_entries phases.Commit i n m) (order_entries phases.Commit i n ms)
-      (refuses IsCommit (send_refusal m.a.0 m.b.0) _ (refuses IsCommit (commit_refusal m.c.0 n) _ (fine-then (OnlyMoves IsCommit) (commit_on i m.a.0 m.c.0 n) [] (commit-entry m) (fine-none (OnlyMoves IsCommit))))) (commits-fine ms)
-
-  finishes-fine : (ms : List Member) → AllFine (OnlyMoves IsFinish) (order_entries phases.Finish i n ms)
-  finishes-fine [] = fine-none (OnlyMoves IsFinish)
-  finishes-fine (m ∷ ms) = fine-then (OnlyMoves IsFinish) (finish_on m.a.0 n) _ (λ k. fine-choice (OnlyMoves IsFinish) k (is_past n (fields_at k m.a.0)) Pass (Do (Make (Finish m.a.0 n))) tt tt) (finishes-fine ms)
+  finishes-fine : (ms : List Member) → Each (OnlyMoves IsFinish) (order_entries phases.Finish i n ms)
+  finishes-fine ms = fine-flat any_world (OnlyMoves IsFinish) any_reason (member_entries phases.Finish i n) ms (λ m here.
+      fine-one any_world (OnlyMoves IsFinish) any_reason (finish_on m.a.0 n) (unless-fine any_world (OnlyMoves IsFinish) any_reason (λ k. is_past n (fields_at k m.a.0)) (Make (Finish m.a.0 n)) (λ w any. tt)))
 
 -- a target that is committed stays so
 module _ (q c : ℕ) where
@@ -128,12 +120,12 @@ module _ (q c : ℕ) where
   stands-at w m f y keeps is old = subst (λ (t : ℕ → Volume). is_committed q (t c).fields ≡ true) (sym is)
       (at_cases (λ v (z : Volume). is_committed q (fields_at w.control v) ≡ true → is_committed q z.fields ≡ true) w.control.volume (target m) y keeps (λ v ne h. h) c old)
 
-  commit-keeps : (w : World) (a : Act) (f : Option Fuse) → OnlyMoves IsCommit w.control a → Stands w → Stands (after_act w a f)
+  commit-keeps : (w : World) (a : Act) (f : Option Fuse) → OnlyMoves IsCommit w a → Stands w → Stands (after_act w a f)
   commit-keeps w (Make (Commit v a s n)) f is old = stands-at w (Commit v a s n) f _ (still-committed n (fields_at w.control v)) refl old
   commit-keeps w (Make m) f is old = absurd is
   commit-keeps w a f is old = absurd is
 
-  finish-keeps : (w : World) (a : Act) (f : Option Fuse) → OnlyMoves IsFinish w.control a → Stands w → Stands (after_act w a f)
+  finish-keeps : (w : World) (a : Act) (f : Option Fuse) → OnlyMoves IsFinish w a → Stands w → Stands (after_act w a f)
   finish-keeps w (Make (Finish v n)) f is old = stands-at w (Finish v n) f _ (λ h. h) refl old
   finish-keeps w (Make m) f is old = absurd is
   finish-keeps w a f is old = absurd is
@@ -224,7 +216,7 @@ module _ (w : World) (i server : ℕ) (x : Session) (r : Mirror) (found : sessio
 
 -- what the session has become
 module _ (w : World) (i server : ℕ) (x : Session) (r : Mirror) (found : session_in w.control.sessions i ≡ Some x) (work : phases.Work) (Only : Move → Type 0) where
-  answered-stands : (u : World) → (d : Worked w i server x r work u) → AllFine (OnlyMoves Only) (order_entries work i r.master.number (members_on server x.members)) → (m : Member) → In m x.members → is_committed x.last (fields_at d.v.control m.c.0) ≡ true → LastStands u i
+  answered-stands : (u : World) → (d : Worked w i server x r work u) → Each (OnlyMoves Only) (order_entries work i r.master.number (members_on server x.members)) → (m : Member) → In m x.members → is_committed x.last (fields_at d.v.control m.c.0) ≡ true → LastStands u i
   answered-stands u d fine m here is =
       subst (λ u. LastStands u i) (sym d.is) (record {
         session = with_master (λ q. phases.taken q server (reply_after i work (members_on server x.members) d.v.control)) x;

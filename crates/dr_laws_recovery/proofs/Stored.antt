@@ -15,7 +15,7 @@ use Rattle.dr_model.specs.HeldWrites.{is_answer, IsStored}
 use Rattle.dr_model.specs.Runs.{Task, after_task, after_tasks, run}
 use Rattle.dr_facts.proofs.Lists.{in-first, in-second, in-joined}
 use Rattle.dr_laws_sound.specs.Acknowledged.{said_in}
-use Rattle.dr_laws_sound.proofs.Hushed.{mirror, mirrors, is_cut, cuts_any, HasStop}
+use Rattle.dr_laws_sound.proofs.Unacknowledged.{mirror, mirrors, is_cut, cuts_any, HasStop}
 use Rattle.dr_laws_sound.proofs.Acknowledged.{MirrorsOne, StepWay, StepTold, told-task}
 use Rattle.dr_laws_recovery.specs.Stored.{MirroredIsStored, StoredAtCuts}
 use Rattle.dr_logic.proofs.Truth.{false_true}

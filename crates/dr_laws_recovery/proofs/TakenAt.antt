@@ -10,14 +10,16 @@ use Rattle.dr_model.specs.Control.{World}
 use Rattle.dr_model.specs.ClosedCuts.{ClosedCuts}
 use Rattle.dr_model.specs.Runs.{Task, after_task, after_tasks, run}
 use Rattle.dr_model.specs.TakenWrites.{WasTaken}
+use Rattle.dr_facts.proofs.Emits.{AllOf}
 use Rattle.dr_facts.proofs.Joined.{InFirst, InOther, place-in}
 use Rattle.dr_laws_cuts.proofs.Places.{snoc}
 use Rattle.dr_laws_targets.proofs.Held.{acknowledged-kept}
 use Rattle.dr_laws_sound.proofs.Journal.{run-more}
 use Rattle.dr_laws_recovery.specs.Held.{HoldsAll}
-use Rattle.dr_laws_recovery.proofs.Spared.{AllSpared, spared-at, Told}
+use Rattle.dr_laws_recovery.proofs.Takes.{TakesFrom, at-place, Told}
 use Rattle.dr_laws_recovery.proofs.ClosesAlong.{closed-run}
-use Rattle.dr_laws_recovery.proofs.KeepsWrites.{MayTake, told-task, replaced-may}
+use Rattle.dr_laws_recovery.proofs.TakesSteps.{MayTake}
+use Rattle.dr_laws_recovery.proofs.KeepsWrites.{told-task, replaced-may}
 
 -- ---- the step that told the event at a place
 
@@ -83,7 +85,7 @@ module _ (tasks : List Task) (events later : List Event) (leads : (run tasks).ev
         later = s.later;
         ended = ap (λ (x : World). x.events) (run-more s.first s.step) ∙ s.ended;
         takes = replaced-may (MayTake w.control s.step.asked) (histories r.before).write v t r.event r.replaces
-            (spared-at (MayTake w.control s.step.asked) s.since r.event s.later (subst (AllSpared (MayTake w.control s.step.asked)) more told.spared));
+            (at-place (TakesFrom (MayTake w.control s.step.asked)) s.since r.event s.later (subst (AllOf (TakesFrom (MayTake w.control s.step.asked))) more told.each));
       }
 
   pub kept-or-taken : WasAcknowledged events u v t → In u (lists events v t) ⊎ WasTaken tasks events u v t

@@ -1,12 +1,12 @@
 -- A recovery commits or reverts no target of a session before it has taken over all secondaries of its members.
-use Rattle.std.proofs.Common.{ℕ, ◌≡◌, ◌≢◌, ◌⊎◌, inl, inr, refl, ap, sym, ◌∙◌, subst, Bool, true, false, cond, List, [], ◌∷◌, ◌++◌, map, Option, Some, None}
+use Rattle.std.proofs.Common.{ℕ, ◌≡◌, ◌≢◌, inl, inr, refl, ap, sym, ◌∙◌, subst, Bool, true, false, cond, List, [], ◌∷◌, ◌++◌, map, Option, Some, None}
 use Rattle.dr_ids.specs.declared.names.Member.{Member}
 use Rattle.dr_ids.specs.declared.refusal.Decision.{Decision}
 use Rattle.dr_model.specs.Layout.{is_part}
 use Rattle.dr_model.specs.Control.{Control, Fuse, Volume, World}
 use Rattle.dr_model.specs.Sessions.{Session, session_in}
 use Rattle.dr_model.specs.Moves.{Move, TakeOver, Commit, Revert, target, moved, keeps_staged, moved_keeping}
-use Rattle.dr_model.specs.Carry.{Act, Make, OpenAttempt, Redo, Acknowledge, Drop, EndFreeze, EndThaw, EndRecovery, Next, Pass, Do, End, Entry}
+use Rattle.dr_model.specs.Carry.{Act, Make, EndRecovery, Next, Pass, Do, End, Entry}
 use Rattle.dr_model.specs.Entries.{fields_at}
 use Rattle.dr_model.specs.RecoveryPlans.{decided_in, secondary_refusal, take_over_on, settle_on, end_recovery, recover_done, recover_plan}
 use Rattle.dr_model.specs.PlanParts.{Plan, unless, on_session}
@@ -20,10 +20,11 @@ use Rattle.dr_laws_sound.proofs.KeepsSound.{Along, Then, MayDo}
 use Rattle.dr_laws_sound.proofs.FitsFlash.{as_begun, sound-begun}
 use Rattle.dr_laws_sound.proofs.FitsRecovery.{along-recover}
 use Rattle.dr_laws_sound.proofs.Rides.{Rides, Both}
-use Rattle.dr_laws_recovery.proofs.Keeping.{MayFit, keeps-fit, Keeping, Goes, goes-unless, goes-moment, goes-ends, goes-after}
-use Rattle.dr_laws_sound.proofs.RecoveryEntries.{FitNext, fit-settle}
+use Rattle.dr_laws_recovery.proofs.Keeping.{LeftBut, left-passes, none-left, MayFit, keeps-fit, Keeping, Goes, goes-unless, goes-moment, goes-ends, goes-after}
+use Rattle.dr_laws_sound.proofs.RecoveryEntries.{fit-settle}
+use Rattle.dr_facts.proofs.Entries.{any_world, any_reason, Fine}
 use Rattle.dr_laws_sound.proofs.Along as along
-use Rattle.dr_logic.proofs.Tables.{at_other}
+use Rattle.dr_logic.proofs.Tables.{at_same, at_other}
 
 module _ (w : World) (sound : Sound w) (s : ℕ) (x : Session) (found : session_in w.control.sessions s ≡ Some x) where
   -- no secondary of a member is one
@@ -77,13 +78,8 @@ module _ (w : World) (sound : Sound w) (s : ℕ) (x : Session) (found : session_
     where
       does : (u : World) (a : Act) (f : Option Fuse) → Sound u → Holds u → May u a → Holds (after_act u a f)
       does u (Make a) f j h may = stays u a h may.1
-      does u (OpenAttempt v i n) f j h may = absurd may.1
-      does u (Redo v) f j h may = absurd may.1
-      does u (Acknowledge n) f j h may = absurd may.1
-      does u (Drop n) f j h may = absurd may.1
-      does u (EndFreeze l m) f j h may = absurd may.1
-      does u (EndThaw l m) f j h may = absurd may.1
       does u (EndRecovery i n) f j h may = h
+      does u a f j h may = absurd may.1
 
   begins : I (as_begun w)
   begins = (sound-begun w sound, λ m q here there ne. absurd (ne refl))
@@ -104,43 +100,27 @@ module _ (w : World) (sound : Sound w) (s : ℕ) (x : Session) (found : session_
       (lone.differ x q listed there).b_c (ap (λ (p : Member). p.b.0) one.1 ∙ sym e)
 
   -- each is left to take, or taken
-  abbrev LeftBut : World → List Member → Type 0
-  LeftBut u rest = (q : Member) → In q x.members → In q rest ⊎ (is_part (fields_at u.control q.b.0).secondary ≡ false)
+  abbrev IsTaken : World → Member → Type 0
+  IsTaken u q = is_part (fields_at u.control q.b.0).secondary ≡ false
 
-  left-passes : (u : World) (m : Member) (rest : List Member) → LeftBut u (m ∷ rest) → is_part (fields_at u.control m.b.0).secondary ≡ false → LeftBut u rest
-  left-passes u m rest left none q there = by (left q there)
-    where
-      by : In q (m ∷ rest) ⊎ (is_part (fields_at u.control q.b.0).secondary ≡ false) → In q rest ⊎ (is_part (fields_at u.control q.b.0).secondary ≡ false)
-      by (inl (inl is)) = inr (ap (λ (q : Member). is_part (fields_at u.control q.b.0).secondary) is ∙ none)
-      by (inl (inr more)) = inl more
-      by (inr h) = inr h
+  abbrev Left : World → List Member → Type 0
+  Left u = LeftBut x.members (IsTaken u)
 
-  left-done : (u : World) (f : Option Fuse) (m : Member) (rest : List Member) → LeftBut u (m ∷ rest) → LeftBut (done u (TakeOver m.b.0) f) rest
-  left-done u f m rest left = left-passes (done u (TakeOver m.b.0) f) m rest (λ q there. by q (left q there)) here
-    where
-      by : (q : Member) → In q (m ∷ rest) ⊎ (is_part (fields_at u.control q.b.0).secondary ≡ false) → In q (m ∷ rest) ⊎ (is_part (fields_at (done u (TakeOver m.b.0) f).control q.b.0).secondary ≡ false)
-      by q (inl more) = inl more
-      by q (inr h) = inr (still u (TakeOver m.b.0) (λ e. refl) q.b.0 h)
+  left-done : (u : World) (f : Option Fuse) (m : Member) (rest : List Member) → Left u (m ∷ rest) → Left (done u (TakeOver m.b.0) f) rest
+  left-done u f m rest left =
+      left-passes x.members (IsTaken u) (IsTaken (done u (TakeOver m.b.0) f)) m rest left (λ q h. still u (TakeOver m.b.0) (λ e. refl) q.b.0 h)
+      (ap (λ (y : Volume). is_part y.fields.secondary) (at_same u.control.volume m.b.0 (moved (u.control.volume m.b.0) (next_of u (TakeOver m.b.0)) (carried_in u (TakeOver m.b.0)))))
 
-      here : is_part (fields_at (done u (TakeOver m.b.0) f).control m.b.0).secondary ≡ false
-      here =
-          at_cases (λ b (y : Volume). b ≡ m.b.0 → is_part y.fields.secondary ≡ false) u.control.volume m.b.0 (moved (u.control.volume m.b.0) (next_of u (TakeOver m.b.0)) (carried_in u (TakeOver m.b.0)))
-          (λ e. refl) (λ q ne e. absurd (ne e)) m.b.0 refl
-
-  taking : (ms : List Member) (es : List Entry) → ((m : Member) → In m ms → In m x.members) → ((u : World) → Holds u → Taken u.control → Along u es → Fits u es) → (u : World) → Holds u → LeftBut u ms → Along u (map take_over_on ms ++ es) → Fits u (map take_over_on ms ++ es)
-  taking [] es here go u h left a = go u h (λ q there. none (left q there)) a
-    where
-      none : {P : Type 0} → ⊥ ⊎ P → P
-      none (inl never) = absurd never
-      none (inr p) = p
+  taking : (ms : List Member) (es : List Entry) → ((m : Member) → In m ms → In m x.members) → ((u : World) → Holds u → Taken u.control → Along u es → Fits u es) → (u : World) → Holds u → Left u ms → Along u (map take_over_on ms ++ es) → Fits u (map take_over_on ms ++ es)
+  taking [] es here go u h left a = go u h (none-left x.members (IsTaken u) left) a
   taking (m ∷ ms) es here go u h left a =
       along.along-entry I I I May u (take_over_on m) (map take_over_on ms ++ es) (take_over_on m u.control) refl
       (by (λ v h left a. taking ms es (λ q h. here q (inr h)) go v h left a) (is_part (fields_at u.control m.b.0).secondary) refl (along.along-comes Sound Sound Sound MayDo u (take_over_on m) (map take_over_on ms ++ es) (take_over_on m u.control) refl a))
     where
-      by : ((v : World) → Holds v → LeftBut v ms → Along v (map take_over_on ms ++ es) → Fits v (map take_over_on ms ++ es)) → (b : Bool) → is_part (fields_at u.control m.b.0).secondary ≡ b
+      by : ((v : World) → Holds v → Left v ms → Along v (map take_over_on ms ++ es) → Fits v (map take_over_on ms ++ es)) → (b : Bool) → is_part (fields_at u.control m.b.0).secondary ≡ b
           → Then u (cond b (Do (Make (TakeOver m.b.0))) Pass) (λ v. Along v (map take_over_on ms ++ es)) → along.along_next I I May u (cond b (Do (Make (TakeOver m.b.0))) Pass) (λ v. Fits v (map take_over_on ms ++ es))
       by on true is a = ((a.0, λ q there. other m q (here m (inl refl)) there), λ f j. on (done u (TakeOver m.b.0) f) j.1 (left-done u f m ms left) (a.1 f j.0))
-      by on false is a = on u h (left-passes u m ms left is) a
+      by on false is a = on u h (left-passes x.members (IsTaken u) (IsTaken u) m ms left (λ q h. h) is) a
 
   -- ---- and then targets change
 
@@ -157,16 +137,20 @@ module _ (w : World) (sound : Sound w) (s : ℕ) (x : Session) (found : session_
   act-settles u (EndRecovery i n) is taken = (tt, λ f. taken)
   act-settles u a is taken = absurd is
 
-  settle-next : (u : World) (d : Next) (es : List Entry) → ((v : World) → Holds v → Taken v.control → Along v es → Fits v es) → Holds u → Taken u.control → FitNext Settles d → Then u d (λ v. Along v es) → along.along_next I I May u d (λ v. Fits v es)
+  -- what an entry comes to
+  abbrev Settling : World → Next → Type 0
+  Settling u d = Fine any_world (λ u. Settles) any_reason u d
+
+  settle-next : (u : World) (d : Next) (es : List Entry) → ((v : World) → Holds v → Taken v.control → Along v es → Fits v es) → Holds u → Taken u.control → Settling u d → Then u d (λ v. Along v es) → along.along_next I I May u d (λ v. Fits v es)
   settle-next u Pass es on h taken is a = on u h taken a
-  settle-next u (End r) es on h taken is a = absurd is
+  settle-next u (End r) es on h taken is a = (a, h)
   settle-next u (Do d) es on h taken is a = let by = act-settles u d is taken in ((a.0, by.0), λ f j. on _ j.1 (by.1 f) (a.1 f j.0))
 
-  settles : (d : Decision) (m : Member) (k : Control) → FitNext Settles (settle_on s d m k)
-  settles d m = fit-settle Settles s d (m ∷ []) (record { commits = λ no q here n. tt; reverts = λ yes q here n. tt }) m (inl refl)
+  settles : (d : Decision) (m : Member) (u : World) → Settling u (settle_on s d m u.control)
+  settles d m u = fit-settle any_world (λ u. Settles) any_reason s d m (λ no n v any. tt) (λ yes n v any. tt) u tt
 
-  settle-entry : (d : Entry) (es : List Entry) → ((k : Control) → FitNext Settles (d k)) → ((u : World) → Holds u → Taken u.control → Along u es → Fits u es) → (u : World) → Holds u → Taken u.control → Along u (d ∷ es) → Fits u (d ∷ es)
-  settle-entry d es is go u h taken a = along.along-entry I I I May u d es (d u.control) refl (settle-next u (d u.control) es go h taken (is u.control) (along.along-comes Sound Sound Sound MayDo u d es (d u.control) refl a))
+  settle-entry : (d : Entry) (es : List Entry) → ((u : World) → Settling u (d u.control)) → ((u : World) → Holds u → Taken u.control → Along u es → Fits u es) → (u : World) → Holds u → Taken u.control → Along u (d ∷ es) → Fits u (d ∷ es)
+  settle-entry d es is go u h taken a = along.along-entry I I I May u d es (d u.control) refl (settle-next u (d u.control) es go h taken (is u) (along.along-comes Sound Sound Sound MayDo u d es (d u.control) refl a))
 
   over-all : (d : Decision) (ms : List Member) (es : List Entry) → ((u : World) → Holds u → Taken u.control → Along u es → Fits u es) → (u : World) → Holds u → Taken u.control → Along u (map (settle_on s d) ms ++ es) → Fits u (map (settle_on s d) ms ++ es)
   over-all d [] es go = go

@@ -11,7 +11,7 @@ use Rattle.dr_model.specs.Control.{Fuse, Volume, World}
 use Rattle.dr_model.specs.Relations.{flashed, committed, reverted}
 use Rattle.dr_model.specs.Pairs.{is_secondary_of}
 use Rattle.dr_model.specs.Moves.{Move, Hold, Free, Seal, Finish, RaiseFloor, Flash, Commit, Revert, target, keeps_staged, moved_keeping}
-use Rattle.dr_model.specs.Carry.{Act, Make, OpenAttempt, Redo, Acknowledge, Drop, EndFreeze, EndThaw, EndRecovery}
+use Rattle.dr_model.specs.Carry.{Act, Make, OpenAttempt}
 use Rattle.dr_model.specs.Entries.{fields_at}
 use Rattle.dr_model.specs.PairEntries.{send_refusal}
 use Rattle.dr_model.specs.SessionEntries.{counts_in, shown_of}
@@ -177,12 +177,7 @@ module _ (w : World) (x : Session) where
       does u (Make m) f j k may = stays-moved u (done u m f) j k m may.0 may.1 (table-done u j.rows.structure m f j.rows.images.blank may.0.allowed may.0.ready) (record { volumes = refl; keeps = keeps_staged m; volume = refl })
       does u (OpenAttempt v s i) f j k may =
           opened u (after_act u (OpenAttempt v s i) f) j k v s i may.0 (table-done u j.rows.structure (Hold v s i true) f j.rows.images.blank may.0.allowed may.0.ready) (record { volumes = refl; keeps = true; volume = refl })
-      does u (Redo v) f j k may = absurd may.1
-      does u (Acknowledge i) f j k may = absurd may.1
-      does u (Drop i) f j k may = absurd may.1
-      does u (EndFreeze l m) f j k may = absurd may.1
-      does u (EndThaw l m) f j k may = absurd may.1
-      does u (EndRecovery s i) f j k may = absurd may.1
+      does u a f j k may = absurd may.1
 
       counts : (u : World) (m : Move) (f : Option Fuse) → Sound u → Stays u → MayFit (λ u. Fit) u (Make m) → Stays (done_in_stop u m f)
       counts u m f j k may = stays-moved u (done_in_stop u m f) j k m may.0 may.1 (table-stop u j.rows.structure m f j.rows.images.blank may.0.allowed may.0.ready) (record { volumes = refl; keeps = keeps_staged m; volume = refl })

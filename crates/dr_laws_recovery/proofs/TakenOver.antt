@@ -7,7 +7,7 @@ use Rattle.dr_model.specs.Control.{Fuse, Volume, World}
 use Rattle.dr_model.specs.Sessions.{Session, session_in, mirror_in, members_in}
 use Rattle.dr_model.specs.Pairs.{is_secondary_of}
 use Rattle.dr_model.specs.Moves.{Move, Hold, target, keeps_staged, moved_keeping}
-use Rattle.dr_model.specs.Carry.{Act, Make, OpenAttempt, Redo, Acknowledge, Drop, EndFreeze, EndThaw, EndRecovery}
+use Rattle.dr_model.specs.Carry.{Act, Make, OpenAttempt}
 use Rattle.dr_model.specs.Entries.{fields_at}
 use Rattle.dr_model.specs.PairEntries.{send_refusal}
 use Rattle.dr_model.specs.MessagePlans.{deliver_plan}
@@ -58,12 +58,7 @@ module _ (w : World) (sound : Sound w) (x : Session) (m : Member) (listed : In x
       does : (u : World) (a : Act) (f : Option Fuse) → Sound u → Holds u → MayFit (λ u. Fit) u a → Holds (after_act u a f)
       does u (Make a) f j h may = stays u a h may.1
       does u (OpenAttempt v s n) f j h may = stays u (Hold v s n true) h (may.1, λ u. refl)
-      does u (Redo v) f j h may = absurd may.1
-      does u (Acknowledge n) f j h may = absurd may.1
-      does u (Drop n) f j h may = absurd may.1
-      does u (EndFreeze i j) f s h may = absurd may.1
-      does u (EndThaw i j) f s h may = absurd may.1
-      does u (EndRecovery i n) f j h may = absurd may.1
+      does u a f j h may = absurd may.1
 
   -- ---- the acts of an order, by the place of each volume
 

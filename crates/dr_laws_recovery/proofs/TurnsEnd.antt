@@ -12,12 +12,9 @@ use Rattle.dr_ids.specs.declared.refusal.Refusal.TheVariants.{OutOfOrder, Journa
 use Rattle.dr_model.specs.Phases as phases
 use Rattle.dr_model.specs.Sessions.{Session, Mirror, session_in, mirror_in, members_in, begin_refusal, begun, with_master}
 use Rattle.dr_model.specs.Control.{Control, World, Fuse}
-use Rattle.dr_model.specs.Moves.{Hold}
-use Rattle.dr_model.specs.Carry.{Act, Make, OpenAttempt, Pass, Do, Entry, carry}
-use Rattle.dr_model.specs.Pairs.{records}
+use Rattle.dr_model.specs.Carry.{Act, Make, OpenAttempt, Entry, carry}
 use Rattle.dr_model.specs.Entries.{fields_at}
-use Rattle.dr_model.specs.PairEntries.{reach_refusal, send_refusal, end_if, refuse_if}
-use Rattle.dr_model.specs.SessionEntries.{last_of, hold_refusal, stale_refusal, hold_on, void_refusal, free_on, is_drained, seal_refusal, seal_on, is_past, finish_on, member_entries, members_on, order_entries, reply_after, is_flashed, is_committed, flash_refusal, flash_on, commit_refusal, commit_on, revert_on}
+use Rattle.dr_model.specs.SessionEntries.{last_of, is_drained, members_on, order_entries, reply_after}
 use Rattle.dr_model.specs.SessionPlans as plans
 use Rattle.dr_model.specs.SessionPlans.{exchange_refusal, order_of, answered_by, exchange_done, exchange_on, asking, says_phase}
 use Rattle.dr_model.specs.PlanParts.{Plan, none_follow, unless, refuses}
@@ -36,8 +33,10 @@ use Rattle.dr_laws_sound.proofs.FitsExchanges.{WorkPhase, works}
 use Rattle.dr_laws_sound.proofs.Awaits.{Awaited, exchange-begins, exchange-next, exchange-awaits}
 use Rattle.dr_laws_sound.proofs.Parts.{comes-asking}
 use Rattle.dr_laws_sound.proofs.Steps.{sound-part}
-use Rattle.dr_laws_recovery.proofs.Went.{Fine, AllFine, fine-none, fine-then, fine-append, fine-choice, carry-keeps, Went, part-went, goes-onward}
-use Rattle.dr_laws_recovery.proofs.Drained.{Within, Drained, drains-drained, seals-done}
+use Rattle.dr_facts.proofs.Entries.{any_world, any_reason, why-any}
+use Rattle.dr_facts.proofs.SharedEntries.{order-fine}
+use Rattle.dr_laws_recovery.proofs.Went.{Each, carry-keeps, Went, part-went, goes-onward}
+use Rattle.dr_laws_recovery.proofs.Drained.{SentAll, Drained, drains-drained, seals-done}
 use Rattle.dr_laws_recovery.proofs.TurnsLeft.{turns_left, Shrinks, taken-shrinks, begins-shrinks, left-most}
 use Rattle.dr_logic.proofs.Truth.{false_true}
 use Rattle.dr_logic.proofs.Options.{none_some}
@@ -45,56 +44,45 @@ use Rattle.dr_logic.proofs.Options.{none_some}
 -- ---- what an order makes of its session
 
 -- its acts: moves, and one that begins an attempt which is newer than the session's last
-abbrev OfOrder : ℕ → ℕ → Control → Act → Type 0
-OfOrder i n k (Make m) = Unit {0}
-OfOrder i n k (OpenAttempt v s q) = (s ≡ i) × (nat_lt (last_of k i) n ≡ true)
-OfOrder i n k a = ⊥
+abbrev OfOrder : ℕ → ℕ → World → Act → Type 0
+OfOrder i n w (Make m) = Unit {0}
+OfOrder i n w (OpenAttempt v s q) = (s ≡ i) × (nat_lt (last_of w.control i) n ≡ true)
+OfOrder i n w a = ⊥
 
 module _ (i n : ℕ) where
-  abbrev Ok : Control → Act → Type 0
+  abbrev Ok : World → Act → Type 0
   Ok = OfOrder i n
 
-  refuses-fine : (why : Control → Option Refusal) (ds : List Entry) → AllFine Ok ds → AllFine Ok (refuse_if why ∷ ds)
-  refuses-fine why ds rest = fine-then Ok (refuse_if why) ds (λ k. by k (why k)) rest
-    where
-      by : (k : Control) (o : Option Refusal) → Fine Ok k (end_if o)
-      by k None = tt
-      by k (Some r) = tt
-
-  hold-fine : (a : ℕ) (k : Control) → Fine Ok k (hold_on i a n k)
-  hold-fine a k = fine-choice Ok k (records n (fields_at k a)) Pass _ tt (by (nat_lt (last_of k i) n) refl)
-    where
-      by : (b : Bool) → nat_lt (last_of k i) n ≡ b → Fine Ok k (Do (cond b (OpenAttempt a i n) (Make (Hold a i n false))))
-      by true newer = (refl, newer)
-      by false older = tt
-
-  alone-fine : (d : Entry) → ((k : Control) → Fine Ok k (d k)) → AllFine Ok (d ∷ [])
-  alone-fine d one = fine-then Ok d [] one (fine-none Ok)
-
-  member-fine : (work : phases.Work) (m : Member) → AllFine Ok (member_entries work i n m)
-  member-fine phases.Hold m = refuses-fine (hold_refusal m.a.0 m.b.0) _ (refuses-fine (stale_refusal m.a.0 n) _ (alone-fine (hold_on i m.a.0 n) (hold-fine m.a.0)))
-  member-fine phases.Release m = refuses-fine (void_refusal m.a.0 n) _ (alone-fine (free_on m.a.0) (λ k. fine-choice Ok k (fields_at k m.a.0).coordination _ Pass tt tt))
-  member-fine phases.Seal m =
-      refuses-fine (void_refusal m.a.0 n) _ (refuses-fine (seal_refusal m.a.0 m.b.0) _ (alone-fine (seal_on i m.a.0 m.b.0 n) (λ k. fine-choice Ok k (is_drained m.a.0 k && not (nat_eq (fields_at k m.b.0).seal n)) _ Pass tt tt)))
-  member-fine phases.Finish m = alone-fine (finish_on m.a.0 n) (λ k. fine-choice Ok k (is_past n (fields_at k m.a.0)) Pass _ tt tt)
-  member-fine phases.Flash m =
-      refuses-fine (send_refusal m.a.0 m.b.0) _ (refuses-fine (flash_refusal m.b.0 m.c.0 n) _ (alone-fine (flash_on i m.a.0 m.b.0 m.c.0 n) (λ k. fine-choice Ok k (is_flashed n (fields_at k m.c.0)) Pass _ tt tt)))
-  member-fine phases.Commit m =
-      refuses-fine (send_refusal m.a.0 m.b.0) _ (refuses-fine (commit_refusal m.c.0 n) _ (alone-fine (commit_on i m.a.0 m.c.0 n) (λ k. fine-choice Ok k (is_committed n (fields_at k m.c.0)) Pass _ tt tt)))
-  member-fine phases.Revert m =
-      refuses-fine (send_refusal m.a.0 m.b.0) _ (alone-fine (revert_on i m.a.0 m.c.0 n) (λ k. fine-choice Ok k (is_flashed n (fields_at k m.c.0)) _ _ tt (fine-choice Ok k (nat_lt (fields_at k m.c.0).floor n) _ Pass tt tt)))
-  member-fine phases.Report m = refuses-fine (reach_refusal m.a.0 m.b.0) [] (fine-none Ok)
-
-  order-fine : (work : phases.Work) (ms : List Member) → AllFine Ok (order_entries work i n ms)
-  order-fine work [] = fine-none Ok
-  order-fine work (m ∷ ms) = fine-append Ok (member_entries work i n m) (order_entries work i n ms) (member-fine work m) (order-fine work ms)
+  order-turns : (work : phases.Work) (ms : List Member) → Each Ok (order_entries work i n ms)
+  order-turns work ms = order-fine any_world Ok any_reason work i n ms
+      (λ m here. record {
+        hold = λ w any. tt;
+        open_attempt = λ w any newer. (refl, newer);
+        free = λ w any. tt;
+        seal = λ w any. tt;
+        finish = λ w any. tt;
+        flash = λ w any. tt;
+        commit = λ w any. tt;
+        revert = λ w any. tt;
+        raise = λ w any. tt;
+      })
+      (λ m. record {
+        hold = λ k. why-any _;
+        stale = λ k. why-any _;
+        void = λ k. why-any _;
+        seal = λ k. why-any _;
+        send = λ k. why-any _;
+        flash = λ k. why-any _;
+        commit = λ k. why-any _;
+        reach = λ k. why-any _;
+      })
 
   -- The session is as it was, or its next attempt has begun.
   module _ (x : Session) (next : n ≤ x.last + 1) where
     abbrev Stands : World → Type 0
     Stands w = (session_in w.control.sessions i ≡ Some x) ⊎ ((session_in w.control.sessions i ≡ Some (begun x)) × (nat_lt x.last n ≡ true))
 
-    stands-act : (w : World) (a : Act) (f : Option Fuse) → Ok w.control a → Stands w → Stands (after_act w a f)
+    stands-act : (w : World) (a : Act) (f : Option Fuse) → Ok w a → Stands w → Stands (after_act w a f)
     stands-act w (Make m) f is old = old
     stands-act w (OpenAttempt v s q) f is old = subst (λ s. Stands (after_act w (OpenAttempt v s q) f)) (sym is.0) (by old)
       where
@@ -104,7 +92,7 @@ module _ (i n : ℕ) where
     stands-act w a f is old = absurd is
 
     order-stands : (work : phases.Work) (ms : List Member) (w v : World) → carry w (order_entries work i n ms) ≡ (v, None) → session_in w.control.sessions i ≡ Some x → Stands v
-    order-stands work ms w v leads found = carry-keeps Ok Stands stands-act w v (order_entries work i n ms) (order-fine work ms) leads (inl found)
+    order-stands work ms w v leads found = carry-keeps Ok Stands stands-act w v (order_entries work i n ms) (order-turns work ms) leads (inl found)
 
 -- ---- an exchange that wasn't refused
 
@@ -123,15 +111,7 @@ refused-part {P = P} w r none = by (has_room w.events) none
 -- an attempt begins in Idle alone
 begins-idle : (p : PhaseName) (n : ℕ) → phases.begin_refusal p n ≡ None → p ≡ phase.Idle
 begins-idle phase.Idle n h = refl
-begins-idle phase.Coordinating n h = absurd cc
-begins-idle phase.Releasing n h = absurd cc
-begins-idle phase.Draining n h = absurd cc
-begins-idle phase.Flashing n h = absurd cc
-begins-idle phase.Committing n h = absurd cc
-begins-idle phase.Reverting n h = absurd cc
-begins-idle phase.Finishing n h = absurd cc
-begins-idle phase.Lost n h = absurd cc
-begins-idle phase.None n h = absurd cc
+begins-idle p n h = absurd cc
 
 -- The master of session i took the reply of a server, which didn't let its seal wait: in u it is what came of that in w, or of the attempt
 -- that began.
@@ -147,7 +127,7 @@ pub record Exchanged (w : World) (i server : ℕ) (r : Mirror) (u : World) : Typ
   pub is : next.master ≡ phases.taken before server reply
 
 module _ (w : World) (s : Sound w) (i server : ℕ) (x : Session) (r : Mirror) (found : session_in w.control.sessions i ≡ Some x) (mirror : x.mirror ≡ Some r)
-    (dry : r.master.phase ≡ phase.Draining → (m : Member) → In m (members_on server x.members) → Within [] (fields_at w.control m.a.0)) where
+    (dry : r.master.phase ≡ phase.Draining → (m : Member) → In m (members_on server x.members) → SentAll (fields_at w.control m.a.0)) where
   abbrev ms : List Member
   ms = members_on server x.members
 
@@ -186,13 +166,7 @@ module _ (w : World) (s : Sound w) (i server : ℕ) (x : Session) (r : Mirror) (
 
         by : (work : phases.Work) → o.work ≡ work → reply_after i work ms v.control ≡ phases.NotYet → ⊥
         by phases.Seal is h = done-not (list_any (λ (m : Member). not (is_drained m.a.0 v.control)) ms) (sealed is) h
-        by phases.Hold is h = absurd cc
-        by phases.Release is h = absurd cc
-        by phases.Flash is h = absurd cc
-        by phases.Commit is h = absurd cc
-        by phases.Revert is h = absurd cc
-        by phases.Finish is h = absurd cc
-        by phases.Report is h = absurd cc
+        by work is h = absurd cc
 
     abbrev entries : List Entry
     entries = order_entries o.work i o.number ms
@@ -293,14 +267,14 @@ module _ (w : World) (s : Sound w) (i server : ℕ) (r : Mirror) (has : master_i
   members = members_in (session_in w.control.sessions i)
 
   -- the server does what it owes, where its members are drained if it is to seal
-  exchange-in : (v : World) → Sound v → v.control.sessions ≡ w.control.sessions → (r.master.phase ≡ phase.Draining → (m : Member) → In m (members_on server members) → Within [] (fields_at v.control m.a.0))
+  exchange-in : (v : World) → Sound v → v.control.sessions ≡ w.control.sessions → (r.master.phase ≡ phase.Draining → (m : Member) → In m (members_on server members) → SentAll (fields_at v.control m.a.0))
       → (part v (asking v.control i server true)).refusal ≡ None → Exchanged v i server r (part v (asking v.control i server true)).world
   exchange-in v sound same dry none =
       let a : Asks w.control i r = asks-by w.control i r has in
       let found : session_in v.control.sessions i ≡ Some a.session = ap (λ ss. session_in ss i) same ∙ a.found in
       let is : asking v.control i server true ≡ exchange_on v.control i (Some r) server true a.session.members =
       ap (λ q. exchange_on v.control i (mirror_in q) server true (members_in q)) found ∙ ap (λ q. exchange_on v.control i q server true a.session.members) a.mirror in
-      let dry_here : (r.master.phase ≡ phase.Draining → (m : Member) → In m (members_on server a.session.members) → Within [] (fields_at v.control m.a.0)) =
+      let dry_here : (r.master.phase ≡ phase.Draining → (m : Member) → In m (members_on server a.session.members) → SentAll (fields_at v.control m.a.0)) =
       λ draining m here. dry draining m (subst (λ q. In m (members_on server (members_in q))) (sym a.found) here) in
       subst (λ (p : Plan). Exchanged v i server r (part v p).world) (sym is)
       (exchange-asked v sound i server a.session r found a.mirror dry_here (sym (ap (λ (p : Plan). (part v p).refusal) is) ∙ none))

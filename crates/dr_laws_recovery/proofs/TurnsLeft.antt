@@ -49,43 +49,19 @@ Less left committed p owed q then_owed = turns_left (still_left committed q left
 
 -- fewer are owed in the same phase
 same-less : (left : ℕ) (c : Bool) (p : PhaseName) (owed fewer : ℕ) → Works p → fewer < owed → Less left c p owed p fewer
-same-less left true phase.Coordinating owed fewer works less = omega (arith, less)
-same-less left false phase.Coordinating owed fewer works less = omega (arith, less)
-same-less left true phase.Releasing owed fewer works less = omega (arith, less)
-same-less left false phase.Releasing owed fewer works less = omega (arith, less)
-same-less left true phase.Draining owed fewer works less = omega (arith, less)
-same-less left false phase.Draining owed fewer works less = omega (arith, less)
-same-less left true phase.Flashing owed fewer works less = omega (arith, less)
-same-less left false phase.Flashing owed fewer works less = omega (arith, less)
-same-less left true phase.Committing owed fewer works less = omega (arith, less)
-same-less left false phase.Committing owed fewer works less = omega (arith, less)
-same-less left true phase.Reverting owed fewer works less = omega (arith, less)
-same-less left false phase.Reverting owed fewer works less = omega (arith, less)
 same-less left true phase.Finishing owed fewer works less = omega (arith, less)
-same-less left false phase.Finishing owed fewer works less = omega (arith, less)
 same-less left c phase.Lost owed fewer works less = absurd works
 same-less left c phase.Idle owed fewer works less = absurd works
 same-less left c phase.None owed fewer works less = absurd works
+same-less left c p owed fewer works less = omega (arith, less)
 
 -- or none, and the next phase begins
 next-less : (left : ℕ) (c : Bool) (p : PhaseName) (owed : ℕ) (servers : List ℕ) → Works p → left ≢ 0 → 0 < owed → length servers ≤ 8 → Less left c p owed (phases.next_phase p) (length (phases.owed_first (phases.next_phase p) servers))
-next-less left true phase.Coordinating owed servers works some more few = omega (arith, more, few)
-next-less left false phase.Coordinating owed servers works some more few = omega (arith, more, few)
-next-less left true phase.Releasing owed servers works some more few = omega (arith, more, few)
-next-less left false phase.Releasing owed servers works some more few = omega (arith, more, few)
-next-less left true phase.Draining owed servers works some more few = omega (arith, more, few)
-next-less left false phase.Draining owed servers works some more few = omega (arith, more, few)
-next-less left true phase.Flashing owed servers works some more few = omega (arith, more, few)
-next-less left false phase.Flashing owed servers works some more few = omega (arith, more, few)
-next-less left true phase.Committing owed servers works some more few = omega (arith, more, few)
-next-less left false phase.Committing owed servers works some more few = omega (arith, more, few)
-next-less left true phase.Reverting owed servers works some more few = omega (arith, more, few)
-next-less left false phase.Reverting owed servers works some more few = omega (arith, more, few)
 next-less left true phase.Finishing owed servers works some more few = omega (arith, more, few)
-next-less left false phase.Finishing owed servers works some more few = omega (arith, more, few)
 next-less left c phase.Lost owed servers works some more few = absurd works
 next-less left c phase.Idle owed servers works some more few = absurd works
 next-less left c phase.None owed servers works some more few = absurd works
+next-less left c p owed servers works some more few = omega (arith, more, few)
 
 -- a lost master goes on, or settles what was left open
 lost-less : (left : ℕ) (c : Bool) (owed fewer : ℕ) → fewer < owed → Less left c phase.Lost owed phase.Lost fewer
@@ -114,25 +90,11 @@ done-works : (p : PhaseName) → phases.is_reply phases.Done (phases.work_in p) 
 done-works phase.Idle h = absurd cc
 done-works phase.None h = absurd cc
 done-works phase.Lost h = absurd cc
-done-works phase.Coordinating h = tt
-done-works phase.Releasing h = tt
-done-works phase.Draining h = tt
-done-works phase.Flashing h = tt
-done-works phase.Committing h = tt
-done-works phase.Reverting h = tt
-done-works phase.Finishing h = tt
+done-works p h = tt
 
 pub reported-lost : (p : PhaseName) (xs : List Shown) → phases.is_reply (phases.Reported xs) (phases.work_in p) ≡ true → p ≡ phase.Lost
-reported-lost phase.Idle xs h = absurd cc
-reported-lost phase.None xs h = absurd cc
 reported-lost phase.Lost xs h = refl
-reported-lost phase.Coordinating xs h = absurd cc
-reported-lost phase.Releasing xs h = absurd cc
-reported-lost phase.Draining xs h = absurd cc
-reported-lost phase.Flashing xs h = absurd cc
-reported-lost phase.Committing xs h = absurd cc
-reported-lost phase.Reverting xs h = absurd cc
-reported-lost phase.Finishing xs h = absurd cc
+reported-lost p xs h = absurd cc
 
 -- what a master becomes leaves less to do than it did
 abbrev pub Shrinks : ℕ → Bool → phases.Master → phases.Master → Type 0
@@ -168,14 +130,6 @@ module _ (left : ℕ) (c : Bool) (m : phases.Master) (some : left ≢ 0) (few : 
 
 -- the most that there is to do with so many attempts left
 pub left-most : (left : ℕ) (c : Bool) (p : PhaseName) (owed : ℕ) → owed ≤ 8 → turns_left left c p owed < (left + 1) * 64
-left-most left c phase.Coordinating owed few = omega (arith, few)
-left-most left c phase.Releasing owed few = omega (arith, few)
-left-most left c phase.Draining owed few = omega (arith, few)
-left-most left c phase.Flashing owed few = omega (arith, few)
-left-most left c phase.Committing owed few = omega (arith, few)
-left-most left c phase.Reverting owed few = omega (arith, few)
-left-most left c phase.Lost owed few = omega (arith, few)
 left-most left true phase.Finishing owed few = omega (arith, few)
 left-most left false phase.Finishing owed few = omega (arith, few)
-left-most left c phase.Idle owed few = omega (arith, few)
-left-most left c phase.None owed few = omega (arith, few)
+left-most left c p owed few = omega (arith, few)

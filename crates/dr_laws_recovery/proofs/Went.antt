@@ -4,11 +4,13 @@ use Rattle.dr_ids.specs.declared.refusal.Refusal.{Refusal}
 use Rattle.dr_ids.specs.declared.refusal.Refusal.TheVariants.{JournalFull}
 use Rattle.dr_model.specs.declared.said.Said.{Said}
 use Rattle.dr_model.specs.Control.{Control, World, Fuse}
-use Rattle.dr_model.specs.Carry.{Act, Make, OpenAttempt, Redo, Acknowledge, Drop, EndFreeze, EndThaw, EndRecovery, Next, Pass, Do, End, Entry, Outcome, continue, go, carry}
+use Rattle.dr_model.specs.Carry.{Act, Make, OpenAttempt, Next, Pass, Do, End, Entry, Outcome, continue, go, carry}
+use Rattle.dr_model.specs.PairEntries.{refuse_if}
 use Rattle.dr_model.specs.Plans.{Plan, same, has_room}
 use Rattle.dr_model.specs.Carried.{finish, carried_out, answered, masters_lost}
 use Rattle.dr_model.specs.Forming.{Part, Way, ends, goes_on, refusal_said, after_part, part_refusal, part}
 use Rattle.dr_model.proofs.CarryLemmas.{onward, carry-append}
+use Rattle.dr_facts.proofs.Entries.{any_world, any_reason, why-any, AllFine, FineThen, fine-refuse}
 use Rattle.dr_laws_sound.proofs.Awaits.{none-refused}
 use Rattle.dr_laws_sound.proofs.FitsFlash.{as_begun}
 use Rattle.dr_laws_sound.proofs.ChecksFirst.{on-stays}
@@ -18,65 +20,30 @@ use Rattle.dr_logic.proofs.Options.{none_some}
 
 -- ---- what each act keeps
 
--- acts that are so, or no act
-abbrev pub Fine : (Control → Act → Type 0) → Control → Next → Type 0
-Fine Ok k (Do a) = Ok k a
-Fine Ok k x = Unit {0}
+-- entries that come to such acts alone, wherever they come
+module _ (Ok : World → Act → Type 0) where
+  abbrev pub Each : List Entry → Type 0
+  Each = AllFine any_world Ok any_reason
 
--- each entry comes to one, whatever the state
-unfoldable pub AllFine : (Control → Act → Type 0) → List Entry → Type 0
-AllFine Ok [] = Unit {0}
-AllFine Ok (d ∷ ds) = ((k : Control) → Fine Ok k (d k)) × AllFine Ok ds
+  pub each-refuse : (why : Control → Option Refusal) (ds : List Entry) → Each ds → Each (refuse_if why ∷ ds)
+  each-refuse why ds rest = fine-refuse any_world Ok any_reason why ds (λ k. why-any (why k)) rest
 
-module _ (Ok : Control → Act → Type 0) where
-  pub fine-none : AllFine Ok []
-  unfolding AllFine
-  fine-none = tt
-
-  pub fine-then : (d : Entry) (ds : List Entry) → ((k : Control) → Fine Ok k (d k)) → AllFine Ok ds → AllFine Ok (d ∷ ds)
-  unfolding AllFine
-  fine-then d ds one rest = (one, rest)
-
-  pub fine-append : (ds es : List Entry) → AllFine Ok ds → AllFine Ok es → AllFine Ok (ds ++ es)
-  unfolding AllFine
-  fine-append [] es a b = b
-  fine-append (d ∷ ds) es a b = (a.0, fine-append ds es a.1 b)
-
-  pub fine-choice : (k : Control) (b : Bool) (x y : Next) → Fine Ok k x → Fine Ok k y → Fine Ok k (cond b x y)
-  fine-choice k true x y p q = p
-  fine-choice k false x y p q = q
-
-  module _ (K : World → Type 0) (keeps : (w : World) (a : Act) (f : Option Fuse) → Ok w.control a → K w → K (after_act w a f)) where
+  module _ (K : World → Type 0) (keeps : (w : World) (a : Act) (f : Option Fuse) → Ok w a → K w → K (after_act w a f)) where
     counts-refused : (w v : World) (a : Act) (rest : World → Outcome) → Counts w a (λ t. continue t.0 t.1 rest ≡ (v, None) → K v)
     counts-refused w v (Make m) rest = λ f h. none-refused _ v _ h
     counts-refused w v (OpenAttempt j s n) rest = λ f h. none-refused _ v _ h
-    counts-refused w v (Redo j) rest = tt
-    counts-refused w v (Acknowledge n) rest = tt
-    counts-refused w v (Drop n) rest = tt
-    counts-refused w v (EndFreeze l m) rest = tt
-    counts-refused w v (EndThaw l m) rest = tt
-    counts-refused w v (EndRecovery s n) rest = tt
+    counts-refused w v a rest = tt
 
-    next-keeps : (w v : World) (x : Next) (rest : World → Outcome) → Fine Ok w.control x → ((u : World) → rest u ≡ (v, None) → K u → K v) → go w x rest ≡ (v, None) → K w → K v
-    next-keeps w v Pass rest ok on leads k = on w leads k
-    next-keeps w v (End r) rest ok on leads k = none-refused w v r leads
-    next-keeps w v (Do a) rest ok on leads k =
-        act-cases w a (λ t. continue t.0 t.1 rest ≡ (v, None) → K v) (λ d off h. on w h k) (λ f h. on (after_act w a f) h (keeps w a f ok k)) (counts-refused w v a rest) (λ d f h. none-refused _ v _ h) leads
+    next-keeps : (w v : World) (x : Next) (rest : World → Outcome) (more : Type 0) → FineThen any_world Ok any_reason w x more → (more → (u : World) → rest u ≡ (v, None) → K u → K v) → go w x rest ≡ (v, None) → K w → K v
+    next-keeps w v Pass rest more fine on leads k = on fine w leads k
+    next-keeps w v (End r) rest more fine on leads k = none-refused w v r leads
+    next-keeps w v (Do a) rest more fine on leads k =
+        act-cases w a (λ t. continue t.0 t.1 rest ≡ (v, None) → K v) (λ d off h. on fine.1 w h k) (λ f h. on fine.1 (after_act w a f) h (keeps w a f fine.0 k)) (counts-refused w v a rest) (λ d f h. none-refused _ v _ h) leads
 
-    pub carry-keeps : (w v : World) (ds : List Entry) → AllFine Ok ds → carry w ds ≡ (v, None) → K w → K v
+    pub carry-keeps : (w v : World) (ds : List Entry) → Each ds → carry w ds ≡ (v, None) → K w → K v
     unfolding carry AllFine
     carry-keeps w v [] fine leads k = subst K (ap (λ (t : Outcome). t.0) leads) k
-    carry-keeps w v (d ∷ ds) fine leads k = next-keeps w v (d w.control) (λ u. carry u ds) (fine.0 w.control) (λ u h j. carry-keeps u v ds fine.1 h j) leads k
-
-pub fine-wider : (Ok More : Control → Act → Type 0) → ((k : Control) (a : Act) → Ok k a → More k a) → (ds : List Entry) → AllFine Ok ds → AllFine More ds
-unfolding AllFine
-fine-wider Ok More wider [] fine = tt
-fine-wider Ok More wider (d ∷ ds) fine = ((λ k. by k (d k) (fine.0 k)), fine-wider Ok More wider ds fine.1)
-  where
-    by : (k : Control) (x : Next) → Fine Ok k x → Fine More k x
-    by k (Do a) is = wider k a is
-    by k Pass is = tt
-    by k (End r) is = tt
+    carry-keeps w v (d ∷ ds) fine leads k = next-keeps w v (d w.control) (λ u. carry u ds) (Each ds) (fine w tt) (λ rest u h j. carry-keeps u v ds rest h j) leads k
 
 -- entries in two parts
 pub record Split (w v : World) (ds es : List Entry) : Type 0 where

@@ -1,10 +1,11 @@
 -- A drain of all tracks that nothing stands against is refused for a stop alone, of a server on which a fuse was armed.
-use Rattle.std.proofs.Common.{ℕ, ◌≡◌, refl, ap, sym, ◌∙◌, subst, append_assoc, Bool, true, false, cond, not, ◌&&◌, ◌||◌, List, [], ◌∷◌, ◌++◌, map, filter, Option, Some, None, Ok}
+use Rattle.std.proofs.Common.{ℕ, ◌≡◌, refl, ap, sym, ◌∙◌, subst, Bool, true, false, cond, not, ◌&&◌, ◌||◌, List, [], ◌∷◌, filter, Option, Some, None, Ok}
 use Rattle.std.specs.Prelude.{is_some}
 use Rattle.std.specs.List.{list_any}
 use Rattle.std.specs.Option.{option_or}
 use Rattle.std.specs.FinSet.{contains}
 use Rattle.std.proofs.lemmas.Bool.{and_parts, eqb-true, false_from_ne_true}
+use Rattle.dr_ids.specs.declared.refusal.Refusal.{Refusal}
 use Rattle.dr_ids.specs.declared.refusal.Refusal.TheVariants.{Stopped, JournalFull}
 use Rattle.dr_ids.specs.declared.refusal.Kind.TheVariants.{Path as OfPath}
 use Rattle.dr_model.specs.Refusals.{unknown, server_off}
@@ -14,14 +15,14 @@ use Rattle.dr_model.specs.Relations.{parted_if, noted, fetched}
 use Rattle.dr_model.specs.Pairs.{is_secondary_of}
 use Rattle.dr_model.specs.Control.{Control, Fuse, Volume, World}
 use Rattle.dr_model.specs.Moves.{Move, Keep, Note, Store, Strike, Suspend, target, fields_left}
-use Rattle.dr_model.specs.Carry.{Make, Next, Pass, Do, Entry, Outcome, Turn, continue, go, carry, turn}
-use Rattle.dr_model.specs.Entries.{fields_at, is_running, keep_on, keep_if, copies_from, copy_first, stands_in, is_revertible, relation_state, pair_state}
-use Rattle.dr_model.specs.PairEntries.{link_down, has_path, are_linked, belongs_to, refuse_if, end_if, send_refusal, suspend_where, flashed_refusal, store_on, strike_on, sends, is_copying, tracks_to_send}
+use Rattle.dr_model.specs.Carry.{Act, Make, Next, Pass, Do, End, Entry, Outcome, Turn, continue, go, carry, turn}
+use Rattle.dr_model.specs.Entries.{fields_at, is_running, copies_from, copy_first, stands_in, is_revertible, relation_state, pair_state}
+use Rattle.dr_model.specs.PairEntries.{link_down, has_path, are_linked, belongs_to, refuse_if, end_if, send_refusal, suspend_where, flashed_refusal, store_on, strike_on, send_entries, sends, is_copying, tracks_to_send}
 use Rattle.dr_model.specs.Plans.{Plan, refuses, is_defined, has_room, drain_plan}
 use Rattle.dr_model.specs.Carried.{finish, answered}
 use Rattle.dr_model.specs.Runs.{Task, run, after_task}
 use Rattle.dr_model.specs.Laws.{Sound}
-use Rattle.dr_model.proofs.CarryLemmas.{act-move, carry-none, carry-first, carry-skips, carry-passed}
+use Rattle.dr_model.proofs.CarryLemmas.{act-move, carry-passed}
 use Rattle.dr_facts.proofs.Tables.{at_cases, at_part}
 use Rattle.dr_laws_sound.specs.Acknowledged.{said_in, part_answer}
 use Rattle.dr_laws_sound.proofs.Turns.{server_at, done, turn-armed}
@@ -29,6 +30,8 @@ use Rattle.dr_laws_sound.proofs.FitsFlash.{as_begun}
 use Rattle.dr_laws_sound.proofs.FitsPairs.{its-first, row, runs-done, part-same}
 use Rattle.dr_laws_sound.proofs.Steps.{sound-run}
 use Rattle.dr_laws_recovery.specs.Emptied.{IsEmptied}
+use Rattle.dr_facts.proofs.Entries.{Fine, AllFine, FineThen, fine-none, fine-then, fine-append}
+use Rattle.dr_facts.proofs.SharedEntries.{copies-fine}
 use Rattle.dr_laws_recovery.proofs.Emptied.{drain-empties}
 use Rattle.dr_laws_return.specs.Drains.{CanDrain, EndsOrStops, DrainsOrStops}
 use Rattle.dr_laws_return.proofs.Returned.{Ends, drain-goes}
@@ -57,15 +60,9 @@ Sends (Store v t u last) = Unit {0}
 Sends (Strike v t last) = Unit {0}
 Sends m = ⊥
 
--- an entry that refuses nothing
-abbrev Comes : Next → Type 0
-Comes Pass = Unit {0}
-Comes (Do (Make m)) = Sends m
-Comes n = ⊥
-
-comes-choice : (b : Bool) (m n : Next) → Comes m → Comes n → Comes (cond b m n)
-comes-choice true m n p q = p
-comes-choice false m n p q = q
+abbrev IsSend : World → Act → Type 0
+IsSend w (Make m) = Sends m
+IsSend w a = ⊥
 
 -- of a record they leave this
 abbrev second_part : Fields → Fields
@@ -144,15 +141,28 @@ module _ (start : World) (x y : ℕ) where
   EndsSo (w, Some (Stopped q)) = HasFuse start q.0
   EndsSo (w, Some r) = ⊥
 
-  next-goes : (w : World) (n : Next) (rest : World → Outcome) → Comes n → Ready w → ((u : World) → Ready u → EndsSo (rest u)) → EndsSo (go w n rest)
-  next-goes w Pass rest is old on = on w old
-  next-goes w (Do (Make m)) rest is old on =
-      subst (λ (t : Turn). EndsSo (continue t.0 t.1 rest)) (sym (act-move w m))
-      (turn-fuse w m (λ t. EndsSo (continue t.0 t.1 rest)) (on w old) (λ f fused. on (done w m f) (ready-done w m f is fused old)) (λ armed u. old.armed _ armed))
-  next-goes w n rest is old on = absurd is
+  -- entries that come to such moves alone, and refuse nothing
+  abbrev Refuses : Refusal → Type 0
+  Refuses r = ⊥
 
-  entry-goes : (w : World) (d : Entry) (ds : List Entry) → Comes (d w.control) → Ready w → ((u : World) → Ready u → EndsSo (carry u ds)) → EndsSo (carry w (d ∷ ds))
-  entry-goes w d ds is old on = subst EndsSo (sym (carry-first w d ds (d w.control) refl)) (next-goes w (d w.control) (λ u. carry u ds) is old on)
+  abbrev One : World → Next → Type 0
+  One = Fine Ready IsSend Refuses
+
+  abbrev All : List Entry → Type 0
+  All = AllFine Ready IsSend Refuses
+
+  next-goes : (w : World) (n : Next) (rest : World → Outcome) (more : Type 0) → FineThen Ready IsSend Refuses w n more → Ready w → (more → (u : World) → Ready u → EndsSo (rest u)) → EndsSo (go w n rest)
+  next-goes w Pass rest more is old on = on is w old
+  next-goes w (Do (Make m)) rest more is old on =
+      subst (λ (t : Turn). EndsSo (continue t.0 t.1 rest)) (sym (act-move w m))
+      (turn-fuse w m (λ t. EndsSo (continue t.0 t.1 rest)) (on is.1 w old) (λ f fused. on is.1 (done w m f) (ready-done w m f is.0 fused old)) (λ armed u. old.armed _ armed))
+  next-goes w (End r) rest more is old on = absurd is
+  next-goes w (Do a) rest more is old on = absurd is.0
+
+  all-go : (ds : List Entry) → All ds → (w : World) → Ready w → EndsSo (carry w ds)
+  unfolding carry AllFine
+  all-go [] fine w old = tt
+  all-go (d ∷ ds) fine w old = next-goes w (d w.control) (λ u. carry u ds) (All ds) (fine w old) old (λ rest u r. all-go ds rest u r)
 
   -- ---- nothing refuses a send
 
@@ -172,31 +182,17 @@ module _ (start : World) (x y : ℕ) where
       ∙ none-among (λ u. copies_from y (fields_at k u)) (λ u. (fields_at k u).revertible) k.volumes old.free in
       ap (λ b. cond b (Some (relation_state k y)) None) related
 
-  keep-comes : (t u : ℕ) (k : Control) → Comes (keep_on y t u k)
-  keep-comes t u k =
-      let f : Fields = fields_at k u in
-      comes-choice (copies_from y f && not f.reversing) (keep_if f u t) Pass
-      (comes-choice (not (contains f.own t)) (Do (Make (Keep u t))) _ tt (comes-choice (f.recorded && not (contains f.source_changes t)) (Do (Make (Note u t))) Pass tt tt)) tt
-
-  copies-go : (us : List ℕ) (t : ℕ) (ds : List Entry) (w : World) → Ready w → ((u : World) → Ready u → EndsSo (carry u ds)) → EndsSo (carry w (map (keep_on y t) us ++ ds))
-  copies-go [] t ds w old on = on w old
-  copies-go (u ∷ us) t ds w old on = entry-goes w (keep_on y t u) _ (keep-comes t u w.control) old (λ v r. copies-go us t ds v r on)
+  each : (d : Entry) (ds : List Entry) → ((u : World) → Ready u → One u (d u.control)) → All ds → All (d ∷ ds)
+  each = fine-then Ready IsSend Refuses
 
   -- so each track is sent, until a server stops
-  sends-go : (volumes ts : List ℕ) (w : World) → Ready w → EndsSo (carry w (sends volumes x y ts))
-  sends-go volumes [] w old = subst EndsSo (sym (carry-none w)) tt
-  sends-go volumes (t ∷ ts) w old =
-      let more : List Entry = sends volumes x y ts in
-      let stored : List Entry = store_on x y t ∷ strike_on x t ∷ more in
-      let goes : EndsSo (carry w (copy_first volumes y t ++ stored)) =
-      copies-go volumes t stored w old (λ u r. entry-goes u (store_on x y t) (strike_on x t ∷ more) tt r (λ v r. entry-goes v (strike_on x t) more tt r (λ z r. sends-go volumes ts z r))) in
-      let free = none-refuses w old in
-      subst EndsSo (sym (
-      carry-skips w (suspend_where (send_refusal x y) x) _ (ap (λ o. cond (is_some o) (Do (Make (Suspend x false))) Pass) free)
-      ∙ carry-skips w (refuse_if (send_refusal x y)) _ (ap end_if free)
-      ∙ carry-skips w (refuse_if (flashed_refusal y)) _ (ap end_if (none-flashed w old))
-      ∙ ap (carry w) (append_assoc (copy_first volumes y t) (store_on x y t ∷ strike_on x t ∷ []) more)
-      )) goes
+  sends-go : (volumes ts : List ℕ) → All (sends volumes x y ts)
+  sends-go volumes [] = fine-none Ready IsSend Refuses
+  sends-go volumes (t ∷ ts) = fine-append Ready IsSend Refuses (send_entries volumes x y t) (sends volumes x y ts)
+      (each (suspend_where (send_refusal x y) x) _ (λ u r. subst (λ o. One u (cond (is_some o) (Do (Make (Suspend x false))) Pass)) (sym (none-refuses u r)) tt)
+      (each (refuse_if (send_refusal x y)) _ (λ u r. subst (λ o. One u (end_if o)) (sym (none-refuses u r)) tt) (each (refuse_if (flashed_refusal y)) _ (λ u r. subst (λ o. One u (end_if o)) (sym (none-flashed u r)) tt)
+      (fine-append Ready IsSend Refuses (copy_first volumes y t) _ (copies-fine Ready IsSend Refuses (λ v t u r. tt) (λ v t u r. tt) volumes y t)
+      (each (store_on x y t) _ (λ u r. tt) (each (strike_on x t) [] (λ u r. tt) (fine-none Ready IsSend Refuses))))))) (sends-go volumes ts)
 
 -- ---- the step
 
@@ -230,7 +226,7 @@ module _ (w : World) (s : Sound w) (x y : ℕ) (can : CanDrain w.control x y) wh
       ∙ carry-passed first (is_running x) _ _ can.runs
       ∙ carry-passed first (is_copying x) _ _ can.copying
       ∙ ap (λ b. carry first (sends w.control.volumes x b ts)) partner
-      )) (sends-go w x y w.control.volumes ts first ready)
+      )) (all-go w x y _ (sends-go w x y w.control.volumes ts) first ready)
 
   module _ (t : Task) (asked : t.asked ≡ Ok (Drain x None)) (room : has_room w.events ≡ true) where
     answers : said_in w t ≡ part_answer (record { world = w; plan = p })

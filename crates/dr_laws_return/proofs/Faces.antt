@@ -1,33 +1,27 @@
 -- Through a drain that isn't refused a pair that was turned stays in place, and with its last track a Metro Mirror pair is Full Duplex.
-use Rattle.std.proofs.Common.{ℕ, ◌≡◌, ◌≢◌, refl, ap, sym, ◌∙◌, subst, Bool, true, false, cond, not, ◌&&◌, List, [], ◌∷◌, Option, Some, None}
-use Rattle.std.specs.Prelude.{is_some}
-use Rattle.std.specs.Option.{option_or}
+use Rattle.std.proofs.Common.{ℕ, ◌≡◌, ◌≢◌, refl, ap, sym, ◌∙◌, subst, Bool, true, false, cond, List, [], ◌∷◌, Option, None}
 use Rattle.std.proofs.lemmas.Bool.{and_from}
-use Rattle.std.specs.FinSet.{contains, remove}
-use Rattle.dr_ids.specs.declared.refusal.Refusal.{Refusal}
-use Rattle.dr_ids.specs.declared.refusal.Refusal.TheVariants.{PairState as PairRefused}
-use Rattle.dr_ids.specs.declared.refusal.Kind.TheVariants.{Path as OfPath}
+use Rattle.std.specs.FinSet.{remove}
 use Rattle.dr_model.specs.declared.state.Part.{Part}
 use Rattle.dr_model.specs.declared.state.PairState.{PairState}
 use Rattle.dr_model.specs.declared.state.PairState.TheVariants.{FullDuplex}
-use Rattle.dr_model.specs.Refusals.{unknown, server_off}
 use Rattle.dr_model.specs.Layout.{Fields, no_fields}
 use Rattle.dr_model.specs.Relations.{is_bare}
-use Rattle.dr_model.specs.Pairs.{is_primary_of, is_secondary_of, is_kind, is_metro, is_last, received, struck, pair_seen}
-use Rattle.dr_model.specs.Control.{Control, Fuse, Volume, World}
-use Rattle.dr_model.specs.Moves.{Move, Keep, Note, Store, Strike, Suspend}
-use Rattle.dr_model.specs.Carry.{Act, Make, Pass, Do, Entry, carry}
-use Rattle.dr_model.specs.Entries.{fields_at, keep_on, keep_if, copies_from, copy_first}
-use Rattle.dr_model.specs.PairEntries.{link_down, has_path, reach_refusal, refuse_if, send_refusal, suspend_where, flashed_refusal, store_on, strike_on, send_entries, sends}
+use Rattle.dr_model.specs.Pairs.{is_primary_of, is_secondary_of, is_kind, is_metro, is_last, received, struck}
+use Rattle.dr_model.specs.Control.{Fuse, Volume, World}
+use Rattle.dr_model.specs.Moves.{Move, Keep, Note, Store, Strike}
+use Rattle.dr_model.specs.Carry.{Act, Make, carry}
+use Rattle.dr_model.specs.Entries.{fields_at, copy_first}
+use Rattle.dr_model.specs.PairEntries.{reach_refusal, flashed_refusal, store_on, strike_on, send_entries, sends}
 use Rattle.dr_model.specs.Allowed.{Runs}
-use Rattle.dr_model.proofs.CarryLemmas.{carry-skips}
 use Rattle.dr_facts.proofs.Refusals.{none-both}
-use Rattle.dr_facts.proofs.Tables.{at_part}
 use Rattle.dr_laws_sound.proofs.Turns.{done, after_act}
 use Rattle.dr_laws_sound.proofs.FitsPairs.{reached, row, runs-done, part-same}
 use Rattle.dr_laws_sound.proofs.Turned.{passed-refuse, move-led, nothing-left}
-use Rattle.dr_laws_recovery.proofs.Went.{AllFine, fine-none, fine-then, fine-choice, carry-keeps, Split, carry-split}
-use Rattle.dr_logic.proofs.Options.{none_some}
+use Rattle.dr_facts.proofs.Entries.{any_world, any_reason}
+use Rattle.dr_facts.proofs.SharedEntries.{copies-fine}
+use Rattle.dr_laws_recovery.proofs.Emptied.{can-send}
+use Rattle.dr_laws_recovery.proofs.Went.{carry-keeps, Split, carry-split}
 use Rattle.dr_logic.proofs.Tables.{at_same, at_other}
 
 -- what a record says of pairs
@@ -49,9 +43,9 @@ Keeps (Keep v t) = Unit {0}
 Keeps (Note v t) = Unit {0}
 Keeps m = ⊥
 
-abbrev Ok : Control → Act → Type 0
-Ok k (Make m) = Keeps m
-Ok k a = ⊥
+abbrev Ok : World → Act → Type 0
+Ok w (Make m) = Keeps m
+Ok w a = ⊥
 
 module _ (x y : ℕ) (kind : Part) where
   -- A primary x of y, of that kind, which doesn't record, and its secondary. Where a Metro Mirror pair has nothing out of sync, it is Full
@@ -124,7 +118,7 @@ module _ (x y : ℕ) (kind : Part) where
     kept-part w (Note u t) f is v = part-same w (Note u t) f pair_part refl v
     kept-part w m f is v = absurd is
 
-    reaching-act : (w : World) (a : Act) (f : Option Fuse) → Ok w.control a → Reaching w → Reaching (after_act w a f)
+    reaching-act : (w : World) (a : Act) (f : Option Fuse) → Ok w a → Reaching w → Reaching (after_act w a f)
     reaching-act w (Make m) f is old = record {
       sending = record {
         runs = runs-done w m f x old.sending.runs;
@@ -133,43 +127,6 @@ module _ (x y : ℕ) (kind : Part) where
       other = runs-done w m f y old.other;
     }
     reaching-act w a f is old = absurd is
-
-    copies-keep : (us : List ℕ) (t : ℕ) → AllFine Ok (copy_first us y t)
-    copies-keep [] t = fine-none Ok
-    copies-keep (u ∷ us) t = fine-then Ok (keep_on y t u) _ (λ k. let f : Fields = fields_at k u in
-        fine-choice Ok k (copies_from y f && not f.reversing) (keep_if f u t) Pass
-        (fine-choice Ok k (not (contains f.own t)) (Do (Make (Keep u t))) _ tt (fine-choice Ok k (f.recorded && not (contains f.source_changes t)) (Do (Make (Note u t))) Pass tt tt)) tt)
-        (copies-keep us t)
-
-    -- where a track can't be sent, it can't be sent either once the primary is suspended
-    refusal-by : World → ℕ → Volume → Option Refusal
-    refusal-by w s u = option_or
-        (cond (not (has_path x y w.control)) (Some (unknown OfPath)) (cond (not (w.control.on u.server)) (Some (server_off u.server)) (cond (not (w.control.link s u.server)) (Some (link_down s u.server)) None)))
-        (cond (is_secondary_of x u.fields) None (Some (PairRefused (record { 0 = y }) (pair_seen u.fields))))
-
-    suspended-refuses : (w : World) (f : Option Fuse) → send_refusal x y (done w (Suspend x false) f).control ≡ send_refusal x y w.control
-    unfolding refusal-by
-    suspended-refuses w f = λ i. refusal-by w (at_part (λ (v : Volume). v.server) w.control.volume x (row w (Suspend x false) f) refl x i) (at_other w.control.volume x (row w (Suspend x false) f) y (λ e. ne (sym e)) i)
-
-    -- so a send that isn't refused finds the secondary in place and reached
-    record Sendable (w v : World) (ds : List Entry) : Type 0 where
-      free : send_refusal x y w.control ≡ None
-      leads : carry w ds ≡ (v, None)
-
-    can-send : (w v : World) (ds : List Entry) → Runs w x → carry w (suspend_where (send_refusal x y) x ∷ refuse_if (send_refusal x y) ∷ ds) ≡ (v, None) → Sendable w v ds
-    can-send w v ds on leads = by (send_refusal x y w.control) refl
-      where
-        d : Entry
-        d = suspend_where (send_refusal x y) x
-
-        comes : (o : Option Refusal) → send_refusal x y w.control ≡ o → d w.control ≡ cond (is_some o) (Do (Make (Suspend x false))) Pass
-        comes o is = ap (λ o. cond (is_some o) (Do (Make (Suspend x false))) Pass) is
-
-        by : (o : Option Refusal) → send_refusal x y w.control ≡ o → Sendable w v ds
-        by None is = record { free = is; leads = (passed-refuse w v (send_refusal x y) ds (sym (carry-skips w d (refuse_if (send_refusal x y) ∷ ds) (comes None is)) ∙ leads)).1 }
-        by (Some r) is =
-            let led = move-led w v d (Suspend x false) (refuse_if (send_refusal x y) ∷ ds) (comes (Some r) is) on leads in
-            none_some (sym is ∙ sym (suspended-refuses w led.fuse) ∙ (passed-refuse (done w (Suspend x false) led.fuse) v (send_refusal x y) ds led.leads).0) refl
 
     -- one track is stored and struck off
     stored-struck : (t : ℕ) (w v : World) → carry w (store_on x y t ∷ strike_on x t ∷ []) ≡ (v, None) → Reaching w → Sending v
@@ -199,9 +156,9 @@ module _ (x y : ℕ) (kind : Part) where
     sends-face volumes [] w v leads old = subst Sending (nothing-left w v leads) old
     sends-face volumes (t ∷ ts) w v leads old =
         let one : Split w v (send_entries volumes x y t) (sends volumes x y ts) = carry-split w v (send_entries volumes x y t) (sends volumes x y ts) leads in
-        let can = can-send w one.middle _ old.runs one.first in
+        let can = can-send x y w one.middle _ old.runs one.first in
         let free = (passed-refuse w one.middle (flashed_refusal y) _ can.leads).1 in
         let two : Split w one.middle (copy_first volumes y t) (store_on x y t ∷ strike_on x t ∷ []) = carry-split w one.middle (copy_first volumes y t) (store_on x y t ∷ strike_on x t ∷ []) free in
         let other : Runs w y = reached w x y (none-both (reach_refusal x y w.control) _ can.free).0 in
-        let kept = carry-keeps Ok Reaching reaching-act w two.middle (copy_first volumes y t) (copies-keep volumes t) two.first (record { sending = old; other = other }) in
+        let kept = carry-keeps Ok Reaching reaching-act w two.middle (copy_first volumes y t) (copies-fine any_world Ok any_reason (λ u t w any. tt) (λ u t w any. tt) volumes y t) two.first (record { sending = old; other = other }) in
         sends-face volumes ts one.middle v one.rest (stored-struck t two.middle one.middle two.rest kept)

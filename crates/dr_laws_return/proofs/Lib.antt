@@ -3,8 +3,8 @@
 --   world behind the step. Say what goes on to the next step of records alone (`Faces`): then the journal and the sessions need no word.
 -- - What lasts through a drain goes along its sends (`sends-face`): acts that touch no part of a pair keep it by `carry-keeps`; a suspension leaves
 --   why a track can't be sent, so the plan ends behind it (`can-send`).
--- - What refuses a plan is said of its outcome (`EndsSo`): entries that refuse nothing go on or stop (`entry-goes`), and a server stops where a fuse
---   was armed alone (`turn-fuse`).
+-- - What refuses a plan is said of its outcome (`EndsSo`): entries that refuse nothing go on or stop (`all-go`), and a server stops only where
+--   a fuse was armed (`turn-fuse`).
 -- - The devices come last: records by `volumes` of `Fits`, tracks by `pairs` of it, or by `HoldsTracks`.
 pub mod Sites
 pub mod Compared

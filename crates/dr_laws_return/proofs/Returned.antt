@@ -31,7 +31,7 @@ use Rattle.dr_laws_sound.specs.Turning.{IsTurned}
 use Rattle.dr_laws_sound.proofs.Agree.{contents-image}
 use Rattle.dr_laws_sound.proofs.FitsFlash.{as_begun}
 use Rattle.dr_laws_sound.proofs.FitsPairs.{its-first, its-second}
-use Rattle.dr_laws_sound.proofs.HushedPlans.{if-plan}
+use Rattle.dr_laws_sound.proofs.AcknowledgingSteps.{if-plan}
 use Rattle.dr_laws_sound.proofs.Journal.{run-more}
 use Rattle.dr_laws_sound.proofs.Spends.{len-low}
 use Rattle.dr_laws_sound.proofs.Steps.{sound-run}

@@ -18,13 +18,11 @@ use Rattle.dr_model.specs.Answers.{answer}
 use Rattle.dr_model.specs.Refusals.{unknown}
 use Rattle.dr_ids.specs.declared.refusal.Kind.TheVariants.{Write as OfWrite}
 use Rattle.dr_model.specs.Control.{Control, Fuse, Pending, Volume, World}
-use Rattle.dr_model.specs.Layout.{is_part}
-use Rattle.dr_model.specs.Pairs.{held, goes_over, collides, must_restart}
-use Rattle.dr_model.specs.Moves.{Move, Keep, Note, Land, Overwrite, Suspend, Unsync, Mirror, LandBoth, Restart, is_write, target}
-use Rattle.dr_model.specs.Carry.{Make, Redo, Acknowledge, Drop, act, acknowledged, dropped, Next, Pass, Do, End, Entry, Turn, Outcome, carry, continue, go, now, check, follow}
+use Rattle.dr_model.specs.Pairs.{held, goes_over, collides}
+use Rattle.dr_model.specs.Moves.{Move, Keep, Note, Land, Overwrite, Suspend, Unsync, Mirror, LandBoth, is_write, target}
+use Rattle.dr_model.specs.Carry.{Make, Acknowledge, Drop, act, acknowledged, dropped, Next, Pass, Do, End, Entry, Turn, Outcome, carry, continue, go, now, check, follow}
 use Rattle.dr_model.specs.Entries.{fields_at, copies_from, is_running, is_no_secondary, is_open, is_settled, relation_state, land_on, land_alone, copy_first, drop_unless, keep_on}
-use Rattle.dr_model.specs.PairEntries.{send_refusal, suspend_where, store_on, strike_on, suspend_after}
-use Rattle.dr_model.specs.WriteEntries.{partner_of, is_grouped, is_parted, land_mirrored, land_parted, land_entries, landing, send_first, sends_first, where_sent, waits, says_written, after_write, part_after, part_running, belongs, redo_on, restart_on, start_entries}
+use Rattle.dr_model.specs.WriteEntries.{partner_of, is_grouped, is_parted, land_mirrored, land_parted, land_entries, landing, send_first, waits, says_written, after_write, start_entries}
 use Rattle.dr_model.specs.PlanParts.{Plan, only_says, refuses, server_named, name_bytes}
 use Rattle.dr_model.specs.Plans.{plan, plan_of, has_room, has_room_for, issue_refusal, write_done, apply_done, apply_on, landed_on, acknowledge_if, acknowledge_on, says_acked, start_plan, start_on, compare_plan}
 use Rattle.dr_model.specs.Forming.{Part, formed, form_said}
@@ -40,8 +38,11 @@ use Rattle.dr_facts.proofs.Tables.{at_part}
 use Rattle.dr_laws_sound.specs.Acknowledged.{acknowledgements, wrote, acked, acknowledged_by, said_in, IsUnlanded, AcknowledgesAnswered, AcknowledgedIsAnswered}
 use Rattle.dr_laws_sound.proofs.Turns.{act-cases, after_act, done_in_stop, server_at, server_of}
 use Rattle.dr_laws_sound.proofs.Parts as parts
-use Rattle.dr_laws_sound.proofs.Hushed.{mirrors, cuts_any, Unheard, unheard-none, mirrors-then, uncut-then, HasStop, Mute, Turned, act-turned, none-then, Mum, mum-same, mum-then, StaysPending, pending-same, Hush, AllHush, none-hush, then-hush, Comes, carry-hushed}
-use Rattle.dr_laws_sound.proofs.HushedPlans.{HushedPlan, NotHeld, done-not, refused-not, phase-not, says-hush, choice-hush, last-hush, move-hush, keep-hush, keeps-hush, where-suspended, suspend-hush, acknowledges, step-hush, if-plan, unless-plan, named-plan, compare-hush, lines-hush}
+use Rattle.dr_laws_sound.proofs.Unacknowledged.{mirrors, cuts_any, NoAcknowledgement, no_acknowledgement-none, mirrors-then, uncut-then, HasStop, AcknowledgesNothing, Turned, act-turned, none-then, NothingAcknowledged, since-same, since-then, StaysPending, pending-same, AllAcknowledgeNothing, Comes, carry-unacknowledged}
+use Rattle.dr_laws_sound.proofs.AcknowledgingSteps.{PlanAcknowledgesNothing, NotHeld, done-not, refused-not, phase-not, acknowledges, case-unacknowledged, says-unacknowledged, lines-unacknowledged, if-plan, unless-plan, named-plan}
+use Rattle.dr_laws_sound.proofs.Cases.{of-case, Compares}
+use Rattle.dr_facts.proofs.Entries.{any_world, any_reason, fine-none, fine-now}
+use Rattle.dr_facts.proofs.SharedEntries.{copies-fine, send_first-fine, after_write-fine, starts-fine}
 
 -- what is acknowledged where a plan ends well
 abbrev if_well : Option Refusal → List ℕ → List ℕ
@@ -110,25 +111,35 @@ record Told (w : World) (o : Outcome) (ns : List ℕ) : Type 0 where
 refused-told : (w : World) (r : Refusal) (ns : List ℕ) → Told w (w, Some r) ns
 refused-told w r ns = record { added = []; events = sym (append-nil w.events); acks = refl; kept = λ e q. refl; uncut = refl; way = inl refl }
 
-hush-told : (w : World) (o : Outcome) → Comes true w o → Told w o []
-hush-told w o h = record { added = h.mum.added; events = h.mum.events; acks = h.mum.silent.none ∙ sym (well-none o.1); kept = λ e q. h.stays.pending; uncut = h.mum.silent.uncut refl; way = inl h.mum.silent.plain }
+unacknowledged-told : (w : World) (o : Outcome) → Comes true w o → Told w o []
+unacknowledged-told w o h = record { added = h.since.added; events = h.since.events; acks = h.since.silent.none ∙ sym (well-none o.1); kept = λ e q. h.stays.pending; uncut = h.since.silent.uncut refl; way = inl h.since.silent.plain }
 
 -- entries that acknowledge nothing, and others behind them
-then-told : (w : World) (ds es : List Entry) (ns : List ℕ) → AllHush true ds → ((v : World) → v.control.on ≡ w.control.on → StaysPending w.control v.control → Told v (carry v es) ns) → Told w (carry w (ds ++ es)) ns
-then-told w ds es ns hush rest = subst (λ o. Told w o ns) (sym (carry-append w ds es)) (by (carry w ds) (carry-hushed true w ds hush))
+then-told : (w : World) (ds es : List Entry) (ns : List ℕ) → AllAcknowledgeNothing true ds → ((v : World) → v.control.on ≡ w.control.on → StaysPending w.control v.control → Told v (carry v es) ns) → Told w (carry w (ds ++ es)) ns
+then-told w ds es ns nothing rest = subst (λ o. Told w o ns) (sym (carry-append w ds es)) (by (carry w ds) (carry-unacknowledged true w ds nothing))
   where
     by : (o : Outcome) → Comes true w o → Told w (onward o (λ v. carry v es)) ns
     by (v, None) h =
         let t : Told v (carry v es) ns = rest v (h.on refl) h.stays in
         record {
-          added = h.mum.added ++ t.added;
-          events = t.events ∙ ap (λ es. es ++ t.added) h.mum.events ∙ append_assoc w.events h.mum.added t.added;
-          acks = none-then h.mum.added t.added h.mum.silent.none ∙ t.acks;
+          added = h.since.added ++ t.added;
+          events = t.events ∙ ap (λ es. es ++ t.added) h.since.events ∙ append_assoc w.events h.since.added t.added;
+          acks = none-then h.since.added t.added h.since.silent.none ∙ t.acks;
           kept = λ e q. t.kept e q ∙ h.stays.pending;
-          uncut = uncut-then h.mum.added t.added (h.mum.silent.uncut refl) t.uncut;
-          way = settles-first h.mum.added t.added h.mum.silent.plain t.way;
+          uncut = uncut-then h.since.added t.added (h.since.silent.uncut refl) t.uncut;
+          way = settles-first h.since.added t.added h.since.silent.plain t.way;
         }
-    by (v, Some r) h = record { added = h.mum.added; events = h.mum.events; acks = h.mum.silent.none; kept = λ e q. absurd cc; uncut = h.mum.silent.uncut refl; way = inl h.mum.silent.plain }
+    by (v, Some r) h = record { added = h.since.added; events = h.since.events; acks = h.since.silent.none; kept = λ e q. absurd cc; uncut = h.since.silent.uncut refl; way = inl h.since.silent.plain }
+
+-- a source's targets keep a track
+keeps-unacknowledged : (volumes : List ℕ) (v t : ℕ) → AllAcknowledgeNothing true (copy_first volumes v t)
+keeps-unacknowledged = copies-fine any_world (λ w a. AcknowledgesNothing true a) any_reason (λ u t w any. refl) (λ u t w any. refl)
+
+now-unacknowledged : (m : Move) (ds : List Entry) → AcknowledgesNothing true (Make m) → AllAcknowledgeNothing true ds → AllAcknowledgeNothing true (now m ∷ ds)
+now-unacknowledged m ds nothing rest = fine-now any_world (λ w a. AcknowledgesNothing true a) any_reason m ds (λ w any. nothing) rest
+
+none-unacknowledged : AllAcknowledgeNothing true []
+none-unacknowledged = fine-none any_world (λ w a. AcknowledgesNothing true a) any_reason
 
 -- checks
 check-told : (w : World) (ok : Control → Bool) (r : Refusal) (es : List Entry) (ns : List ℕ) → (ok w.control ≡ true → Told w (carry w es) ns) → Told w (carry w (check ok r ∷ es)) ns
@@ -208,7 +219,7 @@ module _ (k : Control) (n v t : ℕ) where
   runs-on w u runs on stays = (λ i. on i (stays.server v i)) ∙ runs
 
   alone-told : (w : World) → is_running v w.control ≡ true → Told w (carry w (land_alone k.volumes n v t)) (n ∷ [])
-  alone-told w runs = then-told w (copy_first k.volumes v t) (land_on n v t ∷ []) (n ∷ []) (keeps-hush k.volumes v t) (λ u on stays. land-told u n v (runs-on w u runs on stays) t)
+  alone-told w runs = then-told w (copy_first k.volumes v t) (land_on n v t ∷ []) (n ∷ []) (keeps-unacknowledged k.volumes v t) (λ u on stays. land-told u n v (runs-on w u runs on stays) t)
 
   -- behind a mirrored write v's targets keep the track, and it lands, or a server stops
   record Rest (w : World) (o : Outcome) : Type 0 where
@@ -235,38 +246,38 @@ module _ (k : Control) (n v t : ℕ) where
 
   rest-turned : (w : World) (r : Turn) (es : List Entry) → Turned true w r → ((u : World) → u.control.on ≡ w.control.on → StaysPending w.control u.control → Rest u (carry u es)) → Rest w (continue r.0 r.1 (λ u. carry u es))
   rest-turned w (u, None) es h more =
-      let t : Rest u (carry u es) = more u (h.hushed.on refl) h.hushed.stays in
+      let t : Rest u (carry u es) = more u (h.unacknowledged.on refl) h.unacknowledged.stays in
       record {
-        added = h.hushed.mum.added ++ t.added;
-        events = t.events ∙ ap (λ es. es ++ t.added) h.hushed.mum.events ∙ append_assoc w.events h.hushed.mum.added t.added;
-        acks = none-then h.hushed.mum.added t.added h.hushed.mum.silent.none ∙ t.acks;
-        uncut = uncut-then h.hushed.mum.added t.added (h.hushed.mum.silent.uncut refl) t.uncut;
-        plain = mirrors-then h.hushed.mum.added t.added h.hushed.mum.silent.plain ∙ t.plain;
+        added = h.unacknowledged.since.added ++ t.added;
+        events = t.events ∙ ap (λ es. es ++ t.added) h.unacknowledged.since.events ∙ append_assoc w.events h.unacknowledged.since.added t.added;
+        acks = none-then h.unacknowledged.since.added t.added h.unacknowledged.since.silent.none ∙ t.acks;
+        uncut = uncut-then h.unacknowledged.since.added t.added (h.unacknowledged.since.silent.uncut refl) t.uncut;
+        plain = mirrors-then h.unacknowledged.since.added t.added h.unacknowledged.since.silent.plain ∙ t.plain;
         closed = by t.closed;
       }
     where
-      by : In (Ack n) (more u (h.hushed.on refl) h.hushed.stays).added ⊎ HasStop (more u (h.hushed.on refl) h.hushed.stays).added
-          → In (Ack n) (h.hushed.mum.added ++ (more u (h.hushed.on refl) h.hushed.stays).added) ⊎ HasStop (h.hushed.mum.added ++ (more u (h.hushed.on refl) h.hushed.stays).added)
-      by (inl acked) = inl (in-second h.hushed.mum.added _ (Ack n) acked)
-      by (inr s) = inr (record { server = s.server; landed = s.landed; here = in-second h.hushed.mum.added _ (Stopped s.server s.landed) s.here })
-  rest-turned w (u, Some s) es h more = record { added = h.hushed.mum.added; events = h.hushed.mum.events; acks = h.hushed.mum.silent.none; uncut = h.hushed.mum.silent.uncut refl; plain = h.hushed.mum.silent.plain; closed = inr (by h.ends) }
+      by : In (Ack n) (more u (h.unacknowledged.on refl) h.unacknowledged.stays).added ⊎ HasStop (more u (h.unacknowledged.on refl) h.unacknowledged.stays).added
+          → In (Ack n) (h.unacknowledged.since.added ++ (more u (h.unacknowledged.on refl) h.unacknowledged.stays).added) ⊎ HasStop (h.unacknowledged.since.added ++ (more u (h.unacknowledged.on refl) h.unacknowledged.stays).added)
+      by (inl acked) = inl (in-second h.unacknowledged.since.added _ (Ack n) acked)
+      by (inr s) = inr (record { server = s.server; landed = s.landed; here = in-second h.unacknowledged.since.added _ (Stopped s.server s.landed) s.here })
+  rest-turned w (u, Some s) es h more = record { added = h.unacknowledged.since.added; events = h.unacknowledged.since.events; acks = h.unacknowledged.since.silent.none; uncut = h.unacknowledged.since.silent.uncut refl; plain = h.unacknowledged.since.silent.plain; closed = inr (by h.ends) }
     where
-      by : (◌≡◌ {A = Option ℕ} (Some s) None) ⊎ HasStop h.hushed.mum.added → HasStop h.hushed.mum.added
+      by : (◌≡◌ {A = Option ℕ} (Some s) None) ⊎ HasStop h.unacknowledged.since.added → HasStop h.unacknowledged.since.added
       by (inl none) = absurd cc
       by (inr stop) = stop
 
   -- what an entry that does something or nothing comes to
   abbrev Doing : Next → Type 0
   Doing Pass = Unit {0}
-  Doing (Do a) = Mute true a
+  Doing (Do a) = AcknowledgesNothing true a
   Doing (End r) = ⊥
 
   keep-does : (u : ℕ) (k : Control) → Doing (keep_on v t u k)
   keep-does u k = by (copies_from v (fields_at k u) && not (fields_at k u).reversing) (not (contains (fields_at k u).own t)) ((fields_at k u).recorded && not (contains (fields_at k u).source_changes t))
     where
       by : (a b c : Bool) → Doing (cond a (cond b (Do (Make (Keep u t))) (cond c (Do (Make (Note u t))) Pass)) Pass)
-      by true true c = tt
-      by true false true = tt
+      by true true c = refl
+      by true false true = refl
       by true false false = tt
       by false b c = tt
 
@@ -307,19 +318,15 @@ module _ (k : Control) (n v t : ℕ) where
   mirrored-told : (w : World) (u : ℕ) → is_running v w.control ≡ true → Told w (carry w (land_mirrored k.volumes n v t u)) (n ∷ [])
   mirrored-told w u runs =
       subst (λ ds. Told w (carry w ds) (n ∷ [])) (sym (append_assoc (now (Unsync v t) ∷ copy_first k.volumes u t) (now (Mirror u t v n) ∷ copy_first k.volumes v t) (now (LandBoth n v t) ∷ [])))
-      (then-told w (now (Unsync v t) ∷ copy_first k.volumes u t) (now (Mirror u t v n) ∷ lands_behind k.volumes) (n ∷ []) (move-hush (Unsync v t) _ tt (keeps-hush k.volumes u t))
+      (then-told w (now (Unsync v t) ∷ copy_first k.volumes u t) (now (Mirror u t v n) ∷ lands_behind k.volumes) (n ∷ []) (now-unacknowledged (Unsync v t) _ refl (keeps-unacknowledged k.volumes u t))
       (λ x on stays. mirror-told x u (runs-on w x runs on stays)))
 
-  where-hush : (u : ℕ) (d : Entry) → Hush true d → Hush true (where_sent v u t d)
-  where-hush u d hush j = choice-hush true (sends_first v u t j) (d j) Pass (hush j) tt
-
-  sent-hush : (u : ℕ) (vs : List ℕ) → AllHush true (map (where_sent v u t) (map (keep_on u t) vs ++ store_on v u t ∷ strike_on v t ∷ []))
-  sent-hush u [] = then-hush _ _ (where-hush u (store_on v u t) (λ j. tt)) (last-hush (where_sent v u t (strike_on v t)) (where-hush u (strike_on v t) (λ j. tt)))
-  sent-hush u (x ∷ vs) = then-hush _ _ (where-hush u (keep_on u t x) (keep-hush true u t x)) (sent-hush u vs)
+  sent-unacknowledged : (u : ℕ) → AllAcknowledgeNothing true (send_first k.volumes v u t)
+  sent-unacknowledged u = send_first-fine any_world (λ w a. AcknowledgesNothing true a) any_reason (λ u t w any. refl) (λ u t w any. refl) k.volumes v u t (λ w any. refl) (λ last w any. refl) (λ last w any. refl)
 
   collided-told : (w : World) (u : ℕ) → is_running v w.control ≡ true → Told w (carry w (send_first k.volumes v u t ++ land_alone k.volumes n v t)) (n ∷ [])
   collided-told w u runs =
-      then-told w (send_first k.volumes v u t) (land_alone k.volumes n v t) (n ∷ []) (then-hush (suspend_where (send_refusal v u) v) _ (where-suspended true (send_refusal v u) v) (sent-hush u k.volumes))
+      then-told w (send_first k.volumes v u t) (land_alone k.volumes n v t) (n ∷ []) (sent-unacknowledged u)
       (λ x on stays. alone-told x (runs-on w x runs on stays))
 
   -- what is acknowledged where the write waits, and where it doesn't
@@ -327,14 +334,14 @@ module _ (k : Control) (n v t : ℕ) where
   unless_waits b = cond b [] (n ∷ [])
 
   parted-told : (w : World) (busy : Bool) → is_running v w.control ≡ true → Told w (carry w (now (Suspend v busy) ∷ cond busy [] (land_alone k.volumes n v t))) (unless_waits busy)
-  parted-told w true runs = hush-told w _ (carry-hushed true w _ (move-hush (Suspend v true) [] tt none-hush))
-  parted-told w false runs = then-told w (now (Suspend v false) ∷ []) (land_alone k.volumes n v t) (n ∷ []) (move-hush (Suspend v false) [] tt none-hush) (λ x on stays. alone-told x (runs-on w x runs on stays))
+  parted-told w true runs = unacknowledged-told w _ (carry-unacknowledged true w _ (now-unacknowledged (Suspend v true) [] refl none-unacknowledged))
+  parted-told w false runs = then-told w (now (Suspend v false) ∷ []) (land_alone k.volumes n v t) (n ∷ []) (now-unacknowledged (Suspend v false) [] refl none-unacknowledged) (λ x on stays. alone-told x (runs-on w x runs on stays))
 
   entries-told : (w : World) → is_running v w.control ≡ true → Told w (carry w (land_entries k n v t)) (unless_waits (waits k v t))
   entries-told w runs = by (held (fields_at k v)) (goes_over (fields_at k v) t) (is_parted k v) (collides (fields_at k v) t)
     where
       by : (a c d e : Bool) → Told w (carry w (cond a [] (cond c (cond d (land_parted k n v t) (land_mirrored k.volumes n v t (partner_of k v))) (cond e (send_first k.volumes v (partner_of k v) t ++ land_alone k.volumes n v t) (land_alone k.volumes n v t))))) (unless_waits (a || (c && (d && is_grouped k v (partner_of k v)))))
-      by true c d e = hush-told w _ (carry-hushed true w [] none-hush)
+      by true c d e = unacknowledged-told w _ (carry-unacknowledged true w [] none-unacknowledged)
       by false true true e = parted-told w (is_grouped k v (partner_of k v)) runs
       by false true false e = mirrored-told w (partner_of k v) runs
       by false false d true = collided-told w (partner_of k v) runs
@@ -347,12 +354,8 @@ module _ (k : Control) (n v t : ℕ) where
       (drop-told w n (is_open v) _ _ _ refl
       (drop-told w n (is_settled v) (relation_state k v) _ _ refl (entries-told w runs))))
 
-  after-hush : (s : ℕ) → AllHush true (after_write k v t s)
-  after-hush s = by (collides (fields_at k v) t)
-    where
-      by : (b : Bool) → AllHush true (cond b (suspend_after v s) (part_after v s))
-      by true = suspend-hush v s
-      by false = last-hush (part_running v) (λ j. choice-hush true (is_part (fields_at j v).primary && is_running v j) (Do (Make (Suspend v (is_grouped j v (partner_of j v))))) Pass tt tt)
+  after-unacknowledged : (s : ℕ) → AllAcknowledgeNothing true (after_write k v t s)
+  after-unacknowledged s = after_write-fine any_world (λ w a. AcknowledgesNothing true a) any_reason k v t s (λ busy w any. refl)
 
 -- ---- a server starts
 
@@ -360,11 +363,8 @@ abbrev one_or_none : Option ℕ → List ℕ
 one_or_none None = []
 one_or_none (Some n) = n ∷ []
 
-start-hush : (s : ℕ) (vs : List ℕ) → AllHush true (start_entries s vs)
-start-hush s [] = none-hush
-start-hush s (v ∷ vs) =
-    then-hush (redo_on s v) _ (λ k. choice-hush true (belongs k s v) (Do (Redo v)) Pass tt tt)
-    (then-hush (restart_on s v) _ (λ k. choice-hush true (belongs k s v && must_restart (fields_at k v)) (Do (Make (Restart v))) Pass tt tt) (start-hush s vs))
+start-unacknowledged : (s : ℕ) (vs : List ℕ) → AllAcknowledgeNothing true (start_entries s vs)
+start-unacknowledged s vs = starts-fine any_world (λ w a. AcknowledgesNothing true a) any_reason s vs (λ v w any. refl) (λ v w any. refl)
 
 same-landed : (j k : Control) (s : ℕ) → StaysPending j k → landed_on k s ≡ landed_on j s
 same-landed j k s st = λ i. option_map (λ (p : Pending). p.w) (find (λ p. p.landed && (list_any (nat_eq p.volume) (st.volumes i) && nat_eq (st.server p.volume i) s)) (st.pending i))
@@ -375,13 +375,13 @@ acknowledge-told w s (Some n) is = subst (λ x. Told w x (n ∷ [])) (sym (carry
     (record { added = Ack n ∷ []; events = refl; acks = refl; kept = λ e q. absurd cc; uncut = refl; way = inl refl })
 
 starting-told : (w : World) (s : ℕ) (vs : List ℕ) → Told w (carry w (start_entries s vs ++ acknowledge_on s ∷ [])) (one_or_none (landed_on w.control s))
-starting-told w s vs = then-told w (start_entries s vs) (acknowledge_on s ∷ []) _ (start-hush s vs) (λ u on stays. acknowledge-told u s (landed_on w.control s) (same-landed w.control u.control s stays))
+starting-told w s vs = then-told w (start_entries s vs) (acknowledge_on s ∷ []) _ (start-unacknowledged s vs) (λ u on stays. acknowledge-told u s (landed_on w.control s) (same-landed w.control u.control s stays))
 
 -- ---- plans
 
-follow-told : (still : Bool) (w u : World) (r : Refusal) (follows : ℕ → List Entry) → ((s : ℕ) → AllHush still (follows s)) → Mum still u (follow u r follows)
-follow-told still w u (StoppedIn s) follows hush = (carry-hushed still u (follows s.0) (hush s.0)).mum
-follow-told still w u r follows hush = mum-same still u
+follow-told : (still : Bool) (w u : World) (r : Refusal) (follows : ℕ → List Entry) → ((s : ℕ) → AllAcknowledgeNothing still (follows s)) → NothingAcknowledged still u (follow u r follows)
+follow-told still w u (StoppedIn s) follows nothing = (carry-unacknowledged still u (follows s.0) (nothing s.0)).since
+follow-told still w u r follows nothing = since-same still u
 
 -- what a plan tells before its answer where its entries end so, and what it leaves pending
 record TellsAt (w : World) (p : Plan) (ns : List ℕ) (o : Outcome) : Type 0 where
@@ -395,7 +395,7 @@ record TellsAt (w : World) (p : Plan) (ns : List ℕ) (o : Outcome) : Type 0 whe
 abbrev PlanTold : World → Plan → List ℕ → Type 0
 PlanTold w p ns = TellsAt w p ns (carry (begun w p) p.entries)
 
-plan-told : (w : World) (p : Plan) (ns : List ℕ) → Unheard true p.told → ((s : ℕ) → AllHush true (p.follows s)) → ((k : Control) → (p.last k).pending ≡ k.pending) → (o : Outcome) → Told (begun w p) o ns → TellsAt w p ns o
+plan-told : (w : World) (p : Plan) (ns : List ℕ) → NoAcknowledgement true p.told → ((s : ℕ) → AllAcknowledgeNothing true (p.follows s)) → ((k : Control) → (p.last k).pending ≡ k.pending) → (o : Outcome) → Told (begun w p) o ns → TellsAt w p ns o
 plan-told w p ns first follows last (u, None) t = record {
   told = p.told ++ t.added;
   events = t.events ∙ append_assoc w.events p.told t.added;
@@ -405,7 +405,7 @@ plan-told w p ns first follows last (u, None) t = record {
   way = settles-first p.told t.added first.plain t.way;
 }
 plan-told w p ns first follows last (u, Some r) t =
-    let m : Mum true u (follow u r p.follows) = follow-told true w u r p.follows follows in
+    let m : NothingAcknowledged true u (follow u r p.follows) = follow-told true w u r p.follows follows in
     record {
       told = p.told ++ (t.added ++ m.added);
       events = m.events ∙ ap (λ es. es ++ m.added) t.events ∙ append_assoc (w.events ++ p.told) t.added m.added ∙ append_assoc w.events p.told (t.added ++ m.added);
@@ -416,16 +416,6 @@ plan-told w p ns first follows last (u, Some r) t =
     }
 
 -- a plan that acknowledges nothing
-hushed-told : (w : World) (p : Plan) → HushedPlan p → Mum false w (carried_out w p).0
-hushed-told w p h = by (carry (begun w p) p.entries) (carry-hushed false (begun w p) p.entries h.entries)
-  where
-    first : Mum false w (begun w p)
-    first = record { added = p.told; events = refl; silent = h.told }
-
-    by : (o : Outcome) → Comes false (begun w p) o → Mum false w (finish p o.0 o.1)
-    by (u, None) c = let m = mum-then false w (begun w p) u first c.mum in record { added = m.added; events = m.events; silent = m.silent }
-    by (u, Some r) c = mum-then false w u _ (mum-then false w (begun w p) u first c.mum) (follow-told false w u r p.follows h.follows)
-
 -- ---- steps
 
 -- no write was mirrored; or one was, and it was acknowledged or a stop was told, and no volume was cut
@@ -449,21 +439,21 @@ answered-not p k None each = each k
 answered-not p k (Some r) each = refused-not r
 
 -- a step that can acknowledge nothing
-other-none : (step : Step) (said : Said) → acknowledges step ≡ false → acknowledged_by (Ok step) said ≡ []
+other-none : (step : Step) (said : Said) → acknowledges (Ok step) ≡ false → acknowledged_by (Ok step) said ≡ []
 other-none (Write v t offset len bytes) said other = absurd cc
 other-none (Apply n) said other = absurd cc
 other-none (Start name) said other = absurd cc
 other-none step said other = refl
 
-hushed-answers : (asked : Result Step ℕ) → ((said : Said) → acknowledged_by asked said ≡ []) → (w : World) (p : Plan) → HushedPlan p → Answers asked w p
-hushed-answers asked none w p h =
-    let m : Mum false w (carried_out w p).0 = hushed-told w p h in
+unacknowledged-answers : (asked : Result Step ℕ) → ((said : Said) → acknowledged_by asked said ≡ []) → (w : World) (p : Plan) → PlanAcknowledgesNothing w p → Answers asked w p
+unacknowledged-answers asked none w p h =
+    let m : NothingAcknowledged false w (carried_out w p).0 = h.since in
     record { told = m.added; events = m.events; acks = m.silent.none ∙ sym (none _); held = λ n e. absurd (answered-not p (carried_out w p).0.control (carried_out w p).1 h.says n e); way = inl m.silent.plain }
 
 -- a refusal
 refused-answers : (asked : Result Step ℕ) → ((r : Refusal) → acknowledged_by asked (Refused r) ≡ []) → (w : World) (r : Refusal) → Answers asked w (refuses r)
 refused-answers asked none w r =
-    let m : Mum false w (carried_out w (refuses r)).0 = hushed-told w (refuses r) (says-hush (Refused r) (refused-not r)) in
+    let m : NothingAcknowledged false w (carried_out w (refuses r)).0 = (says-unacknowledged w (Refused r) (refused-not r)).since in
     record { told = m.added; events = m.events; acks = m.silent.none ∙ sym (by (carry (begun w (refuses r)) []) (carry-none (begun w (refuses r)))); held = λ n e. absurd (answered-not (refuses r) (carried_out w (refuses r)).0.control (carried_out w (refuses r)).1 (λ k. refused-not r) n e); way = inl m.silent.plain }
   where
     by : (o : Outcome) → o ≡ (begun w (refuses r), None) → acknowledged_by asked (answered (refuses r) (finish (refuses r) o.0 o.1).control o.1) ≡ []
@@ -502,14 +492,14 @@ write-answers w v t offset len bytes =
     let p : Plan = write_done k v t offset len bytes in
     written-answers (Ok (Write v t offset len bytes)) (λ said. refl) w k n v t p (λ j. refl)
     (record { waits = record { w = n; volume = v; track = t; landed = false }; here = in-second k.pending (record { w = n; volume = v; track = t; landed = false } ∷ []) (record { w = n; volume = v; track = t; landed = false }) (inl refl); is = refl })
-    (plan-told w p (cond (waits k v t) [] (n ∷ [])) (record { none = refl; plain = refl; uncut = λ h. refl }) (after-hush k n v t) (λ j. refl) _ (landing-told k n v t (begun w p)))
+    (plan-told w p (cond (waits k v t) [] (n ∷ [])) (record { none = refl; plain = refl; uncut = λ h. refl }) (after-unacknowledged k n v t) (λ j. refl) _ (landing-told k n v t (begun w p)))
 
 apply-answers : (w : World) (n : ℕ) (p : Pending) → find (is_write n) w.control.pending ≡ Some p → Answers (Ok (Apply n)) w (apply_done w.control p)
 apply-answers w n p is =
     let k : Control = w.control in
     written-answers (Ok (Apply n)) (λ said. refl) w k p.w p.volume p.track (apply_done k p) (λ j. refl)
     (record { waits = p; here = (found (is_write n) k.pending p is).0; is = refl })
-    (plan-told w (apply_done k p) (cond (waits k p.volume p.track) [] (p.w ∷ [])) (unheard-none true) (after-hush k p.w p.volume p.track) (λ j. refl) _ (landing-told k p.w p.volume p.track (begun w (apply_done k p))))
+    (plan-told w (apply_done k p) (cond (waits k p.volume p.track) [] (p.w ∷ [])) (no_acknowledgement-none true) (after-unacknowledged k p.w p.volume p.track) (λ j. refl) _ (landing-told k p.w p.volume p.track (begun w (apply_done k p))))
 
 -- a server that starts
 module _ (w : World) (name : Name) (s : ℕ) where
@@ -531,7 +521,7 @@ module _ (w : World) (name : Name) (s : ℕ) where
   start-answers : Answers (Ok (Start name)) w starts
   start-answers =
       let o : Outcome = carry (begun w starts) starts.entries in
-      let t : PlanTold w starts (one_or_none (landed_on w.control s)) = plan-told w starts (one_or_none (landed_on w.control s)) (record { none = refl; plain = refl; uncut = λ h. refl }) (λ q. none-hush) (λ j. refl) o (starting-told (begun w starts) s w.control.volumes) in
+      let t : PlanTold w starts (one_or_none (landed_on w.control s)) = plan-told w starts (one_or_none (landed_on w.control s)) (record { none = refl; plain = refl; uncut = λ h. refl }) (λ q. none-unacknowledged) (λ j. refl) o (starting-told (begun w starts) s w.control.volumes) in
       record {
         told = t.told;
         events = t.events;
@@ -557,13 +547,13 @@ module _ (w : World) (line : ℕ) where
       on : (s : ℕ) → Answers (Ok (Start name)) w (only_says (Done Alone))
       on s =
           let p : Plan = only_says (Done Alone) in
-          let m : Mum false w (carried_out w p).0 = hushed-told w p (says-hush (Done Alone) (done-not Alone)) in
+          let m : NothingAcknowledged false w (carried_out w p).0 = (says-unacknowledged w (Done Alone) (done-not Alone)).since in
           record { told = m.added; events = m.events; acks = m.silent.none ∙ sym (none (carry (begun w p) [])); held = λ n e. absurd (answered-not p (carried_out w p).0.control (carried_out w p).1 (λ k. done-not Alone) n e); way = inl m.silent.plain }
         where
           none : (o : Outcome) → acked (answered (only_says (Done Alone)) (finish (only_says (Done Alone)) o.0 o.1).control o.1) ≡ []
           none (u, None) = refl
           none (u, Some r) = refl
-  step-answers step alone = hushed-answers (Ok step) (λ said. other-none step said refl) w (plan_of w.control w.events line step) (step-hush w.control w.events line step refl)
+  step-answers step alone = unacknowledged-answers (Ok step) (λ said. other-none step said refl) w (plan_of w.control w.events line step) (case-unacknowledged w line (Ok step) (plan_of w.control w.events line step) (of-case w.control w.events line step) refl)
 
   none-refused : (step : Step) (r : Refusal) → acknowledged_by (Ok step) (Refused r) ≡ []
   none-refused (Write v t offset len bytes) r = refl
@@ -580,7 +570,7 @@ pub record StepTold (w : World) (t : Task) : Type 0 where
   pub answers : AcknowledgesAnswered w t
   pub way : StepWay answers.told
 
-answers-task : (v : World) (t : Task) → let x : Part = (course v t).last in (a : Answers t.asked x.world x.plan) → (m : Mum false v x.world) → StepWay (m.added ++ a.told) → StepTold v t
+answers-task : (v : World) (t : Task) → let x : Part = (course v t).last in (a : Answers t.asked x.world x.plan) → (m : NothingAcknowledged false v x.world) → StepWay (m.added ++ a.told) → StepTold v t
 unfolding after_plan
 answers-task v t a m way =
     let x : Part = (course v t).last in
@@ -595,15 +585,15 @@ answers-task v t a m way =
     }
 
 -- an `@run`
-run-mum : (w : World) (t : Task) → Mum false w (course w t).last.world
-run-mum w t = parts.last-plan (Mum false w) (λ u p comes m. let h = mum-then false w u (carried_out u p).0 m (hushed-told u p comes.hushed) in record { added = h.added; events = h.events; silent = h.silent }) w t (mum-same false w)
+run-since : (w : World) (t : Task) → NothingAcknowledged false w (course w t).last.world
+run-since w t = parts.last-plan (NothingAcknowledged false w) (λ u p comes m. let h = since-then false w u (carried_out u p).0 m (case-unacknowledged u 0 comes.asked p (comes.case 0) comes.other).since in record { added = h.added; events = h.events; silent = h.silent }) w t (since-same false w)
 
 form-not : (s : ℕ) (k : Control) (r : Option Refusal) → NotHeld (form_said s k r)
 form-not s k None = phase-not (session_in k.sessions s)
 form-not s k (Some r) = refused-not r
 
 pub told-task : (w : World) (t : Task) → StepTold w t
-unfolding hushed-answers
+unfolding unacknowledged-answers
 told-task w t = by t.asked
   where
     by : (asked : Result Step ℕ) → StepTold w (record { line = t.line; asked = asked; listed = t.listed })
@@ -611,23 +601,23 @@ told-task w t = by t.asked
         let x = formed w s n in
         let said : Said = form_said s x.world.control x.refusal in
         let run : Task = record { line = t.line; asked = Ok (Run s n); listed = t.listed } in
-        let m : Mum false w x.world = run-mum w run in
-        let a : Answers (Ok (Run s n)) x.world (only_says said) = hushed-answers (Ok (Run s n)) (λ a. refl) x.world (only_says said) (says-hush said (form-not s x.world.control x.refusal)) in
-        answers-task w run a m (inl (mirrors-then m.added a.told m.silent.plain ∙ (hushed-told x.world (only_says said) (says-hush said (form-not s x.world.control x.refusal))).silent.plain))
+        let m : NothingAcknowledged false w x.world = run-since w run in
+        let a : Answers (Ok (Run s n)) x.world (only_says said) = unacknowledged-answers (Ok (Run s n)) (λ a. refl) x.world (only_says said) (says-unacknowledged x.world said (form-not s x.world.control x.refusal)) in
+        answers-task w run a m (inl (mirrors-then m.added a.told m.silent.plain ∙ (says-unacknowledged x.world said (form-not s x.world.control x.refusal)).since.silent.plain))
     by (Ok (Compare v u)) =
         let asked : Result Step ℕ = Ok (Compare v u) in
         let a : Answers asked w (compared w v u) =
         if-plan (Answers asked w) (refused-answers asked (λ r. refl) w) (has_room w.events) (compare_plan w.control w.contents v u) (refuses JournalFull)
-        (hushed-answers asked (λ a. refl) w (compare_plan w.control w.contents v u) (compare-hush w.control w.contents v u)) (refused-answers asked (λ r. refl) w JournalFull) in
-        answers-task w (record { line = t.line; asked = asked; listed = t.listed }) a (record { added = []; events = sym (append-nil w.events); silent = unheard-none false }) a.way
+        (unacknowledged-answers asked (λ a. refl) w (compare_plan w.control w.contents v u) (case-unacknowledged w t.line asked (compare_plan w.control w.contents v u) (Compares w.contents v u) refl)) (refused-answers asked (λ r. refl) w JournalFull) in
+        answers-task w (record { line = t.line; asked = asked; listed = t.listed }) a (record { added = []; events = sym (append-nil w.events); silent = no_acknowledgement-none false }) a.way
     by (Ok Image) =
         let asked : Result Step ℕ = Ok Image in
         let a : Answers asked w (imaged w t.listed) =
         if-plan (Answers asked w) (refused-answers asked (λ r. refl) w) (has_room_for image_events w.events) (image_plan t.listed) (refuses JournalFull)
-        (hushed-answers asked (λ a. refl) w (image_plan t.listed) (lines-hush (image_told t.listed) (image-lines t.listed))) (refused-answers asked (λ r. refl) w JournalFull) in
-        answers-task w (record { line = t.line; asked = asked; listed = t.listed }) a (record { added = []; events = sym (append-nil w.events); silent = unheard-none false }) a.way
-    by (Ok step) = let a = plan-answers w t.line step refl in answers-task w (record { line = t.line; asked = Ok step; listed = t.listed }) a (record { added = []; events = sym (append-nil w.events); silent = unheard-none false }) a.way
-    by (Err column) = let a = refused-answers (Err column) (λ r. refl) w (Syntax column) in answers-task w (record { line = t.line; asked = Err column; listed = t.listed }) a (record { added = []; events = sym (append-nil w.events); silent = unheard-none false }) a.way
+        (unacknowledged-answers asked (λ a. refl) w (image_plan t.listed) (lines-unacknowledged w (image_told t.listed) (image-lines t.listed))) (refused-answers asked (λ r. refl) w JournalFull) in
+        answers-task w (record { line = t.line; asked = asked; listed = t.listed }) a (record { added = []; events = sym (append-nil w.events); silent = no_acknowledgement-none false }) a.way
+    by (Ok step) = let a = plan-answers w t.line step refl in answers-task w (record { line = t.line; asked = Ok step; listed = t.listed }) a (record { added = []; events = sym (append-nil w.events); silent = no_acknowledgement-none false }) a.way
+    by (Err column) = let a = refused-answers (Err column) (λ r. refl) w (Syntax column) in answers-task w (record { line = t.line; asked = Err column; listed = t.listed }) a (record { added = []; events = sym (append-nil w.events); silent = no_acknowledgement-none false }) a.way
 
 pub acked-task : (w : World) (t : Task) → AcknowledgesAnswered w t
 acked-task w t = (told-task w t).answers

@@ -1,5 +1,5 @@
 -- As the entries of an exchange lead on, the master of its session awaits the reply.
-use Rattle.std.proofs.Common.{ℕ, ◌≡◌, ◌⊎◌, ◌≤◌, ◌+◌, inl, inr, refl, ap, sym, ◌∙◌, subst, Bool, true, false, cond, not, ◌&&◌, ◌||◌, ◌==◌, nat_eq, nat_lt, List, [], ◌∷◌, ◌++◌, length, Option, Some, None, option_map, unwrap_or, arith}
+use Rattle.std.proofs.Common.{ℕ, ◌≡◌, ◌⊎◌, ◌≤◌, ◌+◌, inl, inr, refl, ap, sym, ◌∙◌, subst, Bool, true, false, cond, not, ◌&&◌, ◌||◌, ◌==◌, nat_eq, nat_lt, List, [], ◌∷◌, length, Option, Some, None, option_map, unwrap_or, arith}
 use Rattle.std.specs.List.{list_any}
 use Rattle.std.proofs.lemmas.Bool.{and_from, le-ltb, lt-ltb}
 use Rattle.std.proofs.lemmas.Option.{same_Some}
@@ -13,12 +13,11 @@ use Rattle.dr_model.specs.Decisions.{Shown}
 use Rattle.dr_model.specs.Phases as phases
 use Rattle.dr_model.specs.Sessions.{Session, Mirror, session_in, mirror_in, begin_refusal, changed, begun, servers_of}
 use Rattle.dr_model.specs.Control.{Control, World}
-use Rattle.dr_model.specs.Pairs.{records}
 use Rattle.dr_model.specs.Moves.{Hold}
-use Rattle.dr_model.specs.Carry.{Act, Make, OpenAttempt, Next, Pass, Do, End, Entry, Turn, Outcome, act, continue, go, carry}
+use Rattle.dr_model.specs.Carry.{Act, Make, OpenAttempt, Pass, Do, Entry, Outcome, act, continue, go, carry}
 use Rattle.dr_model.specs.Entries.{fields_at}
-use Rattle.dr_model.specs.PairEntries.{reach_refusal, send_refusal, end_if, refuse_if}
-use Rattle.dr_model.specs.SessionEntries.{last_of, hold_refusal, stale_refusal, hold_on, void_refusal, free_on, is_drained, seal_refusal, seal_on, is_past, finish_on, member_entries, is_on, members_on, order_entries, reply_after, is_flashed, is_committed, flash_refusal, flash_on, commit_refusal, commit_on, revert_on, shown_by_members}
+use Rattle.dr_model.specs.PairEntries.{end_if, refuse_if}
+use Rattle.dr_model.specs.SessionEntries.{last_of, hold_refusal, stale_refusal, hold_on, is_drained, is_on, members_on, order_entries, reply_after, shown_by_members}
 use Rattle.dr_model.specs.SessionPlans.{is_idle, off_refusal, phase_refusal, apart_refusal, exchange_refusal, order_of}
 use Rattle.dr_model.specs.Groups.{In, SessionFits}
 use Rattle.dr_model.specs.Laws.{Sound}
@@ -34,108 +33,59 @@ use Rattle.dr_laws_sound.proofs.FitsExchanges.{WorkPhase, IsLast, works}
 use Rattle.dr_laws_sound.proofs.Turns.{act-cases}
 use Rattle.dr_laws_sound.proofs.Cases.{one-passed}
 use Rattle.dr_facts.proofs.Refusals.{none-both, met}
+use Rattle.dr_facts.proofs.Entries.{any_reason, why-any, AllFine, carry-kept}
+use Rattle.dr_facts.proofs.SharedEntries.{order-fine}
 use Rattle.dr_logic.proofs.Truth.{false_true}
 use Rattle.dr_logic.proofs.Options.{none_some}
 
--- ---- entries that leave the sessions
+-- ---- entries that come to moves alone leave the sessions
 
-abbrev IsMove : Act → Type 0
-IsMove (Make m) = Unit {0}
-IsMove a = ⊥
+abbrev IsMove : World → Act → Type 0
+IsMove w (Make m) = Unit {0}
+IsMove w a = ⊥
 
-abbrev Still : Next → Type 0
-Still (Do a) = IsMove a
-Still x = Unit {0}
+-- these are the sessions
+abbrev Has : List Session → World → Type 0
+Has ss w = w.control.sessions ≡ ss
 
-act-still : (w : World) (a : Act) → IsMove a → (act w a).0.control.sessions ≡ w.control.sessions
-act-still w (Make m) is = act-cases w (Make m) (λ t. t.0.control.sessions ≡ w.control.sessions) (λ d off. refl) (λ f. refl) (λ f. refl) (λ d f. refl)
-act-still w a is = absurd is
+abbrev OnlyMoves : List Session → List Entry → Type 0
+OnlyMoves ss = AllFine (Has ss) IsMove any_reason
 
-continue-still : (t : Turn) (ss : List Session) (rest : World → Outcome) → t.0.control.sessions ≡ ss → ((v : World) → v.control.sessions ≡ ss → (rest v).0.control.sessions ≡ ss) → (continue t.0 t.1 rest).0.control.sessions ≡ ss
-continue-still (w, None) ss rest same on = on w same
-continue-still (w, Some s) ss rest same on = same
-
-next-still : (w : World) (x : Next) (ss : List Session) (rest : World → Outcome) → w.control.sessions ≡ ss → Still x → ((v : World) → v.control.sessions ≡ ss → (rest v).0.control.sessions ≡ ss) → (go w x rest).0.control.sessions ≡ ss
-next-still w Pass ss rest same is on = on w same
-next-still w (End r) ss rest same is on = same
-next-still w (Do a) ss rest same is on = continue-still (act w a) ss rest (act-still w a is ∙ same) on
-
--- each entry does so where these are the sessions
-unfoldable AllStill : List Session → List Entry → Type 0
-AllStill ss [] = Unit {0}
-AllStill ss (d ∷ ds) = ((k : Control) → k.sessions ≡ ss → Still (d k)) × AllStill ss ds
-
-still-none : (ss : List Session) → AllStill ss []
-unfolding AllStill
-still-none ss = tt
-
-still-then : (ss : List Session) (d : Entry) (ds : List Entry) → ((k : Control) → k.sessions ≡ ss → Still (d k)) → AllStill ss ds → AllStill ss (d ∷ ds)
-unfolding AllStill
-still-then ss d ds one rest = (one, rest)
-
-still-append : (ss : List Session) (ds es : List Entry) → AllStill ss ds → AllStill ss es → AllStill ss (ds ++ es)
-unfolding AllStill
-still-append ss [] es a b = b
-still-append ss (d ∷ ds) es a b = (a.0, still-append ss ds es a.1 b)
-
-still-carry : (w : World) (ss : List Session) (ds : List Entry) → w.control.sessions ≡ ss → AllStill ss ds → (carry w ds).0.control.sessions ≡ ss
-unfolding carry AllStill
-still-carry w ss [] same all = same
-still-carry w ss (d ∷ ds) same all = next-still w (d w.control) ss (λ v. carry v ds) same (all.0 w.control same) (λ v h. still-carry v ss ds h all.1)
+move-leaves : (ss : List Session) (w : World) (a : Act) → IsMove w a → Has ss w → Has ss (act w a).0
+move-leaves ss w (Make m) is has = act-cases w (Make m) (λ t. Has ss t.0) (λ d off. has) (λ f. has) (λ f. has) (λ d f. has)
+move-leaves ss w a is has = absurd is
 
 -- wherever they lead
-still-leads : (w v : World) (ss : List Session) (ds : List Entry) (r : Option Refusal) → w.control.sessions ≡ ss → AllStill ss ds → carry w ds ≡ (v, r) → v.control.sessions ≡ ss
-still-leads w v ss ds r same all leads = ap (λ (t : Outcome). t.0.control.sessions) (sym leads) ∙ still-carry w ss ds same all
-
--- ---- an order of an attempt that has begun
+moves-leave : (w v : World) (ss : List Session) (ds : List Entry) (r : Option Refusal) → Has ss w → OnlyMoves ss ds → carry w ds ≡ (v, r) → Has ss v
+moves-leave w v ss ds r has only leads = ap (λ (t : Outcome). t.0.control.sessions) (sym leads) ∙ carry-kept (Has ss) IsMove any_reason (Has ss) (λ w h. h) (move-leaves ss) ds only w has
 
 abbrev last_in : List Session → ℕ → ℕ
 last_in ss i = unwrap_or (option_map (λ (x : Session). x.last) (session_in ss i)) 0
 
-still-choice : (b : Bool) (x y : Next) → Still x → Still y → Still (cond b x y)
-still-choice true x y p q = p
-still-choice false x y p q = q
-
-still-refuse : (why : Control → Option Refusal) (k : Control) → Still (refuse_if why k)
-still-refuse why k = by (why k)
-  where
-    by : (o : Option Refusal) → Still (end_if o)
-    by None = tt
-    by (Some r) = tt
-
-still-hold : (ss : List Session) (i n a : ℕ) (k : Control) → nat_lt (last_in ss i) n ≡ false → k.sessions ≡ ss → Still (hold_on i a n k)
-still-hold ss i n a k older same =
-    still-choice (records n (fields_at k a)) Pass _ tt (by (nat_lt (last_of k i) n) (ap (λ ss. nat_lt (last_in ss i) n) same ∙ older))
-  where
-    by : (b : Bool) → b ≡ false → Still (Do (cond b (OpenAttempt a i n) (Make (Hold a i n false))))
-    by true newer = absurd cc
-    by false is = tt
-
-still-member : (work : phases.Work) (ss : List Session) (i n : ℕ) (m : Member) → nat_lt (last_in ss i) n ≡ false → AllStill ss (member_entries work i n m)
-still-member phases.Hold ss i n m older =
-    still-then ss (refuse_if (hold_refusal m.a.0 m.b.0)) _ (λ k e. still-refuse (hold_refusal m.a.0 m.b.0) k) (still-then ss (refuse_if (stale_refusal m.a.0 n)) _ (λ k e. still-refuse (stale_refusal m.a.0 n) k)
-    (still-then ss (hold_on i m.a.0 n) [] (λ k e. still-hold ss i n m.a.0 k older e) (still-none ss)))
-still-member phases.Release ss i n m older =
-    still-then ss (refuse_if (void_refusal m.a.0 n)) _ (λ k e. still-refuse (void_refusal m.a.0 n) k)
-    (still-then ss (free_on m.a.0) [] (λ k e. still-choice (fields_at k m.a.0).coordination _ Pass tt tt) (still-none ss))
-still-member phases.Seal ss i n m older =
-    still-then ss (refuse_if (void_refusal m.a.0 n)) _ (λ k e. still-refuse (void_refusal m.a.0 n) k) (still-then ss (refuse_if (seal_refusal m.a.0 m.b.0)) _ (λ k e. still-refuse (seal_refusal m.a.0 m.b.0) k)
-    (still-then ss (seal_on i m.a.0 m.b.0 n) [] (λ k e. still-choice (is_drained m.a.0 k && not (nat_eq (fields_at k m.b.0).seal n)) _ Pass tt tt) (still-none ss)))
-still-member phases.Finish ss i n m older = still-then ss (finish_on m.a.0 n) [] (λ k e. still-choice (is_past n (fields_at k m.a.0)) Pass _ tt tt) (still-none ss)
-still-member phases.Flash ss i n m older =
-    still-then ss (refuse_if (send_refusal m.a.0 m.b.0)) _ (λ k e. still-refuse (send_refusal m.a.0 m.b.0) k) (still-then ss (refuse_if (flash_refusal m.b.0 m.c.0 n)) _ (λ k e. still-refuse (flash_refusal m.b.0 m.c.0 n) k)
-    (still-then ss (flash_on i m.a.0 m.b.0 m.c.0 n) [] (λ k e. still-choice (is_flashed n (fields_at k m.c.0)) Pass _ tt tt) (still-none ss)))
-still-member phases.Commit ss i n m older =
-    still-then ss (refuse_if (send_refusal m.a.0 m.b.0)) _ (λ k e. still-refuse (send_refusal m.a.0 m.b.0) k) (still-then ss (refuse_if (commit_refusal m.c.0 n)) _ (λ k e. still-refuse (commit_refusal m.c.0 n) k)
-    (still-then ss (commit_on i m.a.0 m.c.0 n) [] (λ k e. still-choice (is_committed n (fields_at k m.c.0)) Pass _ tt tt) (still-none ss)))
-still-member phases.Revert ss i n m older =
-    still-then ss (refuse_if (send_refusal m.a.0 m.b.0)) _ (λ k e. still-refuse (send_refusal m.a.0 m.b.0) k)
-    (still-then ss (revert_on i m.a.0 m.c.0 n) [] (λ k e. still-choice (is_flashed n (fields_at k m.c.0)) _ _ tt (still-choice (nat_lt (fields_at k m.c.0).floor n) _ Pass tt tt)) (still-none ss))
-still-member phases.Report ss i n m older = still-then ss (refuse_if (reach_refusal m.a.0 m.b.0)) [] (λ k e. still-refuse (reach_refusal m.a.0 m.b.0) k) (still-none ss)
-
-still-order : (work : phases.Work) (ss : List Session) (i n : ℕ) (ms : List Member) → nat_lt (last_in ss i) n ≡ false → AllStill ss (order_entries work i n ms)
-still-order work ss i n [] older = still-none ss
-still-order work ss i n (m ∷ ms) older = still-append ss (member_entries work i n m) (order_entries work i n ms) (still-member work ss i n m older) (still-order work ss i n ms older)
+-- an order of an attempt that has begun
+order-moves : (work : phases.Work) (ss : List Session) (i n : ℕ) (ms : List Member) → nat_lt (last_in ss i) n ≡ false → OnlyMoves ss (order_entries work i n ms)
+order-moves work ss i n ms older = order-fine (Has ss) IsMove any_reason work i n ms
+    (λ m here. record {
+      hold = λ w h. tt;
+      open_attempt = λ w h newer. false_true (ap (λ ss. nat_lt (last_in ss i) n) h ∙ older) newer;
+      free = λ w h. tt;
+      seal = λ w h. tt;
+      finish = λ w h. tt;
+      flash = λ w h. tt;
+      commit = λ w h. tt;
+      revert = λ w h. tt;
+      raise = λ w h. tt;
+    })
+    (λ m. record {
+      hold = λ k. why-any _;
+      stale = λ k. why-any _;
+      void = λ k. why-any _;
+      seal = λ k. why-any _;
+      send = λ k. why-any _;
+      flash = λ k. why-any _;
+      commit = λ k. why-any _;
+      reach = λ k. why-any _;
+    })
 
 -- ---- which order it is
 
@@ -308,7 +258,7 @@ module _ (w : World) (s : Sound w) (i server : ℕ) (x : Session) (r : Mirror) (
 
   awaits-owed : IsOwed → (v : World) → carry w (order_entries o.work i o.number ms) ≡ (v, None) → Awaited v i server r x.members (reply_after i o.work ms v.control)
   awaits-owed e v leads =
-      let same = still-leads w v w.control.sessions (order_entries o.work i o.number ms) None refl (still-order o.work w.control.sessions i o.number ms (older e)) leads in
+      let same = moves-leave w v w.control.sessions (order_entries o.work i o.number ms) None refl (order-moves o.work w.control.sessions i o.number ms (older e)) leads in
       record {
         session = x;
         found = ap (λ ss. session_in ss i) same ∙ found;
@@ -329,7 +279,7 @@ module _ (w : World) (s : Sound w) (i server : ℕ) (x : Session) (r : Mirror) (
   opens : IsFirst → (v : World) (m : Member) (rest : List Member) → In m x.members → m.server.0 ≡ server → carry w (order_entries phases.Hold i o.number (m ∷ rest)) ≡ (v, None) → v.control.sessions ≡ opened
   opens f v m rest here is leads =
       act-cases w (OpenAttempt m.a.0 i n) (λ t. continue t.0 t.1 (λ u. carry u ds) ≡ (v, None) → v.control.sessions ≡ opened)
-      (λ d off h. false_true off runs) (λ fuse h. still-leads _ v opened ds None refl (still-order phases.Hold opened i n rest over) h) (λ fuse h. none-refused _ v _ h) (λ d fuse h. none-refused _ v _ h)
+      (λ d off h. false_true off runs) (λ fuse h. moves-leave _ v opened ds None refl (order-moves phases.Hold opened i n rest over) h) (λ fuse h. none-refused _ v _ h) (λ d fuse h. none-refused _ v _ h)
       (sym (carry-first w (hold_on i m.a.0 n) ds (Do (OpenAttempt m.a.0 i n)) comes) ∙ refuse-passes w v (stale_refusal m.a.0 n) (hold_on i m.a.0 n ∷ ds) (refuse-passes w v (hold_refusal m.a.0 m.b.0) (refuse_if (stale_refusal m.a.0 n) ∷ hold_on i m.a.0 n ∷ ds) leads))
     where
       n : ℕ

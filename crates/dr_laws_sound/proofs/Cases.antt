@@ -13,8 +13,9 @@ use Rattle.dr_ids.specs.declared.refusal.Kind.TheVariants.{Server as OfServer, V
 use Rattle.dr_ids.specs.declared.refusal.Which.TheVariants.{Servers, Volumes, Tracks, Pending as PendingWrites}
 use Rattle.dr_model.specs.declared.event.Event.{Event}
 use Rattle.dr_model.specs.declared.said.Addition.TheVariants.{Alone}
+use Rattle.dr_model.specs.declared.said.Addition.{Addition}
 use Rattle.dr_model.specs.declared.said.Said.{Said}
-use Rattle.dr_model.specs.declared.said.Said.TheVariants.{Done, Refused}
+use Rattle.dr_model.specs.declared.said.Said.TheVariants.{Done, Held, Refused}
 use Rattle.dr_model.specs.declared.step.Name.{Name}
 use Rattle.dr_model.specs.declared.state.Part.{Part}
 use Rattle.dr_model.specs.declared.state.Part.TheVariants.{Metro, Global}
@@ -23,6 +24,13 @@ use Rattle.dr_model.specs.declared.step.PairChoices.{PairChoices}
 use Rattle.dr_model.specs.declared.step.TornWord.{TornWord}
 use Rattle.dr_model.specs.declared.step.Step.{Step}
 use Rattle.dr_model.specs.declared.step.Step.TheVariants.{Server, Volume, Link, Stop, StopAfter, Start, Issue, Write, Apply, Show, MakeFlash, RemoveFlash, ResyncFlash, ReverseFlash, Copy, Destage, MakePath, RemovePath, MakePair, RemovePair, PausePair, ResumePair, Failover, Failback, Drain, Expire, Freeze, Unfreeze, MakeSession, RemoveSession, AddMember, RemoveMember, MakeMirror, PauseMirror, ResumeMirror, RemoveMirror, Abort, Exchange, Send, Deliver, Lose, Recover, CommitFlash, RevertFlash, ListPairs, ListFlashes, ListSession, ShowMirror, UnfreezeFlash}
+use Rattle.dr_model.specs.Runs.{own_course}
+use Rattle.dr_facts.proofs.Reasons.{NoStop, NoneStops, names_no_stop, session-why, secondary-why, forbidden-why}
+use Rattle.dr_facts.proofs.Entries.{why-or}
+use Rattle.dr_laws_sound.proofs.PlanReasons.{name-why, off-why, outside-why, busy-why, master-why, join-why, leave-why, make-why, drop-why, abort-why, issue-why, show-why, server-why, volume-why, copy-why, taken-why, phase-why, apart-why, full-why, old-why, exchange-why, place-why, untaken-why, path-why, unpath-why, thaw-why, release-why, freeze-why, listing-why, not-forbidden}
+use Rattle.dr_model.specs.MessagePlans.{full_refusal, is_awaited}
+use Rattle.dr_model.specs.Messages.{is_current}
+use Rattle.dr_model.specs.SessionPlans.{phase_refusal, apart_refusal}
 use Rattle.dr_model.specs.Layout.{is_part, kind_of}
 use Rattle.dr_model.specs.Limits.{most_servers, most_volumes, most_tracks, most_pending}
 use Rattle.dr_model.specs.Refusals.{server_off, unknown, duplicate, over}
@@ -127,55 +135,75 @@ pub record Returns (k : Control) (n : ℕ) (m : Message) (reply : phases.Reply) 
 abbrev pub taken : Message → phases.Reply → Plan
 taken m reply = record (tables_plan (taking m reply) [] (Done Alone)) { says = says_phase m.session }
 
+-- an answer that says of no write that it waits
+abbrev pub NotHeld : Said → Type 0
+NotHeld said = (n : ℕ) → said ≡ Held n → ⊥
+
+pub done-not : (x : Addition) → NotHeld (Done x)
+done-not x n e = cc
+
+pub refused-not : (r : Refusal) → NotHeld (Refused r)
+refused-not r n e = cc
+
+-- one that is a refusal names no stop, nor does it say that the step isn't built
+abbrev pub says_no_stop : Said → Bool
+says_no_stop (Refused r) = names_no_stop r
+says_no_stop a = true
+
+-- the target of a member of session s is committed, or reverted, by hand
+pub data ByHand (k : Control) (s : ℕ) (m : Member) : Step → Type 0 where
+  Commits : (devs : Devs) → (source : ℕ) → (sequence : Option ℕ) → lets_commit (decided_in s k) ≡ true → ByHand k s m (CommitFlash devs source sequence)
+  Reverts : (devs : Devs) → (source : ℕ) → (sequence : Option ℕ) → (t : ℕ) → revertible_target k source ≡ Some t → m.c.0 ≡ t → ByHand k s m (RevertFlash devs source sequence)
+
 -- what a step comes to, with what was seen before
-pub data Case (k : Control) (events : List Event) (line : ℕ) : Plan → Type 0 where
-  Says : (a : Said) → Case k events line (only_says a)
-  DefinesServer : (name : Name) → server_refusal k (name_bytes name) ≡ None → Case k events line (server_done k name)
-  DefinesVolume : (v s tracks : ℕ) → s < length k.servers → volume_refusal k v s tracks ≡ None → Case k events line (volume_done v s tracks)
-  SetsLink : (a b : ℕ) → (up : Bool) → Case k events line (link_done a b up)
-  Issues : (v t offset len : ℕ) → (bytes : List ℕ) → issue_refusal k v t ≡ None → Case k events line (issue_done k v t offset len bytes)
-  Writes : (v t offset len : ℕ) → (bytes : List ℕ) → issue_refusal k v t ≡ None → Case k events line (write_done k v t offset len bytes)
-  Applies : (n : ℕ) → (p : Pending) → find (is_write n) k.pending ≡ Some p → Case k events line (apply_done k p)
-  Lists : (told : List Event) → AllLines told → (Groups k → length k.sessions ≤ 4 → length k.volumes ≤ 64 → length told ≤ 256) → Case k events line (lists told)
-  Shows : (v t : ℕ) → show_refusal k v t ≡ None → Case k events line (show_done events line v t)
-  Stops : (s : ℕ) → k.on s ≡ true → Case k events line (stop_done s)
-  Arms : (writes : ℕ) → (torn : TornWord) → (s : ℕ) → Case k events line (arm_on writes torn s)
-  Starts : (s : ℕ) → k.on s ≡ false → Case k events line (start_plan k s)
-  MakesFlash : (dev : Option Name) → (s t : ℕ) → (freeze : Bool) → (choices : Choices) → Case k events line (make_flash_plan k dev s t freeze choices)
-  RemovesFlash : (dev : Option Name) → (s t : ℕ) → Case k events line (remove_flash_plan k dev s t)
-  ResyncsFlash : (dev : Option Name) → (s t : ℕ) → (sequence : Option ℕ) → Case k events line (resync_flash_plan k dev s t sequence)
-  ReversesFlash : (dev : Option Name) → (s t : ℕ) → Case k events line (reverse_flash_plan k dev s t)
-  Copies : (t : ℕ) → (most : Option ℕ) → Case k events line (copy_plan k t most)
-  Destages : (v : ℕ) → Case k events line (destage_plan k v)
-  MakesPath : (src tgt : ℕ) → (group : Bool) → Case k events line (make_path_done src tgt group)
-  RemovesPath : (src tgt : ℕ) → Case k events line (remove_path_done src tgt)
-  MakesPair : (devs : Devs) → (a b : ℕ) → (kind : Part) → (choices : PairChoices) → is_part kind ≡ true → Case k events line (make_pair_plan k events devs a b kind choices)
-  RemovesPair : (devs : Devs) → (a b : ℕ) → (source_only : Bool) → Case k events line (remove_pair_plan k devs a b source_only)
-  PausesPair : (devs : Devs) → (a b : ℕ) → Case k events line (pause_pair_plan k devs a b)
-  ResumesPair : (devs : Devs) → (a b : ℕ) → (kind : Part) → Case k events line (resume_pair_plan k devs a b kind)
-  FailsOver : (devs : Devs) → (b a : ℕ) → (kind : Part) → Case k events line (failover_plan k devs b a kind)
-  FailsBack : (devs : Devs) → (x y : ℕ) → (kind : Part) → Case k events line (failback_plan k devs x y kind)
-  Compares : (contents : ℕ → ℕ → List ℕ) → (v u : ℕ) → Case k events line (compare_plan k contents v u)
-  Drains : (a : ℕ) → (most : Option ℕ) → Case k events line (drain_plan k a most)
-  Expires : (s : ℕ) → k.on s ≡ true → Case k events line (expire_plan k s)
-  Freezes : (l m : ℕ) → Case k events line (freeze_done k l m)
-  Unfreezes : (l m : ℕ) → Case k events line (unfreeze_done k l m)
-  Releases : (l : ℕ) → Case k events line (release_done k l)
-  MakesSession : (l s : ℕ) → join_refusal (session_in k.sessions s) l k.sessions ≡ None → Case k events line (table_plan (joined s l))
-  RemovesSession : (l s : ℕ) → (x : Session) → session_in k.sessions s ≡ Some x → leave_refusal (Some x) s l ≡ None → Case k events line (tables_plan (leaving s l x) [] (Done Alone))
-  MakesMirror : (owner s : ℕ) → (x : Session) → session_in k.sessions s ≡ Some x → make_refusal x.mirror ≡ None → (l : ℕ) → owner_of k l ≡ Some owner → Case k events line (tables_plan (appointed s owner) [] (Done Alone))
-  PausesMirror : (s : ℕ) → (on : Bool) → Case k events line (table_plan (changed s (paused on)))
-  RemovesMirror : (s : ℕ) → (x : Session) → session_in k.sessions s ≡ Some x → drop_refusal x.mirror ≡ None → Case k events line (table_plan (changed s unmirrored))
-  Aborts : (s : ℕ) → (x : Session) → session_in k.sessions s ≡ Some x → abort_refusal x.mirror ≡ None → Case k events line (aborted s x.mirror)
-  AddsMember : (s a c : ℕ) → (x : Session) → Joins k s a c x → Case k events line (added k s x (member_with k a c))
-  RemovesMember : (s a : ℕ) → (x : Session) → (m : Member) → session_in k.sessions s ≡ Some x → find (λ m. m.a.0 == a) x.members ≡ Some m → busy x.mirror ≡ None → off_refusal k (k.volume m.c.0).server ≡ None → Case k events line (expelled s m)
-  Loses : (n : ℕ) → Case k events line (tables_plan (with_flight (lost n)) [] (Done Alone))
-  Exchanges : (s server : ℕ) → (reply : Bool) → (x : Session) → (r : Mirror) → (o : phases.Order) → Ordered k s server x r o → Case k events line (ordered s server reply (members_on server x.members) o)
-  Sends : (s server : ℕ) → (x : Session) → (r : Mirror) → (o : phases.Order) → Posts k s server x r o → Case k events line (send_order s (is_idle r.master.phase) server (Some o))
-  Delivers : (n : ℕ) → (m : Message) → (starts : ℕ) → (x : Session) → (r : Mirror) → Reaches k n m starts x r → Case k events line (order_done m (members_on m.server x.members))
-  TakesReply : (n : ℕ) → (m : Message) → (reply : phases.Reply) → (x : Session) → (r : Mirror) → Returns k n m reply x r → Case k events line (taken m reply)
-  Recovers : (s : ℕ) → (x : Session) → session_in k.sessions s ≡ Some x → secondary_refusal x.members k ≡ None → Case k events line (recover_done s (decided_in s k) x.members)
-  Settles : (s : ℕ) → (x : Session) → (m : Member) → session_in k.sessions s ≡ Some x → In m x.members → secondary_refusal x.members k ≡ None → untaken_refusal x.members k ≡ None → Case k events line (entries_plan (settle_on s (decided_in s k) m ∷ []) (Done Alone))
+pub data Case (k : Control) (events : List Event) (line : ℕ) : Result Step ℕ → Plan → Type 0 where
+  Says : {asked : Result Step ℕ} → (a : Said) → NotHeld a → (own_course asked ≡ None → says_no_stop a ≡ true) → Case k events line asked (only_says a)
+  DefinesServer : (name : Name) → server_refusal k (name_bytes name) ≡ None → Case k events line (Ok (Server name)) (server_done k name)
+  DefinesVolume : {name : Name} → (v s tracks : ℕ) → s < length k.servers → volume_refusal k v s tracks ≡ None → Case k events line (Ok (Volume v name tracks)) (volume_done v s tracks)
+  SetsLink : {one other : Name} → (a b : ℕ) → (up : Bool) → Case k events line (Ok (Link one other up)) (link_done a b up)
+  Issues : (v t offset len : ℕ) → (bytes : List ℕ) → issue_refusal k v t ≡ None → Case k events line (Ok (Issue v t offset len bytes)) (issue_done k v t offset len bytes)
+  Writes : (v t offset len : ℕ) → (bytes : List ℕ) → issue_refusal k v t ≡ None → Case k events line (Ok (Write v t offset len bytes)) (write_done k v t offset len bytes)
+  Applies : (n : ℕ) → (p : Pending) → find (is_write n) k.pending ≡ Some p → Case k events line (Ok (Apply n)) (apply_done k p)
+  Lists : {asked : Result Step ℕ} → (told : List Event) → AllLines told → (Groups k → length k.sessions ≤ 4 → length k.volumes ≤ 64 → length told ≤ 256) → Case k events line asked (lists told)
+  Shows : (v t : ℕ) → show_refusal k v t ≡ None → Case k events line (Ok (Show v t)) (show_done events line v t)
+  Stops : {name : Name} → (s : ℕ) → k.on s ≡ true → Case k events line (Ok (Stop name)) (stop_done s)
+  Arms : {name : Name} → (writes : ℕ) → (torn : TornWord) → (s : ℕ) → Case k events line (Ok (StopAfter name writes torn)) (arm_on writes torn s)
+  Starts : {name : Name} → (s : ℕ) → k.on s ≡ false → Case k events line (Ok (Start name)) (start_plan k s)
+  MakesFlash : {devs : Devs} → {nocopy persistent recorded inhibited : Bool} → {sequence : Option ℕ} → (dev : Option Name) → (s t : ℕ) → (freeze : Bool) → (choices : Choices) → Case k events line (Ok (MakeFlash devs s t nocopy persistent recorded inhibited freeze sequence)) (make_flash_plan k dev s t freeze choices)
+  RemovesFlash : {devs : Devs} → {sequence : Option ℕ} → (dev : Option Name) → (s t : ℕ) → Case k events line (Ok (RemoveFlash devs s t sequence)) (remove_flash_plan k dev s t)
+  ResyncsFlash : {devs : Devs} → {nocopy persistent recorded inhibited : Bool} → (dev : Option Name) → (s t : ℕ) → (sequence : Option ℕ) → Case k events line (Ok (ResyncFlash devs s t nocopy persistent recorded inhibited sequence)) (resync_flash_plan k dev s t sequence)
+  ReversesFlash : {devs : Devs} → {tgtpprc : Bool} → {sequence : Option ℕ} → (dev : Option Name) → (s t : ℕ) → Case k events line (Ok (ReverseFlash devs s t tgtpprc sequence)) (reverse_flash_plan k dev s t)
+  Copies : (t : ℕ) → (most : Option ℕ) → Case k events line (Ok (Copy t most)) (copy_plan k t most)
+  Destages : (v : ℕ) → Case k events line (Ok (Destage v)) (destage_plan k v)
+  MakesPath : {devs : Devs} → (src tgt : ℕ) → (group : Bool) → Case k events line (Ok (MakePath devs src tgt group)) (make_path_done src tgt group)
+  RemovesPath : {devs : Devs} → {force : Bool} → (src tgt : ℕ) → Case k events line (Ok (RemovePath devs src tgt force)) (remove_path_done src tgt)
+  MakesPair : {n : ℕ} → (devs : Devs) → (a b : ℕ) → (kind : Part) → (choices : PairChoices) → is_part kind ≡ true → Case k events line (Ok (MakePair devs a b n choices)) (make_pair_plan k events devs a b kind choices)
+  RemovesPair : (devs : Devs) → (a b : ℕ) → (source_only : Bool) → Case k events line (Ok (RemovePair devs a b source_only)) (remove_pair_plan k devs a b source_only)
+  PausesPair : (devs : Devs) → (a b : ℕ) → Case k events line (Ok (PausePair devs a b)) (pause_pair_plan k devs a b)
+  ResumesPair : {n : ℕ} → (devs : Devs) → (a b : ℕ) → (kind : Part) → Case k events line (Ok (ResumePair devs a b n)) (resume_pair_plan k devs a b kind)
+  FailsOver : {n : ℕ} → (devs : Devs) → (b a : ℕ) → (kind : Part) → Case k events line (Ok (Failover devs b a n)) (failover_plan k devs b a kind)
+  FailsBack : {n : ℕ} → (devs : Devs) → (x y : ℕ) → (kind : Part) → Case k events line (Ok (Failback devs x y n)) (failback_plan k devs x y kind)
+  Compares : {asked : Result Step ℕ} → (contents : ℕ → ℕ → List ℕ) → (v u : ℕ) → Case k events line asked (compare_plan k contents v u)
+  Drains : (a : ℕ) → (most : Option ℕ) → Case k events line (Ok (Drain a most)) (drain_plan k a most)
+  Expires : {name : Name} → (s : ℕ) → (server_named k (name_bytes name) ≡ Some s) × (k.on s ≡ true) → Case k events line (Ok (Expire name)) (expire_plan k s)
+  Freezes : {devs : Devs} → (l m : ℕ) → Case k events line (Ok (Freeze devs l m)) (freeze_done k l m)
+  Unfreezes : {devs : Devs} → (l m : ℕ) → Case k events line (Ok (Unfreeze devs l m)) (unfreeze_done k l m)
+  Releases : {devs : Devs} → (l : ℕ) → Case k events line (Ok (UnfreezeFlash devs l)) (release_done k l)
+  MakesSession : {devs : Devs} → (l s : ℕ) → join_refusal (session_in k.sessions s) l k.sessions ≡ None → Case k events line (Ok (MakeSession devs l s)) (table_plan (joined s l))
+  RemovesSession : {devs : Devs} → (l s : ℕ) → (x : Session) → session_in k.sessions s ≡ Some x → leave_refusal (Some x) s l ≡ None → Case k events line (Ok (RemoveSession devs l s)) (tables_plan (leaving s l x) [] (Done Alone))
+  MakesMirror : {devs : Devs} → {cginterval : Option ℕ} → {coordinate drain : Option ℕ} → (owner s : ℕ) → (x : Session) → session_in k.sessions s ≡ Some x → make_refusal x.mirror ≡ None → (l : ℕ) → owner_of k l ≡ Some owner → Case k events line (Ok (MakeMirror devs l s cginterval coordinate drain)) (tables_plan (appointed s owner) [] (Done Alone))
+  PausesMirror : {asked : Result Step ℕ} → (s : ℕ) → (on : Bool) → Case k events line asked (table_plan (changed s (paused on)))
+  RemovesMirror : {devs : Devs} → {l : ℕ} → (s : ℕ) → (x : Session) → session_in k.sessions s ≡ Some x → drop_refusal x.mirror ≡ None → Case k events line (Ok (RemoveMirror devs l s)) (table_plan (changed s unmirrored))
+  Aborts : (s : ℕ) → (x : Session) → session_in k.sessions s ≡ Some x → abort_refusal x.mirror ≡ None → Case k events line (Ok (Abort s)) (aborted s x.mirror)
+  AddsMember : {devs : Devs} → {l : ℕ} → (s a c : ℕ) → (x : Session) → Joins k s a c x → Case k events line (Ok (AddMember devs l a s)) (added k s x (member_with k a c))
+  RemovesMember : {devs : Devs} → {l : ℕ} → (s a : ℕ) → (x : Session) → (m : Member) → session_in k.sessions s ≡ Some x → find (λ m. m.a.0 == a) x.members ≡ Some m → busy x.mirror ≡ None → off_refusal k (k.volume m.c.0).server ≡ None → Case k events line (Ok (RemoveMember devs l a s)) (expelled s m)
+  Loses : (n : ℕ) → Case k events line (Ok (Lose n)) (tables_plan (with_flight (lost n)) [] (Done Alone))
+  Exchanges : {name : Name} → (s server : ℕ) → (reply : Bool) → (x : Session) → (r : Mirror) → (o : phases.Order) → Ordered k s server x r o → Case k events line (Ok (Exchange s name reply)) (ordered s server reply (members_on server x.members) o)
+  Sends : {name : Name} → (s server : ℕ) → (x : Session) → (r : Mirror) → (o : phases.Order) → Posts k s server x r o → Case k events line (Ok (Send s name)) (send_order s (is_idle r.master.phase) server (Some o))
+  Delivers : (n : ℕ) → (m : Message) → (starts : ℕ) → (x : Session) → (r : Mirror) → Reaches k n m starts x r → Case k events line (Ok (Deliver n)) (order_done m (members_on m.server x.members))
+  TakesReply : (n : ℕ) → (m : Message) → (reply : phases.Reply) → (x : Session) → (r : Mirror) → Returns k n m reply x r → Case k events line (Ok (Deliver n)) (taken m reply)
+  Recovers : (s : ℕ) → (x : Session) → session_in k.sessions s ≡ Some x → secondary_refusal x.members k ≡ None → Case k events line (Ok (Recover s)) (recover_done s (decided_in s k) x.members)
+  Settles : {step : Step} → (s : ℕ) → (x : Session) → (m : Member) → session_in k.sessions s ≡ Some x → In m x.members → secondary_refusal x.members k ≡ None → untaken_refusal x.members k ≡ None → ByHand k s m step → Case k events line (Ok step) (entries_plan (settle_on s (decided_in s k) m ∷ []) (Done Alone))
 
 -- a step names Metro Mirror or Global Copy
 is-kind : (n : ℕ) → is_part (kind_of n) ≡ true
@@ -191,199 +219,209 @@ one-passed true r o h = absurd cc
 one-passed false r o h = (refl, h)
 
 module _ (k : Control) (events : List Event) (line : ℕ) where
-  abbrev Is : Plan → Type 0
+  abbrev Is : Result Step ℕ → Plan → Type 0
   Is = Case k events line
 
-  choice : (b : Bool) (p q : Plan) → (b ≡ true → Is p) → (b ≡ false → Is q) → Is (cond b p q)
+  refused : {asked : Result Step ℕ} → (r : Refusal) → NoStop r → Is asked (refuses r)
+  refused r why = Says (Refused r) (refused-not r) (λ one. why)
+
+  idle : {asked : Result Step ℕ} → Is asked (only_says (Done Alone))
+  idle = Says (Done Alone) (done-not Alone) (λ one. refl)
+
+  choice : {asked : Result Step ℕ} → (b : Bool) (p q : Plan) → (b ≡ true → Is asked p) → (b ≡ false → Is asked q) → Is asked (cond b p q)
   choice true p q yea nay = yea refl
   choice false p q yea nay = nay refl
 
-  where-none : (r : Option Refusal) (p : Plan) → (r ≡ None → Is p) → Is (unless r p)
-  where-none None p go = go refl
-  where-none (Some r) p go = Says (Refused r)
+  where-none : {asked : Result Step ℕ} → (r : Option Refusal) → NoneStops r → (p : Plan) → (r ≡ None → Is asked p) → Is asked (unless r p)
+  where-none None why p go = go refl
+  where-none (Some r) why p go = refused r why
 
-  where-named : (o : Option ℕ) (p : ℕ → Plan) → ((s : ℕ) → Is (p s)) → Is (on_named o p)
-  where-named None p go = Says (Refused (unknown OfServer))
+  where-named : {asked : Result Step ℕ} → (o : Option ℕ) (p : ℕ → Plan) → ((s : ℕ) → Is asked (p s)) → Is asked (on_named o p)
+  where-named None p go = refused (unknown OfServer) refl
   where-named (Some s) p go = go s
 
-  where-placed : (o : Option ℕ) (p : ℕ → Plan) → ((s : ℕ) → o ≡ Some s → Is (p s)) → Is (on_named o p)
-  where-placed None p go = Says (Refused (unknown OfServer))
+  where-placed : {asked : Result Step ℕ} → (o : Option ℕ) (p : ℕ → Plan) → ((s : ℕ) → o ≡ Some s → Is asked (p s)) → Is asked (on_named o p)
+  where-placed None p go = refused (unknown OfServer) refl
   where-placed (Some s) p go = go s refl
 
   -- a server that a line names is one of those that are defined
   is-defined : (name : Name) (s : ℕ) → server_named k (name_bytes name) ≡ Some s → s < length k.servers
   is-defined name s is = (position-Some (bytes_eq (name_bytes name)) k.servers s [] is).0
 
-  where-owned : (o : Option ℕ) (p : ℕ → Plan) → ((s : ℕ) → Is (p s)) → Is (on_owner o p)
-  where-owned None p go = Says (Refused (unknown OfLss))
+  where-owned : {asked : Result Step ℕ} → (o : Option ℕ) (p : ℕ → Plan) → ((s : ℕ) → Is asked (p s)) → Is asked (on_owner o p)
+  where-owned None p go = refused (unknown OfLss) refl
   where-owned (Some s) p go = go s
 
-  where-owner : (o : Option ℕ) (p : ℕ → Plan) → ((s : ℕ) → o ≡ Some s → Is (p s)) → Is (on_owner o p)
-  where-owner None p go = Says (Refused (unknown OfLss))
+  where-owner : {asked : Result Step ℕ} → (o : Option ℕ) (p : ℕ → Plan) → ((s : ℕ) → o ≡ Some s → Is asked (p s)) → Is asked (on_owner o p)
+  where-owner None p go = refused (unknown OfLss) refl
   where-owner (Some s) p go = go s refl
 
-  apply-case : (n : ℕ) (o : Option Pending) → find (is_write n) k.pending ≡ o → Is (apply_on k o)
-  apply-case n None e = Says (Refused (unknown OfWrite))
+  apply-case : (n : ℕ) (o : Option Pending) → find (is_write n) k.pending ≡ o → Is (Ok (Apply n)) (apply_on k o)
+  apply-case n None e = refused (unknown OfWrite) refl
   apply-case n (Some p) e = Applies n p e
 
-  link-case : (a b : ℕ) (up : Bool) → Is (link_between a b up)
-  link-case a b up = choice (nat_eq a b) (refuses (duplicate OfServer)) (link_done a b up) (λ e. Says _) (λ e. SetsLink a b up)
+  link-case : {one other : Name} → (a b : ℕ) (up : Bool) → Is (Ok (Link one other up)) (link_between a b up)
+  link-case a b up = choice (nat_eq a b) (refuses (duplicate OfServer)) (link_done a b up) (λ e. refused _ refl) (λ e. SetsLink a b up)
 
-  stop-case : (s : ℕ) → Is (stop_on k s)
-  stop-case s = choice (k.on s) (stop_done s) (only_says (Done Alone)) (Stops s) (λ off. Says _)
+  stop-case : {name : Name} → (s : ℕ) → Is (Ok (Stop name)) (stop_on k s)
+  stop-case s = choice (k.on s) (stop_done s) (only_says (Done Alone)) (Stops s) (λ off. idle)
 
-  start-case : (s : ℕ) → Is (start_on k s)
-  start-case s = choice (k.on s) (only_says (Done Alone)) (start_plan k s) (λ on. Says _) (Starts s)
+  start-case : {name : Name} → (s : ℕ) → Is (Ok (Start name)) (start_on k s)
+  start-case s = choice (k.on s) (only_says (Done Alone)) (start_plan k s) (λ on. idle) (Starts s)
 
-  expire-case : (s : ℕ) → Is (expire_on k s)
-  expire-case s = choice (k.on s) (expire_plan k s) (refuses (server_off s)) (Expires s) (λ off. Says _)
+  expire-case : {name : Name} → (s : ℕ) → server_named k (name_bytes name) ≡ Some s → Is (Ok (Expire name)) (expire_on k s)
+  expire-case s named = choice (k.on s) (expire_plan k s) (refuses (server_off s)) (λ on. Expires s (named, on)) (λ off. refused _ refl)
 
   -- lines on sessions
-  where-session : (o : Option Session) (p : Session → Plan) → ((x : Session) → o ≡ Some x → Is (p x)) → Is (on_session o p)
-  where-session None p go = Says (Refused (unknown OfSession))
+  where-session : {asked : Result Step ℕ} → (o : Option Session) (p : Session → Plan) → ((x : Session) → o ≡ Some x → Is asked (p x)) → Is asked (on_session o p)
+  where-session None p go = refused (unknown OfSession) refl
   where-session (Some x) p go = go x refl
 
-  where-volume : (v : ℕ) (p : Plan) → (is_volume k v ≡ true → Is p) → Is (on_volume k v p)
-  where-volume v p go = choice (is_defined v k) p (refuses (unknown OfVolume)) go (λ none. Says _)
+  where-volume : {asked : Result Step ℕ} → (v : ℕ) (p : Plan) → (is_volume k v ≡ true → Is asked p) → Is asked (on_volume k v p)
+  where-volume v p go = choice (is_defined v k) p (refuses (unknown OfVolume)) go (λ none. refused _ refl)
 
-  join-case : (dev : Option Name) (l s : ℕ) → Is (join_plan k dev l s)
+  join-case : {devs : Devs} → (dev : Option Name) (l s : ℕ) → Is (Ok (MakeSession devs l s)) (join_plan k dev l s)
   join-case dev l s = where-owned (owner_of k l) _ (λ owner.
       let why : Option Refusal = option_or (name_refusal k dev owner) (option_or (off_refusal k owner) (join_refusal (session_in k.sessions s) l k.sessions)) in
-      where-none why (table_plan (joined s l)) (λ free. MakesSession l s (none-both (off_refusal k owner) _ (none-both (name_refusal k dev owner) _ free).1).1))
+      where-none why (why-or NoStop (name_refusal k dev owner) _ (name-why k dev owner) (why-or NoStop (off_refusal k owner) _ (off-why k owner) (join-why k (session_in k.sessions s) l))) (table_plan (joined s l)) (λ free. MakesSession l s (none-both (off_refusal k owner) _ (none-both (name_refusal k dev owner) _ free).1).1))
 
-  leave-case : (dev : Option Name) (l s : ℕ) → Is (leave_plan k dev l s)
+  leave-case : {devs : Devs} → (dev : Option Name) (l s : ℕ) → Is (Ok (RemoveSession devs l s)) (leave_plan k dev l s)
   leave-case dev l s = where-owned (owner_of k l) _ (λ owner. where-session (session_in k.sessions s) _ (λ x is.
-      where-none (option_or (name_refusal k dev owner) (leave_refusal (Some x) s l)) (tables_plan (leaving s l x) [] (Done Alone)) (λ free. RemovesSession l s x is (none-both (name_refusal k dev owner) _ free).1)))
+      where-none (option_or (name_refusal k dev owner) (leave_refusal (Some x) s l)) (why-or NoStop (name_refusal k dev owner) _ (name-why k dev owner) (leave-why k x s l)) (tables_plan (leaving s l x) [] (Done Alone)) (λ free. RemovesSession l s x is (none-both (name_refusal k dev owner) _ free).1)))
 
-  mirror-case : (dev : Option Name) (l s : ℕ) → Is (mirror_plan k dev l s)
+  mirror-case : {devs : Devs} → {cginterval coordinate drain : Option ℕ} → (dev : Option Name) (l s : ℕ) → Is (Ok (MakeMirror devs l s cginterval coordinate drain)) (mirror_plan k dev l s)
   mirror-case dev l s = where-owner (owner_of k l) _ (λ owner owned. where-session (session_in k.sessions s) _ (λ x is.
       let why : Option Refusal = option_or (name_refusal k dev owner) (option_or (outside_refusal x l) (option_or (off_refusal k owner) (make_refusal x.mirror))) in
-      where-none why (tables_plan (appointed s owner) [] (Done Alone))
+      where-none why (why-or NoStop (name_refusal k dev owner) _ (name-why k dev owner) (why-or NoStop (outside_refusal x l) _ (outside-why k x l) (why-or NoStop (off_refusal k owner) _ (off-why k owner) (make-why k x.mirror)))) (tables_plan (appointed s owner) [] (Done Alone))
       (λ free. MakesMirror owner s x is (none-both (off_refusal k owner) _ (none-both (outside_refusal x l) _ (none-both (name_refusal k dev owner) _ free).1).1).1 l owned)))
 
-  pause-case : (dev : Option Name) (l s : ℕ) (on : Bool) → Is (pause_mirror_plan k dev l s on)
+  pause-case : {asked : Result Step ℕ} → (dev : Option Name) (l s : ℕ) (on : Bool) → Is asked (pause_mirror_plan k dev l s on)
   pause-case dev l s on = where-owned (owner_of k l) _ (λ owner. where-session (session_in k.sessions s) _ (λ x is.
-      where-none (option_or (name_refusal k dev owner) (option_or (outside_refusal x l) (master_refusal k x.mirror))) (table_plan (changed s (paused on))) (λ free. PausesMirror s on)))
+      where-none (option_or (name_refusal k dev owner) (option_or (outside_refusal x l) (master_refusal k x.mirror))) (why-or NoStop (name_refusal k dev owner) _ (name-why k dev owner) (why-or NoStop (outside_refusal x l) _ (outside-why k x l) (master-why k x.mirror))) (table_plan (changed s (paused on))) (λ free. PausesMirror s on)))
 
-  unmirror-case : (dev : Option Name) (l s : ℕ) → Is (unmirror_plan k dev l s)
+  unmirror-case : {devs : Devs} → (dev : Option Name) (l s : ℕ) → Is (Ok (RemoveMirror devs l s)) (unmirror_plan k dev l s)
   unmirror-case dev l s = where-owned (owner_of k l) _ (λ owner. where-session (session_in k.sessions s) _ (λ x is.
       let why : Option Refusal = option_or (name_refusal k dev owner) (option_or (outside_refusal x l) (option_or (master_refusal k x.mirror) (drop_refusal x.mirror))) in
-      where-none why (table_plan (changed s unmirrored))
+      where-none why (why-or NoStop (name_refusal k dev owner) _ (name-why k dev owner) (why-or NoStop (outside_refusal x l) _ (outside-why k x l) (why-or NoStop (master_refusal k x.mirror) _ (master-why k x.mirror) (drop-why k x.mirror)))) (table_plan (changed s unmirrored))
       (λ free. RemovesMirror s x is (none-both (master_refusal k x.mirror) _ (none-both (outside_refusal x l) _ (none-both (name_refusal k dev owner) _ free).1).1).1)))
 
-  abort-case : (s : ℕ) → Is (abort_plan k s)
+  abort-case : (s : ℕ) → Is (Ok (Abort s)) (abort_plan k s)
   abort-case s = where-session (session_in k.sessions s) _ (λ x is.
-      where-none (option_or (abort_refusal x.mirror) (master_refusal k x.mirror)) (aborted s x.mirror) (λ free. Aborts s x is (none-both (abort_refusal x.mirror) _ free).0))
+      where-none (option_or (abort_refusal x.mirror) (master_refusal k x.mirror)) (why-or NoStop (abort_refusal x.mirror) _ (abort-why k x.mirror) (master-why k x.mirror)) (aborted s x.mirror) (λ free. Aborts s x is (none-both (abort_refusal x.mirror) _ free).0))
 
-  target-case : (s a : ℕ) (x : Session) (o : Option ℕ) → ((c : ℕ) → o ≡ Some c → in_session (find (has_place_of (member_with k a c)) k.sessions) ≡ None → Joins k s a c x) → Is (add_target k s x a (fields_at k a).primary_partner o)
-  target-case s a x None go = Says _
+  target-case : {devs : Devs} → {l : ℕ} → (s a : ℕ) (x : Session) (o : Option ℕ) → ((c : ℕ) → o ≡ Some c → in_session (find (has_place_of (member_with k a c)) k.sessions) ≡ None → Joins k s a c x) → Is (Ok (AddMember devs l a s)) (add_target k s x a (fields_at k a).primary_partner o)
+  target-case s a x None go = refused _ refl
   target-case s a x (Some c) go =
-      where-none (in_session (find (has_place_of (member_with k a c)) k.sessions)) (added k s x (member_with k a c)) (λ free. AddsMember s a c x (go c refl free))
+      where-none (in_session (find (has_place_of (member_with k a c)) k.sessions)) (session-why (find (has_place_of (member_with k a c)) k.sessions)) (added k s x (member_with k a c)) (λ free. AddsMember s a c x (go c refl free))
 
-  add-case : (dev : Option Name) (l a s : ℕ) → Is (add_plan k dev l a s)
+  add-case : {devs : Devs} → (dev : Option Name) (l a s : ℕ) → Is (Ok (AddMember devs l a s)) (add_plan k dev l a s)
   add-case dev l a s = where-owned (owner_of k l) _ (λ owner. where-volume a _ (λ there. where-session (session_in k.sessions s) _ (λ x is.
-      where-none (place_refusal k dev owner l a) (add_to k s x l a) (λ named.
-      where-none (option_or (outside_refusal x l) (option_or (taken_refusal k x a) (copy_refusal k a))) (add_target k s x a (fields_at k a).primary_partner (member_target k (fields_at k a).primary_partner)) (λ free.
+      where-none (place_refusal k dev owner l a) (place-why k dev owner l a) (add_to k s x l a) (λ named.
+      where-none (option_or (outside_refusal x l) (option_or (taken_refusal k x a) (copy_refusal k a))) (why-or NoStop (outside_refusal x l) _ (outside-why k x l) (why-or NoStop (taken_refusal k x a) _ (taken-why k x a) (copy-why k a))) (add_target k s x a (fields_at k a).primary_partner (member_target k (fields_at k a).primary_partner)) (λ free.
       let parts = none-both (outside_refusal x l) _ free in
       let rest = none-both (taken_refusal k x a) _ parts.1 in
       let lies : subsystem a ≡ l = eqb-true (subsystem a) l (not-false (nat_eq (subsystem a) l) (one-passed (not (nat_eq (subsystem a) l)) (unknown OfVolume) _ named).0) in
       target-case s a x (member_target k (fields_at k a).primary_partner) (λ c target places. record { found = is; there = there; free = rest.0; copies = rest.1; target = target; places = places; inside = ap (λ l. has_subsystem l x) lies ∙ met (has_subsystem l x) _ parts.0 }))))))
 
-  found-case : (s a : ℕ) (x : Session) (o : Option Member) → session_in k.sessions s ≡ Some x → find (λ m. m.a.0 == a) x.members ≡ o → Is (expel_found k s x o)
-  found-case s a x None is none = Says _
+  found-case : {devs : Devs} → {l : ℕ} → (s a : ℕ) (x : Session) (o : Option Member) → session_in k.sessions s ≡ Some x → find (λ m. m.a.0 == a) x.members ≡ o → Is (Ok (RemoveMember devs l a s)) (expel_found k s x o)
+  found-case s a x None is none = refused _ refl
   found-case s a x (Some m) is found =
-      where-none (busy x.mirror) (expel_done k s m) (λ idle. where-none (off_refusal k (k.volume m.c.0).server) (expelled s m) (λ on. RemovesMember s a x m is found idle on))
+      where-none (busy x.mirror) (busy-why k x.mirror) (expel_done k s m) (λ idle. where-none (off_refusal k (k.volume m.c.0).server) (off-why k (k.volume m.c.0).server) (expelled s m) (λ on. RemovesMember s a x m is found idle on))
 
-  expel-case : (dev : Option Name) (l a s : ℕ) → Is (expel_plan k dev l a s)
+  expel-case : {devs : Devs} → (dev : Option Name) (l a s : ℕ) → Is (Ok (RemoveMember devs l a s)) (expel_plan k dev l a s)
   expel-case dev l a s = where-owned (owner_of k l) _ (λ owner. where-volume a _ (λ there. where-session (session_in k.sessions s) _ (λ x is.
-      where-none (name_refusal k dev owner) (expel_found k s x (find (λ m. m.a.0 == a) x.members)) (λ named. found-case s a x _ is refl))))
+      where-none (name_refusal k dev owner) (name-why k dev owner) (expel_found k s x (find (λ m. m.a.0 == a) x.members)) (λ named. found-case s a x _ is refl))))
 
-  order-case : (s server : ℕ) (reply : Bool) (x : Session) (r : Mirror) (o : Option phases.Order) → ((p : phases.Order) → o ≡ Some p → Ordered k s server x r p) → Is (exchange_done s server reply (members_on server x.members) o)
-  order-case s server reply x r None go = Says _
+  order-case : {name : Name} → (s server : ℕ) (reply : Bool) (x : Session) (r : Mirror) (o : Option phases.Order) → ((p : phases.Order) → o ≡ Some p → Ordered k s server x r p) → Is (Ok (Exchange s name reply)) (exchange_done s server reply (members_on server x.members) o)
+  order-case s server reply x r None go = refused _ refl
   order-case s server reply x r (Some o) go = Exchanges s server reply x r o (go o refl)
 
-  pub on-case : (s server : ℕ) (reply : Bool) (x : Session) (m : Option Mirror) → session_in k.sessions s ≡ Some x → x.mirror ≡ m → Is (exchange_on k s m server reply x.members)
-  on-case s server reply x None is none = Says _
+  pub on-case : {name : Name} → (s server : ℕ) (reply : Bool) (x : Session) (m : Option Mirror) → session_in k.sessions s ≡ Some x → x.mirror ≡ m → Is (Ok (Exchange s name reply)) (exchange_on k s m server reply x.members)
+  on-case s server reply x None is none = refused _ refl
   on-case s server reply x (Some r) is mirror =
-      where-none (exchange_refusal k r server x.members) (exchange_done s server reply (members_on server x.members) (order_of r server)) (λ free.
+      where-none (exchange_refusal k r server x.members) (exchange-why k r server x.members) (exchange_done s server reply (members_on server x.members) (order_of r server)) (λ free.
       order-case s server reply x r (order_of r server) (λ o order. record { found = is; mirror = mirror; allowed = free; order = order }))
 
-  exchange-case : (s : ℕ) (name : Name) (reply : Bool) → Is (exchange_plan k s name reply)
+  exchange-case : (s : ℕ) (name : Name) (reply : Bool) → Is (Ok (Exchange s name reply)) (exchange_plan k s name reply)
   exchange-case s name reply = where-session (session_in k.sessions s) _ (λ x is.
       where-named (server_named k (name_bytes name)) (λ server. exchange_on k s x.mirror server reply x.members) (λ server. on-case s server reply x x.mirror is refl))
 
-  post-case : (s server : ℕ) (x : Session) (r : Mirror) (o : Option phases.Order) → ((p : phases.Order) → o ≡ Some p → Posts k s server x r p) → Is (send_order s (is_idle r.master.phase) server o)
-  post-case s server x r None go = Says _
+  post-case : {name : Name} → (s server : ℕ) (x : Session) (r : Mirror) (o : Option phases.Order) → ((p : phases.Order) → o ≡ Some p → Posts k s server x r p) → Is (Ok (Send s name)) (send_order s (is_idle r.master.phase) server o)
+  post-case s server x r None go = refused _ refl
   post-case s server x r (Some o) go = Sends s server x r o (go o refl)
 
-  send-by : (s server : ℕ) (x : Session) (m : Option Mirror) → server < length k.servers → session_in k.sessions s ≡ Some x → x.mirror ≡ m → Is (send_on k s m server x.members)
-  send-by s server x None here is none = Says _
+  send-by : {name : Name} → (s server : ℕ) (x : Session) (m : Option Mirror) → server < length k.servers → session_in k.sessions s ≡ Some x → x.mirror ≡ m → Is (Ok (Send s name)) (send_on k s m server x.members)
+  send-by s server x None here is none = refused _ refl
   send-by s server x (Some r) here is mirror =
-      where-none (send_refusal k r server x.members) (send_order s (is_idle r.master.phase) server (order_of r server)) (λ free.
+      where-none (send_refusal k r server x.members) (why-or NoStop (off_refusal k r.server) _ (off-why k r.server) (why-or NoStop (phase_refusal r server x.members) _ (phase-why k r server x.members) (full-why k))) (send_order s (is_idle r.master.phase) server (order_of r server)) (λ free.
       post-case s server x r (order_of r server) (λ o order. record { here = here; found = is; mirror = mirror; allowed = free; order = order }))
 
-  send-case : (s : ℕ) (name : Name) → Is (send_plan k s name)
+  send-case : (s : ℕ) (name : Name) → Is (Ok (Send s name)) (send_plan k s name)
   send-case s name = where-session (session_in k.sessions s) _ (λ x is.
       where-placed (server_named k (name_bytes name)) (λ server. send_on k s x.mirror server x.members) (λ server named. send-by s server x x.mirror (is-defined name server named) is refl))
 
-  order-by : (n : ℕ) (m : Message) (starts : ℕ) (x : Session) (o : Option Mirror) → ((r : Mirror) → o ≡ Some r → Arrives k n m (Asks starts) x r) → off_refusal k m.server ≡ None → Is (order_on k m starts x.members o)
-  order-by n m starts x None go on = Says _
+  order-by : (n : ℕ) (m : Message) (starts : ℕ) (x : Session) (o : Option Mirror) → ((r : Mirror) → o ≡ Some r → Arrives k n m (Asks starts) x r) → off_refusal k m.server ≡ None → Is (Ok (Deliver n)) (order_on k m starts x.members o)
+  order-by n m starts x None go on = refused _ refl
   order-by n m starts x (Some r) go on =
-      where-none (order_refusal k r m starts) (order_done m (members_on m.server x.members)) (λ free. Delivers n m starts x r (record { arrives = go r refl; on = on; allowed = free }))
+      where-none (order_refusal k r m starts) (why-or NoStop (apart_refusal k r.server m.server) _ (apart-why k r.server m.server) (why-or NoStop (full_refusal k.flight) _ (full-why k) (old-why k m (is_current k.flight m starts)))) (order_done m (members_on m.server x.members)) (λ free. Delivers n m starts x r (record { arrives = go r refl; on = on; allowed = free }))
 
-  reply-by : (n : ℕ) (m : Message) (reply : phases.Reply) (x : Session) (o : Option Mirror) → ((r : Mirror) → o ≡ Some r → Arrives k n m (Replies reply) x r) → Is (reply_on k m reply o)
-  reply-by n m reply x None go = Says _
-  reply-by n m reply x (Some r) go = where-none (reply_refusal k r m) (taken m reply) (λ free. TakesReply n m reply x r (record { arrives = go r refl; allowed = free }))
+  reply-by : (n : ℕ) (m : Message) (reply : phases.Reply) (x : Session) (o : Option Mirror) → ((r : Mirror) → o ≡ Some r → Arrives k n m (Replies reply) x r) → Is (Ok (Deliver n)) (reply_on k m reply o)
+  reply-by n m reply x None go = refused _ refl
+  reply-by n m reply x (Some r) go = where-none (reply_refusal k r m) (why-or NoStop (off_refusal k r.server) _ (off-why k r.server) (why-or NoStop (apart_refusal k r.server m.server) _ (apart-why k r.server m.server) (old-why k m (is_awaited k.flight r m)))) (taken m reply) (λ free. TakesReply n m reply x r (record { arrives = go r refl; allowed = free }))
 
-  body-case : (n : ℕ) (m : Message) (x : Session) (b : Body) → ((r : Mirror) → x.mirror ≡ Some r → Arrives k n m b x r) → Is (deliver_on k m x b)
-  body-case n m x (Asks starts) go = where-none (off_refusal k m.server) (order_on k m starts x.members x.mirror) (λ on. order-by n m starts x x.mirror go on)
+  body-case : (n : ℕ) (m : Message) (x : Session) (b : Body) → ((r : Mirror) → x.mirror ≡ Some r → Arrives k n m b x r) → Is (Ok (Deliver n)) (deliver_on k m x b)
+  body-case n m x (Asks starts) go = where-none (off_refusal k m.server) (off-why k m.server) (order_on k m starts x.members x.mirror) (λ on. order-by n m starts x x.mirror go on)
   body-case n m x (Replies reply) go = reply-by n m reply x x.mirror go
 
-  deliver-case : (n : ℕ) (o : Option Message) → message_in k.flight n ≡ o → Is (on_message o (λ m. on_session (session_in k.sessions m.session) (λ x. deliver_on k m x m.body)))
-  deliver-case n None there = Says _
+  deliver-case : (n : ℕ) (o : Option Message) → message_in k.flight n ≡ o → Is (Ok (Deliver n)) (on_message o (λ m. on_session (session_in k.sessions m.session) (λ x. deliver_on k m x m.body)))
+  deliver-case n None there = refused _ refl
   deliver-case n (Some m) there = where-session (session_in k.sessions m.session) (λ x. deliver_on k m x m.body) (λ x is. body-case n m x m.body (λ r mirror. record { there = there; says = refl; found = is; mirror = mirror }))
 
-  lose-case : (n : ℕ) (o : Option Message) → Is (on_message o (λ m. tables_plan (with_flight (lost n)) [] (Done Alone)))
-  lose-case n None = Says _
+  lose-case : (n : ℕ) (o : Option Message) → Is (Ok (Lose n)) (on_message o (λ m. tables_plan (with_flight (lost n)) [] (Done Alone)))
+  lose-case n None = refused _ refl
   lose-case n (Some m) = Loses n
 
-  recover-case : (s : ℕ) → Is (recover_plan k s)
-  recover-case s = where-session (session_in k.sessions s) _ (λ x is. where-none (secondary_refusal x.members k) (recover_done s (decided_in s k) x.members) (λ on. Recovers s x is on))
+  recover-case : (s : ℕ) → Is (Ok (Recover s)) (recover_plan k s)
+  recover-case s = where-session (session_in k.sessions s) _ (λ x is. where-none (secondary_refusal x.members k) (secondary-why x.members k) (recover_done s (decided_in s k) x.members) (λ on. Recovers s x is on))
 
   -- the member by whose target an attempt may be committed or reverted by hand
-  settle-in : (lets : Decision → Bool) (s : ℕ) (m : Member) (o : Option Session) → session_in k.sessions s ≡ o → In m (members_in o) → settle_refusal lets (decided_in s k) (members_in o) k ≡ None → Is (entries_plan (settle_on s (decided_in s k) m ∷ []) (Done Alone))
-  settle-in lets s m None is here free = absurd here
-  settle-in lets s m (Some x) is here free =
-      let rest = none-both (secondary_refusal x.members k) _ free in
-      Settles s x m is here rest.0 (none-both (untaken_refusal x.members k) (forbidden_unless (lets (decided_in s k)) (decided_in s k)) rest.1).0
+  module _ {step : Step} (lets : Decision → Bool) (b : ℕ) (hand : (s t : ℕ) (m : Member) → revertible_target k b ≡ Some t → m.c.0 ≡ t → lets (decided_in s k) ≡ true → ByHand k s m step) where
+    settle-in : (s t : ℕ) (m : Member) (o : Option Session) → revertible_target k b ≡ Some t → m.c.0 ≡ t → session_in k.sessions s ≡ o → In m (members_in o) → settle_refusal lets (decided_in s k) (members_in o) k ≡ None
+        → Is (Ok step) (entries_plan (settle_on s (decided_in s k) m ∷ []) (Done Alone))
+    settle-in s t m None target own is here free = absurd here
+    settle-in s t m (Some x) target own is here free =
+        let rest = none-both (secondary_refusal x.members k) _ free in
+        let last = none-both (untaken_refusal x.members k) (forbidden_unless (lets (decided_in s k)) (decided_in s k)) rest.1 in
+        Settles s x m is here rest.0 last.0 (hand s t m target own (not-forbidden (lets (decided_in s k)) (decided_in s k) last.1))
 
-  settle-found : (lets : Decision → Bool) (b s t : ℕ) (o : Option Member) → find (λ m. m.c.0 == t) (members_in (session_in k.sessions s)) ≡ o → Is (settle_member k lets b s o)
-  settle-found lets b s t None is = Says _
-  settle-found lets b s t (Some m) is =
-      where-none (settle_refusal lets (decided_in s k) (members_in (session_in k.sessions s)) k) (entries_plan (settle_on s (decided_in s k) m ∷ []) (Done Alone))
-      (λ free. settle-in lets s m (session_in k.sessions s) refl (found (λ m. m.c.0 == t) (members_in (session_in k.sessions s)) m is).0 free)
+    settle-found : (s t : ℕ) (o : Option Member) → revertible_target k b ≡ Some t → find (λ m. m.c.0 == t) (members_in (session_in k.sessions s)) ≡ o → Is (Ok step) (settle_member k lets b s o)
+    settle-found s t None target is = refused _ refl
+    settle-found s t (Some m) target is =
+        let own = found (λ (m : Member). m.c.0 == t) (members_in (session_in k.sessions s)) m is in
+        where-none (settle_refusal lets (decided_in s k) (members_in (session_in k.sessions s)) k) (let ms : List Member = members_in (session_in k.sessions s) in why-or NoStop (secondary_refusal ms k) _ (secondary-why ms k) (why-or NoStop (untaken_refusal ms k) _ (untaken-why k ms) (forbidden-why (lets (decided_in s k)) (decided_in s k)))) (entries_plan (settle_on s (decided_in s k) m ∷ []) (Done Alone))
+        (λ free. settle-in s t m (session_in k.sessions s) target (eqb-true m.c.0 t own.1) refl own.0 free)
 
-  settle-by : (lets : Decision → Bool) (b : ℕ) (o : Option ℕ) → Is (settle_target k lets b o)
-  settle-by lets b None = Says _
-  settle-by lets b (Some t) = settle-found lets b (fields_at k t).session t (member_of_target k t) refl
+    settle-by : (o : Option ℕ) → revertible_target k b ≡ o → Is (Ok step) (settle_target k lets b o)
+    settle-by None target = refused _ refl
+    settle-by (Some t) target = settle-found (fields_at k t).session t (member_of_target k t) target refl
 
-  settle-case : (dev : Option Name) (lets : Decision → Bool) (b : ℕ) → Is (settle_plan k dev lets b)
-  settle-case dev lets b = where-volume b _ (λ there.
-      where-none (option_or (name_refusal k dev (k.volume b).server) (off_refusal k (k.volume b).server)) (settle_target k lets b (revertible_target k b)) (λ named. settle-by lets b (revertible_target k b)))
+    settle-case : (dev : Option Name) → Is (Ok step) (settle_plan k dev lets b)
+    settle-case dev = where-volume b _ (λ there.
+        where-none (option_or (name_refusal k dev (k.volume b).server) (off_refusal k (k.volume b).server)) (why-or NoStop (name_refusal k dev (k.volume b).server) _ (name-why k dev (k.volume b).server) (off-why k (k.volume b).server)) (settle_target k lets b (revertible_target k b)) (λ named. settle-by (revertible_target k b) refl))
 
-  of-case : (step : Step) → Is (plan_of k events line step)
-  of-case (Server name) = where-none (server_refusal k (name_bytes name)) (server_done k name) (DefinesServer name)
+  pub of-case : (step : Step) → Is (Ok step) (plan_of k events line step)
+  of-case (Server name) = where-none (server_refusal k (name_bytes name)) (server-why k (name_bytes name)) (server_done k name) (DefinesServer name)
   of-case (Volume v name tracks) =
       where-placed (server_named k (name_bytes name)) (λ s. unless (volume_refusal k v s tracks) (volume_done v s tracks))
-      (λ s is. where-none (volume_refusal k v s tracks) (volume_done v s tracks) (DefinesVolume v s tracks (is-defined name s is)))
+      (λ s is. where-none (volume_refusal k v s tracks) (volume-why k v s tracks) (volume_done v s tracks) (DefinesVolume v s tracks (is-defined name s is)))
   of-case (Link a b up) = where-named (server_named k (name_bytes a)) (λ x. on_server k b (λ y. link_between x y up)) (λ x. where-named (server_named k (name_bytes b)) (λ y. link_between x y up) (λ y. link-case x y up))
-  of-case (Issue v t offset len bytes) = where-none (issue_refusal k v t) (issue_done k v t offset len bytes) (Issues v t offset len bytes)
-  of-case (Write v t offset len bytes) = where-none (issue_refusal k v t) (write_done k v t offset len bytes) (Writes v t offset len bytes)
+  of-case (Issue v t offset len bytes) = where-none (issue_refusal k v t) (issue-why k v t) (issue_done k v t offset len bytes) (Issues v t offset len bytes)
+  of-case (Write v t offset len bytes) = where-none (issue_refusal k v t) (issue-why k v t) (write_done k v t offset len bytes) (Writes v t offset len bytes)
   of-case (Apply n) = apply-case n _ refl
   of-case (Stop name) = where-named (server_named k (name_bytes name)) (stop_on k) stop-case
   of-case (StopAfter name writes torn) = where-named (server_named k (name_bytes name)) (arm_on writes torn) (Arms writes torn)
   of-case (Start name) = where-named (server_named k (name_bytes name)) (start_on k) start-case
-  of-case (Show v t) = where-none (show_refusal k v t) (show_done events line v t) (Shows v t)
+  of-case (Show v t) = where-none (show_refusal k v t) (show-why k v t) (show_done events line v t) (Shows v t)
   of-case (MakeFlash devs s t nocopy persistent recorded inhibited freeze sequence) = MakesFlash devs.dev s t freeze _
   of-case (RemoveFlash devs s t sequence) = RemovesFlash devs.dev s t
   of-case (ResyncFlash devs s t nocopy persistent recorded inhibited sequence) = ResyncsFlash devs.dev s t sequence
@@ -392,10 +430,10 @@ module _ (k : Control) (events : List Event) (line : ℕ) where
   of-case (Destage v) = Destages v
   of-case (MakePath devs src tgt group) =
       where-owned (owner_of k src) (λ s. on_owner (owner_of k tgt) (λ u. unless (path_refusal k devs s u) (make_path_done src tgt group)))
-      (λ s. where-owned (owner_of k tgt) (λ u. unless (path_refusal k devs s u) (make_path_done src tgt group)) (λ u. where-none (path_refusal k devs s u) (make_path_done src tgt group) (λ free. MakesPath src tgt group)))
+      (λ s. where-owned (owner_of k tgt) (λ u. unless (path_refusal k devs s u) (make_path_done src tgt group)) (λ u. where-none (path_refusal k devs s u) (path-why k devs s u) (make_path_done src tgt group) (λ free. MakesPath src tgt group)))
   of-case (RemovePath devs src tgt force) =
       where-owned (owner_of k src) (λ s. on_owner (owner_of k tgt) (λ u. unless (unpath_refusal k devs src tgt s u force) (remove_path_done src tgt)))
-      (λ s. where-owned (owner_of k tgt) (λ u. unless (unpath_refusal k devs src tgt s u force) (remove_path_done src tgt)) (λ u. where-none (unpath_refusal k devs src tgt s u force) (remove_path_done src tgt) (λ free. RemovesPath src tgt)))
+      (λ s. where-owned (owner_of k tgt) (λ u. unless (unpath_refusal k devs src tgt s u force) (remove_path_done src tgt)) (λ u. where-none (unpath_refusal k devs src tgt s u force) (unpath-why k devs src tgt s u force) (remove_path_done src tgt) (λ free. RemovesPath src tgt)))
   of-case (MakePair devs a b kind choices) = MakesPair devs a b (kind_of kind) choices (is-kind kind)
   of-case (RemovePair devs a b source_only) = RemovesPair devs a b source_only
   of-case (PausePair devs a b) = PausesPair devs a b
@@ -403,15 +441,15 @@ module _ (k : Control) (events : List Event) (line : ℕ) where
   of-case (Failover devs b a kind) = FailsOver devs b a (kind_of kind)
   of-case (Failback devs x y kind) = FailsBack devs x y (kind_of kind)
   of-case (Drain a most) = Drains a most
-  of-case (Expire name) = where-named (server_named k (name_bytes name)) (expire_on k) expire-case
+  of-case (Expire name) = where-placed (server_named k (name_bytes name)) (expire_on k) expire-case
   of-case (Freeze devs l m) =
       where-owned (owner_of k l) (λ s. on_owner (owner_of k m) (λ u. unless (freeze_refusal k devs l m s u) (freeze_done k l m)))
-      (λ s. where-owned (owner_of k m) (λ u. unless (freeze_refusal k devs l m s u) (freeze_done k l m)) (λ u. where-none (freeze_refusal k devs l m s u) (freeze_done k l m) (λ free. Freezes l m)))
+      (λ s. where-owned (owner_of k m) (λ u. unless (freeze_refusal k devs l m s u) (freeze_done k l m)) (λ u. where-none (freeze_refusal k devs l m s u) (freeze-why k devs l m s u) (freeze_done k l m) (λ free. Freezes l m)))
   of-case (Unfreeze devs l m) =
       where-owned (owner_of k l) (λ s. on_owner (owner_of k m) (λ u. unless (thaw_refusal k devs s u) (unfreeze_done k l m)))
-      (λ s. where-owned (owner_of k m) (λ u. unless (thaw_refusal k devs s u) (unfreeze_done k l m)) (λ u. where-none (thaw_refusal k devs s u) (unfreeze_done k l m) (λ free. Unfreezes l m)))
+      (λ s. where-owned (owner_of k m) (λ u. unless (thaw_refusal k devs s u) (unfreeze_done k l m)) (λ u. where-none (thaw_refusal k devs s u) (thaw-why k devs s u) (unfreeze_done k l m) (λ free. Unfreezes l m)))
   of-case (UnfreezeFlash devs l) =
-      where-owned (owner_of k l) (λ s. unless (release_refusal k devs.dev s) (release_done k l)) (λ s. where-none (release_refusal k devs.dev s) (release_done k l) (λ free. Releases l))
+      where-owned (owner_of k l) (λ s. unless (release_refusal k devs.dev s) (release_done k l)) (λ s. where-none (release_refusal k devs.dev s) (release-why k devs.dev s) (release_done k l) (λ free. Releases l))
   of-case (MakeSession devs l s) = join-case devs.dev l s
   of-case (RemoveSession devs l s) = leave-case devs.dev l s
   of-case (AddMember devs l a s) = add-case devs.dev l a s
@@ -426,24 +464,24 @@ module _ (k : Control) (events : List Event) (line : ℕ) where
   of-case (Deliver n) = deliver-case n (message_in k.flight n) refl
   of-case (Lose n) = lose-case n (message_in k.flight n)
   of-case (Recover s) = recover-case s
-  of-case (CommitFlash devs source sequence) = settle-case devs.dev lets_commit source
-  of-case (RevertFlash devs source sequence) = settle-case devs.dev lets_revert source
-  of-case (ListPairs devs v) = where-none (listing_refusal k devs.dev v) (lists (pair_lines line v (fields_at k v))) (λ there. Lists (pair_lines line v (fields_at k v)) (pair-lines line v (fields_at k v)) (λ groups sessions volumes. pair-few line v (fields_at k v)))
-  of-case (ListFlashes devs v) = where-none (listing_refusal k devs.dev v) (lists (flash_lines k line v)) (λ there. Lists (flash_lines k line v) (flash-lines k line v) (λ groups sessions volumes. flash-few k line v volumes))
+  of-case (CommitFlash devs source sequence) = settle-case lets_commit source (λ s t m target own lets. Commits devs source sequence lets) devs.dev
+  of-case (RevertFlash devs source sequence) = settle-case lets_revert source (λ s t m target own lets. Reverts devs source sequence t target own) devs.dev
+  of-case (ListPairs devs v) = where-none (listing_refusal k devs.dev v) (listing-why k devs.dev v) (lists (pair_lines line v (fields_at k v))) (λ there. Lists (pair_lines line v (fields_at k v)) (pair-lines line v (fields_at k v)) (λ groups sessions volumes. pair-few line v (fields_at k v)))
+  of-case (ListFlashes devs v) = where-none (listing_refusal k devs.dev v) (listing-why k devs.dev v) (lists (flash_lines k line v)) (λ there. Lists (flash_lines k line v) (flash-lines k line v) (λ groups sessions volumes. flash-few k line v volumes))
   of-case (ListSession devs l) =
-      where-owned (owner_of k l) _ (λ owner. where-none (name_refusal k devs.dev owner) (lists (flat_map (member_lines k line l) (sessions_of k l)))
+      where-owned (owner_of k l) _ (λ owner. where-none (name_refusal k devs.dev owner) (name-why k devs.dev owner) (lists (flat_map (member_lines k line l) (sessions_of k l)))
       (λ named. Lists (flat_map (member_lines k line l) (sessions_of k l)) (session-lines k line l) (session-few k line l)))
   of-case (ShowMirror devs l) =
-      where-owned (owner_of k l) _ (λ owner. where-none (name_refusal k devs.dev owner) (lists (flat_map (λ x. mirror_lines line x.number x.mirror) (sessions_of k l)))
+      where-owned (owner_of k l) _ (λ owner. where-none (name_refusal k devs.dev owner) (name-why k devs.dev owner) (lists (flat_map (λ x. mirror_lines line x.number x.mirror) (sessions_of k l)))
       (λ named. Lists (flat_map (λ x. mirror_lines line x.number x.mirror) (sessions_of k l)) (mirrors-lines k line l) (λ groups sessions volumes. mirrors-few k line l sessions)))
-  of-case _ = Says (Done Alone)
+  of-case _ = idle
 
-  step-case : (step : Step) → Is (step_plan k events line step)
-  step-case step = choice (has_room events) (plan_of k events line step) (refuses JournalFull) (λ room. of-case step) (λ full. Says _)
+  step-case : (step : Step) → Is (Ok step) (step_plan k events line step)
+  step-case step = choice (has_room events) (plan_of k events line step) (refuses JournalFull) (λ room. of-case step) (λ full. refused _ refl)
 
-  pub plan-case : (asked : Result Step ℕ) → Is (plan k events line asked)
+  pub plan-case : (asked : Result Step ℕ) → Is asked (plan k events line asked)
   plan-case (Ok step) = step-case step
-  plan-case (Err column) = Says (Refused (Syntax column))
+  plan-case (Err column) = refused (Syntax column) refl
 
 below : (n m : ℕ) → nat_le m n ≡ false → n < m
 below n m h = grind (arith, nat_tests, h)

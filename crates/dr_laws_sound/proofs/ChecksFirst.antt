@@ -1,49 +1,42 @@
 -- Entries of which checks come first: a refusal comes before anything was done. So a plan of such entries that is refused, but by the stop
 -- of a server, leaves the world as it was.
-use Rattle.std.proofs.Common.{ℕ, suc, ◌≡◌, ◌⊎◌, inl, inr, refl, ap, sym, ◌∙◌, take, drop, Bool, true, false, cond, List, [], ◌∷◌, Option, Some, None}
+use Rattle.std.proofs.Common.{ℕ, suc, ◌≡◌, ◌⊎◌, refl, ap, sym, ◌∙◌, take, drop, Bool, true, false, cond, List, [], ◌∷◌, Option, Some, None}
 use Rattle.std.specs.List.{flat_map}
 use Rattle.dr_ids.specs.declared.refusal.Refusal.{Refusal}
 use Rattle.dr_ids.specs.declared.refusal.Refusal.TheVariants.{Stopped as StoppedIn}
 use Rattle.dr_model.specs.Refusals.{stopped}
 use Rattle.dr_model.specs.Control.{Control, World, Fuse}
-use Rattle.dr_model.specs.Carry.{Act, Make, OpenAttempt, Redo, Acknowledge, Drop, EndFreeze, EndThaw, EndRecovery, act, Turn, Next, Pass, Do, End, Entry, Outcome, carry, continue, go, check, follow}
-use Rattle.dr_model.specs.PairEntries.{end_if, refuse_if}
+use Rattle.dr_model.specs.Carry.{Act, Make, OpenAttempt, Redo, Acknowledge, Drop, EndFreeze, EndThaw, EndRecovery, act, Turn, Next, Pass, Do, End, Entry, Outcome, carry, continue, go, follow}
+use Rattle.dr_model.specs.PairEntries.{refuse_if}
 use Rattle.dr_model.proofs.CarryLemmas.{onward, carry-none, carry-append}
 use Rattle.dr_laws_sound.specs.Stops.{refused_stop}
 use Rattle.dr_laws_sound.proofs.Turns.{Counts, after_act, act-cases}
-use Rattle.dr_laws_sound.proofs.Endless.{Goes, Endless}
+use Rattle.dr_facts.proofs.Entries.{any_world, any_reason, WhyNot, AllFine, FineFrom, FromThen, from-refuse, from-all, next-ends, carry-ends}
 
--- an entry that passes or ends the plan
-abbrev pub Tests : Entry → Type 0
-Tests d = (k : Control) (a : Act) → d k ≡ Do a → ⊥
+-- no reason at all
+abbrev pub never : Refusal → Type 0
+never r = ⊥
 
--- such entries, and then entries that end no plan
-unfoldable pub ChecksFirst : List Entry → Type 0
-ChecksFirst [] = Unit {0}
-ChecksFirst (d ∷ ds) = (Tests d × ChecksFirst ds) ⊎ Endless (d ∷ ds)
+abbrev pub any_act : World → Act → Type 0
+any_act w a = Unit {0}
 
-pub first-done : (ds : List Entry) → Endless ds → ChecksFirst ds
-unfolding ChecksFirst
-first-done [] goes = tt
-first-done (d ∷ ds) goes = inr goes
+-- entries that end no plan
+abbrev pub NeverRefuse : List Entry → Type 0
+NeverRefuse = AllFine any_world any_act never
 
-pub first-then : (d : Entry) (ds : List Entry) → Tests d → ChecksFirst ds → ChecksFirst (d ∷ ds)
-unfolding ChecksFirst
-first-then d ds tests rest = inl (tests, rest)
+-- checks, and then such entries
+abbrev pub ChecksFirst : List Entry → Type 0
+ChecksFirst ds = (w : World) → FineFrom any_world any_act any_reason never w ds
 
-pub first-check : (ok : Control → Bool) (r : Refusal) (ds : List Entry) → ChecksFirst ds → ChecksFirst (check ok r ∷ ds)
-first-check ok r ds rest = first-then (check ok r) ds (λ k a. by (ok k) a) rest
-  where
-    by : (b : Bool) (a : Act) → cond b Pass (End r) ≡ Do a → ⊥
-    by true a e = absurd cc
-    by false a e = absurd cc
+pub first-done : (ds : List Entry) → NeverRefuse ds → ChecksFirst ds
+first-done ds goes w = from-all any_world any_act any_reason never (λ r why. tt) w tt ds goes
 
 pub first-refuse : (why : Control → Option Refusal) (ds : List Entry) → ChecksFirst ds → ChecksFirst (refuse_if why ∷ ds)
-first-refuse why ds rest = first-then (refuse_if why) ds (λ k a. by (why k) a) rest
+first-refuse why ds rest w = from-refuse any_world any_act any_reason never w why ds (by (why w.control)) (rest w)
   where
-    by : (o : Option Refusal) (a : Act) → end_if o ≡ Do a → ⊥
-    by None a e = absurd cc
-    by (Some r) a e = absurd cc
+    by : (o : Option Refusal) → WhyNot any_reason o
+    by None = tt
+    by (Some r) = tt
 
 -- ---- how such entries end
 
@@ -55,44 +48,39 @@ Never o = (r : Refusal) → o.1 ≡ Some r → refused_stop (Some r) ≡ None �
 abbrev pub Untouched : World → Outcome → Type 0
 Untouched w o = (r : Refusal) → o.1 ≡ Some r → refused_stop (Some r) ≡ None → o.0 ≡ w
 
+abbrev NeverFor : Option Refusal → Type 0
+NeverFor o = (r : Refusal) → o ≡ Some r → refused_stop (Some r) ≡ None → ⊥
+
 -- a stop is no such refusal
-stop-never : (v : World) (s : ℕ) → Never (v, Some (stopped s))
-stop-never v s r e other =
+stop-never : (s : ℕ) → NeverFor (Some (stopped s))
+stop-never s r e other =
     let is : stopped s ≡ r = cc in
     let none : refused_stop (Some (stopped s)) ≡ None = ap (λ r. refused_stop (Some r)) is ∙ other in
     absurd cc
 
-continue-never : (t : Turn) (next : World → Outcome) → ((v : World) → Never (next v)) → Never (continue t.0 t.1 next)
-continue-never (v, None) next rest = rest v
-continue-never (v, Some s) next rest = stop-never v s
+module _ (Ok : World → Act → Type 0) (First Why : Refusal → Type 0) (no_reason : (r : Refusal) → Why r → ⊥) where
+  pub carry-never : (w : World) (ds : List Entry) → AllFine any_world Ok Why ds → Never (carry w ds)
+  carry-never w ds fine = carry-ends any_world Ok Why (λ v. tt) NeverFor (λ r e other. cc) stop-never (λ r why. absurd (no_reason r why)) ds fine w
 
-go-never : (w : World) (x : Next) (next : World → Outcome) → Goes x → ((v : World) → Never (next v)) → Never (go w x next)
-go-never w Pass next goes rest = rest w
-go-never w (End r) next goes rest = λ q e other. goes r refl
-go-never w (Do a) next goes rest = continue-never (act w a) next rest
+  acted-never : (w : World) (a : Act) (ds : List Entry) → Ok w a × AllFine any_world Ok Why ds → NeverFor (go w (Do a) (λ v. carry v ds)).1
+  acted-never w a ds fine = next-ends any_world Ok Why (λ v. tt) NeverFor (λ r e other. cc) stop-never (λ r why. absurd (no_reason r why)) w (Do a) (λ v. carry v ds) (AllFine any_world Ok Why ds) fine (λ rest v. carry-never v ds rest)
 
-pub carry-never : (w : World) (ds : List Entry) → Endless ds → Never (carry w ds)
-unfolding carry Endless
-carry-never w [] goes = λ r e other. cc
-carry-never w (d ∷ ds) goes = go-never w (d w.control) (λ v. carry v ds) (goes.0 w.control) (λ v. carry-never v ds goes.1)
+  go-untouched : (w : World) (x : Next) (ds : List Entry) → FromThen any_world Ok First Why w x (FineFrom any_world Ok First Why w ds) (AllFine any_world Ok Why ds) → (FineFrom any_world Ok First Why w ds → Untouched w (carry w ds)) → Untouched w (go w x (λ v. carry v ds))
+  go-untouched w Pass ds fine rest = rest fine
+  go-untouched w (End r) ds fine rest = λ q e other. refl
+  go-untouched w (Do a) ds fine rest = λ q e other. absurd (acted-never w a ds fine q e other)
 
-go-untouched : (w : World) (x : Next) (next : World → Outcome) → ((a : Act) → x ≡ Do a → ⊥) → Untouched w (next w) → Untouched w (go w x next)
-go-untouched w Pass next tests rest = rest
-go-untouched w (End r) next tests rest = λ q e other. refl
-go-untouched w (Do a) next tests rest = absurd (tests a refl)
-
-pub carry-untouched : (w : World) (ds : List Entry) → ChecksFirst ds → Untouched w (carry w ds)
-unfolding carry ChecksFirst
-carry-untouched w [] first = λ r e other. refl
-carry-untouched w (d ∷ ds) (inl first) = go-untouched w (d w.control) (λ v. carry v ds) (first.0 w.control) (carry-untouched w ds first.1)
-carry-untouched w (d ∷ ds) (inr goes) = λ r e other. absurd (carry-never w (d ∷ ds) goes r e other)
+  pub carry-untouched : (w : World) (ds : List Entry) → FineFrom any_world Ok First Why w ds → Untouched w (carry w ds)
+  unfolding carry FineFrom
+  carry-untouched w [] fine = λ r e other. refl
+  carry-untouched w (d ∷ ds) fine = go-untouched w (d w.control) ds fine (carry-untouched w ds)
 
 -- in the words of where entries lead
-pub never-leads : {P : Type 0} (w u : World) (ds : List Entry) (r : Refusal) → Endless ds → carry w ds ≡ (u, Some r) → refused_stop (Some r) ≡ None → P
-never-leads w u ds r goes leads other = absurd (carry-never w ds goes r (ap (λ (o : Outcome). o.1) leads) other)
+pub never-leads : {P : Type 0} (w u : World) (ds : List Entry) (r : Refusal) → NeverRefuse ds → carry w ds ≡ (u, Some r) → refused_stop (Some r) ≡ None → P
+never-leads w u ds r goes leads other = absurd (carry-never any_act never never (λ r h. h) w ds goes r (ap (λ (o : Outcome). o.1) leads) other)
 
 pub first-leads : (w u : World) (ds : List Entry) (r : Refusal) → ChecksFirst ds → carry w ds ≡ (u, Some r) → refused_stop (Some r) ≡ None → u ≡ w
-first-leads w u ds r first leads other = sym (ap (λ (o : Outcome). o.0) leads) ∙ carry-untouched w ds first r (ap (λ (o : Outcome). o.1) leads) other
+first-leads w u ds r first leads other = sym (ap (λ (o : Outcome). o.0) leads) ∙ carry-untouched any_act any_reason never (λ r h. h) w ds (first w) r (ap (λ (o : Outcome). o.1) leads) other
 
 -- nothing follows such a refusal
 pub follow-stays : (w : World) (r : Refusal) (follows : ℕ → List Entry) → refused_stop (Some r) ≡ None → follow w r follows ≡ w
@@ -153,7 +141,7 @@ counts-on w (EndRecovery s n) = tt
 act-on : (w : World) (a : Act) → StaysOn w (act w a)
 act-on w a = act-cases w a (StaysOn w) (λ d off none. refl) (λ f none. on-after w a f) (counts-on w a) (λ d f none. cc)
 
-abbrev EndsOn : World → Outcome → Type 0
+abbrev pub EndsOn : World → Outcome → Type 0
 EndsOn w o = o.1 ≡ None → o.0.control.on ≡ w.control.on
 
 continue-on : (w : World) (t : Turn) (next : World → Outcome) → StaysOn w t → ((v : World) → EndsOn v (next v)) → EndsOn w (continue t.0 t.1 next)
@@ -165,7 +153,7 @@ go-on w Pass next rest = rest w
 go-on w (End r) next rest = λ none. refl
 go-on w (Do a) next rest = continue-on w (act w a) next (act-on w a) rest
 
-carry-on : (w : World) (ds : List Entry) → EndsOn w (carry w ds)
+pub carry-on : (w : World) (ds : List Entry) → EndsOn w (carry w ds)
 unfolding carry
 carry-on w [] = λ none. refl
 carry-on w (d ∷ ds) = go-on w (d w.control) (λ v. carry v ds) (λ v. carry-on v ds)

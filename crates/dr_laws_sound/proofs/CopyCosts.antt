@@ -34,6 +34,38 @@ module _ (s : ℕ) where
       fewer (λ u. copies_from s (at w.control.volume (target m) y u).fields) (copies w)
       (at_cases (λ u (z : Volume). copies_from s z.fields ≡ true → copies w u ≡ true) w.control.volume (target m) y still (λ q ne h. h)) us
 
+-- The targets of s keep track t, or note its change: each at its entry, as long as `L` holds, which moves on volumes that aren't restored leave.
+module _ (s t : ℕ) (L : World → Type 0) (entry : ℕ → Entry) (comes : (x : ℕ) (w : World) → L w → entry x w.control ≡ keep_on s t x w.control)
+    (stays : (w : World) (a : Move) (f : Option Fuse) → L w → (fields_at w.control (target a)).reversing ≡ false → (copies_from s (fields_left a (w.control.volume (target a))) ≡ true → copies s w (target a) ≡ true) → L (done w a f))
+    (m : ℕ) (more : List Entry) (rest : (b : ℕ) → m ≤ b → (w : World) → L w → Costs b w more) where
+  abbrev After : List ℕ → Type 0
+  After us = (c b : ℕ) (w : World) → count s w us ≤ c → c + m ≤ b → L w → Costs b w (map entry us ++ more)
+
+  moved-on : (us : List ℕ) → After us → (a : Move) (w : World) (c b : ℕ) → count s w us ≤ c → c + m ≤ b → L w → (fields_at w.control (target a)).reversing ≡ false
+      → (copies_from s (fields_left a (w.control.volume (target a))) ≡ true → copies s w (target a) ≡ true) → (f : Option Fuse) → Costs b (done w a f) (map entry us ++ more)
+  moved-on us next a w c b cnt le l free still f =
+      let fewer : count s (done w a f) us ≤ count s w us = copies-after s w a _ still us in
+      next c b (done w a f) (omega arith) le (stays w a f l free still)
+
+  keep-by : (x : ℕ) (us : List ℕ) → After us → (w : World) → L w → (g rev own nt : Bool) → (fields_at w.control x).reversing ≡ rev → (c b : ℕ) → length (cond g (x ∷ filter (copies s w) us) (filter (copies s w) us)) ≤ c → c + m ≤ b
+      → costs_next b w (cond (g && not rev) (cond (not own) (Do (Make (Keep x t))) (cond nt (Do (Make (Note x t))) Pass)) Pass) (λ m v. Costs m v (map entry us ++ more))
+  keep-by x us next w l false rev own nt free c b cnt le = next c b w cnt le l
+  keep-by x us next w l true true own nt free c b cnt le = next c b w (omega arith) le l
+  keep-by x us next w l true false true false free c b cnt le = next c b w (omega arith) le l
+  keep-by x us next w l true false true true free c b cnt le = (next c b w (omega arith) le l, (b, ((omega arith), λ f. moved-on us next (Note x t) w c b (omega arith) le l free (λ h. h) f)))
+  keep-by x us next w l true false false nt free zero b cnt le = absurd (omega arith)
+  keep-by x us next w l true false false nt free (suc c) b cnt le =
+      let u : Volume = w.control.volume x in (
+        next (suc c) b w (omega arith) le l,
+        (c + m, ((omega arith), λ f. moved-on us next (Keep x t) w c (c + m) (omega arith) (omega arith) l free (parted-copies (is_whole u.tracks (insert u.fields.own t) && not u.fields.persistent) u.fields.related u.fields.source s) f)),
+      )
+
+  pub keeps : (us : List ℕ) → After us
+  keeps [] c b w cnt le l = rest b (omega arith) w l
+  keeps (x ∷ us) c b w cnt le l =
+      let f : Fields = fields_at w.control x in
+      costs-entry b w (entry x) _ _ (comes x w l) (keep-by x us (keeps us) w l (copies s w x) f.reversing (contains f.own t) (f.recorded && not (contains f.source_changes t)) refl c b cnt le)
+
 module _ (volumes : List ℕ) (v s : ℕ) where
   -- v is restored, and s has few targets
   pub record Live (w : World) : Type 0 where
@@ -41,51 +73,20 @@ module _ (volumes : List ℕ) (v s : ℕ) where
     pub small : (w.control.volume v).tracks ≤ most_tracks
     pub few : count s w volumes ≤ most_targets
 
-  -- the targets of s keep track t, or note its change
-  module _ (t m : ℕ) (more : List Entry) (rest : (b : ℕ) → m ≤ b → (k : World) → Live k → lowest_held v k.control ≡ Some t → Costs b k more) where
-    abbrev entry : ℕ → Entry
-    entry u = for_lowest v (λ t. keep_on s t u)
+  -- and t is the lowest track that it holds: a move on another volume leaves that
+  abbrev LiveAt : ℕ → World → Type 0
+  LiveAt t w = Live w × (lowest_held v w.control ≡ Some t)
 
-    abbrev After : List ℕ → Type 0
-    After us = (c b : ℕ) (w : World) → count s w us ≤ c → c + m ≤ b → Live w → lowest_held v w.control ≡ Some t → Costs b w (map entry us ++ more)
-
-    -- after a move on a target that isn't v
-    moved-on : (us : List ℕ) → After us → (a : Move) → (w : World) → (c b : ℕ) → count s w us ≤ c → c + m ≤ b → Live w → lowest_held v w.control ≡ Some t → v ≢ target a
-        → (copies_from s (fields_left a (w.control.volume (target a))) ≡ true → copies s w (target a) ≡ true) → (f : Option Fuse) → Costs b (done w a f) (map entry us ++ more)
-    moved-on us next a w c b cnt le live is ne still f =
-        let k : World = done w a f in
-        let same : k.control.volume v ≡ w.control.volume v = at_other w.control.volume (target a) _ v ne in
-        let few_us : count s k us ≤ count s w us = copies-after s w a _ still us in
-        let few_all : count s k volumes ≤ count s w volumes = copies-after s w a _ still volumes in
-        let few : count s w volumes ≤ most_targets = live.few in
-        next c b k (omega arith) le (record {
-          reversing = ap (λ (x : Volume). x.fields.reversing) same ∙ live.reversing;
-          small = subst (λ (x : Volume). x.tracks ≤ most_tracks) (sym same) live.small;
-          few = omega arith;
-        }) (ap (λ (x : Volume). lowest x.tracks x.fields.own) same ∙ is)
-
-    keep-by : (x : ℕ) (us : List ℕ) → After us → (w : World) → Live w → lowest_held v w.control ≡ Some t → (g rev own nt : Bool) → (fields_at w.control x).reversing ≡ rev → copies s w x ≡ g
-        → (c b : ℕ) → length (cond g (x ∷ filter (copies s w) us) (filter (copies s w) us)) ≤ c → c + m ≤ b
-        → costs_next b w (cond (g && not rev) (cond (not own) (Do (Make (Keep x t))) (cond nt (Do (Make (Note x t))) Pass)) Pass) (λ m v. Costs m v (map entry us ++ more))
-    keep-by x us next w live is false rev own nt ir ig c b cnt le = next c b w cnt le live is
-    keep-by x us next w live is true true own nt ir ig c b cnt le = next c b w (omega arith) le live is
-    keep-by x us next w live is true false true false ir ig c b cnt le = next c b w (omega arith) le live is
-    keep-by x us next w live is true false true true ir ig c b cnt le =
-        let ne : v ≢ x = λ e. false_true ir (ap (λ j. (fields_at w.control j).reversing) (sym e) ∙ live.reversing) in
-        (next c b w (omega arith) le live is, (b, ((omega arith), λ f. moved-on us next (Note x t) w c b (omega arith) le live is ne (λ h. h) f)))
-    keep-by x us next w live is true false false nt ir ig zero b cnt le = absurd (omega arith)
-    keep-by x us next w live is true false false nt ir ig (suc c) b cnt le =
-        let ne : v ≢ x = λ e. false_true ir (ap (λ j. (fields_at w.control j).reversing) (sym e) ∙ live.reversing) in
-        let u : Volume = w.control.volume x in (
-          next (suc c) b w (omega arith) le live is,
-          (c + m, ((omega arith), λ f. moved-on us next (Keep x t) w c (c + m) (omega arith) (omega arith) live is ne (parted-copies (is_whole u.tracks (insert u.fields.own t) && not u.fields.persistent) u.fields.related u.fields.source s) f)),
-        )
-
-    keeps : (us : List ℕ) → After us
-    keeps [] c b w cnt le live is = rest b (omega arith) w live is
-    keeps (x ∷ us) c b w cnt le live is =
-        let f : Fields = fields_at w.control x in
-        costs-entry b w (entry x) _ _ (ap (λ o. on_found o (λ t. keep_on s t x) w.control) is) (keep-by x us (keeps us) w live is (copies s w x) f.reversing (contains f.own t) (f.recorded && not (contains f.source_changes t)) refl refl c b cnt le)
+  live-stays : (t : ℕ) (w : World) (a : Move) (f : Option Fuse) → LiveAt t w → (fields_at w.control (target a)).reversing ≡ false → (copies_from s (fields_left a (w.control.volume (target a))) ≡ true → copies s w (target a) ≡ true) → LiveAt t (done w a f)
+  live-stays t w a f live free still =
+      let k : World = done w a f in
+      let ne : v ≢ target a = λ e. false_true free (ap (λ j. (fields_at w.control j).reversing) (sym e) ∙ live.0.reversing) in
+      let same : k.control.volume v ≡ w.control.volume v = at_other w.control.volume (target a) _ v ne in
+      let few_all : count s k volumes ≤ count s w volumes = copies-after s w a _ still volumes in
+      let few : count s w volumes ≤ most_targets = live.0.few in (
+        record { reversing = ap (λ (x : Volume). x.fields.reversing) same ∙ live.0.reversing; small = subst (λ (x : Volume). x.tracks ≤ most_tracks) (sym same) live.0.small; few = omega arith },
+        ap (λ (x : Volume). lowest x.tracks x.fields.own) same ∙ live.1,
+      )
 
   -- v gives up track t, which s has taken back; it may be the last
   module _ (t p : ℕ) (more : List Entry) (enough : most_tracks + 1 ≤ p)
@@ -171,7 +172,8 @@ module _ (volumes : List ℕ) (v s : ℕ) where
   round-by : (p b : ℕ) (w : World) (more : List Entry) → most_tracks + 1 ≤ p → p + 13 ≤ b → Live w → ((b : ℕ) → p ≤ b → (k : World) → Live k → Costs b k more) → ((k : World) → lowest_held v k.control ≡ None → Costs 0 k more)
       → (o : Option ℕ) → lowest_held v w.control ≡ o → Costs b w (round more)
   round-by p b w more enough le live next over None is = all-pass b w _ is (passes b w _ _ is (passes b w _ _ is (next b (omega arith) w live))) volumes
-  round-by p b w more enough le live next over (Some t) is = keeps t (p + 1) _ (restore t p more enough next over) volumes 12 b w live.few (omega arith) live is
+  round-by p b w more enough le live next over (Some t) is =
+      keeps s t (LiveAt t) (λ u. for_lowest v (λ t. keep_on s t u)) (λ x w live. ap (λ o. on_found o (λ t. keep_on s t x) w.control) live.1) (live-stays t) (p + 1) _ (λ b le w live. restore t p more enough next over b le w live.0 live.1) volumes 12 b w live.few (omega arith) (live, is)
 
   pub rounds : (n b : ℕ) (w : World) → n * 13 + 257 ≤ b → Live w → Costs b w (times n (give_back volumes s v))
   rounds zero b w le live = costs-nil b w

@@ -1,17 +1,16 @@
 -- How many events entries tell: each act costs what it tells, where it comes; a stop tells one more.
-use Rattle.std.proofs.Common.{ℕ, zero, suc, ◌≡◌, ◌≤◌, ◌+◌, List, [], ◌∷◌, ◌++◌, length, map, refl, sym, subst, arith, Bool, true, false, cond, Option}
+use Rattle.std.proofs.Common.{ℕ, ◌≡◌, ◌≤◌, ◌+◌, ◌*◌, List, [], ◌∷◌, ◌++◌, length, refl, sym, subst, arith, Bool, true, false, cond, Option}
 use Rattle.std.proofs.lemmas.List.{length-append}
 use Rattle.dr_ids.specs.declared.refusal.Refusal.{Refusal}
 use Rattle.dr_model.specs.declared.event.Event.{Event}
 use Rattle.dr_model.specs.declared.event.Event.TheVariants.{Stopped}
-use Rattle.dr_model.specs.Relations.{rest}
 use Rattle.dr_model.specs.Control.{Control, Fuse, Volume, World}
 use Rattle.dr_model.specs.Moves.{Move, Land, Overwrite, LandBoth, Hold, target, told, told_in_stop, landed}
 use Rattle.dr_model.specs.Carry.{Act, Make, OpenAttempt, Redo, Acknowledge, Drop, EndFreeze, EndThaw, EndRecovery, Next, Pass, Do, End, Entry, Outcome, carry, continue, go, check, now}
+use Rattle.dr_facts.proofs.Entries.{any_world, AllFine, FineThen, FineFrom, FromThen}
 use Rattle.dr_laws_sound.proofs.Turns.{act-cases, Counts, after_act, server_of, done}
 
--- no more tracks stand in order than a volume has
--- what an act tells
+-- how many events an act tells
 abbrev pub tells : World → Act → ℕ
 tells w (Make m) = length (told m (w.control.volume (target m)))
 tells w (OpenAttempt v s n) = 2
@@ -65,11 +64,8 @@ done-adds : (w : World) (a : Act) (f : Option Fuse) → length (after_act w a f)
 done-adds w (Make m) f = length-append w.events (told m (w.control.volume (target m)))
 done-adds w (OpenAttempt v s n) f = length-append w.events (told (Hold v s n true) (w.control.volume v))
 done-adds w (Redo v) f = omega arith
-done-adds w (Acknowledge n) f = length-append w.events _
 done-adds w (Drop n) f = omega arith
-done-adds w (EndFreeze l m) f = length-append w.events _
-done-adds w (EndThaw l m) f = length-append w.events _
-done-adds w (EndRecovery s n) f = length-append w.events _
+done-adds w a f = length-append w.events _
 
 stop-adds : (n : ℕ) (w : World) (m : Move) → length (told m (w.control.volume (target m))) ≤ n → let u : Volume = w.control.volume (target m) in length (w.events ++ (told_in_stop m u ++ Stopped u.server (landed m) ∷ [])) ≤ length w.events + n + 1
 stop-adds n w m le =
@@ -83,12 +79,7 @@ stop-adds n w m le =
 counts-adds : (n : ℕ) (w : World) (a : Act) (next : World → Outcome) → tells w a ≤ n → Counts w a (λ t. length (continue t.0 t.1 next).0.events ≤ length w.events + n + 1)
 counts-adds n w (Make m) next le = λ f. stop-adds n w m le
 counts-adds n w (OpenAttempt v s i) next le = λ f. stop-adds n w (Hold v s i true) le
-counts-adds n w (Redo v) next le = tt
-counts-adds n w (Acknowledge k) next le = tt
-counts-adds n w (Drop k) next le = tt
-counts-adds n w (EndFreeze l m) next le = tt
-counts-adds n w (EndThaw l m) next le = tt
-counts-adds n w (EndRecovery s i) next le = tt
+counts-adds n w a next le = tt
 
 go-adds : (n : ℕ) (w : World) (x : Next) (next : World → Outcome) (more : ℕ → World → Type 0) → ((m : ℕ) (v : World) → more m v → length (next v).0.events ≤ length v.events + m + 1) → costs_next n w x more
     → length (go w x next).0.events ≤ length w.events + n + 1
@@ -111,59 +102,26 @@ unfolding carry Costs
 carry-adds n w [] c = omega arith
 carry-adds n w (d ∷ ds) c = go-adds n w (d w.control) (λ v. carry v ds) (λ m v. Costs m v ds) (λ m v c. carry-adds m v ds c) c
 
--- entries that tell one event each, at most
-abbrev pub Small : World → Next → Type 0
-Small w x = (a : Act) → x ≡ Do a → tells w a ≤ 1
+-- ---- entries whose acts tell two events each, at most, cost two events each
 
-abbrev pub Light : Entry → Type 0
-Light d = (w : World) → Small w (d w.control)
+module _ (Ok : World → Act → Type 0) (First Why : Refusal → Type 0) (two : (w : World) (a : Act) → Ok w a → tells w a ≤ 2) where
+  next-costs : (w : World) (x : Next) (ds : List Entry) → FineThen any_world Ok Why w x (AllFine any_world Ok Why ds) → ((n : ℕ) (v : World) → AllFine any_world Ok Why ds → length ds * 2 ≤ n → Costs n v ds)
+      → (n : ℕ) → length ds * 2 + 2 ≤ n → costs_next n w x (λ m v. Costs m v ds)
+  next-costs w Pass ds fine on n le = on n w fine (omega arith)
+  next-costs w (End r) ds fine on n le = tt
+  next-costs w (Do a) ds fine on n le = let few : tells w a ≤ 2 = two w a fine.0 in (on n w fine.1 (omega arith), (length ds * 2, ((omega arith), λ f. on (length ds * 2) (after_act w a f) fine.1 (omega arith))))
 
-unfoldable pub AllLight : List Entry → Type 0
-AllLight [] = Unit {0}
-AllLight (d ∷ ds) = Light d × AllLight ds
+  pub fine-costs : (ds : List Entry) (n : ℕ) (w : World) → AllFine any_world Ok Why ds → length ds * 2 ≤ n → Costs n w ds
+  unfolding AllFine Costs
+  fine-costs [] n w fine le = tt
+  fine-costs (d ∷ ds) n w fine le = next-costs w (d w.control) ds (fine w tt) (λ n v fine le. fine-costs ds n v fine le) n (omega arith)
 
-pub light-none : AllLight []
-unfolding AllLight
-light-none = tt
-
-pub light-then : (d : Entry) (ds : List Entry) → Light d → AllLight ds → AllLight (d ∷ ds)
-unfolding AllLight
-light-then d ds first rest = (first, rest)
-
-pub light-append : (ds es : List Entry) → AllLight ds → AllLight es → AllLight (ds ++ es)
-unfolding AllLight
-light-append [] es p q = q
-light-append (d ∷ ds) es p q = (p.0, light-append ds es p.1 q)
-
-pub light-map : (entry : ℕ → Entry) → ((u : ℕ) → Light (entry u)) → (us : List ℕ) → AllLight (map entry us)
-light-map entry light [] = light-none
-light-map entry light (u ∷ us) = light-then (entry u) _ (light u) (light-map entry light us)
-
-pub small-pass : (w : World) → Small w Pass
-small-pass w a e = absurd cc
-
-pub small-end : (w : World) (r : Refusal) → Small w (End r)
-small-end w r a e = absurd cc
-
-pub small-do : (w : World) (a : Act) → tells w a ≤ 1 → Small w (Do a)
-small-do w a le b e = let same : a ≡ b = cc in subst (λ a. tells w a ≤ 1) same le
-
-pub small-choice : (w : World) (b : Bool) (x y : Next) → Small w x → Small w y → Small w (cond b x y)
-small-choice w true x y p q = p
-small-choice w false x y p q = q
-
-pub light-check : (ok : Control → Bool) (r : Refusal) → Light (check ok r)
-light-check ok r w = small-choice w (ok w.control) Pass (End r) (small-pass w) (small-end w r)
-
-light-next : (n : ℕ) (w : World) (x : Next) (more : ℕ → World → Type 0) → Small w x → ((m : ℕ) (v : World) → n ≤ m → more m v) → (m : ℕ) → n + 1 ≤ m → costs_next m w x more
-light-next n w Pass more small on m le = on m w (omega arith)
-light-next n w (End r) more small on m le = tt
-light-next n w (Do a) more small on zero le = absurd (omega arith)
-light-next n w (Do a) more small on (suc m) le =
-    let one : tells w a ≤ 1 = small a refl in
-    (on (suc m) w (omega arith), (m, ((omega arith), λ f. on m (after_act w a f) (omega arith))))
-
-pub light-costs : (ds : List Entry) → AllLight ds → (n : ℕ) (w : World) → length ds ≤ n → Costs n w ds
-unfolding AllLight Costs
-light-costs [] light n w le = tt
-light-costs (d ∷ ds) light n w le = light-next (length ds) w (d w.control) (λ m v. Costs m v ds) (light.0 w) (λ m v le. light-costs ds light.1 m v le) n (omega arith)
+  pub from-costs : (ds : List Entry) (n : ℕ) (w : World) → FineFrom any_world Ok First Why w ds → length ds * 2 ≤ n → Costs n w ds
+  unfolding FineFrom Costs
+  from-costs [] n w fine le = tt
+  from-costs (d ∷ ds) n w fine le = by (d w.control) (λ fine. from-costs ds n w fine (omega arith)) fine
+    where
+      by : (x : Next) → (FineFrom any_world Ok First Why w ds → Costs n w ds) → FromThen any_world Ok First Why w x (FineFrom any_world Ok First Why w ds) (AllFine any_world Ok Why ds) → costs_next n w x (λ m v. Costs m v ds)
+      by Pass on fine = on fine
+      by (End r) on fine = tt
+      by (Do a) on fine = next-costs w (Do a) ds fine (λ n v fine le. fine-costs ds n v fine le) n (omega arith)

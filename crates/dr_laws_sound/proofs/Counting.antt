@@ -6,7 +6,6 @@ use Rattle.std.specs.List.{find}
 use Rattle.std.specs.Option.{option_or}
 use Rattle.std.proofs.lemmas.Option.{same_Some}
 use Rattle.dr_ids.specs.declared.names.Member.{Member}
-use Rattle.dr_ids.specs.declared.refusal.Decision.{Decision}
 use Rattle.dr_ids.specs.declared.refusal.Decision.TheVariants.{CommitRest, RevertSome}
 use Rattle.dr_model.specs.Decisions.{Shown, Numbers, NoNumber, Same, Differ, numbers_in, first_and_other, revertibles, others, decided, decision}
 use Rattle.dr_model.specs.Control.{Control, World}
@@ -22,6 +21,7 @@ use Rattle.dr_laws_sessions.proofs.Changes.{session-found, none-numbered, same-s
 use Rattle.dr_laws_attempts.proofs.Moves.{unrelated-uncounted}
 use Rattle.dr_laws_attempts.proofs.Tables.{counts-here}
 use Rattle.dr_laws_sound.proofs.CopyFirst.{from, unturned}
+use Rattle.dr_laws_sound.proofs.PlanReasons.{not-forbidden}
 use Rattle.dr_facts.proofs.Refusals.{second-none}
 use Rattle.dr_logic.proofs.Truth.{false_true}
 use Rattle.dr_logic.proofs.Choices.{not_chosen}
@@ -88,10 +88,6 @@ module _ (w : World) (s : Sound w) where
   pub uncounted : (t : ℕ) → counted_refusal t k ≡ None → (fields_at k t).revertible ≡ false → DoesNotCount (fields_at k t)
   uncounted t free plain = λ i. not_chosen (fields_at k t).member _ free i || plain i
 
-  met-all : (b : Bool) (d : Decision) → forbidden_unless b d ≡ None → b ≡ true
-  met-all true d h = refl
-  met-all false d h = absurd cc
-
   -- a member's target may be restored, or leave, where none of its session is revertible
   pub may-go : (t : ℕ) → restore_refusal t k ≡ None → (fields_at k t).revertible ≡ false → MayGo k t
   may-go t free plain = record { plain = plain; settled = settled }
@@ -103,7 +99,7 @@ module _ (w : World) (s : Sound w) where
           let number : (fields_at k t).session ≡ x.number = sym c.number ∙ one.0 in
           let asked : option_or (secondary_refusal (members_in (session_in k.sessions (fields_at k t).session)) k) (forbidden_unless (leaves_all (decided_in (fields_at k t).session k)) (decided_in (fields_at k t).session k)) ≡ None
           = sym (ap (λ b. cond b (option_or (secondary_refusal (members_in (session_in k.sessions (fields_at k t).session)) k) (forbidden_unless (leaves_all (decided_in (fields_at k t).session k)) (decided_in (fields_at k t).session k))) None) member) ∙ free in
-          let all : leaves_all (decided_in (fields_at k t).session k) ≡ true = met-all (leaves_all (decided_in (fields_at k t).session k)) (decided_in (fields_at k t).session k) (second-none (secondary_refusal (members_in (session_in k.sessions (fields_at k t).session)) k) (forbidden_unless (leaves_all (decided_in (fields_at k t).session k)) (decided_in (fields_at k t).session k)) asked) in
+          let all : leaves_all (decided_in (fields_at k t).session k) ≡ true = not-forbidden (leaves_all (decided_in (fields_at k t).session k)) (decided_in (fields_at k t).session k) (second-none (secondary_refusal (members_in (session_in k.sessions (fields_at k t).session)) k) (forbidden_unless (leaves_all (decided_in (fields_at k t).session k)) (decided_in (fields_at k t).session k)) asked) in
           let over : leaves_all (decision (shown_by_members x.number x.members k)) ≡ true
           = sym (ap (λ n. leaves_all (decision (shown_by_members n (members_in (session_in k.sessions n)) k))) number ∙ ap (λ o. leaves_all (decision (shown_by_members x.number (members_in o) k))) (listed-found k s.groups x listed)) ∙ all in
           let o = from-map (seen (roles k)) x.members u seen_here in

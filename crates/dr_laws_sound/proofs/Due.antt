@@ -8,7 +8,6 @@ use Rattle.std.specs.List.{fold, list_any, range_with_len}
 use Rattle.std.specs.FinSet.{contains}
 use Rattle.dr_logic.specs.Bytes.{zeros}
 use Rattle.dr_logic.specs.Tables.{at}
-use Rattle.dr_model.specs.declared.event.Event.{Event}
 use Rattle.dr_model.specs.declared.event.Event.TheVariants.{Ack, Mirrored, Set, Back, Blanked, Restored}
 use Rattle.dr_model.specs.Contents.{image, with_write}
 use Rattle.dr_model.specs.Layout.{Tracks}
@@ -24,11 +23,15 @@ use Rattle.dr_model.proofs.Images.{image-push}
 use Rattle.dr_facts.proofs.Tables.{IsOrNot, at_cases, at_two, at2_at, at_id}
 use Rattle.dr_facts.proofs.Sets.{rest_low}
 use Rattle.dr_model.proofs.Asking.{image-none}
-use Rattle.dr_facts.proofs.Issued.{blanked}
 
 -- no write waits on a volume
 abbrev pub Calm : List Pending → ℕ → Type 0
 Calm ps v = (q : ℕ) → waiting ps v q ≡ []
+
+-- tracks that are blanked leave each write as it was issued, and what is kept aside
+blanked : (h : Histories) (v : ℕ) (ts : List ℕ) → let x : Histories = fold after_event h (map (Blanked v) ts) in (x.write ≡ h.write) × (x.aside ≡ h.aside)
+blanked h v [] = (refl, refl)
+blanked h v (t ∷ ts) = blanked (after_event h (Blanked v t)) v ts
 
 -- a write that hasn't landed leaves the queue
 settled-by : (n u q : ℕ) (p : Pending) (ps : List Pending) (b : Bool) → is_write n p ≡ b → AllPending (λ p. p.landed ≡ false) (cond b (p ∷ filter (is_write n) ps) (filter (is_write n) ps))
@@ -126,11 +129,6 @@ module _ (h : Histories) (ps : List Pending) where
   pub due-same : (v u q : ℕ) → old u q ≡ at old v (old v) u q
   due-same v u q = sym (ap (λ f. f q) (at_id old v u))
 
-  -- an event that no list hears of may be told
-  pub due-told : (v : ℕ) (e : Event) → ((h : Histories) → after_event h e ≡ h) → (none : Bool) (u q : ℕ) → due_by (fold after_event h (cond none [] (e ∷ []))) ps u q ≡ at old v (old v) u q
-  due-told v e unheard true u q = due-same v u q
-  due-told v e unheard false u q = ap (λ (h : Histories). due_by h ps u q) (unheard h) ∙ due-same v u q
-
   -- other lists of one volume, and other writes that wait on it
   pub due-at : (v : ℕ) (l d : ℕ → List ℕ) (more : ℕ → ℕ → List ℕ) (u q : ℕ) → image h.write (l q ++ more v q) ≡ d q → (u ≢ v → more u q ≡ waiting ps u q)
       → image h.write (at h.now v l u q ++ more u q) ≡ at old v d u q
@@ -213,7 +211,7 @@ module _ (h : Histories) (ps : List Pending) where
   due-blanked v n own calm u q =
       let ts : List ℕ = in_order n (rest n own) in
       let any : Bool = list_any (nat_eq q) ts in
-      (λ i. image (blanked h v ts i) (blanked-now h v ts u q i ++ waiting ps u q))
+      (λ i. image ((blanked h v ts).0 i) (blanked-now h v ts u q i ++ waiting ps u q))
       ∙ at_cases (λ u d. image h.write (cond (nat_eq u v && any) [] (h.now u q) ++ waiting ps u q) ≡ d q) old v (emptied true n own (old v))
       ((λ i. image h.write (cond (eq-eqb v v refl i && in_order-rest n own q i) [] (h.now v q) ++ waiting ps v q)) ∙ blanked-due v q (contains (rest n own) q) calm)
       (λ u ne. ap (λ b. image h.write (cond (b && any) [] (h.now u q) ++ waiting ps u q)) (ne_eqb u v ne)) u
@@ -234,12 +232,8 @@ module _ (h : Histories) where
   pub aside-same : (v u q : ℕ) → kept u q ≡ at kept v (kept v) u q
   aside-same v u q = sym (ap (λ f. f q) (at_id kept v u))
 
-  blanked-aside : (h : Histories) (v : ℕ) (ts : List ℕ) → (fold after_event h (map (Blanked v) ts)).aside ≡ h.aside
-  blanked-aside h v [] = refl
-  blanked-aside h v (t ∷ ts) = blanked-aside (after_event h (Blanked v t)) v ts
-
   pub aside-blanked : (v n : ℕ) (own : Tracks) (u q : ℕ) → aside_by (fold after_event h (told_blank v n own)) u q ≡ at kept v (kept v) u q
-  aside-blanked v n own u q = (λ i. image (blanked h v (in_order n (rest n own)) i) (blanked-aside h v (in_order n (rest n own)) i u q)) ∙ aside-same v u q
+  aside-blanked v n own u q = (let is = blanked h v (in_order n (rest n own)) in λ i. image (is.0 i) (is.1 i u q)) ∙ aside-same v u q
 
   pub aside-restored : (v s n : ℕ) (own : Tracks) (u q : ℕ) → aside_by (fold after_event h (told_restored v s n own)) u q ≡ at kept v (kept v) u q
   aside-restored v s n own u q = by (is_bare own)

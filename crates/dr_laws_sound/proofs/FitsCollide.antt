@@ -4,7 +4,7 @@ use Rattle.std.specs.Prelude.{is_some}
 use Rattle.std.specs.Option.{option_or}
 use Rattle.std.specs.List.{list_any}
 use Rattle.std.specs.FinSet.{contains}
-use Rattle.std.proofs.lemmas.Bool.{and_parts, or_parts, eq-eqb, not-false, and_right}
+use Rattle.std.proofs.lemmas.Bool.{and_parts, eq-eqb, not-false, and_right}
 use Rattle.std.proofs.lemmas.List.{map-append}
 use Rattle.std.proofs.lemmas.Simd.{map-map}
 use Rattle.dr_ids.specs.declared.refusal.Refusal.{Refusal}
@@ -29,7 +29,7 @@ use Rattle.dr_laws_sound.proofs.KeepsParts.{unrelated, unrelated_primary}
 use Rattle.dr_laws_sound.proofs.KeepsSound.{Along, Then, decides}
 use Rattle.dr_laws_sound.proofs.Cases.{one-passed}
 use Rattle.dr_laws_sound.proofs.CopyFirst.{Still, from, copy-first}
-use Rattle.dr_laws_sound.proofs.Lands.{Unrestored, unrestored, Unflashed, unflashed, waits, plain-lands, held_back}
+use Rattle.dr_laws_sound.proofs.Lands.{Unrestored, unrestored, Unflashed, unflashed, waits, plain-lands, held_back, back-parts}
 use Rattle.dr_laws_sound.proofs.FitsPairs.{its-first, row, runs-done, part-same}
 use Rattle.dr_logic.proofs.Choices.{chosen, choose_some}
 use Rattle.dr_facts.proofs.Refusals.{none-both, met}
@@ -278,7 +278,7 @@ module _ (w : World) (s : Sound w) (p : Pending) (one : filter (is_write p.w) w.
           let k : World = done w m h in
           let idle_now : (fields_at k.control v).recording ≡ false = ap (λ (z : Volume). z.fields.recording) (at_same w.control.volume v (row w m h)) in
           let misses : collides (fields_at k.control v) t ≡ false = and_right (is_kind Global (fields_at k.control v).primary) _ (ap (λ b. b && contains (fields_at k.control v).out_of_sync t) idle_now) in
-          passes _ k (ap (λ b. b && (not (is_some (send_refusal v u k.control)) && not (is_some (flashed_refusal u k.control)))) misses) _ (lands-then k y (lasts-done w m h refl refl ((or_parts f.coordination f.flash_hold x.open_to).1 ∙ sym x.open_to) refl refl refl refl x) (λ r. false_true idle_now r)),
+          passes _ k (ap (λ b. b && (not (is_some (send_refusal v u k.control)) && not (is_some (flashed_refusal u k.control)))) misses) _ (lands-then k y (lasts-done w m h refl refl ((back-parts f x.open_to).1 ∙ sym x.open_to) refl refl refl refl x) (λ r. false_true idle_now r)),
     )
 
   pub collided : is_part f.secondary ≡ false → is_settled v w.control ≡ true → held_back f ≡ false → collides f t ≡ true → Along w (land_collided w.control n v t)

@@ -1,6 +1,6 @@
 -- Host writes are allowed along: one that waits, one that lands on its volume alone, and one that its secondary stores first.
 use Rattle.std.proofs.Common.{ℕ, ◌≡◌, ◌≢◌, ◌<◌, refl, ap, sym, ◌∙◌, subst, Bool, true, false, cond, ◌&&◌, List, [], ◌∷◌, ◌++◌, append_assoc, filter, Option, Some, None}
-use Rattle.std.proofs.lemmas.Bool.{and_parts, or_parts, eq-eqb, not-true}
+use Rattle.std.proofs.lemmas.Bool.{and_parts, eq-eqb, not-true}
 use Rattle.std.specs.FinSet.{contains}
 use Rattle.dr_model.specs.declared.event.Event.TheVariants.{Mirrored}
 use Rattle.dr_model.specs.declared.state.Part.TheVariants.{Global}
@@ -24,7 +24,7 @@ use Rattle.dr_laws_sound.proofs.RowsAfter.{idle}
 use Rattle.dr_laws_sound.proofs.KeepsParts.{unrelated, unrelated_primary}
 use Rattle.dr_laws_sound.proofs.KeepsSound.{Along, Then, over, decides, moves, checked}
 use Rattle.dr_laws_sound.proofs.CopyFirst.{Still, from, copy-first}
-use Rattle.dr_laws_sound.proofs.Lands.{Unrestored, unrestored, Unflashed, unflashed, waits, unlanded, may-ack, dropped-checked, plain-lands, lands-alone, held_back, not-back}
+use Rattle.dr_laws_sound.proofs.Lands.{Unrestored, unrestored, Unflashed, unflashed, waits, unlanded, may-ack, dropped-checked, plain-lands, lands-alone, held_back, not-back, back-parts}
 use Rattle.dr_laws_sound.proofs.FitsPairs.{reached, its-first, row, runs-done, part-same}
 use Rattle.dr_laws_sound.proofs.FitsDrain.{suspends-after}
 use Rattle.dr_laws_sound.proofs.FitsCollide.{unrestored-done, unflashed-done, plain-primary, collided}
@@ -62,7 +62,7 @@ module _ (w : World) (s : Sound w) (p : Pending) (one : filter (is_write p.w) w.
       by h y false =
           let m : Move = Suspend v busy in
           plain-lands (done w m h) y p one (runs-done w m h v on) (part-same w m h (λ (g : Fields). is_part g.secondary) refl v ∙ free) (part-same w m h (λ (g : Fields). g.related) refl v ∙ plain)
-          (ap (λ (x : Volume). held_back x.fields) (at_same w.control.volume v (row w m h)) ∙ (or_parts f.coordination f.flash_hold open_to).1) (λ r. false_true (ap (λ (x : Volume). x.fields.recording) (at_same w.control.volume v (row w m h))) r) (unrestored-done v w m h refl refl still) (unflashed-done v w m h refl refl calm)
+          (ap (λ (x : Volume). held_back x.fields) (at_same w.control.volume v (row w m h)) ∙ (back-parts f open_to).1) (λ r. false_true (ap (λ (x : Volume). x.fields.recording) (at_same w.control.volume v (row w m h))) r) (unrestored-done v w m h refl refl still) (unflashed-done v w m h refl refl calm)
 
   -- it sends to u
   module _ (u : ℕ) where
@@ -124,7 +124,7 @@ module _ (w : World) (s : Sound w) (p : Pending) (one : filter (is_write p.w) w.
     lands-both : (k : World) → Sound k → Both k → Stored k → Kept (table k) v t → Along k (now (LandBoth n v t) ∷ [])
     lands-both k y b is kept =
         let held = waits k y p b.one_is in
-        let back = or_parts (fields_at k.control v).coordination (fields_at k.control v).flash_hold b.open_to in
+        let back = back-parts (fields_at k.control v) b.open_to in
         moves k (LandBoth n v t) [] (record {
           runs = b.on_v;
           allowed = record {

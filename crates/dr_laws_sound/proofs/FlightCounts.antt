@@ -373,55 +373,55 @@ module _ (k : Control) where
   fewer : (n : ℕ) (f : Flight) → IsCounted n count f → IsCounted (n + 1) count f
   fewer n f h = counted-more n (n + 1) count f (omega arith) h
 
-  case-counts : (events : List Event) (line : ℕ) (p : Plan) → Case k events line p → Counting k p
-  case-counts events line _ (Says a) = calm _ refl refl (λ s. refl) (λ j. refl) (λ j. refl) (λ j s. refl)
-  case-counts events line _ (DefinesServer name free) =
+  case-counts : (events : List Event) (line : ℕ) (asked : Result Step ℕ) (p : Plan) → Case k events line asked p → Counting k p
+  case-counts events line _ _ (Says a waits why) = calm _ refl refl (λ s. refl) (λ j. refl) (λ j. refl) (λ j s. refl)
+  case-counts events line _ _ (DefinesServer name free) =
       let e : length (k.servers ++ name_bytes name ∷ []) ≡ count + 1 = length-append k.servers (name_bytes name ∷ []) in
       begins-counted k _ (λ n h. counted-wider (n + 1) count (length (k.servers ++ name_bytes name ∷ [])) k.flight (omega arith) (fewer n k.flight h)) (λ s is off. false_true off is) (λ j. refl)
-  case-counts events line _ (DefinesVolume v x tracks here free) = calm _ refl refl (λ s. refl) (λ j. refl) (λ j. refl) (λ j s. refl)
-  case-counts events line _ (SetsLink a b up) = calm _ refl refl (λ s. refl) (λ j. refl) (λ j. refl) (λ j s. refl)
-  case-counts events line _ (Issues v t offset len bytes free) = calm _ refl refl (λ s. refl) (λ j. refl) (λ j. refl) (λ j s. refl)
-  case-counts events line _ (Writes v t offset len bytes free) = calm _ refl refl (λ s. refl) (λ j. refl) (λ j. refl) (λ j s. refl)
-  case-counts events line _ (Applies n p found) = calm _ refl refl (λ s. refl) (λ j. refl) (λ j. refl) (λ j s. refl)
-  case-counts events line _ (Lists told ls few) = calm _ refl refl (λ s. refl) (λ j. refl) (λ j. refl) (λ j s. refl)
-  case-counts events line _ (Shows v t there) = calm _ refl refl (λ s. refl) (λ j. refl) (λ j. refl) (λ j s. refl)
-  case-counts events line _ (Arms writes torn x) = calm _ refl refl (λ s. refl) (λ j. refl) (λ j. refl) (λ j s. refl)
-  case-counts events line _ (MakesFlash dev v t freeze choices) = calm _ refl refl (λ s. refl) (λ j. refl) (λ j. refl) (λ j s. refl)
-  case-counts events line _ (RemovesFlash dev v t) = calm _ refl refl (λ s. refl) (λ j. refl) (λ j. refl) (λ j s. refl)
-  case-counts events line _ (ResyncsFlash dev v t sequence) = calm _ refl refl (λ s. refl) (λ j. refl) (λ j. refl) (λ j s. refl)
-  case-counts events line _ (ReversesFlash dev v t) = calm _ refl refl (λ s. refl) (λ j. refl) (λ j. refl) (λ j s. refl)
-  case-counts events line _ (Copies t most) = calm _ refl refl (λ s. refl) (λ j. refl) (λ j. refl) (λ j s. refl)
-  case-counts events line _ (Destages v) = calm _ refl refl (λ s. refl) (λ j. refl) (λ j. refl) (λ j s. refl)
-  case-counts events line _ (MakesPath src tgt group) = calm _ refl refl (λ s. refl) (λ j. refl) (λ j. refl) (λ j s. refl)
-  case-counts events line _ (RemovesPath src tgt) = calm _ refl refl (λ s. refl) (λ j. refl) (λ j. refl) (λ j s. refl)
-  case-counts events line _ (MakesPair devs a b kind choices part) = calm _ refl refl (λ s. refl) (λ j. refl) (λ j. refl) (λ j s. refl)
-  case-counts events line _ (RemovesPair devs a b source_only) = calm _ refl refl (λ s. refl) (λ j. refl) (λ j. refl) (λ j s. refl)
-  case-counts events line _ (PausesPair devs a b) = calm _ refl refl (λ s. refl) (λ j. refl) (λ j. refl) (λ j s. refl)
-  case-counts events line _ (ResumesPair devs a b kind) = calm _ refl refl (λ s. refl) (λ j. refl) (λ j. refl) (λ j s. refl)
-  case-counts events line _ (FailsOver devs b a kind) = calm _ refl refl (λ s. refl) (λ j. refl) (λ j. refl) (λ j s. refl)
-  case-counts events line _ (FailsBack devs x y kind) = calm _ refl refl (λ s. refl) (λ j. refl) (λ j. refl) (λ j s. refl)
-  case-counts events line _ (Compares contents v u) = calm _ refl refl (λ s. refl) (λ j. refl) (λ j. refl) (λ j s. refl)
-  case-counts events line _ (Drains a most) = calm _ refl refl (λ s. refl) (λ j. refl) (λ j. refl) (λ j s. refl)
-  case-counts events line _ (Expires x on) = calm _ refl refl (λ s. refl) (λ j. refl) (λ j. refl) (λ j s. refl)
-  case-counts events line _ (Freezes l m) = calm _ refl refl (λ s. refl) (λ j. refl) (λ j. refl) (λ j s. refl)
-  case-counts events line _ (Unfreezes l m) = calm _ refl refl (λ s. refl) (λ j. refl) (λ j. refl) (λ j s. refl)
-  case-counts events line _ (Releases l) = calm _ refl refl (λ s. refl) (λ j. refl) (λ j. refl) (λ j s. refl)
-  case-counts events line _ (MakesSession l i free) = calm _ refl refl (λ s. refl) (λ j. refl) (λ j. refl) (λ j s. refl)
-  case-counts events line _ (PausesMirror i on) = calm _ refl refl (λ s. refl) (λ j. refl) (λ j. refl) (λ j s. refl)
-  case-counts events line _ (RemovesMirror i x found free) = calm _ refl refl (λ s. refl) (λ j. refl) (λ j. refl) (λ j s. refl)
-  case-counts events line _ (AddsMember i a c x joins) = calm _ refl refl (λ s. refl) (λ j. refl) (λ j. refl) (λ j s. refl)
-  case-counts events line _ (RemovesMember i a x m found is idle on) = calm _ refl refl (λ s. refl) (λ j. refl) (λ j. refl) (λ j s. refl)
-  case-counts events line _ (Recovers i x found on) = calm _ refl refl (λ s. refl) (λ j. refl) (λ j. refl) (λ j s. refl)
-  case-counts events line _ (Settles i x m found here on free) = calm _ refl refl (λ s. refl) (λ j. refl) (λ j. refl) (λ j s. refl)
-  case-counts events line _ (Stops x on) = begins-counted k _ (λ n h. fewer n k.flight h) (λ s is off. omega arith) (λ j. refl)
-  case-counts events line _ (Starts x off) = begins-counted k _ (λ n h. counted-started n count x k.flight h) (λ s is off. omega arith) (λ j. refl)
-  case-counts events line _ (RemovesSession l i x found free) = tables (leaving i l x) [] _ (λ n h. fewer n _ (counted-left n count i l x k.flight h)) (λ s. refl)
-  case-counts events line _ (MakesMirror owner i x found free l owned) = tables (appointed i owner) [] _ (λ n h. counted-raised n count i k.flight h) (λ s. refl)
-  case-counts events line _ (Aborts i x found free) = begins-counted k _ (λ n h. counted-aborted n count i x.mirror k.flight h) (λ s is off. false_true off is) (λ j. refl)
-  case-counts events line _ (Sends i server x r o posts) =
+  case-counts events line _ _ (DefinesVolume v x tracks here free) = calm _ refl refl (λ s. refl) (λ j. refl) (λ j. refl) (λ j s. refl)
+  case-counts events line _ _ (SetsLink a b up) = calm _ refl refl (λ s. refl) (λ j. refl) (λ j. refl) (λ j s. refl)
+  case-counts events line _ _ (Issues v t offset len bytes free) = calm _ refl refl (λ s. refl) (λ j. refl) (λ j. refl) (λ j s. refl)
+  case-counts events line _ _ (Writes v t offset len bytes free) = calm _ refl refl (λ s. refl) (λ j. refl) (λ j. refl) (λ j s. refl)
+  case-counts events line _ _ (Applies n p found) = calm _ refl refl (λ s. refl) (λ j. refl) (λ j. refl) (λ j s. refl)
+  case-counts events line _ _ (Lists told ls few) = calm _ refl refl (λ s. refl) (λ j. refl) (λ j. refl) (λ j s. refl)
+  case-counts events line _ _ (Shows v t there) = calm _ refl refl (λ s. refl) (λ j. refl) (λ j. refl) (λ j s. refl)
+  case-counts events line _ _ (Arms writes torn x) = calm _ refl refl (λ s. refl) (λ j. refl) (λ j. refl) (λ j s. refl)
+  case-counts events line _ _ (MakesFlash dev v t freeze choices) = calm _ refl refl (λ s. refl) (λ j. refl) (λ j. refl) (λ j s. refl)
+  case-counts events line _ _ (RemovesFlash dev v t) = calm _ refl refl (λ s. refl) (λ j. refl) (λ j. refl) (λ j s. refl)
+  case-counts events line _ _ (ResyncsFlash dev v t sequence) = calm _ refl refl (λ s. refl) (λ j. refl) (λ j. refl) (λ j s. refl)
+  case-counts events line _ _ (ReversesFlash dev v t) = calm _ refl refl (λ s. refl) (λ j. refl) (λ j. refl) (λ j s. refl)
+  case-counts events line _ _ (Copies t most) = calm _ refl refl (λ s. refl) (λ j. refl) (λ j. refl) (λ j s. refl)
+  case-counts events line _ _ (Destages v) = calm _ refl refl (λ s. refl) (λ j. refl) (λ j. refl) (λ j s. refl)
+  case-counts events line _ _ (MakesPath src tgt group) = calm _ refl refl (λ s. refl) (λ j. refl) (λ j. refl) (λ j s. refl)
+  case-counts events line _ _ (RemovesPath src tgt) = calm _ refl refl (λ s. refl) (λ j. refl) (λ j. refl) (λ j s. refl)
+  case-counts events line _ _ (MakesPair devs a b kind choices part) = calm _ refl refl (λ s. refl) (λ j. refl) (λ j. refl) (λ j s. refl)
+  case-counts events line _ _ (RemovesPair devs a b source_only) = calm _ refl refl (λ s. refl) (λ j. refl) (λ j. refl) (λ j s. refl)
+  case-counts events line _ _ (PausesPair devs a b) = calm _ refl refl (λ s. refl) (λ j. refl) (λ j. refl) (λ j s. refl)
+  case-counts events line _ _ (ResumesPair devs a b kind) = calm _ refl refl (λ s. refl) (λ j. refl) (λ j. refl) (λ j s. refl)
+  case-counts events line _ _ (FailsOver devs b a kind) = calm _ refl refl (λ s. refl) (λ j. refl) (λ j. refl) (λ j s. refl)
+  case-counts events line _ _ (FailsBack devs x y kind) = calm _ refl refl (λ s. refl) (λ j. refl) (λ j. refl) (λ j s. refl)
+  case-counts events line _ _ (Compares contents v u) = calm _ refl refl (λ s. refl) (λ j. refl) (λ j. refl) (λ j s. refl)
+  case-counts events line _ _ (Drains a most) = calm _ refl refl (λ s. refl) (λ j. refl) (λ j. refl) (λ j s. refl)
+  case-counts events line _ _ (Expires x on) = calm _ refl refl (λ s. refl) (λ j. refl) (λ j. refl) (λ j s. refl)
+  case-counts events line _ _ (Freezes l m) = calm _ refl refl (λ s. refl) (λ j. refl) (λ j. refl) (λ j s. refl)
+  case-counts events line _ _ (Unfreezes l m) = calm _ refl refl (λ s. refl) (λ j. refl) (λ j. refl) (λ j s. refl)
+  case-counts events line _ _ (Releases l) = calm _ refl refl (λ s. refl) (λ j. refl) (λ j. refl) (λ j s. refl)
+  case-counts events line _ _ (MakesSession l i free) = calm _ refl refl (λ s. refl) (λ j. refl) (λ j. refl) (λ j s. refl)
+  case-counts events line _ _ (PausesMirror i on) = calm _ refl refl (λ s. refl) (λ j. refl) (λ j. refl) (λ j s. refl)
+  case-counts events line _ _ (RemovesMirror i x found free) = calm _ refl refl (λ s. refl) (λ j. refl) (λ j. refl) (λ j s. refl)
+  case-counts events line _ _ (AddsMember i a c x joins) = calm _ refl refl (λ s. refl) (λ j. refl) (λ j. refl) (λ j s. refl)
+  case-counts events line _ _ (RemovesMember i a x m found is idle on) = calm _ refl refl (λ s. refl) (λ j. refl) (λ j. refl) (λ j s. refl)
+  case-counts events line _ _ (Recovers i x found on) = calm _ refl refl (λ s. refl) (λ j. refl) (λ j. refl) (λ j s. refl)
+  case-counts events line _ _ (Settles i x m found here on free hand) = calm _ refl refl (λ s. refl) (λ j. refl) (λ j. refl) (λ j s. refl)
+  case-counts events line _ _ (Stops x on) = begins-counted k _ (λ n h. fewer n k.flight h) (λ s is off. omega arith) (λ j. refl)
+  case-counts events line _ _ (Starts x off) = begins-counted k _ (λ n h. counted-started n count x k.flight h) (λ s is off. omega arith) (λ j. refl)
+  case-counts events line _ _ (RemovesSession l i x found free) = tables (leaving i l x) [] _ (λ n h. fewer n _ (counted-left n count i l x k.flight h)) (λ s. refl)
+  case-counts events line _ _ (MakesMirror owner i x found free l owned) = tables (appointed i owner) [] _ (λ n h. counted-raised n count i k.flight h) (λ s. refl)
+  case-counts events line _ _ (Aborts i x found free) = begins-counted k _ (λ n h. counted-aborted n count i x.mirror k.flight h) (λ s is off. false_true off is) (λ j. refl)
+  case-counts events line _ _ (Sends i server x r o posts) =
       begins-counted k _ (λ n h. counted-made n count i (k.flight.epoch i) server o (Asks (k.flight.starts server)) k.flight posts.here h) (λ s is off. false_true off is) (λ j. refl)
-  case-counts events line _ (TakesReply n m reply x r returns) = begins-counted k _ (λ n h. fewer n k.flight h) (λ s is off. false_true off is) (λ j. refl)
-  case-counts events line _ (Delivers q m starts x r reaches) = record {
+  case-counts events line _ _ (TakesReply n m reply x r returns) = begins-counted k _ (λ n h. fewer n k.flight h) (λ s is off. false_true off is) (λ j. refl)
+  case-counts events line _ _ (Delivers q m starts x r reaches) = record {
     first = λ n h. fewer n k.flight h;
     gone = λ s is off. false_true off is;
     last = λ n j h same servers.
@@ -433,11 +433,11 @@ module _ (k : Control) where
         (counted-made n count m.session m.epoch m.server m.order (Replies reply) heard here (counted-heard n count m.session m.server m.epoch m.order.work k.flight h)));
     steady = λ j s. refl;
   }
-  case-counts events line _ (Loses n) = tables (with_flight (messages.lost n)) [] _ (λ m h. fewer m _ (counted-fewer m count (λ (q : Message). not (q.number == n)) k.flight h)) (λ s. refl)
-  case-counts events line _ (Exchanges i server reply x r o allowed) = plain k (ordered i server reply (members_on server x.members) o) refl refl (λ s. refl) (exchanges-end i server reply (members_on server x.members) (Some o))
+  case-counts events line _ _ (Loses n) = tables (with_flight (messages.lost n)) [] _ (λ m h. fewer m _ (counted-fewer m count (λ (q : Message). not (q.number == n)) k.flight h)) (λ s. refl)
+  case-counts events line _ _ (Exchanges i server reply x r o allowed) = plain k (ordered i server reply (members_on server x.members) o) refl refl (λ s. refl) (exchanges-end i server reply (members_on server x.members) (Some o))
 
   ending-counts : (events : List Event) (line : ℕ) (p : Plan) → Ending k events line p → Counting k p
-  ending-counts events line _ (OnePlan p c) = case-counts events line p c
+  ending-counts events line _ (OnePlan asked p c) = case-counts events line asked p c
   ending-counts events line _ (Imaged vs) = calm _ refl refl (λ s. refl) (λ j. refl) (λ j. refl) (λ j s. refl)
 
 -- ---- what holds of runs
@@ -452,7 +452,7 @@ counted-answered w line p c h = answered-counted w line p (ending-counts w.contr
 -- the plan of a step, answered
 pub counted-plan : (w : World) (line : ℕ) (asked : Result Step ℕ) → FlightCounted w → CountedBy (after_plan w line (plan w.control w.events line asked)).control (length w.events + 1) (after_plan w line (plan w.control w.events line asked)).control.flight
 unfolding after_plan
-counted-plan w line asked h = let p : Plan = plan w.control w.events line asked in counted-carried w line p (OnePlan p (plan-case w.control w.events line asked)) h
+counted-plan w line asked h = let p : Plan = plan w.control w.events line asked in counted-carried w line p (OnePlan asked p (plan-case w.control w.events line asked)) h
 
 -- a plan before the last one of its step begins no epoch of its own
 pub counted-turn : (w : World) (p : Plan) → Comes w p → FlightCounted w → CountedBy (carried_out w p).0.control (length w.events) (carried_out w p).0.control.flight

@@ -1,5 +1,6 @@
 -- What acts and steps leave of a world: the writes issued so far, what is within limits, and the journal, which only grows.
-use Rattle.std.proofs.Common.{ℕ, ◌≡◌, ◌≤◌, ◌<◌, ◌+◌, List, [], ◌∷◌, ◌++◌, length, map, refl, ap, ◌∙◌, sym, arith, Bool, true, false, ◌||◌, cond, Option, Some, None, append_assoc, subst}
+use Rattle.std.proofs.Common.{ℕ, ◌≡◌, ◌≤◌, ◌<◌, ◌+◌, List, [], ◌∷◌, ◌++◌, length, refl, ap, ◌∙◌, sym, arith, Bool, true, false, ◌||◌, Option, Some, None, append_assoc, subst, Result}
+use Rattle.dr_model.specs.declared.step.Step.{Step}
 use Rattle.std.specs.List.{list_any}
 use Rattle.std.proofs.lemmas.List.Sums.{fold-append}
 use Rattle.std.proofs.lemmas.List.Folds.{list_any-append}
@@ -8,7 +9,7 @@ use Rattle.dr_logic.specs.Tables.{at}
 use Rattle.dr_ids.specs.declared.refusal.Refusal.{Refusal}
 use Rattle.dr_ids.specs.declared.refusal.Refusal.TheVariants.{Stopped as StoppedIn}
 use Rattle.dr_model.specs.declared.event.Event.{Event}
-use Rattle.dr_model.specs.declared.event.Event.TheVariants.{Issue, Ack, Blanked, Restored, Stopped, Suspended, Started, Frozen, Thawed, Recovered, Begin, Cut}
+use Rattle.dr_model.specs.declared.event.Event.TheVariants.{Issue, Answer, Ack, Stopped, Started, Frozen, Thawed, Recovered}
 use Rattle.dr_model.specs.declared.said.Said.{Said}
 use Rattle.dr_model.specs.declared.said.Said.TheVariants.{Done}
 use Rattle.dr_model.specs.declared.said.Addition.TheVariants.{Alone, Wrote, Showed}
@@ -16,10 +17,8 @@ use Rattle.dr_model.specs.Answers.{answer}
 pub use Rattle.dr_model.specs.HeldWrites.{is_answer}
 use Rattle.dr_model.specs.Limits.{most_servers, most_volumes, most_tracks, most_pending}
 use Rattle.dr_model.specs.Control.{Control, Fuse, Pending, Volume, World, new_volume, nothing}
-use Rattle.dr_model.specs.Layout.{Tracks}
-use Rattle.dr_model.specs.Relations.{rest, in_order, is_bare, turned, given_up}
-use Rattle.dr_model.specs.Pairs.{is_suspended}
-use Rattle.dr_model.specs.Moves.{Move, Land, Overwrite, Keep, Note, Relate, Withdraw, Fetch, Resync, Reverse, Restore, Release, Store, Strike, Suspend, MakeSecondary, MakePrimary, DropPrimary, DropSecondary, Follow, Resume, TakeOver, FallBack, Yield, Unsync, Mirror, LandBoth, Thaw, Lift, Restart, Hold, Free, Seal, Finish, RaiseAttempt, RaiseFloor, Leave, Flash, Commit, Revert, told_blank, told_restored, told, told_in_stop, landed, target, settled, settled_in_stop, is_other, marked, FlashHold, FlashFree, Unstage, told_freed}
+use Rattle.dr_model.specs.Relations.{rest}
+use Rattle.dr_model.specs.Moves.{Move, Land, Overwrite, LandBoth, Hold, told, told_in_stop, landed, target, settled, settled_in_stop, is_other, marked}
 use Rattle.dr_model.specs.Carry.{Act, Make, OpenAttempt, Redo, Acknowledge, Drop, EndFreeze, EndThaw, EndRecovery, act, Next, Pass, Do, End, Entry, Outcome, carry, continue, go, follow}
 use Rattle.dr_model.specs.Plans.{Plan, entries_plan, name_bytes, same, always, none_follow, server_done, volume_done, link_done, with_pending, issue_done, show_done, stop_done, arm_on, starting, start_plan, make_path_done, remove_path_done}
 use Rattle.dr_model.specs.Forming.{Part, after_part}
@@ -31,6 +30,7 @@ use Rattle.dr_model.specs.SessionEntries.{members_on, first_number, reply_after}
 use Rattle.dr_model.specs.Messages.{lost}
 use Rattle.dr_model.specs.MessagePlans.{with_flight, says_posted, sending, told_begun, taking}
 use Rattle.dr_model.specs.SessionPlans.{with_sessions, table_plan, appointed, leaving, aborting, exchanged, says_phase, is_idle, member_with}
+use Rattle.dr_facts.proofs.Emits.{Of, Lists as ByEvents, by_moves, any-lists, emitted, stop-onto, all-told}
 use Rattle.dr_laws_sound.specs.Limits.{IsWithin}
 use Rattle.dr_facts.proofs.Sessions.{length-changed, changed-twice, length-left, joined-few}
 use Rattle.dr_model.specs.RecoveryPlans.{decided_in, recover_done}
@@ -52,18 +52,18 @@ pub record Stays (j k : Control) : Type 0 where
   pub sessions : length k.sessions ≤ length j.sessions
 
 -- no answer is among them
-abbrev pub Silent : List Event → Type 0
-Silent events = list_any is_answer events ≡ false
+abbrev pub NoAnswer : List Event → Type 0
+NoAnswer events = list_any is_answer events ≡ false
 
-silent-append : (es fs : List Event) → Silent es → Silent fs → Silent (es ++ fs)
-silent-append es fs first rest = list_any-append is_answer es fs ∙ ap (λ b. b || list_any is_answer fs) first ∙ rest
+none-append : (es fs : List Event) → NoAnswer es → NoAnswer fs → NoAnswer (es ++ fs)
+none-append es fs first rest = list_any-append is_answer es fs ∙ ap (λ b. b || list_any is_answer fs) first ∙ rest
 
 -- acts add events to the journal, and no answer
 pub record Onward (w u : World) : Type 0 where
   pub stays : Stays w.control u.control
   pub added : List Event
   pub events : u.events ≡ w.events ++ added
-  pub silent : Silent added
+  pub silent : NoAnswer added
 
 stays-same : (k : Control) → Stays k k
 stays-same k = record { servers = refl; tracks = λ v. refl; volumes = refl; issued = refl; pending = omega arith; sessions = omega arith }
@@ -89,7 +89,7 @@ onward-then w u v p q = record {
   stays = stays-then w.control u.control v.control p.stays q.stays;
   added = p.added ++ q.added;
   events = q.events ∙ ap (λ es. es ++ q.added) p.events ∙ append_assoc w.events p.added q.added;
-  silent = silent-append p.added q.added p.silent q.silent;
+  silent = none-append p.added q.added p.silent q.silent;
 }
 
 -- the queue gets no longer
@@ -97,7 +97,7 @@ length-marked : (n : ℕ) (ps : List Pending) → length (marked n ps) ≡ lengt
 length-marked n [] = refl
 length-marked n (p ∷ ps) = let e : length (marked n ps) ≡ length ps = length-marked n ps in omega arith
 
--- what a move makes of it, and that it tells no answer
+-- what a move makes of it
 settled-fewer : (m : Move) (ps : List Pending) → length (settled m ps) ≤ length ps
 settled-fewer (Land n v t) ps = filter-shorter (is_other n) ps
 settled-fewer (Overwrite n v t) ps = filter-shorter (is_other n) ps
@@ -110,79 +110,13 @@ stop-fewer (Overwrite n v t) ps = let e : length (marked n ps) ≡ length ps = l
 stop-fewer (LandBoth n v t) ps = let e : length (marked n ps) ≡ length ps = length-marked n ps in omega arith
 stop-fewer m ps = omega arith
 
-blanks-silent : (v : ℕ) (ts : List ℕ) → Silent (map (Blanked v) ts)
-blanks-silent v [] = refl
-blanks-silent v (t ∷ ts) = blanks-silent v ts
+-- no move tells an answer
+no-answer : (e : Event) → Of by_moves e → is_answer e ≡ false
+no-answer (Answer line kind a b c) by = absurd cc
+no-answer e by = refl
 
-restored-silent : (v s n : ℕ) (own : Tracks) → Silent (told_restored v s n own)
-restored-silent v s n own = by (is_bare own)
-  where
-    by : (b : Bool) → Silent (cond b (told_blank v n own ++ Restored s v ∷ []) [])
-    by true = silent-append (told_blank v n own) (Restored s v ∷ []) (blanks-silent v (in_order n (rest n own))) refl
-    by false = refl
-
-suspended-silent : (none : Bool) (v : ℕ) → Silent (cond none [] (Suspended v ∷ []))
-suspended-silent true v = refl
-suspended-silent false v = refl
-
-freed-silent : (v : ℕ) (had : Bool) → Silent (told_freed v had)
-freed-silent v true = refl
-freed-silent v false = refl
-
-held-silent : (first : Bool) (v s n : ℕ) → Silent (cond first (Begin s n ∷ Cut s n v ∷ []) (Cut s n v ∷ []))
-held-silent true v s n = refl
-held-silent false v s n = refl
-
-tells-silent : (m : Move) (u : Volume) → Silent (told m u)
-tells-silent (Land n v t) u = refl
-tells-silent (Overwrite n v t) u = refl
-tells-silent (Keep v t) u = refl
-tells-silent (Note v t) u = refl
-tells-silent (Relate v s choices) u = refl
-tells-silent (Withdraw v) u = blanks-silent v (in_order u.tracks (rest u.tracks u.fields.own))
-tells-silent (Fetch v t) u = refl
-tells-silent (Resync v sequence) u = refl
-tells-silent (Reverse v None) u = restored-silent v u.fields.source u.tracks (turned u.fields).own
-tells-silent (Reverse v (Some p)) u = restored-silent v u.fields.source u.tracks (turned u.fields).own
-tells-silent (Restore v t from) u = refl
-tells-silent (Release v t) u = restored-silent v u.fields.source u.tracks (given_up u.fields t).own
-tells-silent (Store v t from last) u = refl
-tells-silent (Strike v t last) u = refl
-tells-silent (Suspend v busy) u = suspended-silent (is_suspended u.fields.primary_state) v
-tells-silent (MakeSecondary v a kind state) u = refl
-tells-silent (MakePrimary v b kind state full) u = refl
-tells-silent (DropPrimary v) u = refl
-tells-silent (DropSecondary v) u = refl
-tells-silent (Follow v state) u = refl
-tells-silent (Resume v state) u = refl
-tells-silent (TakeOver v) u = refl
-tells-silent (FallBack v more state) u = refl
-tells-silent (Yield v a kind state) u = refl
-tells-silent (Unsync v t) u = refl
-tells-silent (Mirror v t from n) u = refl
-tells-silent (LandBoth n v t) u = refl
-tells-silent (Thaw v) u = refl
-tells-silent (FlashHold v) u = refl
-tells-silent (FlashFree v) u = refl
-tells-silent (Lift v) u = freed-silent v u.fields.flash_hold
-tells-silent (Restart v) u = refl
-tells-silent (Hold v s n first) u = held-silent first v s n
-tells-silent (Free v) u = refl
-tells-silent (Seal v a s n) u = refl
-tells-silent (Finish v n) u = refl
-tells-silent (RaiseAttempt v n) u = refl
-tells-silent (RaiseFloor v n) u = refl
-tells-silent (Leave v a s) u = refl
-tells-silent (Flash v from a s n) u = refl
-tells-silent (Commit v a s n) u = refl
-tells-silent (Revert v a s n) u = refl
-tells-silent (Unstage v) u = refl
-
-in_stop-silent : (m : Move) (u : Volume) → Silent (told_in_stop m u)
-in_stop-silent (Land n v t) u = refl
-in_stop-silent (Overwrite n v t) u = refl
-in_stop-silent (LandBoth n v t) u = refl
-in_stop-silent m u = tells-silent m u
+unanswered : ByEvents (Of by_moves) NoAnswer
+unanswered = any-lists (Of by_moves) is_answer no-answer
 
 -- a move leaves each volume its size
 move-tracks : (w : World) (m : Move) (y : Volume) → y.tracks ≡ (w.control.volume (target m)).tracks → (v : ℕ) → (at w.control.volume (target m) y v).tracks ≡ (w.control.volume v).tracks
@@ -191,10 +125,10 @@ move-tracks w m y e v = at_part (λ (x : Volume). x.tracks) w.control.volume (ta
 done-onward : (w : World) (a : Act) (f : Option Fuse) → Onward w (after_act w a f)
 done-onward w (Make m) f =
     let u : Volume = w.control.volume (target m) in
-    record { stays = record { servers = refl; tracks = move-tracks w m _ refl; volumes = refl; issued = refl; pending = settled-fewer m w.control.pending; sessions = omega arith }; added = told m u; events = refl; silent = tells-silent m u }
+    record { stays = record { servers = refl; tracks = move-tracks w m _ refl; volumes = refl; issued = refl; pending = settled-fewer m w.control.pending; sessions = omega arith }; added = told m u; events = refl; silent = all-told _ unanswered m u }
 done-onward w (OpenAttempt v s n) f =
     let m : Move = Hold v s n true in
-    let u : Volume = w.control.volume v in record { stays = record { servers = refl; tracks = move-tracks w m _ refl; volumes = refl; issued = refl; pending = omega arith; sessions = length-changed s attempted w.control.sessions }; added = told m u; events = refl; silent = tells-silent m u }
+    let u : Volume = w.control.volume v in record { stays = record { servers = refl; tracks = move-tracks w m _ refl; volumes = refl; issued = refl; pending = omega arith; sessions = length-changed s attempted w.control.sessions }; added = told m u; events = refl; silent = all-told _ unanswered m u }
 done-onward w (Redo v) f = record { stays = record { servers = refl; tracks = λ v. refl; volumes = refl; issued = refl; pending = omega arith; sessions = omega arith }; added = []; events = sym (append-nil w.events); silent = refl }
 done-onward w (Acknowledge n) f = record { stays = record { servers = refl; tracks = λ v. refl; volumes = refl; issued = refl; pending = filter-shorter (is_other n) w.control.pending; sessions = omega arith }; added = Ack n ∷ []; events = refl; silent = refl }
 done-onward w (Drop n) f = record { stays = record { servers = refl; tracks = λ v. refl; volumes = refl; issued = refl; pending = filter-shorter (is_other n) w.control.pending; sessions = omega arith }; added = []; events = sym (append-nil w.events); silent = refl }
@@ -209,7 +143,7 @@ counts-onward w (Make m) = λ f.
       stays = record { servers = refl; tracks = move-tracks w m _ refl; volumes = refl; issued = refl; pending = stop-fewer m w.control.pending; sessions = omega arith };
       added = told_in_stop m u ++ Stopped u.server (landed m) ∷ [];
       events = refl;
-      silent = silent-append (told_in_stop m u) (Stopped u.server (landed m) ∷ []) (in_stop-silent m u) refl;
+      silent = stop-onto by_moves _ unanswered m u (Stopped u.server (landed m) ∷ []) (emitted m) refl;
     }
 counts-onward w (OpenAttempt v s n) = λ f.
     let m : Move = Hold v s n true in
@@ -218,7 +152,7 @@ counts-onward w (OpenAttempt v s n) = λ f.
       stays = record { servers = refl; tracks = move-tracks w m _ refl; volumes = refl; issued = refl; pending = omega arith; sessions = length-changed s attempted w.control.sessions };
       added = told_in_stop m u ++ Stopped u.server 0 ∷ [];
       events = refl;
-      silent = silent-append (told_in_stop m u) (Stopped u.server 0 ∷ []) (in_stop-silent m u) refl;
+      silent = stop-onto by_moves _ unanswered m u (Stopped u.server 0 ∷ []) (emitted m) refl;
     }
 counts-onward w (Redo v) = tt
 counts-onward w (Acknowledge n) = tt
@@ -246,21 +180,21 @@ carry-onward w [] = onward-same w
 carry-onward w (d ∷ ds) = go-onward w (d w.control) (λ v. carry v ds) (λ v. carry-onward v ds)
 
 -- What a step may do: issue one write, and stay within the limits; and what it tells is no answer.
-pub record Modest (k : Control) (p : Plan) : Type 0 where
+pub record AnswersNothing (k : Control) (p : Plan) : Type 0 where
   pub one : (p.first k).issued ≤ k.issued + 1
   pub within : IsWithin k → IsWithin (p.first k)
   pub last : (j : Control) → Stays j (p.last j)
-  pub silent : Silent p.told
+  pub silent : NoAnswer p.told
 
 follow-onward : (w : World) (r : Refusal) (follows : ℕ → List Entry) → Onward w (follow w r follows)
 follow-onward w (StoppedIn s) follows = carry-onward w (follows s.0)
 follow-onward w r follows = onward-same w
 
-finish-onward : (k : Control) (p : Plan) → (m : Modest k p) → (w : World) (r : Option Refusal) → Onward w (finish p w r)
+finish-onward : (k : Control) (p : Plan) → (m : AnswersNothing k p) → (w : World) (r : Option Refusal) → Onward w (finish p w r)
 finish-onward k p m w None = record { stays = m.last w.control; added = []; events = sym (append-nil w.events); silent = refl }
 finish-onward k p m w (Some r) = follow-onward w r p.follows
 
-module _ (w : World) (p : Plan) (m : Modest w.control p) where
+module _ (w : World) (p : Plan) (m : AnswersNothing w.control p) where
   carried_out-onward : Onward (begun w p) (carried_out w p).0
   carried_out-onward =
       let o : Outcome = carry (begun w p) p.entries in
@@ -273,34 +207,34 @@ module _ (w : World) (p : Plan) (m : Modest w.control p) where
 -- a step adds to the journal, and last its answer
 pub record EndsAnswered (w : World) (line : ℕ) (u : World) : Type 0 where
   pub before : List Event
-  pub silent : Silent before
+  pub silent : NoAnswer before
   pub says : Said
   pub events : u.events ≡ (w.events ++ before) ++ answer line says ∷ []
 
-pub after_plan-ends : (w : World) (line : ℕ) (p : Plan) → Modest w.control p → EndsAnswered w line (after_plan w line p)
+pub after_plan-ends : (w : World) (line : ℕ) (p : Plan) → AnswersNothing w.control p → EndsAnswered w line (after_plan w line p)
 unfolding after_plan
 after_plan-ends w line p m =
     let goes : Onward (begun w p) (carried_out w p).0 = carried_out-onward w p m in
     record {
       before = p.told ++ goes.added;
-      silent = silent-append p.told goes.added m.silent goes.silent;
+      silent = none-append p.told goes.added m.silent goes.silent;
       says = answered p (carried_out w p).0.control (carried_out w p).1;
       events = ap (λ es. es ++ answer line (answered p (carried_out w p).0.control (carried_out w p).1) ∷ []) (goes.events ∙ append_assoc w.events p.told goes.added);
     }
 
 -- every plan of a step is such
 module _ (k : Control) where
-  modest : (first : Control → Control) (told : List Event) (entries : List Entry) (says : Control → Said) → (first k).issued ≤ k.issued + 1 → (IsWithin k → IsWithin (first k)) → Silent told
-      → Modest k (record { first = first; told = told; entries = entries; follows = none_follow; last = same; says = says })
-  modest first told entries says one within hush = record { one = one; within = within; last = stays-same; silent = hush }
+  answers-nothing : (first : Control → Control) (told : List Event) (entries : List Entry) (says : Control → Said) → (first k).issued ≤ k.issued + 1 → (IsWithin k → IsWithin (first k)) → NoAnswer told
+      → AnswersNothing k (record { first = first; told = told; entries = entries; follows = none_follow; last = same; says = says })
+  answers-nothing first told entries says one within hush = record { one = one; within = within; last = stays-same; silent = hush }
 
   abbrev Unmoved : Control → Type 0
   Unmoved j = (length j.sessions ≤ length k.sessions) × ((length j.servers ≡ length k.servers) × ((length j.volumes ≡ length k.volumes) × ((length j.pending ≡ length k.pending) × ((v : ℕ) → (j.volume v).tracks ≡ (k.volume v).tracks))))
 
   -- the tables with limits stay
-  quiet : (first : Control → Control) (told : List Event) (entries : List Entry) (says : Control → Said) → (first k).issued ≡ k.issued → Unmoved (first k) → Silent told
-      → Modest k (record { first = first; told = told; entries = entries; follows = none_follow; last = same; says = says })
-  quiet first told entries says issued stays hush = modest first told entries says (omega arith) within hush
+  quiet : (first : Control → Control) (told : List Event) (entries : List Entry) (says : Control → Said) → (first k).issued ≡ k.issued → Unmoved (first k) → NoAnswer told
+      → AnswersNothing k (record { first = first; told = told; entries = entries; follows = none_follow; last = same; says = says })
+  quiet first told entries says issued stays hush = answers-nothing first told entries says (omega arith) within hush
     where
       within : IsWithin k → IsWithin (first k)
       within h = record {
@@ -318,98 +252,98 @@ module _ (k : Control) where
   retabled : (f : List Session → List Session) → length (f k.sessions) ≤ length k.sessions → Unmoved (with_sessions f k)
   retabled f few = (few, (refl, (refl, (refl, λ v. refl))))
 
-  entries-modest : (entries : List Entry) (said : Said) → Modest k (entries_plan entries said)
-  entries-modest entries said = quiet same [] entries (always said) refl unmoved refl
+  entries-answer_nothing : (entries : List Entry) (said : Said) → AnswersNothing k (entries_plan entries said)
+  entries-answer_nothing entries said = quiet same [] entries (always said) refl unmoved refl
 
   room-more : {X : Type 0} (xs : List X) (x : X) (n : ℕ) → length xs < n → length (xs ++ x ∷ []) ≤ n
   room-more xs x n lt = let e : length (xs ++ x ∷ []) ≡ length xs + 1 = length-append xs (x ∷ []) in omega arith
 
-  issue-modest : (v t offset len : ℕ) (bytes : List ℕ) → length k.pending < most_pending → Modest k (issue_done k v t offset len bytes)
-  issue-modest v t offset len bytes left =
-      modest (with_pending v t) (Issue (k.issued + 1) v t offset len bytes ∷ []) [] (always (Done (Wrote (k.issued + 1)))) (omega arith)
+  issue-answers_nothing : (v t offset len : ℕ) (bytes : List ℕ) → length k.pending < most_pending → AnswersNothing k (issue_done k v t offset len bytes)
+  issue-answers_nothing v t offset len bytes left =
+      answers-nothing (with_pending v t) (Issue (k.issued + 1) v t offset len bytes ∷ []) [] (always (Done (Wrote (k.issued + 1)))) (omega arith)
       (λ h. record { servers = h.servers; volumes = h.volumes; pending = room-more k.pending (record { w = k.issued + 1; volume = v; track = t; landed = false }) most_pending left; tracks = h.tracks; sessions = h.sessions }) refl
 
   -- a volume is defined, which isn't too large
   sizes-within : (v s tracks : ℕ) → tracks ≤ most_tracks → IsWithin k → (u : ℕ) → (at k.volume v (new_volume s tracks) u).tracks ≤ most_tracks
   sizes-within v s tracks small h = at_cases (λ u (x : Volume). x.tracks ≤ most_tracks) k.volume v (new_volume s tracks) small (λ q ne. h.tracks q)
 
-  case-modest : (events : List Event) (line : ℕ) (p : Plan) → Case k events line p → Modest k p
-  case-modest events line _ (Says a) = quiet same [] [] (always a) refl unmoved refl
-  case-modest events line _ (DefinesServer name free) =
-      modest (server_done k name).first (server_done k name).told [] (always (Done Alone)) (omega arith)
+  case-answers_nothing : (events : List Event) (line : ℕ) (asked : Result Step ℕ) (p : Plan) → Case k events line asked p → AnswersNothing k p
+  case-answers_nothing events line _ _ (Says a waits why) = quiet same [] [] (always a) refl unmoved refl
+  case-answers_nothing events line _ _ (DefinesServer name free) =
+      answers-nothing (server_done k name).first (server_done k name).told [] (always (Done Alone)) (omega arith)
       (λ h. record { servers = room-more k.servers (name_bytes name) most_servers (servers-left k (name_bytes name) free); volumes = h.volumes; pending = h.pending; tracks = h.tracks; sessions = h.sessions }) refl
-  case-modest events line _ (DefinesVolume v s tracks here free) =
+  case-answers_nothing events line _ _ (DefinesVolume v s tracks here free) =
       let new = is-new k v s tracks free in
-      modest (volume_done v s tracks).first (volume_done v s tracks).told [] (always (Done Alone)) (omega arith)
+      answers-nothing (volume_done v s tracks).first (volume_done v s tracks).told [] (always (Done Alone)) (omega arith)
       (λ h. record { servers = h.servers; volumes = room-more k.volumes v most_volumes new.left; pending = h.pending; tracks = sizes-within v s tracks new.small h; sessions = h.sessions }) refl
-  case-modest events line _ (SetsLink a b up) = quiet (link_done a b up).first [] [] (always (Done Alone)) refl unmoved refl
-  case-modest events line _ (Issues v t offset len bytes free) = issue-modest v t offset len bytes (may-issue k v t free).1
-  case-modest events line _ (Writes v t offset len bytes free) =
-      let issues : Modest k (issue_done k v t offset len bytes) = issue-modest v t offset len bytes (may-issue k v t free).1 in record { one = issues.one; within = issues.within; last = issues.last; silent = issues.silent }
-  case-modest events line _ (Applies n p found) = record { one = omega arith; within = λ h. h; last = stays-same; silent = refl }
-  case-modest events line _ (Lists told ls few) = quiet same told [] (always (Done Alone)) refl unmoved (lines-plain told ls).silent
-  case-modest events line _ (Shows v t there) = quiet same (show_done events line v t).told [] (always (Done Showed)) refl unmoved refl
-  case-modest events line _ (Stops s on) = quiet (stop_done s).first (Stopped s 0 ∷ []) [] (always (Done Alone)) refl unmoved refl
-  case-modest events line _ (Arms writes torn s) = quiet (arm_on writes torn s).first [] [] (always (Done Alone)) refl unmoved refl
-  case-modest events line _ (Starts s off) = quiet (starting s) (Started s ∷ []) (start_plan k s).entries (start_plan k s).says refl unmoved refl
-  case-modest events line _ (MakesFlash dev s t freeze choices) = entries-modest _ _
-  case-modest events line _ (RemovesFlash dev s t) = entries-modest _ _
-  case-modest events line _ (ResyncsFlash dev s t sequence) = entries-modest _ _
-  case-modest events line _ (ReversesFlash dev s t) = entries-modest _ _
-  case-modest events line _ (Copies t most) = entries-modest _ _
-  case-modest events line _ (Destages v) = entries-modest _ _
-  case-modest events line _ (MakesPath src tgt group) = quiet (make_path_done src tgt group).first [] [] (always (Done Alone)) refl unmoved refl
-  case-modest events line _ (RemovesPath src tgt) = quiet (remove_path_done src tgt).first [] [] (always (Done Alone)) refl unmoved refl
-  case-modest events line _ (MakesPair devs a b kind choices part) = entries-modest _ _
-  case-modest events line _ (RemovesPair devs a b source_only) = entries-modest _ _
-  case-modest events line _ (PausesPair devs a b) = entries-modest _ _
-  case-modest events line _ (ResumesPair devs a b kind) = entries-modest _ _
-  case-modest events line _ (FailsOver devs b a kind) = entries-modest _ _
-  case-modest events line _ (FailsBack devs x y kind) = entries-modest _ _
-  case-modest events line _ (Compares contents v u) = entries-modest _ _
-  case-modest events line _ (Drains a most) = record { one = omega arith; within = λ h. h; last = stays-same; silent = refl }
-  case-modest events line _ (Expires s on) = entries-modest _ _
-  case-modest events line _ (Freezes l m) = entries-modest _ _
-  case-modest events line _ (Unfreezes l m) = entries-modest _ _
-  case-modest events line _ (Releases l) = entries-modest _ _
-  case-modest events line _ (MakesSession l s free) = modest (table_plan (joined s l)).first [] [] (always (Done Alone)) (omega arith)
+  case-answers_nothing events line _ _ (SetsLink a b up) = quiet (link_done a b up).first [] [] (always (Done Alone)) refl unmoved refl
+  case-answers_nothing events line _ _ (Issues v t offset len bytes free) = issue-answers_nothing v t offset len bytes (may-issue k v t free).1
+  case-answers_nothing events line _ _ (Writes v t offset len bytes free) =
+      let issues : AnswersNothing k (issue_done k v t offset len bytes) = issue-answers_nothing v t offset len bytes (may-issue k v t free).1 in record { one = issues.one; within = issues.within; last = issues.last; silent = issues.silent }
+  case-answers_nothing events line _ _ (Applies n p found) = record { one = omega arith; within = λ h. h; last = stays-same; silent = refl }
+  case-answers_nothing events line _ _ (Lists told ls few) = quiet same told [] (always (Done Alone)) refl unmoved (lines-plain told ls).silent
+  case-answers_nothing events line _ _ (Shows v t there) = quiet same (show_done events line v t).told [] (always (Done Showed)) refl unmoved refl
+  case-answers_nothing events line _ _ (Stops s on) = quiet (stop_done s).first (Stopped s 0 ∷ []) [] (always (Done Alone)) refl unmoved refl
+  case-answers_nothing events line _ _ (Arms writes torn s) = quiet (arm_on writes torn s).first [] [] (always (Done Alone)) refl unmoved refl
+  case-answers_nothing events line _ _ (Starts s off) = quiet (starting s) (Started s ∷ []) (start_plan k s).entries (start_plan k s).says refl unmoved refl
+  case-answers_nothing events line _ _ (MakesFlash dev s t freeze choices) = entries-answer_nothing _ _
+  case-answers_nothing events line _ _ (RemovesFlash dev s t) = entries-answer_nothing _ _
+  case-answers_nothing events line _ _ (ResyncsFlash dev s t sequence) = entries-answer_nothing _ _
+  case-answers_nothing events line _ _ (ReversesFlash dev s t) = entries-answer_nothing _ _
+  case-answers_nothing events line _ _ (Copies t most) = entries-answer_nothing _ _
+  case-answers_nothing events line _ _ (Destages v) = entries-answer_nothing _ _
+  case-answers_nothing events line _ _ (MakesPath src tgt group) = quiet (make_path_done src tgt group).first [] [] (always (Done Alone)) refl unmoved refl
+  case-answers_nothing events line _ _ (RemovesPath src tgt) = quiet (remove_path_done src tgt).first [] [] (always (Done Alone)) refl unmoved refl
+  case-answers_nothing events line _ _ (MakesPair devs a b kind choices part) = entries-answer_nothing _ _
+  case-answers_nothing events line _ _ (RemovesPair devs a b source_only) = entries-answer_nothing _ _
+  case-answers_nothing events line _ _ (PausesPair devs a b) = entries-answer_nothing _ _
+  case-answers_nothing events line _ _ (ResumesPair devs a b kind) = entries-answer_nothing _ _
+  case-answers_nothing events line _ _ (FailsOver devs b a kind) = entries-answer_nothing _ _
+  case-answers_nothing events line _ _ (FailsBack devs x y kind) = entries-answer_nothing _ _
+  case-answers_nothing events line _ _ (Compares contents v u) = entries-answer_nothing _ _
+  case-answers_nothing events line _ _ (Drains a most) = record { one = omega arith; within = λ h. h; last = stays-same; silent = refl }
+  case-answers_nothing events line _ _ (Expires s on) = entries-answer_nothing _ _
+  case-answers_nothing events line _ _ (Freezes l m) = entries-answer_nothing _ _
+  case-answers_nothing events line _ _ (Unfreezes l m) = entries-answer_nothing _ _
+  case-answers_nothing events line _ _ (Releases l) = entries-answer_nothing _ _
+  case-answers_nothing events line _ _ (MakesSession l s free) = answers-nothing (table_plan (joined s l)).first [] [] (always (Done Alone)) (omega arith)
       (λ h. record { servers = h.servers; volumes = h.volumes; pending = h.pending; tracks = h.tracks; sessions = joined-few k.sessions s l h.sessions free }) refl
-  case-modest events line _ (RemovesSession l s x found free) = quiet (leaving s l x) [] [] (always (Done Alone)) refl (retabled (left s l) (length-left k.sessions s l)) refl
-  case-modest events line _ (MakesMirror owner s x found free l owned) = quiet (appointed s owner) [] [] (always (Done Alone)) refl (retabled (changed s (mirrored_by owner)) (length-changed s (mirrored_by owner) k.sessions)) refl
-  case-modest events line _ (PausesMirror s on) = quiet (table_plan (changed s (paused on))).first [] [] (always (Done Alone)) refl (retabled (changed s (paused on)) (length-changed s (paused on) k.sessions)) refl
-  case-modest events line _ (RemovesMirror s x found free) = quiet (table_plan (changed s unmirrored)).first [] [] (always (Done Alone)) refl (retabled (changed s unmirrored) (length-changed s unmirrored k.sessions)) refl
-  case-modest events line _ (Aborts s x found free) = quiet (aborting s x.mirror) [] [] (says_phase s) refl (retabled (changed s (with_master phases.aborted)) (length-changed s (with_master phases.aborted) k.sessions)) refl
-  case-modest events line _ (AddsMember s a c x joins) =
+  case-answers_nothing events line _ _ (RemovesSession l s x found free) = quiet (leaving s l x) [] [] (always (Done Alone)) refl (retabled (left s l) (length-left k.sessions s l)) refl
+  case-answers_nothing events line _ _ (MakesMirror owner s x found free l owned) = quiet (appointed s owner) [] [] (always (Done Alone)) refl (retabled (changed s (mirrored_by owner)) (length-changed s (mirrored_by owner) k.sessions)) refl
+  case-answers_nothing events line _ _ (PausesMirror s on) = quiet (table_plan (changed s (paused on))).first [] [] (always (Done Alone)) refl (retabled (changed s (paused on)) (length-changed s (paused on) k.sessions)) refl
+  case-answers_nothing events line _ _ (RemovesMirror s x found free) = quiet (table_plan (changed s unmirrored)).first [] [] (always (Done Alone)) refl (retabled (changed s unmirrored) (length-changed s unmirrored k.sessions)) refl
+  case-answers_nothing events line _ _ (Aborts s x found free) = quiet (aborting s x.mirror) [] [] (says_phase s) refl (retabled (changed s (with_master phases.aborted)) (length-changed s (with_master phases.aborted) k.sessions)) refl
+  case-answers_nothing events line _ _ (AddsMember s a c x joins) =
       let m : Member = member_with k a c in
       let n : ℕ = first_number k x.last m in
       record { one = omega arith; within = λ h. h; last = λ j. stays-sessions (λ ss. changed s (with_member m) (changed s (raised n) ss)) j (changed-twice s (with_member m) (raised n) j.sessions); silent = refl }
-  case-modest events line _ (RemovesMember s a x m found is idle on) = record { one = omega arith; within = λ h. h; last = λ j. stays-sessions (changed s (without_member m.a.0)) j (length-changed s (without_member m.a.0) j.sessions); silent = refl }
-  case-modest events line _ (Recovers s x found on) = quiet same [] (recover_done s (decided_in s k) x.members).entries (recover_done s (decided_in s k) x.members).says refl unmoved refl
-  case-modest events line _ (Settles s x m found here on free) = entries-modest _ _
-  case-modest events line _ (Sends s server x r o posts) =
+  case-answers_nothing events line _ _ (RemovesMember s a x m found is idle on) = record { one = omega arith; within = λ h. h; last = λ j. stays-sessions (changed s (without_member m.a.0)) j (length-changed s (without_member m.a.0) j.sessions); silent = refl }
+  case-answers_nothing events line _ _ (Recovers s x found on) = quiet same [] (recover_done s (decided_in s k) x.members).entries (recover_done s (decided_in s k) x.members).says refl unmoved refl
+  case-answers_nothing events line _ _ (Settles s x m found here on free hand) = entries-answer_nothing _ _
+  case-answers_nothing events line _ _ (Sends s server x r o posts) =
       quiet (sending s (is_idle r.master.phase) server o) (told_begun (is_idle r.master.phase) s o.number) [] says_posted refl (few (is_idle r.master.phase), (refl, (refl, (refl, λ v. refl)))) (silent (is_idle r.master.phase))
     where
       few : (b : Bool) → length (sending s b server o k).sessions ≤ length k.sessions
       few true = length-changed s attempted k.sessions
       few false = omega arith
 
-      silent : (b : Bool) → Silent (told_begun b s o.number)
+      silent : (b : Bool) → NoAnswer (told_begun b s o.number)
       silent true = refl
       silent false = refl
-  case-modest events line _ (Delivers n m starts x r reaches) =
+  case-answers_nothing events line _ _ (Delivers n m starts x r reaches) =
       record { one = omega arith; within = λ h. h; last = λ j. record { servers = refl; tracks = λ v. refl; volumes = refl; issued = refl; pending = omega arith; sessions = omega arith }; silent = refl }
-  case-modest events line _ (TakesReply n m reply x r returns) =
+  case-answers_nothing events line _ _ (TakesReply n m reply x r returns) =
       let f : Session → Session = with_master (λ q. phases.taken q m.server reply) in quiet (taking m reply) [] [] (says_phase m.session) refl (retabled (changed m.session f) (length-changed m.session f k.sessions)) refl
-  case-modest events line _ (Loses n) = quiet (with_flight (lost n)) [] [] (always (Done Alone)) refl unmoved refl
-  case-modest events line _ (Exchanges s server reply x r o allowed) = record { one = omega arith; within = λ h. h; last = by reply; silent = refl }
+  case-answers_nothing events line _ _ (Loses n) = quiet (with_flight (lost n)) [] [] (always (Done Alone)) refl unmoved refl
+  case-answers_nothing events line _ _ (Exchanges s server reply x r o allowed) = record { one = omega arith; within = λ h. h; last = by reply; silent = refl }
     where
       by : (b : Bool) (j : Control) → Stays j (exchanged s server b o.work (members_on server x.members) j)
       by true j = record { servers = refl; tracks = λ v. refl; volumes = refl; issued = refl; pending = omega arith; sessions = length-changed s (with_master (λ m. phases.taken m server (reply_after s o.work (members_on server x.members) j))) j.sessions }
       by false j = record { servers = refl; tracks = λ v. refl; volumes = refl; issued = refl; pending = omega arith; sessions = omega arith }
 
-pub ending-modest : (k : Control) (events : List Event) (line : ℕ) (p : Plan) → Ending k events line p → Modest k p
-ending-modest k events line _ (OnePlan p c) = case-modest k events line p c
-ending-modest k events line _ (Imaged vs) = quiet k same (image_told vs) [] (always (Done Alone)) refl (unmoved k) (lines-plain (image_told vs) (image-lines vs)).silent
+pub ending-answers_nothing : (k : Control) (events : List Event) (line : ℕ) (p : Plan) → Ending k events line p → AnswersNothing k p
+ending-answers_nothing k events line _ (OnePlan asked p c) = case-answers_nothing k events line asked p c
+ending-answers_nothing k events line _ (Imaged vs) = quiet k same (image_told vs) [] (always (Done Alone)) refl (unmoved k) (lines-plain (image_told vs) (image-lines vs)).silent
 
 -- masters are lost as a step ends, and sessions are as many
 pub few-lost : (w u : World) (k : Control) → length u.control.sessions ≤ length k.sessions → length (masters_lost w u).control.sessions ≤ length k.sessions
@@ -418,7 +352,7 @@ few-lost w u k le = let e : length (masters_lost w u).control.sessions ≡ lengt
 -- a plan before the last one of its step adds to the journal, and no answer
 pub onward-part : (w : World) (p : Plan) → Comes w p → Onward w (after_part w p)
 onward-part w p comes =
-    let goes : Onward (begun w p) (carried_out w p).0 = carried_out-onward w p (case-modest w.control w.events 0 p (comes.case 0)) in
+    let goes : Onward (begun w p) (carried_out w p).0 = carried_out-onward w p (case-answers_nothing w.control w.events 0 comes.asked p (comes.case 0)) in
     record {
       stays = subst (λ k. Stays k (after_part w p).control) (comes.first w.control) (record { servers = goes.stays.servers; tracks = goes.stays.tracks; volumes = goes.stays.volumes; issued = goes.stays.issued; pending = goes.stays.pending; sessions = few-lost w (carried_out w p).0 (begun w p).control goes.stays.sessions });
       added = goes.added;
@@ -429,17 +363,17 @@ onward-part w p comes =
 pub onward-last : (w : World) (t : Task) → Onward w (course w t).last.world
 onward-last w t = last-plan (Onward w) (λ u p comes on. onward-then w u _ on (onward-part u p comes)) w t (onward-same w)
 
-pub modest-last : (w : World) (t : Task) → let x : Part = (course w t).last in Modest x.world.control x.plan
-modest-last w t = let x : Part = (course w t).last in ending-modest x.world.control x.world.events t.line x.plan (course-case w t)
+pub answers_nothing-last : (w : World) (t : Task) → let x : Part = (course w t).last in AnswersNothing x.world.control x.plan
+answers_nothing-last w t = let x : Part = (course w t).last in ending-answers_nothing x.world.control x.world.events t.line x.plan (course-case w t)
 
 pub after_task-ends : (w : World) (t : Task) → EndsAnswered w t.line (after_task w t)
 after_task-ends w t =
     let x : Part = (course w t).last in
     let o : Onward w x.world = onward-last w t in
-    let e : EndsAnswered x.world t.line (after_plan x.world t.line x.plan) = after_plan-ends x.world t.line x.plan (modest-last w t) in
+    let e : EndsAnswered x.world t.line (after_plan x.world t.line x.plan) = after_plan-ends x.world t.line x.plan (answers_nothing-last w t) in
     record {
       before = o.added ++ e.before;
-      silent = silent-append o.added e.before o.silent e.silent;
+      silent = none-append o.added e.before o.silent e.silent;
       says = e.says;
       events = e.events ∙ ap (λ es. es ++ answer t.line e.says ∷ []) (ap (λ es. es ++ e.before) o.events ∙ append_assoc w.events o.added e.before);
     }
@@ -465,7 +399,7 @@ after_tasks-grows w (t ∷ tasks) =
 pub issued-task : (w : World) (t : Task) → (after_task w t).control.issued ≤ w.control.issued + 1
 issued-task w t =
     let x : Part = (course w t).last in
-    let m : Modest x.world.control x.plan = modest-last w t in
+    let m : AnswersNothing x.world.control x.plan = answers_nothing-last w t in
     let few : (x.plan.first x.world.control).issued ≤ w.control.issued + 1 = subst (λ n. (x.plan.first x.world.control).issued ≤ n + 1) (onward-last w t).stays.issued m.one in
     subst (λ n. n ≤ w.control.issued + 1) (sym (after_plan-stays x.world x.plan m t.line).issued) few
 

@@ -1,16 +1,13 @@
 -- Each kind of move keeps the queue: pending writes are those of their issues, and no list holds a later number.
-use Rattle.std.proofs.Common.{ℕ, ◌≡◌, ◌<◌, ◌+◌, refl, ap, sym, ◌∙◌, Bool, true, false, cond, List, [], ◌∷◌, ◌++◌, map, filter, subst, Option, None, Some}
+use Rattle.std.proofs.Common.{ℕ, ◌≡◌, ◌<◌, ◌+◌, refl, ap, sym, ◌∙◌, Bool, true, false, cond, List, [], ◌∷◌, ◌++◌, filter, subst, Option}
 use Rattle.std.proofs.lemmas.Bool.{eqb-true, eq-eqb, false≢true}
 use Rattle.std.specs.List.{fold}
 use Rattle.dr_logic.specs.Tables.{at}
 use Rattle.dr_model.specs.declared.event.Event.{Event}
-use Rattle.dr_model.specs.declared.event.Event.TheVariants.{Issue, Ack, Mirrored, Blanked, Restored, Stopped, Suspended, Begin, Cut}
+use Rattle.dr_model.specs.declared.event.Event.TheVariants.{Issue, Ack, Mirrored, Stopped}
 use Rattle.dr_model.specs.Histories.{Write, Histories, histories, after_event}
-use Rattle.dr_model.specs.Layout.{Tracks}
-use Rattle.dr_model.specs.Relations.{is_bare}
 use Rattle.dr_model.specs.Control.{Control, Pending, Fuse, Volume, World, is_volume}
-use Rattle.dr_model.specs.Pairs.{is_suspended}
-use Rattle.dr_model.specs.Moves.{Move, Land, Overwrite, Relate, Withdraw, Resync, Reverse, Restore, Release, Keep, Note, Fetch, Store, Strike, Suspend, MakeSecondary, MakePrimary, DropPrimary, DropSecondary, Follow, Resume, TakeOver, FallBack, Yield, Unsync, Mirror, LandBoth, Thaw, Lift, Restart, Hold, Free, Seal, Finish, RaiseAttempt, RaiseFloor, Leave, Flash, Commit, Revert, told_blank, told_restored, target, told, told_in_stop, settled, settled_in_stop, is_write, is_other, marked, landed, FlashHold, FlashFree, told_freed, Unstage}
+use Rattle.dr_model.specs.Moves.{Move, Land, Overwrite, LandBoth, target, told, told_in_stop, settled, settled_in_stop, is_write, is_other, marked, landed}
 use Rattle.dr_model.specs.Laws.{Lone, Together, servers, sizes, Below, Numbered, Queue, Waits, AllPending, Apart}
 use Rattle.dr_model.specs.Entries.{is_at}
 use Rattle.dr_model.specs.Allowed.{Coming, Ready}
@@ -18,6 +15,7 @@ use Rattle.dr_model.proofs.Images.{histories-append, Below-append}
 use Rattle.dr_laws_closed.proofs.Pendings.{each-on, all-filter}
 use Rattle.dr_facts.proofs.Tables.{at_cases}
 use Rattle.dr_facts.proofs.Heard.{OfEach, OfJoined, each-event}
+use Rattle.dr_facts.proofs.Emits.{Tag, Issues, Acks, Mirrors, Of, AllOf, of-append, each-told}
 use Rattle.dr_laws_sound.proofs.Turns.{done, done_in_stop}
 use Rattle.dr_logic.proofs.Tables.{at_same}
 
@@ -29,8 +27,18 @@ Quiet n (Mirrored w v) = w < n
 Quiet n e = Unit {0}
 
 abbrev pub AllQuiet : ℕ → List Event → Type 0
-AllQuiet n [] = Unit {0}
-AllQuiet n (e ∷ es) = Quiet n e × AllQuiet n es
+AllQuiet n es = AllOf (Quiet n) es
+
+-- kinds of events that issue no write, and add none to a list
+abbrev pub adds_none : Tag → Bool
+adds_none Issues = false
+adds_none Acks = false
+adds_none Mirrors = false
+adds_none k = true
+
+quiet-kind : (n : ℕ) (e : Event) → Of adds_none e → Quiet n e
+quiet-kind n (Ack w) h = absurd cc
+quiet-kind n e h = first_of (assumption, cc)
 
 -- the list with the write that an event adds
 joined-low : (n : ℕ) (h : Histories) (e : Event) → Quiet n e → Numbered n h → OfJoined (λ t ws. Below n ws) h e
@@ -55,10 +63,6 @@ numbered-fold n h (e ∷ es) quiet low = numbered-fold n (after_event h e) es qu
 write-fold : (n : ℕ) (h : Histories) (es : List Event) → AllQuiet n es → (fold after_event h es).write ≡ h.write
 write-fold n h [] quiet = refl
 write-fold n h (e ∷ es) quiet = write-fold n (after_event h e) es quiet.1 ∙ write-after n h e quiet.0
-
-quiet-append : (n : ℕ) (es fs : List Event) → AllQuiet n es → AllQuiet n fs → AllQuiet n (es ++ fs)
-quiet-append n [] fs p q = q
-quiet-append n (e ∷ es) fs p q = (p.0, quiet-append n es fs p.1 q)
 
 pub lone-on : (server other : ℕ → ℕ) → ((v : ℕ) → other v ≡ server v) → (ps : List Pending) → Lone server ps → Lone other ps
 lone-on server other same [] all = tt
@@ -195,79 +199,13 @@ module _ (starts : Option ℕ) (w : World) (old : Queue starts w) where
     marks-wait (p ∷ ps) coming all = mark-waits p (is_write m p) ps coming all.0 (λ c. marks-wait ps c all.1)
 
   -- what a move tells
-  blanks-quiet : (v : ℕ) (ts : List ℕ) → AllQuiet n (map (Blanked v) ts)
-  blanks-quiet v [] = tt
-  blanks-quiet v (t ∷ ts) = (tt, blanks-quiet v ts)
-
-  restored-quiet : (v s size : ℕ) (own : Tracks) → AllQuiet n (told_restored v s size own)
-  restored-quiet v s size own = by (is_bare own)
-    where
-      by : (b : Bool) → AllQuiet n (cond b (told_blank v size own ++ Restored s v ∷ []) [])
-      by true = quiet-append n (told_blank v size own) _ (blanks-quiet v _) (tt, tt)
-      by false = tt
-
   told-quiet : (m : Move) → Ready w m → AllQuiet n (told m (w.control.volume (target m)))
   told-quiet (Land k v t) ready = (ready.number, tt)
-  told-quiet (Overwrite k v t) ready = (ready.number, tt)
-  told-quiet (Withdraw v) ready = blanks-quiet v _
-  told-quiet (Reverse v None) ready = restored-quiet v _ _ _
-  told-quiet (Reverse v (Some p)) ready = (tt, restored-quiet v _ _ _)
-  told-quiet (Release v t) ready = restored-quiet v _ _ _
-  told-quiet (Keep v t) ready = (tt, tt)
-  told-quiet (Note v t) ready = tt
-  told-quiet (Flash v u a s i) ready = (tt, tt)
-  told-quiet (Commit v a s i) ready = (tt, tt)
-  told-quiet (Revert v a s i) ready = (tt, tt)
-  told-quiet (Relate v s c) ready = (tt, tt)
-  told-quiet (Fetch v t) ready = (tt, tt)
-  told-quiet (Resync v sequence) ready = (tt, tt)
-  told-quiet (Restore v t u) ready = (tt, tt)
-  told-quiet (Store v t u last) ready = (tt, tt)
-  told-quiet (Suspend v busy) ready = by (is_suspended (w.control.volume v).fields.primary_state)
-    where
-      by : (b : Bool) → AllQuiet n (cond b [] (Suspended v ∷ []))
-      by true = tt
-      by false = (tt, tt)
-  told-quiet (TakeOver v) ready = (tt, tt)
-  told-quiet (FallBack v more state) ready = tt
-  told-quiet (Yield v u kind state) ready = tt
-  told-quiet (Strike v t last) ready = tt
-  told-quiet (MakeSecondary v u kind state) ready = tt
-  told-quiet (MakePrimary v u kind state full) ready = tt
-  told-quiet (DropPrimary v) ready = tt
-  told-quiet (DropSecondary v) ready = tt
-  told-quiet (Follow v state) ready = tt
-  told-quiet (Resume v state) ready = tt
-  told-quiet (Unsync v t) ready = tt
-  told-quiet (Mirror v t u k) ready = (ready.number, tt)
-  told-quiet (LandBoth k v t) ready = (ready.number, tt)
-  told-quiet (Thaw v) ready = tt
-  told-quiet (FlashHold v) ready = (tt, tt)
-  told-quiet (FlashFree v) ready = (tt, tt)
-  told-quiet (Lift v) ready = by (w.control.volume v).fields.flash_hold
-    where
-      by : (b : Bool) → AllQuiet n (told_freed v b)
-      by true = (tt, tt)
-      by false = tt
-  told-quiet (Restart v) ready = tt
-  told-quiet (Hold v s i first) ready = by first
-    where
-      by : (b : Bool) → AllQuiet n (cond b (Begin s i ∷ Cut s i v ∷ []) (Cut s i v ∷ []))
-      by true = (tt, (tt, tt))
-      by false = (tt, tt)
-  told-quiet (Free v) ready = tt
-  told-quiet (Seal v u s i) ready = (tt, tt)
-  told-quiet (Finish v i) ready = tt
-  told-quiet (RaiseAttempt v i) ready = tt
-  told-quiet (RaiseFloor v i) ready = tt
-  told-quiet (Leave v u s) ready = (tt, tt)
-  told-quiet (Unstage v) ready = tt
+  told-quiet m ready = first_of (assumption, search (each-told adds_none (AllQuiet n) (record { none = tt; more = λ e es h behind. (quiet-kind n e h, behind) }) m (w.control.volume (target m))))
 
   stop-quiet : (m : Move) → Ready w m → AllQuiet n (told_in_stop m (w.control.volume (target m)))
   stop-quiet (Land k v t) ready = tt
-  stop-quiet (Overwrite k v t) ready = tt
-  stop-quiet (LandBoth k v t) ready = tt
-  stop-quiet m ready = told-quiet m ready
+  stop-quiet m ready = first_of (assumption, search (told-quiet m ready))
 
   -- a move leaves each volume its server
   same-server : (m : Move) (f : Option Fuse) (v : ℕ) → servers (done w m f).control v ≡ servers w.control v
@@ -320,6 +258,6 @@ module _ (starts : Option ℕ) (w : World) (old : Queue starts w) where
   queue-stop m f ready =
       let k : Control = (done_in_stop w m f).control in
       let u : Volume = w.control.volume (target m) in
-      queue-by k (told_in_stop m u ++ Stopped u.server (landed m) ∷ []) (done_in_stop w m f).contents (quiet-append n (told_in_stop m u) _ (stop-quiet m ready) (tt, tt)) refl
+      queue-by k (told_in_stop m u ++ Stopped u.server (landed m) ∷ []) (done_in_stop w m f).contents (of-append (Quiet n) (told_in_stop m u) _ (stop-quiet m ready) (tt, tt)) refl
       (λ write same. stop-waits k write (waits-on k write refl refl same (same-server m f) (same-size m f) (goes-off w.control.on u.server)) m ready (off-here m f))
       (stop-apart m ready).0 (lone-on (servers w.control) (servers k) (same-server m f) _ (stop-apart m ready).1)

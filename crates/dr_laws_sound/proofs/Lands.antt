@@ -92,8 +92,13 @@ held_back f = f.coordination || f.flash_hold
 pub not-back : (f : Fields) → held f ≡ false → held_back f ≡ false
 not-back f none =
     let parts = or_parts (f.coordination || f.long_busy) f.flash_hold none in
-    let first = or_parts f.coordination f.long_busy parts.0 in
-    λ i. first.0 i || parts.1 i
+    λ i. (or_parts f.coordination f.long_busy parts.0).0 i || parts.1 i
+
+pub not-busy : (f : Fields) → held f ≡ false → f.long_busy ≡ false
+not-busy f none = (or_parts f.coordination f.long_busy (or_parts (f.coordination || f.long_busy) _ none).0).1
+
+pub back-parts : (f : Fields) → held_back f ≡ false → (f.coordination ≡ false) × (f.flash_hold ≡ false)
+back-parts f = or_parts f.coordination f.flash_hold
 
 -- nothing is restored onto a volume
 abbrev pub Unrestored : World → ℕ → Type 0
@@ -137,7 +142,7 @@ module _ (w : World) (s : Sound w) (p : Pending) (one : filter (is_write p.w) w.
       let on_k : Runs k v = (λ i. st.on i (here i).server) ∙ on in
       let waits_k = waits k sk p one_k in
       let is_k : (fields_at k.control v).related ≡ false = ap (λ (x : Volume). x.fields.related) here ∙ is in
-      let back = or_parts (fields_at k.control v).coordination (fields_at k.control v).flash_hold (ap (λ (x : Volume). held_back x.fields) here ∙ open_to) in
+      let back = back-parts (fields_at k.control v) (ap (λ (x : Volume). held_back x.fields) here ∙ open_to) in
       decides k (land_on p.w v p.track) [] (Do (Make (Land p.w v p.track))) (ap (λ b. Do (Make (cond b (Overwrite p.w v p.track) (Land p.w v p.track)))) is_k) (
         record { runs = on_k; allowed = record { low = waits_k.low; defined = waits_k.defined; plain = choose_none _ _ is_k; first = ap (λ (x : Volume). is_part x.fields.secondary) here ∙ free; kept = kept; free = back.0; let_go = back.1; sent = λ r. ap (λ (x : Volume). contains x.fields.out_of_sync p.track) here ∙ sent (ap (λ (x : Volume). x.fields.recording) (sym here) ∙ r) }; fits = tt; group = tt; ready = may-ack k sk p one_k on_k },
         λ f j. over _ j,
@@ -150,7 +155,7 @@ module _ (w : World) (s : Sound w) (p : Pending) (one : filter (is_write p.w) w.
       let related : from w v ≡ Some f.source = choose_some f.related f.source is in
       copy-none w v p.track _ (λ u h. none_some (s.rows.structure.flash u v h).plain related)
       (decides w (land_on p.w v p.track) [] (Do (Make (Overwrite p.w v p.track))) (ap (λ b. Do (Make (cond b (Overwrite p.w v p.track) (Land p.w v p.track)))) is) (
-        record { runs = on; allowed = record { low = (waits w s p one).low; from = f.source; related = related; forward = forward; settled = settled; let_go = (or_parts f.coordination f.flash_hold open_to).1 }; fits = tt; group = ((s.rows.structure.flags v).persists, uncounted-by w.control s.attempts v (λ t. false_true writable t.inhibits)); ready = may-ack w s p one on },
+        record { runs = on; allowed = record { low = (waits w s p one).low; from = f.source; related = related; forward = forward; settled = settled; let_go = (back-parts f open_to).1 }; fits = tt; group = ((s.rows.structure.flags v).persists, uncounted-by w.control s.attempts v (λ t. false_true writable t.inhibits)); ready = may-ack w s p one on },
         λ f j. over _ j,
       )) w.control.volumes
 

@@ -17,17 +17,19 @@
 --   by `KeepsParts.antt`, `KeepsPairs.antt`; plans on pairs by `FitsPairs.antt` and `FitsFailover.antt`, host writes by `FitsWrites.antt`,
 --   freeze, thaw and expiry by `FitsHolds.antt` (`Steps.antt`)
 -- - a step tells no more than it has room for: `Costs n w entries` counts what acts tell where they come: `carry-adds`,
---   `after_plan-adds` (`Costs.antt`, `CopyCosts.antt`, `PairCosts.antt`, `WriteCosts.antt` (`Brief n`: at most n entries of
---   one event each), `Spends.antt`)
+--   `after_plan-adds` (`Costs.antt`, `CopyCosts.antt`, `PairCosts.antt`, `Spends.antt`); an act tells two events at most, but for
+--   those of steps that may tell of each track (`does-tells`), so most plans go by how many entries they have (`EntryLengths.antt`)
 -- - a step adds to the journal, its answer last: `after_task-ends`, `after_tasks-grows` (`Journal.antt`)
 -- - no more writes are issued than there are steps: `issued-run` (`Journal.antt`)
 -- - no count of the flight is above the number of events: `counted-run`, and of a plan before masters are lost `counted-plan`
 --   (`FlightCounts.antt`): a plan raises a count by one at most, and tells its answer; a master is lost where a stop was told, too
 -- - the text of a journal comes piece by piece: `text-append`, `ends-reset` (`Texts.antt`)
--- - E21 comes exactly where the acts told a stop: `carry-tells`, `case-calm` (`StopsTold.antt`, `CalmPlans.antt`)
--- - a step with another refusal leaves what `Leaves` names: entries that end no plan are `Endless`; where checks come before them,
---   nothing was done (`ChecksFirst.antt`, `RefusedPlans.antt`); host writes, drains, orders and recoveries by `RefusedWrites.antt`,
---   each step by `plan-left` (`RefusedSteps.antt`), an `@run` and whole runs by `RefusedRuns.antt`
+-- - which acts each step comes to is `Does` (`Does.antt`), by `case-does` (`DoesPlans.antt`): what goes by acts is proved of it, with a clause for
+--   each kind of act that the law asks of, and not of each plan
+-- - E21 comes exactly where the acts told a stop: `carry-tells`, `ending-tells` (`StopsTold.antt`)
+-- - a step with another refusal leaves what `Leaves` names: entries that end no plan are `NeverRefuse`; where checks come before them,
+--   nothing was done (`ChecksFirst.antt`, `RefusedPlans.antt`: `case-leaves_world`); steps that leave more where they are refused (`leaves_more`) by
+--   `RefusedWrites.antt` and `step-left` (`RefusedSteps.antt`), an `@run` and whole runs by `RefusedRuns.antt`
 -- - what sessions and records of volumes say together (numbers differ, one place for a volume, who records, the master's
 --   server and phase): fields `groups` and `housed` of `SoundBut`, each kind of change by `dr_laws_sessions`; plans by
 --   `FitsSessions.antt`, `FitsMembers.antt`, `FitsOrders.antt`, `FitsExchanges.antt`, `FitsMessages.antt`, `FitsRecovery.antt`
@@ -74,7 +76,10 @@
 --   member that can go back and of one that can't. `TablesGo.antt` has a lemma for each change of the table of sessions.
 -- - **A set of numbers below n has no more than n** (`len-low`, `Spends.antt`): by `len-remove` and `same_set`.
 pub mod Listed
+pub mod PlanReasons
 pub mod Cases
+pub mod Does
+pub mod DoesPlans
 pub mod Turns
 pub mod Due
 pub mod RowsAfter
@@ -127,15 +132,13 @@ pub mod FlightCounts
 pub mod Costs
 pub mod CopyCosts
 pub mod PairCosts
-pub mod WriteCosts
-pub mod SessionCosts
+pub mod EntryLengths
 pub mod Spends
 pub mod Limits
 pub mod Texts
 pub mod Agree
 pub mod ReadStops
 pub mod StopsTold
-pub mod Endless
 pub mod ChecksFirst
 pub mod RefusedPlans
 pub mod RefusedWrites
@@ -143,9 +146,8 @@ pub mod RefusedSteps
 pub mod RefusedRuns
 pub mod RefusedExamples
 pub mod TurnedExample
-pub mod CalmPlans
-pub mod Hushed
-pub mod HushedPlans
+pub mod Unacknowledged
+pub mod AcknowledgingSteps
 pub mod Acknowledged
 pub mod Shows
 pub mod Unissued

@@ -23,7 +23,7 @@ use Rattle.dr_laws_sound.specs.Limits.{IsWithin}
 use Rattle.dr_laws_sound.proofs.Cases.{Case}
 use Rattle.dr_laws_sound.proofs.Parts.{Comes, plain-case, last-plan}
 use Rattle.dr_laws_sound.proofs.Steps.{sound-part}
-use Rattle.dr_laws_sound.proofs.Journal.{Stays, few-lost, Onward, Modest, after_plan-stays, onward-part, onward-last, modest-last}
+use Rattle.dr_laws_sound.proofs.Journal.{Stays, few-lost, Onward, AnswersNothing, after_plan-stays, onward-part, onward-last, answers_nothing-last}
 use Rattle.dr_laws_sound.proofs.Spends.{after_plan-adds, after_part-adds, case-spends}
 
 -- every run is within the limits
@@ -42,7 +42,7 @@ within-onward w u o h = within-stays w.control u.control o.stays h
 pub within-task : (w : World) (t : Task) → IsWithin w.control → IsWithin (after_task w t).control
 within-task w t h =
     let x : Part = (course w t).last in
-    let m : Modest x.world.control x.plan = modest-last w t in
+    let m : AnswersNothing x.world.control x.plan = answers_nothing-last w t in
     within-stays (x.plan.first x.world.control) (after_task w t).control (let e = after_plan-stays x.world x.plan m t.line in record { servers = e.servers; tracks = e.tracks; volumes = e.volumes; issued = e.issued; pending = e.pending; sessions = few-lost x.world (after_plan x.world t.line x.plan) (x.plan.first x.world.control) e.sessions }) (m.within (within-onward w x.world (onward-last w t) h))
 
 pub within-tasks : (w : World) (tasks : List Task) → IsWithin w.control → IsWithin (after_tasks w tasks).control
@@ -68,7 +68,7 @@ Roomy w = Sound w × (IsWithin w.control × (length w.events < most_events))
 
 roomy-part : (w : World) (p : Plan) → Comes w p → Roomy w → Roomy (after_part w p)
 roomy-part w p comes (s, (h, lt)) =
-    let adds : length (after_part w p).events + 1 ≤ length w.events + step_events = after_part-adds w p (case-spends w s h 0 p (comes.case 0)) in
+    let adds : length (after_part w p).events + 1 ≤ length w.events + step_events = after_part-adds w p (case-spends w s h 0 comes.asked p (comes.case 0)) in
     let left : length w.events + step_events ≤ most_events = has-room (length w.events) comes.room in
     (sound-part w p comes s, (within-onward w (after_part w p) (onward-part w p comes) h, omega arith))
   where
@@ -89,9 +89,9 @@ last-room w t = by (own_course t.asked)
         compared-room true is = inl is
         compared-room false is = inr (_, refl)
 
-fits-room : (w : World) (line : ℕ) (p : Plan) → Case w.control w.events line p → Sound w → IsWithin w.control → has_room w.events ≡ true → length (after_plan w line p).events ≤ most_events
-fits-room w line p case s h room =
-    let adds : length (after_plan w line p).events ≤ length w.events + step_events = after_plan-adds w line p (case-spends w s h line p case) in
+fits-room : (w : World) (line : ℕ) (asked : Result Step ℕ) (p : Plan) → Case w.control w.events line asked p → Sound w → IsWithin w.control → has_room w.events ≡ true → length (after_plan w line p).events ≤ most_events
+fits-room w line asked p case s h room =
+    let adds : length (after_plan w line p).events ≤ length w.events + step_events = after_plan-adds w line p (case-spends w s h line asked p case) in
     let left : length w.events + step_events ≤ most_events = grind (arith, nat_tests, room) in omega arith
 
 fits-says : (w : World) (line : ℕ) (p : Plan) (a : Said) → p ≡ only_says a → length w.events < most_events → length (after_plan w line p).events ≤ most_events
@@ -127,7 +127,7 @@ journal-fits w t lists s h lt = by (own_course t.asked) refl
         let x : Part = (course w t).last in
         let r : Roomy x.world = last-plan Roomy roomy-part w t (s, (h, lt)) in
         elim (last-room w t other) [
-          | inl room ↦ fits-room x.world t.line x.plan (plain-case w t other) r.0 r.1.0 room
+          | inl room ↦ fits-room x.world t.line t.asked x.plan (plain-case w t other) r.0 r.1.0 room
           | inr says ↦ fits-says x.world t.line x.plan says.0 says.1 r.1.1
         ]
 

@@ -4,7 +4,7 @@ use Rattle.std.specs.List.{flat_map, fold, list_any}
 use Rattle.std.proofs.lemmas.List.{length-append, length-map}
 use Rattle.dr_ids.specs.declared.names.Member.{Member}
 use Rattle.dr_model.specs.declared.event.Event.{Event}
-use Rattle.dr_model.specs.declared.event.Event.TheVariants.{Begin, PairLine, FlashLine, SessionLine, MirrorLine, ImageStart, ImageVolume, ImageBlock, ImageEnd}
+use Rattle.dr_model.specs.declared.event.Event.TheVariants.{PairLine, FlashLine, SessionLine, MirrorLine, ImageStart, ImageVolume, ImageBlock, ImageEnd}
 use Rattle.dr_model.specs.Histories.{Histories, histories, after_event}
 use Rattle.dr_model.specs.HeldWrites.{is_answer}
 use Rattle.dr_model.specs.Layout.{Fields, is_part}
@@ -22,7 +22,8 @@ use Rattle.dr_laws_cuts.specs.Once.{NoCuts}
 use Rattle.dr_laws_closed.specs.Silent.{AllStill}
 use Rattle.dr_laws_sessions.proofs.Members.{session-few as of-session}
 use Rattle.dr_laws_sound.specs.Acknowledged.{acknowledgements}
-use Rattle.dr_laws_sound.proofs.Hushed.{mirrors, cuts_any}
+use Rattle.dr_laws_sound.proofs.Unacknowledged.{mirrors, cuts_any}
+use Rattle.dr_facts.proofs.Emits.{Tag, Begins, Of, AllOf}
 use Rattle.dr_laws_sound.proofs.KeepsQueue.{AllQuiet}
 
 -- a line of a listing or of an image
@@ -72,14 +73,13 @@ lines-unheard (e ∷ es) h ls = lines-unheard es (after_event h e) ls.1 ∙ line
 pub lines-lists : (events es : List Event) → AllLines es → histories (events ++ es) ≡ histories events
 lines-lists events es ls = histories-append events es ∙ lines-unheard es (histories events) ls
 
--- no attempt begins by an event, nor by a list of such
-abbrev pub NoBegin : Event → Type 0
-NoBegin (Begin s n) = ⊥
-NoBegin e = Unit {0}
+-- no attempt begins by these events
+abbrev pub begins_none : Tag → Bool
+begins_none Begins = false
+begins_none k = true
 
 abbrev pub NoBegins : List Event → Type 0
-NoBegins [] = Unit {0}
-NoBegins (e ∷ es) = NoBegin e × NoBegins es
+NoBegins es = AllOf (Of begins_none) es
 
 -- no answer is among them, nothing is acknowledged, mirrored, cut or begun, and no group hears of them
 pub record Plain (es : List Event) : Type 0 where
@@ -93,14 +93,14 @@ pub record Plain (es : List Event) : Type 0 where
   pub begins : NoBegins es
 
 one-plain : (e : Event) (es : List Event) → IsLine e → Plain es → Plain (e ∷ es)
-one-plain (PairLine line v u state kind k) es l p = record { silent = p.silent; none = p.none; plain = p.plain; uncut = p.uncut; quiet = λ n. (tt, p.quiet n); cuts = (tt, p.cuts); still = (tt, p.still); begins = (tt, p.begins) }
-one-plain (FlashLine line s t sequence previous state flags own) es l p = record { silent = p.silent; none = p.none; plain = p.plain; uncut = p.uncut; quiet = λ n. (tt, p.quiet n); cuts = (tt, p.cuts); still = (tt, p.still); begins = (tt, p.begins) }
-one-plain (SessionLine line s a b c state) es l p = record { silent = p.silent; none = p.none; plain = p.plain; uncut = p.uncut; quiet = λ n. (tt, p.quiet n); cuts = (tt, p.cuts); still = (tt, p.still); begins = (tt, p.begins) }
-one-plain (MirrorLine line s server phase n paused) es l p = record { silent = p.silent; none = p.none; plain = p.plain; uncut = p.uncut; quiet = λ n. (tt, p.quiet n); cuts = (tt, p.cuts); still = (tt, p.still); begins = (tt, p.begins) }
-one-plain ImageStart es l p = record { silent = p.silent; none = p.none; plain = p.plain; uncut = p.uncut; quiet = λ n. (tt, p.quiet n); cuts = (tt, p.cuts); still = (tt, p.still); begins = (tt, p.begins) }
-one-plain (ImageVolume v server tracks) es l p = record { silent = p.silent; none = p.none; plain = p.plain; uncut = p.uncut; quiet = λ n. (tt, p.quiet n); cuts = (tt, p.cuts); still = (tt, p.still); begins = (tt, p.begins) }
-one-plain (ImageBlock v index bytes) es l p = record { silent = p.silent; none = p.none; plain = p.plain; uncut = p.uncut; quiet = λ n. (tt, p.quiet n); cuts = (tt, p.cuts); still = (tt, p.still); begins = (tt, p.begins) }
-one-plain ImageEnd es l p = record { silent = p.silent; none = p.none; plain = p.plain; uncut = p.uncut; quiet = λ n. (tt, p.quiet n); cuts = (tt, p.cuts); still = (tt, p.still); begins = (tt, p.begins) }
+one-plain (PairLine line v u state kind k) es l p = record { silent = p.silent; none = p.none; plain = p.plain; uncut = p.uncut; quiet = λ n. (tt, p.quiet n); cuts = (tt, p.cuts); still = (tt, p.still); begins = (refl, p.begins) }
+one-plain (FlashLine line s t sequence previous state flags own) es l p = record { silent = p.silent; none = p.none; plain = p.plain; uncut = p.uncut; quiet = λ n. (tt, p.quiet n); cuts = (tt, p.cuts); still = (tt, p.still); begins = (refl, p.begins) }
+one-plain (SessionLine line s a b c state) es l p = record { silent = p.silent; none = p.none; plain = p.plain; uncut = p.uncut; quiet = λ n. (tt, p.quiet n); cuts = (tt, p.cuts); still = (tt, p.still); begins = (refl, p.begins) }
+one-plain (MirrorLine line s server phase n paused) es l p = record { silent = p.silent; none = p.none; plain = p.plain; uncut = p.uncut; quiet = λ n. (tt, p.quiet n); cuts = (tt, p.cuts); still = (tt, p.still); begins = (refl, p.begins) }
+one-plain ImageStart es l p = record { silent = p.silent; none = p.none; plain = p.plain; uncut = p.uncut; quiet = λ n. (tt, p.quiet n); cuts = (tt, p.cuts); still = (tt, p.still); begins = (refl, p.begins) }
+one-plain (ImageVolume v server tracks) es l p = record { silent = p.silent; none = p.none; plain = p.plain; uncut = p.uncut; quiet = λ n. (tt, p.quiet n); cuts = (tt, p.cuts); still = (tt, p.still); begins = (refl, p.begins) }
+one-plain (ImageBlock v index bytes) es l p = record { silent = p.silent; none = p.none; plain = p.plain; uncut = p.uncut; quiet = λ n. (tt, p.quiet n); cuts = (tt, p.cuts); still = (tt, p.still); begins = (refl, p.begins) }
+one-plain ImageEnd es l p = record { silent = p.silent; none = p.none; plain = p.plain; uncut = p.uncut; quiet = λ n. (tt, p.quiet n); cuts = (tt, p.cuts); still = (tt, p.still); begins = (refl, p.begins) }
 one-plain e es l p = absurd l
 
 pub lines-plain : (es : List Event) → AllLines es → Plain es

@@ -1,5 +1,8 @@
 -- The plans of one step, one after another: each begins where the one before it ended. What each of them keeps, a step keeps.
-use Rattle.std.proofs.Common.{ℕ, zero, suc, ◌≡◌, ◌⊎◌, inl, inr, refl, sym, subst, Bool, true, false, cond, List, [], ◌∷◌, ◌++◌, Option, Some, None, nat_eq}
+use Rattle.std.proofs.Common.{ℕ, zero, suc, ◌≡◌, ◌⊎◌, inl, inr, refl, sym, subst, Bool, true, false, cond, List, [], ◌∷◌, ◌++◌, Option, Some, None, nat_eq, Result, Ok}
+use Rattle.dr_model.specs.declared.step.Name.{Name}
+use Rattle.dr_model.specs.declared.step.Step.TheVariants.{Drain, Exchange}
+use Rattle.dr_model.specs.declared.step.Step.{Step}
 use Rattle.dr_ids.specs.declared.names.Member.{Member}
 use Rattle.dr_ids.specs.declared.refusal.PhaseName.{PhaseName}
 use Rattle.dr_ids.specs.declared.refusal.PhaseName.TheVariants as phase
@@ -20,25 +23,35 @@ use Rattle.dr_model.specs.SessionEntries.{members_on}
 use Rattle.dr_model.specs.SessionPlans.{asking, exchange_on, exchange_done, exchange_refusal, order_of}
 use Rattle.dr_model.specs.Sessions.{Session, Mirror, session_in, mirror_in, members_in}
 use Rattle.dr_model.specs.Plans.{drain_plan, has_room, has_room_for, compare_plan}
-use Rattle.dr_model.specs.Forming.{Part, Way, stays, ends, goes_on, unless_refused, after_part, part_refusal, part, drains, is_draining, ask, next_asked, master_in, phase_in, has_committed, still_left, turn_by, turns, most_turns, form_refusal, form_in, formed}
+use Rattle.dr_model.specs.Forming.{Part, Way, stays, ends, goes_on, unless_refused, after_part, part_refusal, part, drains, is_draining, ask, next_asked, master_in, phase_in, has_committed, still_left, turn_by, turns, most_turns, form_refusal, form_in, formed, form_answer}
 use Rattle.dr_model.specs.Runs.{Task, own_course, course_of, course, plans_of, OwnCourse, Groups, Volumes, Devices, compared, image_plan, imaged}
-use Rattle.dr_laws_sound.proofs.Cases.{Case, Says, Drains, on-case, plan-case, Compares}
-use Rattle.dr_laws_sound.proofs.HushedPlans.{HushedPlan, drain-hush, exchange-hush}
+use Rattle.dr_logic.proofs.Options.{none_some}
+use Rattle.dr_laws_sound.proofs.Cases.{Case, Says, Drains, on-case, plan-case, Compares, NotHeld, refused-not}
+use Rattle.dr_laws_sound.proofs.AcknowledgingSteps.{acknowledges, phase-not}
 
 -- the drain of a primary, or what a master asks of a server
 pub data IsTurn : Control → Plan → Type 0 where
   Drained : (k : Control) → (a : ℕ) → IsTurn k (drain_plan k a None)
   Asked : (k : Control) → (s server : ℕ) → (m : Option Mirror) → (ms : List Member) → IsTurn k (exchange_on k s m server true ms)
 
+-- the steps that ask for such plans
+abbrev pub asks_turn : Result Step ℕ → Bool
+asks_turn (Ok (Drain a most)) = true
+asks_turn (Ok (Exchange s name reply)) = true
+asks_turn asked = false
+
 -- A plan that isn't the last one of its step: the journal has room for it, its tables change and its journal is told by its entries
 -- alone, and it acknowledges no write.
 pub record Comes (w : World) (p : Plan) : Type 0 where
   pub turn : IsTurn w.control p
   pub room : has_room w.events ≡ true
-  pub case : (line : ℕ) → Case w.control w.events line p
+  pub asked : Result Step ℕ
+  pub asks : asks_turn asked ≡ true
+  pub case : (line : ℕ) → Case w.control w.events line asked p
   pub first : (k : Control) → p.first k ≡ k
   pub told : p.told ≡ []
-  pub hushed : HushedPlan p
+  pub other : acknowledges asked ≡ false
+  pub one : own_course asked ≡ None
 
 -- such plans lead from a world to another
 pub data Goes : World → List Part → World → Type 0 where
@@ -83,18 +96,22 @@ plain-exchange k s server (Some r) ms = plain-unless (exchange_refusal k r serve
     of None = record { first = λ k. refl; told = refl }
     of (Some o) = record { first = λ k. refl; told = refl }
 
+-- the server of an exchange of an `@run` is no name of a line
+unnamed : Name
+unnamed = record { len = 0; bytes = [] }
+
 -- the plans of an `@run`
 pub comes-drain : (w : World) (a : ℕ) → has_room w.events ≡ true → Comes w (drain_plan w.control a None)
-comes-drain w a room = record { turn = Drained w.control a; room = room; case = λ line. Drains a None; first = λ k. refl; told = refl; hushed = drain-hush w.control a None }
+comes-drain w a room = record { turn = Drained w.control a; room = room; asked = Ok (Drain a None); asks = refl; case = λ line. Drains a None; first = λ k. refl; told = refl; other = refl; one = refl }
 
 pub comes-asking : (w : World) (s server : ℕ) → has_room w.events ≡ true → Comes w (asking w.control s server true)
 comes-asking w s server room = by (session_in w.control.sessions s) refl
   where
     by : (o : Option Session) → session_in w.control.sessions s ≡ o → Comes w (exchange_on w.control s (mirror_in o) server true (members_in o))
-    by None none = record { turn = Asked w.control s server None []; room = room; case = λ line. Says (Refused (OutOfOrder phase.None)); first = λ k. refl; told = refl; hushed = exchange-hush w.control s server None true [] }
+    by None none = record { turn = Asked w.control s server None []; room = room; asked = Ok (Exchange s unnamed true); asks = refl; case = λ line. Says (Refused (OutOfOrder phase.None)) (refused-not _) (λ one. refl); first = λ k. refl; told = refl; other = refl; one = refl }
     by (Some x) there =
         let plain : Plain (exchange_on w.control s x.mirror server true x.members) = plain-exchange w.control s server x.mirror x.members in
-        record { turn = Asked w.control s server x.mirror x.members; room = room; case = λ line. on-case w.control w.events line s server true x x.mirror there refl; first = plain.first; told = plain.told; hushed = exchange-hush w.control s server x.mirror true x.members }
+        record { turn = Asked w.control s server x.mirror x.members; room = room; asked = Ok (Exchange s unnamed true); asks = refl; case = λ line. on-case w.control w.events line s server true x x.mirror there refl; first = plain.first; told = plain.told; other = refl; one = refl }
 
 -- What holds of a way that has no plan, of one that has one plan, and of one that goes on, holds of the whole line.
 pub record Ways (P : World → Way → Type 0) : Type 0 where
@@ -178,7 +195,7 @@ course-goes w t = by (own_course t.asked)
 
 -- what the last plan of a step comes to: a plan of the step table, or an image
 pub data Ending (k : Control) (events : List Event) (line : ℕ) : Plan → Type 0 where
-  OnePlan : (p : Plan) → Case k events line p → Ending k events line p
+  OnePlan : (asked : Result Step ℕ) (p : Plan) → Case k events line asked p → Ending k events line p
   Imaged : (vs : List Volume) → Ending k events line (image_plan vs)
 
 -- what a part comes to, as a plan of a step
@@ -186,39 +203,43 @@ abbrev pub EndingOf : ℕ → Part → Type 0
 EndingOf line x = Ending x.world.control x.world.events line x.plan
 
 -- a comparison, where the journal has room
-pub compared-case : (w : World) (line v u : ℕ) → Case w.control w.events line (compared w v u)
-compared-case w line v u = by (has_room w.events)
+pub compared-case : (w : World) (line : ℕ) (asked : Result Step ℕ) (v u : ℕ) → Case w.control w.events line asked (compared w v u)
+compared-case w line asked v u = by (has_room w.events)
   where
-    by : (room : Bool) → Case w.control w.events line (cond room (compare_plan w.control w.contents v u) (refuses JournalFull))
+    by : (room : Bool) → Case w.control w.events line asked (cond room (compare_plan w.control w.contents v u) (refuses JournalFull))
     by true = Compares w.contents v u
-    by false = Says _
+    by false = Says (Refused JournalFull) (refused-not _) (λ one. refl)
 
 -- an image, where the journal has room
-pub imaged-case : (w : World) (line : ℕ) (vs : List Volume) → Ending w.control w.events line (imaged w vs)
-imaged-case w line vs = by (has_room_for image_events w.events)
+pub imaged-case : (w : World) (line : ℕ) (asked : Result Step ℕ) (vs : List Volume) → Ending w.control w.events line (imaged w vs)
+imaged-case w line asked vs = by (has_room_for image_events w.events)
   where
     by : (room : Bool) → Ending w.control w.events line (cond room (image_plan vs) (refuses JournalFull))
     by true = Imaged vs
-    by false = OnePlan _ (Says _)
+    by false = OnePlan asked _ (Says (Refused JournalFull) (refused-not _) (λ one. refl))
+
+pub formed-not : (s : ℕ) (ss : List Session) (r : Option Refusal) → NotHeld (form_answer s ss r)
+formed-not s ss None = phase-not (session_in ss s)
+formed-not s ss (Some r) = refused-not r
 
 pub course-case : (w : World) (t : Task) → EndingOf t.line (course w t).last
-course-case w t = by (own_course t.asked)
+course-case w t = by (own_course t.asked) refl
   where
-    by : (o : Option OwnCourse) → EndingOf t.line (course_of w t o).last
-    by None = OnePlan _ (plan-case w.control w.events t.line t.asked)
-    by (Some (Groups s n)) = OnePlan _ (Says _)
-    by (Some (Volumes v u)) = OnePlan _ (compared-case w t.line v u)
-    by (Some Devices) = imaged-case w t.line t.listed
+    by : (o : Option OwnCourse) → own_course t.asked ≡ o → EndingOf t.line (course_of w t o).last
+    by None is = OnePlan t.asked _ (plan-case w.control w.events t.line t.asked)
+    by (Some (Groups s n)) is = OnePlan t.asked _ (Says _ (formed-not s _ _) (λ one. none_some one is))
+    by (Some (Volumes v u)) is = OnePlan t.asked _ (compared-case w t.line t.asked v u)
+    by (Some Devices) is = imaged-case w t.line t.asked t.listed
 
 -- a step that is no image ends in a plan of the step table
-pub plain-case : (w : World) (t : Task) → (own_course t.asked ≡ Some Devices → ⊥) → let x : Part = (course w t).last in Case x.world.control x.world.events t.line x.plan
-plain-case w t = by (own_course t.asked)
+pub plain-case : (w : World) (t : Task) → (own_course t.asked ≡ Some Devices → ⊥) → let x : Part = (course w t).last in Case x.world.control x.world.events t.line t.asked x.plan
+plain-case w t = by (own_course t.asked) refl
   where
-    by : (o : Option OwnCourse) → (o ≡ Some Devices → ⊥) → let x : Part = (course_of w t o).last in Case x.world.control x.world.events t.line x.plan
-    by None other = plan-case w.control w.events t.line t.asked
-    by (Some (Groups s n)) other = Says _
-    by (Some (Volumes v u)) other = compared-case w t.line v u
-    by (Some Devices) other = absurd (other refl)
+    by : (o : Option OwnCourse) → own_course t.asked ≡ o → (o ≡ Some Devices → ⊥) → let x : Part = (course_of w t o).last in Case x.world.control x.world.events t.line t.asked x.plan
+    by None is other = plan-case w.control w.events t.line t.asked
+    by (Some (Groups s n)) is other = Says _ (formed-not s _ _) (λ one. none_some one is)
+    by (Some (Volumes v u)) is other = compared-case w t.line t.asked v u
+    by (Some Devices) is other = absurd (other refl)
 
 in-either : {A : Type 0} (x y : A) (xs : List A) → In x (xs ++ y ∷ []) → In x xs ⊎ (x ≡ y)
 in-either x y [] (inl is) = inr is
@@ -232,7 +253,7 @@ in-either x y (z ∷ zs) (inr there) = elim (in-either x y zs there) [
 -- what each plan but the last keeps holds as each plan begins
 pub each-plan : (K : World → Type 0) → ((w : World) (p : Plan) → Comes w p → K w → K (after_part w p)) → (w : World) (t : Task) → K w → (x : Part) → In x (plans_of w t) → K x.world × EndingOf t.line x
 each-plan K keeps w t k x h = elim (in-either x (course w t).last (course w t).before h) [
-  | inl before ↦ let b = goes-each K keeps w _ _ (course-goes w t) k x before in (b.holds, OnePlan _ (b.comes.case t.line))
+  | inl before ↦ let b = goes-each K keeps w _ _ (course-goes w t) k x before in (b.holds, OnePlan b.comes.asked _ (b.comes.case t.line))
   | inr is ↦ subst (λ x. K x.world × EndingOf t.line x) (sym is) (goes-keep K keeps w _ _ (course-goes w t) k, course-case w t)
 ]
 

@@ -25,7 +25,9 @@ use Rattle.dr_model.specs.PlantImage.{Volume as ListedVolume}
 use Rattle.dr_laws_sound.specs.Stops.{refused_stop}
 use Rattle.dr_laws_sound.specs.RefusedSteps.{HasFormed, Stays, Drains, Asks, DrainEnds, AskEnds, StaysRefused, RefusedStay}
 use Rattle.dr_laws_sound.proofs.ChecksFirst.{on-stays}
-use Rattle.dr_laws_sound.proofs.RefusedPlans.{Refuses, still-says, phase-accepts, Still, still-choice, still-tables, still-compare}
+use Rattle.dr_laws_sound.proofs.RefusedPlans.{Refuses, LeavesWorld, leaves_world-says, never-refused, phase-accepts, case-leaves_world}
+use Rattle.dr_laws_sound.proofs.AcknowledgingSteps.{if-plan}
+use Rattle.dr_laws_sound.proofs.Parts.{compared-case}
 use Rattle.dr_laws_sound.proofs.RefusedWrites.{drain-left, asking-left}
 use Rattle.dr_laws_sound.proofs.RefusedSteps.{step-left, lost-stays, after-refused, one-stays}
 
@@ -129,7 +131,7 @@ run-stays : (w : World) (line : ℕ) (vs : List ListedVolume) (s n : ℕ) → St
 run-stays w line vs s n r e other =
     let x : Way = formed w s n in
     let p : Plan = only_says (form_said s x.world.control x.refusal) in
-    let same : (carried_out x.world p).0 ≡ x.world = still-says (form_said s x.world.control x.refusal) x.world r (record { says = e; other = other }) in
+    let same : (carried_out x.world p).0 ≡ x.world = leaves_world-says x.world (form_said s x.world.control x.refusal) r (record { says = e; other = other }) in
     record {
       left = x.world;
       leaves = (refl, (ran-formed s w n).ends r (way-refused s x r e) other);
@@ -140,22 +142,22 @@ run-stays w line vs s n r e other =
 compare-stays : (w : World) (line : ℕ) (vs : List ListedVolume) (v u : ℕ) → StaysRefused w (record { line = line; asked = Ok (Compare v u); listed = vs })
 compare-stays w line vs v u r e other =
     let p : Plan = compared w v u in
-    let still : Still p = still-choice (has_room w.events) _ _ (still-compare w.control w.contents v u) (still-says _) in
-    let same : (carried_out w p).0 ≡ w = still w r (record { says = e; other = other }) in
+    let still : LeavesWorld w p = case-leaves_world w line (Ok (Compare v u)) p (compared-case w line (Ok (Compare v u)) v u) refl in
+    let same : (carried_out w p).0 ≡ w = still r (record { says = e; other = other }) in
     record { left = w; leaves = refl; after = after-refused w line p r e (ap (λ (x : World). x.control.on) same) ∙ ap (λ x. said x line (Refused r)) same }
 
 -- an image
 image-stays : (w : World) (line : ℕ) (vs : List ListedVolume) → StaysRefused w (record { line = line; asked = Ok Image; listed = vs })
 image-stays w line vs r e other =
     let p : Plan = imaged w vs in
-    let still : Still p = still-choice (has_room_for image_events w.events) _ _ (still-tables _ _ _) (still-says _) in
-    let same : (carried_out w p).0 ≡ w = still w r (record { says = e; other = other }) in
+    let still : LeavesWorld w p = if-plan (LeavesWorld w) (λ q. leaves_world-says w (Refused q)) (has_room_for image_events w.events) _ _ (never-refused w _ (λ k. refl) refl) (leaves_world-says w (Refused JournalFull)) in
+    let same : (carried_out w p).0 ≡ w = still r (record { says = e; other = other }) in
     record { left = w; leaves = refl; after = after-refused w line p r e (ap (λ (x : World). x.control.on) same) ∙ ap (λ x. said x line (Refused r)) same }
 
 -- each step
 asked-stays : (w : World) (line : ℕ) (vs : List ListedVolume) (asked : Result Step ℕ) → StaysRefused w (record { line = line; asked = asked; listed = vs })
 asked-stays w line vs (Err column) r e other =
-    let x = one-stays w line (Err column) (only_says (Refused (Syntax column))) refl (still-says (Refused (Syntax column)) w) r (record { says = e; other = other }) in
+    let x = one-stays w line (Err column) (only_says (Refused (Syntax column))) refl (leaves_world-says w (Refused (Syntax column))) r (record { says = e; other = other }) in
     record { left = x.0; leaves = x.1.0; after = x.1.1 }
 asked-stays w line vs (Ok (Run s n)) r e other = run-stays w line vs s n r e other
 asked-stays w line vs (Ok (Compare v u)) r e other = compare-stays w line vs v u r e other

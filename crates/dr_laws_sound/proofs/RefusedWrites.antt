@@ -1,5 +1,5 @@
 -- What a host write, a drain, an exchange and a recovery leave that are refused, but by the stop of a server.
-use Rattle.std.proofs.Common.{ℕ, suc, ◌+◌, ◌≡◌, ◌⊎◌, inl, inr, refl, ap, sym, ◌∙◌, subst, append_assoc, take, drop, not, Bool, true, false, cond, ◌||◌, List, [], ◌∷◌, ◌++◌, Option, Some, None, nat_le, nat_lt, length}
+use Rattle.std.proofs.Common.{ℕ, suc, ◌+◌, ◌≡◌, ◌⊎◌, inl, inr, refl, ap, sym, ◌∙◌, subst, append_assoc, take, drop, not, Bool, true, false, cond, ◌||◌, List, [], ◌∷◌, ◌++◌, Option, Some, None, nat_le, nat_lt, length, ◌&&◌, nat_eq}
 use Rattle.std.specs.Prelude.{is_some, option_map}
 use Rattle.std.specs.List.{find}
 use Rattle.std.specs.Option.{option_or}
@@ -22,11 +22,11 @@ use Rattle.dr_model.specs.Refusals.{unknown, over, server_off}
 use Rattle.dr_model.specs.Phases as phases
 use Rattle.dr_model.specs.Sessions.{Session, Mirror, session_in, mirror_in, members_in}
 use Rattle.dr_model.specs.Moves.{is_write, Suspend}
-use Rattle.dr_model.specs.Carry.{Make, Drop, Pass, Do, End, Entry, Outcome, carry, check, dropped}
-use Rattle.dr_model.specs.Entries.{fields_at, is_running, relation_state, pair_state, is_no_secondary, is_open, is_settled, drop_unless, check_or_drop, copy_first, keep_on}
+use Rattle.dr_model.specs.Carry.{Make, Drop, Pass, Do, End, Entry, Outcome, carry, check, dropped, Next}
+use Rattle.dr_model.specs.Entries.{fields_at, is_running, relation_state, pair_state, is_no_secondary, is_open, is_settled, drop_unless, check_or_drop, copy_first}
 use Rattle.dr_model.specs.PairEntries.{end_if, reach_refusal, send_refusal, flashed_refusal, suspend_where, refuse_if, store_on, strike_on, send_entries, sends, tracks_to_send, is_copying}
 use Rattle.dr_model.specs.WriteEntries.{landing, land_entries, waits, says_written}
-use Rattle.dr_model.specs.SessionEntries.{member_entries, members_on, order_entries, hold_refusal, stale_refusal, hold_on, void_refusal, free_on, seal_refusal, seal_on, flash_refusal, flash_on, commit_refusal, commit_on, revert_on, finish_on, is_flashed}
+use Rattle.dr_model.specs.SessionEntries.{member_entries, members_on, order_entries, hold_refusal, stale_refusal, hold_on, void_refusal, free_on, is_drained, is_committed, is_past, seal_refusal, seal_on, flash_refusal, flash_on, commit_refusal, commit_on, revert_on, finish_on, is_flashed}
 use Rattle.dr_model.specs.Messages.{Message, Body, Asks, Replies, message_in}
 use Rattle.dr_model.specs.MessagePlans.{on_message, order_refusal, order_done, order_on, reply_refusal, reply_on, deliver_on, deliver_plan}
 use Rattle.dr_model.specs.SessionPlans.{asking, off_refusal, exchange_refusal, exchange_on, exchange_done, exchange_plan, order_of}
@@ -39,9 +39,11 @@ use Rattle.dr_model.proofs.CarryLemmas.{onward, carry-none, carry-first, carry-s
 use Rattle.dr_facts.proofs.Lists.{found}
 use Rattle.dr_laws_sound.specs.Stops.{refused_stop}
 use Rattle.dr_laws_sound.specs.RefusedSteps.{is_by_volume, is_off, with_issued, let_go, HasSent, HasCarriedOrder, HasOrdered, HasDelivered, NamedOrdered, Leaves}
-use Rattle.dr_laws_sound.proofs.Endless.{Endless, none-endless, pass-goes, do-goes, choice-goes, keep-goes, last-endless, then-endless, append-endless, map-endless, lands-endless, recover-endless}
-use Rattle.dr_laws_sound.proofs.ChecksFirst.{ChecksFirst, first-done, first-refuse, never-leads, blocks-leave}
-use Rattle.dr_laws_sound.proofs.RefusedPlans.{Refuses, entries-refuse, same-begun, still-says, never-refused, phase-accepts}
+use Rattle.dr_laws_sound.proofs.ChecksFirst.{never, any_act, NeverRefuse, ChecksFirst, first-done, first-refuse, never-leads, blocks-leave}
+use Rattle.dr_model.specs.Pairs.{records}
+use Rattle.dr_facts.proofs.Entries.{any_world, Fine, fine-none, fine-then, fine-one, fine-append, fine-if}
+use Rattle.dr_facts.proofs.SharedEntries.{where-fine, copies-fine, lands-fine, recover-fine}
+use Rattle.dr_laws_sound.proofs.RefusedPlans.{Refuses, entries-refuse, same-begun, leaves_world-says, never-refused, phase-accepts}
 use Rattle.dr_laws_sound.proofs.Cases.{taken}
 
 -- ---- what refuses a plan before its entries
@@ -52,7 +54,7 @@ refuses-with w q r says = cc
 
 -- a plan that is only a refusal leaves the world
 pub says-left : (w : World) (q r : Refusal) (P : World → Type 0) → (q ≡ r → P w) → Refuses w (refuses q) r → P (carried_out w (refuses q)).0
-says-left w q r P stays refused = subst P (sym (still-says (Refused q) w r refused)) (stays (refuses-with w q r refused.says))
+says-left w q r P stays refused = subst P (sym (leaves_world-says w (Refused q) r refused)) (stays (refuses-with w q r refused.says))
 
 pub unless-left : (w : World) (o : Option Refusal) (p : Plan) (r : Refusal) (P : World → Type 0) → ((q : Refusal) → o ≡ Some q → q ≡ r → P w) → (Refuses w p r → P (carried_out w p).0) → Refuses w (unless o p) r → P (carried_out w (unless o p)).0
 unless-left w None p r P stays goes refused = goes refused
@@ -112,7 +114,7 @@ module _ (k : Control) (n v t : ℕ) (w u : World) (r : Refusal) (other : refuse
   settled-left : carry w (check_or_drop n (is_settled v) (relation_state k v) ++ land_entries k n v t) ≡ (u, Some r) → Dropped w u n r
   settled-left leads = elim (drop-left w u n (is_settled v) (relation_state k v) r (land_entries k n v t) refl leads) [
     | inl a ↦ refused-place (relation_state k v) refl a.0 a.1
-    | inr b ↦ never-leads w u (land_entries k n v t) r (lands-endless k n v t) b other
+    | inr b ↦ never-leads w u (land_entries k n v t) r (lands-fine any_world any_act never (λ u t w any. tt) (λ u t w any. tt) k n v t (λ free. record { land = λ w any. tt; over = λ w any. tt; suspend = λ busy w any. tt; unsync = λ w any. tt; mirror = λ over w any. tt; both = λ w any. tt; store = λ met last w any. tt; strike = λ met last w any. tt })) b other
   ]
 
   open-left : carry w (check_or_drop n (is_open v) (Inhibited (record { 0 = v })) ++ (check_or_drop n (is_settled v) (relation_state k v) ++ land_entries k n v t)) ≡ (u, Some r) → Dropped w u n r
@@ -232,11 +234,11 @@ module _ (volumes : List ℕ) (a b : ℕ) where
   abbrev one_sent : ℕ → List Entry
   one_sent t = refuse_if (send_refusal a b) ∷ refuse_if (flashed_refusal b) ∷ copy_first volumes b t ++ store_on a b t ∷ strike_on a t ∷ []
 
-  one-endless : (t : ℕ) → Endless (copy_first volumes b t ++ store_on a b t ∷ strike_on a t ∷ [])
-  one-endless t = append-endless (copy_first volumes b t) _ (map-endless (keep_on b t) (keep-goes b t) volumes) (then-endless (store_on a b t) _ (λ k. do-goes _) (last-endless (strike_on a t) (λ k. do-goes _)))
+  one-never : (t : ℕ) → NeverRefuse (copy_first volumes b t ++ store_on a b t ∷ strike_on a t ∷ [])
+  one-never t = fine-append any_world any_act never (copy_first volumes b t) _ (copies-fine any_world any_act never (λ u t w any. tt) (λ u t w any. tt) volumes b t) (fine-then any_world any_act never (store_on a b t) _ (λ w any. tt) (fine-one any_world any_act never (strike_on a t) (λ w any. tt)))
 
-  suspends-endless : Endless suspends
-  suspends-endless = last-endless (suspend_where (send_refusal a b) a) (λ k. choice-goes (is_some (send_refusal a b k)) (Do (Make (Suspend a false))) Pass (do-goes _) pass-goes)
+  suspends-never : NeverRefuse suspends
+  suspends-never = fine-one any_world any_act never (suspend_where (send_refusal a b) a) (where-fine any_world any_act never (λ k. is_some (send_refusal a b k)) (Make (Suspend a false)) (λ w any so. tt))
 
   -- why the send of a track is refused
   abbrev why_not : Control → Option Refusal
@@ -247,7 +249,7 @@ module _ (volumes : List ℕ) (a b : ℕ) where
     | inl x ↦ (x.0, ap (λ o. option_or o (flashed_refusal b w.control)) x.1)
     | inr x ↦ elim (refuse-left w u (flashed_refusal b) r _ x.1) [
       | inl y ↦ (y.0, ap (λ o. option_or o (flashed_refusal b w.control)) x.0 ∙ y.1)
-      | inr y ↦ never-leads w u (copy_first volumes b t ++ store_on a b t ∷ strike_on a t ∷ []) r (one-endless t) y.1 other
+      | inr y ↦ never-leads w u (copy_first volumes b t ++ store_on a b t ∷ strike_on a t ∷ []) r (one-never t) y.1 other
     ]
   ]
 
@@ -264,7 +266,7 @@ module _ (volumes : List ℕ) (a b : ℕ) where
       by (v, None) is h =
           let x = one-refused t v u r h other in
           record { tracks = 0; leads = is ∙ ap (λ v. (v, None)) (sym x.0); refuses = ap (λ (z : World). why_not z.control) x.0 ∙ x.1 }
-      by (v, Some q) is h = never-leads w u suspends r suspends-endless (is ∙ h) other
+      by (v, Some q) is h = never-leads w u suspends r suspends-never (is ∙ h) other
 
   sends-left : (ts : List ℕ) (w u : World) (r : Refusal) → carry w (sends volumes a b ts) ≡ (u, Some r) → refused_stop (Some r) ≡ None → SentSome ts r w u
   sends-left [] w u r leads other = let h : None ≡ Some r = ap (λ (o : Outcome). o.1) (sym (carry-none w) ∙ leads) in absurd cc
@@ -312,15 +314,22 @@ drain-left w a most r refused =
 
 -- ---- orders
 
+-- an entry that refuses nothing
+first-last : (d : Entry) → ((w : World) → any_world w → Fine any_world any_act never w (d w.control)) → ChecksFirst (d ∷ [])
+first-last d goes = first-done (d ∷ []) (fine-one any_world any_act never d goes)
+
+passes : (w : World) (b : Bool) (x y : Next) → Fine any_world any_act never w x → Fine any_world any_act never w y → Fine any_world any_act never w (cond b x y)
+passes = fine-if any_world any_act never
+
 member-first : (work : phases.Work) (s n : ℕ) (m : Member) → ChecksFirst (member_entries work s n m)
-member-first phases.Hold s n m = first-refuse (hold_refusal m.a.0 m.b.0) _ (first-refuse (stale_refusal m.a.0 n) _ (first-done _ (last-endless (hold_on s m.a.0 n) (λ k. choice-goes _ Pass _ pass-goes (do-goes _)))))
-member-first phases.Release s n m = first-refuse (void_refusal m.a.0 n) _ (first-done _ (last-endless (free_on m.a.0) (λ k. choice-goes _ _ Pass (do-goes _) pass-goes)))
-member-first phases.Seal s n m = first-refuse (void_refusal m.a.0 n) _ (first-refuse (seal_refusal m.a.0 m.b.0) _ (first-done _ (last-endless (seal_on s m.a.0 m.b.0 n) (λ k. choice-goes _ _ Pass (do-goes _) pass-goes))))
-member-first phases.Finish s n m = first-done _ (last-endless (finish_on m.a.0 n) (λ k. choice-goes _ Pass _ pass-goes (do-goes _)))
-member-first phases.Flash s n m = first-refuse (send_refusal m.a.0 m.b.0) _ (first-refuse (flash_refusal m.b.0 m.c.0 n) _ (first-done _ (last-endless (flash_on s m.a.0 m.b.0 m.c.0 n) (λ k. choice-goes _ Pass _ pass-goes (do-goes _)))))
-member-first phases.Commit s n m = first-refuse (send_refusal m.a.0 m.b.0) _ (first-refuse (commit_refusal m.c.0 n) _ (first-done _ (last-endless (commit_on s m.a.0 m.c.0 n) (λ k. choice-goes _ Pass _ pass-goes (do-goes _)))))
-member-first phases.Revert s n m = first-refuse (send_refusal m.a.0 m.b.0) _ (first-done _ (last-endless (revert_on s m.a.0 m.c.0 n) (λ k. choice-goes (is_flashed n (fields_at k m.c.0)) _ _ (do-goes _) (choice-goes (nat_lt (fields_at k m.c.0).floor n) _ Pass (do-goes _) pass-goes))))
-member-first phases.Report s n m = first-refuse (reach_refusal m.a.0 m.b.0) [] (first-done [] none-endless)
+member-first phases.Hold s n m = first-refuse (hold_refusal m.a.0 m.b.0) _ (first-refuse (stale_refusal m.a.0 n) _ (first-last (hold_on s m.a.0 n) (λ w any. passes w (records n (fields_at w.control m.a.0)) Pass _ tt tt)))
+member-first phases.Release s n m = first-refuse (void_refusal m.a.0 n) _ (first-last (free_on m.a.0) (λ w any. passes w (fields_at w.control m.a.0).coordination _ Pass tt tt))
+member-first phases.Seal s n m = first-refuse (void_refusal m.a.0 n) _ (first-refuse (seal_refusal m.a.0 m.b.0) _ (first-last (seal_on s m.a.0 m.b.0 n) (λ w any. passes w (is_drained m.a.0 w.control && not (nat_eq (fields_at w.control m.b.0).seal n)) _ Pass tt tt)))
+member-first phases.Finish s n m = first-last (finish_on m.a.0 n) (λ w any. passes w (is_past n (fields_at w.control m.a.0)) Pass _ tt tt)
+member-first phases.Flash s n m = first-refuse (send_refusal m.a.0 m.b.0) _ (first-refuse (flash_refusal m.b.0 m.c.0 n) _ (first-last (flash_on s m.a.0 m.b.0 m.c.0 n) (λ w any. passes w (is_flashed n (fields_at w.control m.c.0)) Pass _ tt tt)))
+member-first phases.Commit s n m = first-refuse (send_refusal m.a.0 m.b.0) _ (first-refuse (commit_refusal m.c.0 n) _ (first-last (commit_on s m.a.0 m.c.0 n) (λ w any. passes w (is_committed n (fields_at w.control m.c.0)) Pass _ tt tt)))
+member-first phases.Revert s n m = first-refuse (send_refusal m.a.0 m.b.0) _ (first-last (revert_on s m.a.0 m.c.0 n) (λ w any. passes w (is_flashed n (fields_at w.control m.c.0)) _ _ tt (passes w (nat_lt (fields_at w.control m.c.0).floor n) _ Pass tt tt)))
+member-first phases.Report s n m = first-refuse (reach_refusal m.a.0 m.b.0) [] (first-done [] (fine-none any_world any_act never))
 
 -- by the session that was looked up
 carried-left : (w u : World) (s server : ℕ) (order : phases.Order) (r : Refusal) (o : Option Session) → session_in w.control.sessions s ≡ o → carry w (order_entries order.work s order.number (members_on server (members_in o))) ≡ (u, Some r) → refused_stop (Some r) ≡ None
@@ -403,7 +412,7 @@ module _ (w : World) (n : ℕ) (r : Refusal) where
     reply-left : (reply : phases.Reply) (o : Option Mirror) → Refuses w (reply_on w.control m reply o) r → Delivering (carried_out w (reply_on w.control m reply o)).0
     reply-left reply None refused = says-left w (OutOfOrder phase.None) r Delivering (λ e. inl refl) refused
     reply-left reply (Some q) refused = unless-left w (reply_refusal w.control q m) (taken m reply) r Delivering (λ e is same. inl refl)
-        (λ refused. inl (never-refused (taken m reply) (λ k. phase-accepts (session_in k.sessions m.session)) refl w r refused)) refused
+        (λ refused. inl (never-refused w (taken m reply) (λ k. phase-accepts (session_in k.sessions m.session)) refl r refused)) refused
 
     body-left : (b : Body) → Refuses w (deliver_on w.control m x b) r → Delivering (carried_out w (deliver_on w.control m x b)).0
     body-left (Asks starts) refused = unless-left w (off_refusal w.control m.server) (order_on w.control m starts x.members x.mirror) r Delivering (λ e is same. inl refl) (order-left starts x.mirror) refused
@@ -441,7 +450,7 @@ module _ (w : World) (s : ℕ) (r : Refusal) where
     done-left (u, None) leads e =
         subst (λ q. Leaves w (Ok (Recover s)) q u) (group-refuses (decided_in s w.control) (group_of (decided_in s u.control)) e)
         (ap (λ found. carry w (recover_entries s (decided_in s w.control) (members_in found))) here ∙ leads)
-    done-left (u, Some q) leads e = let is : q ≡ r = cc in never-leads w u p.entries q (recover-endless s (decided_in s w.control) x.members) leads (ap (λ r. refused_stop (Some r)) is ∙ other)
+    done-left (u, Some q) leads e = let is : q ≡ r = cc in never-leads w u p.entries q (recover-fine any_world any_act never s (decided_in s w.control) x.members (λ m v any is. tt) (λ m here n v any. tt) (λ m here n v any. tt) (λ n v any. tt)) leads (ap (λ r. refused_stop (Some r)) is ∙ other)
 
     recovered-left : part_refusal w p ≡ Some r → Recovering (carried_out w p).0
     recovered-left e =

@@ -1,5 +1,6 @@
 -- A law on the rows of volumes and on the journal that each act keeps rides along every step, and so along every run.
-use Rattle.std.proofs.Common.{ℕ, zero, suc, ◌≡◌, ◌≢◌, ◌⊎◌, ◌<◌, ◌+◌, inl, inr, refl, ap, sym, ◌∙◌, subst, Bool, true, false, cond, not, List, [], ◌∷◌, ◌++◌, length, take, nat_eq, Option, Some, None}
+use Rattle.std.proofs.Common.{ℕ, zero, suc, ◌≡◌, ◌≢◌, ◌⊎◌, ◌<◌, ◌+◌, inl, inr, refl, ap, sym, ◌∙◌, subst, Bool, true, false, cond, not, List, [], ◌∷◌, ◌++◌, length, take, nat_eq, Option, Some, None, Result}
+use Rattle.dr_model.specs.declared.step.Step.{Step}
 use Rattle.std.specs.Prelude.{◌==◌}
 use Rattle.std.proofs.lemmas.List.{append-nil}
 use Rattle.std.specs.List.{list_any}
@@ -275,13 +276,13 @@ module _ (K : World → Type 0) (rider : Rider K) where
         by (inl idle) = subst (λ b. Posted i server o b K) (sym (idle-is r.master.phase idle)) (first idle (subst (λ b. Posted i server o b Sound) (idle-is r.master.phase idle) (sound-sent w s i server x r o posts)))
         by (inr busy) = subst (λ b. Posted i server o b K) (sym (busy-is r.master.phase busy)) (later busy (subst (λ b. Posted i server o b Sound) (busy-is r.master.phase busy) (sound-sent w s i server x r o posts)))
 
-    case-rides : (p : Plan) → Case w.control w.events line p → Carried p
-    case-rides _ (Says a) = tables same [] (always a) begins
-    case-rides _ (DefinesServer name free) = tables _ _ _ (event w _ (ServerDefined (length w.control.servers) name.len name.bytes) k refl (tt, tt) (tt, tt) (tt, tt) (histories-append w.events _) refl refl refl refl refl refl refl)
-    case-rides _ (DefinesVolume v x tracks here free) = tables _ _ _ (rider.defines w s v x tracks here (is-new w.control v x tracks free).undefined k)
-    case-rides _ (SetsLink a b up) = tables _ _ _ (silently w _ k refl refl refl refl refl refl refl refl)
-    case-rides _ (Issues v t offset len bytes free) = let there = (may-issue w.control v t free).0 in tables _ _ _ (rider.issues w s v t offset len bytes there.defined there.low k)
-    case-rides _ (Writes v t offset len bytes free) =
+    case-rides : (asked : Result Step ℕ) (p : Plan) → Case w.control w.events line asked p → Carried p
+    case-rides _ _ (Says a waits why) = tables same [] (always a) begins
+    case-rides _ _ (DefinesServer name free) = tables _ _ _ (event w _ (ServerDefined (length w.control.servers) name.len name.bytes) k refl (tt, tt) (tt, tt) (refl, tt) (histories-append w.events _) refl refl refl refl refl refl refl)
+    case-rides _ _ (DefinesVolume v x tracks here free) = tables _ _ _ (rider.defines w s v x tracks here (is-new w.control v x tracks free).undefined k)
+    case-rides _ _ (SetsLink a b up) = tables _ _ _ (silently w _ k refl refl refl refl refl refl refl refl)
+    case-rides _ _ (Issues v t offset len bytes free) = let there = (may-issue w.control v t free).0 in tables _ _ _ (rider.issues w s v t offset len bytes there.defined there.low k)
+    case-rides _ _ (Writes v t offset len bytes free) =
         let there = (may-issue w.control v t free).0 in
         let first : World = issued w s v t offset len bytes there.defined there.low in
         let sound : Sound first = sound-issued w s v t offset len bytes there.defined there.low in
@@ -296,7 +297,7 @@ module _ (K : World → Type 0) (rider : Rider K) where
           adds = λ v i. none-added v;
           goes = λ v i. goes-same v.control;
         }) (rider.issues w s v t offset len bytes there.defined there.low k) (λ v e k. k)
-    case-rides _ (Applies n p found) =
+    case-rides _ _ (Applies n p found) =
         moves (apply_done w.control p) (record {
           ends = Sound;
           complete = λ v i. i;
@@ -308,12 +309,12 @@ module _ (K : World → Type 0) (rider : Rider K) where
           adds = λ v i. none-added v;
           goes = λ v i. goes-same v.control;
         }) begins (λ v e k. k)
-    case-rides _ (Lists told ls few) = rides-lines told ls
-    case-rides _ (Shows v t there) = tables _ _ _ (event w _ (Shown line v t (image_at w.events v t)) k refl (tt, tt) (tt, tt) (tt, tt) (histories-append w.events _) refl refl refl refl refl refl refl)
-    case-rides _ (Stops x on) = tables _ _ _ (event w _ (Stopped x 0) k refl (tt, tt) (tt, tt) (tt, tt) (histories-append w.events _) refl refl refl refl refl refl refl)
-    case-rides _ (Arms writes torn x) = tables _ _ _ (silently w _ k refl refl refl refl refl refl refl refl)
-    case-rides _ (Starts x off) =
-        let begun = event w _ (Started x) k refl (tt, tt) (tt, tt) (tt, tt) (histories-append w.events _) refl refl refl refl refl refl refl in
+    case-rides _ _ (Lists told ls few) = rides-lines told ls
+    case-rides _ _ (Shows v t there) = tables _ _ _ (event w _ (Shown line v t (image_at w.events v t)) k refl (tt, tt) (tt, tt) (refl, tt) (histories-append w.events _) refl refl refl refl refl refl refl)
+    case-rides _ _ (Stops x on) = tables _ _ _ (event w _ (Stopped x 0) k refl (tt, tt) (tt, tt) (refl, tt) (histories-append w.events _) refl refl refl refl refl refl refl)
+    case-rides _ _ (Arms writes torn x) = tables _ _ _ (silently w _ k refl refl refl refl refl refl refl refl)
+    case-rides _ _ (Starts x off) =
+        let begun = event w _ (Started x) k refl (tt, tt) (tt, tt) (refl, tt) (histories-append w.events _) refl refl refl refl refl refl refl in
         record {
           holds = plan-rides Sound RowsAt K MayDo w (start_plan w.control x) (start-hold x w s) (rider.start_acts x) begun (λ v e k. k) keeps-sound rider.acts;
           moments = moments-ride Sound RowsAt K MayDo w (start_plan w.control x) (start-hold x w s) (rider.start_acts x) begun (λ v e k. k) keeps-sound rider.acts;
@@ -323,64 +324,64 @@ module _ (K : World → Type 0) (rider : Rider K) where
           stops = λ q u v m ends at. absurd (none-comes u v m at);
           gone = λ armed u r e. inr (λ q. refl);
         }
-    case-rides _ (MakesFlash dev v t freeze choices) = entries _ _ (along-flash w s dev v t freeze choices)
-    case-rides _ (RemovesFlash dev v t) = entries _ _ (along-withdraw w s dev v t)
-    case-rides _ (ResyncsFlash dev v t sequence) = entries _ _ (along-resync w s dev v t sequence)
-    case-rides _ (ReversesFlash dev v t) = entries _ _ (along-reverse w s dev v t)
-    case-rides _ (Copies t most) = entries _ _ (along-copy w s t most)
-    case-rides _ (Destages v) = entries _ _ (along-destage w s v)
-    case-rides _ (MakesPath src tgt group) = tables _ _ _ (silently w _ k refl refl refl refl refl refl refl refl)
-    case-rides _ (RemovesPath src tgt) = tables _ _ _ (silently w _ k refl refl refl refl refl refl refl refl)
-    case-rides _ (MakesPair devs a b kind choices part) = entries _ _ (along-pair w s devs a b kind choices part)
-    case-rides _ (RemovesPair devs a b source_only) = entries _ _ (along-remove w s devs a b source_only)
-    case-rides _ (PausesPair devs a b) = entries _ _ (along-pause w s devs a b)
-    case-rides _ (ResumesPair devs a b kind) = entries _ _ (along-resume w s devs a b kind)
-    case-rides _ (FailsOver devs b a kind) = entries _ _ (along-failover w s devs b a kind)
-    case-rides _ (FailsBack devs x y kind) = entries _ _ (along-failback w s devs x y kind)
-    case-rides _ (Compares contents v u) = entries _ _ (along-compare w s contents v u)
-    case-rides _ (Drains a most) =
+    case-rides _ _ (MakesFlash dev v t freeze choices) = entries _ _ (along-flash w s dev v t freeze choices)
+    case-rides _ _ (RemovesFlash dev v t) = entries _ _ (along-withdraw w s dev v t)
+    case-rides _ _ (ResyncsFlash dev v t sequence) = entries _ _ (along-resync w s dev v t sequence)
+    case-rides _ _ (ReversesFlash dev v t) = entries _ _ (along-reverse w s dev v t)
+    case-rides _ _ (Copies t most) = entries _ _ (along-copy w s t most)
+    case-rides _ _ (Destages v) = entries _ _ (along-destage w s v)
+    case-rides _ _ (MakesPath src tgt group) = tables _ _ _ (silently w _ k refl refl refl refl refl refl refl refl)
+    case-rides _ _ (RemovesPath src tgt) = tables _ _ _ (silently w _ k refl refl refl refl refl refl refl refl)
+    case-rides _ _ (MakesPair devs a b kind choices part) = entries _ _ (along-pair w s devs a b kind choices part)
+    case-rides _ _ (RemovesPair devs a b source_only) = entries _ _ (along-remove w s devs a b source_only)
+    case-rides _ _ (PausesPair devs a b) = entries _ _ (along-pause w s devs a b)
+    case-rides _ _ (ResumesPair devs a b kind) = entries _ _ (along-resume w s devs a b kind)
+    case-rides _ _ (FailsOver devs b a kind) = entries _ _ (along-failover w s devs b a kind)
+    case-rides _ _ (FailsBack devs x y kind) = entries _ _ (along-failback w s devs x y kind)
+    case-rides _ _ (Compares contents v u) = entries _ _ (along-compare w s contents v u)
+    case-rides _ _ (Drains a most) =
         moves (drain_plan w.control a most) (record { ends = Sound; complete = λ v i. i; begins = sound-begun w s; entries = along-drain w s a most; follows = λ q v i. suspends-after a q v i; last = λ v i. i; turns = λ v i. regroups-same v.control.sessions; adds = λ v i. none-added v; goes = λ v i. goes-same v.control }) begins (λ v e k. k)
-    case-rides _ (Expires x on) = entries _ _ (lifts x w.control.volumes (as_begun w) (sound-begun w s) on)
-    case-rides _ (Freezes l m) = entries _ _ (freezes l m w.control.volumes (as_begun w) (sound-begun w s))
-    case-rides _ (Unfreezes l m) = entries _ _ (thaws l m w.control.volumes (as_begun w) (sound-begun w s))
-    case-rides _ (Releases l) = entries _ _ (releases l w.control.volumes (as_begun w) (sound-begun w s))
-    case-rides _ (MakesSession l i free) = sessions (joined i l) (λ k. k.flight) _ (groups-joined w.control i l s.groups) (with-joined w.control s.groups s.attempts i l) (flights-joined w.control s.flights s.groups i l) (regroups-joined w.control.sessions s.groups.once i l) (none-added w) (goes-joined w.control s.groups i l)
-    case-rides _ (RemovesSession l i x found free) = sessions (left i l) (λ k. messages.left i l x k.flight) _ (groups-left w.control i l x s.groups found free) (with-left w.control s.groups s.attempts i l x found free) (flights-left w.control s.flights s.groups i l x found free) (regroups-left w.control.sessions s.groups.once i l)
+    case-rides _ _ (Expires x on) = entries _ _ (lifts x w.control.volumes (as_begun w) (sound-begun w s) on.1)
+    case-rides _ _ (Freezes l m) = entries _ _ (freezes l m w.control.volumes (as_begun w) (sound-begun w s))
+    case-rides _ _ (Unfreezes l m) = entries _ _ (thaws l m w.control.volumes (as_begun w) (sound-begun w s))
+    case-rides _ _ (Releases l) = entries _ _ (releases l w.control.volumes (as_begun w) (sound-begun w s))
+    case-rides _ _ (MakesSession l i free) = sessions (joined i l) (λ k. k.flight) _ (groups-joined w.control i l s.groups) (with-joined w.control s.groups s.attempts i l) (flights-joined w.control s.flights s.groups i l) (regroups-joined w.control.sessions s.groups.once i l) (none-added w) (goes-joined w.control s.groups i l)
+    case-rides _ _ (RemovesSession l i x found free) = sessions (left i l) (λ k. messages.left i l x k.flight) _ (groups-left w.control i l x s.groups found free) (with-left w.control s.groups s.attempts i l x found free) (flights-left w.control s.flights s.groups i l x found free) (regroups-left w.control.sessions s.groups.once i l)
         (adds-fewer w.control.sessions w.control.flight (messages.left i l x w.control.flight) (left-fewer i l x w.control.flight)) (goes-left w.control s.groups i l x (left-fewer i l x w.control.flight))
-    case-rides _ (MakesMirror owner i x found free l owned) =
+    case-rides _ _ (MakesMirror owner i x found free l owned) =
         let at = owned-volume w.control l owner owned in
         sessions (changed i (mirrored_by owner)) (λ k. messages.raised i k.flight) _ (groups-mirrored w.control i owner x s.groups found (no-maker x.mirror free) at.volume at.defined at.server)
         (with-mirrored w.control s.groups s.attempts i owner x found (no-maker x.mirror free)) (flights-mirrored w.control s.groups s.attempts s.flights i owner x found (no-maker x.mirror free)) (regroups-mirrored w.control.sessions s.groups.once i owner)
         (adds-same w.control.sessions w.control.flight (messages.raised i w.control.flight) refl) (goes-mirrored w.control s.groups i owner)
-    case-rides _ (PausesMirror i on) = sessions (changed i (paused on)) (λ k. k.flight) _ (groups-paused w.control i on s.groups) (with-paused w.control s.groups s.attempts i on) (flights-paused w.control s.groups s.attempts s.flights i on) (regroups-paused w.control.sessions s.groups.once i on) (none-added w) (goes-paused w.control s.groups i on)
-    case-rides _ (RemovesMirror i x found free) = sessions (changed i unmirrored) (λ k. k.flight) _ (groups-unmirrored w.control i x s.groups found free) (with-unmirrored w.control s.groups s.attempts i x found free) (flights-unmirrored w.control s.groups s.attempts s.flights i x found free) (regroups-unmirrored w.control.sessions s.groups.once i) (none-added w) (goes-unmirrored w.control s.groups i)
-    case-rides _ (Aborts i x found free) = sessions (changed i (with_master phases.aborted)) (λ k. messages.aborted i x.mirror k.flight) _ (groups-aborted w.control i s.groups) (with-aborted w.control s.groups s.attempts i) (flights-aborted w.control s.groups s.attempts s.flights i x found) (regroups-aborted w.control.sessions s.groups.once i)
+    case-rides _ _ (PausesMirror i on) = sessions (changed i (paused on)) (λ k. k.flight) _ (groups-paused w.control i on s.groups) (with-paused w.control s.groups s.attempts i on) (flights-paused w.control s.groups s.attempts s.flights i on) (regroups-paused w.control.sessions s.groups.once i on) (none-added w) (goes-paused w.control s.groups i on)
+    case-rides _ _ (RemovesMirror i x found free) = sessions (changed i unmirrored) (λ k. k.flight) _ (groups-unmirrored w.control i x s.groups found free) (with-unmirrored w.control s.groups s.attempts i x found free) (flights-unmirrored w.control s.groups s.attempts s.flights i x found free) (regroups-unmirrored w.control.sessions s.groups.once i) (none-added w) (goes-unmirrored w.control s.groups i)
+    case-rides _ _ (Aborts i x found free) = sessions (changed i (with_master phases.aborted)) (λ k. messages.aborted i x.mirror k.flight) _ (groups-aborted w.control i s.groups) (with-aborted w.control s.groups s.attempts i) (flights-aborted w.control s.groups s.attempts s.flights i x found) (regroups-aborted w.control.sessions s.groups.once i)
         (adds-same w.control.sessions w.control.flight (messages.aborted i x.mirror w.control.flight) (aborted-messages i x.mirror w.control.flight)) (goes-aborted w.control s.groups s.attempts s.flights i x found (aborted-messages i x.mirror w.control.flight))
-    case-rides _ (AddsMember i a c x joins) =
+    case-rides _ _ (AddsMember i a c x joins) =
         let o = orders-added w s i a c x joins in
         turned (added w.control i x (member_with w.control a c)) (λ v. refl) o begins
-    case-rides _ (RemovesMember i a x m found is idle on) =
+    case-rides _ _ (RemovesMember i a x m found is idle on) =
         let o = orders-expelled w s i a x m found is idle on in
         turned (expelled i m) (λ v. refl) o begins
-    case-rides _ (Recovers i x found on) = moves _ (record { ends = Sound; complete = λ v y. y; begins = sound-begun w s; entries = along-recover w s i x found on; follows = λ q v y. over v y; last = λ v y. y; turns = λ v y. regroups-same v.control.sessions; adds = λ v y. none-added v; goes = λ v y. goes-same v.control }) begins (λ v e k. k)
-    case-rides _ (Settles i x m found here on free) = entries _ _ (along-settle w s i x found on free m here)
-    case-rides _ (Loses n) = sessions (λ ss. ss) (λ k. messages.lost n k.flight) _ s.groups s.attempts (flights-dropped w.control n s.flights) (regroups-same w.control.sessions)
+    case-rides _ _ (Recovers i x found on) = moves _ (record { ends = Sound; complete = λ v y. y; begins = sound-begun w s; entries = along-recover w s i x found on; follows = λ q v y. over v y; last = λ v y. y; turns = λ v y. regroups-same v.control.sessions; adds = λ v y. none-added v; goes = λ v y. goes-same v.control }) begins (λ v e k. k)
+    case-rides _ _ (Settles i x m found here on free hand) = entries _ _ (along-settle w s i x found on free m here)
+    case-rides _ _ (Loses n) = sessions (λ ss. ss) (λ k. messages.lost n k.flight) _ s.groups s.attempts (flights-dropped w.control n s.flights) (regroups-same w.control.sessions)
         (adds-fewer w.control.sessions w.control.flight (messages.lost n w.control.flight) (λ m here. (from-filter (λ (m : Message). not (m.number == n)) w.control.flight.messages m here).0))
         (goes-fewer w.control (messages.lost n w.control.flight) (λ m here. (from-filter (λ (m : Message). not (m.number == n)) w.control.flight.messages m here).0) (λ t. refl))
-    case-rides _ (Exchanges i server reply x r o allowed) = turned (ordered i server reply (members_on server x.members) o) (λ v. by reply v) (orders-ordered w s i server x r o allowed reply) begins
+    case-rides _ _ (Exchanges i server reply x r o allowed) = turned (ordered i server reply (members_on server x.members) o) (λ v. by reply v) (orders-ordered w s i server x r o allowed reply) begins
       where
         by : (b : Bool) (v : World) → exchanged i server b o.work (members_on server x.members) v.control ≡ record v.control { sessions = (exchanged i server b o.work (members_on server x.members) v.control).sessions; flight = (exchanged i server b o.work (members_on server x.members) v.control).flight }
         by true v = refl
         by false v = refl
-    case-rides _ (Sends i server x r o posts) = sends i server x r o posts
-    case-rides _ (Delivers n m starts x r reaches) = turned (order_done m (members_on m.server x.members)) (λ v. refl) (orders-delivered w s n m starts x r reaches) begins
-    case-rides _ (TakesReply n m reply x r returns) =
+    case-rides _ _ (Sends i server x r o posts) = sends i server x r o posts
+    case-rides _ _ (Delivers n m starts x r reaches) = turned (order_done m (members_on m.server x.members)) (λ v. refl) (orders-delivered w s n m starts x r reaches) begins
+    case-rides _ _ (TakesReply n m reply x r returns) =
         let first : World = as_begun w in
         let f : Session → Session = with_master (λ q. phases.taken q m.server reply) in
         tables (taking m reply) [] (says_phase m.session) (rider.regroups first (changed m.session f w.control.sessions) w.control.flight (sound-begun w s) (sound-taken w s n m reply x r returns) (regroups-taken w.control.sessions s.groups.once m.session m.server reply) (none-added w) (goes-back w s n m reply x r returns) begins)
 
     ending-rides : (p : Plan) → Ending w.control w.events line p → Carried p
-    ending-rides _ (OnePlan p c) = case-rides p c
+    ending-rides _ (OnePlan asked p c) = case-rides asked p c
     ending-rides _ (Imaged vs) = rides-lines (image_told vs) (image-lines vs)
 
     -- the step, as it is answered
@@ -389,7 +390,7 @@ module _ (K : World → Type 0) (rider : Rider K) where
     rides-plan p c =
         let u : World = (carried_out w p).0 in
         let a : Said = answered p u.control (carried_out w p).1 in
-        event u (said u line a) (answer line a) (ending-rides p c).holds refl (tt, tt) (tt, tt) (tt, tt) (histories-append u.events (answer line a ∷ [])) refl refl refl refl refl refl refl
+        event u (said u line a) (answer line a) (ending-rides p c).holds refl (tt, tt) (tt, tt) (refl, tt) (histories-append u.events (answer line a ∷ [])) refl refl refl refl refl refl refl
 
   -- masters are lost as a step ends
   lost : (w u : World) → Sound u → K u → K (masters_lost w u)
@@ -400,8 +401,8 @@ module _ (K : World → Type 0) (rider : Rider K) where
   rides-part : (w : World) (p : Plan) → Comes w p → Both Sound K w → Both Sound K (after_part w p)
   rides-part w p comes j =
       let u : World = (carried_out w p).0 in
-      let sound : Sound u = sound-carried w p (case-holds w j.0 0 p (comes.case 0)) in
-      (sound-part w p comes j.0, lost w u sound (case-rides w j.0 j.1 0 p (comes.case 0)).holds)
+      let sound : Sound u = sound-carried w p (case-holds w j.0 0 comes.asked p (comes.case 0)) in
+      (sound-part w p comes j.0, lost w u sound (case-rides w j.0 j.1 0 comes.asked p (comes.case 0)).holds)
 
   -- of each plan of a step: after each entry
   pub rides-moments : (w : World) (t : Task) (x : Part) (n : ℕ) → Sound w → K w → In x (plans_of w t) → K (carry (begun x.world x.plan) (take n x.plan.entries)).0

@@ -9,14 +9,13 @@ use Rattle.std.proofs.lemmas.List.{append-nil}
 use Rattle.dr_logic.specs.Bytes.{zeros}
 use Rattle.dr_logic.specs.Tables.{at}
 use Rattle.dr_model.specs.declared.event.Event.{Event}
-use Rattle.dr_model.specs.declared.event.Event.TheVariants.{Stopped, Suspended, Begin, Cut}
+use Rattle.dr_model.specs.declared.event.Event.TheVariants.{Stopped, Suspended}
 use Rattle.dr_model.specs.Contents.{image}
 use Rattle.dr_model.specs.Histories.{Write, Histories, histories, after_event}
 use Rattle.dr_model.specs.Control.{Control, Pending, Volume, Fuse, World, is_volume}
 use Rattle.dr_model.specs.Layout.{Tracks}
 use Rattle.dr_model.specs.Relations.{rest, is_bare, turned, given_up}
-use Rattle.dr_model.specs.Pairs.{is_suspended}
-use Rattle.dr_model.specs.Moves.{Move, Land, Overwrite, Keep, Relate, Withdraw, Fetch, Resync, Reverse, Restore, Release, Store, Suspend, Mirror, LandBoth, Hold, Flash, Commit, Revert, target, told, told_in_stop, landed, settled, settled_in_stop, tracks_after, Lift, told_freed, keeps_staged, moved_keeping}
+use Rattle.dr_model.specs.Moves.{Move, Land, Overwrite, Keep, Relate, Withdraw, Fetch, Resync, Reverse, Restore, Release, Store, Suspend, Mirror, LandBoth, Hold, Flash, Commit, Revert, target, told, told_in_stop, landed, settled, settled_in_stop, tracks_after, Lift, keeps_staged, moved_keeping}
 use Rattle.dr_model.specs.Table.{table, waiting, due, due_by, aside, aside_by}
 use Rattle.dr_model.specs.Rows.{emptied, next_row, next_due, next_aside, next_bytes, after}
 use Rattle.dr_model.specs.Laws.{servers, Structure, Blank, Queue, Waits, AllPending}
@@ -24,8 +23,10 @@ use Rattle.dr_model.specs.Allowed.{Allowed, Idle, Ready, Runs}
 use Rattle.dr_model.proofs.Images.{histories-append}
 use Rattle.dr_facts.proofs.Tables.{IsOrNot}
 use Rattle.dr_facts.proofs.Sets.{if_false}
+use Rattle.dr_facts.proofs.Heard.{changes_none}
+use Rattle.dr_facts.proofs.Emits.{Of, all_tags, emits, fold-lists, each-told}
 use Rattle.dr_laws_sound.proofs.Turns.{next_of, carried_in, done, done_in_stop}
-use Rattle.dr_laws_sound.proofs.Due.{Calm, due-same, due-acked, due-marked, due-mirrored, due-set, due-back, due-told, due-blanked, due-restored, due-at, aside-same, aside-blanked, aside-restored, aside-at}
+use Rattle.dr_laws_sound.proofs.Due.{Calm, due-same, due-acked, due-marked, due-mirrored, due-set, due-back, due-blanked, due-restored, due-at, aside-same, aside-blanked, aside-restored, aside-at}
 use Rattle.dr_model.proofs.LawfulLemmas.{removed}
 use Rattle.dr_model.proofs.Asking.{image-none}
 use Rattle.dr_logic.proofs.Choices.{chosen}
@@ -126,6 +127,10 @@ module _ (w : World) (blank : Blank (table w)) where
     pub table-changed : table (changed w m on fuse ps es) ≡ after write (table w) m
     table-changed = λ i u. row-by u (eqb_tells u x) i
 
+no-change : (h : Histories) (e : Event) → Of changes_none e → after_event h e ≡ h
+no-change h (Suspended v) is = refl
+no-change h e is = cc
+
 -- what is due after each kind
 module _ (w : World) where
   abbrev h : Histories
@@ -139,6 +144,9 @@ module _ (w : World) where
 
   abbrev Keeps : Move → List Event → Type 0
   Keeps m es = (u q : ℕ) → aside_by (fold after_event h es) u q ≡ at (aside w) (target m) (next_aside m (table w)) u q
+
+  told-same : (m : Move) → all_tags changes_none (emits m) ≡ true → fold after_event h (told m (w.control.volume (target m))) ≡ h
+  told-same m is = each-told changes_none _ (fold-lists (Of changes_none) after_event no-change) m (w.control.volume (target m)) is h
 
   -- volumes of one server are idle together
   idle_with : (v u : ℕ) → Idle w v → servers w.control u ≡ servers w.control v → Calm ps u
@@ -165,17 +173,9 @@ module _ (w : World) where
     each-due (Store v t u last) a ready = due-back h ps v t u (calm w v ready.0) (calm w u ready.1)
     each-due (Mirror v t u n) a ready = due-mirrored h ps n v t u ready.volume ready.track (calm w v ready.idle) (calm w u ready.from_idle)
     each-due (LandBoth n v t) a ready = due-acked h ps n v t ready.volume ready.track (calm w v ready.idle) ready.coming
-    each-due (Suspend v busy) a ready = due-told h ps v (Suspended v) (λ h. refl) (is_suspended (w.control.volume v).fields.primary_state)
-    each-due (Lift v) a ready = by (w.control.volume v).fields.flash_hold
-      where
-        by : (b : Bool) → (u q : ℕ) → due_by (fold after_event h (told_freed v b)) ps u q ≡ at (due w) v (due w v) u q
-        by true u q = due-same h ps v u q
-        by false u q = due-same h ps v u q
-    each-due (Hold v s n first) a ready = by first
-      where
-        by : (b : Bool) → (u q : ℕ) → due_by (fold after_event h (cond b (Begin s n ∷ Cut s n v ∷ []) (Cut s n v ∷ []))) ps u q ≡ at (due w) v (due w v) u q
-        by true u q = due-same h ps v u q
-        by false u q = due-same h ps v u q
+    each-due (Suspend v busy) a ready = λ u q. ap (λ h. due_by h ps u q) (told-same (Suspend v busy) refl) ∙ due-same h ps v u q
+    each-due (Lift v) a ready = λ u q. ap (λ h. due_by h ps u q) (told-same (Lift v) refl) ∙ due-same h ps v u q
+    each-due (Hold v s n first) a ready = λ u q. ap (λ h. due_by h ps u q) (told-same (Hold v s n first) refl) ∙ due-same h ps v u q
     each-due (Flash v u a s n) b ready =
         let f = (w.control.volume v).fields in
         due-set h ps v u (calm w v ready) (idle_with v u ready (ap (servers w.control) (sym b.from) ∙ sym (structure.flash v b.resync.from b.resync.related).same_server))
@@ -187,21 +187,9 @@ module _ (w : World) where
     each-aside (Reverse v None) ready = let u = w.control.volume v in aside-restored h v u.fields.source u.tracks (turned u.fields).own
     each-aside (Reverse v (Some p)) ready = let u = w.control.volume v in aside-restored h v u.fields.source u.tracks (turned u.fields).own
     each-aside (Release v t) ready = let u = w.control.volume v in aside-restored h v u.fields.source u.tracks (given_up u.fields t).own
-    each-aside (Suspend v busy) ready = by (is_suspended (w.control.volume v).fields.primary_state)
-      where
-        by : (b : Bool) → (u q : ℕ) → aside_by (fold after_event h (cond b [] (Suspended v ∷ []))) u q ≡ at (aside w) v (aside w v) u q
-        by true u q = aside-same h v u q
-        by false u q = aside-same h v u q
-    each-aside (Lift v) ready = by (w.control.volume v).fields.flash_hold
-      where
-        by : (b : Bool) → (u q : ℕ) → aside_by (fold after_event h (told_freed v b)) u q ≡ at (aside w) v (aside w v) u q
-        by true u q = aside-same h v u q
-        by false u q = aside-same h v u q
-    each-aside (Hold v s n first) ready = by first
-      where
-        by : (b : Bool) → (u q : ℕ) → aside_by (fold after_event h (cond b (Begin s n ∷ Cut s n v ∷ []) (Cut s n v ∷ []))) u q ≡ at (aside w) v (aside w v) u q
-        by true u q = aside-same h v u q
-        by false u q = aside-same h v u q
+    each-aside (Suspend v busy) ready = λ u q. ap (λ h. aside_by h u q) (told-same (Suspend v busy) refl) ∙ aside-same h v u q
+    each-aside (Lift v) ready = λ u q. ap (λ h. aside_by h u q) (told-same (Lift v) refl) ∙ aside-same h v u q
+    each-aside (Hold v s n first) ready = λ u q. ap (λ h. aside_by h u q) (told-same (Hold v s n first) refl) ∙ aside-same h v u q
     each-aside (Flash v u a s n) ready = λ x q. aside-at h v (h.now v) (due w v) x q (sym (ap (λ ws. image h.write (h.now v q ++ ws)) (calm w v ready q) ∙ ap (image h.write) (append-nil (h.now v q))))
     each-aside (Commit v a s n) ready = λ x q. aside-at h v (λ t. []) (λ t. zeros) x q (image-none h.write)
     each-aside m ready = aside-same h (target m)

@@ -23,7 +23,7 @@ use Rattle.dr_model.proofs.CarryLemmas.{plan-tables}
 use Rattle.dr_model.proofs.Images.{histories-append}
 use Rattle.dr_laws_sound.specs.Acknowledged.{said_in}
 use Rattle.dr_laws_sound.specs.Showing.{reads_as, ShowsDevices}
-use Rattle.dr_laws_sound.proofs.HushedPlans.{if-plan}
+use Rattle.dr_laws_sound.proofs.AcknowledgingSteps.{if-plan}
 use Rattle.dr_laws_sound.proofs.Agree.{view-due, view-image}
 use Rattle.dr_laws_sound.proofs.Journal.{run-more}
 use Rattle.dr_laws_sound.proofs.Steps.{sound-run}

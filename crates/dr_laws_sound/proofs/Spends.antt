@@ -1,6 +1,10 @@
 -- What each step tells: with its answer it is no more than a step has room for.
-use Rattle.std.proofs.Common.{ℕ, zero, suc, ◌≡◌, ◌≢◌, ◌≤◌, ◌<◌, ◌+◌, ◌-◌, List, [], ◌∷◌, ◌++◌, length, refl, ap, sym, ◌∙◌, arith, Bool, true, false, cond, Option, Some, None}
-use Rattle.std.proofs.lemmas.List.{length-append}
+use Rattle.std.proofs.Common.{ℕ, zero, suc, ◌≡◌, ◌≢◌, ◌≤◌, ◌<◌, ◌+◌, ◌-◌, List, [], ◌∷◌, ◌++◌, length, refl, ap, sym, ◌∙◌, arith, Bool, true, false, cond, Option, Some, None, Result, Ok, map}
+use Rattle.dr_model.specs.declared.step.Step.{Step}
+use Rattle.dr_model.specs.declared.step.Step.TheVariants.{Copy, RemoveFlash, ReverseFlash}
+use Rattle.dr_ids.specs.declared.names.Member.{Member}
+use Rattle.dr_model.specs.Sessions.{Session, session_in}
+use Rattle.std.proofs.lemmas.List.{length-append, length-map}
 use Rattle.std.proofs.Math.Nat.{min-le_right}
 use Rattle.std.specs.Cmp.{nat_cmp_total}
 use Rattle.std.specs.FinSet.{contains, remove, empty, len, len-empty, len-remove, same_set, nat_cmp-IsAntisymmetric}
@@ -14,29 +18,33 @@ use Rattle.dr_model.specs.Layout.{Tracks, Fields}
 use Rattle.dr_model.specs.Relations.{rest, turned}
 use Rattle.dr_model.specs.Limits.{step_events, most_volumes, most_tracks}
 use Rattle.dr_model.specs.Control.{Control, World}
-use Rattle.dr_model.specs.Moves.{Withdraw, Fetch, Resync, Reverse, Leave, told_left}
-use Rattle.dr_model.specs.Carry.{Make, Entry, Outcome, carry, follow, now}
-use Rattle.dr_model.specs.Entries.{fields_at, is_running, times, on_found, lowest_missing, fetch_next, give_back, share_server, share_size, is_no_target}
-use Rattle.dr_model.specs.PairEntries.{tracks_to_send, is_copying, stands_free}
-use Rattle.dr_model.specs.Plans.{counted_refusal, restore_refusal, yield_refusal, left_by, Plan, entries_plan, tables_plan, named_pair, is_defined, is_owner, differ, is_no_source, has_few_targets, is_plain_target, is_recorded_target, is_lone_restore, may_return, may_give_back, may_copy, at_most, left_to_copy}
+use Rattle.dr_model.specs.Moves.{Withdraw, Fetch, Reverse, Suspend, Lift, told, told_left}
+use Rattle.dr_model.specs.Carry.{Act, Entry, Outcome, carry, now}
+use Rattle.dr_model.specs.Entries.{fields_at, is_running, times, lowest_missing, fetch_next, give_back, share_size}
+use Rattle.dr_model.specs.PairEntries.{tracks_to_send, is_copying, differs_at}
+use Rattle.dr_model.specs.WriteEntries.{lift_on, flash_free_on, freeze_on, end_freeze, thaw_on, end_thaw}
+use Rattle.dr_model.specs.Plans.{none_follow, counted_refusal, restore_refusal, left_by, Plan, entries_plan, named_pair, is_defined, is_owner, is_plain_target, is_recorded_target, is_lone_restore, may_return, may_give_back, may_copy, at_most, left_to_copy}
 use Rattle.dr_model.specs.Forming.{after_part}
 use Rattle.dr_model.specs.Runs.{begun, finish, after_plan}
 use Rattle.dr_model.specs.Laws.{Sound}
 use Rattle.dr_laws_sound.specs.Limits.{IsWithin}
-use Rattle.dr_laws_sound.proofs.Cases.{Case, Says, DefinesServer, DefinesVolume, SetsLink, Issues, Writes, Applies, Lists, Shows, Stops, Arms, Starts, MakesFlash, RemovesFlash, ResyncsFlash, ReversesFlash, Copies, Destages, MakesPath, RemovesPath, MakesPair, RemovesPair, PausesPair, ResumesPair, FailsOver, FailsBack, Compares, Drains, Expires, Freezes, Unfreezes, MakesSession, RemovesSession, MakesMirror, PausesMirror, RemovesMirror, Aborts, AddsMember, RemovesMember, Exchanges, Sends, Delivers, TakesReply, Loses, Recovers, Settles, Releases}
+use Rattle.dr_laws_sound.proofs.Cases.{ByHand, Commits, Reverts, Case, Says, Writes, Applies, Lists, Starts, MakesFlash, RemovesFlash, ReversesFlash, Copies, Destages, RemovesPair, Compares, Drains, Expires, Freezes, Unfreezes, PausesMirror, Exchanges, Sends, Delivers, Recovers, Settles, Releases}
 use Rattle.dr_facts.proofs.Sets.{not_removed, rest_low}
-use Rattle.dr_laws_sound.proofs.Costs.{Costs, costs-nil, costs-check, costs-last, carry-adds, Small, Light, AllLight, light-none, light-then, light-costs, small-pass, small-do}
+use Rattle.dr_laws_sound.proofs.Costs.{tells, Costs, costs-nil, costs-check, costs-last, carry-adds, fine-costs, from-costs}
 use Rattle.dr_laws_sound.proofs.CopyCosts.{rounds}
-use Rattle.dr_laws_sound.proofs.PairCosts.{costs-refused, sends-costs, sent-few, suspend_after-few, light-pair, light-remove, length-remove, light-pause, light-resume, light-failover, light-failback, light-compare}
+use Rattle.dr_laws_sound.proofs.PairCosts.{suspend-once, costs-refused, sends-costs, sent-few}
 use Rattle.dr_model.specs.MessagePlans.{told_begun}
-use Rattle.dr_model.specs.SessionPlans.{is_idle, member_with}
+use Rattle.dr_model.specs.SessionPlans.{is_idle}
 use Rattle.dr_laws_sessions.proofs.Members.{members-few}
-use Rattle.dr_laws_sound.proofs.SessionCosts.{add-costs, order-costs, light-settle, recover-costs}
-use Rattle.dr_model.specs.RecoveryPlans.{decided_in, settle_on}
-use Rattle.dr_laws_sound.proofs.WriteCosts.{brief-costs, brief-landing, after_write-few, brief-freeze, brief-thaw, brief-expire, brief-start, brief-release, brief-relate, brief-destage}
+use Rattle.dr_model.specs.RecoveryPlans.{decided_in}
+use Rattle.dr_laws_sound.proofs.EntryLengths.{map-length, fetches-length, destage-length, landing-length, after_write-length, start-length, order-length, recover-length}
+use Rattle.dr_laws_sound.proofs.Does.{Does, Acts, Late, Withdraws, Reverses, GivesUp, Suspends, Lifts}
+use Rattle.dr_laws_sound.proofs.DoesPlans.{case-does}
+use Rattle.dr_facts.proofs.Entries.{any_world, any_reason, fine-one, fine-times, fine-found}
+use Rattle.dr_facts.proofs.Reasons.{NoStop}
 use Rattle.dr_model.proofs.LawfulLemmas.{removed}
 use Rattle.dr_facts.proofs.Tracks.{empty_has}
-use Rattle.dr_facts.proofs.Costs.{blanks-few, restored-few}
+use Rattle.dr_facts.proofs.Costs.{blanks-few, restored-few, freed-few}
 use Rattle.dr_logic.proofs.Truth.{false_true}
 
 -- a set of numbers below n has no more than n
@@ -62,24 +70,24 @@ len-low (suc n) s low =
     either true e le = omega arith
     either false e le = omega arith
 
+-- what follows a stop tells three events at most
+abbrev FollowAdds : (ℕ → List Entry) → Type 0
+FollowAdds follows = (s : ℕ) (v : World) → length (carry v (follows s)).0.events ≤ length v.events + 3
+
 -- what a plan tells
 pub record Spends (w : World) (p : Plan) : Type 0 where
   pub spends : ℕ
   pub costs : Costs spends (begun w p) p.entries
-  pub after : ℕ
-  pub follows : (s : ℕ) (v : World) → length (carry v (p.follows s)).0.events ≤ length v.events + after
-  pub few : length p.told + spends + after + 2 ≤ step_events
+  pub follows : FollowAdds p.follows
+  pub few : length p.told + spends + 5 ≤ step_events
 
-follow-adds : (n : ℕ) (w : World) (r : Refusal) (follows : ℕ → List Entry) → ((s : ℕ) (v : World) → length (carry v (follows s)).0.events ≤ length v.events + n) → length (follow w r follows).events ≤ length w.events + n
-follow-adds n w (StoppedIn s) follows few = few s.0 w
-follow-adds n w r follows few = omega arith
-
-finish-adds : (n : ℕ) (p : Plan) (w : World) (r : Option Refusal) → ((s : ℕ) (v : World) → length (carry v (p.follows s)).0.events ≤ length v.events + n) → length (finish p w r).events ≤ length w.events + n
-finish-adds n p w None few = omega arith
-finish-adds n p w (Some r) few = follow-adds n w r p.follows few
+finish-adds : (p : Plan) (w : World) (r : Option Refusal) → FollowAdds p.follows → length (finish p w r).events ≤ length w.events + 3
+finish-adds p w None few = omega arith
+finish-adds p w (Some (StoppedIn s)) few = few s.0 w
+finish-adds p w (Some r) few = omega arith
 
 -- nothing follows
-none-adds : (s : ℕ) (v : World) → length (carry v []).0.events ≤ length v.events + 0
+none-adds : FollowAdds none_follow
 unfolding carry
 none-adds s v = omega arith
 
@@ -90,10 +98,9 @@ after_plan-adds w line p s =
     let n : ℕ = s.spends in
     let a : length o.0.events ≤ length (w.events ++ p.told) + n + 1 = carry-adds n (begun w p) p.entries s.costs in
     let b : length (w.events ++ p.told) ≡ length w.events + length p.told = length-append w.events p.told in
-    let m : ℕ = s.after in
-    let c : length (finish p o.0 o.1).events ≤ length o.0.events + m = finish-adds m p o.0 o.1 s.follows in
+    let c : length (finish p o.0 o.1).events ≤ length o.0.events + 3 = finish-adds p o.0 o.1 s.follows in
     let d : length (after_plan w line p).events ≡ length (finish p o.0 o.1).events + 1 = length-append (finish p o.0 o.1).events _ in
-    let few : length p.told + n + m + 2 ≤ step_events = s.few in omega arith
+    let few : length p.told + n + 5 ≤ step_events = s.few in omega arith
 
 -- without an answer it leaves room for one
 pub after_part-adds : (w : World) (p : Plan) → Spends w p → length (after_part w p).events + 1 ≤ length w.events + step_events
@@ -103,21 +110,21 @@ after_part-adds w p s =
     let one : length (after_plan w 0 p).events ≡ length (after_part w p).events + 1 = length-append (after_part w p).events _ in
     omega arith
 
--- entries of one event each
-light-fetch : (v : ℕ) → Light (fetch_next v)
-light-fetch v w = by (lowest_missing v w.control)
-  where
-    by : (o : Option ℕ) → Small w (on_found o (λ t. now (Fetch v t)) w.control)
-    by None = small-pass w
-    by (Some t) = small-do w (Make (Fetch v t)) (omega arith)
+-- ---- what acts tell, but for those of steps that may tell of each track
 
-light-fetches : (n v : ℕ) → AllLight (times n (fetch_next v ∷ []))
-light-fetches zero v = light-none
-light-fetches (suc n) v = light-then (fetch_next v) _ (light-fetch v) (light-fetches n v)
+abbrev tells_tracks : Result Step ℕ → Bool
+tells_tracks (Ok (RemoveFlash devs s t sequence)) = true
+tells_tracks (Ok (ReverseFlash devs s t tgtpprc sequence)) = true
+tells_tracks (Ok (Copy t most)) = true
+tells_tracks asked = false
 
-fetches-length : (n v : ℕ) → length (times n (fetch_next v ∷ [])) ≡ n
-fetches-length zero v = refl
-fetches-length (suc n) v = let e : length (times n (fetch_next v ∷ [])) ≡ n = fetches-length n v in omega arith
+does-tells : (k : Control) (asked : Result Step ℕ) (w : World) (a : Act) → tells_tracks asked ≡ false → Does k asked w.control a → tells w a ≤ 2
+does-tells k _ w _ other (Withdraws s t) = absurd cc
+does-tells k _ w _ other (Reverses s t left) = absurd cc
+does-tells k _ w _ other (GivesUp q t back) = absurd cc
+does-tells k asked w _ other (Suspends v busy) = let le : length (told (Suspend v busy) (w.control.volume v)) ≤ 1 = suspend-once v busy (w.control.volume v) in omega arith
+does-tells k _ w _ other (Lifts s v is) = let le : length (told (Lift v) (w.control.volume v)) ≤ 1 = freed-few v (w.control.volume v).fields.flash_hold in omega arith
+does-tells k asked w _ other d = omega arith
 
 -- the checks of two names cost nothing
 named-costs : (n : ℕ) (w : World) (k : Control) (dev : Option Name) (s t : ℕ) (ds : List Entry) → Costs n w ds → Costs n w (named_pair k dev s t ++ ds)
@@ -149,70 +156,84 @@ module _ (w : World) (x : Sound w) (h : IsWithin w.control) where
 
   copy-costs : (n t : ℕ) → n ≤ most_tracks → (r : Bool) → (fields_at w.control t).reversing ≡ r
       → Costs 3585 (record w { events = w.events ++ [] }) (times n (cond r (give_back w.control.volumes (fields_at w.control t).source t) (fetch_next t ∷ [])))
-  copy-costs n t le false is = light-costs _ (light-fetches n t) 3585 _ (let e : length (times n (fetch_next t ∷ [])) ≡ n = fetches-length n t in omega arith)
+  copy-costs n t le false is =
+      fine-costs (λ v a. tells v a ≤ 2) any_reason any_reason (λ v a le. le) (times n (fetch_next t ∷ [])) 3585 _
+      (fine-times any_world (λ v a. tells v a ≤ 2) any_reason n (fetch_next t ∷ []) (fine-one any_world (λ v a. tells v a ≤ 2) any_reason (fetch_next t) (λ v any. fine-found any_world (λ v a. tells v a ≤ 2) any_reason v (lowest_missing t v.control) (λ q. now (Fetch t q)) (λ q. omega arith))))
+      (let e : length (times n (fetch_next t ∷ [])) ≡ n = fetches-length n t in omega arith)
   copy-costs n t le true is =
       let s : ℕ = (fields_at w.control t).source in
       rounds w.control.volumes t s n 3585 (record w { events = w.events ++ [] }) (omega arith) (record { reversing = is; small = h.tracks t; few = x.targets.few s })
 
-  entries-spends : (entries : List Entry) (said : Said) (n : ℕ) → Costs n (record w { events = w.events ++ [] }) entries → n + 2 ≤ step_events → Spends w (entries_plan entries said)
-  entries-spends entries said n c few = record { spends = n; costs = c; after = 0; follows = none-adds; few = omega arith }
+  entries-spends : (entries : List Entry) (said : Said) (n : ℕ) → Costs n (record w { events = w.events ++ [] }) entries → n + 5 ≤ step_events → Spends w (entries_plan entries said)
+  entries-spends entries said n c few = record { spends = n; costs = c; follows = none-adds; few = omega arith }
 
-  tables-spends : (first : Control → Control) (told : List Event) (said : Said) → length told ≤ 256 → Spends w (tables_plan first told said)
-  tables-spends first told said le = record { spends = 0; costs = costs-nil 0 _; after = 0; follows = none-adds; few = omega arith }
+  tables-spends : (first last : Control → Control) (told : List Event) (says : Control → Said) → length told ≤ 256 → Spends w (record { first = first; told = told; entries = []; follows = none_follow; last = last; says = says })
+  tables-spends first last told says le = record { spends = 0; costs = costs-nil 0 _; follows = none-adds; few = omega arith }
+
+  module _ (line : ℕ) (asked : Result Step ℕ) (p : Plan) (case : Case w.control w.events line asked p) (other : tells_tracks asked ≡ false) where
+    two : (v : World) (a : Act) → Acts w.control asked v a → tells v a ≤ 2
+    two v a d = does-tells w.control asked v a other d
+
+    followed-adds : ((s : ℕ) → length (p.follows s) ≤ 1) → FollowAdds p.follows
+    followed-adds one s v =
+        let le : length (p.follows s) ≤ 1 = one s in
+        let adds : length (carry v (p.follows s)).0.events ≤ length v.events + 2 + 1 = carry-adds 2 v (p.follows s) (fine-costs (Acts w.control asked) NoStop (Late asked) two (p.follows s) 2 v ((case-does w line asked p case).follows s) (omega arith)) in omega arith
+
+    -- a plan with few entries
+    acts-spends : length p.told ≤ 1 → length p.entries ≤ 256 → ((s : ℕ) → length (p.follows s) ≤ 1) → Spends w p
+    acts-spends told few one = record {
+      spends = 512;
+      costs = from-costs (Acts w.control asked) NoStop (Late asked) two p.entries 512 (begun w p) (case-does w line asked p case).entries (omega arith);
+      follows = followed-adds one;
+      few = omega arith;
+    }
+
+  -- no more members take part than there are volumes
+  members-low : (s : ℕ) (y : Session) → session_in w.control.sessions s ≡ Some y → length y.members ≤ 64
+  members-low s y found = let few : length y.members ≤ length w.control.volumes = members-few w.control s y x.groups found in let room : length w.control.volumes ≤ most_volumes = h.volumes in omega arith
+
+  -- an entry for each volume, and one at the end
+  volumes-length : (each : ℕ → Entry) (last : Entry) → length (map each w.control.volumes ++ last ∷ []) ≤ 256
+  volumes-length each last = let e : length (map each w.control.volumes ++ last ∷ []) ≡ length w.control.volumes + 1 = map-length each w.control.volumes (last ∷ []) in let le = h.volumes in omega arith
+
+  by-hand : (s : ℕ) (m : Member) (step : Step) → ByHand w.control s m step → tells_tracks (Ok step) ≡ false
+  by-hand s m _ (Commits devs source sequence lets) = refl
+  by-hand s m _ (Reverts devs source sequence t target own) = refl
 
   -- a send tells that an attempt begins, at most
   posted : (b : Bool) (s n : ℕ) → length (told_begun b s n) ≤ 1
   posted true s n = omega arith
   posted false s n = omega arith
 
-  pub case-spends : (line : ℕ) (p : Plan) → Case w.control w.events line p → Spends w p
-  case-spends line _ (Says a) = tables-spends _ _ _ (omega arith)
-  case-spends line _ (DefinesServer name free) = tables-spends _ _ _ (omega arith)
-  case-spends line _ (DefinesVolume v s tracks here free) = tables-spends _ _ _ (omega arith)
-  case-spends line _ (SetsLink a b up) = tables-spends _ _ _ (omega arith)
-  case-spends line _ (Issues v t offset len bytes free) = record { spends = 0; costs = costs-nil 0 _; after = 0; follows = none-adds; few = omega arith }
-  case-spends line _ (Writes v t offset len bytes free) = record {
-    spends = 139;
-    costs = brief-costs 139 _ (brief-landing most_volumes w.control h.volumes (w.control.issued + 1) v t) _;
-    after = 2;
-    follows = λ s u. after_write-few w.control v t s u;
-    few = omega arith;
-  }
-  case-spends line _ (Applies n p found) =
-      record { spends = 139; costs = brief-costs 139 _ (brief-landing most_volumes w.control h.volumes p.w p.volume p.track) _; after = 2; follows = λ s u. after_write-few w.control p.volume p.track s u; few = omega arith }
-  case-spends line _ (Lists told ls few) = let le : length told ≤ 256 = few x.groups h.sessions h.volumes in tables-spends _ _ _ (omega arith)
-  case-spends line _ (Shows v t there) = tables-spends _ _ _ (omega arith)
-  case-spends line _ (Stops s on) = tables-spends _ _ _ (omega arith)
-  case-spends line _ (Arms writes torn s) = tables-spends _ _ _ (omega arith)
-  case-spends line _ (Starts s off) = record { spends = 129; costs = brief-costs 129 _ (brief-start most_volumes w.control.volumes h.volumes s) _; after = 0; follows = none-adds; few = omega arith }
-  case-spends line _ (MakesFlash dev s t freeze choices) = entries-spends _ _ 2
-      (named-costs 2 _ w.control dev s t _ (costs-check 2 _ (differ s t) _ _ (costs-check 2 _ (share_server s t) _ _ (costs-check 2 _ (share_size s t) _ _ (costs-check 2 _ (is_no_target t) _ _
-      (costs-check 2 _ (is_no_source t) _ _ (costs-check 2 _ (is_no_target s) _ _ (costs-check 2 _ (stands_free t) _ _ (costs-check 2 _ (has_few_targets s) _ _ (brief-costs 2 _ (brief-relate freeze s t choices) _)))))))))) (omega arith)
-  case-spends line _ (RemovesFlash dev s t) =
+  pub case-spends : (line : ℕ) (asked : Result Step ℕ) (p : Plan) → Case w.control w.events line asked p → Spends w p
+  case-spends line _ _ (Lists told ls few) = tables-spends _ _ told _ (few x.groups h.sessions h.volumes)
+  case-spends line _ _ (Sends s server y r o posts) = let le : length (told_begun (is_idle r.master.phase) s o.number) ≤ 1 = posted (is_idle r.master.phase) s o.number in tables-spends _ _ _ _ (omega arith)
+  case-spends line _ _ (Says a waits why) = tables-spends _ _ _ _ (omega arith)
+  case-spends line _ _ (PausesMirror s on) = tables-spends _ _ _ _ (omega arith)
+  case-spends line _ _ (Compares contents v u) = entries-spends _ _ 0 (costs-check 0 _ (is_defined v) _ _ (costs-check 0 _ (is_defined u) _ _ (costs-check 0 _ (is_running v) _ _ (costs-check 0 _ (is_running u) _ _
+      (costs-check 0 _ (share_size v u) _ _ (costs-refused 0 _ (differs_at _) [] (costs-nil 0 _))))))) (omega arith)
+  case-spends line asked _ (Writes v t offset len bytes free) = acts-spends line asked _ (Writes v t offset len bytes free) refl (omega arith) (let le = landing-length w.control h.volumes (w.control.issued + 1) v t in omega arith) (after_write-length w.control v t)
+  case-spends line asked _ (Applies n p found) = acts-spends line asked _ (Applies n p found) refl (omega arith) (let le = landing-length w.control h.volumes p.w p.volume p.track in omega arith) (after_write-length w.control p.volume p.track)
+  case-spends line asked _ (Starts s off) = acts-spends line asked _ (Starts s off) refl (omega arith) (start-length s w.control.volumes h.volumes) (λ q. omega arith)
+  case-spends line asked _ (MakesFlash dev s t true choices) = acts-spends line asked _ (MakesFlash dev s t true choices) refl (omega arith) (omega arith) (λ q. omega arith)
+  case-spends line asked _ (MakesFlash dev s t false choices) = acts-spends line asked _ (MakesFlash dev s t false choices) refl (omega arith) (omega arith) (λ q. omega arith)
+  case-spends line _ _ (RemovesFlash dev s t) =
       let u = w.control.volume t in
       let small : u.tracks ≤ most_tracks = h.tracks t in
       let le = blanks-few t u.tracks u.fields.own in
       entries-spends _ _ 256 (named-costs 256 _ w.control dev s t _ (costs-refused 256 _ (counted_refusal t) _ (costs-check 256 _ (is_plain_target s t) _ _ (costs-last 256 _ (Withdraw t) (omega arith))))) (omega arith)
-  case-spends line _ (ResyncsFlash dev s t sequence) = entries-spends _ _ 1 (named-costs 1 _ w.control dev s t _ (costs-refused 1 _ (counted_refusal t) _ (costs-check 1 _ (is_recorded_target s t) _ _ (costs-last 1 _ (Resync t sequence) (omega arith))))) (omega arith)
-  case-spends line _ (ReversesFlash dev s t) =
+  case-spends line _ _ (ReversesFlash dev s t) =
       let u = w.control.volume t in
       let small : u.tracks ≤ most_tracks = h.tracks t in
       let le = restored-few t u.fields.source u.tracks (turned u.fields).own in
       entries-spends _ _ 258 (named-costs 258 _ w.control dev s t _ (costs-refused 258 _ (restore_refusal t) _ (costs-check 258 _ (is_recorded_target s t) _ _ (costs-check 258 _ (is_lone_restore s t) _ _ (costs-check 258 _ (may_return s) _ _ (costs-last 258 _ (Reverse t (left_by w.control t)) (one-more (left_by w.control t) u.fields.session _ 257 (omega arith)))))))) (omega arith)
-  case-spends line _ (Copies t most) = entries-spends _ _ 3585
+  case-spends line _ _ (Copies t most) = entries-spends _ _ 3585
       (costs-check 3585 _ (is_defined t) _ _ (costs-check 3585 _ (is_running t) _ _ (costs-check 3585 _ (may_copy t) _ _ (costs-check 3585 _ (may_give_back t) _ _
       (copy-costs (at_most most (left_to_copy w.control t)) t (copied-few w.control t most_tracks most (left-few t)) _ refl))))) (omega arith)
-  case-spends line _ (Destages v) = entries-spends _ _ 2 (costs-check 2 _ (is_defined v) _ _ (costs-check 2 _ (is_running v) _ _ (brief-costs 2 _ (brief-destage (w.control.volume v).staged v) _))) (omega arith)
-  case-spends line _ (MakesPath src tgt group) = tables-spends _ _ _ (omega arith)
-  case-spends line _ (RemovesPath src tgt) = tables-spends _ _ _ (omega arith)
-  case-spends line _ (MakesPair devs a b kind choices part) = entries-spends _ _ 20 (light-costs _ (light-pair w.control devs a b kind choices.full _) 20 _ (omega arith)) (omega arith)
-  case-spends line _ (RemovesPair devs a b source_only) = entries-spends _ _ 20 (light-costs _ (light-remove w.control devs a b source_only) 20 _ (length-remove w.control devs a b source_only)) (omega arith)
-  case-spends line _ (PausesPair devs a b) = entries-spends _ _ 20 (light-costs _ (light-pause w.control devs a b) 20 _ (omega arith)) (omega arith)
-  case-spends line _ (ResumesPair devs a b kind) = entries-spends _ _ 20 (light-costs _ (light-resume w.control devs a b kind) 20 _ (omega arith)) (omega arith)
-  case-spends line _ (FailsOver devs b a kind) = entries-spends _ _ 20 (light-costs _ (light-failover w.control devs b a kind) 20 _ (omega arith)) (omega arith)
-  case-spends line _ (FailsBack devs v u kind) = entries-spends _ _ 20 (light-costs _ (light-failback w.control devs v u (yield_refusal u) kind) 20 _ (omega arith)) (omega arith)
-  case-spends line _ (Compares contents v u) = entries-spends _ _ 20 (light-costs _ (light-compare w.control contents v u) 20 _ (omega arith)) (omega arith)
-  case-spends line _ (Drains a most) =
+  case-spends line asked _ (Destages v) = acts-spends line asked _ (Destages v) refl (omega arith) (let le = destage-length (w.control.volume v).staged v in omega arith) (λ q. omega arith)
+  case-spends line asked _ (RemovesPair devs a b true) = acts-spends line asked _ (RemovesPair devs a b true) refl (omega arith) (omega arith) (λ q. omega arith)
+  case-spends line asked _ (RemovesPair devs a b false) = acts-spends line asked _ (RemovesPair devs a b false) refl (omega arith) (omega arith) (λ q. omega arith)
+  case-spends line _ _ (Drains a most) =
       let f : Fields = fields_at w.control a in
       let n : ℕ = (w.control.volume a).tracks in
       let ts : List ℕ = tracks_to_send most n f.out_of_sync in
@@ -222,36 +243,16 @@ module _ (w : World) (x : Sound w) (h : IsWithin w.control) where
         spends = 3584;
         costs = costs-check 3584 _ (is_defined a) _ _ (costs-check 3584 _ (is_running a) _ _ (costs-check 3584 _ (is_copying a) _ _
             (sends-costs w.control.volumes f.primary_partner a ts 3584 (omega arith) _ (x.targets.few f.primary_partner))));
-        after = 2;
-        follows = λ s v. suspend_after-few a s v;
+        follows = followed-adds line _ _ (Drains a most) refl (λ s. omega arith);
         few = omega arith;
       }
-  case-spends line _ (Expires s on) = entries-spends _ _ 64 (brief-costs 64 _ (brief-expire most_volumes w.control.volumes h.volumes s) _) (omega arith)
-  case-spends line _ (Freezes l m) = entries-spends _ _ 65 (brief-costs 65 _ (brief-freeze most_volumes w.control.volumes h.volumes l m) _) (omega arith)
-  case-spends line _ (Releases l) = entries-spends _ _ 64 (brief-costs 64 _ (brief-release most_volumes w.control.volumes h.volumes l) _) (omega arith)
-  case-spends line _ (Unfreezes l m) = entries-spends _ _ 65 (brief-costs 65 _ (brief-thaw most_volumes w.control.volumes h.volumes l m) _) (omega arith)
-  case-spends line _ (MakesSession l s free) = tables-spends _ _ _ (omega arith)
-  case-spends line _ (RemovesSession l s y found free) = tables-spends _ _ _ (omega arith)
-  case-spends line _ (MakesMirror owner s y found free l owned) = tables-spends _ _ _ (omega arith)
-  case-spends line _ (PausesMirror s on) = tables-spends _ _ _ (omega arith)
-  case-spends line _ (RemovesMirror s y found free) = tables-spends _ _ _ (omega arith)
-  case-spends line _ (Sends s server y r o posts) =
-      let le : length (told_begun (is_idle r.master.phase) s o.number) ≤ 1 = posted (is_idle r.master.phase) s o.number in record { spends = 0; costs = costs-nil 0 _; after = 0; follows = none-adds; few = omega arith }
-  case-spends line _ (Delivers n m starts y r reaches) =
-      let few : length y.members ≤ length w.control.volumes = members-few w.control m.session y x.groups reaches.arrives.found in
-      let room : length w.control.volumes ≤ most_volumes = h.volumes in
-      record { spends = 384; costs = order-costs m.order.work m.session m.order.number m.server y.members 64 (omega arith) 384 (omega arith) _; after = 0; follows = none-adds; few = omega arith }
-  case-spends line _ (TakesReply n m reply y r returns) = record { spends = 0; costs = costs-nil 0 _; after = 0; follows = none-adds; few = omega arith }
-  case-spends line _ (Loses n) = tables-spends _ _ _ (omega arith)
-  case-spends line _ (Aborts s y found free) = record { spends = 0; costs = costs-nil 0 _; after = 0; follows = none-adds; few = omega arith }
-  case-spends line _ (AddsMember s a c y joins) = record { spends = 2; costs = add-costs (member_with w.control a c) _ _; after = 0; follows = none-adds; few = omega arith }
-  case-spends line _ (RemovesMember s a y m found is idle on) = record { spends = 1; costs = costs-last 1 _ (Leave m.c.0 m.a.0 s) (omega arith); after = 0; follows = none-adds; few = omega arith }
-  case-spends line _ (Recovers s y found on) =
-      let few : length y.members ≤ length w.control.volumes = members-few w.control s y x.groups found in
-      let room : length w.control.volumes ≤ most_volumes = h.volumes in
-      record { spends = 129; costs = recover-costs s (decided_in s w.control) y.members 64 (omega arith) 129 (omega arith) _; after = 0; follows = none-adds; few = omega arith }
-  case-spends line _ (Settles s y m found here on free) = entries-spends _ _ 1 (light-costs _ (light-then (settle_on s (decided_in s w.control) m) [] (light-settle s (decided_in s w.control) m) light-none) 1 _ (omega arith)) (omega arith)
-  case-spends line _ (Exchanges s server reply y r o allowed) =
-      let few : length y.members ≤ length w.control.volumes = members-few w.control s y x.groups allowed.found in
-      let room : length w.control.volumes ≤ most_volumes = h.volumes in
-      record { spends = 384; costs = order-costs o.work s o.number server y.members 64 (omega arith) 384 (omega arith) _; after = 0; follows = none-adds; few = omega arith }
+  case-spends line asked _ (Expires s on) = acts-spends line asked _ (Expires s on) refl (omega arith) (let e = length-map w.control.volumes (lift_on s) in let le = h.volumes in omega arith) (λ q. omega arith)
+  case-spends line asked _ (Releases l) = acts-spends line asked _ (Releases l) refl (omega arith) (let e = length-map w.control.volumes (flash_free_on l) in let le = h.volumes in omega arith) (λ q. omega arith)
+  case-spends line asked _ (Freezes l m) = acts-spends line asked _ (Freezes l m) refl (omega arith) (volumes-length (freeze_on l m) (end_freeze l m)) (λ q. omega arith)
+  case-spends line asked _ (Unfreezes l m) = acts-spends line asked _ (Unfreezes l m) refl (omega arith) (volumes-length (thaw_on l m) (end_thaw l m)) (λ q. omega arith)
+  case-spends line asked _ (Exchanges s server reply y r o allowed) = acts-spends line asked _ (Exchanges s server reply y r o allowed) refl (omega arith) (order-length o.work s o.number server y.members (members-low s y allowed.found)) (λ q. omega arith)
+  case-spends line _ _ (Delivers n m starts y r reaches) =
+      acts-spends line _ _ (Delivers n m starts y r reaches) refl (omega arith) (order-length m.order.work m.session m.order.number m.server y.members (members-low m.session y reaches.arrives.found)) (λ q. omega arith)
+  case-spends line asked _ (Recovers s y found on) = acts-spends line asked _ (Recovers s y found on) refl (omega arith) (recover-length s (decided_in s w.control) y.members (members-low s y found)) (λ q. omega arith)
+  case-spends line asked _ (Settles s y m found here on free hand) = acts-spends line asked _ (Settles s y m found here on free hand) (by-hand s m _ hand) (omega arith) (omega arith) (λ q. omega arith)
+  case-spends line asked p c = acts-spends line asked p c refl (omega arith) (omega arith) (λ q. omega arith)

@@ -1,5 +1,6 @@
 -- Each step leaves a sound world, and so does each run.
-use Rattle.std.proofs.Common.{ℕ, ◌≡◌, ◌+◌, refl, ap, sym, ◌∙◌, subst, Bool, false, cond, List, [], ◌∷◌, ◌++◌, length, take, Option, Some, None, arith}
+use Rattle.std.proofs.Common.{ℕ, ◌≡◌, ◌+◌, refl, ap, sym, ◌∙◌, subst, Bool, false, cond, List, [], ◌∷◌, ◌++◌, length, take, Option, Some, None, arith, Result}
+use Rattle.dr_model.specs.declared.step.Step.{Step}
 use Rattle.std.proofs.lemmas.List.{append-nil}
 use Rattle.std.specs.List.{find}
 use Rattle.dr_logic.specs.Tables.{at}
@@ -119,62 +120,62 @@ module _ (w : World) (s : Sound w) (line : ℕ) where
   holds-lines : (told : List Event) → AllLines told → StepHolds w (lists told)
   holds-lines told ls = holds-told w w.control.servers w.control.on w.control.fuse w.control.link w.control.paths told (Done Alone) s.housed s (lines-lists w.events told ls) ((lines-plain told ls).quiet _) (λ j h. h) same refl
 
-  pub case-holds : (p : Plan) → Case w.control w.events line p → StepHolds w p
-  case-holds _ (Says a) = holds-says w a s
-  case-holds _ (DefinesServer name free) =
+  pub case-holds : (asked : Result Step ℕ) (p : Plan) → Case w.control w.events line asked p → StepHolds w p
+  case-holds _ _ (Says a waits why) = holds-says w a s
+  case-holds _ _ (DefinesServer name free) =
       holds-event w (w.control.servers ++ name_bytes name ∷ []) w.control.on (ServerDefined (length w.control.servers) name.len name.bytes) _ (housed-server w.control (name_bytes name) (servers-left w.control (name_bytes name) free) s.housed) s refl tt (λ j h. h) (λ k. record k { servers = k.servers ++ name_bytes name ∷ [] }) refl
-  case-holds _ (DefinesVolume v x tracks here free) = holds-tables w _ _ _ (sound-defined w s v x tracks here (is-new w.control v x tracks free).undefined)
-  case-holds _ (SetsLink a b up) =
+  case-holds _ _ (DefinesVolume v x tracks here free) = holds-tables w _ _ _ (sound-defined w s v x tracks here (is-new w.control v x tracks free).undefined)
+  case-holds _ _ (SetsLink a b up) =
       holds-quiet w w.control.fuse (λ x y. cond (joins x y a b) up (w.control.link x y)) w.control.paths _ s (λ k. record k { link = λ x y. cond (joins x y a b) up (k.link x y) }) refl
-  case-holds _ (Issues v t offset len bytes free) = let there = (may-issue w.control v t free).0 in holds-issue w s v t offset len bytes there
-  case-holds _ (Writes v t offset len bytes free) = holds-write w s v t offset len bytes (may-issue w.control v t free).0
-  case-holds _ (Applies n p found) = holds-apply w s n p found
-  case-holds _ (Lists told ls few) = holds-lines told ls
-  case-holds _ (Shows v t there) = holds-event w w.control.servers w.control.on (Shown line v t (image_at w.events v t)) _ s.housed s refl tt (λ j h. h) same refl
-  case-holds _ (Stops x on) =
+  case-holds _ _ (Issues v t offset len bytes free) = let there = (may-issue w.control v t free).0 in holds-issue w s v t offset len bytes there
+  case-holds _ _ (Writes v t offset len bytes free) = holds-write w s v t offset len bytes (may-issue w.control v t free).0
+  case-holds _ _ (Applies n p found) = holds-apply w s n p found
+  case-holds _ _ (Lists told ls few) = holds-lines told ls
+  case-holds _ _ (Shows v t there) = holds-event w w.control.servers w.control.on (Shown line v t (image_at w.events v t)) _ s.housed s refl tt (λ j h. h) same refl
+  case-holds _ _ (Stops x on) =
       holds-event w w.control.servers (at w.control.on x false) (Stopped x 0) _ s.housed s refl tt (goes-off None w s.queue w.control.on x) (λ k. record k { on = at k.on x false }) refl
-  case-holds _ (Arms writes torn x) =
+  case-holds _ _ (Arms writes torn x) =
       let f : Fuse = record { after = writes; torn = torn_bytes torn } in
       holds-quiet w (at w.control.fuse x (Some f)) w.control.link w.control.paths _ s (λ k. record k { fuse = at k.fuse x (Some f) }) refl
-  case-holds _ (Starts x off) = holds-start x w s
-  case-holds _ (MakesFlash dev v t freeze choices) = holds-flash w s dev v t freeze choices
-  case-holds _ (RemovesFlash dev v t) = holds-withdraw w s dev v t
-  case-holds _ (ResyncsFlash dev v t sequence) = holds-resync w s dev v t sequence
-  case-holds _ (ReversesFlash dev v t) = holds-reverse w s dev v t
-  case-holds _ (Copies t most) = holds-copy w s t most
-  case-holds _ (Destages v) = holds-destage w s v
-  case-holds _ (MakesPath src tgt group) = holds-quiet w w.control.fuse w.control.link (with_path w.control.paths src tgt group) _ s (λ k. record k { paths = with_path k.paths src tgt group }) refl
-  case-holds _ (RemovesPath src tgt) = holds-quiet w w.control.fuse w.control.link (without_path w.control.paths src tgt) _ s (λ k. record k { paths = without_path k.paths src tgt }) refl
-  case-holds _ (MakesPair devs a b kind choices part) = holds-pair w s devs a b kind choices part
-  case-holds _ (RemovesPair devs a b source_only) = holds-remove w s devs a b source_only
-  case-holds _ (PausesPair devs a b) = holds-pause w s devs a b
-  case-holds _ (ResumesPair devs a b kind) = holds-resume w s devs a b kind
-  case-holds _ (FailsOver devs b a kind) = holds-failover w s devs b a kind
-  case-holds _ (FailsBack devs x y kind) = holds-failback w s devs x y kind
-  case-holds _ (Compares contents v u) = holds-compare w s contents v u
-  case-holds _ (Drains a most) = holds-drain w s a most
-  case-holds _ (Expires x on) = holds-expire x w s on
-  case-holds _ (Freezes l m) = holds-freeze l m w s
-  case-holds _ (Unfreezes l m) = holds-thaw l m w s
-  case-holds _ (Releases l) = holds-release l w s
-  case-holds _ (MakesSession l i free) = holds-joined w s l i free
-  case-holds _ (RemovesSession l i x found free) = holds-left w s l i x found free
-  case-holds _ (MakesMirror owner i x found free l owned) = holds-mirrored w s owner i x found free l owned
-  case-holds _ (PausesMirror i on) = holds-paused w s i on
-  case-holds _ (RemovesMirror i x found free) = holds-unmirrored w s i x found free
-  case-holds _ (Aborts i x found free) = holds-aborted w s i x found free
-  case-holds _ (AddsMember i a c x joins) = holds-orders w _ (orders-added w s i a c x joins)
-  case-holds _ (RemovesMember i a x m found is idle on) = holds-orders w _ (orders-expelled w s i a x m found is idle on)
-  case-holds _ (Loses n) = holds-flight w s (lost n) (flights-dropped w.control n s.flights)
-  case-holds _ (Sends i server x r o posts) = holds-sent w s i server x r o posts
-  case-holds _ (Delivers n m starts x r reaches) = holds-orders w _ (orders-delivered w s n m starts x r reaches)
-  case-holds _ (TakesReply n m reply x r returns) = holds-taken w s n m reply x r returns
-  case-holds _ (Exchanges i server reply x r o allowed) = holds-orders w _ (orders-ordered w s i server x r o allowed reply)
-  case-holds _ (Recovers i x found on) = holds-moves w _ (sound-begun w s) (along-recover w s i x found on) (λ q v y. over v y) (λ v y. y)
-  case-holds _ (Settles i x m found here on free) = holds-entries w _ _ s (along-settle w s i x found on free m here)
+  case-holds _ _ (Starts x off) = holds-start x w s
+  case-holds _ _ (MakesFlash dev v t freeze choices) = holds-flash w s dev v t freeze choices
+  case-holds _ _ (RemovesFlash dev v t) = holds-withdraw w s dev v t
+  case-holds _ _ (ResyncsFlash dev v t sequence) = holds-resync w s dev v t sequence
+  case-holds _ _ (ReversesFlash dev v t) = holds-reverse w s dev v t
+  case-holds _ _ (Copies t most) = holds-copy w s t most
+  case-holds _ _ (Destages v) = holds-destage w s v
+  case-holds _ _ (MakesPath src tgt group) = holds-quiet w w.control.fuse w.control.link (with_path w.control.paths src tgt group) _ s (λ k. record k { paths = with_path k.paths src tgt group }) refl
+  case-holds _ _ (RemovesPath src tgt) = holds-quiet w w.control.fuse w.control.link (without_path w.control.paths src tgt) _ s (λ k. record k { paths = without_path k.paths src tgt }) refl
+  case-holds _ _ (MakesPair devs a b kind choices part) = holds-pair w s devs a b kind choices part
+  case-holds _ _ (RemovesPair devs a b source_only) = holds-remove w s devs a b source_only
+  case-holds _ _ (PausesPair devs a b) = holds-pause w s devs a b
+  case-holds _ _ (ResumesPair devs a b kind) = holds-resume w s devs a b kind
+  case-holds _ _ (FailsOver devs b a kind) = holds-failover w s devs b a kind
+  case-holds _ _ (FailsBack devs x y kind) = holds-failback w s devs x y kind
+  case-holds _ _ (Compares contents v u) = holds-compare w s contents v u
+  case-holds _ _ (Drains a most) = holds-drain w s a most
+  case-holds _ _ (Expires x on) = holds-expire x w s on.1
+  case-holds _ _ (Freezes l m) = holds-freeze l m w s
+  case-holds _ _ (Unfreezes l m) = holds-thaw l m w s
+  case-holds _ _ (Releases l) = holds-release l w s
+  case-holds _ _ (MakesSession l i free) = holds-joined w s l i free
+  case-holds _ _ (RemovesSession l i x found free) = holds-left w s l i x found free
+  case-holds _ _ (MakesMirror owner i x found free l owned) = holds-mirrored w s owner i x found free l owned
+  case-holds _ _ (PausesMirror i on) = holds-paused w s i on
+  case-holds _ _ (RemovesMirror i x found free) = holds-unmirrored w s i x found free
+  case-holds _ _ (Aborts i x found free) = holds-aborted w s i x found free
+  case-holds _ _ (AddsMember i a c x joins) = holds-orders w _ (orders-added w s i a c x joins)
+  case-holds _ _ (RemovesMember i a x m found is idle on) = holds-orders w _ (orders-expelled w s i a x m found is idle on)
+  case-holds _ _ (Loses n) = holds-flight w s (lost n) (flights-dropped w.control n s.flights)
+  case-holds _ _ (Sends i server x r o posts) = holds-sent w s i server x r o posts
+  case-holds _ _ (Delivers n m starts x r reaches) = holds-orders w _ (orders-delivered w s n m starts x r reaches)
+  case-holds _ _ (TakesReply n m reply x r returns) = holds-taken w s n m reply x r returns
+  case-holds _ _ (Exchanges i server reply x r o allowed) = holds-orders w _ (orders-ordered w s i server x r o allowed reply)
+  case-holds _ _ (Recovers i x found on) = holds-moves w _ (sound-begun w s) (along-recover w s i x found on) (λ q v y. over v y) (λ v y. y)
+  case-holds _ _ (Settles i x m found here on free hand) = holds-entries w _ _ s (along-settle w s i x found on free m here)
 
   pub ending-holds : (p : Plan) → Ending w.control w.events line p → StepHolds w p
-  ending-holds _ (OnePlan p c) = case-holds p c
+  ending-holds _ (OnePlan asked p c) = case-holds asked p c
   ending-holds _ (Imaged vs) = holds-lines (image_told vs) (image-lines vs)
 
 pub sound-carried : (w : World) (p : Plan) → StepHolds w p → Sound (carried_out w p).0
@@ -186,7 +187,7 @@ sound-plan w line p holds = sound-said _ line _ (sound-carried w p holds)
 
 -- a plan before the last one of its step
 pub sound-part : (w : World) (p : Plan) → Comes w p → Sound w → Sound (after_part w p)
-sound-part w p comes s = sound-lost w _ (sound-carried w p (case-holds w s 0 p (comes.case 0)))
+sound-part w p comes s = sound-lost w _ (sound-carried w p (case-holds w s 0 comes.asked p (comes.case 0)))
 
 pub sound-last : (w : World) (t : Task) → Sound w → Sound (course w t).last.world
 sound-last w t s = last-plan Sound sound-part w t s

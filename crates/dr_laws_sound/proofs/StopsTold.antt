@@ -1,18 +1,25 @@
 -- Where a step is refused because a server stopped, its acts told that stop, and the other way round. That is so where no entry
 -- ends a plan with such a refusal.
-use Rattle.std.proofs.Common.{ℕ, ◌≡◌, List, [], ◌∷◌, ◌++◌, refl, ap, ◌∙◌, sym, append_assoc, Bool, true, false, cond, map, Option, Some, None}
+use Rattle.std.proofs.Common.{ℕ, ◌≡◌, List, [], ◌∷◌, ◌++◌, refl, ap, ◌∙◌, sym, append_assoc, Bool, true, false, Option, Some, None}
 use Rattle.std.proofs.lemmas.List.{append-nil}
 use Rattle.std.specs.Option.{option_or}
 use Rattle.dr_ids.specs.declared.refusal.Refusal.{Refusal}
-use Rattle.dr_ids.specs.declared.refusal.Refusal.TheVariants.{NotBuilt, Stopped as StoppedIn}
+use Rattle.dr_ids.specs.declared.refusal.Refusal.TheVariants.{Stopped as StoppedIn}
 use Rattle.dr_model.specs.declared.event.Event.{Event}
-use Rattle.dr_model.specs.declared.event.Event.TheVariants.{Ack, Blanked, Restored, Stopped, Suspended, Frozen, Thawed, Recovered, Begin, Cut}
-use Rattle.dr_model.specs.Control.{Control, Fuse, Volume as VolumeRow, World}
-use Rattle.dr_model.specs.Layout.{Tracks}
-use Rattle.dr_model.specs.Relations.{is_bare, in_order, rest}
-use Rattle.dr_model.specs.Pairs.{is_suspended}
-use Rattle.dr_model.specs.Moves.{Move, Land, Overwrite, Keep, Note, Relate, Withdraw, Fetch, Resync, Reverse, Restore, Release, Store, Strike, Suspend, MakeSecondary, MakePrimary, DropPrimary, DropSecondary, Follow, Resume, TakeOver, FallBack, Yield, Unsync, Mirror, LandBoth, Thaw, Lift, Restart, Hold, Free, Seal, Finish, RaiseAttempt, RaiseFloor, Leave, Flash, Commit, Revert, told_blank, told_restored, told, told_in_stop, landed, target, FlashHold, FlashFree, told_freed, Unstage}
+use Rattle.dr_model.specs.declared.event.Event.TheVariants.{Ack, Stopped, Frozen, Thawed, Recovered}
+use Rattle.dr_model.specs.Control.{Fuse, Volume as VolumeRow, World}
+use Rattle.dr_model.specs.Relations.{rest}
+use Rattle.dr_model.specs.Moves.{Move, Hold, told, told_in_stop, landed, target}
+use Rattle.dr_model.specs.Carried.{begun}
+use Rattle.dr_model.specs.PlanParts.{Plan}
+use Rattle.dr_model.specs.Runs.{image_plan}
+use Rattle.dr_facts.proofs.Reasons.{NoStop}
+use Rattle.dr_facts.proofs.Entries.{any_world, AllFine, FineThen, FineFrom, FromThen, from-none}
+use Rattle.dr_laws_sound.proofs.Does.{Acts, Late}
+use Rattle.dr_laws_sound.proofs.DoesPlans.{case-does}
+use Rattle.dr_laws_sound.proofs.Parts.{Ending, OnePlan, Imaged}
 use Rattle.dr_model.specs.Carry.{Act, Make, OpenAttempt, Redo, Acknowledge, Drop, EndFreeze, EndThaw, EndRecovery, act, Turn, Next, Pass, Do, End, Entry, Outcome, carry, continue, go}
+use Rattle.dr_facts.proofs.Emits.{Of, Lists, by_moves, all-told, all-stop}
 use Rattle.dr_laws_sound.specs.Stops.{first_stop, stop_in, refused_stop, StopsTold}
 use Rattle.dr_laws_sound.proofs.Turns.{act-cases, Counts, after_act, server_of}
 
@@ -25,87 +32,23 @@ first-append (e ∷ es) fs = ap (λ o. option_or (stop_in e) o) (first-append es
     grouped (Some x) b c = refl
 
 -- what a move tells is no stop
-blanks-calm : (v : ℕ) (ts : List ℕ) → first_stop (map (Blanked v) ts) ≡ None
-blanks-calm v [] = refl
-blanks-calm v (t ∷ ts) = blanks-calm v ts
+is-no-stop : (e : Event) → Of by_moves e → stop_in e ≡ None
+is-no-stop (Stopped s n) by = absurd cc
+is-no-stop e by = refl
 
-restored-calm : (v s n : ℕ) (own : Tracks) → first_stop (told_restored v s n own) ≡ None
-restored-calm v s n own = by (is_bare own)
-  where
-    by : (b : Bool) → first_stop (cond b (told_blank v n own ++ Restored s v ∷ []) []) ≡ None
-    by true = first-append (told_blank v n own) (Restored s v ∷ []) ∙ ap (λ o. option_or o None) (blanks-calm v (in_order n (rest n own)))
-    by false = refl
+no-stop : Lists (Of by_moves) (λ es. first_stop es ≡ None)
+no-stop = record { none = refl; more = λ e es by behind i. option_or (is-no-stop e by i) (behind i) }
 
-suspended-calm : (none : Bool) (v : ℕ) → first_stop (cond none [] (Suspended v ∷ [])) ≡ None
-suspended-calm true v = refl
-suspended-calm false v = refl
-
-freed-calm : (v : ℕ) (had : Bool) → first_stop (told_freed v had) ≡ None
-freed-calm v true = refl
-freed-calm v false = refl
-
-held-calm : (first : Bool) (v s n : ℕ) → first_stop (cond first (Begin s n ∷ Cut s n v ∷ []) (Cut s n v ∷ [])) ≡ None
-held-calm true v s n = refl
-held-calm false v s n = refl
-
-told-calm : (m : Move) (u : VolumeRow) → first_stop (told m u) ≡ None
-told-calm (Land n v t) u = refl
-told-calm (Overwrite n v t) u = refl
-told-calm (Keep v t) u = refl
-told-calm (Note v t) u = refl
-told-calm (Flash v from a s n) u = refl
-told-calm (Commit v a s n) u = refl
-told-calm (Revert v a s n) u = refl
-told-calm (Relate v s choices) u = refl
-told-calm (Withdraw v) u = blanks-calm v (in_order u.tracks (rest u.tracks u.fields.own))
-told-calm (Fetch v t) u = refl
-told-calm (Resync v sequence) u = refl
-told-calm (Reverse v None) u = restored-calm v _ _ _
-told-calm (Reverse v (Some p)) u = restored-calm v _ _ _
-told-calm (Restore v t from) u = refl
-told-calm (Release v t) u = restored-calm v _ _ _
-told-calm (Store v t from last) u = refl
-told-calm (Strike v t last) u = refl
-told-calm (Suspend v busy) u = suspended-calm (is_suspended u.fields.primary_state) v
-told-calm (MakeSecondary v a kind state) u = refl
-told-calm (MakePrimary v b kind state full) u = refl
-told-calm (DropPrimary v) u = refl
-told-calm (DropSecondary v) u = refl
-told-calm (Follow v state) u = refl
-told-calm (Resume v state) u = refl
-told-calm (TakeOver v) u = refl
-told-calm (FallBack v more state) u = refl
-told-calm (Yield v a kind state) u = refl
-told-calm (Unsync v t) u = refl
-told-calm (Mirror v t from n) u = refl
-told-calm (LandBoth n v t) u = refl
-told-calm (Thaw v) u = refl
-told-calm (FlashHold v) u = refl
-told-calm (FlashFree v) u = refl
-told-calm (Lift v) u = freed-calm v u.fields.flash_hold
-told-calm (Restart v) u = refl
-told-calm (Hold v s n first) u = held-calm first v s n
-told-calm (Free v) u = refl
-told-calm (Seal v a s n) u = refl
-told-calm (Finish v n) u = refl
-told-calm (RaiseAttempt v n) u = refl
-told-calm (RaiseFloor v n) u = refl
-told-calm (Leave v a s) u = refl
-told-calm (Unstage v) u = refl
+tells-no-stop : (m : Move) (u : VolumeRow) → first_stop (told m u) ≡ None
+tells-no-stop = all-told _ no-stop
 
 -- and the stop that it tells is the first
-in_stop-calm : (m : Move) (u : VolumeRow) → first_stop (told_in_stop m u) ≡ None
-in_stop-calm (Land n v t) u = refl
-in_stop-calm (Overwrite n v t) u = refl
-in_stop-calm (LandBoth n v t) u = refl
-in_stop-calm m u = told-calm m u
-
 stop-told : (m : Move) (u : VolumeRow) → first_stop (told_in_stop m u ++ Stopped u.server (landed m) ∷ []) ≡ Some u.server
-stop-told m u = first-append (told_in_stop m u) (Stopped u.server (landed m) ∷ []) ∙ ap (λ o. option_or o (Some u.server)) (in_stop-calm m u)
+stop-told m u = first-append (told_in_stop m u) (Stopped u.server (landed m) ∷ []) ∙ ap (λ o. option_or o (Some u.server)) (all-stop _ no-stop m u)
 
 done-tells : (w : World) (a : Act) (f : Option Fuse) → StopsTold w (after_act w a f) None
-done-tells w (Make m) f = record { events = told m (w.control.volume (target m)); told = refl; tells = told-calm m _ }
-done-tells w (OpenAttempt v s n) f = record { events = told (Hold v s n true) (w.control.volume v); told = refl; tells = told-calm (Hold v s n true) (w.control.volume v) }
+done-tells w (Make m) f = record { events = told m (w.control.volume (target m)); told = refl; tells = tells-no-stop m _ }
+done-tells w (OpenAttempt v s n) f = record { events = told (Hold v s n true) (w.control.volume v); told = refl; tells = tells-no-stop (Hold v s n true) (w.control.volume v) }
 done-tells w (Redo v) f = record { events = []; told = sym (append-nil w.events); tells = refl }
 done-tells w (Acknowledge n) f = record { events = Ack n ∷ []; told = refl; tells = refl }
 done-tells w (Drop n) f = record { events = []; told = sym (append-nil w.events); tells = refl }
@@ -127,31 +70,9 @@ act-tells : (w : World) (a : Act) → StopsTold w (act w a).0 (act w a).1
 act-tells w a = act-cases w a (λ t. StopsTold w t.0 t.1) (λ d off. record { events = []; told = sym (append-nil w.events); tells = refl })
     (done-tells w a) (counts-tells w a) (λ d f. record { events = Stopped (server_of w a) 0 ∷ []; told = refl; tells = refl })
 
--- a refusal that says neither a stop, nor that a step isn't built
-abbrev pub is_calm : Refusal → Bool
-is_calm (StoppedIn s) = false
-is_calm NotBuilt = false
-is_calm _ = true
-
-calm-stops : (r : Refusal) → is_calm r ≡ true → refused_stop (Some r) ≡ None
-calm-stops (StoppedIn s) e = absurd cc
-calm-stops r e = refl
-
--- entries that end a plan with such refusals alone
-abbrev pub Calm : Entry → Type 0
-Calm d = (k : Control) (r : Refusal) → d k ≡ End r → is_calm r ≡ true
-
-unfoldable pub Unstopped : List Entry → Type 0
-Unstopped [] = Unit {0}
-Unstopped (d ∷ ds) = Calm d × Unstopped ds
-
-pub none-calm : Unstopped []
-unfolding Unstopped
-none-calm = tt
-
-pub then-calm : (d : Entry) (ds : List Entry) → Calm d → Unstopped ds → Unstopped (d ∷ ds)
-unfolding Unstopped
-then-calm d ds first rest = (first, rest)
+no-stop-refused : (r : Refusal) → NoStop r → refused_stop (Some r) ≡ None
+no-stop-refused (StoppedIn s) e = absurd cc
+no-stop-refused r e = refl
 
 tells-then : (w v u : World) (stop : Option ℕ) → StopsTold w v None → StopsTold v u stop → StopsTold w u stop
 tells-then w v u stop a b = record {
@@ -160,18 +81,40 @@ tells-then w v u stop a b = record {
   tells = first-append a.events b.events ∙ ap (λ o. option_or o (first_stop b.events)) a.tells ∙ b.tells;
 }
 
-continue-tells : (w : World) (t : Turn) (next : World → Outcome) → StopsTold w t.0 t.1 → ((v : World) → StopsTold v (next v).0 (refused_stop (next v).1))
-    → StopsTold w (continue t.0 t.1 next).0 (refused_stop (continue t.0 t.1 next).1)
+-- an outcome tells the stop for which it is refused
+abbrev pub Tells : World → Outcome → Type 0
+Tells w o = StopsTold w o.0 (refused_stop o.1)
+
+continue-tells : (w : World) (t : Turn) (next : World → Outcome) → StopsTold w t.0 t.1 → ((v : World) → Tells v (next v)) → Tells w (continue t.0 t.1 next)
 continue-tells w (v, None) next first rest = tells-then w v _ _ first (rest v)
 continue-tells w (v, Some s) next first rest = first
 
-go-tells : (w : World) (x : Next) (next : World → Outcome) → ((r : Refusal) → x ≡ End r → is_calm r ≡ true) → ((v : World) → StopsTold v (next v).0 (refused_stop (next v).1))
-    → StopsTold w (go w x next).0 (refused_stop (go w x next).1)
-go-tells w Pass next other rest = rest w
-go-tells w (End r) next other rest = record { events = []; told = sym (append-nil w.events); tells = sym (calm-stops r (other r refl)) }
-go-tells w (Do a) next other rest = continue-tells w (act w a) next (act-tells w a) rest
+-- of entries that end a plan for no stop
+module _ (Ok : World → Act → Type 0) (First Why : Refusal → Type 0) (first : (r : Refusal) → First r → NoStop r) (why : (r : Refusal) → Why r → NoStop r) where
+  end-tells : (w : World) (r : Refusal) → NoStop r → Tells w (w, Some r)
+  end-tells w r other = record { events = []; told = sym (append-nil w.events); tells = sym (no-stop-refused r other) }
 
-pub carry-tells : (w : World) (ds : List Entry) → Unstopped ds → StopsTold w (carry w ds).0 (refused_stop (carry w ds).1)
-unfolding carry Unstopped
-carry-tells w [] calm = record { events = []; told = sym (append-nil w.events); tells = refl }
-carry-tells w (d ∷ ds) calm = go-tells w (d w.control) (λ v. carry v ds) (calm.0 w.control) (λ v. carry-tells v ds calm.1)
+  next-tells : (w : World) (x : Next) (next : World → Outcome) (more : Type 0) → FineThen any_world Ok Why w x more → (more → (v : World) → Tells v (next v)) → Tells w (go w x next)
+  next-tells w Pass next more fine rest = rest fine w
+  next-tells w (End r) next more fine rest = end-tells w r (why r fine)
+  next-tells w (Do a) next more fine rest = continue-tells w (act w a) next (act-tells w a) (rest fine.1)
+
+  carry-tells : (w : World) (ds : List Entry) → AllFine any_world Ok Why ds → Tells w (carry w ds)
+  unfolding carry AllFine
+  carry-tells w [] fine = record { events = []; told = sym (append-nil w.events); tells = refl }
+  carry-tells w (d ∷ ds) fine = next-tells w (d w.control) (λ v. carry v ds) (AllFine any_world Ok Why ds) (fine w tt) (λ rest v. carry-tells v ds rest)
+
+  from-next : (w : World) (x : Next) (ds : List Entry) → FromThen any_world Ok First Why w x (FineFrom any_world Ok First Why w ds) (AllFine any_world Ok Why ds) → (FineFrom any_world Ok First Why w ds → Tells w (carry w ds)) → Tells w (go w x (λ v. carry v ds))
+  from-next w Pass ds fine rest = rest fine
+  from-next w (End r) ds fine rest = end-tells w r (first r fine)
+  from-next w (Do a) ds fine rest = continue-tells w (act w a) (λ v. carry v ds) (act-tells w a) (λ v. carry-tells v ds fine.1)
+
+  pub from-tells : (w : World) (ds : List Entry) → FineFrom any_world Ok First Why w ds → Tells w (carry w ds)
+  unfolding carry FineFrom
+  from-tells w [] fine = record { events = []; told = sym (append-nil w.events); tells = refl }
+  from-tells w (d ∷ ds) fine = from-next w (d w.control) ds fine (from-tells w ds)
+
+-- the entries of each plan
+pub ending-tells : (w : World) (line : ℕ) (p : Plan) → Ending w.control w.events line p → Tells (begun w p) (carry (begun w p) p.entries)
+ending-tells w line _ (OnePlan asked p c) = from-tells (Acts w.control asked) NoStop (Late asked) (λ r e. e) (λ r late. late.why) (begun w p) p.entries (case-does w line asked p c).entries
+ending-tells w line _ (Imaged vs) = from-tells (λ u a. Unit {0}) NoStop NoStop (λ r e. e) (λ r e. e) (begun w (image_plan vs)) [] (from-none any_world (λ u a. Unit {0}) NoStop NoStop _)

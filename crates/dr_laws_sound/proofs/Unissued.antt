@@ -1,8 +1,7 @@
 -- No act of a step issues a write: the writes that a journal tells of are as they were before its entries.
-use Rattle.std.proofs.Common.{◌≡◌, List, [], ◌∷◌, ◌++◌, refl, ap, ◌∙◌, true, Option, Some, None}
-use Rattle.std.proofs.lemmas.List.Sums.{fold-append}
+use Rattle.std.proofs.Common.{◌≡◌, List, [], ◌∷◌, ◌++◌, refl, ◌∙◌, true, Option, Some, None}
 use Rattle.dr_model.specs.declared.event.Event.TheVariants.{Stopped, Ack, Frozen, Thawed, Recovered}
-use Rattle.dr_model.specs.Histories.{Histories, histories, after_event}
+use Rattle.dr_model.specs.Histories.{histories}
 use Rattle.dr_model.specs.Control.{Fuse, Volume, World}
 use Rattle.dr_model.specs.Moves.{Move, Hold, target, told, told_in_stop, landed}
 use Rattle.dr_model.specs.Carry.{Act, Make, OpenAttempt, Redo, Acknowledge, Drop, EndFreeze, EndThaw, EndRecovery, Next, Pass, Do, End, Entry, Turn, Outcome, act, carry, continue, go}
@@ -20,11 +19,7 @@ done-writes w (EndThaw l m) f = with-told w (Thawed l m ∷ []) refl
 done-writes w (EndRecovery s n) f = with-told w (Recovered s n ∷ []) refl
 
 pub stopped-writes : (w : World) (m : Move) → let u : Volume = w.control.volume (target m) in (histories (w.events ++ (told_in_stop m u ++ Stopped u.server (landed m) ∷ []))).write ≡ (histories w.events).write
-stopped-writes w m =
-    let u = w.control.volume (target m) in
-    let es = told_in_stop m u in
-    let s = Stopped u.server (landed m) in
-    with-told w (es ++ s ∷ []) (ap (λ (x : Histories). x.write) (fold-append after_event (histories w.events) es (s ∷ [])) ∙ stop-writes (histories w.events) m u)
+stopped-writes w m = let u = w.control.volume (target m) in with-told w (told_in_stop m u ++ Stopped u.server (landed m) ∷ []) (stop-writes (histories w.events) m u u.server (landed m))
 
 then-writes : (w : World) (t : Turn) (next : World → Outcome) → Alike t.0 w → ((v : World) → Alike (next v).0 v) → Alike (continue t.0 t.1 next).0 w
 then-writes w (v, None) next same more = more v ∙ same

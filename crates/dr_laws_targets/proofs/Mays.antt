@@ -1,6 +1,6 @@
 -- What may come in a sound world keeps that targets that count show their cuts and stand in their groups: a move, and the first hold of an
 -- attempt, done or counted as done in a stop.
-use Rattle.std.proofs.Common.{ℕ, ◌≡◌, ◌∙◌, ap, sym, true, List, ◌++◌, Option, subst}
+use Rattle.std.proofs.Common.{ℕ, ◌≡◌, refl, ◌∙◌, ap, sym, true, List, ◌++◌, Option, subst}
 use Rattle.dr_model.specs.declared.event.Event.{Event}
 use Rattle.dr_model.specs.Histories.{Write, histories, lists}
 use Rattle.dr_model.specs.Control.{World}
@@ -12,7 +12,7 @@ use Rattle.dr_model.specs.Laws.{SoundBut}
 use Rattle.dr_model.specs.Allowed.{May, MayOpen}
 use Rattle.dr_model.specs.Cuts.{cuts, cut_for, next_cuts}
 use Rattle.dr_laws_cuts.specs.Sound.{SoundCuts, MovedTo}
-use Rattle.dr_laws_cuts.proofs.Told.{IsNoHold}
+use Rattle.dr_laws_cuts.proofs.Told.{TellsNoCut}
 use Rattle.dr_laws_closed.specs.Moments.{standing}
 use Rattle.dr_laws_closed.specs.Closing.{Closing}
 use Rattle.dr_laws_closed.specs.Next.{next_standing}
@@ -36,14 +36,14 @@ module _ (starts : Option ℕ) (w : World) (sound : SoundBut starts w) (kept : S
   leads m to tell commit us sessions new = counted-world x write us (after write (table w) m) (next_cuts (lists w.events) m (cuts w.events)) (next_standing m (w.control.volume (target m)) (standing w.events))
       (next_committed m (w.control.volume (target m)) (committeds w.events)) to.writes sessions to.rows tell.cut tell.stand commit new
 
-  moves : (m : Move) → IsNoHold m → May w m → MovedTo w x m → ToldOf w.events x.events m (w.control.volume (target m)) → committeds x.events ≡ next_committed m (w.control.volume (target m)) (committeds w.events) → x.control.sessions ≡ w.control.sessions → TargetsShowCuts x
+  moves : (m : Move) → TellsNoCut m → May w m → MovedTo w x m → ToldOf w.events x.events m (w.control.volume (target m)) → committeds x.events ≡ next_committed m (w.control.volume (target m)) (committeds w.events) → x.control.sessions ≡ w.control.sessions → TargetsShowCuts x
   moves m other may to tell commit sessions = leads m to tell commit w.control.sessions sessions
       (subst (λ c. CountedIn write w.control.sessions (after write (table w) m) c (next_standing m (w.control.volume (target m)) (standing w.events)) (next_committed m (w.control.volume (target m)) (committeds w.events)))
       (sym (no-other-cut (lists w.events) m (cuts w.events) other)) (moved starts w sound kept old m may.allowed may.group))
 
   keeps : (m : Move) → May w m → MovedTo w x m → ToldOf w.events x.events m (w.control.volume (target m)) → committeds x.events ≡ next_committed m (w.control.volume (target m)) (committeds w.events) → x.control.sessions ≡ w.control.sessions → TargetsShowCuts x
   keeps (Hold v s n first) may to tell commit sessions = leads (Hold v s n first) to tell commit w.control.sessions sessions (held starts w sound kept old closing v s n first may.allowed)
-  keeps m may to tell commit sessions = moves m tt may to tell commit sessions
+  keeps m may to tell commit sessions = moves m refl may to tell commit sessions
 
   opens : (v s n : ℕ) → MayOpen w v s n → MovedTo w x (Hold v s n true) → ToldOf w.events x.events (Hold v s n true) (w.control.volume v) → committeds x.events ≡ committeds w.events → x.control.sessions ≡ changed s begun w.control.sessions → TargetsShowCuts x
   opens v s n may to tell commit sessions =

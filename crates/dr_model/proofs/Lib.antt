@@ -6,8 +6,6 @@
 --   `refl` for each (`Asking.antt`). The bytes of a track are built from the last write to the first by `over known
 --   bytes under`: what is known lies over what is still underneath (`over-laid`, `over-none`, `over-cleared` in
 --   `Overlay.antt`).
--- - **A predicate on a list of entries** (`Unstopped`, `Costs`, `AllLight`) is `unfoldable`, with a lemma for each way
---   to go on: as an `abbrev` it unfolds under a blank, and no `_` is found.
 pub mod Asking
 pub mod Images
 pub mod Overlay

@@ -1,16 +1,14 @@
 -- What is counted of the messages in flight has room for one more, where the journal has room for a step.
 use Rattle.std.proofs.Common.{ℕ, ◌≡◌, ◌≤◌, ◌+◌, subst, arith, Bool, true, cond, length, nat_le, Ok}
 use Rattle.std.proofs.lemmas.Bool.Decides.{nat_tests}
-use Rattle.dr_ids.specs.declared.refusal.Refusal.TheVariants.{JournalFull}
 use Rattle.dr_model.specs.declared.step.Step.{Step}
 use Rattle.dr_model.specs.Control.{World}
 use Rattle.dr_model.specs.Laws.{IsCounted, FlightCounted}
 use Rattle.dr_model.specs.Limits.{most_events, step_events}
 use Rattle.dr_model.specs.Messages.{Flight}
-use Rattle.dr_model.specs.PlanParts.{refuses}
 use Rattle.dr_model.specs.Plans.{Plan, plan_of, has_room}
 use Rattle.dr_model.specs.Runs.{after_plan}
-use Rattle.dr_laws_sound.proofs.Cases.{Case, plan-case}
+use Rattle.dr_laws_sound.proofs.Cases.{Case, of-case}
 use Rattle.dr_laws_sound.proofs.FlightCounts.{counted-carried}
 use Rattle.dr_laws_sound.proofs.Parts.{OnePlan}
 use Rattle.dr_steps.specs.Counts.{HasCounts}
@@ -37,6 +35,6 @@ pub behind-plan : (w u : World) (line : ℕ) (step : Step) → has_room w.events
 unfolding after_plan
 behind-plan w u line step room counted is =
     let p : Plan = plan_of w.control w.events line step in
-    let case : Case w.control w.events line p = subst (λ (b : Bool). Case w.control w.events line (cond b p (refuses JournalFull))) room (plan-case w.control w.events line (Ok step)) in
+    let case : Case w.control w.events line (Ok step) p = of-case w.control w.events line step in
     let few = with-room (length w.events) step_events most_events room in
-    subst (λ (v : World). HasCounts (length v.control.servers) v.control.flight) is (have (length w.events + 1) (length (after_plan w line p).control.servers) (after_plan w line p).control.flight (omega (arith, few)) (counted-carried w line p (OnePlan p case) counted))
+    subst (λ (v : World). HasCounts (length v.control.servers) v.control.flight) is (have (length w.events + 1) (length (after_plan w line p).control.servers) (after_plan w line p).control.flight (omega (arith, few)) (counted-carried w line p (OnePlan (Ok step) p case) counted))

@@ -30,7 +30,7 @@ use Rattle.dr_model.specs.Runs.{Task, OwnCourse, Devices, own_course, course_of,
 use Rattle.dr_model.specs.Layout.{Blocks}
 use Rattle.dr_model.specs.Listed.{Lists, ListsBy, listed_by, task_on}
 use Rattle.dr_model.proofs.CarryLemmas.{plan-refuses}
-use Rattle.dr_laws_sound.proofs.Journal.{EndsAnswered, after_task-ends, is_answer, Silent}
+use Rattle.dr_laws_sound.proofs.Journal.{EndsAnswered, after_task-ends, is_answer, NoAnswer}
 use Rattle.dr_steps.specs.declared.tables.Tables.{Tables}
 use Rattle.dr_plant.specs.State.{PlantState}
 use Rattle.dr_config.specs.Table.{ConfigTable}
@@ -198,7 +198,7 @@ stop-answer : (e : Event) → is_answer e ≡ false → is_stop e ≡ false
 stop-answer (Answer line code a b c) h = cc
 stop-answer _ h = refl
 
-pub none-silent : (es : List Event) → Silent es → list_any is_stop es ≡ false
+pub none-silent : (es : List Event) → NoAnswer es → list_any is_stop es ≡ false
 none-silent [] h = refl
 none-silent (e ∷ es) h =
     let both = or_parts (is_answer e) (list_any is_answer es) h in

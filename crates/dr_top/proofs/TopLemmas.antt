@@ -30,7 +30,7 @@ use Rattle.dr_laws_sound.specs.Showing.{ShowsDevices}
 use Rattle.dr_laws_sound.proofs.RefusedRuns.{refused-run}
 use Rattle.dr_laws_sound.proofs.Shows.{shown-run}
 use Rattle.dr_laws_freezes.specs.Windows.{EndsInCut}
-use Rattle.dr_laws_freezes.proofs.FairSteps.{cut-run}
+use Rattle.dr_laws_freezes.proofs.WindowSteps.{cut-run}
 use Rattle.dr_laws_freezes.proofs.Betweens.{in-sync-run}
 use Rattle.dr_laws_freezes.proofs.FreezesHold.{freezes-hold}
 use Rattle.dr_laws_freezes.proofs.EndsInCut.{ends-in-cut}

@@ -1,4 +1,4 @@
-use Rattle.dr_laws_freezes.proofs.FairSteps.{cut-run}
+use Rattle.dr_laws_freezes.proofs.WindowSteps.{cut-run}
 use Rattle.dr_laws_freezes.proofs.freezes_leave_one_cut.Goals as goal
 
 pub returns : goal.returns

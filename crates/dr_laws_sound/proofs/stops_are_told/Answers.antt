@@ -1,7 +1,6 @@
 use Rattle.dr_laws_sound.proofs.Parts.{each-plan}
-use Rattle.dr_laws_sound.proofs.StopsTold.{carry-tells}
-use Rattle.dr_laws_sound.proofs.CalmPlans.{ending-calm}
+use Rattle.dr_laws_sound.proofs.StopsTold.{ending-tells}
 use Rattle.dr_laws_sound.proofs.stops_are_told.Goals as goal
 
 pub returns : goal.returns
-returns c = λ w t x there. carry-tells _ _ (ending-calm x.world.control x.world.events t.line x.plan (each-plan (λ v. Unit {0}) (λ v p comes k. tt) w t tt x there).1)
+returns c = λ w t x there. ending-tells x.world t.line x.plan (each-plan (λ v. Unit {0}) (λ v p comes k. tt) w t tt x there).1

@@ -10,7 +10,7 @@ use Rattle.dr_gmirror.specs.Orders.{with_sessions}
 use Rattle.dr_gmirror.proofs.BeginLemmas.{to_begin-one}
 use Rattle.dr_gmirror.proofs.ExchangeLemmas.{leaves-delivered}
 use Rattle.dr_gmirror.proofs.OrderLemmas.{report-only, reply-is}
-use Rattle.dr_laws_sound.proofs.SessionCosts.{few-on}
+use Rattle.dr_laws_sound.proofs.EntryLengths.{few-on}
 use Rattle.dr_gmirror.proofs.orders.carry_out.Goals as goal
 
 pub returns-in-Ok-clause-leads : goal.returns-in-Ok-clause-leads

@@ -1,4 +1,4 @@
--- Sending tracks to a secondary is fair.
+-- Sending tracks to a secondary in freeze windows.
 use Rattle.std.proofs.Common.{ℕ, ◌≡◌, ◌≢◌, ◌<◌, inl, refl, ap, sym, ◌∙◌, subst, Bool, true, false, cond, not, ◌&&◌, ◌||◌, List, [], ◌∷◌, ◌++◌, append_assoc, map, Option, Some, None}
 use Rattle.std.specs.Prelude.{is_some}
 use Rattle.std.specs.Option.{option_or}
@@ -12,27 +12,24 @@ use Rattle.dr_model.specs.declared.state.PairState.TheVariants.{CopyPending, Ful
 use Rattle.dr_model.specs.Refusals.{server_off, unknown}
 use Rattle.dr_model.specs.Layout.{Fields, is_part}
 use Rattle.dr_model.specs.Pairs.{secondary_of, is_metro, is_full_duplex, is_suspended, is_pending, is_secondary_of, pair_seen, is_last}
-use Rattle.dr_model.specs.Control.{Control, Fuse, Volume, World, is_volume}
+use Rattle.dr_model.specs.Control.{Fuse, Volume, World, is_volume}
 use Rattle.dr_model.specs.Moves.{Move, Keep, Note, Store, Strike, Suspend, target}
 use Rattle.dr_model.specs.Carry.{Make, Pass, Do, End, Entry}
-use Rattle.dr_model.specs.Entries.{fields_at, is_running, keep_on, copies_from}
-use Rattle.dr_model.specs.PairEntries.{has_path, link_down, send_refusal, end_if, refuse_if, suspend_where, flashed_refusal, store_on, strike_on, send_entries, sends, suspend_after, is_copying, tracks_to_send}
+use Rattle.dr_model.specs.Entries.{fields_at, is_running, keep_on}
+use Rattle.dr_model.specs.PairEntries.{has_path, link_down, send_refusal, end_if, refuse_if, suspend_where, flashed_refusal, store_on, strike_on, send_entries, sends, is_copying, tracks_to_send}
 use Rattle.dr_model.specs.Plans.{Plan, drain_plan, is_defined}
-use Rattle.dr_model.specs.Allowed.{Runs}
+use Rattle.dr_model.specs.Allowed.{May, Runs}
 use Rattle.dr_laws_sound.proofs.Turns.{done, next_of}
-use Rattle.dr_laws_sound.proofs.KeepsSound.{Along, Then, comes}
+use Rattle.dr_laws_sound.proofs.KeepsSound.{Along, comes}
 use Rattle.dr_laws_sound.proofs.FitsFlash.{as_begun}
 use Rattle.dr_laws_sound.proofs.FitsPairs.{row, runs-done, part-same}
-use Rattle.dr_laws_sound.proofs.FitsDrain.{along-drain, suspends-after}
-use Rattle.dr_laws_freezes.proofs.Fair.{is_locked}
-use Rattle.dr_laws_freezes.proofs.Tidy.{is_synced}
-use Rattle.dr_model.specs.Histories.{histories}
-use Rattle.std.proofs.lemmas.List.{append-nil}
-use Rattle.dr_laws_freezes.proofs.Chains.{Fairly, fairly_next, fairly-entry, fairly-nil, good-none, EndFin, PlanFin, told-unchanged, retabled-none}
-use Rattle.dr_laws_freezes.proofs.FairPlans.{EasyNext, AllEasy, Between, easy-fairly}
-use Rattle.dr_laws_freezes.proofs.FairCases.{rows-between, answers-between, begun-between, Fair}
-use Rattle.dr_laws_freezes.proofs.FairCopy.{fairly-check}
-use Rattle.dr_laws_freezes.proofs.FairPairs.{move-fairly}
+use Rattle.dr_laws_sound.proofs.FitsDrain.{along-drain}
+use Rattle.dr_laws_freezes.proofs.WindowMoves.{is_locked}
+use Rattle.dr_laws_freezes.proofs.InSync.{is_synced}
+use Rattle.dr_laws_freezes.proofs.Chains.{WindowAlong, window-entry, window-nil, good-none, PlanFin}
+use Rattle.dr_laws_freezes.proofs.WindowActs.{Between, window-move, window-check, window-refuse}
+use Rattle.dr_laws_freezes.proofs.WindowWithin.{Keeps, window-copies, within-between, window-after}
+use Rattle.dr_laws_freezes.proofs.WindowPlans.{rows-between, answers-between, begun-between, EntriesHold}
 use Rattle.dr_logic.proofs.Choices.{chosen, choose_some}
 use Rattle.dr_facts.proofs.Tables.{at_part}
 use Rattle.dr_logic.proofs.Truth.{false_true}
@@ -48,13 +45,6 @@ locked-synced f going h = let both = and_parts (is_metro f.primary) _ h in and_f
     by false false l i h = absurd cc
 
 module _ (Fin : Option ℕ → World → Option Refusal → Type 0) (fin : (w : World) (r : Option Refusal) → Between w → Fin None w r) where
-  fairly-refuse : (w : World) → Between w → (why : Control → Option Refusal) (ds : List Entry) → Along w (refuse_if why ∷ ds) → (why w.control ≡ None → Along w ds → Fairly Fin None w ds) → Fairly Fin None w (refuse_if why ∷ ds)
-  fairly-refuse w k why ds a go = fairly-entry Fin None w (refuse_if why) ds (end_if (why w.control)) refl (good-none w k.sound.rows) (by (why w.control) refl (comes w (refuse_if why) ds (end_if (why w.control)) refl a))
-    where
-      by : (o : Option Refusal) → why w.control ≡ o → Then w (end_if o) (λ v. Along v ds) → fairly_next Fin None w (end_if o) (λ tag v. Fairly Fin tag v ds)
-      by None is a = go is a
-      by (Some r) is a = fin w (Some r) k
-
   module _ (volumes : List ℕ) (a b : ℕ) where
     -- what lasts
     pub record Sends (w : World) : Type 0 where
@@ -73,33 +63,24 @@ module _ (Fin : Option ℕ → World → Option Refusal → Type 0) (fin : (w : 
 
     -- where it is locked it is clean
     clean : (w : World) → Between w → Sends w → is_locked (fields_at w.control a) ≡ true → (t : ℕ) → contains (fields_at w.control a).out_of_sync t ≡ false
-    clean w k x locked = k.tidy.clean a x.there x.on (locked-synced (fields_at w.control a) x.going locked)
+    clean w k x locked = k.in_sync.clean a x.there x.on (locked-synced (fields_at w.control a) x.going locked)
 
-    module _ (t : ℕ) (more : List Entry) (go : (v : World) → Between v → Sends v → Along v more → Fairly Fin None v more) where
-      keeps : (xs : List ℕ) (es : List Entry) (w : World) → Between w → Sends w → Along w (map (keep_on b t) xs ++ es) → ((v : World) → Between v → Sends v → Along v es → Fairly Fin None v es) → Fairly Fin None w (map (keep_on b t) xs ++ es)
-      keeps [] es w k x al on = on w k x al
-      keeps (u ∷ us) es w k x al on =
-          by (copies_from b (fields_at w.control u) && not (fields_at w.control u).reversing) (not (contains (fields_at w.control u).own t)) ((fields_at w.control u).recorded && not (contains (fields_at w.control u).source_changes t)) refl (λ v k x al. keeps us es v k x al on)
-        where
-          ds : List Entry
-          ds = map (keep_on b t) us ++ es
+    -- over what the targets of b keep
+    abbrev Lasts : World → Type 0
+    Lasts w = Between w × Sends w
 
-          by : (p c r : Bool) → keep_on b t u w.control ≡ cond p (cond c (Do (Make (Keep u t))) (cond r (Do (Make (Note u t))) Pass)) Pass → ((v : World) → Between v → Sends v → Along v ds → Fairly Fin None v ds) → Fairly Fin None w (keep_on b t u ∷ ds)
-          by true true r is rest =
-              let one = comes w (keep_on b t u) ds (Do (Make (Keep u t))) is al in
-              move-fairly Fin fin w k (keep_on b t u) (Keep u t) ds is one.0 tt tt refl (λ f b. rest (done w (Keep u t) f) b (sends-done w (Keep u t) f refl refl x) (one.1 f b.sound))
-          by true false true is rest =
-              let one = comes w (keep_on b t u) ds (Do (Make (Note u t))) is al in
-              move-fairly Fin fin w k (keep_on b t u) (Note u t) ds is one.0 tt tt refl (λ f b. rest (done w (Note u t) f) b (sends-done w (Note u t) f refl refl x) (one.1 f b.sound))
-          by true false false is rest = fairly-entry Fin None w (keep_on b t u) ds Pass is (good-none w k.sound.rows) (rest w k x (comes w (keep_on b t u) ds Pass is al))
-          by false c r is rest = fairly-entry Fin None w (keep_on b t u) ds Pass is (good-none w k.sound.rows) (rest w k x (comes w (keep_on b t u) ds Pass is al))
+    keeps-lasts : (w : World) → Lasts w → (d : Entry) (m : Move) (ds : List Entry) → Keeps m → d w.control ≡ Do (Make m) → May w m → ((f : Option Fuse) → Lasts (done w m f) → WindowAlong Fin None (done w m f) ds) → WindowAlong Fin None w (d ∷ ds)
+    keeps-lasts w k d (Keep u q) ds ok is may go = window-move Fin fin w k.0 d (Keep u q) ds is may tt tt refl (λ f z. go f (z, sends-done w (Keep u q) f refl refl k.1))
+    keeps-lasts w k d (Note u q) ds ok is may go = window-move Fin fin w k.0 d (Note u q) ds is may tt tt refl (λ f z. go f (z, sends-done w (Note u q) f refl refl k.1))
+    keeps-lasts w k d m ds ok is may go = absurd ok
 
-      strikes : (w : World) → Between w → Sends w → Along w (strike_on a t ∷ more) → Fairly Fin None w (strike_on a t ∷ more)
+    module _ (t : ℕ) (more : List Entry) (go : (v : World) → Between v → Sends v → Along v more → WindowAlong Fin None v more) where
+      strikes : (w : World) → Between w → Sends w → Along w (strike_on a t ∷ more) → WindowAlong Fin None w (strike_on a t ∷ more)
       strikes w k x al =
           let last : Bool = is_last (fields_at w.control a) t in
           let m : Move = Strike a t last in
           let one = comes w (strike_on a t) more (Do (Make m)) refl al in
-          move-fairly Fin fin w k (strike_on a t) m more refl one.0 (λ locked. clean w k x locked t) refl refl (λ f z. go (done w m f) z (record {
+          window-move Fin fin w k (strike_on a t) m more refl one.0 (λ locked. clean w k x locked t) refl refl (λ f z. go (done w m f) z (record {
             on = runs-done w m f a x.on;
             there = x.there;
             to = part-same w m f secondary_of refl a ∙ x.to;
@@ -113,18 +94,18 @@ module _ (Fin : Option ℕ → World → Option Refusal → Type 0) (fin : (w : 
           by true s h = refl
           by false s h = h
 
-      stores : (w : World) → Between w → Sends w → Along w (store_on a b t ∷ strike_on a t ∷ more) → Fairly Fin None w (store_on a b t ∷ strike_on a t ∷ more)
+      stores : (w : World) → Between w → Sends w → Along w (store_on a b t ∷ strike_on a t ∷ more) → WindowAlong Fin None w (store_on a b t ∷ strike_on a t ∷ more)
       stores w k x al =
           let last : Bool = is_last (fields_at w.control a) t in
           let m : Move = Store b t a last in
           let one = comes w (store_on a b t) (strike_on a t ∷ more) (Do (Make m)) refl al in
           let rows = k.sound.rows in
-          move-fairly Fin fin w k (store_on a b t) m (strike_on a t ∷ more) refl one.0
+          window-move Fin fin w k (store_on a b t) m (strike_on a t ∷ more) refl one.0
           (λ locked.
           let synced = locked-synced (fields_at w.control a) x.going locked in
           let metro = (and_parts (is_metro (fields_at w.control a).primary) _ synced).0 in
           rows.pairs a b x.to (inl one.0.allowed.takes) t (subst (λ n. t < n) (sym (rows.parts.secondary a b x.to).same_tracks) one.0.allowed.low)
-          (λ i. clean w k x locked t i || (k.tidy.free a).changes metro t i)
+          (λ i. clean w k x locked t i || (k.in_sync.free a).changes metro t i)
           (λ back. false_true ((rows.parts.one b).one (chosen _ _ a back).0) (chosen _ _ a one.0.allowed.takes).0))
           tt refl (λ f z. strikes (done w m f) z (sends-done w m f refl refl x) (one.1 f z.sound))
 
@@ -135,11 +116,11 @@ module _ (Fin : Option ℕ → World → Option Refusal → Type 0) (fin : (w : 
       abbrev refusals : List Entry
       refusals = refuse_if (send_refusal a b) ∷ refuse_if (flashed_refusal b) ∷ stored
 
-      goes : (w : World) → Between w → Sends w → Along w refusals → Fairly Fin None w refusals
+      goes : (w : World) → Between w → Sends w → Along w refusals → WindowAlong Fin None w refusals
       goes w k x al =
-          fairly-refuse w k (send_refusal a b) (refuse_if (flashed_refusal b) ∷ stored) al (λ none al.
-          fairly-refuse w k (flashed_refusal b) stored al (λ plain al.
-          keeps volumes (store_on a b t ∷ strike_on a t ∷ more) w k x al stores))
+          window-refuse Fin fin w k (send_refusal a b) (refuse_if (flashed_refusal b) ∷ stored) al (λ none al.
+          window-refuse Fin fin w k (flashed_refusal b) stored al (λ plain al.
+          window-copies Fin None Lasts (λ v y. y.0.sound) (λ v y. good-none v y.0.sound.rows) keeps-lasts b t volumes (store_on a b t ∷ strike_on a t ∷ more) w (k, x) al (λ v y. stores v y.0 y.1)))
 
       module _ (w : World) (f : Option Fuse) (k : Between w) (x : Sends w) where
         abbrev why : ℕ → Volume → Option Refusal
@@ -153,27 +134,27 @@ module _ (Fin : Option ℕ → World → Option Refusal → Type 0) (fin : (w : 
         still-refused : send_refusal a b (done w (Suspend a false) f).control ≡ send_refusal a b w.control
         still-refused = λ i. why (at_part (λ (y : Volume). y.server) w.control.volume a (row w (Suspend a false) f) refl a i) (at_other w.control.volume a (row w (Suspend a false) f) b ne i)
 
-      suspends-by : (w : World) (o : Option Refusal) → Between w → Sends w → send_refusal a b w.control ≡ o → Along w (suspend_where (send_refusal a b) a ∷ refusals) → Fairly Fin None w (suspend_where (send_refusal a b) a ∷ refusals)
+      suspends-by : (w : World) (o : Option Refusal) → Between w → Sends w → send_refusal a b w.control ≡ o → Along w (suspend_where (send_refusal a b) a ∷ refusals) → WindowAlong Fin None w (suspend_where (send_refusal a b) a ∷ refusals)
       suspends-by w None k x is al =
           let d : Entry = suspend_where (send_refusal a b) a in
           let passes : d w.control ≡ Pass = ap (λ o. cond (is_some o) (Do (Make (Suspend a false))) Pass) is in
-          fairly-entry Fin None w d refusals Pass passes (good-none w k.sound.rows) (goes w k x (comes w d refusals Pass passes al))
+          window-entry Fin None w d refusals Pass passes (good-none w k.sound.rows) (goes w k x (comes w d refusals Pass passes al))
       suspends-by w (Some r) k x is al =
           let d : Entry = suspend_where (send_refusal a b) a in
           let does : d w.control ≡ Do (Make (Suspend a false)) = ap (λ o. cond (is_some o) (Do (Make (Suspend a false))) Pass) is in
           let one = comes w d refusals (Do (Make (Suspend a false))) does al in
-          move-fairly Fin fin w k d (Suspend a false) refusals does one.0 tt tt refl (λ f z.
+          window-move Fin fin w k d (Suspend a false) refusals does one.0 tt tt refl (λ f z.
           let u : World = done w (Suspend a false) f in
-          fairly-entry Fin None u (refuse_if (send_refusal a b)) (refuse_if (flashed_refusal b) ∷ stored) (End r) (ap end_if (still-refused w f k x ∙ is)) (good-none u z.sound.rows) (fin u (Some r) z))
+          window-entry Fin None u (refuse_if (send_refusal a b)) (refuse_if (flashed_refusal b) ∷ stored) (End r) (ap end_if (still-refused w f k x ∙ is)) (good-none u z.sound.rows) (fin u (Some r) z))
 
-      sends-one : (w : World) → Between w → Sends w → Along w (send_entries volumes a b t ++ more) → Fairly Fin None w (send_entries volumes a b t ++ more)
+      sends-one : (w : World) → Between w → Sends w → Along w (send_entries volumes a b t ++ more) → WindowAlong Fin None w (send_entries volumes a b t ++ more)
       sends-one w k x al =
           let assoc : send_entries volumes a b t ++ more ≡ suspend_where (send_refusal a b) a ∷ refusals =
           ap (λ ds. suspend_where (send_refusal a b) a ∷ refuse_if (send_refusal a b) ∷ refuse_if (flashed_refusal b) ∷ ds) (append_assoc (map (keep_on b t) volumes) (store_on a b t ∷ strike_on a t ∷ []) more) in
-          subst (Fairly Fin None w) (sym assoc) (suspends-by w (send_refusal a b w.control) k x refl (subst (Along w) assoc al))
+          subst (WindowAlong Fin None w) (sym assoc) (suspends-by w (send_refusal a b w.control) k x refl (subst (Along w) assoc al))
 
-    pub sends-all : (ts : List ℕ) (w : World) → Between w → Sends w → Along w (sends volumes a b ts) → Fairly Fin None w (sends volumes a b ts)
-    sends-all [] w k x al = fairly-nil Fin None w (good-none w k.sound.rows) (fin w None k)
+    pub sends-all : (ts : List ℕ) (w : World) → Between w → Sends w → Along w (sends volumes a b ts) → WindowAlong Fin None w (sends volumes a b ts)
+    sends-all [] w k x al = window-nil Fin None w (good-none w k.sound.rows) (fin w None k)
     sends-all (t ∷ ts) w k x al = sends-one t (sends volumes a b ts) (λ v k x al. sends-all ts v k x al) w k x al
 
 -- a primary in Copy Pending is drained
@@ -184,17 +165,9 @@ module _ (w : World) (k : Between w) (a : ℕ) (most : Option ℕ) where
   abbrev Fins : Option ℕ → World → Option Refusal → Type 0
   Fins = PlanFin Between rows-between answers-between p
 
-  easy-after : (s : ℕ) → AllEasy (suspend_after a s)
-  unfolding AllEasy
-  easy-after s = ((λ k. by k (is_part (fields_at k a).primary && is_running a k)), tt)
-    where
-      by : (k : Control) (b : Bool) → EasyNext k (cond b (Do (Make (Suspend a false))) Pass)
-      by k true = tt
-      by k false = tt
-
   fins : (u : World) (r : Option Refusal) → Between u → Fins None u r
   fins u None b = b
-  fins u (Some (StoppedIn s)) b = easy-fairly (EndFin Between rows-between answers-between) (λ u r b. b) (suspend_after a s.0) u b (easy-after s.0) (suspends-after a s.0 u b.sound)
+  fins u (Some (StoppedIn s)) b = window-after a 0 u (within-between a 0 u b) s.0
   fins u (Some r) b = b
 
   pending-going : (s : PairState) → is_pending s ≡ true → is_suspended s ≡ false
@@ -202,19 +175,13 @@ module _ (w : World) (k : Between w) (a : ℕ) (most : Option ℕ) where
   pending-going FullDuplex h = absurd cc
   pending-going Suspended h = absurd cc
 
-  pub fair-drain : Fair w p
-  fair-drain =
+  pub window-drain : EntriesHold w p
+  window-drain =
       let u : World = as_begun w in
       let b : Between u = begun-between w k in
-      record {
-        told = [];
-        begins = told-unchanged w u [] refl tt (ap histories (append-nil w.events)) refl refl refl refl (λ v t. refl);
-        entries =
-            fairly-check Fins fins u b (is_defined a) _ _ (along-drain w k.sound a most) (λ there al.
-            fairly-check Fins fins u b (is_running a) _ _ al (λ on al.
-            fairly-check Fins fins u b (is_copying a) _ _ al (λ copying al.
-            let both = and_parts (is_part (fields_at w.control a).primary) _ copying in
-            sends-all Fins fins w.control.volumes a (fields_at w.control a).primary_partner (tracks_to_send most (w.control.volume a).tracks (fields_at w.control a).out_of_sync) u b
-            (record { on = on; there = there; to = choose_some (is_part (fields_at w.control a).primary) (fields_at w.control a).primary_partner both.0; going = pending-going (fields_at w.control a).primary_state both.1 }) al)));
-        last = retabled-none;
-      }
+      window-check Fins fins u b (is_defined a) _ _ (along-drain w k.sound a most) (λ there al.
+      window-check Fins fins u b (is_running a) _ _ al (λ on al.
+      window-check Fins fins u b (is_copying a) _ _ al (λ copying al.
+      let both = and_parts (is_part (fields_at w.control a).primary) _ copying in
+      sends-all Fins fins w.control.volumes a (fields_at w.control a).primary_partner (tracks_to_send most (w.control.volume a).tracks (fields_at w.control a).out_of_sync) u b
+      (record { on = on; there = there; to = choose_some (is_part (fields_at w.control a).primary) (fields_at w.control a).primary_partner both.0; going = pending-going (fields_at w.control a).primary_state both.1 }) al)))

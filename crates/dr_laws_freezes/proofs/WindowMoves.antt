@@ -26,14 +26,14 @@ OnlyOut w u t = (x : ℕ) → x ≢ t → contains (fields_at w.control u).out_o
 
 -- No write lands on a locked primary alone; what is sent from one its secondary has already, and what it strikes off isn't out
 -- of sync. From one a write is mirrored where no other track is out of sync, and it lands on both sides where it was mirrored last.
-abbrev pub Fair : Option ℕ → World → Move → Type 0
-Fair tag w (Land n v t) = is_locked (fields_at w.control v) ≡ false
-Fair tag w (Store v t u last) = is_locked (fields_at w.control u) ≡ true → w.contents u t ≡ w.contents v t
-Fair tag w (Strike v t last) = is_locked (fields_at w.control v) ≡ true → contains (fields_at w.control v).out_of_sync t ≡ false
-Fair tag w (MakePrimary v u kind state full) = is_part (fields_at w.control v).primary ≡ false
-Fair tag w (Mirror v t u n) = (is_locked (fields_at w.control u) ≡ true → OnlyOut w u t) × Unacked w n
-Fair tag w (LandBoth n v t) = (tag ≡ Some n) × Unacked w n
-Fair tag w m = Unit {0}
+abbrev pub WindowMay : Option ℕ → World → Move → Type 0
+WindowMay tag w (Land n v t) = is_locked (fields_at w.control v) ≡ false
+WindowMay tag w (Store v t u last) = is_locked (fields_at w.control u) ≡ true → w.contents u t ≡ w.contents v t
+WindowMay tag w (Strike v t last) = is_locked (fields_at w.control v) ≡ true → contains (fields_at w.control v).out_of_sync t ≡ false
+WindowMay tag w (MakePrimary v u kind state full) = is_part (fields_at w.control v).primary ≡ false
+WindowMay tag w (Mirror v t u n) = (is_locked (fields_at w.control u) ≡ true → OnlyOut w u t) × Unacked w n
+WindowMay tag w (LandBoth n v t) = (tag ≡ Some n) × Unacked w n
+WindowMay tag w m = Unit {0}
 
 -- the write that goes on after a move: its secondary has stored it, and it hasn't landed
 abbrev pub tag_after : Move → Option ℕ → Option ℕ

@@ -45,12 +45,12 @@ IsSettling f F x = SomeCommitted x.last (members_seen F x) ⊎ IsBound f x
 
 -- Each member of session x whose target can go back was flashed in its last attempt; up to the last flash so was each whose floor has reached its
 -- number; and so were all where the master commits, and where some can go back and some can't any more.
-pub record Ripe (f : Flight) (F : AllFields) (events : List Event) (x : Session) : Type 0 where
+pub record WereFlashed (f : Flight) (F : AllFields) (events : List Event) (x : Session) : Type 0 where
   pub turned : (m : Member) → In m x.members → (F m.c.0).revertible ≡ true → FlashedIn events x.number x.last m.a.0
   pub reached : IsEarly (phase_of x.mirror) → (m : Member) → In m x.members → x.last ≤ (F m.c.0).floor → FlashedIn events x.number x.last m.a.0
   pub commits : phase_of x.mirror ≡ phase.Committing → AllFlashedIn events x x.last
   pub settles : IsOpen f F x → IsSettling f F x → AllFlashedIn events x x.last
 
 -- so in a world
-abbrev pub AllRipe : World → Type 0
-AllRipe w = (x : Session) → In x w.control.sessions → Ripe w.control.flight (fields_at w.control) w.events x
+abbrev pub AllWereFlashed : World → Type 0
+AllWereFlashed w = (x : Session) → In x w.control.sessions → WereFlashed w.control.flight (fields_at w.control) w.events x

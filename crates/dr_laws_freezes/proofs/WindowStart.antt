@@ -1,4 +1,4 @@
--- The start of a server is fair: it leaves no pair torn.
+-- The start of a server in freeze windows: it leaves no pair torn.
 use Rattle.std.proofs.Common.{ℕ, ◌≡◌, ◌≢◌, inl, inr, refl, ap, sym, ◌∙◌, subst, Bool, true, false, cond, not, ◌&&◌, ◌||◌, nat_eq, List, [], ◌∷◌, ◌++◌, Option, Some, None}
 use Rattle.std.specs.Prelude.{option_map}
 use Rattle.std.proofs.lemmas.Bool.{and_parts, and_from, eq-eqb, eqb-true, ne_eqb, false≢true, or_parts}
@@ -22,17 +22,16 @@ use Rattle.dr_model.specs.Plans.{Plan, acknowledge_on, acknowledge_if, start_pla
 use Rattle.dr_model.specs.Runs.{begun}
 use Rattle.dr_model.specs.Laws.{servers}
 use Rattle.dr_model.specs.Allowed.{Runs}
-use Rattle.dr_model.proofs.Images.{histories-append}
 use Rattle.dr_laws_closed.proofs.Pendings.{each-on}
 use Rattle.dr_facts.proofs.Tables.{IsOrNot, at_cases, at_part}
 use Rattle.dr_laws_sound.proofs.Turns.{done, done_in_stop, not_done, fused}
 use Rattle.dr_laws_sound.proofs.FitsPairs.{row}
 use Rattle.dr_laws_sound.proofs.Starts as starts
-use Rattle.dr_laws_freezes.proofs.Fair.{Unacked, come}
-use Rattle.dr_laws_freezes.proofs.Tidy.{Clean, Free, free-left, clean-left, Fresh, Tidy, fresh-by, fresh-told, fresh-done, fresh-stop, all-other, above}
-use Rattle.dr_laws_freezes.proofs.Chains.{Fairly, fairly_next, fairly-entry, fairly-nil, PlanFin, EndFin, good-none, told-unchanged, retabled-none}
-use Rattle.dr_laws_freezes.proofs.FairPlans.{Between}
-use Rattle.dr_laws_freezes.proofs.FairCases.{rows-between, answers-between, Fair}
+use Rattle.dr_laws_freezes.proofs.WindowMoves.{Unacked, come}
+use Rattle.dr_laws_freezes.proofs.InSync.{Clean, Free, free-left, clean-left, Fresh, FullDuplexInSync, fresh-by, fresh-told, fresh-done, fresh-stop, all-other, above}
+use Rattle.dr_laws_freezes.proofs.Chains.{WindowAlong, window_next, window-entry, window-nil, PlanFin, EndFin, good-none}
+use Rattle.dr_laws_freezes.proofs.WindowActs.{Between}
+use Rattle.dr_laws_freezes.proofs.WindowPlans.{rows-between, answers-between, EntriesHold}
 use Rattle.dr_facts.proofs.Tracks.{bare-has}
 use Rattle.dr_logic.proofs.Tables.{at_same, at_other}
 
@@ -65,9 +64,9 @@ module _ (s : ℕ) where
     fresh : Fresh w
 
   -- the server stopped again: the others are clean
-  off-tidy : (w u : World) (left : List ℕ) → Going left w → u.control.volumes ≡ w.control.volumes → u.control.on ≡ at w.control.on s false → ((v : ℕ) → (servers w.control v ≡ s → ⊥) → u.control.volume v ≡ w.control.volume v) → ((v : ℕ) → servers u.control v ≡ servers w.control v)
-      → ((v : ℕ) → Free (fields_at u.control v)) → Fresh u → Tidy u
-  off-tidy w u left g volumes on same server free fresh = record {
+  off-in_sync : (w u : World) (left : List ℕ) → Going left w → u.control.volumes ≡ w.control.volumes → u.control.on ≡ at w.control.on s false → ((v : ℕ) → (servers w.control v ≡ s → ⊥) → u.control.volume v ≡ w.control.volume v) → ((v : ℕ) → servers u.control v ≡ servers w.control v)
+      → ((v : ℕ) → Free (fields_at u.control v)) → Fresh u → FullDuplexInSync u
+  off-in_sync w u left g volumes on same server free fresh = record {
     clean = λ v there runs.
         let here : at w.control.on s false (servers w.control v) ≡ true = (λ i. at w.control.on s false (sym (server v) i)) ∙ (λ i. sym on i (servers u.control v)) ∙ runs in
         let ne : (servers w.control v ≡ s → ⊥) = λ e. false≢true (sym (ap (at w.control.on s false) e ∙ at_same w.control.on s false) ∙ here) in
@@ -85,26 +84,26 @@ module _ (s : ℕ) where
 
     fin : (u : World) (r : Option Refusal) → Between u → Fin None u r
     fin u None b = b
-    fin u (Some (StoppedIn x)) b = fairly-nil (EndFin Between rows-between answers-between) None u (good-none u b.sound.rows) b
+    fin u (Some (StoppedIn x)) b = window-nil (EndFin Between rows-between answers-between) None u (good-none u b.sound.rows) b
     fin u (Some r) b = b
 
-    acknowledges : (w : World) → Going [] w → Fairly Fin None w (acknowledge_on s ∷ [])
-    acknowledges w g = fairly-entry Fin None w (acknowledge_on s) [] (acknowledge_if (option_map (λ (p : Pending). p.w) (starts.first_landed s w))) refl (good-none w g.inner.sound.rows) (by (starts.first_landed s w) refl)
+    acknowledges : (w : World) → Going [] w → WindowAlong Fin None w (acknowledge_on s ∷ [])
+    acknowledges w g = window-entry Fin None w (acknowledge_on s) [] (acknowledge_if (option_map (λ (p : Pending). p.w) (starts.first_landed s w))) refl (good-none w g.inner.sound.rows) (by (starts.first_landed s w) refl)
       where
-        by : (o : Option Pending) → starts.first_landed s w ≡ o → fairly_next Fin None w (acknowledge_if (option_map (λ (p : Pending). p.w) o)) (λ tag v. Fairly Fin tag v [])
+        by : (o : Option Pending) → starts.first_landed s w ≡ o → window_next Fin None w (acknowledge_if (option_map (λ (p : Pending). p.w) o)) (λ tag v. WindowAlong Fin tag v [])
         by None none =
             let b : Between w = record {
               sound = starts.sound-free s w g.inner.sound (starts.none-found (servers w.control) (is_volume w.control) s w.control.pending (starts.are-defined s w g.inner.sound) none);
-              tidy = record { clean = λ v there runs. g.clean v there runs (λ e. refl); free = g.free; fresh = g.fresh };
+              in_sync = record { clean = λ v there runs. g.clean v there runs (λ e. refl); free = g.free; fresh = g.fresh };
             } in
-            fairly-nil Fin None w (good-none w g.inner.sound.rows) b
+            window-nil Fin None w (good-none w g.inner.sound.rows) b
         by (Some x) first =
             let u : World = acknowledged w x.w in
             let gone = starts.gone s w g.inner.sound x first in
             let waits = starts.waits s w g.inner.sound x first in
             let b : Between u = record {
               sound = starts.sound-free s u (starts.acknowledges s w g.inner.sound x first) gone.free;
-              tidy = record {
+              in_sync = record {
                 clean = λ v there runs. g.clean v there runs (λ e. refl);
                 free = g.free;
                 fresh = fresh-by w u (Ack x.w ∷ []) refl refl (each-on (λ y a. (a.0, ap (λ b. b || false) (ne_eqb x.w y.w (λ e. a.1 (sym e))))) _ (all-other (λ y. Unacked w y.w) x.w w.control.pending g.fresh.unacked))
@@ -112,15 +111,15 @@ module _ (s : ℕ) where
               };
             } in (
               record { number = waits.number; volume = x.volume; track = x.track; on_volume = waits.volume; on_track = waits.track; here = gone.here; gone = gone.gone; else = gone.else },
-              λ f. fairly-nil Fin None u (good-none u b.sound.rows) b,
+              λ f. window-nil Fin None u (good-none u b.sound.rows) b,
               (tt, λ d f. absurd d),
             )
 
     -- a volume writes its staged track to its place
-    redoes : (w : World) (v : ℕ) (left : List ℕ) (ds : List Entry) → Going left w → ((k : World) → Going left k → Fairly Fin None k ds) → Fairly Fin None w (redo_on s v ∷ ds)
-    redoes w v left ds g go = fairly-entry Fin None w (redo_on s v) ds (cond (belongs w.control s v) (Do (Redo v)) Pass) refl (good-none w g.inner.sound.rows) (by (belongs w.control s v) refl)
+    redoes : (w : World) (v : ℕ) (left : List ℕ) (ds : List Entry) → Going left w → ((k : World) → Going left k → WindowAlong Fin None k ds) → WindowAlong Fin None w (redo_on s v ∷ ds)
+    redoes w v left ds g go = window-entry Fin None w (redo_on s v) ds (cond (belongs w.control s v) (Do (Redo v)) Pass) refl (good-none w g.inner.sound.rows) (by (belongs w.control s v) refl)
       where
-        by : (b : Bool) → belongs w.control s v ≡ b → fairly_next Fin None w (cond b (Do (Redo v)) Pass) (λ tag v. Fairly Fin tag v ds)
+        by : (b : Bool) → belongs w.control s v ≡ b → window_next Fin None w (cond b (Do (Redo v)) Pass) (λ tag v. WindowAlong Fin tag v ds)
         by false is = go w g
         by true is =
             let own : servers w.control v ≡ s = eqb-true (servers w.control v) s (and_parts (is_volume w.control v) _ is).1 in
@@ -132,15 +131,15 @@ module _ (s : ℕ) where
                 tt,
                 λ d f. fin (not_done w x f) (Some (StoppedIn (record { 0 = x }))) (record {
                   sound = (starts.keeps s).fails w (Redo v) f d g.inner may;
-                  tidy = off-tidy w (not_done w x f) left g refl (ap (λ x. at w.control.on x false) own) (λ v ne. refl) (λ v. refl) g.free (fresh-told w (not_done w x f) (Stopped x 0 ∷ []) refl refl g.fresh.unacked (λ n. refl) g.fresh);
+                  in_sync = off-in_sync w (not_done w x f) left g refl (ap (λ x. at w.control.on x false) own) (λ v ne. refl) (λ v. refl) g.free (fresh-told w (not_done w x f) (Stopped x 0 ∷ []) refl refl g.fresh.unacked (λ n. refl) g.fresh);
                 }),
               ),
             )
 
     -- and goes on
-    restarts : (w : World) (v : ℕ) (left : List ℕ) (ds : List Entry) → Going (v ∷ left) w → ((k : World) → Going left k → Fairly Fin None k ds) → Fairly Fin None w (restart_on s v ∷ ds)
+    restarts : (w : World) (v : ℕ) (left : List ℕ) (ds : List Entry) → Going (v ∷ left) w → ((k : World) → Going left k → WindowAlong Fin None k ds) → WindowAlong Fin None w (restart_on s v ∷ ds)
     restarts w v left ds g go =
-        fairly-entry Fin None w (restart_on s v) ds (cond (belongs w.control s v && must_restart (fields_at w.control v)) (Do (Make (Restart v))) Pass) refl (good-none w g.inner.sound.rows)
+        window-entry Fin None w (restart_on s v) ds (cond (belongs w.control s v && must_restart (fields_at w.control v)) (Do (Make (Restart v))) Pass) refl (good-none w g.inner.sound.rows)
         (by (belongs w.control s v && must_restart (fields_at w.control v)) refl)
       where
         -- the others are as they were
@@ -151,7 +150,7 @@ module _ (s : ℕ) where
         unneeded is there own =
             (or_parts (is_engaged (fields_at w.control v)) (is_torn (fields_at w.control v)) (sym (ap (λ b. b && must_restart (fields_at w.control v)) (and_from (is_volume w.control v) (nat_eq (servers w.control v) s) there (eq-eqb (servers w.control v) s own))) ∙ is)).1
 
-        by : (b : Bool) → (belongs w.control s v && must_restart (fields_at w.control v)) ≡ b → fairly_next Fin None w (cond b (Do (Make (Restart v))) Pass) (λ tag v. Fairly Fin tag v ds)
+        by : (b : Bool) → (belongs w.control s v && must_restart (fields_at w.control v)) ≡ b → window_next Fin None w (cond b (Do (Make (Restart v))) Pass) (λ tag v. WindowAlong Fin tag v ds)
         by false is = go w (record { inner = g.inner; clean = λ u there runs none. clean u there runs none (eqb_tells u v) (eqb_tells (servers w.control u) s); free = g.free; fresh = g.fresh })
           where
             clean : (u : ℕ) → is_volume w.control u ≡ true → Runs w u → (servers w.control u ≡ s → list_any (nat_eq u) left ≡ false) → IsOrNot u v → IsOrNot (servers w.control u) s → Clean (fields_at w.control u)
@@ -174,34 +173,29 @@ module _ (s : ℕ) where
               (
                 λ f. fin (done_in_stop w (Restart v) f) (Some (StoppedIn (record { 0 = servers w.control v }))) (record {
                   sound = (starts.keeps s).counts w (Restart v) f g.inner may;
-                  tidy = off-tidy w (done_in_stop w (Restart v) f) (v ∷ left) g refl (ap (λ x. at w.control.on x false) own) (λ u ne. at_other w.control.volume v (row w (Restart v) f) u (λ e. ne (ap (servers w.control) e ∙ own))) (servers_are f) (frees f)
+                  in_sync = off-in_sync w (done_in_stop w (Restart v) f) (v ∷ left) g refl (ap (λ x. at w.control.on x false) own) (λ u ne. at_other w.control.volume v (row w (Restart v) f) u (λ e. ne (ap (servers w.control) e ∙ own))) (servers_are f) (frees f)
                       (fresh-stop w (Restart v) f g.fresh);
                 }),
                 λ d f. fin (not_done w (servers w.control v) f) (Some (StoppedIn (record { 0 = servers w.control v }))) (record {
                   sound = (starts.keeps s).fails w (Make (Restart v)) f d g.inner may;
-                  tidy = off-tidy w (not_done w (servers w.control v) f) (v ∷ left) g refl (ap (λ x. at w.control.on x false) own) (λ v ne. refl) (λ v. refl) g.free (fresh-told w (not_done w (servers w.control v) f) (Stopped (servers w.control v) 0 ∷ []) refl refl g.fresh.unacked (λ n. refl) g.fresh);
+                  in_sync = off-in_sync w (not_done w (servers w.control v) f) (v ∷ left) g refl (ap (λ x. at w.control.on x false) own) (λ v ne. refl) (λ v. refl) g.free (fresh-told w (not_done w (servers w.control v) f) (Stopped (servers w.control v) 0 ∷ []) refl refl g.fresh.unacked (λ n. refl) g.fresh);
                 }),
               ),
             )
 
-    volumes-go : (vs : List ℕ) (w : World) → Going vs w → Fairly Fin None w (start_entries s vs ++ acknowledge_on s ∷ [])
+    volumes-go : (vs : List ℕ) (w : World) → Going vs w → WindowAlong Fin None w (start_entries s vs ++ acknowledge_on s ∷ [])
     volumes-go [] w g = acknowledges w g
     volumes-go (v ∷ vs) w g = redoes w v (v ∷ vs) (restart_on s v ∷ (start_entries s vs ++ acknowledge_on s ∷ [])) g (λ k g. restarts k v vs (start_entries s vs ++ acknowledge_on s ∷ []) g (λ k g. volumes-go vs k g))
 
-    pub fair-start : Between w0 → Fair w0 p
-    fair-start k =
+    pub window-start : Between w0 → EntriesHold w0 p
+    window-start k =
         let u : World = begun w0 p in
-        record {
-          told = Started s ∷ [];
-          begins = told-unchanged w0 u (Started s ∷ []) refl (tt, tt) (histories-append w0.events (Started s ∷ [])) refl refl refl refl (λ v t. refl);
-          entries = volumes-go w0.control.volumes u (record {
-            inner = starts.begins s w0 k.sound;
-            clean = λ v there runs none. elim (eqb_tells (servers w0.control v) s) [
-              | inl own ↦ absurd (false≢true (sym (none own.1) ∙ there))
-              | inr apart ↦ k.tidy.clean v there (sym (at_other w0.control.on s true (servers w0.control v) apart.1) ∙ runs)
-            ];
-            free = k.tidy.free;
-            fresh = fresh-told w0 u (Started s ∷ []) refl refl k.tidy.fresh.unacked (λ n. refl) k.tidy.fresh;
-          });
-          last = retabled-none;
-        }
+        volumes-go w0.control.volumes u (record {
+          inner = starts.begins s w0 k.sound;
+          clean = λ v there runs none. elim (eqb_tells (servers w0.control v) s) [
+            | inl own ↦ absurd (false≢true (sym (none own.1) ∙ there))
+            | inr apart ↦ k.in_sync.clean v there (sym (at_other w0.control.on s true (servers w0.control v) apart.1) ∙ runs)
+          ];
+          free = k.in_sync.free;
+          fresh = fresh-told w0 u (Started s ∷ []) refl refl k.in_sync.fresh.unacked (λ n. refl) k.in_sync.fresh;
+        })

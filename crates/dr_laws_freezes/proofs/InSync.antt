@@ -2,7 +2,6 @@
 use Rattle.std.proofs.Common.{ℕ, ◌≡◌, ◌≢◌, ◌<◌, ◌+◌, inl, inr, refl, ap, sym, ◌∙◌, subst, Bool, true, false, cond, not, ◌&&◌, ◌||◌, nat_eq, List, [], ◌∷◌, ◌++◌, filter, Option, arith}
 use Rattle.std.proofs.lemmas.Bool.{and_parts, and_from, ne_eqb}
 use Rattle.std.proofs.lemmas.Bool.Decides.{eqb_tells}
-use Rattle.std.proofs.lemmas.List.Folds.{list_any-append}
 use Rattle.std.specs.FinSet.{contains, remove, union, empty}
 use Rattle.dr_model.specs.declared.state.Part.{Part}
 use Rattle.dr_model.specs.declared.state.Part.TheVariants.{Absent, Metro, Global}
@@ -13,7 +12,7 @@ use Rattle.dr_model.specs.declared.event.Event.{Event}
 use Rattle.dr_model.specs.declared.event.Event.TheVariants.{Stopped}
 use Rattle.dr_model.specs.Control.{Pending, Volume, Fuse, World, is_volume}
 use Rattle.dr_model.specs.Pairs.{is_metro, is_full_duplex, is_torn, is_engaged, first_state, next_state, with_more, state_with, is_last}
-use Rattle.dr_model.specs.Moves.{Move, Land, Overwrite, Mirror, Restore, Strike, Suspend, MakePrimary, DropPrimary, Resume, TakeOver, FallBack, Yield, Unsync, LandBoth, Lift, Restart, Hold, Free as FreeMove, Finish, target, told, told_in_stop, settled, settled_in_stop, landed, is_write, is_other, marked, fields_left, keeps_staged, moved_keeping}
+use Rattle.dr_model.specs.Moves.{Move, Land, Overwrite, Restore, Strike, Suspend, MakePrimary, DropPrimary, Resume, TakeOver, FallBack, Yield, Unsync, LandBoth, Lift, Restart, Hold, Free as FreeMove, Finish, target, told, told_in_stop, settled, settled_in_stop, landed, is_write, is_other, marked, fields_left, keeps_staged, moved_keeping}
 use Rattle.dr_model.specs.Entries.{fields_at}
 use Rattle.dr_model.specs.Allowed.{Runs}
 use Rattle.dr_model.specs.Laws.{AllPending}
@@ -22,8 +21,9 @@ use Rattle.dr_laws_freezes.specs.Windows.{is_ack}
 use Rattle.dr_facts.proofs.Tables.{IsOrNot, at_cases, at_part}
 use Rattle.dr_laws_sound.proofs.Turns.{next_of, carried_in, done, done_in_stop, not_done}
 use Rattle.dr_laws_sound.proofs.RowsAfter.{changed}
-use Rattle.dr_laws_freezes.proofs.Fair.{MayCome, Unacked}
-use Rattle.dr_laws_freezes.proofs.KeepsWindow.{silent-acks, silent-told}
+use Rattle.dr_laws_freezes.proofs.WindowMoves.{MayCome, Unacked}
+use Rattle.dr_laws_freezes.proofs.KeepsWindow.{unacked}
+use Rattle.dr_facts.proofs.Emits.{acks_none, unacked-stop, each-told}
 use Rattle.dr_laws_freezes.proofs.KeepsMirror.{still-unacked}
 use Rattle.dr_laws_sound.proofs.KeepsRecorders.{none-written}
 use Rattle.std.specs.List.{list_any}
@@ -152,7 +152,7 @@ pub record Fresh (w : World) : Type 0 where
   pub unacked : AllPending (λ p. Unacked w p.w) w.control.pending
   pub later : (n : ℕ) → w.control.issued < n → Unacked w n
 
-pub record Tidy (w : World) : Type 0 where
+pub record FullDuplexInSync (w : World) : Type 0 where
   pub clean : (v : ℕ) → is_volume w.control v ≡ true → Runs w v → Clean (fields_at w.control v)
   pub free : (v : ℕ) → Free (fields_at w.control v)
   pub fresh : Fresh w
@@ -168,15 +168,10 @@ none-acked : (m : Move) (u : Volume) (n : ℕ) → LandsElse m n → list_any (i
 none-acked (Land k v t) u n ne = ap (λ b. b || false) (ne_eqb k n ne)
 none-acked (Overwrite k v t) u n ne = ap (λ b. b || false) (ne_eqb k n ne)
 none-acked (LandBoth k v t) u n ne = ap (λ b. b || false) (ne_eqb k n ne)
-none-acked (Mirror v t x k) u n ne = refl
-none-acked m u n ne = silent-acks n (told m u) (silent-told m u tt)
+none-acked m u n ne = each-told acks_none _ (unacked acks_none refl n) m u refl
 
 stop-acked : (m : Move) (u : Volume) (n s k : ℕ) → list_any (is_ack n) (told_in_stop m u ++ Stopped s k ∷ []) ≡ false
-stop-acked (Land j v t) u n s k = refl
-stop-acked (Overwrite j v t) u n s k = refl
-stop-acked (LandBoth j v t) u n s k = refl
-stop-acked (Mirror v t x j) u n s k = refl
-stop-acked m u n s k = list_any-append (is_ack n) (told m u) (Stopped s k ∷ []) ∙ ap (λ b. b || false) (silent-acks n (told m u) (silent-told m u tt))
+stop-acked m u n s k = unacked-stop _ (unacked acks_none refl n) m u (Stopped s k ∷ []) refl
 
 pub all-other : (P : Pending → Type 0) (n : ℕ) (ps : List Pending) → AllPending P ps → AllPending (λ p. P p × (p.w ≢ n)) (filter (is_other n) ps)
 all-other P n [] all = tt
@@ -240,7 +235,7 @@ fresh-stop w m f fresh =
     let u : Volume = w.control.volume (target m) in
     fresh-told w (done_in_stop w m f) (told_in_stop m u ++ Stopped u.server (landed m) ∷ []) refl refl (stop-unacked w m fresh) (λ n. stop-acked m u n u.server (landed m)) fresh
 
-module _ (w : World) (m : Move) (gentle : Gentle (fields_at w.control (target m)) m) (none : Unheld (fields_at w.control (target m)) m) (tidy : Tidy w) (on : ℕ → Bool) (fuse : ℕ → Option Fuse) (ps : List Pending) (es : List Event) (less : (j : ℕ) → on j ≡ true → w.control.on j ≡ true) where
+module _ (w : World) (m : Move) (gentle : Gentle (fields_at w.control (target m)) m) (none : Unheld (fields_at w.control (target m)) m) (in_sync : FullDuplexInSync w) (on : ℕ → Bool) (fuse : ℕ → Option Fuse) (ps : List Pending) (es : List Event) (less : (j : ℕ) → on j ≡ true → w.control.on j ≡ true) where
   abbrev W : World
   W = changed w m on fuse ps es
 
@@ -250,29 +245,29 @@ module _ (w : World) (m : Move) (gentle : Gentle (fields_at w.control (target m)
   abbrev row : Volume
   row = moved_keeping (keeps_staged m) (w.control.volume x) (next_of w m) (carried_in w m)
 
-  pub tidy-changed : Fresh W → Tidy W
-  tidy-changed fresh = record {
+  pub in_sync-changed : Fresh W → FullDuplexInSync W
+  in_sync-changed fresh = record {
     clean = λ v there runs. at_cases (λ j (y : Volume). is_volume w.control j ≡ true → Runs w j → Clean y.fields) w.control.volume x row
-        (λ d r. clean-left m (w.control.volume x) gentle (tidy.free x) (tidy.clean x d r)) (λ j ne d r. tidy.clean j d r) v there
+        (λ d r. clean-left m (w.control.volume x) gentle (in_sync.free x) (in_sync.clean x d r)) (λ j ne d r. in_sync.clean j d r) v there
         (sym (ap w.control.on (at_part (λ (y : Volume). y.server) w.control.volume x row refl v)) ∙ less _ runs);
-    free = λ v. at_cases (λ j (y : Volume). Free y.fields) w.control.volume x row (free-left m (w.control.volume x) none (tidy.free x)) (λ j ne. tidy.free j) v;
+    free = λ v. at_cases (λ j (y : Volume). Free y.fields) w.control.volume x row (free-left m (w.control.volume x) none (in_sync.free x)) (λ j ne. in_sync.free j) v;
     fresh = fresh;
   }
 
 -- other worlds in which no volume changes, and no server starts
-pub tidy-same : (w u : World) → u.control.volume ≡ w.control.volume → u.control.volumes ≡ w.control.volumes → ((j : ℕ) → u.control.on j ≡ true → w.control.on j ≡ true) → Fresh u → Tidy w → Tidy u
-tidy-same w u volume volumes less fresh tidy = record {
-  clean = λ v there runs. subst (λ (y : Volume). Clean y.fields) (λ i. sym volume i v) (tidy.clean v (sym (ap (λ vs. list_any (nat_eq v) vs) volumes) ∙ there) ((λ i. w.control.on (sym volume i v).server) ∙ less (u.control.volume v).server runs));
-  free = λ v. subst (λ (y : Volume). Free y.fields) (λ i. sym volume i v) (tidy.free v);
+pub in_sync-same : (w u : World) → u.control.volume ≡ w.control.volume → u.control.volumes ≡ w.control.volumes → ((j : ℕ) → u.control.on j ≡ true → w.control.on j ≡ true) → Fresh u → FullDuplexInSync w → FullDuplexInSync u
+in_sync-same w u volume volumes less fresh in_sync = record {
+  clean = λ v there runs. subst (λ (y : Volume). Clean y.fields) (λ i. sym volume i v) (in_sync.clean v (sym (ap (λ vs. list_any (nat_eq v) vs) volumes) ∙ there) ((λ i. w.control.on (sym volume i v).server) ∙ less (u.control.volume v).server runs));
+  free = λ v. subst (λ (y : Volume). Free y.fields) (λ i. sym volume i v) (in_sync.free v);
   fresh = fresh;
 }
 
-pub tidy-done : (w : World) (m : Move) (f : Option Fuse) → MayCome w m → Gentle (fields_at w.control (target m)) m → Tidy w → Tidy (done w m f)
-tidy-done w m f may gentle tidy = tidy-changed w m gentle (unheld w m may) tidy (done w m f).control.on (done w m f).control.fuse (settled m w.control.pending) (done w m f).events (λ j h. h) (fresh-done w m f may tidy.fresh)
+pub in_sync-done : (w : World) (m : Move) (f : Option Fuse) → MayCome w m → Gentle (fields_at w.control (target m)) m → FullDuplexInSync w → FullDuplexInSync (done w m f)
+in_sync-done w m f may gentle in_sync = in_sync-changed w m gentle (unheld w m may) in_sync (done w m f).control.on (done w m f).control.fuse (settled m w.control.pending) (done w m f).events (λ j h. h) (fresh-done w m f may in_sync.fresh)
 
-pub tidy-stop : (w : World) (m : Move) (f : Option Fuse) → MayCome w m → Gentle (fields_at w.control (target m)) m → Tidy w → Tidy (done_in_stop w m f)
-tidy-stop w m f may gentle tidy =
-    tidy-changed w m gentle (unheld w m may) tidy (done_in_stop w m f).control.on (done_in_stop w m f).control.fuse (settled_in_stop m w.control.pending) (done_in_stop w m f).events (off_later w.control.on (w.control.volume (target m)).server) (fresh-stop w m f tidy.fresh)
+pub in_sync-stop : (w : World) (m : Move) (f : Option Fuse) → MayCome w m → Gentle (fields_at w.control (target m)) m → FullDuplexInSync w → FullDuplexInSync (done_in_stop w m f)
+in_sync-stop w m f may gentle in_sync =
+    in_sync-changed w m gentle (unheld w m may) in_sync (done_in_stop w m f).control.on (done_in_stop w m f).control.fuse (settled_in_stop m w.control.pending) (done_in_stop w m f).events (off_later w.control.on (w.control.volume (target m)).server) (fresh-stop w m f in_sync.fresh)
 
-pub tidy-not : (w : World) (s : ℕ) (f : Option Fuse) → Tidy w → Tidy (not_done w s f)
-tidy-not w s f tidy = tidy-same w (not_done w s f) refl refl (off_later w.control.on s) (fresh-told w (not_done w s f) (Stopped s 0 ∷ []) refl refl tidy.fresh.unacked (λ n. refl) tidy.fresh) tidy
+pub in_sync-not : (w : World) (s : ℕ) (f : Option Fuse) → FullDuplexInSync w → FullDuplexInSync (not_done w s f)
+in_sync-not w s f in_sync = in_sync-same w (not_done w s f) refl refl (off_later w.control.on s) (fresh-told w (not_done w s f) (Stopped s 0 ∷ []) refl refl in_sync.fresh.unacked (λ n. refl) in_sync.fresh) in_sync
