@@ -230,7 +230,7 @@ module _ (volumes : List ℕ) (a b : ℕ) where
   abbrev suspends : List Entry
   suspends = suspend_where (send_refusal a b) a ∷ []
 
-  -- one track, behind what suspends the primary
+  -- one track, after what suspends the primary
   abbrev one_sent : ℕ → List Entry
   one_sent t = refuse_if (send_refusal a b) ∷ refuse_if (flashed_refusal b) ∷ copy_first volumes b t ++ store_on a b t ∷ strike_on a t ∷ []
 
