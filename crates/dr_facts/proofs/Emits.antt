@@ -164,7 +164,7 @@ module _ (P : Event → Type 0) (L : List Event → Type 0) (lists : Lists P L) 
   of-all [] all = lists.none
   of-all (e ∷ es) all = lists.more e es all.0 (of-all es all.1)
 
-  -- ---- what moves tell in several events, and others behind it
+  -- ---- what moves tell in several events, and others after it
 
   pub blanked-onto : (v : ℕ) (ts : List ℕ) (es : List Event) → ((t : ℕ) → P (Blanked v t)) → L es → L (map (Blanked v) ts ++ es)
   blanked-onto v [] es blank behind = behind
@@ -200,7 +200,7 @@ module _ (p : Tag → Bool) (L : List Event → Type 0) (lists : Lists (Of p) L)
   ended v s n own es h behind =
       restored-onto (Of p) L lists v s n own es (λ t. first-tag p Blanks (Restores ∷ []) h) (first-tag p Restores [] (rest-tags p Blanks (Restores ∷ []) h)) behind
 
-  -- what a move tells, and other events behind it
+  -- what a move tells, and other events after it
   pub told-onto : (m : Move) (u : Volume) (es : List Event) → all_tags p (emits m) ≡ true → L es → L (told m u ++ es)
   told-onto (Withdraw v) u es h behind = blanked-onto (Of p) L lists v (in_order u.tracks (rest u.tracks u.fields.own)) es (λ t. first-tag p Blanks [] h) behind
   told-onto (Reverse v None) u es h behind = ended v u.fields.source u.tracks (turned u.fields).own es (rest-tags p Leaves (Blanks ∷ Restores ∷ []) h) behind

@@ -50,7 +50,7 @@ module _ (K : World → Type 0) (Ok : World → Act → Type 0) (Why : Refusal �
   Fine w (End r) = Why r
   Fine w (Do a) = Ok w a
 
-  -- and what comes behind it, where its plan goes on
+  -- and what comes after it, where its plan goes on
   abbrev pub FineThen : World → Next → Type 0 → Type 0
   FineThen w Pass more = more
   FineThen w (End r) more = Why r
@@ -127,7 +127,7 @@ module _ (K : World → Type 0) (Ok : World → Act → Type 0) (Why : Refusal �
 
   -- ---- checks, which only refuse
 
-  -- behind a check more is known
+  -- after a check more is known
   pub fine-where : (ok : Control → Bool) (r : Refusal) (ds : List Entry) → Why r → ((w : World) → K w → ok w.control ≡ true → AllFine ds) → AllFine (check ok r ∷ ds)
   unfolding AllFine
   fine-where ok r ds why rest = λ w k. by w (ok w.control) (rest w k)
@@ -146,7 +146,7 @@ module _ (K : World → Type 0) (Ok : World → Act → Type 0) (Why : Refusal �
       by w None why = tt
       by w (Some r) why = why
 
-  -- a check behind which a host write is dropped
+  -- a check after which a host write is dropped
   pub fine-drop : (n : ℕ) (ok : Control → Bool) (r : Refusal) (ds : List Entry) → ((w : World) → K w → Ok w (Drop n)) → Why r → AllFine ds → AllFine (check_or_drop n ok r ++ ds)
   fine-drop n ok r ds drops why rest = fine-then (drop_unless n ok) _ (λ w k. fine-if w (ok w.control) Pass (Do (Drop n)) tt (drops w k)) (fine-check ok r ds why rest)
 

@@ -18,7 +18,7 @@ use Rattle.dr_model.specs.PairEntries.{send_refusal, suspend_where, flashed_refu
 use Rattle.dr_model.specs.WriteEntries.{partner_of, is_grouped, land_mirrored, land_parted, is_parted, land_over, sends_first, where_sent, send_first, land_collided, land_entries, part_running, part_after, after_write, belongs, redo_on, restart_on, start_entries, flash_hold_on}
 use Rattle.dr_model.specs.Plans.{acknowledge_if, acknowledge_on, landed_on, hold_first, redo_now, destage_entries}
 use Rattle.dr_model.specs.SessionEntries.{last_of, hold_refusal, stale_refusal, hold_on, void_refusal, free_on, seal_refusal, seal_on, is_flashed, flash_refusal, flash_on, is_committed, commit_refusal, commit_on, revert_on, is_past, finish_on, member_entries, order_entries, raise_attempt_on, raise_floor_on, add_entries}
-use Rattle.dr_model.specs.RecoveryPlans.{lets_commit, take_over_on, settle_on, end_recovery, recover_entries}
+use Rattle.dr_model.specs.RecoveryPlans.{lets_revert, take_over_on, settle_on, end_recovery, recover_entries}
 use Rattle.dr_facts.proofs.Entries.{Fine, WhyNot, AllFine, fine-none, fine-then, fine-one, fine-now, fine-append, fine-each, fine-map, fine-flat, fine-choice, fine-if, fine-when, fine-found, fine-refuse}
 
 module _ (K : World → Type 0) (Ok : World → Act → Type 0) (Why : Refusal → Type 0) where
@@ -224,17 +224,17 @@ module _ (K : World → Type 0) (Ok : World → Act → Type 0) (Why : Refusal �
       (fine-one K Ok Why (raise_floor_on m.c.0 n) (where-fine (λ k. nat_lt (fields_at k m.c.0).floor n) (Make (RaiseFloor m.c.0 n)) (λ w h so. floor w h)))
 
   -- a target is committed or reverted, as was decided
-  pub settle-fine : (s : ℕ) (d : Decision) (m : Member) → ((n : ℕ) → May (Make (Commit m.c.0 m.a.0 s n))) → (lets_commit d ≡ false → (n : ℕ) → May (Make (Revert m.c.0 m.a.0 s n))) → One (settle_on s d m)
-  settle-fine s (CommitRest n) m commit revert = where-fine (λ k. is_flashed n (fields_at k m.c.0)) (Make (Commit m.c.0 m.a.0 s n)) (λ w h so. commit n w h)
+  pub settle-fine : (s : ℕ) (d : Decision) (m : Member) → (lets_revert d ≡ false → (n : ℕ) → May (Make (Commit m.c.0 m.a.0 s n))) → (lets_revert d ≡ true → (n : ℕ) → May (Make (Revert m.c.0 m.a.0 s n))) → One (settle_on s d m)
+  settle-fine s (CommitRest n) m commit revert = where-fine (λ k. is_flashed n (fields_at k m.c.0)) (Make (Commit m.c.0 m.a.0 s n)) (λ w h so. commit refl n w h)
   settle-fine s (RevertAll n) m commit revert = where-fine (λ k. is_flashed n (fields_at k m.c.0)) (Make (Revert m.c.0 m.a.0 s n)) (λ w h so. revert refl n w h)
   settle-fine s (RevertSome o n) m commit revert = where-fine (λ k. is_flashed n (fields_at k m.c.0)) (Make (Revert m.c.0 m.a.0 s n)) (λ w h so. revert refl n w h)
   settle-fine s NoMember m commit revert = λ w k. tt
   settle-fine s (Nothing n) m commit revert = λ w k. tt
   settle-fine s (Impossible a b) m commit revert = λ w k. tt
 
-  pub recover-fine : (s : ℕ) (d : Decision) (ms : List Member) → ((m : Member) (w : World) → K w → is_part (fields_at w.control m.b.0).secondary ≡ true → Ok w (Make (TakeOver m.b.0))) → ((m : Member) → In m ms → (n : ℕ) → May (Make (Commit m.c.0 m.a.0 s n)))
-      → ((m : Member) → In m ms → (n : ℕ) → May (Make (Revert m.c.0 m.a.0 s n))) → ((n : ℕ) → May (EndRecovery s n)) → All (recover_entries s d ms)
+  pub recover-fine : (s : ℕ) (d : Decision) (ms : List Member) → ((m : Member) → In m ms → (w : World) → K w → is_part (fields_at w.control m.b.0).secondary ≡ true → Ok w (Make (TakeOver m.b.0)))
+      → ((m : Member) → In m ms → lets_revert d ≡ false → (n : ℕ) → May (Make (Commit m.c.0 m.a.0 s n))) → ((m : Member) → In m ms → lets_revert d ≡ true → (n : ℕ) → May (Make (Revert m.c.0 m.a.0 s n))) → ((n : ℕ) → May (EndRecovery s n)) → All (recover_entries s d ms)
   recover-fine s d ms take commit revert end =
-      fine-append K Ok Why (map take_over_on ms) _ (fine-map K Ok Why take_over_on ms (λ m. where-fine (λ k. is_part (fields_at k m.b.0).secondary) (Make (TakeOver m.b.0)) (take m)))
-      (fine-append K Ok Why (map (settle_on s d) ms) _ (fine-each K Ok Why (settle_on s d) ms (λ m here. settle-fine s d m (commit m here) (λ no. revert m here)))
+      fine-append K Ok Why (map take_over_on ms) _ (fine-each K Ok Why take_over_on ms (λ m here. where-fine (λ k. is_part (fields_at k m.b.0).secondary) (Make (TakeOver m.b.0)) (take m here)))
+      (fine-append K Ok Why (map (settle_on s d) ms) _ (fine-each K Ok Why (settle_on s d) ms (λ m here. settle-fine s d m (commit m here) (revert m here)))
       (fine-one K Ok Why (end_recovery s) (λ w k. end _ w k)))

@@ -55,8 +55,8 @@
 -- **A law along one plan** (`Keeping.antt`): `Keeping` is an invariant with the acts that may come, `Goes` a plan that
 -- keeps it; `goes-moment`, `goes-ends`, `goes-after` give each moment, each stop and the answered step, and `keeps-fit`
 -- the acts, where they have to fit beside. Along exchanges it is an `Exchanging` (`Exchanges.antt`): the acts that fit,
--- and that each member's do; an order that is refused at its first check needs nothing of the entries behind it. Along
--- recoveries it is `fit-recover` (`RecoveryEntries.antt`), and of one target `settle-cases`: nothing, its commit, or its
+-- and that each member's do; an order that is refused at its first check needs nothing of the entries after it. Along
+-- recoveries it is `recover-fine` (`SharedEntries.antt` of dr_facts), and of one target `settle-fine`: nothing, its commit, or its
 -- revert.
 -- **A stop tells that a fuse was armed** (`turn-armed` in `RecoveryAnswers.antt`): `act-cases` has forgotten it.
 pub mod SealsAlong

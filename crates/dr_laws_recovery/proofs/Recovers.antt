@@ -51,7 +51,7 @@ use Rattle.dr_laws_sound.proofs.FitsFlash.{as_begun, sound-begun}
 use Rattle.dr_laws_sound.proofs.FitsRecovery.{along-recover, along-settle}
 use Rattle.dr_laws_sound.proofs.Rides.{Rides, Both}
 use Rattle.dr_laws_recovery.proofs.Keeping.{MayFit, keeps-fit, fit-along, Keeping, Goes, refused-goes, goes-unless, goes-moment, goes-ends, goes-after, finish-goes}
-use Rattle.dr_laws_sound.proofs.RecoveryEntries.{fit-settle, fit-recover}
+use Rattle.dr_facts.proofs.SharedEntries.{settle-fine, recover-fine}
 use Rattle.dr_facts.proofs.Entries.{any_reason, AllFine, fine-one}
 use Rattle.dr_laws_recovery.proofs.Recovered.{Alike, alike-refl, alike-then, alike-still, alike-away, alike-committed, alike-reverted}
 use Rattle.dr_laws_recovery.proofs.DecidedOver.{members-decide, some-commits, none-reverts, commit-some, revert-none}
@@ -224,10 +224,10 @@ module _ (w : World) (s : ℕ) where
   Decides r d = r ≡ s → lets_revert d ≡ reverts w
 
   recover-fits : (r : ℕ) (d : Decision) → Decides r d → (ms : List Member) → AllFine Keeps (λ u. Fit) any_reason (recover_entries r d ms)
-  recover-fits r d is ms = fit-recover Keeps (λ u. Fit) any_reason r d ms (λ m here u k. tt) (λ m here no n u k e. sym (is e) ∙ no) (λ m here yes n u k e. sym (is e) ∙ yes) (λ n u k. tt)
+  recover-fits r d is ms = recover-fine Keeps (λ u. Fit) any_reason r d ms (λ m here u k part. tt) (λ m here no n u k e. sym (is e) ∙ no) (λ m here yes n u k e. sym (is e) ∙ yes) (λ n u k. tt)
 
   settle-fits : (r : ℕ) (d : Decision) → Decides r d → (m : Member) → AllFine Keeps (λ u. Fit) any_reason (settle_on r d m ∷ [])
-  settle-fits r d is m = fine-one Keeps (λ u. Fit) any_reason (settle_on r d m) (fit-settle Keeps (λ u. Fit) any_reason r d m (λ no n u k e. sym (is e) ∙ no) (λ yes n u k e. sym (is e) ∙ yes))
+  settle-fits r d is m = fine-one Keeps (λ u. Fit) any_reason (settle_on r d m) (settle-fine Keeps (λ u. Fit) any_reason r d m (λ no n u k e. sym (is e) ∙ no) (λ yes n u k e. sym (is e) ∙ yes))
 
 -- ---- a recovery
 

@@ -24,7 +24,7 @@ use Rattle.dr_laws_sound.proofs.Turns.{server_at, next_of, carried_in, done, don
 use Rattle.dr_laws_sound.proofs.FitsFlash.{as_begun}
 use Rattle.dr_laws_sound.proofs.Counting.{listed-found}
 use Rattle.dr_facts.proofs.Entries.{any_world, AllFine, FineThen}
-use Rattle.dr_laws_sound.proofs.RecoveryEntries.{fit-recover}
+use Rattle.dr_facts.proofs.SharedEntries.{recover-fine}
 use Rattle.dr_laws_recovery.proofs.RecoversEnd.{answers-group}
 use Rattle.dr_facts.proofs.Tables.{at_part}
 use Rattle.dr_logic.proofs.Tables.{at_same}
@@ -140,7 +140,7 @@ module _ (w : World) (x : Session) (on : (m : Member) → In m x.members → w.c
   recovery-ends : ((m : Member) → In m x.members → server_at w m.c.0 ≡ secondary_server w.control m) → (s : ℕ) (d : Decision) → let e : Outcome = carry (as_begun w) (recover_entries s d x.members) in EndsFor e.0 e.1
   recovery-ends together s d =
       ends-for (as_begun w) (recover_entries s d x.members) (record { servers = λ v. refl; is_on = λ q. refl; armed = λ q. refl })
-      (fit-recover any_world (λ u. Fit) (λ r. ⊥) s d x.members (λ m here u any. record { member = m; here = here; is = refl }) (λ m here no n u any. record { member = m; here = here; is = together m here })
+      (recover-fine any_world (λ u. Fit) (λ r. ⊥) s d x.members (λ m here u any part. record { member = m; here = here; is = refl }) (λ m here no n u any. record { member = m; here = here; is = together m here })
       (λ m here yes n u any. record { member = m; here = here; is = together m here }) (λ n u any. tt))
 
 -- ---- the answer

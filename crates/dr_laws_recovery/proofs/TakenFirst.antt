@@ -21,7 +21,7 @@ use Rattle.dr_laws_sound.proofs.FitsFlash.{as_begun, sound-begun}
 use Rattle.dr_laws_sound.proofs.FitsRecovery.{along-recover}
 use Rattle.dr_laws_sound.proofs.Rides.{Rides, Both}
 use Rattle.dr_laws_recovery.proofs.Keeping.{LeftBut, left-passes, none-left, MayFit, keeps-fit, Keeping, Goes, goes-unless, goes-moment, goes-ends, goes-after}
-use Rattle.dr_laws_sound.proofs.RecoveryEntries.{fit-settle}
+use Rattle.dr_facts.proofs.SharedEntries.{settle-fine}
 use Rattle.dr_facts.proofs.Entries.{any_world, any_reason, Fine}
 use Rattle.dr_laws_sound.proofs.Along as along
 use Rattle.dr_logic.proofs.Tables.{at_same, at_other}
@@ -147,7 +147,7 @@ module _ (w : World) (sound : Sound w) (s : ℕ) (x : Session) (found : session_
   settle-next u (Do d) es on h taken is a = let by = act-settles u d is taken in ((a.0, by.0), λ f j. on _ j.1 (by.1 f) (a.1 f j.0))
 
   settles : (d : Decision) (m : Member) (u : World) → Settling u (settle_on s d m u.control)
-  settles d m u = fit-settle any_world (λ u. Settles) any_reason s d m (λ no n v any. tt) (λ yes n v any. tt) u tt
+  settles d m u = settle-fine any_world (λ u. Settles) any_reason s d m (λ no n v any. tt) (λ yes n v any. tt) u tt
 
   settle-entry : (d : Entry) (es : List Entry) → ((u : World) → Settling u (d u.control)) → ((u : World) → Holds u → Taken u.control → Along u es → Fits u es) → (u : World) → Holds u → Taken u.control → Along u (d ∷ es) → Fits u (d ∷ es)
   settle-entry d es is go u h taken a = along.along-entry I I I May u d es (d u.control) refl (settle-next u (d u.control) es go h taken (is u) (along.along-comes Sound Sound Sound MayDo u d es (d u.control) refl a))

@@ -53,7 +53,7 @@ well-none : (r : Option Refusal) → if_well r [] ≡ []
 well-none None = refl
 well-none (Some r) = refl
 
--- One write was mirrored, and behind that it was acknowledged, or a server's stop was told.
+-- One write was mirrored, and after that it was acknowledged, or a server's stop was told.
 pub record MirrorsOne (es : List Event) : Type 0 where
   pub before : List Event
   pub behind : List Event
@@ -114,7 +114,7 @@ refused-told w r ns = record { added = []; events = sym (append-nil w.events); a
 unacknowledged-told : (w : World) (o : Outcome) → Comes true w o → Told w o []
 unacknowledged-told w o h = record { added = h.since.added; events = h.since.events; acks = h.since.silent.none ∙ sym (well-none o.1); kept = λ e q. h.stays.pending; uncut = h.since.silent.uncut refl; way = inl h.since.silent.plain }
 
--- entries that acknowledge nothing, and others behind them
+-- entries that acknowledge nothing, and others after them
 then-told : (w : World) (ds es : List Entry) (ns : List ℕ) → AllAcknowledgeNothing true ds → ((v : World) → v.control.on ≡ w.control.on → StaysPending w.control v.control → Told v (carry v es) ns) → Told w (carry w (ds ++ es)) ns
 then-told w ds es ns nothing rest = subst (λ o. Told w o ns) (sym (carry-append w ds es)) (by (carry w ds) (carry-unacknowledged true w ds nothing))
   where
@@ -221,7 +221,7 @@ module _ (k : Control) (n v t : ℕ) where
   alone-told : (w : World) → is_running v w.control ≡ true → Told w (carry w (land_alone k.volumes n v t)) (n ∷ [])
   alone-told w runs = then-told w (copy_first k.volumes v t) (land_on n v t ∷ []) (n ∷ []) (keeps-unacknowledged k.volumes v t) (λ u on stays. land-told u n v (runs-on w u runs on stays) t)
 
-  -- behind a mirrored write v's targets keep the track, and it lands, or a server stops
+  -- after a mirrored write v's targets keep the track, and it lands, or a server stops
   record Rest (w : World) (o : Outcome) : Type 0 where
     added : List Event
     events : o.0.events ≡ w.events ++ added
@@ -379,9 +379,9 @@ starting-told w s vs = then-told w (start_entries s vs) (acknowledge_on s ∷ []
 
 -- ---- plans
 
-follow-told : (still : Bool) (w u : World) (r : Refusal) (follows : ℕ → List Entry) → ((s : ℕ) → AllAcknowledgeNothing still (follows s)) → NothingAcknowledged still u (follow u r follows)
-follow-told still w u (StoppedIn s) follows nothing = (carry-unacknowledged still u (follows s.0) (nothing s.0)).since
-follow-told still w u r follows nothing = since-same still u
+follow-told : (no_cuts : Bool) (w u : World) (r : Refusal) (follows : ℕ → List Entry) → ((s : ℕ) → AllAcknowledgeNothing no_cuts (follows s)) → NothingAcknowledged no_cuts u (follow u r follows)
+follow-told no_cuts w u (StoppedIn s) follows nothing = (carry-unacknowledged no_cuts u (follows s.0) (nothing s.0)).since
+follow-told no_cuts w u r follows nothing = since-same no_cuts u
 
 -- what a plan tells before its answer where its entries end so, and what it leaves pending
 record TellsAt (w : World) (p : Plan) (ns : List ℕ) (o : Outcome) : Type 0 where

@@ -87,7 +87,7 @@ does-unacknowledged k asked j _ other (Acknowledges s n landed) = absurd cc
 does-unacknowledged k asked j _ other d = refl
 
 -- what they tell as they begin, and what they say
-record Says_none (p : Plan) : Type 0 where
+record BeginsUnacknowledged (p : Plan) : Type 0 where
   told : NoAcknowledgement false p.told
   says : (k : Control) → NotHeld (p.says k)
 
@@ -96,7 +96,7 @@ pub record PlanAcknowledgesNothing (w : World) (p : Plan) : Type 0 where
   pub since : NothingAcknowledged false w (carried_out w p).0
   pub says : (k : Control) → NotHeld (p.says k)
 
-case-says : (k : Control) (events : List Event) (line : ℕ) (asked : Result Step ℕ) (p : Plan) → Case k events line asked p → acknowledges asked ≡ false → Says_none p
+case-says : (k : Control) (events : List Event) (line : ℕ) (asked : Result Step ℕ) (p : Plan) → Case k events line asked p → acknowledges asked ≡ false → BeginsUnacknowledged p
 case-says k events line _ _ (Says a waits why) other = record { told = no_acknowledgement-none false; says = λ j. waits }
 case-says k events line _ _ (DefinesServer name free) other = record { told = record { none = refl; plain = refl; uncut = λ h. absurd cc }; says = λ j. done-not _ }
 case-says k events line _ _ (DefinesVolume v s tracks here free) other = record { told = record { none = refl; plain = refl; uncut = λ h. absurd cc }; says = λ j. done-not _ }
@@ -120,7 +120,7 @@ case-says k events line _ _ c other = record { told = no_acknowledgement-none fa
 
 pub case-unacknowledged : (w : World) (line : ℕ) (asked : Result Step ℕ) (p : Plan) → Case w.control w.events line asked p → acknowledges asked ≡ false → PlanAcknowledgesNothing w p
 case-unacknowledged w line asked p c other =
-    let says : Says_none p = case-says w.control w.events line asked p c other in
+    let says : BeginsUnacknowledged p = case-says w.control w.events line asked p c other in
     let d = case-does w line asked p c in
     record { since = plan-since false NoStop (Late asked) (Acts w.control asked) (λ u a d. does-unacknowledged w.control asked u.control a other d) w p says.told d.entries d.follows; says = says.says }
 

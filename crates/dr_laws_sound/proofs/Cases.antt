@@ -1,4 +1,4 @@
--- What each step comes to, by cases: an answer, or one of the plans of the step table behind its tests.
+-- What each step comes to, by cases: an answer, or one of the plans of the step table after its tests.
 use Rattle.std.proofs.Common.{ℕ, ◌≡◌, ◌<◌, ◌≤◌, refl, ap, ◌∙◌, Bool, true, false, cond, not, ◌||◌, List, [], ◌∷◌, Option, Some, None, Result, Ok, Err, nat_eq, nat_lt, nat_le, arith}
 use Rattle.std.specs.Prelude.{length, is_some, ◌==◌}
 use Rattle.std.specs.List.{find, flat_map}

@@ -39,7 +39,7 @@ compare-same w contents v u =
 
 -- ---- by host writes
 
--- behind a check entries need to lead to the same only where it passes
+-- after a check entries need to lead to the same only where it passes
 pub under-check : (w : World) (ok : Control → Bool) (r : Refusal) (ds es : List Entry) → (ok w.control ≡ true → carry w ds ≡ carry w es) → carry w (check ok r ∷ ds) ≡ carry w (check ok r ∷ es)
 unfolding carry
 under-check w ok r ds es rest = by (ok w.control) refl

@@ -117,7 +117,7 @@ pub data Does (k : Control) : Result Step ℕ → Control → Act → Type 0 whe
 abbrev pub Acts : Control → Result Step ℕ → World → Act → Type 0
 Acts k asked w a = Does k asked w.control a
 
--- only these refuse something behind an act that was done
+-- only these refuse something after an act that was done
 abbrev pub refuses_late : Result Step ℕ → Bool
 refuses_late (Ok (Write v t offset len bytes)) = true
 refuses_late (Ok (Apply n)) = true

@@ -1,10 +1,11 @@
 -- Each step's entries, and those that follow a stop in it, come to the acts that it does; and they refuse for no reason that names a stop.
 use Rattle.std.proofs.Common.{ℕ, ◌≡◌, ◌+◌, ◌&&◌, refl, sym, subst, Bool, true, false, cond, not, List, [], ◌∷◌, ◌++◌, map, Option, Some, None, Result, Ok, Err}
 use Rattle.std.proofs.lemmas.Bool.{and_parts}
-use Rattle.dr_logic.proofs.Truth.{false_true}
 use Rattle.std.specs.Prelude.{is_some}
 use Rattle.dr_ids.specs.declared.names.Member.{Member}
 use Rattle.dr_ids.specs.declared.refusal.Refusal.{Refusal}
+use Rattle.dr_ids.specs.declared.refusal.Decision.{Decision}
+use Rattle.dr_ids.specs.declared.refusal.Decision.TheVariants.{NoMember, Nothing, RevertAll, CommitRest, RevertSome, Impossible}
 use Rattle.dr_model.specs.declared.said.Said.{Said}
 use Rattle.dr_model.specs.declared.state.PairState.TheVariants.{Suspended as SuspendedState}
 use Rattle.dr_model.specs.declared.event.Event.{Event}
@@ -27,7 +28,7 @@ use Rattle.dr_model.specs.PairEntries.{refuse_if, reach_refusal, two_servers, ma
 use Rattle.dr_model.specs.WriteEntries.{partner_of, after_write, landing, land_entries, is_between, freeze_on, end_freeze, thaw_on, end_thaw, is_held_in, flash_free_on, belongs, lift_on}
 use Rattle.dr_model.specs.SessionEntries.{members_on, is_on, order_entries, first_number}
 use Rattle.dr_model.specs.SessionPlans.{member_with}
-use Rattle.dr_model.specs.RecoveryPlans.{decided_in, lets_commit, settle_on}
+use Rattle.dr_model.specs.RecoveryPlans.{decided_in, lets_commit, lets_revert, settle_on}
 use Rattle.dr_model.specs.Plans.{Plan, entries_plan, none_follow, is_defined, is_owner, found_pair, found_volumes, differ, is_no_source, has_few_targets, counted_refusal, is_plain_target, is_recorded_target, restore_refusal, is_lone_restore, may_return, left_by, may_copy, may_give_back, at_most, left_to_copy, member_refusal, yield_refusal, hold_first}
 use Rattle.dr_facts.proofs.Entries.{any_world, WhyNot, why-wider, AllFine, fine-none, fine-then, fine-now, fine-append, fine-map, fine-times, fine-drop, Fine, FineFrom, from-none, from-check, from-refuse, from-all}
 use Rattle.dr_facts.proofs.SharedEntries.{where-fine, after-fine, after_write-fine, hold-fine, destage-fine, start-fine, copied-fine, sends-fine, lands-fine, order-fine, add-fine, settle-fine, recover-fine}
@@ -36,6 +37,15 @@ use Rattle.dr_laws_sound.proofs.Cases.{Case, Says, DefinesServer, DefinesVolume,
 use Rattle.dr_laws_sound.proofs.Does as does
 use Rattle.dr_laws_sound.proofs.Does.{IsWrite, Issued, Found, IsSend, Drained, Collided, IsOrder, Exchanged, Delivered, Does, Acts, Late, refuses_late}
 use Rattle.dr_facts.proofs.Lists.{from-filter}
+
+-- what lets targets be committed lets none be reverted
+decides-one : {P : Type 0} (d : Decision) → lets_commit d ≡ true → lets_revert d ≡ true → P
+decides-one NoMember lets back = absurd cc
+decides-one (Nothing n) lets back = absurd cc
+decides-one (RevertAll n) lets back = absurd cc
+decides-one (CommitRest n) lets back = absurd cc
+decides-one (RevertSome o n) lets back = absurd cc
+decides-one (Impossible a b) lets back = absurd cc
 
 -- what a plan that was asked for comes to
 pub record Entered (w : World) (asked : Result Step ℕ) (p : Plan) : Type 0 where
@@ -259,10 +269,10 @@ module _ (w : World) where
       (λ m here. Exchanged s m (subst (λ o. In m (members_in o)) (sym allowed.found) (from-filter (is_on server) x.members m here).0)))
   case-does line _ _ (Delivers n m starts x r reaches) = acts-only _ _ (λ q. refl) (ordering c _ refl m.order.work m.session m.order.number (members_on m.server x.members)
       (λ q here. Delivered n m q reaches.arrives.there (subst (λ o. In q (members_in o)) (sym reaches.arrives.found) (from-filter (is_on m.server) x.members q here).0)))
-  case-does line _ _ (Recovers s x found on) = acts-only _ _ (λ q. refl) (recover-fine any_world (Acts c _) (Late _) s (decided_in s c) x.members (λ m u any is. does.RecoversSecondary m.b.0 is)
-      (λ m here n u any. does.RecoversCommit s m (subst (λ o. In m (members_in o)) (sym found) here) n) (λ m here n u any. does.RecoversRevert s m (subst (λ o. In m (members_in o)) (sym found) here) n) (λ n u any. does.EndsRecovery s n))
-  case-does line _ _ (Settles s x m found here on free hand) = acts-only _ _ (λ q. refl) (each c _ (settle_on s (decided_in s c) m) _ (settle-fine any_world (Acts c _) (Late _) s (decided_in s c) m (λ n u any. does.SettlesCommit s m hand n) (λ stays n u any. reverting hand stays n)) (none c _))
+  case-does line _ _ (Recovers s x found on) = acts-only _ _ (λ q. refl) (recover-fine any_world (Acts c _) (Late _) s (decided_in s c) x.members (λ m here u any is. does.RecoversSecondary m.b.0 is)
+      (λ m here no n u any. does.RecoversCommit s m (subst (λ o. In m (members_in o)) (sym found) here) n) (λ m here yes n u any. does.RecoversRevert s m (subst (λ o. In m (members_in o)) (sym found) here) n) (λ n u any. does.EndsRecovery s n))
+  case-does line _ _ (Settles s x m found here on free hand) = acts-only _ _ (λ q. refl) (each c _ (settle_on s (decided_in s c) m) _ (settle-fine any_world (Acts c _) (Late _) s (decided_in s c) m (λ no n u any. does.SettlesCommit s m hand n) (λ back n u any. reverting hand back n)) (none c _))
     where
-      reverting : {step : Step} {j : Control} → ByHand c s m step → lets_commit (decided_in s c) ≡ false → (n : ℕ) → Does c (Ok step) j (Make (moves.Revert m.c.0 m.a.0 s n))
-      reverting (Commits devs source sequence lets) stays n = false_true stays lets
-      reverting (Reverts devs source sequence t target own) stays n = does.SettlesRevert s m (Reverts devs source sequence t target own) n
+      reverting : {step : Step} {j : Control} → ByHand c s m step → lets_revert (decided_in s c) ≡ true → (n : ℕ) → Does c (Ok step) j (Make (moves.Revert m.c.0 m.a.0 s n))
+      reverting (Commits devs source sequence lets) back n = decides-one (decided_in s c) lets back
+      reverting (Reverts devs source sequence t target own) back n = does.SettlesRevert s m (Reverts devs source sequence t target own) n

@@ -21,7 +21,7 @@ choice-length : (n : ℕ) (b : Bool) (ds es : List Entry) → length ds ≤ n �
 choice-length n true ds es first second = first
 choice-length n false ds es first second = second
 
--- an entry for each of a list, and others behind them
+-- an entry for each of a list, and others after them
 pub map-length : {X : Type 0} (each : X → Entry) (xs : List X) (es : List Entry) → length (map each xs ++ es) ≡ length xs + length es
 map-length each [] es = omega arith
 map-length each (x ∷ xs) es = let e : length (map each xs ++ es) ≡ length xs + length es = map-length each xs es in omega arith

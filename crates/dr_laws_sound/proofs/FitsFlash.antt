@@ -140,7 +140,7 @@ module _ (w : World) (s t : ℕ) (r : Relates w s t) (f : Option Fuse) where
     free = part-same w m f (λ (g : Fields). g.related) refl t ∙ r.free;
   }
 
--- the relationship is made, behind a flash hold where the line asks for one
+-- the relationship is made, after a flash hold where the line asks for one
 module _ (s t : ℕ) (choices : Choices) where
   relates : (w : World) → Sound w → Relates w s t → Along w (now (Relate t s choices) ∷ [])
   relates w x r = moves w (Relate t s choices) [] (record { runs = r.on; allowed = r.allowed; fits = r.few; group = no-target w x t r.free; ready = idle w t x.queue r.on }) (λ f j. over _ j)

@@ -226,7 +226,7 @@ after_plan-ends w line p m =
 module _ (k : Control) where
   answers-nothing : (first : Control → Control) (told : List Event) (entries : List Entry) (says : Control → Said) → (first k).issued ≤ k.issued + 1 → (IsWithin k → IsWithin (first k)) → NoAnswer told
       → AnswersNothing k (record { first = first; told = told; entries = entries; follows = none_follow; last = same; says = says })
-  answers-nothing first told entries says one within hush = record { one = one; within = within; last = stays-same; silent = hush }
+  answers-nothing first told entries says one within unanswered = record { one = one; within = within; last = stays-same; silent = unanswered }
 
   abbrev Unmoved : Control → Type 0
   Unmoved j = (length j.sessions ≤ length k.sessions) × ((length j.servers ≡ length k.servers) × ((length j.volumes ≡ length k.volumes) × ((length j.pending ≡ length k.pending) × ((v : ℕ) → (j.volume v).tracks ≡ (k.volume v).tracks))))
@@ -234,7 +234,7 @@ module _ (k : Control) where
   -- the tables with limits stay
   quiet : (first : Control → Control) (told : List Event) (entries : List Entry) (says : Control → Said) → (first k).issued ≡ k.issued → Unmoved (first k) → NoAnswer told
       → AnswersNothing k (record { first = first; told = told; entries = entries; follows = none_follow; last = same; says = says })
-  quiet first told entries says issued stays hush = answers-nothing first told entries says (omega arith) within hush
+  quiet first told entries says issued stays unanswered = answers-nothing first told entries says (omega arith) within unanswered
     where
       within : IsWithin k → IsWithin (first k)
       within h = record {

@@ -95,7 +95,6 @@ pub mod KeepsSeals
 pub mod KeepsAsides
 mod KeepsGroups
 pub mod Along
-pub mod RecoveryEntries
 pub mod KeepsSound
 pub mod Views
 pub mod CopyFirst

@@ -230,7 +230,7 @@ module _ (volumes : List ℕ) (a b : ℕ) where
   abbrev suspends : List Entry
   suspends = suspend_where (send_refusal a b) a ∷ []
 
-  -- one track, behind what suspends the primary
+  -- one track, after what suspends the primary
   abbrev one_sent : ℕ → List Entry
   one_sent t = refuse_if (send_refusal a b) ∷ refuse_if (flashed_refusal b) ∷ copy_first volumes b t ++ store_on a b t ∷ strike_on a t ∷ []
 
@@ -450,7 +450,7 @@ module _ (w : World) (s : ℕ) (r : Refusal) where
     done-left (u, None) leads e =
         subst (λ q. Leaves w (Ok (Recover s)) q u) (group-refuses (decided_in s w.control) (group_of (decided_in s u.control)) e)
         (ap (λ found. carry w (recover_entries s (decided_in s w.control) (members_in found))) here ∙ leads)
-    done-left (u, Some q) leads e = let is : q ≡ r = cc in never-leads w u p.entries q (recover-fine any_world any_act never s (decided_in s w.control) x.members (λ m v any is. tt) (λ m here n v any. tt) (λ m here n v any. tt) (λ n v any. tt)) leads (ap (λ r. refused_stop (Some r)) is ∙ other)
+    done-left (u, Some q) leads e = let is : q ≡ r = cc in never-leads w u p.entries q (recover-fine any_world any_act never s (decided_in s w.control) x.members (λ m here v any is. tt) (λ m here no n v any. tt) (λ m here yes n v any. tt) (λ n v any. tt)) leads (ap (λ r. refused_stop (Some r)) is ∙ other)
 
     recovered-left : part_refusal w p ≡ Some r → Recovering (carried_out w p).0
     recovered-left e =

@@ -1,4 +1,4 @@
--- Acts that acknowledge no write, mirror none and leave those that are pending; and entries that come to no others. Where they are no_cuts,
+-- Acts that acknowledge no write, mirror none and leave those that are pending; and entries that come to no others. With `no_cuts`
 -- they cut no volume, too.
 use Rattle.std.proofs.Common.{ℕ, ◌≡◌, ◌⊎◌, inl, inr, List, [], ◌∷◌, ◌++◌, refl, ap, ◌∙◌, sym, append_assoc, Bool, true, false, not, ◌||◌, Option, Some, None}
 use Rattle.std.proofs.lemmas.List.{append-nil}
@@ -45,7 +45,7 @@ is_cut e = false
 abbrev pub cuts_any : List Event → Bool
 cuts_any events = list_any is_cut events
 
--- nothing that a reader of acknowledgements, of mirrored writes or, where they are no_cuts, of cuts hears of
+-- nothing that a reader of acknowledgements, of mirrored writes or, with `no_cuts`, of cuts hears of
 pub record NoAcknowledgement (no_cuts : Bool) (es : List Event) : Type 0 where
   pub none : acknowledgements es ≡ []
   pub plain : mirrors es ≡ []
@@ -165,7 +165,7 @@ pub record EndsUnacknowledged (no_cuts : Bool) (w : World) {E : Type 0} (u : Wor
 move-server : (w : World) (m : Move) (y : Volume) → y.server ≡ (w.control.volume (target m)).server → (v : ℕ) → (at w.control.volume (target m) y v).server ≡ (w.control.volume v).server
 move-server w m y e v = at_part (λ (x : Volume). x.server) w.control.volume (target m) y e v
 
--- acts that are nothing
+-- acts that acknowledge nothing
 module _ (no_cuts : Bool) (w : World) where
   abbrev one : (es : List Event) (u : World) → u.events ≡ w.events ++ es → NoAcknowledgement no_cuts es → NothingAcknowledged no_cuts w u
   one es u events silent = record { added = es; events = events; silent = silent }
