@@ -1,0 +1,6 @@
+pub mod Acts
+pub mod Blind
+pub mod BlindPlans
+pub mod Plans
+pub mod PlanTable
+pub mod Steps
