@@ -4,3 +4,5 @@ pub mod BlindPlans
 pub mod Plans
 pub mod PlanTable
 pub mod Steps
+pub mod Torn
+pub mod Later

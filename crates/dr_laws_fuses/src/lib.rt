@@ -1,3 +1,32 @@
-//! Laws on fuses, over every script: what a fuse that isn't reached changes, what the bytes of a torn block change, and what a server leaves whose
-//! fuse stands at 0. Its functions do nothing: each names a law by its contract.
+//! Laws on fuses, over every script: what a fuse that isn't reached changes, what the bytes of a torn block change, and which stop comes first. Its
+//! functions do nothing: each names a law by its contract.
 #![tactic(auto)]
+
+ghost use Rattle.std.specs.Prelude.{ℕ, List};
+ghost use Rattle.dr_model.specs.Control.{World};
+ghost use Rattle.dr_model.specs.Runs.{Task};
+ghost use Rattle.dr_laws_fuses.specs.Laws.{FirstStopStays, TearsAsFill, TornBytesTellOneBit, UnreachedChangesNothing};
+
+/// Two worlds differ in the fuse of one server alone, which lets more writes pass in the second. If a step doesn't stop that server in the first, both
+/// come to worlds that differ in that fuse alone, and by as many writes; if the step arms it anew, to one and the same world. A start of that server takes
+/// a fuse away that is at 0, so with such a step the first fuse isn't there.
+pub fn a_fuse_that_is_not_reached_changes_nothing()
+    ensures { (s : ℕ) (w v : World) (t : Task) → UnreachedChangesNothing s w v t }
+{}
+
+/// Two worlds differ in the torn bytes of fuses alone, and a torn gate chooses the same slot with either. Whatever steps are carried out, they differ in
+/// nothing else. An image lists devices, on which a torn block keeps its other bits: so the steps are taken with what they list.
+pub fn torn_bytes_tell_one_bit()
+    ensures { (tasks : List Task) (w v : World) → TornBytesTellOneBit w v tasks }
+{}
+
+/// A fuse with any torn bytes tears as one that fills the block with 00, or as one that fills it with 01.
+pub fn any_bytes_tear_as_a_fill()
+    ensures { (writes : ℕ) (bytes : List ℕ) → TearsAsFill writes bytes }
+{}
+
+/// Two worlds differ in fuses alone: that of one server is the same, all others let at least as many writes pass in the second. If a step tells the stop of
+/// that server first in the one, it does so in the other. The step starts no other server.
+pub fn the_first_stop_stays()
+    ensures { (s : ℕ) (w v : World) (t : Task) → FirstStopStays s w v t }
+{}
