@@ -6,3 +6,4 @@ pub mod PlanTable
 pub mod Steps
 pub mod Torn
 pub mod Later
+pub mod LastWrite

@@ -56,7 +56,7 @@ unfolding after_plan
 answered-on w p line = goes-then _ _ _ (plan-on w p) (record { more = answer line (answered p (carried_out w p).0.control (carried_out w p).1) ∷ []; is = refl })
 
 -- a drain and an exchange change no fuse as they begin
-changes-none : (asked : Result Step ℕ) → asks_turn asked ≡ true → fuse_changed asked ≡ None
+pub changes-none : (asked : Result Step ℕ) → asks_turn asked ≡ true → fuse_changed asked ≡ None
 changes-none (Ok (Start name)) turn = absurd cc
 changes-none (Ok (StopAfter name writes torn)) turn = absurd cc
 changes-none asked turn = refl

@@ -8,7 +8,7 @@ use Rattle.dr_model.specs.declared.step.Step.{Step}
 use Rattle.dr_model.specs.declared.step.Step.TheVariants.{Start, StopAfter}
 use Rattle.dr_model.specs.declared.step.TornWord.{TornWord}
 use Rattle.dr_model.specs.declared.step.TornWord.TheVariants.{Fill, Bytes}
-use Rattle.dr_model.specs.Control.{Fuse, World}
+use Rattle.dr_model.specs.Control.{Fuse, World, is_volume}
 use Rattle.dr_model.specs.Carry.{gate_turned}
 use Rattle.dr_model.specs.Entries.{is_at}
 use Rattle.dr_model.specs.Plans.{server_named, name_bytes, armed, fuse_at_start}
@@ -97,3 +97,19 @@ abbrev pub FirstStopStays : ℕ → World → World → Task → Type 0
 FirstStopStays s w v t =
     LaterBut s w v → ((name : Name) (q : ℕ) → t.asked ≡ Ok (Start name) → server_named w.control (name_bytes name) ≡ Some q → q ≡ s)
     → first_stop (told_since w (after_task w t)) ≡ Some s → first_stop (told_since v (after_task v t)) ≡ Some s
+
+-- ---- a server at its last device write
+
+-- server s is off, or its next device write is cut short and leaves what stood in the block
+abbrev pub WritesNothing : World → ℕ → Type 0
+WritesNothing w s = (w.control.on s ≡ false) ⊎ (w.control.fuse s ≡ Some (record { after = 0; torn = None }))
+
+-- the volumes of server s that are defined, and what their tracks contain, are what they were
+pub record LeavesVolumes (s : ℕ) (w u : World) : Type 0 where
+  pub volume : (v : ℕ) → is_volume w.control v ≡ true → (w.control.volume v).server ≡ s → u.control.volume v ≡ w.control.volume v
+  pub contents : (v t : ℕ) → is_volume w.control v ≡ true → (w.control.volume v).server ≡ s → u.contents v t ≡ w.contents v t
+
+-- so it is after any step that doesn't start that server
+abbrev pub LastWriteLeavesNothing : ℕ → World → Task → Type 0
+LastWriteLeavesNothing s w t =
+    WritesNothing w s → ((name : Name) → t.asked ≡ Ok (Start name) → server_named w.control (name_bytes name) ≡ Some s → ⊥) → LeavesVolumes s w (after_task w t)

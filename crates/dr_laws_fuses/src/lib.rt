@@ -5,7 +5,7 @@
 ghost use Rattle.std.specs.Prelude.{ℕ, List};
 ghost use Rattle.dr_model.specs.Control.{World};
 ghost use Rattle.dr_model.specs.Runs.{Task};
-ghost use Rattle.dr_laws_fuses.specs.Laws.{FirstStopStays, TearsAsFill, TornBytesTellOneBit, UnreachedChangesNothing};
+ghost use Rattle.dr_laws_fuses.specs.Laws.{FirstStopStays, LastWriteLeavesNothing, TearsAsFill, TornBytesTellOneBit, UnreachedChangesNothing};
 
 /// Two worlds differ in the fuse of one server alone, which lets more writes pass in the second. If a step doesn't stop that server in the first, both
 /// come to worlds that differ in that fuse alone, and by as many writes; if the step arms it anew, to one and the same world. A start of that server takes
@@ -29,4 +29,10 @@ pub fn any_bytes_tear_as_a_fill()
 /// that server first in the one, it does so in the other. The step starts no other server.
 pub fn the_first_stop_stays()
     ensures { (s : ℕ) (w v : World) (t : Task) → FirstStopStays s w v t }
+{}
+
+/// A server whose fuse is at 0, and leaves what stood in the block, leaves its volumes and their tracks as they were in any step that doesn't start it; so
+/// does one that is off. No move counts as done in its first device write, which is never the gate's.
+pub fn a_server_at_its_last_write_leaves_nothing()
+    ensures { (s : ℕ) (w : World) (t : Task) → LastWriteLeavesNothing s w t }
 {}
