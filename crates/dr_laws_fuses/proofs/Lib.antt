@@ -7,3 +7,4 @@ pub mod Steps
 pub mod Torn
 pub mod Later
 pub mod LastWrite
+pub mod Names
