@@ -8,3 +8,4 @@ pub mod Torn
 pub mod Later
 pub mod LastWrite
 pub mod Names
+pub mod Armed
