@@ -1,6 +1,7 @@
 -- A line that arms a fuse, and a step after it: with a fuse that lets more writes pass the journal is told the same, if the step doesn't stop the server.
 use Rattle.std.proofs.Common.{ℕ, ◌+◌, ◌≤◌, ◌≡◌, ◌≢◌, ◌⊎◌, inl, inr, refl, ap, ◌∙◌, sym, subst, arith, Bool, true, false, cond, List, [], ◌∷◌, ◌++◌, Option, Some, None, Result, Ok, nat_eq}
 use Rattle.std.proofs.Math.Path.{fun_ext}
+use Rattle.std.proofs.lemmas.List.Sums.{fold-append}
 use Rattle.std.proofs.lemmas.Bool.{cases_eq}
 use Rattle.std.proofs.lemmas.Bool.Decides.{nat_tests}
 use Rattle.dr_ids.specs.declared.refusal.Refusal.{Refusal}
@@ -15,15 +16,18 @@ use Rattle.dr_model.specs.declared.step.Name.{Name}
 use Rattle.dr_model.specs.declared.step.Step.{Step}
 use Rattle.dr_model.specs.declared.step.Step.TheVariants.{Start, StopAfter}
 use Rattle.dr_model.specs.declared.step.TornWord.{TornWord}
-use Rattle.dr_model.specs.Control.{Control, Fuse, World}
+use Rattle.dr_model.specs.declared.step.TornWord.TheVariants.{Fill, Bytes}
+use Rattle.dr_model.specs.Control.{Control, Fuse, World, nothing}
 use Rattle.dr_model.specs.PlanParts.{Plan, refuses}
 use Rattle.dr_model.specs.Plans.{on_named, server_named, name_bytes, has_room, arm_on, armed, fuse_at_start}
 use Rattle.dr_model.specs.Carried.{said, masters_lost}
-use Rattle.dr_model.specs.Runs.{Task, answered_part, after_task}
+use Rattle.dr_model.specs.Runs.{Task, answered_part, after_task, after_tasks, run}
 use Rattle.dr_model.specs.Lines.{task}
-use Rattle.dr_model.proofs.CarryLemmas.{plan-tables}
+use Rattle.dr_model.proofs.CarryLemmas.{plan-tables, plan-refuses}
 use Rattle.dr_laws_fuses.specs.Fuses.{with_fuses}
-use Rattle.dr_laws_fuses.specs.Laws.{told_since, tells_stop, Later, LaterBy, KeepsFuse}
+use Rattle.dr_laws_fuses.specs.Laws.{told_since, tells_stop, Later, LaterBy, KeepsFuse, TearAlike, TornAlike, TearsAsFill}
+use Rattle.dr_laws_fuses.proofs.Acts.{at-fuses}
+use Rattle.dr_laws_fuses.proofs.Torn.{torn-alike, tears-as-fill}
 use Rattle.dr_laws_fuses.proofs.Later.{unreached}
 
 module _ (w : World) (line : ℕ) (name : Name) (writes d : ℕ) (torn other : TornWord) where
@@ -112,3 +116,63 @@ module _ (w : World) (line : ℕ) (name : Name) (writes d : ℕ) (torn other : T
     | inl same ↦ ap (λ (u : World). u.events) (sym same)
     | inr both ↦ ap (λ (u : World). u.events) both.by.is
   ]
+
+  -- it leaves the names of servers
+  pub arm-servers : one.control.servers ≡ w.control.servers
+  arm-servers = by (has_room w.events) (server_named w.control (name_bytes name)) refl refl
+    where
+      refused : (r : Refusal) → (ended (refuses r)).control.servers ≡ w.control.servers
+      refused r = ap (λ (u : World). u.control.servers) (plan-refuses w line r)
+
+      by : (b : Bool) (o : Option ℕ) → has_room w.events ≡ b → server_named w.control (name_bytes name) ≡ o → one.control.servers ≡ w.control.servers
+      by false o full named = ap (λ (u : World). u.control.servers) (chooses writes torn false o full named) ∙ refused JournalFull
+      by true None room named = ap (λ (u : World). u.control.servers) (chooses writes torn true None room named) ∙ refused (unknown OfServer)
+      by true (Some s) room named = ap (λ (u : World). u.control.servers) (chooses writes torn true (Some s) room named ∙ ends s writes torn)
+
+-- a line that arms a fuse, with torn bytes that tear alike
+module _ (w : World) (line : ℕ) (name : Name) (writes : ℕ) (torn other : TornWord) (alike : TearAlike (Some (armed writes torn)) (Some (armed writes other))) where
+  pub arms-torn : TornAlike (after_task w (task line (Ok (StopAfter name writes torn)))) (after_task w (task line (Ok (StopAfter name writes other))))
+  arms-torn = by (has_room w.events) (server_named w.control (name_bytes name)) refl refl
+    where
+      same : (f : Option Fuse) → TearAlike f f
+      same None = tt
+      same (Some f) = (refl, λ new. refl)
+
+      equal : (u v : World) → u ≡ v → TornAlike u v
+      equal u v e = record { fuse = u.control.fuse; is = sym e; alike = λ s. same (u.control.fuse s) }
+
+      chosen-one : (t : TornWord) (b : Bool) (o : Option ℕ) → has_room w.events ≡ b → server_named w.control (name_bytes name) ≡ o → after_task w (task line (Ok (StopAfter name writes t))) ≡ ended w line name writes 0 torn other (chosen w line name writes 0 torn other b o writes t)
+      chosen-one t b o room named = chooses w line name writes 0 torn other writes t b o room named
+
+      by : (b : Bool) (o : Option ℕ) → has_room w.events ≡ b → server_named w.control (name_bytes name) ≡ o → TornAlike (after_task w (task line (Ok (StopAfter name writes torn)))) (after_task w (task line (Ok (StopAfter name writes other))))
+      by false o full named = equal _ _ (chosen-one torn false o full named ∙ sym (chosen-one other false o full named))
+      by true None room named = equal _ _ (chosen-one torn true None room named ∙ sym (chosen-one other true None room named))
+      by true (Some s) room named =
+          let f : Fuse = armed writes torn in
+          let g : Fuse = armed writes other in
+          let first : after_task w (task line (Ok (StopAfter name writes torn))) ≡ fused w line name writes 0 torn other s f = chosen-one torn true (Some s) room named ∙ ends w line name writes 0 torn other s writes torn in
+          let second : after_task w (task line (Ok (StopAfter name writes other))) ≡ fused w line name writes 0 torn other s g = chosen-one other true (Some s) room named ∙ ends w line name writes 0 torn other s writes other in
+          subst (λ u. TornAlike u (after_task w (task line (Ok (StopAfter name writes other))))) (sym first) (subst (λ v. TornAlike (fused w line name writes 0 torn other s f) v) (sym second)
+          (record { fuse = at w.control.fuse s (Some g); is = refl; alike = at-fuses (λ q. TearAlike) w.control.fuse w.control.fuse s (Some f) (Some g) (λ q. same (w.control.fuse q)) alike }))
+
+-- A run with any torn bytes comes to what one comes to whose block is filled with 00 or with 01, but for that fuse.
+run-on : (before : List Task) (t : Task) (rest : List Task) → run (before ++ t ∷ rest) ≡ after_tasks (after_task (run before) t) rest
+unfolding after_tasks
+run-on before t rest = fold-append after_task nothing before (t ∷ rest)
+
+pub any-torn : (before rest : List Task) (line : ℕ) (name : Name) (writes : ℕ) (bytes : List ℕ)
+    → (let leads : TornWord → World = λ torn. run (before ++ task line (Ok (StopAfter name writes torn)) ∷ rest) in TornAlike (leads (Bytes bytes)) (leads (Fill 0)) ⊎ TornAlike (leads (Bytes bytes)) (leads (Fill 1)))
+any-torn before rest line name writes bytes = by (tears-as-fill writes bytes)
+  where
+    leads : TornWord → World
+    leads torn = run (before ++ task line (Ok (StopAfter name writes torn)) ∷ rest)
+
+    filled : (fill : TornWord) → TearAlike (Some (armed writes (Bytes bytes))) (Some (armed writes fill)) → TornAlike (run (before ++ task line (Ok (StopAfter name writes (Bytes bytes))) ∷ rest)) (run (before ++ task line (Ok (StopAfter name writes fill)) ∷ rest))
+    filled fill alike =
+        subst (λ u. TornAlike u (run (before ++ task line (Ok (StopAfter name writes fill)) ∷ rest))) (sym (run-on before (task line (Ok (StopAfter name writes (Bytes bytes)))) rest))
+        (subst (λ v. TornAlike (after_tasks (after_task (run before) (task line (Ok (StopAfter name writes (Bytes bytes))))) rest) v) (sym (run-on before (task line (Ok (StopAfter name writes fill))) rest))
+        (torn-alike rest _ _ (arms-torn (run before) line name writes (Bytes bytes) fill alike)))
+
+    by : TearsAsFill writes bytes → TornAlike (leads (Bytes bytes)) (leads (Fill 0)) ⊎ TornAlike (leads (Bytes bytes)) (leads (Fill 1))
+    by (inl zeros) = inl (filled (Fill 0) zeros)
+    by (inr ones) = inr (filled (Fill 1) ones)

@@ -5,10 +5,14 @@ use Rattle.std.proofs.Math.Path.{fun_ext}
 use Rattle.std.proofs.Math.Seq.{drop-append_seam}
 use Rattle.std.proofs.lemmas.Bool.{cases_eq, leb-true, le-leb}
 use Rattle.std.specs.Option.{option_or}
+use Rattle.std.specs.Prelude.{slice_get}
+use Rattle.std.specs.List.{filter_map, cons_option}
 use Rattle.dr_logic.specs.Tables.{at}
 use Rattle.dr_logic.proofs.Tables.{at_same, at_other}
 use Rattle.dr_logic.proofs.Truth.{false_true}
+use Rattle.dr_logic.proofs.Options.{none_some}
 use Rattle.dr_model.specs.declared.event.Event.{Event}
+use Rattle.dr_model.specs.declared.event.Event.TheVariants.{Stopped}
 use Rattle.dr_model.specs.declared.step.Name.{Name}
 use Rattle.dr_model.specs.declared.step.Step.{Step}
 use Rattle.dr_model.specs.declared.step.Step.TheVariants.{Start, StopAfter}
@@ -21,13 +25,13 @@ use Rattle.dr_laws_sound.specs.Stops.{stop_in, first_stop}
 use Rattle.dr_laws_sound.proofs.StopsTold.{first-append}
 use Rattle.dr_laws_sound.proofs.Journal.{after_task-grows}
 use Rattle.dr_laws_fuses.specs.Fuses.{with_fuses, fuse_changed, changed_fuse}
-use Rattle.dr_laws_fuses.specs.Laws.{told_since, tells_stop, Later, LaterBy, KeepsFuse, ArmsAnew, UnreachedChangesNothing, Outlasts, LaterBut, FirstStopStays}
+use Rattle.dr_laws_fuses.specs.Laws.{told_since, tells_stop, Later, LaterBy, KeepsFuse, ArmsAnew, UnreachedChangesNothing, Outlasts, Lasts, stop_at, first_place, FirstPlaceStays}
 use Rattle.dr_laws_fuses.proofs.Acts.{Goes, Passes, Cuts, Meets}
 use Rattle.dr_laws_fuses.proofs.Plans.{Parted}
 use Rattle.dr_laws_fuses.proofs.Steps.{SameWorld, Alike, ChangesAlike, task-alike}
 
 -- the same fuse
-same-goes : (R : ℕ → Option Fuse → Option Fuse → Type 0) (M : ℕ → Type 0) (q : ℕ) (f g : Option Fuse) (n : ℕ) → f ≡ g → ((x y : Option Fuse) → x ≡ y → R q x y) → Goes R M q f g n
+pub same-goes : (R : ℕ → Option Fuse → Option Fuse → Type 0) (M : ℕ → Type 0) (q : ℕ) (f g : Option Fuse) (n : ℕ) → f ≡ g → ((x y : Option Fuse) → x ≡ y → R q x y) → Goes R M q f g n
 same-goes R M q f g n is equal = by (pass f n) refl
   where
     by : (b : Bool) → pass f n ≡ b → Goes R M q f g n
@@ -35,7 +39,7 @@ same-goes R M q f g n is equal = by (pass f n) refl
     by false p = Cuts p (ap (λ x. pass x n) (sym is) ∙ p) (λ gate new. ap (λ x. counts_by gate x new) is) (equal _ _ (ap burnt is))
 
 -- what is told after the events of a world
-told-since : (w u : World) (es : List Event) → u.events ≡ w.events ++ es → told_since w u ≡ es
+pub told-since : (w u : World) (es : List Event) → u.events ≡ w.events ++ es → told_since w u ≡ es
 told-since w u es is = ap (drop (length w.events)) is ∙ drop-append_seam w.events es
 
 -- a stop that comes first is among events, and among those that others come before
@@ -176,66 +180,3 @@ module _ (s d : ℕ) (w : World) (t : Task) (fuse : Option Fuse) (later : Later 
 
 pub unreached : (s : ℕ) (w v : World) (t : Task) → UnreachedChangesNothing s w v t
 unreached s w v t d later keeps untold = subst (λ v. Ends s d w t later.fuse later.later keeps (after_task v t)) (sym later.is) (steps s d w t later.fuse later.later keeps untold)
-
--- ---- the first stop
-
-module _ (s : ℕ) where
-  abbrev But : ℕ → Option Fuse → Option Fuse → Type 0
-  But q f g = (q ≡ s) × (f ≡ g) ⊎ (q ≢ s) × Outlasts f g
-
-  abbrev Others : ℕ → Type 0
-  Others q = q ≢ s
-
-  lasts : (q : ℕ) (f g : Option Fuse) (n : ℕ) → But q f g → Goes But Others q f g n
-  lasts q f g n (inl (here, is)) = same-goes But Others q f g n is (λ x y e. inl (here, e))
-  lasts q None None n (inr (far, more)) = Passes refl refl (inr (far, tt))
-  lasts q (Some f) None n (inr (far, more)) = by (nat_le n f.after) refl
-    where
-      by : (b : Bool) → nat_le n f.after ≡ b → Goes But Others q (Some f) None n
-      by true p = Passes p refl (inr (far, tt))
-      by false p = Meets p far
-  lasts q (Some f) (Some g) n (inr (far, more)) = by (nat_le n f.after) refl
-    where
-      by : (b : Bool) → nat_le n f.after ≡ b → Goes But Others q (Some f) (Some g) n
-      by true p =
-          let one : n ≤ f.after = leb-true n f.after p in
-          let le : n ≤ g.after = omega arith in
-          Passes p (le-leb n g.after le) (inr (far, omega arith))
-      by false p = Meets p far
-  lasts q None (Some g) n (inr (far, more)) = absurd more
-
-  module _ (w : World) (t : Task) (h : ℕ → Option Fuse) (own : h s ≡ w.control.fuse s) (others : (q : ℕ) → q ≢ s → Outlasts (w.control.fuse q) (h q))
-      (starts : (name : Name) (q : ℕ) → t.asked ≡ Ok (Start name) → server_named w.control (name_bytes name) ≡ Some q → q ≡ s) where
-    but : (q : ℕ) → But q (w.control.fuse q) (h q)
-    but q = elim (cases_eq q s) [
-      | inl e ↦ inl (e, ap w.control.fuse e ∙ sym own ∙ ap h (sym e))
-      | inr ne ↦ inr (ne, others q ne)
-    ]
-
-    but-changes : (asked : Result Step ℕ) → asked ≡ t.asked → (name : Name) (q : ℕ) → fuse_changed asked ≡ Some name → server_named w.control (name_bytes name) ≡ Some q → But q (changed_fuse asked (w.control.fuse q)) (changed_fuse asked (h q))
-    but-changes (Ok (Start start)) is name q set named =
-        let e : q ≡ s = starts name q (sym is ∙ ap (λ n. Ok (Start n)) (cc)) named in
-        inl (e, ap fuse_at_start (ap w.control.fuse e ∙ sym own ∙ ap h (sym e)))
-    but-changes (Ok (StopAfter armed_on writes torn)) is name q set named = elim (cases_eq q s) [
-      | inl e ↦ inl (e, refl)
-      | inr ne ↦ (let le : writes ≤ writes = omega arith in inr (ne, le))
-    ]
-    but-changes asked is name q set named = let never : None ≡ Some name = set in absurd cc
-
-    stays-first : first_stop (told_since w (after_task w t)) ≡ Some s → first_stop (told_since w (after_task (with_fuses w h) t)) ≡ Some s
-    stays-first first = by (task-alike But Others lasts w h but t.line t.asked t.listed (but-changes t.asked refl))
-      where
-        by : Alike But Others lasts w (after_task w t) (after_task (with_fuses w h) t) → first_stop (told_since w (after_task (with_fuses w h) t)) ≡ Some s
-        by (inl same) = subst (λ v. first_stop (told_since w v) ≡ Some s) (sym same.is) first
-        by (inr parted) = ap first_stop (told-since w (after_task (with_fuses w h) t) (parted.common ++ parted.other) parted.second) ∙ first-append parted.common parted.other ∙ common (first_stop parted.common) early
-          where
-            early : option_or (first_stop parted.common) (Some parted.server) ≡ Some s
-            early = ap (λ o. option_or (first_stop parted.common) o) (sym parted.tells) ∙ sym (first-append parted.common parted.rest) ∙ sym (ap first_stop (told-since w (after_task w t) (parted.common ++ parted.rest) parted.first)) ∙ first
-
-            common : (o : Option ℕ) → option_or o (Some parted.server) ≡ Some s → option_or o (first_stop parted.other) ≡ Some s
-            common None is = let e : parted.server ≡ s = cc in absurd (parted.met e)
-            common (Some q) is = is
-
-pub first-stop-stays : (s : ℕ) (w v : World) (t : Task) → FirstStopStays s w v t
-first-stop-stays s w v t but starts first =
-    subst (λ v. first_stop (told_since v (after_task v t)) ≡ Some s) (sym but.is) (stays-first s w t but.fuse but.own but.others starts first)

@@ -6,6 +6,7 @@ pub mod PlanTable
 pub mod Steps
 pub mod Torn
 pub mod Later
+pub mod Places
 pub mod LastWrite
 pub mod Names
 pub mod Armed

@@ -1,8 +1,12 @@
 -- The names that a journal gives servers are those of the tables.
-use Rattle.std.proofs.Common.{ℕ, ◌⊎◌, inl, inr, zero, suc, ◌≡◌, refl, ap, ◌∙◌, sym, subst, append_assoc, arith, Bool, true, false, cond, List, [], ◌∷◌, ◌++◌, length, Option, Some, None, Result, Ok, Err, nat_eq}
+use Rattle.std.proofs.Common.{ℕ, ◌⊎◌, inl, inr, zero, suc, ◌≡◌, refl, ap, ◌∙◌, sym, subst, append_assoc, arith, Bool, true, false, cond, List, [], ◌∷◌, ◌++◌, length, get_or, Option, Some, None, Result, Ok, Err, nat_eq}
 use Rattle.std.specs.Prelude.{take, slice_get}
 use Rattle.std.specs.List.{fold}
-use Rattle.std.specs.Option.{option_or}
+use Rattle.std.specs.Option.{option_or, unwrap_or}
+use Rattle.std.specs.Str.{bytes_eq}
+use Rattle.std.proofs.lemmas.List.Quantifiers.{position-Some}
+use Rattle.std.proofs.lemmas.Option.{slice_get-get_or}
+use Rattle.dr_logic.proofs.Lists.{same_bytes}
 use Rattle.std.proofs.lemmas.Bool.Decides.{nat_tests}
 use Rattle.std.proofs.lemmas.List.{append-nil}
 use Rattle.dr_ids.specs.declared.names.Member.{Member}
@@ -22,12 +26,12 @@ use Rattle.dr_model.specs.Phases as phases
 use Rattle.dr_model.specs.SessionPlans.{exchanged, is_idle}
 use Rattle.dr_model.specs.SessionEntries.{members_on}
 use Rattle.dr_model.specs.MessagePlans.{told_begun}
-use Rattle.dr_model.specs.PlanParts.{Plan, name_bytes}
+use Rattle.dr_model.specs.PlanParts.{Plan, name_bytes, server_named}
 use Rattle.dr_model.proofs.CarryLemmas.{carry-none}
 use Rattle.dr_model.specs.Carried.{begun, finish, carried_out, answered, after_plan}
 use Rattle.dr_model.specs.Forming.{Part, after_part}
 use Rattle.dr_model.specs.Runs.{Task, course, after_task, after_tasks, run, answered_part, image_plan, image_told}
-use Rattle.dr_model.specs.Text.{Heard, heard, untold, name_in}
+use Rattle.dr_model.specs.Text.{Heard, heard, untold, name_in, told_name}
 use Rattle.dr_facts.proofs.Emits.{Of, Lists, AllOf, of-append, by_moves, all-told, stop-onto, emitted}
 use Rattle.dr_laws_sound.proofs.Texts.{heard-append}
 use Rattle.dr_laws_sound.proofs.Turns.{act-cases, Counts, after_act, server_of}
@@ -223,3 +227,18 @@ tasks-named w (t ∷ tasks) named = tasks-named (after_task w t) tasks (task-nam
 -- over each run
 pub run-named : (tasks : List Task) → Named (run tasks)
 run-named tasks = tasks-named nothing tasks (λ s. refl)
+
+-- a name, once given, stays
+given-stays : (told : Heard) (es : List Event) (s : ℕ) (x : List ℕ) → told.names s ≡ Some x → (fold heard told es).names s ≡ Some x
+given-stays told [] s x given = given
+given-stays told (e ∷ es) s x given = given-stays (heard told e) es s x (ap (λ o. option_or o (name_in e s)) given)
+
+-- a server that goes by a name in a run has it in each longer journal
+pub name-told : (tasks : List Task) (es : List Event) (name : List ℕ) (s : ℕ) → server_named (run tasks).control name ≡ Some s → told_name (fold heard untold ((run tasks).events ++ es)) s ≡ name
+name-told tasks es name s named =
+    let w : World = run tasks in
+    let found = position-Some (bytes_eq name) w.control.servers s [] named in
+    let there : slice_get w.control.servers s ≡ Some (get_or w.control.servers s []) = slice_get-get_or w.control.servers s [] found.0 in
+    ap (λ (h : Heard). told_name h s) (heard-append untold w.events es)
+    ∙ ap (λ o. unwrap_or o []) (given-stays (fold heard untold w.events) es s (get_or w.control.servers s []) (run-named tasks s ∙ there))
+    ∙ sym (same_bytes name (get_or w.control.servers s []) found.1)

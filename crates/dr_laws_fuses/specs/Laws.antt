@@ -1,8 +1,9 @@
 -- What a fuse that isn't reached changes, what the bytes of a torn block change, and which stop comes first.
-use Rattle.std.specs.Prelude.{◌≡◌, ◌≢◌, ℕ, ◌+◌, ◌≤◌, ◌⊎◌, Bool, true, false, List, drop, length, Option, Some, None, Result, Ok}
-use Rattle.std.specs.List.{list_any}
+use Rattle.std.specs.Prelude.{◌≡◌, ◌≢◌, ℕ, ◌+◌, ◌≤◌, ◌⊎◌, Bool, true, false, List, drop, length, slice_get, Option, Some, None, Result, Ok}
+use Rattle.std.specs.List.{list_any, filter_map}
 use Rattle.dr_logic.specs.Tables.{at}
 use Rattle.dr_model.specs.declared.event.Event.{Event}
+use Rattle.dr_model.specs.declared.event.Event.TheVariants.{Stopped}
 use Rattle.dr_model.specs.declared.step.Name.{Name}
 use Rattle.dr_model.specs.declared.step.Step.{Step}
 use Rattle.dr_model.specs.declared.step.Step.TheVariants.{Start, StopAfter}
@@ -13,7 +14,7 @@ use Rattle.dr_model.specs.Carry.{gate_turned}
 use Rattle.dr_model.specs.Entries.{is_at}
 use Rattle.dr_model.specs.Plans.{server_named, name_bytes, armed, fuse_at_start}
 use Rattle.dr_model.specs.Runs.{Task, after_task, after_tasks}
-use Rattle.dr_laws_sound.specs.Stops.{stop_in, first_stop}
+use Rattle.dr_laws_sound.specs.Stops.{stop_in}
 use Rattle.dr_laws_fuses.specs.Fuses.{with_fuses}
 
 -- what the journal was told between two worlds of a run
@@ -85,18 +86,26 @@ Outlasts f None = Unit {0}
 Outlasts (Some f) (Some g) = f.after ≤ g.after
 Outlasts None (Some g) = ⊥
 
--- two worlds differ in fuses alone: that of server s is the same, all others let at least as many writes pass in the second
-pub record LaterBut (s : ℕ) (w v : World) : Type 0 where
-  pub fuse : ℕ → Option Fuse
-  pub is : v ≡ with_fuses w fuse
-  pub own : fuse s ≡ w.control.fuse s
-  pub others : (q : ℕ) → q ≢ s → Outlasts (w.control.fuse q) (fuse q)
+-- By the places that servers have among some: those without one have the same fuses, and so has the one at that place; all others let at least as
+-- many writes pass.
+pub record Lasts (place : ℕ → Option ℕ) (own : ℕ) (f g : ℕ → Option Fuse) : Type 0 where
+  pub kept : (q : ℕ) → place q ≡ None → g q ≡ f q
+  pub same : (q : ℕ) → place q ≡ Some own → g q ≡ f q
+  pub others : (q : ℕ) → Outlasts (f q) (g q)
 
--- The step starts no other server. Where the first stop that it tells in the one is that of s, so is the first that it tells in the other.
-abbrev pub FirstStopStays : ℕ → World → World → Task → Type 0
-FirstStopStays s w v t =
-    LaterBut s w v → ((name : Name) (q : ℕ) → t.asked ≡ Ok (Start name) → server_named w.control (name_bytes name) ≡ Some q → q ≡ s)
-    → first_stop (told_since w (after_task w t)) ≡ Some s → first_stop (told_since v (after_task v t)) ≡ Some s
+-- the place of the server whose stop an event tells
+abbrev pub stop_at : (ℕ → Option ℕ) → Event → Option ℕ
+stop_at place (Stopped s w) = place s
+stop_at place _ = None
+
+-- of the servers that have a place, that of the first that stops in a step
+abbrev pub first_place : (ℕ → Option ℕ) → World → Task → Option ℕ
+first_place place w t = slice_get (filter_map (stop_at place) (told_since w (after_task w t))) 0
+
+-- The step starts no server. If the first of these servers that stops in it is that of one place in the one world, so it is in the other.
+abbrev pub FirstPlaceStays : (ℕ → Option ℕ) → ℕ → World → (ℕ → Option Fuse) → Task → Type 0
+FirstPlaceStays place own w g t =
+    Lasts place own w.control.fuse g → ((name : Name) → t.asked ≡ Ok (Start name) → ⊥) → first_place place w t ≡ Some own → first_place place (with_fuses w g) t ≡ Some own
 
 -- ---- a server at its last device write
 

@@ -2,10 +2,10 @@
 //! functions do nothing: each names a law by its contract.
 #![tactic(auto)]
 
-ghost use Rattle.std.specs.Prelude.{ℕ, List};
-ghost use Rattle.dr_model.specs.Control.{World};
+ghost use Rattle.std.specs.Prelude.{ℕ, List, Option};
+ghost use Rattle.dr_model.specs.Control.{Fuse, World};
 ghost use Rattle.dr_model.specs.Runs.{Task};
-ghost use Rattle.dr_laws_fuses.specs.Laws.{FirstStopStays, LastWriteLeavesNothing, TearsAsFill, TornBytesTellOneBit, UnreachedChangesNothing};
+ghost use Rattle.dr_laws_fuses.specs.Laws.{FirstPlaceStays, LastWriteLeavesNothing, TearsAsFill, TornBytesTellOneBit, UnreachedChangesNothing};
 
 /// Two worlds differ in the fuse of one server alone, which lets more writes pass in the second. If a step doesn't stop that server in the first, both
 /// come to worlds that differ in that fuse alone, and by as many writes; if the step arms it anew, to one and the same world. A start of that server takes
@@ -25,10 +25,10 @@ pub fn any_bytes_tear_as_a_fill()
     ensures { (writes : ℕ) (bytes : List ℕ) → TearsAsFill writes bytes }
 {}
 
-/// Two worlds differ in fuses alone: that of one server is the same, all others let at least as many writes pass in the second. If a step tells the stop of
-/// that server first in the one, it does so in the other. The step starts no other server.
+/// Two worlds differ in the fuses of some servers alone, each with its place among them: that at one place is the same, all others let at least as many
+/// writes pass in the second. If of these servers that one stops first in a step, which starts none, it does so in the other world.
 pub fn the_first_stop_stays()
-    ensures { (s : ℕ) (w v : World) (t : Task) → FirstStopStays s w v t }
+    ensures { (place : ℕ → Option ℕ) (own : ℕ) (w : World) (g : ℕ → Option Fuse) (t : Task) → FirstPlaceStays place own w g t }
 {}
 
 /// A server whose fuse is at 0, and leaves what stood in the block, leaves its volumes and their tracks as they were in any step that doesn't start it; so
