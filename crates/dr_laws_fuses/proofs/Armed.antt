@@ -1,5 +1,5 @@
 -- A line that arms a fuse, and a step after it: with a fuse that lets more writes pass the journal is told the same, if the step doesn't stop the server.
-use Rattle.std.proofs.Common.{ℕ, ◌+◌, ◌≤◌, ◌≡◌, ◌≢◌, ◌⊎◌, inl, inr, refl, ap, ◌∙◌, sym, subst, arith, Bool, true, false, cond, List, [], ◌∷◌, ◌++◌, Option, Some, None, Result, Ok, nat_eq}
+use Rattle.std.proofs.Common.{ℕ, ◌||◌, ◌+◌, ◌≤◌, ◌≡◌, ◌≢◌, ◌⊎◌, inl, inr, refl, ap, ◌∙◌, sym, subst, append_assoc, arith, Bool, true, false, cond, List, [], ◌∷◌, ◌++◌, Option, Some, None, Result, Ok, nat_eq}
 use Rattle.std.proofs.Math.Path.{fun_ext}
 use Rattle.std.proofs.lemmas.List.Sums.{fold-append}
 use Rattle.std.proofs.lemmas.Bool.{cases_eq}
@@ -21,6 +21,11 @@ use Rattle.dr_model.specs.Control.{Control, Fuse, World, nothing}
 use Rattle.dr_model.specs.PlanParts.{Plan, refuses}
 use Rattle.dr_model.specs.Plans.{on_named, server_named, name_bytes, has_room, arm_on, armed, fuse_at_start}
 use Rattle.dr_model.specs.Carried.{said, masters_lost}
+use Rattle.dr_model.specs.declared.event.Event.{Event}
+use Rattle.dr_model.specs.Entries.{is_at}
+use Rattle.std.proofs.lemmas.List.Folds.{list_any-append}
+use Rattle.dr_laws_sound.specs.Stops.{stop_in}
+use Rattle.dr_laws_sound.proofs.Journal.{after_task-grows, after_tasks-grows}
 use Rattle.dr_model.specs.Runs.{Task, answered_part, after_task, after_tasks, run}
 use Rattle.dr_model.specs.Lines.{task}
 use Rattle.dr_model.proofs.CarryLemmas.{plan-tables, plan-refuses}
@@ -28,7 +33,7 @@ use Rattle.dr_laws_fuses.specs.Fuses.{with_fuses}
 use Rattle.dr_laws_fuses.specs.Laws.{told_since, tells_stop, Later, LaterBy, KeepsFuse, TearAlike, TornAlike, TearsAsFill}
 use Rattle.dr_laws_fuses.proofs.Acts.{at-fuses}
 use Rattle.dr_laws_fuses.proofs.Torn.{torn-alike, tears-as-fill}
-use Rattle.dr_laws_fuses.proofs.Later.{unreached}
+use Rattle.dr_laws_fuses.proofs.Later.{unreached, told-since}
 
 module _ (w : World) (line : ℕ) (name : Name) (writes d : ℕ) (torn other : TornWord) where
   abbrev pub one : World
@@ -176,3 +181,43 @@ any-torn before rest line name writes bytes = by (tears-as-fill writes bytes)
     by : TearsAsFill writes bytes → TornAlike (leads (Bytes bytes)) (leads (Fill 0)) ⊎ TornAlike (leads (Bytes bytes)) (leads (Fill 1))
     by (inl zeros) = inl (filled (Fill 0) zeros)
     by (inr ones) = inr (filled (Fill 1) ones)
+
+-- ---- several steps
+
+-- no step of these starts a server
+abbrev pub StartNone : List Task → Type 0
+StartNone [] = Unit {0}
+StartNone (t ∷ ts) = ((name : Name) → t.asked ≡ Ok (Start name) → ⊥) × StartNone ts
+
+-- if they don't stop the server, the journal is told the same with the later fuse
+pub steps-later : (s d : ℕ) (ts : List Task) (w v : World) → LaterBy s d w v → StartNone ts → tells_stop s (told_since w (after_tasks w ts)) ≡ false → (after_tasks v ts).events ≡ (after_tasks w ts).events
+unfolding after_tasks
+steps-later s d [] w v apart none untold = ap (λ (u : World). u.events) apart.is
+steps-later s d (t ∷ ts) w v apart none untold =
+    let u : World = after_task w t in
+    let one = after_task-grows w t in
+    let rest = after_tasks-grows u ts in
+    let all : (after_tasks u ts).events ≡ w.events ++ (one.0 ++ rest.0) = rest.1 ∙ ap (λ es. es ++ rest.0) one.1 ∙ append_assoc w.events one.0 rest.0 in
+    let both : tells_stop s (one.0 ++ rest.0) ≡ false = sym (ap (tells_stop s) (told-since w (after_tasks u ts) (one.0 ++ rest.0) all)) ∙ untold in
+    let first : tells_stop s (told_since w u) ≡ false = ap (tells_stop s) (told-since w u one.0 one.1) ∙ (none-both s one.0 rest.0 both).0 in
+    let second : tells_stop s (told_since u (after_tasks u ts)) ≡ false = ap (tells_stop s) (told-since u (after_tasks u ts) rest.0 rest.1) ∙ (none-both s one.0 rest.0 both).1 in
+    elim (unreached s w v t d apart (λ start is named. absurd (none.0 start is)) first) [
+      | inl more ↦ steps-later s d ts u (after_task v t) more none.1 second
+      | inr (anew, same) ↦ ap (λ (x : World). (after_tasks x ts).events) same
+    ]
+  where
+    none-both : (s : ℕ) (es fs : List Event) → tells_stop s (es ++ fs) ≡ false → (tells_stop s es ≡ false) × (tells_stop s fs ≡ false)
+    none-both s es fs none = by (tells_stop s es) (tells_stop s fs) (sym (list_any-append (λ e. is_at (stop_in e) s) es fs) ∙ none)
+      where
+        by : (a b : Bool) → (a || b) ≡ false → (a ≡ false) × (b ≡ false)
+        by true b h = absurd cc
+        by false b h = (refl, h)
+
+-- after a line that arms a fuse
+module _ (w : World) (line : ℕ) (name : Name) (writes d : ℕ) (torn other : TornWord) (ts : List Task) (none : StartNone ts) where
+  pub arm-steps : ((s : ℕ) → server_named w.control (name_bytes name) ≡ Some s → tells_stop s (told_since (one w line name writes d torn other) (after_tasks (one w line name writes d torn other) ts)) ≡ false)
+      → (after_tasks (later w line name writes d torn other) ts).events ≡ (after_tasks (one w line name writes d torn other) ts).events
+  arm-steps untold = elim (arms w line name writes d torn other) [
+    | inl same ↦ ap (λ u. (after_tasks u ts).events) (sym same)
+    | inr both ↦ steps-later both.server d ts (one w line name writes d torn other) (later w line name writes d torn other) both.by none (untold both.server both.named)
+  ]
