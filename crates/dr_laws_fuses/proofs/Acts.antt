@@ -1,5 +1,5 @@
 -- An act in two worlds that differ in fuses alone: what it comes to differs in fuses alone, too, until a fuse that is compared no further stops its server.
-use Rattle.std.proofs.Common.{ℕ, ◌≡◌, ◌⊎◌, inl, inr, refl, ap, sym, subst, Bool, true, false, cond, not, List, [], ◌∷◌, ◌++◌, Option, Some, None, nat_eq}
+use Rattle.std.proofs.Common.{ℕ, ◌≡◌, ◌⊎◌, inl, inr, refl, sym, subst, Bool, true, false, cond, not, [], ◌∷◌, ◌++◌, Option, Some, None}
 use Rattle.std.proofs.lemmas.Bool.{cases_eq}
 use Rattle.dr_logic.specs.Tables.{at}
 use Rattle.dr_model.specs.declared.event.Event.TheVariants.{Stopped}
@@ -7,7 +7,7 @@ use Rattle.dr_model.specs.Histories.{histories}
 use Rattle.dr_model.specs.Layout.{Fields}
 use Rattle.dr_model.specs.Control.{Fuse, Volume, World}
 use Rattle.dr_model.specs.Moves.{Move, Hold, Carried, target, next_fields, carried, keeps_staged, updated_keeping}
-use Rattle.dr_model.specs.Carry.{Act, Make, OpenAttempt, Redo, Acknowledge, Drop, EndFreeze, EndThaw, EndRecovery, Turn, Ended, ended, turn, turn_ended, redo, redo_ended, redo_writes, act, spent, off, burnt, lower, pass, counts_by, writes, gate_at, equal, attempt_begun, opened_by, update_keeping, finished, cut_short}
+use Rattle.dr_model.specs.Carry.{Act, Make, OpenAttempt, Redo, Acknowledge, Drop, EndFreeze, EndThaw, EndRecovery, Turn, Ended, ended, turn, redo, redo_ended, redo_writes, act, spent, off, burnt, lower, pass, counts_by, writes, gate_at, equal, attempt_begun, opened_by, update_keeping, finished, cut_short}
 use Rattle.dr_logic.proofs.Tables.{at_same, at_other}
 use Rattle.dr_laws_fuses.specs.Fuses.{with_fuses}
 

@@ -1,5 +1,5 @@
 -- A line that arms a fuse, and a step after it: with a fuse that lets more writes pass the journal is told the same, if the step doesn't stop the server.
-use Rattle.std.proofs.Common.{ℕ, ◌||◌, ◌+◌, ◌≤◌, ◌≡◌, ◌≢◌, ◌⊎◌, inl, inr, refl, ap, ◌∙◌, sym, subst, append_assoc, arith, Bool, true, false, cond, List, [], ◌∷◌, ◌++◌, Option, Some, None, Result, Ok, nat_eq}
+use Rattle.std.proofs.Common.{ℕ, ◌||◌, ◌+◌, ◌≤◌, ◌≡◌, ◌⊎◌, inl, inr, refl, ap, ◌∙◌, sym, subst, append_assoc, arith, Bool, true, false, cond, List, [], ◌∷◌, ◌++◌, Option, Some, None, Ok, nat_eq}
 use Rattle.std.proofs.Math.Path.{fun_ext}
 use Rattle.std.proofs.lemmas.List.Sums.{fold-append}
 use Rattle.std.proofs.lemmas.Bool.{cases_eq}
@@ -13,11 +13,10 @@ use Rattle.dr_model.specs.Refusals.{unknown}
 use Rattle.dr_model.specs.declared.said.Said.TheVariants.{Done}
 use Rattle.dr_model.specs.declared.said.Addition.TheVariants.{Alone}
 use Rattle.dr_model.specs.declared.step.Name.{Name}
-use Rattle.dr_model.specs.declared.step.Step.{Step}
 use Rattle.dr_model.specs.declared.step.Step.TheVariants.{Start, StopAfter}
 use Rattle.dr_model.specs.declared.step.TornWord.{TornWord}
 use Rattle.dr_model.specs.declared.step.TornWord.TheVariants.{Fill, Bytes}
-use Rattle.dr_model.specs.Control.{Control, Fuse, World, nothing}
+use Rattle.dr_model.specs.Control.{Fuse, World, nothing}
 use Rattle.dr_model.specs.PlanParts.{Plan, refuses}
 use Rattle.dr_model.specs.Plans.{on_named, server_named, name_bytes, has_room, arm_on, armed, fuse_at_start}
 use Rattle.dr_model.specs.Carried.{said, masters_lost}

@@ -1,10 +1,9 @@
 -- Entries that look at no fuse: what they come to is the same in two worlds that differ in fuses alone.
-use Rattle.std.proofs.Common.{ℕ, zero, suc, ◌≡◌, refl, ap, Bool, true, false, cond, List, [], ◌∷◌, ◌++◌, map, Option, Some, None, ◌&&◌, not, is_some}
+use Rattle.std.proofs.Common.{ℕ, zero, suc, ◌≡◌, refl, ap, Bool, true, false, cond, List, [], ◌∷◌, ◌++◌, map, Option, Some, None}
 use Rattle.std.specs.List.{flat_map}
 use Rattle.dr_ids.specs.declared.names.Member.{Member}
 use Rattle.dr_ids.specs.declared.refusal.Decision.{Decision}
 use Rattle.dr_ids.specs.declared.refusal.Decision.TheVariants.{NoMember, Nothing, RevertAll, CommitRest, RevertSome, Impossible}
-use Rattle.dr_model.specs.Layout.{Fields}
 use Rattle.dr_model.specs.Control.{Control, Fuse}
 use Rattle.dr_model.specs.Moves.{Mirror, Fetch, Restore, Release}
 use Rattle.dr_model.specs.Carry.{Entry, Pass, now}
@@ -12,9 +11,9 @@ use Rattle.dr_model.specs.Phases as phases
 use Rattle.dr_model.specs.Entries.{fields_at, keep_on, copy_first, land_alone, times, for_lowest, give_back, fetch_next, lowest_held, lowest_missing, on_found}
 use Rattle.dr_model.specs.PairEntries.{sends, send_entries, suspend_after, store_on, strike_on}
 use Rattle.dr_model.specs.Pairs.{held, goes_over, collides}
-use Rattle.dr_model.specs.WriteEntries.{partner_of, is_grouped, is_parted, land_mirrored, land_parted, land_over, where_sent, sends_first, send_first, land_collided, land_entries, part_after, after_write, start_entries, start_on_volume, landing}
+use Rattle.dr_model.specs.WriteEntries.{partner_of, is_grouped, is_parted, land_mirrored, land_parted, where_sent, sends_first, send_first, land_collided, land_entries, part_after, after_write, start_entries, start_on_volume, landing}
 use Rattle.dr_model.specs.SessionEntries.{member_entries, order_entries}
-use Rattle.dr_model.specs.RecoveryPlans.{settle_on, take_over_on, end_recovery, recover_entries}
+use Rattle.dr_model.specs.RecoveryPlans.{settle_on, take_over_on, recover_entries}
 use Rattle.dr_model.specs.Plans.{hold_first, destage_entries}
 
 -- the tables with other fuses
@@ -65,16 +64,22 @@ blind-land k n v t =
     (blind-if (collides (fields_at k v) t) (land_collided k n v t) (land_alone k.volumes n v t) (collided k.volumes (partner_of k v)) (blind-alone k.volumes n v t)))
   where
     mirrored : (volumes : List ℕ) (u : ℕ) → Blinds (land_mirrored volumes n v t u)
-    mirrored volumes u = ((λ k g. refl), blind-append (copy_first volumes u t ++ now (Mirror u t v n) ∷ copy_first volumes v t) _
-        (blind-append (copy_first volumes u t) _ (blind-copies volumes u t) ((λ k g. refl), blind-copies volumes v t)) ((λ k g. refl), tt))
+    mirrored volumes u = (
+      (λ k g. refl),
+      blind-append (copy_first volumes u t ++ now (Mirror u t v n) ∷ copy_first volumes v t) _
+          (blind-append (copy_first volumes u t) _ (blind-copies volumes u t) ((λ k g. refl), blind-copies volumes v t)) ((λ k g. refl), tt),
+    )
 
     sent : (u : ℕ) (ds : List Entry) → Blinds ds → Blinds (map (where_sent v u t) ds)
     sent u [] blind = tt
     sent u (d ∷ ds) blind = ((λ k g. ap (λ x. cond (sends_first v u t k) x Pass) (blind.0 k g)), sent u ds blind.1)
 
     collided : (volumes : List ℕ) (u : ℕ) → Blinds (send_first volumes v u t ++ land_alone volumes n v t)
-    collided volumes u = ((λ k g. refl), blind-append (map (where_sent v u t) (copy_first volumes u t ++ store_on v u t ∷ strike_on v t ∷ [])) (land_alone volumes n v t)
-        (sent u _ (blind-append (copy_first volumes u t) _ (blind-copies volumes u t) ((λ k g. refl), ((λ k g. refl), tt)))) (blind-alone volumes n v t))
+    collided volumes u = (
+      (λ k g. refl),
+      blind-append (map (where_sent v u t) (copy_first volumes u t ++ store_on v u t ∷ strike_on v t ∷ [])) (land_alone volumes n v t)
+          (sent u _ (blind-append (copy_first volumes u t) _ (blind-copies volumes u t) ((λ k g. refl), ((λ k g. refl), tt)))) (blind-alone volumes n v t),
+    )
 
 -- a host write is carried out, and what follows a stop in it
 pub blind-landing : (k : Control) (n v t : ℕ) → Blinds (landing k n v t)

@@ -1,37 +1,31 @@
 -- What each step comes to looks at no fuse: its entries, what follows a stop, the tables as it ends and its answer. As it begins, only a line that arms a fuse and the start
 -- of a server change one.
-use Rattle.std.proofs.Common.{ℕ, ◌≡◌, refl, ap, ◌∙◌, sym, subst, Bool, true, false, cond, List, [], ◌∷◌, ◌++◌, map, Option, Some, None, Result, Ok, Err}
+use Rattle.std.proofs.Common.{ℕ, ◌≡◌, refl, ap, sym, subst, Bool, true, false, List, [], ◌∷◌, map, Option, Some, None, Result}
 use Rattle.dr_ids.specs.declared.names.Member.{Member}
 use Rattle.dr_ids.specs.declared.refusal.Decision.{Decision}
 use Rattle.dr_ids.specs.declared.refusal.Kind.TheVariants.{Server as OfServer}
-use Rattle.dr_ids.specs.declared.refusal.Refusal.TheVariants.{JournalFull}
 use Rattle.dr_model.specs.Refusals.{unknown}
 use Rattle.dr_model.specs.declared.event.Event.{Event}
-use Rattle.dr_model.specs.declared.said.Addition.TheVariants.{Alone}
 use Rattle.dr_model.specs.declared.said.Said.{Said}
-use Rattle.dr_model.specs.declared.said.Said.TheVariants.{Done, Refused}
-use Rattle.dr_model.specs.declared.step.Devs.{Devs}
 use Rattle.dr_model.specs.declared.step.Name.{Name}
 use Rattle.dr_model.specs.declared.step.Step.{Step}
-use Rattle.dr_model.specs.declared.step.Step.TheVariants.{Start}
 use Rattle.dr_model.specs.Control.{Control, Fuse}
 use Rattle.dr_model.specs.Phases as phases
 use Rattle.dr_model.specs.Moves.{DropPrimary}
 use Rattle.dr_model.specs.Carry.{Entry, now, check}
 use Rattle.dr_model.specs.Entries.{fields_at}
-use Rattle.dr_model.specs.PairEntries.{refuse_if, end_if, remove_both, sends, tracks_to_send}
-use Rattle.dr_model.specs.WriteEntries.{lift_on, freeze_on, thaw_on, flash_free_on, start_entries}
+use Rattle.dr_model.specs.PairEntries.{refuse_if, end_if, remove_both, tracks_to_send}
+use Rattle.dr_model.specs.WriteEntries.{lift_on, freeze_on, thaw_on, flash_free_on}
 use Rattle.dr_model.specs.SessionEntries.{members_on, reply_after}
 use Rattle.dr_model.specs.SessionPlans.{exchanged}
 use Rattle.dr_model.specs.Sessions.{changed, with_master}
 use Rattle.dr_model.specs.Messages.{Message, heard, answered}
 use Rattle.dr_model.specs.MessagePlans.{replying}
 use Rattle.dr_model.specs.RecoveryPlans.{decided_in, says_recovered}
-use Rattle.dr_model.specs.Plans.{Plan, same, none_follow, always, entries_plan, tables_plan, only_says, refuses, on_named, server_named, name_bytes, has_room, plan, start_on, start_plan, fuse_at_start, at_most, left_to_copy, copy_one, is_owner, yield_refusal, member_from, restores_refusal}
-use Rattle.dr_logic.specs.Tables.{at}
-use Rattle.dr_laws_sound.proofs.Cases.{Case, Says, DefinesServer, DefinesVolume, SetsLink, Issues, Writes, Applies, Lists, Shows, Stops, Arms, Starts, MakesFlash, RemovesFlash, ResyncsFlash, ReversesFlash, Copies, Destages, MakesPath, RemovesPath, MakesPair, RemovesPair, PausesPair, ResumesPair, FailsOver, FailsBack, Compares, Drains, Expires, Freezes, Unfreezes, Releases, MakesSession, RemovesSession, MakesMirror, PausesMirror, RemovesMirror, Aborts, AddsMember, RemovesMember, Exchanges, Sends, Delivers, TakesReply, Loses, Recovers, Settles, plan-case}
+use Rattle.dr_model.specs.Plans.{Plan, same, entries_plan, tables_plan, at_most, left_to_copy, copy_one, is_owner, yield_refusal, member_from, restores_refusal}
+use Rattle.dr_laws_sound.proofs.Cases.{Case, Says, DefinesServer, DefinesVolume, SetsLink, Issues, Writes, Applies, Lists, Shows, Stops, Arms, Starts, MakesFlash, RemovesFlash, ResyncsFlash, ReversesFlash, Copies, Destages, MakesPath, RemovesPath, MakesPair, RemovesPair, PausesPair, ResumesPair, FailsOver, FailsBack, Compares, Drains, Expires, Freezes, Unfreezes, Releases, MakesSession, RemovesSession, MakesMirror, PausesMirror, RemovesMirror, Aborts, AddsMember, RemovesMember, Exchanges, Sends, Delivers, TakesReply, Loses, Recovers, Settles}
 use Rattle.dr_laws_fuses.specs.Fuses.{fuse_changed}
-use Rattle.dr_laws_fuses.proofs.Blind.{fused, Blind, Blinds, blind-append, blind-map, blind-times, blind-if, blind-landing, blind-after, blind-sends, blind-copied, blind-start, blind-hold, blind-destage, blind-order, blind-settle, blind-recover}
+use Rattle.dr_laws_fuses.proofs.Blind.{fused, Blind, Blinds, blind-append, blind-map, blind-times, blind-if, blind-landing, blind-after, blind-sends, blind-copied, blind-hold, blind-destage, blind-order, blind-settle, blind-recover}
 
 -- tables that differ in fuses alone
 pub record TablesAlike (R : ℕ → Option Fuse → Option Fuse → Type 0) (j k : Control) : Type 0 where

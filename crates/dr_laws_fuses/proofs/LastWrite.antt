@@ -27,14 +27,14 @@ use Rattle.dr_model.specs.declared.step.Step.TheVariants.{Start, StopAfter}
 use Rattle.dr_model.specs.declared.step.TornWord.{TornWord}
 use Rattle.dr_model.specs.PlantImage.{Volume as Listed}
 use Rattle.dr_model.specs.Limits.{image_events}
-use Rattle.dr_model.specs.Control.{Control, Fuse, Volume, World, is_volume, new_volume}
+use Rattle.dr_model.specs.Control.{Control, Volume, World, is_volume, new_volume}
 use Rattle.dr_model.specs.Moves.{Move, Hold, target}
-use Rattle.dr_model.specs.Carry.{Act, Make, OpenAttempt, Redo, Acknowledge, Drop, EndFreeze, EndThaw, EndRecovery, Turn, Next, Pass, Do, End, Entry, Outcome, act, turn, redo, redo_ended, redo_writes, attempt_begun, burnt, lower, pass, counts, counts_by, gate_at, continue, go, carry, follow, opened_by, equal, spent, off, acknowledged, dropped, frozen, thawed, recovered}
+use Rattle.dr_model.specs.Carry.{Act, Make, OpenAttempt, Redo, Acknowledge, Drop, EndFreeze, EndThaw, EndRecovery, Turn, Next, Pass, Do, End, Entry, Outcome, act, turn, redo, redo_ended, attempt_begun, burnt, lower, pass, counts, counts_by, gate_at, continue, go, carry, follow, opened_by, equal, spent, off, acknowledged, dropped, frozen, thawed, recovered}
 use Rattle.dr_model.specs.PlanParts.{only_says}
 use Rattle.dr_model.specs.Plans.{Plan, plan, refuses, on_named, server_named, name_bytes, has_room, has_room_for, start_on, start_plan, arm_on, fuse_at_start}
-use Rattle.dr_model.specs.Carried.{begun, finish, carried_out, after_plan, masters_lost}
+use Rattle.dr_model.specs.Carried.{begun, finish, carried_out, after_plan}
 use Rattle.dr_model.specs.Forming.{Part, Way, after_part, formed, form_said}
-use Rattle.dr_model.specs.Runs.{Task, OwnCourse, Groups, Volumes, Devices, own_course, course_of, course, answered_part, after_task, compared, imaged, image_plan}
+use Rattle.dr_model.specs.Runs.{Task, OwnCourse, Groups, Volumes, Devices, own_course, course_of, course, answered_part, after_task, compared, image_plan}
 use Rattle.dr_laws_sound.proofs.Turns.{turn-cases, done, done_in_stop, not_done}
 use Rattle.dr_laws_sound.proofs.Cases.{Case, DefinesServer, DefinesVolume, Stops, Arms, Starts, Exchanges, plan-case, one-passed}
 use Rattle.dr_laws_sound.proofs.Parts.{Comes, course-goes, goes-keep, compared-case}

@@ -1,34 +1,27 @@
 -- A fuse that isn't reached changes nothing, and a fuse that comes later leaves the first stop as it was.
-use Rattle.std.proofs.Common.{ℕ, ◌-◌, ◌+◌, ◌≤◌, ◌≡◌, ◌≢◌, ◌⊎◌, inl, inr, refl, ap, ◌∙◌, sym, subst, append_assoc, arith, Bool, true, false, cond, List, [], ◌∷◌, ◌++◌, drop, length, ◌||◌, Option, Some, None, Result, Ok, nat_eq, nat_le}
+use Rattle.std.proofs.Common.{ℕ, ◌-◌, ◌+◌, ◌≤◌, ◌≡◌, ◌≢◌, ◌⊎◌, inl, inr, refl, ap, ◌∙◌, sym, subst, arith, Bool, true, false, cond, List, [], ◌∷◌, ◌++◌, drop, length, ◌||◌, Option, Some, None, Result, Ok, nat_eq, nat_le}
 use Rattle.std.proofs.lemmas.Bool.Decides.{nat_tests}
 use Rattle.std.proofs.Math.Path.{fun_ext}
 use Rattle.std.proofs.Math.Seq.{drop-append_seam}
 use Rattle.std.proofs.lemmas.Bool.{cases_eq, leb-true, le-leb}
 use Rattle.std.specs.Option.{option_or}
-use Rattle.std.specs.Prelude.{slice_get}
-use Rattle.std.specs.List.{filter_map, cons_option}
 use Rattle.dr_logic.specs.Tables.{at}
 use Rattle.dr_logic.proofs.Tables.{at_same, at_other}
 use Rattle.dr_logic.proofs.Truth.{false_true}
-use Rattle.dr_logic.proofs.Options.{none_some}
 use Rattle.dr_model.specs.declared.event.Event.{Event}
-use Rattle.dr_model.specs.declared.event.Event.TheVariants.{Stopped}
 use Rattle.dr_model.specs.declared.step.Name.{Name}
 use Rattle.dr_model.specs.declared.step.Step.{Step}
 use Rattle.dr_model.specs.declared.step.Step.TheVariants.{Start, StopAfter}
 use Rattle.dr_model.specs.Control.{Fuse, World}
 use Rattle.dr_model.specs.Carry.{pass, lower, burnt, counts_by}
 use Rattle.dr_model.specs.Entries.{is_at}
-use Rattle.dr_model.specs.Plans.{server_named, name_bytes, armed, fuse_at_start}
+use Rattle.dr_model.specs.Plans.{server_named, name_bytes, fuse_at_start}
 use Rattle.dr_model.specs.Runs.{Task, after_task}
 use Rattle.dr_laws_sound.specs.Stops.{stop_in, first_stop}
-use Rattle.dr_laws_sound.proofs.StopsTold.{first-append}
-use Rattle.dr_laws_sound.proofs.Journal.{after_task-grows}
 use Rattle.dr_laws_fuses.specs.Fuses.{with_fuses, fuse_changed, changed_fuse}
-use Rattle.dr_laws_fuses.specs.Laws.{told_since, tells_stop, Later, LaterBy, KeepsFuse, ArmsAnew, UnreachedChangesNothing, Outlasts, Lasts, stop_at, first_place, FirstPlaceStays}
+use Rattle.dr_laws_fuses.specs.Laws.{told_since, tells_stop, Later, LaterBy, KeepsFuse, ArmsAnew, UnreachedChangesNothing}
 use Rattle.dr_laws_fuses.proofs.Acts.{Goes, Passes, Cuts, Meets}
-use Rattle.dr_laws_fuses.proofs.Plans.{Parted}
-use Rattle.dr_laws_fuses.proofs.Steps.{SameWorld, Alike, ChangesAlike, task-alike}
+use Rattle.dr_laws_fuses.proofs.Steps.{Alike, task-alike}
 
 -- the same fuse
 pub same-goes : (R : ℕ → Option Fuse → Option Fuse → Type 0) (M : ℕ → Type 0) (q : ℕ) (f g : Option Fuse) (n : ℕ) → f ≡ g → ((x y : Option Fuse) → x ≡ y → R q x y) → Goes R M q f g n
@@ -136,8 +129,11 @@ module _ (s d : ℕ) (w : World) (t : Task) (fuse : Option Fuse) (later : Later 
   changes : (asked : Result Step ℕ) → asked ≡ t.asked → (name : Name) (q : ℕ) → fuse_changed asked ≡ Some name → server_named w.control (name_bytes name) ≡ Some q → Stands q (changed_fuse asked (w.control.fuse q)) (changed_fuse asked (g q))
   changes (Ok (Start start)) is name q set named = elim (cases_eq q s) [
     | inl e ↦ (let kept : fuse_at_start (w.control.fuse s) ≡ w.control.fuse s = keeps name (sym is ∙ ap (λ n. Ok (Start n)) (cc)) (named ∙ ap Some e) in
-        inr (e, inl (subst (λ p. Later d (fuse_at_start (w.control.fuse p)) (fuse_at_start (g p))) (sym e)
-        (subst (λ x. Later d (fuse_at_start (w.control.fuse s)) (fuse_at_start x)) (sym (at_same w.control.fuse s fuse)) (started-later s d Anew (w.control.fuse s) fuse later kept)))))
+        inr (
+          e,
+          inl (subst (λ p. Later d (fuse_at_start (w.control.fuse p)) (fuse_at_start (g p))) (sym e)
+              (subst (λ x. Later d (fuse_at_start (w.control.fuse s)) (fuse_at_start x)) (sym (at_same w.control.fuse s fuse)) (started-later s d Anew (w.control.fuse s) fuse later kept))),
+        ))
     | inr ne ↦ inl (ne, ap fuse_at_start (sym (at_other w.control.fuse s fuse q ne)))
   ]
   changes (Ok (StopAfter armed_on writes torn)) is name q set named = elim (cases_eq q s) [

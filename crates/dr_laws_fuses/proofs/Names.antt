@@ -1,6 +1,6 @@
 -- The names that a journal gives servers are those of the tables.
-use Rattle.std.proofs.Common.{ℕ, ◌⊎◌, inl, inr, zero, suc, ◌≡◌, refl, ap, ◌∙◌, sym, subst, append_assoc, arith, Bool, true, false, cond, List, [], ◌∷◌, ◌++◌, length, get_or, Option, Some, None, Result, Ok, Err, nat_eq}
-use Rattle.std.specs.Prelude.{take, slice_get}
+use Rattle.std.proofs.Common.{ℕ, ◌⊎◌, inl, inr, zero, suc, ◌≡◌, refl, ap, ◌∙◌, sym, subst, append_assoc, arith, Bool, true, false, cond, List, [], ◌∷◌, ◌++◌, length, get_or, Option, Some, None, Result, nat_eq}
+use Rattle.std.specs.Prelude.{slice_get}
 use Rattle.std.specs.List.{fold}
 use Rattle.std.specs.Option.{option_or, unwrap_or}
 use Rattle.std.specs.Str.{bytes_eq}
@@ -14,7 +14,6 @@ use Rattle.dr_ids.specs.declared.refusal.Refusal.{Refusal}
 use Rattle.dr_ids.specs.declared.refusal.Refusal.TheVariants.{Stopped as StoppedIn}
 use Rattle.dr_model.specs.declared.event.Event.{Event}
 use Rattle.dr_model.specs.declared.event.Event.TheVariants.{Server, Ack, Stopped, Frozen, Thawed, Recovered}
-use Rattle.dr_model.specs.declared.said.Said.{Said}
 use Rattle.dr_model.specs.declared.step.Name.{Name}
 use Rattle.dr_model.specs.declared.step.Step.{Step}
 use Rattle.dr_model.specs.Plans.{server_done}
@@ -30,13 +29,13 @@ use Rattle.dr_model.specs.PlanParts.{Plan, name_bytes, server_named}
 use Rattle.dr_model.proofs.CarryLemmas.{carry-none}
 use Rattle.dr_model.specs.Carried.{begun, finish, carried_out, answered, after_plan}
 use Rattle.dr_model.specs.Forming.{Part, after_part}
-use Rattle.dr_model.specs.Runs.{Task, course, after_task, after_tasks, run, answered_part, image_plan, image_told}
+use Rattle.dr_model.specs.Runs.{Task, course, after_task, after_tasks, run, answered_part, image_told}
 use Rattle.dr_model.specs.Text.{Heard, heard, untold, name_in, told_name}
 use Rattle.dr_facts.proofs.Emits.{Of, Lists, AllOf, of-append, by_moves, all-told, stop-onto, emitted}
 use Rattle.dr_laws_sound.proofs.Texts.{heard-append}
 use Rattle.dr_laws_sound.proofs.Turns.{act-cases, Counts, after_act, server_of}
 use Rattle.dr_laws_sound.proofs.Listed.{AllLines, IsLine, all-lines, image-lines}
-use Rattle.dr_laws_sound.proofs.Cases.{Case, Says, DefinesServer, DefinesVolume, Issues, Writes, Lists as ListsOn, Shows, Stops, Starts, Exchanges, Sends}
+use Rattle.dr_laws_sound.proofs.Cases.{Case, DefinesServer, DefinesVolume, Issues, Writes, Lists as ListsOn, Shows, Stops, Starts, Exchanges, Sends}
 use Rattle.dr_laws_sound.proofs.Parts.{Comes, Ending, OnePlan, Imaged, course-case, course-goes, goes-keep}
 
 -- none of these events names a server

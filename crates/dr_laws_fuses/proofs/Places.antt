@@ -1,15 +1,9 @@
 -- If fuses of other servers let more writes pass, the first stop of some servers stays.
-use Rattle.std.proofs.Common.{ℕ, ◌-◌, ◌+◌, ◌≤◌, ◌≡◌, ◌≢◌, ◌⊎◌, inl, inr, refl, ap, ◌∙◌, sym, subst, append_assoc, arith, Bool, true, false, cond, List, [], ◌∷◌, ◌++◌, drop, length, ◌||◌, Option, Some, None, Result, Ok, nat_eq, nat_le}
-use Rattle.std.proofs.lemmas.Bool.Decides.{nat_tests}
-use Rattle.std.proofs.Math.Path.{fun_ext}
-use Rattle.std.proofs.Math.Seq.{drop-append_seam}
+use Rattle.std.proofs.Common.{ℕ, ◌-◌, ◌≤◌, ◌≡◌, ◌≢◌, ◌⊎◌, inl, inr, refl, ap, ◌∙◌, sym, subst, arith, Bool, true, false, List, [], ◌∷◌, ◌++◌, Option, Some, None, Result, Ok, nat_le}
 use Rattle.std.proofs.lemmas.Bool.{cases_eq, leb-true, le-leb}
 use Rattle.std.specs.Option.{option_or}
 use Rattle.std.specs.Prelude.{slice_get}
 use Rattle.std.specs.List.{filter_map, cons_option}
-use Rattle.dr_logic.specs.Tables.{at}
-use Rattle.dr_logic.proofs.Tables.{at_same, at_other}
-use Rattle.dr_logic.proofs.Truth.{false_true}
 use Rattle.dr_logic.proofs.Options.{none_some}
 use Rattle.dr_model.specs.declared.event.Event.{Event}
 use Rattle.dr_model.specs.declared.event.Event.TheVariants.{Stopped}
@@ -17,18 +11,14 @@ use Rattle.dr_model.specs.declared.step.Name.{Name}
 use Rattle.dr_model.specs.declared.step.Step.{Step}
 use Rattle.dr_model.specs.declared.step.Step.TheVariants.{Start, StopAfter}
 use Rattle.dr_model.specs.Control.{Fuse, World}
-use Rattle.dr_model.specs.Carry.{pass, lower, burnt, counts_by}
-use Rattle.dr_model.specs.Entries.{is_at}
-use Rattle.dr_model.specs.Plans.{server_named, name_bytes, armed, fuse_at_start}
+use Rattle.dr_model.specs.Carry.{lower}
+use Rattle.dr_model.specs.Plans.{server_named, name_bytes, armed}
 use Rattle.dr_model.specs.Runs.{Task, after_task}
-use Rattle.dr_laws_sound.specs.Stops.{stop_in, first_stop}
-use Rattle.dr_laws_sound.proofs.StopsTold.{first-append}
-use Rattle.dr_laws_sound.proofs.Journal.{after_task-grows}
+use Rattle.dr_laws_sound.specs.Stops.{first_stop}
 use Rattle.dr_laws_fuses.specs.Fuses.{with_fuses, fuse_changed, changed_fuse}
-use Rattle.dr_laws_fuses.specs.Laws.{told_since, tells_stop, Later, LaterBy, KeepsFuse, ArmsAnew, UnreachedChangesNothing, Outlasts, Lasts, stop_at, first_place, FirstPlaceStays}
-use Rattle.dr_laws_fuses.proofs.Acts.{Goes, Passes, Cuts, Meets}
-use Rattle.dr_laws_fuses.proofs.Plans.{Parted}
-use Rattle.dr_laws_fuses.proofs.Steps.{SameWorld, Alike, ChangesAlike, task-alike}
+use Rattle.dr_laws_fuses.specs.Laws.{told_since, Outlasts, Lasts, stop_at, FirstPlaceStays}
+use Rattle.dr_laws_fuses.proofs.Acts.{Goes, Passes, Meets}
+use Rattle.dr_laws_fuses.proofs.Steps.{Alike, task-alike}
 use Rattle.dr_laws_fuses.proofs.Later.{same-goes, told-since}
 
 module _ (place : ℕ → Option ℕ) (own : ℕ) where

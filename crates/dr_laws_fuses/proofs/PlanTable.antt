@@ -11,7 +11,7 @@ use Rattle.dr_model.specs.Control.{Control, Fuse}
 use Rattle.dr_model.specs.Listings.{list_pairs_plan, list_flashes_plan, list_session_plan, show_mirror_plan}
 use Rattle.dr_model.specs.SessionPlans.{join_plan, leave_plan, add_plan, expel_plan, mirror_plan, pause_mirror_plan, unmirror_plan}
 use Rattle.dr_model.specs.RecoveryPlans.{lets_commit, lets_revert, settle_plan}
-use Rattle.dr_model.specs.Plans.{Plan, plan, plan_of, has_room, refuses, path_plan, unpath_plan, freeze_plan, thaw_plan, release_plan}
+use Rattle.dr_model.specs.Plans.{plan, plan_of, has_room, refuses, path_plan, unpath_plan, freeze_plan, thaw_plan, release_plan}
 use Rattle.dr_laws_fuses.proofs.Blind.{fused}
 
 module _ (k : Control) (g : ℕ → Option Fuse) (line : ℕ) where

@@ -1,21 +1,20 @@
 -- Entries and plans in two worlds that differ in fuses alone: they come to worlds that do, too, or both tell the same up to the stop of a server that is compared no further.
-use Rattle.std.proofs.Common.{ℕ, ◌≡◌, ◌⊎◌, inl, inr, refl, ap, ◌∙◌, sym, subst, append_assoc, Bool, true, false, List, [], ◌∷◌, ◌++◌, Option, Some, None, Result, Ok}
+use Rattle.std.proofs.Common.{ℕ, ◌≡◌, ◌⊎◌, inl, inr, refl, ap, ◌∙◌, sym, subst, append_assoc, List, [], ◌∷◌, ◌++◌, Option, Some, None}
 use Rattle.std.proofs.lemmas.List.{append-nil}
 use Rattle.std.specs.Option.{option_or}
 use Rattle.dr_ids.specs.declared.refusal.Refusal.{Refusal}
 use Rattle.dr_ids.specs.declared.refusal.Refusal.TheVariants.{Stopped as StoppedIn}
 use Rattle.dr_model.specs.Refusals.{stopped}
 use Rattle.dr_model.specs.declared.event.Event.{Event}
-use Rattle.dr_model.specs.declared.said.Said.{Said}
 use Rattle.dr_model.specs.Control.{Control, Fuse, World}
-use Rattle.dr_model.specs.Carry.{Act, Next, Pass, Do, End, Entry, Turn, Outcome, act, continue, go, carry, follow}
+use Rattle.dr_model.specs.Carry.{Next, Pass, Do, End, Entry, Turn, Outcome, act, continue, go, carry, follow}
 use Rattle.dr_model.specs.PlanParts.{Plan}
-use Rattle.dr_model.specs.Carried.{begun, finish, carried_out, answered}
+use Rattle.dr_model.specs.Carried.{begun, finish, carried_out}
 use Rattle.dr_laws_sound.specs.Stops.{first_stop, StopsTold}
 use Rattle.dr_laws_sound.proofs.StopsTold.{first-append, act-tells}
 use Rattle.dr_laws_fuses.specs.Fuses.{with_fuses}
 use Rattle.dr_laws_fuses.proofs.Acts.{Goes, Same, Met, act-alike}
-use Rattle.dr_laws_fuses.proofs.Blind.{fused, Blinds}
+use Rattle.dr_laws_fuses.proofs.Blind.{Blinds}
 use Rattle.dr_laws_fuses.proofs.BlindPlans.{PlanBlind}
 
 -- the journal goes on

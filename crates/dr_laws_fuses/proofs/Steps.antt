@@ -1,5 +1,5 @@
 -- A step in two worlds that differ in fuses alone.
-use Rattle.std.proofs.Common.{ℕ, zero, suc, ◌≡◌, ◌⊎◌, inl, inr, refl, ap, ◌∙◌, sym, subst, Bool, true, false, cond, List, [], ◌∷◌, ◌++◌, Option, Some, None, Result, Ok, Err, nat_eq}
+use Rattle.std.proofs.Common.{ℕ, zero, suc, ◌≡◌, ◌⊎◌, inl, inr, refl, ap, ◌∙◌, sym, subst, Bool, true, false, cond, List, [], ◌∷◌, Option, Some, None, Result, Ok, Err, nat_eq}
 use Rattle.dr_ids.specs.declared.names.Member.{Member}
 use Rattle.dr_ids.specs.declared.refusal.PhaseName.{PhaseName}
 use Rattle.dr_ids.specs.declared.refusal.Refusal.{Refusal}
@@ -25,16 +25,16 @@ use Rattle.dr_model.specs.Plans.{plan, refuses, on_named, has_room, has_room_for
 use Rattle.dr_model.specs.WriteEntries.{start_entries}
 use Rattle.dr_model.specs.Carried.{carried_out, answered, after_plan, said, masters_lost}
 use Rattle.dr_model.specs.Forming.{Part, Way, stays, ends, goes_on, and_then, unless_refused, after_part, part_refusal, refusal_said, part, drains, is_draining, ask, next_asked, master_in, phase_in, has_committed, still_left, turn_by, turns, most_turns, form_refusal, form_in, formed, form_said}
-use Rattle.dr_model.specs.Runs.{Task, OwnCourse, Groups, Volumes, Devices, own_course, course_of, course, compared, imaged, answered_part, after_task, image_plan}
+use Rattle.dr_model.specs.Runs.{Task, OwnCourse, Groups, Volumes, Devices, own_course, course_of, answered_part, after_task, image_plan}
 use Rattle.dr_model.specs.PlantImage.{Volume}
 use Rattle.dr_model.specs.Limits.{image_events}
 use Rattle.dr_logic.specs.Tables.{at}
-use Rattle.dr_laws_sound.proofs.Cases.{plan-case, Says, Compares}
+use Rattle.dr_laws_sound.proofs.Cases.{plan-case}
 use Rattle.dr_laws_sound.proofs.Parts.{Comes, Ways, asks_turn, comes-drain, comes-asking, way-part, way-drains, way-ask, way-turns, way-formed, compared-case}
 use Rattle.dr_laws_fuses.specs.Fuses.{with_fuses, fuse_changed, changed_fuse}
 use Rattle.dr_laws_fuses.proofs.Acts.{Goes, Same, at-fuses}
 use Rattle.dr_laws_fuses.proofs.Blind.{fused, Blind, blind-append, blind-start}
-use Rattle.dr_laws_fuses.proofs.BlindPlans.{TablesAlike, PlanBlind, case-blind}
+use Rattle.dr_laws_fuses.proofs.BlindPlans.{PlanBlind, case-blind}
 use Rattle.dr_laws_fuses.proofs.PlanTable.{table-blind}
 use Rattle.dr_laws_fuses.proofs.Plans.{GoesOn, goes-same, goes-then, Parted, parted-from, parted-on, plan-on, plan-alike}
 
@@ -145,8 +145,10 @@ module _ (R : ℕ → Option Fuse → Option Fuse → Type 0) (M : ℕ → Type 
       where
         by : Same R (carried_out w p) (carried_out u p) ⊎ Parted M w.events (carried_out w p).0.events (carried_out u p).0.events
             → Alike w (after_part w p) (after_part u p) × (part_refusal w p ≡ part_refusal u p) ⊎ Parted M w.events (after_part w p).events (after_part u p).events
-        by (inl same) = inl (inl (record { fuse = same.fuse; is = ap (λ (o : World × Option Refusal). masters_lost u o.0) same.is; fuses = same.fuses }),
-            sym (ap (λ (o : World × Option Refusal). refusal_said (answered p o.0.control o.1)) same.is ∙ ap refusal_said (answer-blind p (carried_out w p).0.control same.fuse (carried_out w p).1 blind.says)))
+        by (inl same) = inl (
+          inl (record { fuse = same.fuse; is = ap (λ (o : World × Option Refusal). masters_lost u o.0) same.is; fuses = same.fuses }),
+          sym (ap (λ (o : World × Option Refusal). refusal_said (answered p o.0.control o.1)) same.is ∙ ap refusal_said (answer-blind p (carried_out w p).0.control same.fuse (carried_out w p).1 blind.says)),
+        )
         by (inr parted) = inr parted
 
     -- with one

@@ -1,18 +1,16 @@
 -- Fuses that tear alike: whatever comes, worlds that differ in such fuses alone stay so.
-use Rattle.std.proofs.Common.{ℕ, ◌-◌, ◌≡◌, ◌⊎◌, inl, inr, refl, ap, ◌∙◌, sym, subst, Bool, true, false, cond, List, [], ◌∷◌, Option, Some, None, Result, Ok, nat_eq, nat_le}
-use Rattle.dr_model.specs.declared.step.Name.{Name}
+use Rattle.std.proofs.Common.{ℕ, ◌-◌, ◌≡◌, inl, inr, refl, ap, ◌∙◌, sym, subst, Bool, true, false, cond, List, [], ◌∷◌, Option, Some, None, Result, Ok, nat_eq, nat_le}
 use Rattle.dr_model.specs.declared.step.Step.{Step}
 use Rattle.dr_model.specs.declared.step.Step.TheVariants.{Start, StopAfter}
 use Rattle.dr_model.specs.Control.{Fuse, World}
 use Rattle.dr_model.specs.Layout.{byte, bit}
-use Rattle.dr_model.specs.Carry.{pass, lower, burnt, counts_by, counts, gate_turned, equal}
-use Rattle.dr_model.specs.Plans.{server_named, name_bytes, fuse_at_start}
+use Rattle.dr_model.specs.Carry.{gate_turned, equal}
+use Rattle.dr_model.specs.Plans.{fuse_at_start}
 use Rattle.dr_model.specs.Runs.{Task, after_task, after_tasks}
-use Rattle.dr_laws_fuses.specs.Fuses.{with_fuses, fuse_changed, changed_fuse}
+use Rattle.dr_laws_fuses.specs.Fuses.{with_fuses, changed_fuse}
 use Rattle.dr_laws_fuses.specs.Laws.{TearAlike, TornAlike, TornBytesTellOneBit, TearsAsFill}
 use Rattle.dr_laws_fuses.proofs.Acts.{Goes, Passes, Cuts}
-use Rattle.dr_laws_fuses.proofs.Plans.{Parted}
-use Rattle.dr_laws_fuses.proofs.Steps.{SameWorld, Alike, ChangesAlike, task-alike}
+use Rattle.dr_laws_fuses.proofs.Steps.{Alike, task-alike}
 
 abbrev R : ℕ → Option Fuse → Option Fuse → Type 0
 R q f g = TearAlike f g

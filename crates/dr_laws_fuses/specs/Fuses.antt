@@ -1,5 +1,5 @@
 -- Worlds that differ in the fuses of servers alone.
-use Rattle.std.specs.Prelude.{ℕ, List, Option, Some, None, Result, Ok}
+use Rattle.std.specs.Prelude.{ℕ, Option, Some, None, Result, Ok}
 use Rattle.dr_model.specs.declared.step.Name.{Name}
 use Rattle.dr_model.specs.declared.step.Step.{Step}
 use Rattle.dr_model.specs.declared.step.Step.TheVariants.{Start, StopAfter}

@@ -1,5 +1,5 @@
 -- What a fuse that isn't reached changes, what the bytes of a torn block change, and which stop comes first.
-use Rattle.std.specs.Prelude.{◌≡◌, ◌≢◌, ℕ, ◌+◌, ◌≤◌, ◌⊎◌, Bool, true, false, List, drop, length, slice_get, Option, Some, None, Result, Ok}
+use Rattle.std.specs.Prelude.{◌≡◌, ℕ, ◌+◌, ◌≤◌, ◌⊎◌, Bool, true, false, List, drop, length, slice_get, Option, Some, None, Result, Ok}
 use Rattle.std.specs.List.{list_any, filter_map}
 use Rattle.dr_logic.specs.Tables.{at}
 use Rattle.dr_model.specs.declared.event.Event.{Event}
