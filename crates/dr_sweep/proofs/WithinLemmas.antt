@@ -1,10 +1,10 @@
 -- No device write after the last one of a server in a tried step stops it there.
-use Rattle.std.proofs.Common.{ℕ, ◌≡◌, ◌<◌, ◌≤◌, ◌+◌, ◌-◌, ◌^◌, ◌⊎◌, inl, inr, Bool, true, false, cond, ◌||◌, List, [], ◌∷◌, ◌++◌, map, length, get_or, refl, ap, ◌∙◌, sym, subst, arith, append_assoc, Option, Some, None, Result, Ok, nat_eq}
+use Rattle.std.proofs.Common.{ℕ, ◌≡◌, ◌<◌, ◌≤◌, ◌+◌, ◌-◌, ◌^◌, Bool, true, false, cond, ◌||◌, List, [], ◌∷◌, ◌++◌, map, length, get_or, refl, ap, ◌∙◌, sym, subst, arith, append_assoc, Option, Some, Ok, nat_eq}
 use Rattle.std.specs.Prelude.{slice_get, All}
 use Rattle.std.specs.List.{list_any, fold, range_with_len, position}
 use Rattle.std.specs.Option.{option_map_or, option_and_then}
 use Rattle.std.specs.Str.{bytes_eq}
-use Rattle.std.proofs.lemmas.List.{append-nil, map-append, append_cancel_left}
+use Rattle.std.proofs.lemmas.List.{map-append, append_cancel_left}
 use Rattle.std.proofs.lemmas.Slice.Eq.{bytes_eq-Decides}
 use Rattle.std.proofs.lemmas.Option.{slice_get_within, get_or_from_slice_get}
 use Rattle.std.proofs.lemmas.List.Quantifiers.{position-Some}
@@ -12,7 +12,6 @@ use Rattle.std.proofs.lemmas.Grind.{common_steps}
 use Rattle.std.proofs.lemmas.Bool.Decides.{nat_tests}
 use Rattle.dr_config.proofs.Lists.{element-at}
 use Rattle.dr_logic.proofs.Lists.{cons-parts, same_bytes}
-use Rattle.dr_logic.proofs.Truth.{false_true}
 use Rattle.dr_model.specs.declared.event.Event.{Event}
 use Rattle.dr_model.specs.declared.event.Event.TheVariants.{Stopped}
 use Rattle.dr_model.specs.declared.step.Name.{Name}
@@ -45,7 +44,7 @@ use Rattle.dr_plan.specs.declared.points.Torn.TheVariants.{Unchanged}
 use Rattle.dr_sweep.specs.declared.parts.Part.TheVariants.{Within}
 use Rattle.dr_plan.proofs.StepLemmas.{name_at as name_at_fits}
 use Rattle.dr_plan.proofs.StopLemmas.{fuse-written}
-use Rattle.dr_sweep.specs.Comes.{Reaches, RunsLines, is_struck, name_at, servers_lost}
+use Rattle.dr_sweep.specs.Comes.{Reaches, is_struck, name_at, servers_lost}
 use Rattle.dr_sweep.specs.Parts.{IsOf, first_write, first_in, first_by, arms_before, PassesBy, NoneFrom}
 use Rattle.dr_sweep.specs.Reach.{stops_named, stops_at, stops_since}
 use Rattle.dr_sweep.proofs.RunLemmas.{steps-append}
@@ -190,9 +189,9 @@ module _ (plan : Sweep) (sweep : IsSweep plan) (d l x write : ℕ) (low : write 
       let size : length (L ++ F ∷ []) + 1 ≡ length L + 2 = grind (arith, common_steps) in
       let step_read : tasks_from (length (L ++ F ∷ []) + 1) (tried.text ∷ []) ≡ task (length L + 2) (Ok one.0) ∷ [] = ap (λ n. tasks_of n tried.text ++ []) size ∙ ap (λ r. tasks_read (length L + 2) r ++ []) one.1 in
       let both_asks : map as_asked misses.front ++ map as_asked misses.strike ≡ map as_asked misses.front ++ task (length L + 2) (Ok one.0) ∷ [] =
-          sym (map-append as_asked misses.front misses.strike) ∙ misses.runs.asks ∙ steps-append misses.pieces.front misses.pieces.strike
-          ∙ ap (λ ts. ts ++ tasks_from (length misses.pieces.front + 1) misses.pieces.strike) (sym misses.asks_front)
-          ∙ ap (λ (p : Pieces). map as_asked misses.front ++ tasks_from (length p.front + 1) p.strike) pieces ∙ ap (λ ts. map as_asked misses.front ++ ts) step_read in
+      sym (map-append as_asked misses.front misses.strike) ∙ misses.runs.asks ∙ steps-append misses.pieces.front misses.pieces.strike
+      ∙ ap (λ ts. ts ++ tasks_from (length misses.pieces.front + 1) misses.pieces.strike) (sym misses.asks_front)
+      ∙ ap (λ (p : Pieces). map as_asked misses.front ++ tasks_from (length p.front + 1) p.strike) pieces ∙ ap (λ ts. map as_asked misses.front ++ ts) step_read in
       let S = map-one as_asked misses.strike (task (length L + 2) (Ok one.0)) (append_cancel_left (map as_asked misses.front) (map as_asked misses.strike) (task (length L + 2) (Ok one.0) ∷ []) both_asks) in
       let w0 : World = run E.before in
       let w : World = after_task w0 arms in
@@ -268,8 +267,8 @@ module _ (plan : Sweep) (sweep : IsSweep plan) (d l x write : ℕ) (low : write 
           let servers : position (bytes_eq (name_bytes start)) w0.control.servers ≡ Some s = ap (position (bytes_eq (name_bytes start))) (sym (arm-servers w0 (length L + 1) P.name write 0 Same Same)) ∙ one_named in
           let alike : bytes_eq (name_text start) (name_text P.name) ≡ true = same-name w0.control.servers (name_bytes start) (name_bytes P.name) s servers named in
           let first : first_write plan d l x ≡ 1 =
-              ap (λ o. option_map_or (λ name. option_map_or (λ (t : Tried). first_in name t.text) (slice_get plan.tried l) 0) o 0) P.named ∙ ap (λ o. option_map_or (λ (t : Tried). first_in P.name t.text) o 0) P.there
-              ∙ ap (first_by P.name) (P.one ∙ ap (λ s. Ok (s ∷ [])) is_start) ∙ ap (λ b. cond b 1 0) alike in
+          ap (λ o. option_map_or (λ name. option_map_or (λ (t : Tried). first_in name t.text) (slice_get plan.tried l) 0) o 0) P.named ∙ ap (λ o. option_map_or (λ (t : Tried). first_in P.name t.text) o 0) P.there
+          ∙ ap (first_by P.name) (P.one ∙ ap (λ s. Ok (s ∷ [])) is_start) ∙ ap (λ b. cond b 1 0) alike in
           omega (arith, first, from)
 
       none : (later : ℕ) (torn : TornWord) → write ≤ later → PassesBy plan l P.name P.before P.step later torn
