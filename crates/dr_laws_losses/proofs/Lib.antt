@@ -1,3 +1,4 @@
 pub mod Alike
 pub mod Worlds
 pub mod Forms
+pub mod Steps
