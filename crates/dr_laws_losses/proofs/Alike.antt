@@ -2,8 +2,10 @@
 -- lays any: so what a track holds there says whether u is one of its writes.
 use Rattle.std.proofs.Common.{ℕ, zero, suc, ◌≡◌, ◌≢◌, ◌⊎◌, ◌+◌, inl, inr, refl, ap, sym, ◌∙◌, subst, Bool, true, false, cond, nat_eq, List, [], ◌∷◌, ◌++◌, length, take, Option, Some, None, ◌||◌}
 use Rattle.std.specs.List.{list_any, fold}
-use Rattle.std.proofs.lemmas.Bool.{ne_eqb, eqb-true, or_parts}
+use Rattle.std.proofs.lemmas.Bool.{ne_eqb, eqb-true, eq-eqb, or_parts}
+use Rattle.std.proofs.lemmas.Bool.Decides.{eqb_tells}
 use Rattle.dr_logic.specs.Tables.{at, at2}
+use Rattle.dr_facts.proofs.Tables.{IsOrNot}
 use Rattle.dr_model.specs.declared.event.Event.{Event}
 use Rattle.dr_model.specs.declared.event.Event.TheVariants.{Volume as VolumeDefined, Issue, Ack, Mirrored, Sent, Flashed, Committed, Reverted, Set, Back, Blanked, Cut, Left, Answer, Shown}
 use Rattle.dr_model.specs.Histories.{Lists, Write, Histories, no_history, joined, after_event, histories}
@@ -170,6 +172,75 @@ module _ (u : ℕ) where
   pub past-alike : (es fs : List Event) → AlikeEvents u es fs → SamePast (past es) (past fs)
   unfolding past
   past-alike es fs a = fold-alike es fs start start (record { now = refl; aside = refl; cuts = refl; volume = λ n. refl; track = λ n. refl; offset = λ n. refl; others = λ n ne. refl }) a
+
+  -- ---- a write that was issued lays its byte
+
+  abbrev Lays : Past → Type 0
+  Lays q = (q.history.write u).bytes ≡ 1 ∷ []
+
+  kept-laid : (q : Past) (e : Event) → is_issue e ≡ false → Lays q → Lays (past_event q e)
+  kept-laid q (Issue n v t offset len bytes) none lays = absurd cc
+  kept-laid q e none lays = lays
+
+  marked-laid : (b : Bool) → b ≡ true → take {A = ℕ} 1 (cond b (1 ∷ []) []) ≡ 1 ∷ []
+  marked-laid true is = refl
+  marked-laid false is = absurd cc
+
+  issued-laid : (q : Past) (n v t : ℕ) → u ≡ n → Lays (past_event q (Issue n v t 0 1 (mark u n)))
+  issued-laid q n v t is =
+      ap (λ b. (cond b (record { volume = v; track = t; offset = 0; bytes = take 1 (mark u n) }) (q.history.write u)).bytes) (eq-eqb u n is)
+      ∙ marked-laid (nat_eq n u) (eq-eqb n u (sym is))
+
+  other-laid : (q : Past) (n v t : ℕ) → u ≢ n → Lays q → Lays (past_event q (Issue n v t 0 1 (mark u n)))
+  other-laid q n v t ne lays = ap (λ b. (cond b (record { volume = v; track = t; offset = 0; bytes = take 1 (mark u n) }) (q.history.write u)).bytes) (ne_eqb u n ne) ∙ lays
+
+  lays-alike : (q : Past) (e f : Event) → AlikeEvent u e f → Lays q → Lays (past_event q f)
+  lays-alike q e f (inl a) lays = subst (λ f. Lays (past_event q f)) a.0 (kept-laid q e a.1 lays)
+  lays-alike q e f (inr (inl r)) lays = subst (λ f. Lays (past_event q f)) (sym r.other) (by (eqb_tells u r.number))
+    where
+      by : IsOrNot u r.number → Lays (past_event q (Issue r.number r.volume r.track 0 1 (mark u r.number)))
+      by (inl is) = issued-laid q r.number r.volume r.track is.1
+      by (inr not) = other-laid q r.number r.volume r.track not.1 lays
+  lays-alike q e f (inr (inr a)) lays = subst Lays (sym (said-past q f a.1)) lays
+
+  -- the event issues write u
+  abbrev pub issues_it : Event → Bool
+  issues_it (Issue n v t offset len bytes) = nat_eq u n
+  issues_it e = false
+
+  not-it : (e : Event) → is_issue e ≡ false → issues_it e ≡ false
+  not-it (Issue n v t offset len bytes) none = absurd cc
+  not-it e none = refl
+
+  said-not : (e : Event) → is_said e ≡ true → issues_it e ≡ false
+  said-not (Answer line code a b c) is = refl
+  said-not (Shown line v t bytes) is = refl
+  said-not e is = absurd cc
+
+  begins-laid : (q : Past) (e f : Event) → AlikeEvent u e f → issues_it e ≡ true → Lays (past_event q f)
+  begins-laid q e f (inl a) it = absurd (let none : true ≡ false = sym it ∙ not-it e a.1 in cc)
+  begins-laid q e f (inr (inl r)) it = subst (λ f. Lays (past_event q f)) (sym r.other) (issued-laid q r.number r.volume r.track (eqb-true u r.number (sym (ap issues_it r.is) ∙ it)))
+  begins-laid q e f (inr (inr a)) it = absurd (let none : true ≡ false = sym it ∙ said-not e a.0 in cc)
+
+  fold-laid : (es fs : List Event) (q : Past) → AlikeEvents u es fs → Lays q → Lays (fold past_event q fs)
+  fold-laid [] [] q a lays = lays
+  fold-laid [] (f ∷ fs) q a lays = absurd a
+  fold-laid (e ∷ es) [] q a lays = absurd a
+  fold-laid (e ∷ es) (f ∷ fs) q a lays = fold-laid es fs (past_event q f) a.1 (lays-alike q e f a.0 lays)
+
+  laid-once : (es fs : List Event) (q : Past) → AlikeEvents u es fs → list_any issues_it es ≡ true → Lays (fold past_event q fs)
+  laid-once [] [] q a it = absurd cc
+  laid-once [] (f ∷ fs) q a it = absurd a
+  laid-once (e ∷ es) [] q a it = absurd a
+  laid-once (e ∷ es) (f ∷ fs) q a it = by (issues_it e) refl it (laid-once es fs (past_event q f) a.1)
+    where
+      by : (b : Bool) → issues_it e ≡ b → (b || list_any issues_it es) ≡ true → (list_any issues_it es ≡ true → Lays (fold past_event (past_event q f) fs)) → Lays (fold past_event (past_event q f) fs)
+      by true is any later = fold-laid es fs (past_event q f) a.1 (begins-laid q e f a.0 is)
+      by false is any later = later any
+
+  pub past-laid : (es fs : List Event) → AlikeEvents u es fs → list_any issues_it es ≡ true → ((past fs).history.write u).bytes ≡ 1 ∷ []
+  unfolding past
+  past-laid es fs a it = laid-once es fs start a it
 
   -- ---- and who stands in groups
 

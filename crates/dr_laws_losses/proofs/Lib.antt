@@ -2,3 +2,4 @@ pub mod Alike
 pub mod Worlds
 pub mod Forms
 pub mod Steps
+pub mod Marks
