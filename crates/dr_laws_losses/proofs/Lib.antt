@@ -3,3 +3,4 @@ pub mod Worlds
 pub mod Forms
 pub mod Steps
 pub mod Marks
+pub mod Targets

@@ -126,7 +126,7 @@ none-differs p zero from none = refl
 none-differs p (suc n) from none = ap (λ b. cond b (Some from) (find p (range_with_len (from + 1) n))) (none from (omega arith)) ∙ none-differs p n (from + 1) (λ t lt. none t (omega arith))
 
 -- steps that issue a write
-abbrev issues : Step → Bool
+abbrev pub issues : Step → Bool
 issues (Issue v t offset len bytes) = true
 issues (Write v t offset len bytes) = true
 issues step = false

@@ -1,12 +1,12 @@
 -- Pairs that are made without a copy. Their volumes have to contain the same; whether they hold the same writes isn't asked.
-use Rattle.std.specs.Prelude.{◌≡◌, ◌<◌, ℕ, false, List, ◌∷◌, ◌++◌, None, Result, Ok}
+use Rattle.std.specs.Prelude.{◌≡◌, ◌<◌, ℕ, false, List, [], ◌∷◌, None, Result, Ok}
 use Rattle.dr_model.specs.declared.step.Step.{Step}
 use Rattle.dr_model.specs.declared.step.Step.TheVariants.{MakePair}
 use Rattle.dr_model.specs.Contents.{image_at}
 use Rattle.dr_model.specs.Control.{World}
 use Rattle.dr_model.specs.Histories.{lists}
 use Rattle.dr_model.specs.PairEntries.{first_differing}
-use Rattle.dr_model.specs.Runs.{Task, run}
+use Rattle.dr_model.specs.Runs.{Task, after_task}
 
 -- Where a step makes a pair without a copy, and the two volumes contain the same, they hold the same writes.
 abbrev pub HoldsSame : World → Result Step ℕ → Type 0
@@ -15,6 +15,7 @@ HoldsSame w (Ok (MakePair devs a b kind choices)) =
     → (t : ℕ) → t < (w.control.volume a).tracks → lists w.events a t ≡ lists w.events b t
 HoldsSame w asked = Unit {0}
 
--- so it is in each step of a run
-abbrev pub PairsHoldSame : List Task → Type 0
-PairsHoldSame tasks = (before after : List Task) (t : Task) → tasks ≡ before ++ t ∷ after → HoldsSame (run before) t.asked
+-- so it is in steps in order, each in the world before it
+abbrev pub PairsHoldSame : World → List Task → Type 0
+PairsHoldSame w [] = Unit {0}
+PairsHoldSame w (t ∷ tasks) = HoldsSame w t.asked × PairsHoldSame (after_task w t) tasks
