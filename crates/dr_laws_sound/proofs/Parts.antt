@@ -120,7 +120,7 @@ pub record Ways (P : World → Way → Type 0) : Type 0 where
   pub then : (w u : World) (xs : List Part) (r : Option Refusal) (more : World → Way) → P w (record { parts = xs; world = u; refusal = r }) → ((v : World) → P v (more v)) → P w (goes_on xs u r more)
 
 module _ (P : World → Way → Type 0) (ways : Ways P) where
-  way-part : (w : World) (p : Plan) → (has_room w.events ≡ true → Comes w p) → P w (part w p)
+  pub way-part : (w : World) (p : Plan) → (has_room w.events ≡ true → Comes w p) → P w (part w p)
   way-part w p comes = by (has_room w.events) refl
     where
       by : (b : Bool) → has_room w.events ≡ b → P w (cond b (record { parts = record { world = w; plan = p } ∷ []; world = after_part w p; refusal = part_refusal w p }) (ends w JournalFull))
@@ -131,7 +131,7 @@ module _ (P : World → Way → Type 0) (ways : Ways P) where
   way-if w true x y a c = a
   way-if w false x y a c = c
 
-  way-drains : (w : World) (ms : List Member) → P w (drains w ms)
+  pub way-drains : (w : World) (ms : List Member) → P w (drains w ms)
   unfolding drains
   way-drains w [] = ways.stands w None
   way-drains w (m ∷ ms) =
@@ -140,7 +140,7 @@ module _ (P : World → Way → Type 0) (ways : Ways P) where
       (ways.then w x.world x.parts x.refusal (λ v. drains v ms) (way-part w (drain_plan w.control m.a.0 None) (comes-drain w m.a.0)) (λ v. way-drains v ms))
       (way-drains w ms)
 
-  way-ask : (w : World) (s : ℕ) (p : PhaseName) (ms : List Member) (server : ℕ) → P w (ask w s p ms server)
+  pub way-ask : (w : World) (s : ℕ) (p : PhaseName) (ms : List Member) (server : ℕ) → P w (ask w s p ms server)
   way-ask w s p ms server =
       let x : Way = cond (is_draining p) (drains w (members_on server ms)) (stays w) in
       ways.then w x.world x.parts x.refusal (λ v. part v (asking v.control s server true)) (way-if w (is_draining p) _ _ (way-drains w (members_on server ms)) (ways.stands w None)) (λ v. way-part v (asking v.control s server true) (comes-asking v s server))
@@ -149,7 +149,7 @@ module _ (P : World → Way → Type 0) (ways : Ways P) where
   way-turn w s p ms None more go = ways.stands w (Some (OutOfOrder p))
   way-turn w s p ms (Some server) more go = let y : Way = ask w s p ms server in ways.then w y.world y.parts y.refusal more (way-ask w s p ms server) go
 
-  way-turns : (bound : ℕ) (w : World) (s left : ℕ) (committed : Bool) → P w (turns bound w s left committed)
+  pub way-turns : (bound : ℕ) (w : World) (s left : ℕ) (committed : Bool) → P w (turns bound w s left committed)
   unfolding turns
   way-turns zero w s left committed = way-if w (nat_eq left 0) _ _ (ways.stands w None) (ways.stands w (Some (OutOfOrder (phase_in w.control s))))
   way-turns (suc bound) w s left committed = way-if w (nat_eq left 0) _ _ (ways.stands w None)

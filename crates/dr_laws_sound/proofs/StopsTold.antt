@@ -23,7 +23,7 @@ use Rattle.dr_facts.proofs.Emits.{Of, Lists, by_moves, all-told, all-stop}
 use Rattle.dr_laws_sound.specs.Stops.{first_stop, stop_in, refused_stop, StopsTold}
 use Rattle.dr_laws_sound.proofs.Turns.{act-cases, Counts, after_act, server_of}
 
-first-append : (es fs : List Event) → first_stop (es ++ fs) ≡ option_or (first_stop es) (first_stop fs)
+pub first-append : (es fs : List Event) → first_stop (es ++ fs) ≡ option_or (first_stop es) (first_stop fs)
 first-append [] fs = refl
 first-append (e ∷ es) fs = ap (λ o. option_or (stop_in e) o) (first-append es fs) ∙ grouped (stop_in e) (first_stop es) (first_stop fs)
   where
@@ -66,7 +66,7 @@ counts-tells w (EndFreeze l m) = tt
 counts-tells w (EndThaw l m) = tt
 counts-tells w (EndRecovery s n) = tt
 
-act-tells : (w : World) (a : Act) → StopsTold w (act w a).0 (act w a).1
+pub act-tells : (w : World) (a : Act) → StopsTold w (act w a).0 (act w a).1
 act-tells w a = act-cases w a (λ t. StopsTold w t.0 t.1) (λ d off. record { events = []; told = sym (append-nil w.events); tells = refl })
     (done-tells w a) (counts-tells w a) (λ d f. record { events = Stopped (server_of w a) 0 ∷ []; told = refl; tells = refl })
 
@@ -74,7 +74,7 @@ no-stop-refused : (r : Refusal) → NoStop r → refused_stop (Some r) ≡ None
 no-stop-refused (StoppedIn s) e = absurd cc
 no-stop-refused r e = refl
 
-tells-then : (w v u : World) (stop : Option ℕ) → StopsTold w v None → StopsTold v u stop → StopsTold w u stop
+pub tells-then : (w v u : World) (stop : Option ℕ) → StopsTold w v None → StopsTold v u stop → StopsTold w u stop
 tells-then w v u stop a b = record {
   events = a.events ++ b.events;
   told = b.told ∙ ap (λ es. es ++ b.events) a.told ∙ append_assoc w.events a.events b.events;
