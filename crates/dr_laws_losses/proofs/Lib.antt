@@ -4,3 +4,4 @@ pub mod Forms
 pub mod Steps
 pub mod Marks
 pub mod Targets
+pub mod Told
