@@ -5,3 +5,4 @@ pub mod Steps
 pub mod Marks
 pub mod Targets
 pub mod Told
+pub mod Ends

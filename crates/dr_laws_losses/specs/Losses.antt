@@ -1,0 +1,55 @@
+-- What a recovery of a session loses, where all members count.
+use Rattle.std.specs.Prelude.{◌≡◌, ◌↔◌, ◌⊎◌, ℕ, true, List, [], ◌∷◌, ◌++◌, map, Ok}
+use Rattle.dr_ids.specs.declared.names.Member.{Member}
+use Rattle.dr_ids.specs.declared.refusal.Decision.{Decision}
+use Rattle.dr_model.specs.declared.event.Event.{Event}
+use Rattle.dr_model.specs.declared.said.Addition.TheVariants.{InGroup as AnsweredGroup}
+use Rattle.dr_model.specs.declared.said.Said.TheVariants.{Done}
+use Rattle.dr_model.specs.declared.step.Step.TheVariants.{Recover}
+use Rattle.dr_model.specs.Control.{World, nothing}
+use Rattle.dr_model.specs.Cuts.{CutAt}
+use Rattle.dr_model.specs.Groups.{In}
+use Rattle.dr_model.specs.Histories.{lists}
+use Rattle.dr_model.specs.Runs.{Task, run}
+use Rattle.dr_model.specs.SessionEntries.{counts_at}
+use Rattle.dr_model.specs.Sessions.{session_in, members_in}
+use Rattle.dr_laws_sound.specs.Acknowledged.{said_in}
+use Rattle.dr_lost.specs.declared.lost.Pair.{Pair}
+use Rattle.dr_laws_losses.specs.Pairs.{PairsHoldSame}
+
+-- the members of session s
+abbrev pub members_of : World → ℕ → List Member
+members_of w s = members_in (session_in w.control.sessions s)
+
+-- the target of a member is used in the place of its primary
+abbrev pub target_pair : Member → Pair
+target_pair m = record { second = m.a.0; first = m.c.0 }
+
+-- some pairs are the targets of all of some members, each for its member's primary, and no others
+abbrev pub AreTargets : List Member → List Pair → Type 0
+AreTargets ms pairs = (p : Pair) → In p pairs ↔ In p (map target_pair ms)
+
+-- the world in which the recovery of a session is answered
+abbrev pub recovered_world : List Task → List Task → Task → World
+recovered_world before first t = run (before ++ first ++ t ∷ [])
+
+-- Of a run, `before` is what comes before its recovery, and that has a recovery of session s, `t`, after its first steps. It was answered with
+-- group n. All members of the session count then, and the pairs are their targets. What comes after it changes no list of these targets.
+pub record RecoversAll (before first : List Task) (t : Task) (rest : List Task) (s n : ℕ) (pairs : List Pair) : Type 0 where
+  pub asked : t.asked ≡ Ok (Recover s)
+  pub decision : Decision
+  pub answered : said_in (run (before ++ first)) t ≡ Done (AnsweredGroup n decision)
+  pub counted : (m : Member) → In m (members_of (recovered_world before first t) s) → counts_at s (recovered_world before first t).control m ≡ true
+  pub targets : AreTargets (members_of (recovered_world before first t) s) pairs
+  pub stays : (m : Member) → In m (members_of (recovered_world before first t) s) → (q : ℕ)
+      → lists (run (before ++ first ++ t ∷ rest)).events m.c.0 q ≡ lists (recovered_world before first t).events m.c.0 q
+  pub alike : PairsHoldSame nothing (before ++ first ++ t ∷ [])
+
+-- The primary of a member held write w as the recovery began, and the cut that it has for group n hasn't it.
+pub record IsUncut (ms : List Member) (begun events : List Event) (s n w : ℕ) : Type 0 where
+  pub member : Member
+  pub here : In member ms
+  pub track : ℕ
+  pub held : In w (lists begun member.a.0 track)
+  pub cut : CutAt events s n member.a.0
+  pub without : In w (lists cut.before member.a.0 track) → ⊥
