@@ -6,3 +6,4 @@ pub mod Marks
 pub mod Targets
 pub mod Told
 pub mod Ends
+pub mod Tidy
