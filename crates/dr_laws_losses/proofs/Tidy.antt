@@ -1,7 +1,9 @@
 -- Each write that is numbered was told of as it was issued, and lists have writes on tracks alone that their volume has.
 use Rattle.std.proofs.Common.{ℕ, ◌≡◌, ◌≢◌, ◌<◌, ◌+◌, ◌⊎◌, inl, inr, refl, ap, sym, ◌∙◌, subst, arith, Bool, true, false, cond, ◌||◌, nat_eq, List, [], ◌∷◌, ◌++◌, length, Option, Some, None}
 use Rattle.std.specs.List.{fold, list_any}
-use Rattle.std.proofs.lemmas.Bool.{eq-eqb}
+use Rattle.std.proofs.lemmas.Bool.{or_parts}
+use Rattle.std.proofs.lemmas.Bool.Decides.{eqb_tells}
+use Rattle.dr_logic.proofs.Tables.{at_other}
 use Rattle.std.proofs.lemmas.List.{append-nil}
 use Rattle.std.proofs.lemmas.List.Folds.{list_any-append}
 use Rattle.std.proofs.Math.Bool.{or-true}
@@ -14,7 +16,7 @@ use Rattle.dr_model.specs.Moves.{Move, Land, Overwrite, Store, Mirror, LandBoth,
 use Rattle.dr_model.specs.Carry.{Act, Make, OpenAttempt, Redo, Acknowledge, Drop, EndFreeze, EndThaw, EndRecovery, acknowledged, dropped, frozen, thawed, recovered}
 use Rattle.dr_model.specs.Runs.{Task, run}
 use Rattle.dr_model.specs.Groups.{In}
-use Rattle.dr_model.specs.Table.{table}
+use Rattle.dr_model.specs.Table.{Table, table}
 use Rattle.dr_model.specs.Laws.{SoundBut, Sound, FlashFits, source}
 use Rattle.dr_model.specs.Allowed.{May, MayOpen, Ready, Allowed}
 use Rattle.dr_model.proofs.Images.{histories-append}
@@ -164,13 +166,15 @@ stop-heard starts w s m allowed ready x k = of-append (Heard w) (told m (w.contr
 pub record Tidy (w : World) : Type 0 where
   pub issued : (n : ℕ) → 0 < n → n < w.control.issued + 1 → list_any (issues_it n) w.events ≡ true
   pub low : OfLow (sizes w) (histories w.events)
+  pub none : (v : ℕ) → is_volume w.control v ≡ false → sizes w v ≡ 0
 
 issued-more : (n : ℕ) (es more : List Event) → list_any (issues_it n) es ≡ true → list_any (issues_it n) (es ++ more) ≡ true
 issued-more n es more is = list_any-append (issues_it n) es more ∙ ap (λ b. b || list_any (issues_it n) more) is
 
 -- events are told, and volumes keep their sizes
-tidy-more : (w u : World) (more : List Event) → Tidy w → u.events ≡ w.events ++ more → u.control.issued ≡ w.control.issued → ((v : ℕ) → sizes u v ≡ sizes w v) → AllOf (Heard w) more → Tidy u
-tidy-more w u more k events issued same all = record {
+tidy-more : (w u : World) (more : List Event) → Tidy w → u.events ≡ w.events ++ more → u.control.issued ≡ w.control.issued → u.control.volumes ≡ w.control.volumes → ((v : ℕ) → sizes u v ≡ sizes w v) → AllOf (Heard w) more → Tidy u
+tidy-more w u more k events issued volumes same all = record {
+  none = λ v undefined. same v ∙ k.none v (sym (ap (λ vs. list_any (nat_eq v) vs) volumes) ∙ undefined);
   issued = λ n positive lt. subst (λ es. list_any (issues_it n) es ≡ true) (sym events) (issued-more n w.events more (k.issued n positive (subst (λ i. n < i + 1) issued lt)));
   low = subst (λ es. OfLow (sizes u) (histories es)) (sym events) (subst (OfLow (sizes u)) (sym (histories-append w.events more))
       (subst (λ (f : ℕ → ℕ). OfLow f (fold after_event (histories w.events) more)) (λ i v. sym (same v) i) (events-low (sizes w) more (histories w.events) all k.low)));
@@ -180,44 +184,44 @@ moved-sizes : (w : World) (m : Move) (v : ℕ) → sizes (done w m None) v ≡ s
 moved-sizes w m v = at_part (λ (y : Volume). y.tracks) w.control.volume (target m) (moved_keeping (keeps_staged m) (w.control.volume (target m)) (next_of w m) (carried_in w m)) refl v
 
 -- nothing of which anything is asked
-tidy-one : (w u : World) (more : List Event) → Tidy w → u.events ≡ w.events ++ more → u.control.issued ≡ w.control.issued → u.control.volume ≡ w.control.volume → AllOf (Heard w) more → Tidy u
-tidy-one w u more k events issued volume all = tidy-more w u more k events issued (λ v. ap (λ (f : ℕ → Volume). (f v).tracks) volume) all
+tidy-one : (w u : World) (more : List Event) → Tidy w → u.events ≡ w.events ++ more → u.control.issued ≡ w.control.issued → u.control.volumes ≡ w.control.volumes → u.control.volume ≡ w.control.volume → AllOf (Heard w) more → Tidy u
+tidy-one w u more k events issued volumes volume all = tidy-more w u more k events issued volumes (λ v. ap (λ (f : ℕ → Volume). (f v).tracks) volume) all
 
 module _ (starts : Option ℕ) (w : World) (s : SoundBut starts w) (k : Tidy w) where
   tidy-done : (m : Move) (f : Option Fuse) → May w m → Tidy (done w m f)
-  tidy-done m f may = tidy-more w (done w m f) (told m (w.control.volume (target m))) k refl refl (moved-sizes w m) (told-heard starts w s m may.allowed may.ready)
+  tidy-done m f may = tidy-more w (done w m f) (told m (w.control.volume (target m))) k refl refl refl (moved-sizes w m) (told-heard starts w s m may.allowed may.ready)
 
   tidy-stop : (m : Move) (f : Option Fuse) → May w m → Tidy (done_in_stop w m f)
-  tidy-stop m f may = tidy-more w (done_in_stop w m f) (told_in_stop m (w.control.volume (target m)) ++ Stopped (server_at w (target m)) (landed m) ∷ []) k refl refl (moved-sizes w m) (stop-heard starts w s m may.allowed may.ready (server_at w (target m)) (landed m))
+  tidy-stop m f may = tidy-more w (done_in_stop w m f) (told_in_stop m (w.control.volume (target m)) ++ Stopped (server_at w (target m)) (landed m) ∷ []) k refl refl refl (moved-sizes w m) (stop-heard starts w s m may.allowed may.ready (server_at w (target m)) (landed m))
 
 tidy-not : (w : World) (x : ℕ) (f : Option Fuse) → Tidy w → Tidy (not_done w x f)
-tidy-not w x f k = tidy-one w (not_done w x f) (Stopped x 0 ∷ []) k refl refl refl (tt, tt)
+tidy-not w x f k = tidy-one w (not_done w x f) (Stopped x 0 ∷ []) k refl refl refl refl (tt, tt)
 
 acts : Rides Sound Tidy MayDo
 acts = record {
   does = λ w a f s k may. does w a f s k may;
   counts = λ w m f s k may. tidy-stop None w s k m f may;
-  opens = λ w v i n f s k may. tidy-more w (opened_in_stop w v i n f) (told (Hold v i n true) (w.control.volume v) ++ Stopped (server_at w v) 0 ∷ []) k refl refl (moved-sizes w (Hold v i n true))
+  opens = λ w v i n f s k may. tidy-more w (opened_in_stop w v i n f) (told (Hold v i n true) (w.control.volume v) ++ Stopped (server_at w v) 0 ∷ []) k refl refl refl (moved-sizes w (Hold v i n true))
       (of-append (Heard w) (told (Hold v i n true) (w.control.volume v)) (Stopped (server_at w v) 0 ∷ []) (kind-told w (Hold v i n true) (w.control.volume v) refl) (tt, tt));
   fails = λ w a f d s k may. tidy-not w _ f k;
 }
   where
     does : (w : World) (a : Act) (f : Option Fuse) → Sound w → Tidy w → MayDo w a → Tidy (after_act w a f)
     does w (Make m) f s k may = tidy-done None w s k m f may
-    does w (OpenAttempt v i n) f s k may = tidy-more w (after_act w (OpenAttempt v i n) f) (told (Hold v i n true) (w.control.volume v)) k refl refl (moved-sizes w (Hold v i n true)) (kind-told w (Hold v i n true) (w.control.volume v) refl)
-    does w (Redo v) f s k may = tidy-one w (fused w (server_at w v) f) [] k (sym (append-nil w.events)) refl refl tt
+    does w (OpenAttempt v i n) f s k may = tidy-more w (after_act w (OpenAttempt v i n) f) (told (Hold v i n true) (w.control.volume v)) k refl refl refl (moved-sizes w (Hold v i n true)) (kind-told w (Hold v i n true) (w.control.volume v) refl)
+    does w (Redo v) f s k may = tidy-one w (fused w (server_at w v) f) [] k (sym (append-nil w.events)) refl refl refl tt
     does w (Acknowledge n) f s k may = absurd may
-    does w (Drop n) f s k may = tidy-one w (dropped w n) [] k (sym (append-nil w.events)) refl refl tt
-    does w (EndFreeze l m) f s k may = tidy-one w (frozen w l m) (Frozen l m ∷ []) k refl refl refl (tt, tt)
-    does w (EndThaw l m) f s k may = tidy-one w (thawed w l m) (Thawed l m ∷ []) k refl refl refl (tt, tt)
-    does w (EndRecovery i n) f s k may = tidy-one w (recovered w i n) (Recovered i n ∷ []) k refl refl refl (tt, tt)
+    does w (Drop n) f s k may = tidy-one w (dropped w n) [] k (sym (append-nil w.events)) refl refl refl tt
+    does w (EndFreeze l m) f s k may = tidy-one w (frozen w l m) (Frozen l m ∷ []) k refl refl refl refl (tt, tt)
+    does w (EndThaw l m) f s k may = tidy-one w (thawed w l m) (Thawed l m ∷ []) k refl refl refl refl (tt, tt)
+    does w (EndRecovery i n) f s k may = tidy-one w (recovered w i n) (Recovered i n ∷ []) k refl refl refl refl (tt, tt)
 
 module _ (x : ℕ) where
   tidy-acked : (w : World) (n : ℕ) → starts.Inner x w → Tidy w → starts.MayAcknowledge x w n → Tidy (acknowledged w n)
   tidy-acked w n j k may =
       let p : Pending = may.waits in
       subst (λ n. Tidy (acknowledged w n)) may.number
-      (tidy-one w (acknowledged w p.w) (Ack p.w ∷ []) k refl refl refl
+      (tidy-one w (acknowledged w p.w) (Ack p.w ∷ []) k refl refl refl refl
       (acked-low w p.w p.volume p.track (starts.waits x w j.sound p may.first).volume (starts.waits x w j.sound p may.first).track (starts.waits x w j.sound p may.first).low, tt))
 
   start-acts : Rides (starts.Inner x) Tidy (starts.MayStart x)
@@ -230,7 +234,7 @@ module _ (x : ℕ) where
     where
       does : (w : World) (a : Act) (f : Option Fuse) → starts.Inner x w → Tidy w → starts.MayStart x w a → Tidy (after_act w a f)
       does w (Make (Restart v)) f j k may = tidy-done (Some x) w j.sound k (Restart v) f (starts.may-restart x w v may)
-      does w (Redo v) f j k may = tidy-one w (fused w (server_at w v) f) [] k (sym (append-nil w.events)) refl refl tt
+      does w (Redo v) f j k may = tidy-one w (fused w (server_at w v) f) [] k (sym (append-nil w.events)) refl refl refl tt
       does w (Acknowledge n) f j k may = tidy-acked w n j k may
       does w a f j k may = absurd may
 
@@ -242,6 +246,64 @@ module _ (x : ℕ) where
 
 tidy-unheard : (w u : World) (more : List Event) → Tidy w → Unheard w u more → Tidy u
 tidy-unheard w u more k q = record {
+  none = λ v undefined. ap (λ (f : ℕ → Volume). (f v).tracks) q.volume ∙ k.none v (sym (ap (λ (T : Table). (T v).defined) q.rows) ∙ undefined);
   issued = λ n positive lt. subst (λ es. list_any (issues_it n) es ≡ true) (sym q.events) (issued-more n w.events more (k.issued n positive (subst (λ i. n < i + 1) q.issued lt)));
   low = subst (λ (h : Histories). OfLow (sizes u) h) (sym q.lists) (subst (λ (f : ℕ → Volume). OfLow (λ v. (f v).tracks) (histories w.events)) (sym q.volume) k.low);
 }
+
+tidy-issues : (w : World) (s : Sound w) (v t offset len : ℕ) (bytes : List ℕ) (defined : is_volume w.control v ≡ true) (low : t < (w.control.volume v).tracks) → Tidy w → Tidy (issued w s v t offset len bytes defined low)
+tidy-issues w s v t offset len bytes defined low k = record {
+  issued = λ n positive lt. elim (eqb_tells n (w.control.issued + 1)) [
+    | inl is ↦ list_any-append (issues_it n) w.events (told ∷ []) ∙ ap (λ b. list_any (issues_it n) w.events || (b || false)) is.0 ∙ or-true (list_any (issues_it n) w.events)
+    | inr not ↦ issued-more n w.events (told ∷ []) (k.issued n positive (let ne : n ≢ w.control.issued + 1 = not.1 in let l : n < w.control.issued + 1 + 1 = lt in omega arith))
+  ];
+  low = subst (λ (h : Histories). OfLow (sizes w) h) (sym (histories-append w.events (told ∷ []))) k.low;
+  none = k.none;
+}
+  where
+    told : Event
+    told = Issue (w.control.issued + 1) v t offset len bytes
+
+tidy-defines : (w : World) (s : Sound w) (v server tracks : ℕ) (here : server < length w.control.servers) (undefined : is_volume w.control v ≡ false) → Tidy w → Tidy (with_volume w s v server tracks here undefined)
+tidy-defines w s v server tracks here undefined k = record {
+  issued = λ n positive lt. issued-more n w.events (VolumeDefined v server tracks ∷ []) (k.issued n positive lt);
+  low = subst (λ (h : Histories). OfLow (sizes u) h) (sym (histories-append w.events (VolumeDefined v server tracks ∷ [])))
+      (at_cases (λ q (f : ℕ → List ℕ). (t n : ℕ) → In n (f t) → t < sizes u q) h.now v (λ t. []) (λ t n i. absurd i) (λ q ne t n i. subst (λ k. t < k) (sym (else q ne)) (k.low.0 q t n i)), aside-low);
+  none = λ q free. elim (eqb_tells q v) [
+    | inl is ↦ absurd (let now : list_any (nat_eq q) (w.control.volumes ++ v ∷ []) ≡ true = list_any-append (nat_eq q) w.control.volumes (v ∷ []) ∙ ap (λ b. list_any (nat_eq q) w.control.volumes || (b || false)) is.0 ∙ or-true (list_any (nat_eq q) w.control.volumes) in let e : true ≡ false = sym now ∙ free in cc)
+    | inr not ↦ else q not.1 ∙ k.none q (or_parts (list_any (nat_eq q) w.control.volumes) _ (sym (list_any-append (nat_eq q) w.control.volumes (v ∷ [])) ∙ free)).0
+  ];
+}
+  where
+    u : World
+    u = with_volume w s v server tracks here undefined
+
+    h : Histories
+    h = histories w.events
+
+    else : (q : ℕ) → q ≢ v → (at w.control.volume v (new_volume server tracks) q).tracks ≡ sizes w q
+    else q ne = ap (λ (y : Volume). y.tracks) (at_other w.control.volume v (new_volume server tracks) q ne)
+
+    aside-low : (q t n : ℕ) → In n ((histories w.events).aside q t) → t < (at w.control.volume v (new_volume server tracks) q).tracks
+    aside-low q t n i = elim (eqb_tells q v) [
+      | inl is ↦ absurd (let lt : t < sizes w q = k.low.1 q t n i in let zero : sizes w q ≡ 0 = k.none q (ap (is_volume w.control) is.1 ∙ undefined) in omega arith)
+      | inr not ↦ subst (λ k. t < k) (sym (else q not.1)) (k.low.1 q t n i)
+    ]
+
+pub tidy-ride : Rider Tidy
+tidy-ride = record {
+  acts = acts;
+  start_acts = start-acts;
+  unheard = λ w u more k q none. tidy-unheard w u more k q;
+  issues = tidy-issues;
+  regroups = λ w ss f s t turn adds goes k. record { issued = k.issued; low = k.low; none = k.none };
+  opens = λ w i n x r s t found has idle next k. tidy-one w (opened w i n) (Begin i n ∷ []) k refl refl refl refl (tt, tt);
+  defines = tidy-defines;
+}
+
+none-tidy : Tidy nothing
+unfolding histories
+none-tidy = record { issued = λ n positive lt. absurd (let l : n < 0 + 1 = lt in omega arith); low = (λ v t n i. absurd i, λ v t n i. absurd i); none = λ v undefined. refl }
+
+pub tidy-run : (tasks : List Task) → Tidy (run tasks)
+tidy-run tasks = rides-tasks Tidy tidy-ride nothing tasks steps.sound-nothing none-tidy
