@@ -9,7 +9,7 @@ use Rattle.std.proofs.lemmas.List.Folds.{list_any-append}
 use Rattle.std.proofs.Math.Bool.{or-true}
 use Rattle.dr_logic.specs.Tables.{at, at2}
 use Rattle.dr_model.specs.declared.event.Event.{Event}
-use Rattle.dr_model.specs.declared.event.Event.TheVariants.{Volume as VolumeDefined, Issue, Ack, Mirrored, Sent, Flashed, Committed, Reverted, Set, Back, Blanked, Stopped, Frozen, Thawed, Recovered, Begin}
+use Rattle.dr_model.specs.declared.event.Event.TheVariants.{Cut, Volume as VolumeDefined, Issue, Ack, Mirrored, Sent, Flashed, Committed, Reverted, Set, Back, Blanked, Stopped, Frozen, Thawed, Recovered, Begin}
 use Rattle.dr_model.specs.Histories.{Lists, Write, Histories, joined, after_event, histories, lists}
 use Rattle.dr_model.specs.Control.{Control, Fuse, Pending, Volume, World, is_volume, new_volume, nothing}
 use Rattle.dr_model.specs.Moves.{Move, Land, Overwrite, Store, Mirror, LandBoth, Flash, Relate, Resync, Restore, Restart, Hold, target, told, told_in_stop, landed, keeps_staged, moved_keeping}
@@ -19,7 +19,9 @@ use Rattle.dr_model.specs.Groups.{In}
 use Rattle.dr_model.specs.Table.{Table, table}
 use Rattle.dr_model.specs.Laws.{SoundBut, Sound, FlashFits, source}
 use Rattle.dr_model.specs.Allowed.{May, MayOpen, Ready, Allowed}
+use Rattle.dr_model.specs.Cuts.{Cuts, Past, past, cuts, past_event, cuts_after}
 use Rattle.dr_model.proofs.Images.{histories-append}
+use Rattle.dr_laws_cuts.proofs.Journal.{past-history, cuts-append, cuts-quiet}
 use Rattle.dr_facts.proofs.Tables.{at_cases, at2_cases, at_part}
 use Rattle.dr_facts.proofs.Lists.{in-joined}
 use Rattle.dr_facts.proofs.Emits.{Tag, Defines, Issues, Acks, Mirrors, Sends, Flashes, Sets, Backs, Of, AllOf, of-append, all_tags, emits, each-told}
@@ -91,6 +93,20 @@ module _ (tracks : ℕ → ℕ) where
   events-low [] h all old = old
   events-low (e ∷ es) h all old =
       events-low es (after_event h e) (subst (λ write. AllOf (Heeds write) es) (sym (heeds-write h e all.0)) all.1) (event-low h e all.0 old)
+
+  -- so is what cuts hold
+  abbrev pub HeldLow : Cuts → Type 0
+  HeldLow c = (k : ℕ) → AllLow (c.held k)
+
+  cut-low : (p : Past) (e : Event) → AllLow p.history.now → HeldLow p.cuts → HeldLow (cuts_after p e)
+  cut-low p (Cut s n a) now old =
+      at2_cases (λ k v (f : ℕ → List ℕ). (t m : ℕ) → In m (f t) → t < tracks v) p.cuts.held n a (p.history.now a) (now a) (λ k v ne. old k v)
+  cut-low p e now old = old
+
+  cuts-low : (es : List Event) (p : Past) → AllOf (Heeds p.history.write) es → OfLow p.history → HeldLow p.cuts → HeldLow (fold past_event p es).cuts
+  cuts-low [] p all lists old = old
+  cuts-low (e ∷ es) p all lists old =
+      cuts-low es (past_event p e) (subst (λ write. AllOf (Heeds write) es) (sym (heeds-write p.history e all.0)) all.1) (event-low p.history e all.0 lists) (cut-low p e lists.0 old)
 
 -- ---- what moves tell
 
@@ -166,14 +182,23 @@ stop-heard starts w s m allowed ready x k = of-append (Heard w) (told m (w.contr
 pub record Tidy (w : World) : Type 0 where
   pub issued : (n : ℕ) → 0 < n → n < w.control.issued + 1 → list_any (issues_it n) w.events ≡ true
   pub low : OfLow (sizes w) (histories w.events)
+  pub held : HeldLow (sizes w) (cuts w.events)
   pub none : (v : ℕ) → is_volume w.control v ≡ false → sizes w v ≡ 0
 
 issued-more : (n : ℕ) (es more : List Event) → list_any (issues_it n) es ≡ true → list_any (issues_it n) (es ++ more) ≡ true
 issued-more n es more is = list_any-append (issues_it n) es more ∙ ap (λ b. b || list_any (issues_it n) more) is
 
+-- what cuts hold after more events
+held-more : (w : World) (more : List Event) → OfLow (sizes w) (histories w.events) → HeldLow (sizes w) (cuts w.events) → AllOf (Heard w) more → HeldLow (sizes w) (cuts (w.events ++ more))
+held-more w more lists old all =
+    let is : (past w.events).history ≡ histories w.events = past-history w.events in
+    subst (HeldLow (sizes w)) (sym (cuts-append w.events more))
+    (cuts-low (sizes w) more (past w.events) (subst (λ (h : Histories). AllOf (Heeds (sizes w) h.write) more) (sym is) all) (subst (OfLow (sizes w)) (sym is) lists) old)
+
 -- events are told, and volumes keep their sizes
 tidy-more : (w u : World) (more : List Event) → Tidy w → u.events ≡ w.events ++ more → u.control.issued ≡ w.control.issued → u.control.volumes ≡ w.control.volumes → ((v : ℕ) → sizes u v ≡ sizes w v) → AllOf (Heard w) more → Tidy u
 tidy-more w u more k events issued volumes same all = record {
+  held = subst (λ es. HeldLow (sizes u) (cuts es)) (sym events) (subst (λ (f : ℕ → ℕ). HeldLow f (cuts (w.events ++ more))) (λ i v. sym (same v) i) (held-more w more k.low k.held all));
   none = λ v undefined. same v ∙ k.none v (sym (ap (λ vs. list_any (nat_eq v) vs) volumes) ∙ undefined);
   issued = λ n positive lt. subst (λ es. list_any (issues_it n) es ≡ true) (sym events) (issued-more n w.events more (k.issued n positive (subst (λ i. n < i + 1) issued lt)));
   low = subst (λ es. OfLow (sizes u) (histories es)) (sym events) (subst (OfLow (sizes u)) (sym (histories-append w.events more))
@@ -246,6 +271,7 @@ module _ (x : ℕ) where
 
 tidy-unheard : (w u : World) (more : List Event) → Tidy w → Unheard w u more → Tidy u
 tidy-unheard w u more k q = record {
+  held = subst (λ es. HeldLow (sizes u) (cuts es)) (sym q.events) (subst (HeldLow (sizes u)) (sym (cuts-quiet w.events more q.quiet)) (subst (λ (f : ℕ → Volume). HeldLow (λ v. (f v).tracks) (cuts w.events)) (sym q.volume) k.held));
   none = λ v undefined. ap (λ (f : ℕ → Volume). (f v).tracks) q.volume ∙ k.none v (sym (ap (λ (T : Table). (T v).defined) q.rows) ∙ undefined);
   issued = λ n positive lt. subst (λ es. list_any (issues_it n) es ≡ true) (sym q.events) (issued-more n w.events more (k.issued n positive (subst (λ i. n < i + 1) q.issued lt)));
   low = subst (λ (h : Histories). OfLow (sizes u) h) (sym q.lists) (subst (λ (f : ℕ → Volume). OfLow (λ v. (f v).tracks) (histories w.events)) (sym q.volume) k.low);
@@ -258,6 +284,7 @@ tidy-issues w s v t offset len bytes defined low k = record {
     | inr not ↦ issued-more n w.events (told ∷ []) (k.issued n positive (let ne : n ≢ w.control.issued + 1 = not.1 in let l : n < w.control.issued + 1 + 1 = lt in omega arith))
   ];
   low = subst (λ (h : Histories). OfLow (sizes w) h) (sym (histories-append w.events (told ∷ []))) k.low;
+  held = subst (HeldLow (sizes w)) (sym (cuts-quiet w.events (told ∷ []) (tt, tt))) k.held;
   none = k.none;
 }
   where
@@ -269,6 +296,7 @@ tidy-defines w s v server tracks here undefined k = record {
   issued = λ n positive lt. issued-more n w.events (VolumeDefined v server tracks ∷ []) (k.issued n positive lt);
   low = subst (λ (h : Histories). OfLow (sizes u) h) (sym (histories-append w.events (VolumeDefined v server tracks ∷ [])))
       (at_cases (λ q (f : ℕ → List ℕ). (t n : ℕ) → In n (f t) → t < sizes u q) h.now v (λ t. []) (λ t n i. absurd i) (λ q ne t n i. subst (λ k. t < k) (sym (else q ne)) (k.low.0 q t n i)), aside-low);
+  held = λ n q t m i. held-low n q t m (subst (λ (c : Cuts). In m (c.held n q t)) (cuts-quiet w.events (VolumeDefined v server tracks ∷ []) (tt, tt)) i);
   none = λ q free. elim (eqb_tells q v) [
     | inl is ↦ absurd (let now : list_any (nat_eq q) (w.control.volumes ++ v ∷ []) ≡ true = list_any-append (nat_eq q) w.control.volumes (v ∷ []) ∙ ap (λ b. list_any (nat_eq q) w.control.volumes || (b || false)) is.0 ∙ or-true (list_any (nat_eq q) w.control.volumes) in let e : true ≡ false = sym now ∙ free in cc)
     | inr not ↦ else q not.1 ∙ k.none q (or_parts (list_any (nat_eq q) w.control.volumes) _ (sym (list_any-append (nat_eq q) w.control.volumes (v ∷ [])) ∙ free)).0
@@ -290,20 +318,26 @@ tidy-defines w s v server tracks here undefined k = record {
       | inr not ↦ subst (λ k. t < k) (sym (else q not.1)) (k.low.1 q t n i)
     ]
 
+    held-low : (k q t n : ℕ) → In n ((cuts w.events).held k q t) → t < (at w.control.volume v (new_volume server tracks) q).tracks
+    held-low j q t n i = elim (eqb_tells q v) [
+      | inl is ↦ absurd (let lt : t < sizes w q = k.held j q t n i in let zero : sizes w q ≡ 0 = k.none q (ap (is_volume w.control) is.1 ∙ undefined) in omega arith)
+      | inr not ↦ subst (λ k. t < k) (sym (else q not.1)) (k.held j q t n i)
+    ]
+
 pub tidy-ride : Rider Tidy
 tidy-ride = record {
   acts = acts;
   start_acts = start-acts;
   unheard = λ w u more k q none. tidy-unheard w u more k q;
   issues = tidy-issues;
-  regroups = λ w ss f s t turn adds goes k. record { issued = k.issued; low = k.low; none = k.none };
+  regroups = λ w ss f s t turn adds goes k. record { issued = k.issued; low = k.low; held = k.held; none = k.none };
   opens = λ w i n x r s t found has idle next k. tidy-one w (opened w i n) (Begin i n ∷ []) k refl refl refl refl (tt, tt);
   defines = tidy-defines;
 }
 
 none-tidy : Tidy nothing
-unfolding histories
-none-tidy = record { issued = λ n positive lt. absurd (let l : n < 0 + 1 = lt in omega arith); low = (λ v t n i. absurd i, λ v t n i. absurd i); none = λ v undefined. refl }
+unfolding histories past
+none-tidy = record { held = λ k v t n i. absurd i; issued = λ n positive lt. absurd (let l : n < 0 + 1 = lt in omega arith); low = (λ v t n i. absurd i, λ v t n i. absurd i); none = λ v undefined. refl }
 
 pub tidy-run : (tasks : List Task) → Tidy (run tasks)
 tidy-run tasks = rides-tasks Tidy tidy-ride nothing tasks steps.sound-nothing none-tidy
