@@ -7,3 +7,4 @@ pub mod Targets
 pub mod Told
 pub mod Ends
 pub mod Tidy
+pub mod Known

@@ -185,7 +185,7 @@ pub record Tidy (w : World) : Type 0 where
   pub held : HeldLow (sizes w) (cuts w.events)
   pub none : (v : ℕ) → is_volume w.control v ≡ false → sizes w v ≡ 0
 
-issued-more : (n : ℕ) (es more : List Event) → list_any (issues_it n) es ≡ true → list_any (issues_it n) (es ++ more) ≡ true
+pub issued-more : (n : ℕ) (es more : List Event) → list_any (issues_it n) es ≡ true → list_any (issues_it n) (es ++ more) ≡ true
 issued-more n es more is = list_any-append (issues_it n) es more ∙ ap (λ b. b || list_any (issues_it n) more) is
 
 -- what cuts hold after more events
