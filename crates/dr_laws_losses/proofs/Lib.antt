@@ -8,3 +8,4 @@ pub mod Told
 pub mod Ends
 pub mod Tidy
 pub mod Known
+pub mod Issued

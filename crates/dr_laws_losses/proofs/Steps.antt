@@ -100,7 +100,7 @@ leave-carried w ds s leave = by (carry (begun w (entries_plan ds s)) ds).1 ∙ l
 
 -- ---- what an image tells
 
-none-append : (es fs : List Event) → NoIssue es → NoIssue fs → NoIssue (es ++ fs)
+pub none-append : (es fs : List Event) → NoIssue es → NoIssue fs → NoIssue (es ++ fs)
 none-append es fs first rest = list_any-append is_issue es fs ∙ ap (λ b. b || list_any is_issue fs) first ∙ rest
 
 none-map : {X : Type 0} (f : X → Event) (xs : List X) → ((x : X) → is_issue (f x) ≡ false) → NoIssue (map f xs)
@@ -111,7 +111,7 @@ none-flat : {X : Type 0} (f : X → List Event) (xs : List X) → ((x : X) → N
 none-flat f [] each = refl
 none-flat f (x ∷ xs) each = none-append (f x) (flat_map f xs) (each x) (none-flat f xs each)
 
-image-none : (vs : List Volume) → NoIssue (image_told vs)
+pub image-none : (vs : List Volume) → NoIssue (image_told vs)
 image-none vs =
     none-append (ImageStart ∷ map volume_told vs ++ flat_map blocks_told vs) (ImageEnd ∷ [])
     (none-append (ImageStart ∷ map volume_told vs) (flat_map blocks_told vs) (none-map volume_told vs (λ v. refl)) (none-flat blocks_told vs (λ v. none-map (λ (b : Kept). ImageBlock v.volume b.index b.bytes) v.blocks (λ b. refl)))) refl

@@ -14,7 +14,7 @@ use Rattle.dr_laws_sound.proofs.Cases.{Case, Issues, Writes, Lists, Sends, of-ca
 use Rattle.dr_laws_losses.proofs.Alike.{is_issue, NoIssue}
 use Rattle.dr_laws_losses.proofs.Steps.{issues}
 
-line-none : (e : Event) (es : List Event) → IsLine e → NoIssue es → NoIssue (e ∷ es)
+pub line-none : (e : Event) (es : List Event) → IsLine e → NoIssue es → NoIssue (e ∷ es)
 line-none (PairLine line v u state kind k) es l none = none
 line-none (FlashLine line s t sequence previous state flags own) es l none = none
 line-none (SessionLine line s a b c state) es l none = none
@@ -25,15 +25,15 @@ line-none (ImageBlock v index bytes) es l none = none
 line-none ImageEnd es l none = none
 line-none e es l none = absurd l
 
-begun-none : (b : Bool) (s n : ℕ) → NoIssue (told_begun b s n)
+pub begun-none : (b : Bool) (s n : ℕ) → NoIssue (told_begun b s n)
 begun-none true s n = refl
 begun-none false s n = refl
 
-abbrev asks_write : Result Step ℕ → Bool
+abbrev pub asks_write : Result Step ℕ → Bool
 asks_write (Ok step) = issues step
 asks_write asked = false
 
-case-none : (k : Control) (events : List Event) (line : ℕ) (asked : Result Step ℕ) (p : Plan) → Case k events line asked p → asks_write asked ≡ false → NoIssue p.told
+pub case-none : (k : Control) (events : List Event) (line : ℕ) (asked : Result Step ℕ) (p : Plan) → Case k events line asked p → asks_write asked ≡ false → NoIssue p.told
 case-none k events line _ _ (Issues v t offset len bytes free) none = absurd cc
 case-none k events line _ _ (Writes v t offset len bytes free) none = absurd cc
 case-none k events line _ _ (Lists told ls few) none = all-lines NoIssue refl line-none told ls

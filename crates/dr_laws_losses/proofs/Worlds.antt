@@ -26,7 +26,7 @@ no-issue : (e : Event) → Of by_moves e → is_issue e ≡ false
 no-issue (Issue n v t offset len bytes) by = absurd cc
 no-issue e by = refl
 
-unissued : ByEvents (Of by_moves) NoIssue
+pub unissued : ByEvents (Of by_moves) NoIssue
 unissued = any-lists (Of by_moves) is_issue no-issue
 
 -- ---- what is carried
