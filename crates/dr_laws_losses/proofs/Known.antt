@@ -59,7 +59,7 @@ in-any n (m ∷ ns) (inr later) = ap (λ b. nat_eq n m || b) (in-any n ns later)
 same-in : (n : ℕ) (xs ys : List ℕ) → list_any (nat_eq n) xs ≡ list_any (nat_eq n) ys → In n xs → In n ys
 same-in n xs ys same h = is-met n ys (sym same ∙ in-any n xs h)
 
-below-in : (k n : ℕ) (ws : List ℕ) → Below k ws → In n ws → n < k
+pub below-in : (k n : ℕ) (ws : List ℕ) → Below k ws → In n ws → n < k
 below-in k n [] b h = absurd h
 below-in k n (w ∷ ws) b (inl is) = subst (λ n. n < k) (sym is) b.0
 below-in k n (w ∷ ws) b (inr later) = below-in k n ws b.1 later

@@ -9,3 +9,4 @@ pub mod Ends
 pub mod Tidy
 pub mod Known
 pub mod Issued
+pub mod Broken

@@ -3,11 +3,13 @@ use Rattle.std.specs.Prelude.{◌≡◌, ◌↔◌, ◌⊎◌, ℕ, true, List, 
 use Rattle.dr_ids.specs.declared.names.Member.{Member}
 use Rattle.dr_ids.specs.declared.refusal.Decision.{Decision}
 use Rattle.dr_model.specs.declared.event.Event.{Event}
+use Rattle.dr_model.specs.declared.event.Event.TheVariants.{Ack}
 use Rattle.dr_model.specs.declared.said.Addition.TheVariants.{InGroup as AnsweredGroup}
 use Rattle.dr_model.specs.declared.said.Said.TheVariants.{Done}
 use Rattle.dr_model.specs.declared.step.Step.TheVariants.{Recover}
 use Rattle.dr_model.specs.Control.{World, nothing}
 use Rattle.dr_model.specs.Cuts.{CutAt}
+use Rattle.dr_model.specs.ClosedCuts.{LastCut}
 use Rattle.dr_model.specs.Groups.{In}
 use Rattle.dr_model.specs.Histories.{lists}
 use Rattle.dr_model.specs.Runs.{Task, run}
@@ -53,3 +55,14 @@ pub record IsUncut (ms : List Member) (begun events : List Event) (s n w : ℕ) 
   pub held : In w (lists begun member.a.0 track)
   pub cut : CutAt events s n member.a.0
   pub without : In w (lists cut.before member.a.0 track) → ⊥
+
+-- Write w was acknowledged before the last cut of the group, and yet a primary's track didn't hold it there: the track held it as the recovery
+-- began. So it was taken away before that cut, or had come to another volume, and was given to that primary after it.
+pub record WasGivenBack (ms : List Member) (begun events : List Event) (s n w : ℕ) : Type 0 where
+  pub member : Member
+  pub here : In member ms
+  pub track : ℕ
+  pub held : In w (lists begun member.a.0 track)
+  pub last : LastCut events s n
+  pub acknowledged : In (Ack w) last.place.before
+  pub lacked : In w (lists last.place.before member.a.0 track) → ⊥
