@@ -33,7 +33,7 @@ use Rattle.dr_laws_recovery.proofs.CountedAlong.{counts-run}
 use Rattle.dr_laws_recovery.proofs.ClosesAlong.{closed-run}
 use Rattle.dr_lost.specs.declared.lost.Pair.{Pair}
 use Rattle.dr_lost.specs.Lost.{IsLost, IsHeld}
-use Rattle.dr_laws_losses.specs.Losses.{members_of, target_pair, recovered_world, RecoversAll, IsUncut, WasGivenBack}
+use Rattle.dr_laws_losses.specs.Losses.{members_of, target_pair, recovered_world, RecoversAt, IsUncut, WasGivenBack}
 use Rattle.dr_laws_losses.proofs.Alike.{is_issue, NoIssue}
 use Rattle.dr_laws_losses.proofs.Issued.{TellsFirst, tells-first}
 use Rattle.dr_laws_losses.proofs.Known.{Longer, run-longer, below-in, in-its-group, its-cut, to-cut, told-of, to-uncut}
@@ -162,7 +162,7 @@ earlier-in es before after early late e f is other lt = elim (place-in before (e
 
 -- ---- the recovery
 
-module _ (before first : List Task) (t : Task) (rest : List Task) (s n : ℕ) (pairs : List Pair) (r : RecoversAll before first t rest s n pairs) where
+module _ (before first : List Task) (t : Task) (rest : List Task) (s n : ℕ) (pairs : List Pair) (r : RecoversAt before first t rest s n pairs) where
   abbrev tasks : List Task
   tasks = before ++ first ++ t ∷ []
 

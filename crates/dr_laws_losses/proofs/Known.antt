@@ -41,7 +41,7 @@ use Rattle.dr_laws_recovery.proofs.ClosesAlong.{closed-run}
 use Rattle.dr_lost.specs.declared.lost.Pair.{Pair}
 use Rattle.dr_lost.specs.Lost.{IsLost, IsHeld}
 use Rattle.dr_laws_losses.specs.Pairs.{PairsHoldSame}
-use Rattle.dr_laws_losses.specs.Losses.{members_of, target_pair, AreTargets, recovered_world, RecoversAll, IsUncut}
+use Rattle.dr_laws_losses.specs.Losses.{members_of, target_pair, AreTargets, recovered_world, RecoversAt, IsUncut}
 use Rattle.dr_laws_losses.proofs.Alike.{issues_it}
 use Rattle.dr_laws_losses.proofs.Told.{told-none}
 use Rattle.dr_laws_losses.proofs.Targets.{AlikeRun, run-alike, holds-as-cut}
@@ -97,7 +97,7 @@ run-longer xs ys = subst (λ (w : World). Longer (run xs).events w.events) (sym 
 
 -- ---- the recovery
 
-module _ (before first : List Task) (t : Task) (rest : List Task) (s n : ℕ) (pairs : List Pair) (r : RecoversAll before first t rest s n pairs) where
+module _ (before first : List Task) (t : Task) (rest : List Task) (s n : ℕ) (pairs : List Pair) (r : RecoversAt before first t rest s n pairs) where
   abbrev tasks : List Task
   tasks = before ++ first ++ t ∷ []
 

@@ -10,3 +10,4 @@ pub mod Tidy
 pub mod Known
 pub mod Issued
 pub mod Broken
+pub mod Laws

@@ -1,5 +1,5 @@
 -- What a recovery of a session loses, where all members count.
-use Rattle.std.specs.Prelude.{◌≡◌, ◌↔◌, ◌⊎◌, ℕ, true, List, [], ◌∷◌, ◌++◌, map, Ok}
+use Rattle.std.specs.Prelude.{◌≡◌, ◌<◌, ◌↔◌, ℕ, true, List, [], ◌∷◌, ◌++◌, map, Ok}
 use Rattle.dr_ids.specs.declared.names.Member.{Member}
 use Rattle.dr_ids.specs.declared.refusal.Decision.{Decision}
 use Rattle.dr_model.specs.declared.event.Event.{Event}
@@ -12,11 +12,16 @@ use Rattle.dr_model.specs.Cuts.{CutAt}
 use Rattle.dr_model.specs.ClosedCuts.{LastCut}
 use Rattle.dr_model.specs.Groups.{In}
 use Rattle.dr_model.specs.Histories.{lists}
+use Rattle.dr_model.specs.Dependence.{DependsOn}
+use Rattle.dr_model.specs.HeldWrites.{WasAcknowledged}
+use Rattle.dr_model.specs.TakenWrites.{WasTaken}
 use Rattle.dr_model.specs.Runs.{Task, run}
 use Rattle.dr_model.specs.SessionEntries.{counts_at}
 use Rattle.dr_model.specs.Sessions.{session_in, members_in}
 use Rattle.dr_laws_sound.specs.Acknowledged.{said_in}
+use Rattle.dr_ids.specs.Sizes.{most_tracks}
 use Rattle.dr_lost.specs.declared.lost.Pair.{Pair}
+use Rattle.dr_lost.specs.Lost.{IsLost, IsHeld}
 use Rattle.dr_laws_losses.specs.Pairs.{PairsHoldSame}
 
 -- the members of session s
@@ -37,7 +42,8 @@ recovered_world before first t = run (before ++ first ++ t ∷ [])
 
 -- Of a run, `before` is what comes before its recovery, and that has a recovery of session s, `t`, after its first steps. It was answered with
 -- group n. All members of the session count then, and the pairs are their targets. What comes after it changes no list of these targets.
-pub record RecoversAll (before first : List Task) (t : Task) (rest : List Task) (s n : ℕ) (pairs : List Pair) : Type 0 where
+-- Each pair that was made without a copy was made of volumes that held the same writes.
+pub record RecoversAt (before first : List Task) (t : Task) (rest : List Task) (s n : ℕ) (pairs : List Pair) : Type 0 where
   pub asked : t.asked ≡ Ok (Recover s)
   pub decision : Decision
   pub answered : said_in (run (before ++ first)) t ≡ Done (AnsweredGroup n decision)
@@ -46,6 +52,14 @@ pub record RecoversAll (before first : List Task) (t : Task) (rest : List Task) 
   pub stays : (m : Member) → In m (members_of (recovered_world before first t) s) → (q : ℕ)
       → lists (run (before ++ first ++ t ∷ rest)).events m.c.0 q ≡ lists (recovered_world before first t).events m.c.0 q
   pub alike : PairsHoldSame nothing (before ++ first ++ t ∷ [])
+
+-- so one of the steps of the recovery is such
+pub record RecoversAll (before recovery : List Task) (s n : ℕ) (pairs : List Pair) : Type 0 where
+  pub first : List Task
+  pub step : Task
+  pub rest : List Task
+  pub cut : recovery ≡ first ++ step ∷ rest
+  pub so : RecoversAt before first step rest s n pairs
 
 -- The primary of a member held write w as the recovery began, and the cut that it has for group n hasn't it.
 pub record IsUncut (ms : List Member) (begun events : List Event) (s n w : ℕ) : Type 0 where
@@ -66,3 +80,23 @@ pub record WasGivenBack (ms : List Member) (begun events : List Event) (s n w : 
   pub last : LastCut events s n
   pub acknowledged : In (Ack w) last.place.before
   pub lacked : In w (lists last.place.before member.a.0 track) → ⊥
+
+-- some volumes of pairs
+abbrev pub firsts : List Pair → List ℕ
+firsts pairs = map (λ (p : Pair). p.first) pairs
+
+-- and the others
+abbrev pub seconds : List Pair → List ℕ
+seconds pairs = map (λ (p : Pair). p.second) pairs
+
+-- What such a recovery loses. The lost writes are those that a primary held as the recovery began and whose cut hasn't them; writes are numbered
+-- from 1. If a write that is kept depends on a lost one, that was given back; and if it was acknowledged for that track of that primary, a step that may take
+-- writes away took it away before the last cut of the group.
+pub record LossIsKnown (before recovery : List Task) (s n : ℕ) (pairs : List Pair) (r : RecoversAll before recovery s n pairs) : Type 0 where
+  pub lost : (w : ℕ) → 0 < w → IsLost most_tracks (lists (run before).events) (lists (run (before ++ recovery)).events) pairs w
+      ↔ IsUncut (members_of (recovered_world before r.first r.step) s) (run before).events (recovered_world before r.first r.step).events s n w
+  pub kept : (w u : ℕ) → 0 < u → IsHeld most_tracks (lists (run (before ++ recovery)).events) (firsts pairs) w → IsHeld most_tracks (lists (run before).events) (seconds pairs) w
+      → IsLost most_tracks (lists (run before).events) (lists (run (before ++ recovery)).events) pairs u → DependsOn (run (before ++ recovery)).events w u
+      → WasGivenBack (members_of (recovered_world before r.first r.step) s) (run before).events (recovered_world before r.first r.step).events s n u
+  pub taken : (u : ℕ) (g : WasGivenBack (members_of (recovered_world before r.first r.step) s) (run before).events (recovered_world before r.first r.step).events s n u)
+      → WasAcknowledged g.last.place.before u g.member.a.0 g.track → WasTaken (before ++ r.first ++ r.step ∷ []) g.last.place.before u g.member.a.0 g.track
