@@ -11,3 +11,4 @@ pub mod Known
 pub mod Issued
 pub mod Broken
 pub mod Laws
+pub mod Example
