@@ -1,29 +1,115 @@
--- The example, carried out.
-use Rattle.std.proofs.Common.{ℕ, ◌≡◌, refl, List, [], ◌∷◌, ◌++◌, length, map}
+-- The example, carried out. Of sets nothing computes: so the seal is carried out entry by entry, and all else at once.
+use Rattle.std.proofs.Common.{ℕ, ◌≡◌, refl, ap, sym, ◌∙◌, true, false, cond, not, ◌&&◌, ◌||◌, nat_eq, List, [], ◌∷◌, ◌++◌, length, map, Option, Some, None}
+use Rattle.std.specs.FinSet.{len, len-empty}
 use Rattle.dr_logic.specs.Bytes.{zeros}
+use Rattle.dr_ids.specs.declared.names.Member.{Member}
 use Rattle.dr_ids.specs.declared.refusal.Decision.TheVariants.{Nothing}
-use Rattle.dr_model.specs.declared.said.Addition.TheVariants.{InGroup, InPhase}
 use Rattle.dr_ids.specs.declared.refusal.PhaseName.TheVariants as phase
+use Rattle.dr_model.specs.declared.said.Addition.TheVariants.{InGroup, InPhase}
 use Rattle.dr_model.specs.declared.said.Said.TheVariants.{Done}
 use Rattle.dr_model.specs.declared.step.Step.TheVariants.{Recover}
-use Rattle.dr_model.specs.Control.{World}
-use Rattle.dr_model.specs.Sessions.{Session, changed}
+use Rattle.dr_model.specs.Control.{Control, World}
+use Rattle.dr_model.specs.Entries.{fields_at}
+use Rattle.dr_model.specs.Phases as phases
+use Rattle.dr_model.specs.Sessions.{Session, changed, with_master}
+use Rattle.dr_model.specs.SessionEntries.{seal_entries, seal_on, void_refusal, seal_refusal}
+use Rattle.dr_model.specs.SessionPlans.{exchanged, says_phase}
+use Rattle.dr_model.specs.PairEntries.{send_refusal, refuse_if, end_if}
+use Rattle.dr_model.specs.PlanParts.{Plan, same, none_follow}
 use Rattle.dr_model.specs.Decisions.{decision, decided}
 use Rattle.dr_model.specs.Phases.{servers_where}
 use Rattle.dr_model.specs.Relations.{all_tracks, is_whole, rest, in_order}
 use Rattle.dr_model.specs.Forming.{drains, turns}
-use Rattle.dr_model.specs.Carry.{carry, act, turn, update_keeping, redo}
-use Rattle.dr_model.specs.Carried.{after_plan}
+use Rattle.dr_model.specs.Moves.{Seal}
+use Rattle.dr_model.specs.Carry.{Make, Pass, Do, Next, Outcome, carry, go, act, turn, update_keeping, redo}
+use Rattle.dr_model.specs.Carried.{begun, finish, answered, said, after_plan, masters_lost}
 use Rattle.dr_model.specs.Histories.{histories}
 use Rattle.dr_model.specs.Contents.{image, laid}
-use Rattle.dr_model.specs.Runs.{Task, after_tasks, run}
+use Rattle.dr_model.specs.Runs.{Task, course, after_task, after_tasks, run}
+use Rattle.dr_model.specs.Messages.{heard}
+use Rattle.std.specs.Ordering.{nat_cmp}
+use Rattle.dr_model.proofs.CarryLemmas.{carry-first}
 use Rattle.dr_laws_sound.specs.Acknowledged.{said_in}
 use Rattle.dr_laws_losses.specs.Example.{volumes, pairs_made, unsealed, exchange, work, before, task}
 
-begins : said_in (run (volumes ++ pairs_made)) (exchange 12) ≡ Done (InPhase phase.Releasing 1)
-unfolding after_tasks after_plan carry act turn update_keeping redo histories image laid changed zeros decision decided servers_where all_tracks is_whole rest in_order drains turns
-begins = refl
+abbrev m : Member
+m = record { a = record { 0 = 256 }; b = record { 0 = 512 }; c = record { 0 = 768 }; server = record { 0 = 0 } }
 
-lets : said_in (run (volumes ++ pairs_made ++ exchange 12 ∷ [])) (exchange 13) ≡ Done (InPhase phase.Draining 1)
-unfolding after_tasks after_plan carry act turn update_keeping redo histories image laid changed zeros decision decided servers_where all_tracks is_whole rest in_order drains turns
-lets = refl
+-- as the seal begins
+w : World
+w = run (volumes ++ pairs_made ++ unsealed)
+
+abbrev seals : Plan
+seals = record { first = same; told = []; entries = seal_entries 1 256 512 1; follows = none_follow; last = exchanged 1 0 true phases.Seal (m ∷ []); says = says_phase 1 }
+
+plan-is : (course w (exchange 14)).last.plan ≡ seals
+unfolding w after_tasks after_plan carry act turn update_keeping redo histories image laid changed zeros decision decided servers_where all_tracks is_whole rest in_order drains turns
+plan-is = refl
+
+task-is : after_task w (exchange 14) ≡ masters_lost w (after_plan w 14 seals)
+task-is = ap (λ (p : Plan). masters_lost w (after_plan w 14 p)) plan-is
+
+-- ---- its entries
+
+abbrev b : World
+b = begun w seals
+
+first-is : refuse_if (void_refusal 256 1) b.control ≡ Pass
+unfolding w after_tasks after_plan carry act turn update_keeping redo histories image laid changed zeros decision decided servers_where all_tracks is_whole rest in_order drains turns
+first-is = refl
+
+bare : len (fields_at b.control 256).out_of_sync ≡ 0
+unfolding w after_tasks after_plan carry act turn update_keeping redo histories image laid changed zeros decision decided servers_where all_tracks is_whole rest in_order drains turns
+bare = len-empty nat_cmp
+
+reached : send_refusal 256 512 b.control ≡ None
+unfolding w after_tasks after_plan carry act turn update_keeping redo histories image laid changed zeros decision decided servers_where all_tracks is_whole rest in_order drains turns
+reached = refl
+
+unsealed-yet : nat_eq (fields_at b.control 512).seal 1 ≡ false
+unfolding w after_tasks after_plan carry act turn update_keeping redo histories image laid changed zeros decision decided servers_where all_tracks is_whole rest in_order drains turns
+unsealed-yet = refl
+
+second-is : refuse_if (seal_refusal 256 512) b.control ≡ Pass
+second-is = ap (λ n. end_if (cond (nat_eq n 0) (send_refusal 256 512 b.control) None)) bare ∙ ap end_if reached
+
+third-is : seal_on 1 256 512 1 b.control ≡ Do (Make (Seal 512 256 1 1))
+third-is = ap (λ n. cond (nat_eq n 0 && not (nat_eq (fields_at b.control 512).seal 1)) (Do (Make (Seal 512 256 1 1))) Pass) bare ∙ ap (λ c. cond (true && not c) (Do (Make (Seal 512 256 1 1))) Pass) unsealed-yet
+
+abbrev o : Outcome
+o = go b (Do (Make (Seal 512 256 1 1))) (λ v. carry v [])
+
+entries-are : carry b seals.entries ≡ o
+entries-are =
+    carry-first b (refuse_if (void_refusal 256 1)) (refuse_if (seal_refusal 256 512) ∷ seal_on 1 256 512 1 ∷ []) Pass first-is
+    ∙ (carry-first b (refuse_if (seal_refusal 256 512)) (seal_on 1 256 512 1 ∷ []) Pass second-is
+    ∙ carry-first b (seal_on 1 256 512 1) [] (Do (Make (Seal 512 256 1 1))) third-is)
+
+-- ---- as it ends
+
+ends-well : o.1 ≡ None
+unfolding w after_tasks after_plan carry act turn update_keeping redo histories image laid changed zeros decision decided servers_where all_tracks is_whole rest in_order drains turns
+ends-well = refl
+
+bare-then : len (fields_at o.0.control 256).out_of_sync ≡ 0
+unfolding w after_tasks after_plan carry act turn update_keeping redo histories image laid changed zeros decision decided servers_where all_tracks is_whole rest in_order drains turns
+bare-then = len-empty nat_cmp
+
+abbrev control_then : Control
+control_then = record o.0.control { sessions = changed 1 (with_master (λ r. phases.taken r 0 phases.Done)) o.0.control.sessions; flight = heard 1 0 (o.0.control.flight.epoch 1) phases.Seal o.0.control.flight }
+
+control-is : seals.last o.0.control ≡ control_then
+control-is = ap (λ n. record o.0.control { sessions = changed 1 (with_master (λ r. phases.taken r 0 (cond (not (nat_eq n 0) || false) phases.NotYet phases.Done))) o.0.control.sessions; flight = heard 1 0 (o.0.control.flight.epoch 1) phases.Seal o.0.control.flight }) bare-then
+
+abbrev sealed : World
+sealed = masters_lost w (said (record o.0 { control = control_then }) 14 (says_phase 1 control_then))
+
+answered-is : (e : Outcome) → carry b seals.entries ≡ e → e.1 ≡ None → after_plan w 14 seals ≡ said (record e.0 { control = seals.last e.0.control }) 14 (says_phase 1 (seals.last e.0.control))
+unfolding after_plan
+answered-is (v, None) is none = ap (λ (e : Outcome). said (finish seals e.0 e.1) 14 (answered seals (finish seals e.0 e.1).control e.1)) is
+answered-is (v, Some r) is none = absurd cc
+
+seal-is : after_task w (exchange 14) ≡ sealed
+seal-is =
+    task-is ∙ ap (masters_lost w) (answered-is o entries-are ends-well)
+    ∙ ap (λ (k : Control). masters_lost w (said (record o.0 { control = k }) 14 (says_phase 1 k))) control-is
