@@ -30,7 +30,12 @@ use Rattle.dr_model.specs.Messages.{heard}
 use Rattle.std.specs.Ordering.{nat_cmp}
 use Rattle.dr_model.proofs.CarryLemmas.{carry-first}
 use Rattle.dr_laws_sound.specs.Acknowledged.{said_in}
-use Rattle.dr_laws_losses.specs.Example.{volumes, pairs_made, unsealed, exchange, work, before, task}
+use Rattle.dr_model.specs.SessionEntries.{counts_at}
+use Rattle.dr_model.specs.Control.{nothing}
+use Rattle.dr_laws_losses.specs.Pairs.{PairsHoldSame}
+use Rattle.dr_laws_losses.specs.Losses.{members_of}
+use Rattle.dr_laws_losses.specs.Example.{volumes, pairs_made, unsealed, exchange, work, before, recover, task}
+use Rattle.dr_laws_losses.proofs.Known.{tasks-joined}
 
 abbrev m : Member
 m = record { a = record { 0 = 256 }; b = record { 0 = 512 }; c = record { 0 = 768 }; server = record { 0 = 0 } }
@@ -113,3 +118,32 @@ seal-is : after_task w (exchange 14) ≡ sealed
 seal-is =
     task-is ∙ ap (masters_lost w) (answered-is o entries-are ends-well)
     ∙ ap (λ (k : Control). masters_lost w (said (record o.0 { control = k }) 14 (says_phase 1 k))) control-is
+
+-- ---- all of it
+
+before-is : run before ≡ after_tasks sealed work
+unfolding after_tasks w
+before-is = tasks-joined (volumes ++ pairs_made ++ unsealed) (exchange 14 ∷ work) ∙ ap (λ v. after_tasks v work) seal-is
+
+-- the world as the recovery begins, and as it is answered
+abbrev last_world : World
+last_world = after_tasks sealed work
+
+abbrev found : World
+found = after_task last_world recover
+
+answers-there : said_in last_world recover ≡ Done (InGroup 1 (Nothing 1))
+unfolding w after_tasks after_plan carry act turn update_keeping redo histories image laid changed zeros decision decided servers_where all_tracks is_whole rest in_order drains turns
+answers-there = refl
+
+members-there : members_of found 1 ≡ m ∷ []
+unfolding w after_tasks after_plan carry act turn update_keeping redo histories image laid changed zeros decision decided servers_where all_tracks is_whole rest in_order drains turns
+members-there = refl
+
+counts-there : counts_at 1 found.control m ≡ true
+unfolding w after_tasks after_plan carry act turn update_keeping redo histories image laid changed zeros decision decided servers_where all_tracks is_whole rest in_order drains turns
+counts-there = refl
+
+alike-first : PairsHoldSame nothing volumes
+unfolding after_plan carry
+alike-first = (tt, (tt, (tt, (tt, (tt, tt)))))

@@ -88,7 +88,7 @@ tasks-longer (t ∷ tasks) w =
     let rest : Longer (after_task w t).events (after_tasks (after_task w t) tasks).events = tasks-longer tasks (after_task w t) in
     record { more = one.more ++ rest.more; is = rest.is ∙ ap (λ es. es ++ rest.more) one.is ∙ append_assoc w.events one.more rest.more }
 
-tasks-joined : (xs ys : List Task) → run (xs ++ ys) ≡ after_tasks (run xs) ys
+pub tasks-joined : (xs ys : List Task) → run (xs ++ ys) ≡ after_tasks (run xs) ys
 unfolding after_tasks
 tasks-joined xs ys = fold-append after_task nothing xs ys
 
