@@ -1,5 +1,5 @@
 -- The example, carried out. Of sets nothing computes: so the seal is carried out entry by entry, and all else at once.
-use Rattle.std.proofs.Common.{ℕ, ◌≡◌, refl, ap, sym, ◌∙◌, true, false, cond, not, ◌&&◌, ◌||◌, nat_eq, List, [], ◌∷◌, ◌++◌, length, map, Option, Some, None}
+use Rattle.std.proofs.Common.{ℕ, ◌≡◌, ◌⊎◌, inl, inr, subst, refl, ap, sym, ◌∙◌, true, false, cond, not, ◌&&◌, ◌||◌, nat_eq, List, [], ◌∷◌, ◌++◌, length, map, Option, Some, None}
 use Rattle.std.specs.FinSet.{len, len-empty}
 use Rattle.dr_logic.specs.Bytes.{zeros}
 use Rattle.dr_ids.specs.declared.names.Member.{Member}
@@ -29,12 +29,14 @@ use Rattle.dr_model.specs.Runs.{Task, course, after_task, after_tasks, run}
 use Rattle.dr_model.specs.Messages.{heard}
 use Rattle.std.specs.Ordering.{nat_cmp}
 use Rattle.dr_model.proofs.CarryLemmas.{carry-first}
+use Rattle.dr_model.specs.Groups.{In}
 use Rattle.dr_laws_sound.specs.Acknowledged.{said_in}
+use Rattle.dr_laws_sound.proofs.Journal.{run-more}
 use Rattle.dr_model.specs.SessionEntries.{counts_at}
 use Rattle.dr_model.specs.Control.{nothing}
 use Rattle.dr_laws_losses.specs.Pairs.{PairsHoldSame}
-use Rattle.dr_laws_losses.specs.Losses.{members_of}
-use Rattle.dr_laws_losses.specs.Example.{volumes, pairs_made, unsealed, exchange, work, before, recover, task}
+use Rattle.dr_laws_losses.specs.Losses.{members_of, AreTargets, RecoversAll}
+use Rattle.dr_laws_losses.specs.Example.{volumes, pairs_made, unsealed, exchange, work, before, recover, pairs, task}
 use Rattle.dr_laws_losses.proofs.Known.{tasks-joined}
 
 abbrev m : Member
@@ -144,6 +146,34 @@ counts-there : counts_at 1 found.control m ≡ true
 unfolding w after_tasks after_plan carry act turn update_keeping redo histories image laid changed zeros decision decided servers_where all_tracks is_whole rest in_order drains turns
 counts-there = refl
 
-alike-first : PairsHoldSame nothing volumes
-unfolding after_plan carry
-alike-first = (tt, (tt, (tt, (tt, (tt, tt)))))
+-- no write was issued when the pair was made
+alike : PairsHoldSame nothing (before ++ recover ∷ [])
+unfolding after_plan carry act turn update_keeping histories
+alike = (tt, (tt, (tt, (tt, (tt, (tt, (λ full none t lt. refl, (tt, (tt, (tt, (tt, (tt, (tt, (tt, (tt, (tt, (tt, (tt, (tt, (tt, tt))))))))))))))))))))
+
+-- ---- the premises
+
+one-member : (q : Member) → In q (m ∷ []) → q ≡ m
+one-member q (inl is) = is
+one-member q (inr none) = absurd none
+
+found-is : run (before ++ recover ∷ []) ≡ found
+found-is = run-more before recover ∙ ap (λ v. after_task v recover) before-is
+
+pub meets : RecoversAll before (recover ∷ []) 1 1 pairs
+meets = record {
+  first = [];
+  step = recover;
+  rest = [];
+  cut = refl;
+  so = record {
+    asked = refl;
+    decision = Nothing 1;
+    answered = ap (λ v. said_in v recover) before-is ∙ answers-there;
+    counted = λ q here. subst (λ (v : World). (q : Member) → In q (members_of v 1) → counts_at 1 v.control q ≡ true) (sym found-is)
+        (λ q here. ap (counts_at 1 found.control) (one-member q (subst (In q) members-there here)) ∙ counts-there) q here;
+    targets = subst (λ (v : World). AreTargets (members_of v 1) pairs) (sym found-is) (subst (λ ms. AreTargets ms pairs) (sym members-there) (λ p. (λ h. h, λ h. h)));
+    stays = λ q here t. refl;
+    alike = alike;
+  };
+}
