@@ -12,3 +12,4 @@ pub mod Issued
 pub mod Broken
 pub mod Laws
 pub mod Example
+pub mod Positive
