@@ -1,5 +1,5 @@
 -- Host writes are numbered from 1: no other number is acknowledged, mirrored or pending, and so no list has one.
-use Rattle.std.proofs.Common.{ℕ, ◌≡◌, ◌<◌, ◌+◌, ◌⊎◌, inl, inr, refl, ap, sym, ◌∙◌, subst, arith, Bool, true, false, cond, ◌||◌, nat_eq, List, [], ◌∷◌, ◌++◌, filter, Option, Some, None, Result, Ok, Err}
+use Rattle.std.proofs.Common.{ℕ, ◌≡◌, ◌≢◌, ◌<◌, ◌+◌, ◌⊎◌, inl, inr, refl, ap, sym, ◌∙◌, subst, arith, Bool, true, false, cond, ◌||◌, nat_eq, List, [], ◌∷◌, ◌++◌, filter, Option, Some, None, Result, Ok, Err}
 use Rattle.std.specs.Prelude.{option_map}
 use Rattle.std.specs.List.{find, list_any}
 use Rattle.std.proofs.lemmas.Bool.{ne_eqb}
@@ -14,15 +14,19 @@ use Rattle.dr_model.specs.Answers.{answer}
 use Rattle.dr_model.specs.Groups.{In}
 use Rattle.dr_model.specs.HeldWrites.{IsMirrored}
 use Rattle.dr_model.specs.Histories.{lists}
+use Rattle.std.proofs.lemmas.Bool.Decides.{eqb_tells}
+use Rattle.dr_model.specs.PlantImage.{Volume as ListedVolume}
+use Rattle.dr_model.specs.Listings.{lists as lists_plan}
+use Rattle.dr_model.specs.SessionEntries.{members_on}
 use Rattle.dr_model.specs.Limits.{image_events}
 use Rattle.dr_model.specs.Control.{Control, Fuse, Pending, Volume, World, nothing}
 use Rattle.dr_model.specs.Laws.{AllPending}
-use Rattle.dr_model.specs.MessagePlans.{told_begun}
+use Rattle.dr_model.specs.MessagePlans.{told_begun, sending}
 use Rattle.dr_model.specs.Moves.{Move, Land, Overwrite, Mirror, LandBoth, Hold, target, told, told_in_stop, landed, settled, settled_in_stop, is_other, is_write, marked}
-use Rattle.dr_model.specs.Carry.{Act, Make, OpenAttempt, Redo, Acknowledge, Drop, EndFreeze, EndThaw, EndRecovery, act}
+use Rattle.dr_model.specs.Carry.{Act, Make, OpenAttempt, Redo, Acknowledge, Drop, EndFreeze, EndThaw, EndRecovery, act, carry}
 use Rattle.dr_model.specs.PlanParts.{Plan, refuses}
 use Rattle.dr_model.specs.Plans.{has_landed, landed_on, has_room_for}
-use Rattle.dr_model.specs.SessionPlans.{is_idle}
+use Rattle.dr_model.specs.SessionPlans.{is_idle, exchanged}
 use Rattle.dr_model.specs.Carried.{begun, carried_out, answered, said, after_plan, masters_lost}
 use Rattle.dr_model.specs.Forming.{Part, after_part}
 use Rattle.dr_model.specs.Runs.{Task, course, answered_part, image_told, image_plan, imaged, after_task, after_tasks, run}
@@ -35,7 +39,7 @@ use Rattle.dr_laws_targets.proofs.Held.{held-stored}
 use Rattle.dr_laws_sound.proofs.Turns.{after_act, act-cases, Counts, server_of}
 use Rattle.dr_laws_sound.proofs.Starts.{find-all}
 use Rattle.dr_laws_sound.proofs.Listed.{IsLine, AllLines, all-lines, image-lines}
-use Rattle.dr_laws_sound.proofs.Cases.{Case, Says, Issues, Writes, Lists, Sends, refused-not}
+use Rattle.dr_laws_sound.proofs.Cases.{Case, Says, Issues, Writes, Lists, Sends, Exchanges, refused-not}
 use Rattle.dr_laws_sound.proofs.Does.{IsWrite, Issued, Found, Does, Acts, Late, Lands, Overwrites, LandsBoth, Mirrors as DoesMirror, Acknowledges}
 use Rattle.dr_laws_sound.proofs.DoesPlans.{Entered, case-does}
 use Rattle.dr_laws_sound.proofs.Parts.{Comes, last-plan, plain-case}
@@ -182,3 +186,100 @@ line-zero e es l none = absurd l
 begun-zero : (b : Bool) (s n : ℕ) → NoZero (told_begun b s n)
 begun-zero true s n = refl
 begun-zero false s n = refl
+
+-- a plan, as it begins
+begins-told : (k : Control) (events : List Event) (line : ℕ) (asked : Result Step ℕ) (p : Plan) → Case k events line asked p → NoZero p.told
+begins-told k events line _ _ (Lists told ls few) = all-lines NoZero refl line-zero told ls
+begins-told k events line _ _ (Sends s server x r o posts) = begun-zero (is_idle r.master.phase) s o.number
+begins-told k events line _ _ c = refl
+
+begins-pending : (k : Control) (events : List Event) (line : ℕ) (asked : Result Step ℕ) (p : Plan) → Case k events line asked p → AllPositive k.pending → AllPositive (p.first k).pending
+begins-pending k events line _ _ (Issues v t offset len bytes free) all = all-more (λ p. 0 < p.w) k.pending (record { w = k.issued + 1; volume = v; track = t; landed = false }) all (omega arith)
+begins-pending k events line _ _ (Writes v t offset len bytes free) all = all-more (λ p. 0 < p.w) k.pending (record { w = k.issued + 1; volume = v; track = t; landed = false }) all (omega arith)
+begins-pending k events line _ _ (Sends s server x r o posts) all = by (is_idle r.master.phase)
+  where
+    by : (b : Bool) → AllPositive (sending s b server o k).pending
+    by true = all
+    by false = all
+begins-pending k events line _ _ c all = all
+
+last-pending : (k : Control) (events : List Event) (line : ℕ) (asked : Result Step ℕ) (p : Plan) → Case k events line asked p → (j : Control) → AllPositive j.pending → AllPositive (p.last j).pending
+last-pending k events line _ _ (Exchanges s server reply x r o ordered) j all = by reply
+  where
+    by : (b : Bool) → AllPositive (exchanged s server b o.work (members_on server x.members) j).pending
+    by true = all
+    by false = all
+last-pending k events line _ _ c j all = all
+
+case-positive : (w : World) (line : ℕ) (asked : Result Step ℕ) (p : Plan) → Case w.control w.events line asked p → Positive w → Positive (carried_out w p).0
+case-positive w line asked p c k =
+    let e : Entered w asked p = case-does w line asked p c in
+    plan-from any_world (Acts w.control asked) NoStop (Late asked) Positive (λ u j. tt) (λ u a d j. act-positive u a (does-none w.control asked u a k.pending j d) j) w p
+    (record { heard = zero-append w.events p.told k.heard (begins-told w.control w.events line asked p c); pending = begins-pending w.control w.events line asked p c k.pending })
+    e.entries e.follows (λ v j. record { heard = j.heard; pending = last-pending w.control w.events line asked p c v.control j.pending })
+
+lost-positive : (w u : World) → Positive u → Positive (masters_lost w u)
+lost-positive w u k = record { heard = k.heard; pending = k.pending }
+
+part-positive : (w : World) (p : Plan) → Comes w p → Positive w → Positive (after_part w p)
+part-positive w p comes k = lost-positive w (carried_out w p).0 (case-positive w 0 comes.asked p (comes.case 0) k)
+
+answered-positive : (line : ℕ) (x : Part) → Positive (carried_out x.world x.plan).0 → Positive (answered_part line x)
+unfolding after_plan
+answered-positive line x k =
+    let u : World = (carried_out x.world x.plan).0 in
+    record { heard = zero-append u.events (answer line (answered x.plan u.control (carried_out x.world x.plan).1) ∷ []) k.heard refl; pending = k.pending }
+
+lines-positive : (w : World) (told : List Event) → AllLines told → Positive w → Positive (carried_out w (lists_plan told)).0
+unfolding carry
+lines-positive w told ls k = record { heard = zero-append w.events told k.heard (all-lines NoZero refl line-zero told ls); pending = k.pending }
+
+imaged-positive : (w : World) (vs : List ListedVolume) → Positive w → Positive (carried_out w (imaged w vs)).0
+imaged-positive w vs k = by (has_room_for image_events w.events)
+  where
+    by : (room : Bool) → Positive (carried_out w (cond room (image_plan vs) (refuses JournalFull))).0
+    by true = lines-positive w (image_told vs) (image-lines vs) k
+    by false = case-positive w 0 (Err 0) _ (Says _ (refused-not JournalFull) (λ one. refl)) k
+
+task-positive : (w : World) (t : Task) → Positive w → Positive (after_task w t)
+task-positive w t k = answered-positive t.line (course w t).last (by t.asked)
+  where
+    by : (asked : Result Step ℕ) → let x : Part = (course w (record { line = t.line; asked = asked; listed = t.listed })).last in Positive (carried_out x.world x.plan).0
+    by (Ok (Run i n)) =
+        let run : Task = record { line = t.line; asked = Ok (Run i n); listed = t.listed } in
+        case-positive (course w run).last.world t.line run.asked _ (plain-case w run (λ e. cc)) (last-plan Positive part-positive w run k)
+    by (Ok Image) = imaged-positive w t.listed k
+    by (Ok step) = case-positive w t.line (Ok step) _ (plain-case w (record { line = t.line; asked = Ok step; listed = t.listed }) (λ e. cc)) k
+    by (Err column) = case-positive w t.line (Err column) _ (plain-case w (record { line = t.line; asked = Err column; listed = t.listed }) (λ e. cc)) k
+
+tasks-positive : (tasks : List Task) (w : World) → Positive w → Positive (after_tasks w tasks)
+unfolding after_tasks
+tasks-positive [] w k = k
+tasks-positive (t ∷ tasks) w k = tasks-positive tasks (after_task w t) (task-positive w t k)
+
+positive-run : (tasks : List Task) → Positive (run tasks)
+positive-run tasks = tasks-positive tasks nothing (record { heard = refl; pending = tt })
+
+-- ---- so no list has write 0
+
+zero-heard : (es : List Event) (e : Event) → In e es → hears_zero e ≡ true → list_any hears_zero es ≡ true
+zero-heard [] e h is = absurd h
+zero-heard (x ∷ es) e (inl same) is = ap (λ b. b || list_any hears_zero es) (sym (ap hears_zero same) ∙ is)
+zero-heard (x ∷ es) e (inr later) is = ap (λ b. hears_zero x || b) (zero-heard es e later is) ∙ or-true (hears_zero x)
+
+above-zero : (n : ℕ) → (nat_eq n 0 ≡ true → ⊥) → 0 < n
+above-zero n not = elim (eqb_tells n 0) [
+  | inl is ↦ absurd (not is.0)
+  | inr ne ↦ let apart : n ≢ 0 = ne.1 in omega arith
+]
+
+-- each write of a list has a number from 1 on
+pub held-positive : (tasks : List Task) (w v q : ℕ) → In w (lists (run tasks).events v q) → 0 < w
+held-positive tasks w v q h = above-zero w (λ zero. by zero (held-stored (run tasks).events w v q h))
+  where
+    never : list_any hears_zero (run tasks).events ≡ true → ⊥
+    never some = let e : true ≡ false = sym some ∙ (positive-run tasks).heard in cc
+
+    by : nat_eq w 0 ≡ true → In (Ack w) (run tasks).events ⊎ IsMirrored (run tasks).events w → ⊥
+    by zero (inl acked) = never (zero-heard (run tasks).events (Ack w) acked zero)
+    by zero (inr m) = never (zero-heard (run tasks).events (Mirrored w m.secondary) m.told zero)
