@@ -1,15 +1,15 @@
 -- Two journals that tell the same, but for what host writes lay on their tracks. In the other one write u lays one byte, and no other write
 -- lays any: so what a track holds there says whether u is one of its writes.
-use Rattle.std.proofs.Common.{ℕ, zero, suc, ◌≡◌, ◌≢◌, ◌⊎◌, ◌+◌, inl, inr, refl, ap, sym, ◌∙◌, subst, Bool, true, false, cond, nat_eq, List, [], ◌∷◌, ◌++◌, length, take, Option, Some, None, ◌||◌}
+use Rattle.std.proofs.Common.{ℕ, suc, ◌≡◌, ◌≢◌, ◌⊎◌, inl, inr, refl, ap, sym, ◌∙◌, subst, Bool, true, false, cond, nat_eq, List, [], ◌∷◌, ◌++◌, length, take, ◌||◌}
 use Rattle.std.specs.List.{list_any, fold}
 use Rattle.std.proofs.lemmas.Bool.{ne_eqb, eqb-true, eq-eqb, or_parts}
 use Rattle.std.proofs.lemmas.Bool.Decides.{eqb_tells}
 use Rattle.dr_logic.specs.Tables.{at, at2}
 use Rattle.dr_facts.proofs.Tables.{IsOrNot}
 use Rattle.dr_model.specs.declared.event.Event.{Event}
-use Rattle.dr_model.specs.declared.event.Event.TheVariants.{Volume as VolumeDefined, Issue, Ack, Mirrored, Sent, Flashed, Committed, Reverted, Set, Back, Blanked, Cut, Left, Answer, Shown}
-use Rattle.dr_model.specs.Histories.{Lists, Write, Histories, no_history, joined, after_event, histories}
-use Rattle.dr_model.specs.Cuts.{Cuts, Past, past, cuts, no_cuts, past_event, cuts_after, cut_for}
+use Rattle.dr_model.specs.declared.event.Event.TheVariants.{Volume as VolumeDefined, Issue, Ack, Mirrored, Sent, Flashed, Committed, Reverted, Set, Back, Blanked, Cut, Answer, Shown}
+use Rattle.dr_model.specs.Histories.{Lists, Write, Histories, no_history, joined}
+use Rattle.dr_model.specs.Cuts.{Past, past, cuts, no_cuts, past_event, cut_for}
 use Rattle.dr_laws_closed.specs.Moments.{Standing, standing, standing_event, none_stands}
 use Rattle.dr_laws_targets.specs.Committeds.{committeds, committed_event}
 

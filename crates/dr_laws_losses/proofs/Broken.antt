@@ -1,13 +1,11 @@
 -- With a write that is kept, each lost one on which it depends was given back.
-use Rattle.std.proofs.Common.{ℕ, zero, suc, ◌≡◌, ◌≢◌, ◌<◌, ◌≤◌, ◌+◌, ◌⊎◌, inl, inr, refl, ap, sym, ◌∙◌, subst, arith, append_assoc, Bool, true, false, cond, ◌||◌, nat_eq, List, [], ◌∷◌, ◌++◌, length, map, Option, Some, None}
+use Rattle.std.proofs.Common.{ℕ, zero, suc, ◌≡◌, ◌<◌, ◌+◌, ◌⊎◌, inl, inr, refl, ap, sym, ◌∙◌, subst, arith, append_assoc, true, false, ◌||◌, List, [], ◌∷◌, ◌++◌, length, map, Some, None}
 use Rattle.std.specs.Prelude.{is_some, slice_get}
 use Rattle.std.specs.List.{fold, list_any}
 use Rattle.std.proofs.lemmas.Option.{same_Some}
 use Rattle.std.proofs.lemmas.List.{append-nil, length-append}
 use Rattle.std.proofs.lemmas.List.Folds.{list_any-append}
-use Rattle.std.proofs.lemmas.List.Sums.{fold-append}
 use Rattle.std.proofs.Math.Bool.{or-true}
-use Rattle.dr_logic.specs.Tables.{at2}
 use Rattle.dr_logic.proofs.Lists.{cons-parts}
 use Rattle.dr_logic.proofs.Tables.{at2_same}
 use Rattle.dr_facts.proofs.Tables.{at2_cases, at2_other}
@@ -15,18 +13,18 @@ use Rattle.dr_ids.specs.declared.names.Member.{Member}
 use Rattle.dr_ids.specs.Sizes.{most_tracks}
 use Rattle.dr_model.specs.declared.event.Event.{Event}
 use Rattle.dr_model.specs.declared.event.Event.TheVariants.{Issue, Ack, Cut}
-use Rattle.dr_model.specs.Histories.{Histories, histories, lists}
+use Rattle.dr_model.specs.Histories.{Histories, lists}
 use Rattle.dr_model.specs.Control.{World}
 use Rattle.dr_model.specs.Dependence.{DependsOn}
 use Rattle.dr_model.specs.Groups.{In}
-use Rattle.dr_model.specs.Cuts.{Cuts, Past, CutAt, past, cuts, past_event, cuts_after}
+use Rattle.dr_model.specs.Cuts.{Cuts, Past, CutAt, past, cuts, past_event}
 use Rattle.dr_model.specs.ClosedCuts.{InGroup, ClosedCuts, LastCut}
-use Rattle.dr_model.specs.Runs.{Task, after_task, after_tasks, run}
+use Rattle.dr_model.specs.Runs.{Task, after_tasks, run}
 use Rattle.dr_facts.proofs.Joined.{InFirst, InOther, place-in}
 use Rattle.dr_facts.proofs.Lists.{in-first, in-second, from-map}
 use Rattle.dr_laws_cuts.specs.Once.{CutOnce, AllNew, IsNew, no_past}
 use Rattle.dr_laws_cuts.specs.Sound.{SoundCuts}
-use Rattle.dr_laws_cuts.proofs.Journal.{past-history, past-append, cuts-append}
+use Rattle.dr_laws_cuts.proofs.Journal.{past-history, cuts-append}
 use Rattle.dr_laws_cuts.proofs.Places.{snoc}
 use Rattle.dr_laws_sound.proofs.Journal.{run-more}
 use Rattle.dr_laws_recovery.proofs.CountedAlong.{counts-run}
@@ -89,8 +87,8 @@ one-more tasks t old before after e n i is =
     in-way told middle behind placed begins = elim told.way [
       | inl none ↦ none-placed told.first middle behind e none (is-issue n e i) placed
       | inr one ↦
-        let parts = one-placed _ e middle behind (sym one.5 ∙ placed) in
-        record { first = tasks; is = begins ∙ ap (λ m. (run tasks).events ++ m) parts.0 ∙ append-nil (run tasks).events; number = same-number n ((run tasks).control.issued + 1) e i _ _ _ _ _ parts.1 }
+          let parts = one-placed _ e middle behind (sym one.5 ∙ placed) in
+          record { first = tasks; is = begins ∙ ap (λ m. (run tasks).events ++ m) parts.0 ∙ append-nil (run tasks).events; number = same-number n ((run tasks).control.issued + 1) e i _ _ _ _ _ parts.1 }
     ]
 
     in-step : (told : TellsFirst (run tasks) t) (middle : List Event) → told.first ++ told.more ≡ middle ++ e ∷ after → before ≡ (run tasks).events ++ middle → IssuedAt before n
@@ -221,8 +219,8 @@ module _ (before first : List Task) (t : Task) (rest : List Task) (s n : ℕ) (p
     track : ℕ
     held : In w (lists (its-cut before first t rest s n pairs r member here).before member.a.0 track)
 
-  kept-in : (w : ℕ) → 0 < w → IsHeld most_tracks (lists end.events) (map (λ (p : Pair). p.first) pairs) w → IsHeld most_tracks (lists begun.events) (map (λ (p : Pair). p.second) pairs) w → IsInCut w
-  kept-in w positive kept was =
+  kept-in : (w : ℕ) → IsHeld most_tracks (lists end.events) (map (λ (p : Pair). p.first) pairs) w → IsHeld most_tracks (lists begun.events) (map (λ (p : Pair). p.second) pairs) w → IsInCut w
+  kept-in w kept was =
       let o = from-map (λ (p : Pair). p.first) pairs kept.volume kept.among in
       let g = from-map target_pair (members_of u s) o.from ((r.targets o.from).0 o.here) in
       let m : Member = g.from in
@@ -231,18 +229,16 @@ module _ (before first : List Task) (t : Task) (rest : List Task) (s n : ℕ) (p
         member = m;
         here = g.here;
         track = kept.track;
-        held = to-cut before first t rest s n pairs r m g.here w (told-of before first t rest s n pairs r w positive was.volume was.track was.held) (its-cut before first t rest s n pairs r m g.here) kept.track (subst (In w) (r.stays m g.here kept.track) h);
+        held = to-cut before first t rest s n pairs r m g.here w (told-of before first t rest s n pairs r w was.volume was.track was.held) (its-cut before first t rest s n pairs r m g.here) kept.track (subst (In w) (r.stays m g.here kept.track) h);
       }
 
-  pub given-back : (w x : ℕ) → 0 < x → IsHeld most_tracks (lists end.events) (map (λ (p : Pair). p.first) pairs) w → IsHeld most_tracks (lists begun.events) (map (λ (p : Pair). p.second) pairs) w
+  pub given-back : (w x : ℕ) → IsHeld most_tracks (lists end.events) (map (λ (p : Pair). p.first) pairs) w → IsHeld most_tracks (lists begun.events) (map (λ (p : Pair). p.second) pairs) w
       → IsLost most_tracks (lists begun.events) (lists end.events) pairs x → DependsOn end.events w x → WasGivenBack (members_of u s) begun.events u.events s n x
-  given-back w x positive kept was lost d =
+  given-back w x kept was lost d =
       let issue : Split end.events d.issued (Issue w d.volume d.track d.offset d.len d.bytes) = split-at end.events d.issued _ d.issue in
       let ack : Split end.events d.acknowledged (Ack x) = split-at end.events d.acknowledged (Ack x) d.ack in
       let it : IsIssue w (Issue w d.volume d.track d.offset d.len d.bytes) = (d.volume, d.track, d.offset, d.len, d.bytes, refl) in
-      let at : IssuedAt issue.before w = issued-at (before ++ first ++ t ∷ rest) issue.before issue.after _ w it issue.is in
-      let number : w ≡ (run at.first).control.issued + 1 = at.number in
-      let k : IsInCut w = kept-in w (omega arith) kept was in
+      let k : IsInCut w = kept-in w kept was in
       let c : CutAt u.events s n k.member.a.0 = its-cut before first t rest s n pairs r k.member k.here in
       let l : Longer issue.before c.before = issued-before k.member k.here c w k.track k.held issue.before issue.after _ it issue.is in
       let order : d.acknowledged < d.issued = d.order in
@@ -251,7 +247,7 @@ module _ (before first : List Task) (t : Task) (rest : List Task) (s n : ℕ) (p
       let closed : ClosedCuts u.events s n = closed-run tasks s n in
       let g : InGroup u.events s n k.member.a.0 = in-its-group before first t rest s n pairs r k.member k.here in
       let p : LastCut u.events s n = closed.last k.member.a.0 g in
-      let gone : IsUncut (members_of u s) begun.events u.events s n x = to-uncut before first t rest s n pairs r x positive lost in
+      let gone : IsUncut (members_of u s) begun.events u.events s n x = to-uncut before first t rest s n pairs r x lost in
       record {
         member = gone.member;
         here = gone.here;

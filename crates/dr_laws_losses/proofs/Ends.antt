@@ -1,15 +1,13 @@
 -- How a recovery ends that is answered with a group: what the targets that count say then.
-use Rattle.std.proofs.Common.{option_map, not, ℕ, ◌≡◌, ◌⊎◌, inl, inr, refl, ap, sym, ◌∙◌, subst, Bool, true, false, cond, List, [], ◌∷◌, ◌++◌, Option, Some, None, Ok}
+use Rattle.std.proofs.Common.{option_map, not, ℕ, ◌≡◌, refl, ap, sym, ◌∙◌, subst, Bool, true, false, cond, List, [], ◌∷◌, Option, Some, None, Ok}
 use Rattle.std.proofs.lemmas.Bool.{and_parts, eqb-true}
 use Rattle.std.proofs.lemmas.Option.{same_Some}
-use Rattle.std.specs.List.{find}
 use Rattle.dr_ids.specs.declared.names.Member.{Member}
 use Rattle.dr_ids.specs.declared.refusal.Decision.{Decision}
 use Rattle.dr_ids.specs.declared.refusal.Refusal.{Refusal}
 use Rattle.dr_ids.specs.declared.refusal.Refusal.TheVariants.{JournalFull}
 use Rattle.dr_ids.specs.declared.refusal.Kind.TheVariants.{Session as OfSession}
 use Rattle.dr_model.specs.declared.said.Addition.TheVariants.{InGroup as AnsweredGroup}
-use Rattle.dr_model.specs.declared.said.Said.{Said}
 use Rattle.dr_model.specs.declared.said.Said.TheVariants.{Done, Refused}
 use Rattle.dr_model.specs.declared.step.Step.TheVariants.{Recover}
 use Rattle.dr_model.specs.PlantImage.{Volume as ListedVolume}
@@ -23,12 +21,12 @@ use Rattle.dr_model.specs.Groups.{In, MemberStands}
 use Rattle.dr_model.specs.Attempts.{roles, IsTarget}
 use Rattle.dr_model.specs.RecoveryPlans.{recover_plan, recover_done, decided_in, secondary_refusal, says_group}
 use Rattle.dr_model.specs.PlanParts.{Plan, same, refuses, unless, on_session}
-use Rattle.dr_model.specs.Plans.{has_room, plan}
+use Rattle.dr_model.specs.Plans.{has_room}
 use Rattle.dr_model.specs.Carry.{Act, Make, OpenAttempt, Redo, Acknowledge, Drop, EndFreeze, EndThaw, EndRecovery, Next, Pass, Do, End, Entry, Turn, Outcome, act, carry, continue, go}
 use Rattle.dr_model.specs.Carried.{begun, finish, carried_out, answered, after_plan, masters_lost, losing}
-use Rattle.dr_model.specs.Runs.{Task, after_task}
+use Rattle.dr_model.specs.Runs.{after_task}
 use Rattle.dr_model.specs.Laws.{Sound}
-use Rattle.dr_model.specs.Recovery.{decided_over, remains_in, goes_back}
+use Rattle.dr_model.specs.Recovery.{decided_over, remains_in}
 use Rattle.dr_model.specs.RecoveryPlans.{lets_revert}
 use Rattle.dr_facts.proofs.Lists.{from-filter, to-filter, not-found}
 use Rattle.dr_facts.proofs.Tables.{at_part}
@@ -36,7 +34,6 @@ use Rattle.dr_laws_sessions.proofs.Changes.{session-found, same-session}
 use Rattle.dr_laws_sound.specs.Acknowledged.{said_in}
 use Rattle.dr_laws_sound.proofs.Turns.{done, next_of, carried_in, after_act, act-cases, Counts}
 use Rattle.dr_laws_recovery.specs.Recovered.{recovered_in, HasRecovered}
-use Rattle.dr_laws_recovery.specs.RecoveryAnswers.{secondary_server, Stops, FirstServerIsOff, IsCarriedOut, AnswersForCause}
 use Rattle.dr_laws_recovery.proofs.RecoversEnd.{has-ended, answers-group}
 
 -- ---- where no server stopped, all that run go on running, and volumes stay on their servers

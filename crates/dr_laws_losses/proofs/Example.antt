@@ -1,17 +1,15 @@
 -- The example, carried out. Of sets nothing computes: so the seal is carried out entry by entry, and all else at once.
-use Rattle.std.proofs.Common.{ℕ, ◌≡◌, ◌⊎◌, inl, inr, subst, refl, ap, sym, ◌∙◌, true, false, cond, not, ◌&&◌, ◌||◌, nat_eq, List, [], ◌∷◌, ◌++◌, length, map, Option, Some, None}
+use Rattle.std.proofs.Common.{◌≡◌, inl, inr, subst, refl, ap, sym, ◌∙◌, true, false, cond, not, ◌&&◌, ◌||◌, nat_eq, [], ◌∷◌, ◌++◌, Some, None}
 use Rattle.std.specs.FinSet.{len, len-empty}
 use Rattle.dr_logic.specs.Bytes.{zeros}
 use Rattle.dr_ids.specs.declared.names.Member.{Member}
 use Rattle.dr_ids.specs.declared.refusal.Decision.TheVariants.{Nothing}
-use Rattle.dr_ids.specs.declared.refusal.PhaseName.TheVariants as phase
-use Rattle.dr_model.specs.declared.said.Addition.TheVariants.{InGroup, InPhase}
+use Rattle.dr_model.specs.declared.said.Addition.TheVariants.{InGroup}
 use Rattle.dr_model.specs.declared.said.Said.TheVariants.{Done}
-use Rattle.dr_model.specs.declared.step.Step.TheVariants.{Recover}
 use Rattle.dr_model.specs.Control.{Control, World}
 use Rattle.dr_model.specs.Entries.{fields_at}
 use Rattle.dr_model.specs.Phases as phases
-use Rattle.dr_model.specs.Sessions.{Session, changed, with_master}
+use Rattle.dr_model.specs.Sessions.{changed, with_master}
 use Rattle.dr_model.specs.SessionEntries.{seal_entries, seal_on, void_refusal, seal_refusal}
 use Rattle.dr_model.specs.SessionPlans.{exchanged, says_phase}
 use Rattle.dr_model.specs.PairEntries.{send_refusal, refuse_if, end_if}
@@ -21,11 +19,11 @@ use Rattle.dr_model.specs.Phases.{servers_where}
 use Rattle.dr_model.specs.Relations.{all_tracks, is_whole, rest, in_order}
 use Rattle.dr_model.specs.Forming.{drains, turns}
 use Rattle.dr_model.specs.Moves.{Seal}
-use Rattle.dr_model.specs.Carry.{Make, Pass, Do, Next, Outcome, carry, go, act, turn, update_keeping, redo}
+use Rattle.dr_model.specs.Carry.{Make, Pass, Do, Outcome, carry, go, act, turn, update_keeping, redo}
 use Rattle.dr_model.specs.Carried.{begun, finish, answered, said, after_plan, masters_lost}
 use Rattle.dr_model.specs.Histories.{histories}
 use Rattle.dr_model.specs.Contents.{image, laid}
-use Rattle.dr_model.specs.Runs.{Task, course, after_task, after_tasks, run}
+use Rattle.dr_model.specs.Runs.{course, after_task, after_tasks, run}
 use Rattle.dr_model.specs.Messages.{heard}
 use Rattle.std.specs.Ordering.{nat_cmp}
 use Rattle.dr_model.proofs.CarryLemmas.{carry-first}
@@ -36,7 +34,7 @@ use Rattle.dr_model.specs.SessionEntries.{counts_at}
 use Rattle.dr_model.specs.Control.{nothing}
 use Rattle.dr_laws_losses.specs.Pairs.{PairsHoldSame}
 use Rattle.dr_laws_losses.specs.Losses.{members_of, AreTargets, RecoversAll}
-use Rattle.dr_laws_losses.specs.Example.{volumes, pairs_made, unsealed, exchange, work, before, recover, pairs, task}
+use Rattle.dr_laws_losses.specs.Example.{volumes, pairs_made, unsealed, exchange, work, before, recover, pairs}
 use Rattle.dr_laws_losses.proofs.Known.{tasks-joined}
 
 abbrev m : Member

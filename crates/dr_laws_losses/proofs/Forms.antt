@@ -1,11 +1,9 @@
 -- What an `@run` comes to in two such worlds.
-use Rattle.std.proofs.Common.{ℕ, zero, suc, ◌≡◌, ◌+◌, refl, ap, sym, ◌∙◌, subst, Bool, true, false, cond, nat_eq, nat_le, List, [], ◌∷◌, ◌++◌, length, Option, Some, None}
+use Rattle.std.proofs.Common.{ℕ, zero, suc, ◌≡◌, ◌+◌, refl, ap, sym, subst, Bool, true, false, cond, nat_eq, nat_le, List, [], ◌∷◌, Option, Some, None}
 use Rattle.dr_ids.specs.declared.names.Member.{Member}
 use Rattle.dr_ids.specs.declared.refusal.PhaseName.{PhaseName}
 use Rattle.dr_ids.specs.declared.refusal.Refusal.{Refusal}
 use Rattle.dr_ids.specs.declared.refusal.Refusal.TheVariants.{OutOfOrder, JournalFull}
-use Rattle.dr_model.specs.declared.event.Event.{Event}
-use Rattle.dr_model.specs.declared.said.Said.{Said}
 use Rattle.dr_model.specs.Limits.{most_events}
 use Rattle.dr_model.specs.Control.{Control, World}
 use Rattle.dr_model.specs.Phases as phases
@@ -13,12 +11,12 @@ use Rattle.dr_model.specs.Sessions.{Session, Mirror, session_in, mirror_in, memb
 use Rattle.dr_model.specs.SessionEntries.{members_on}
 use Rattle.dr_model.specs.SessionPlans.{asking, exchange_on, exchange_done, exchange_refusal, order_of}
 use Rattle.dr_model.specs.PairEntries.{is_copying}
-use Rattle.dr_model.specs.PlanParts.{Plan, unless, only_says}
+use Rattle.dr_model.specs.PlanParts.{Plan, unless}
 use Rattle.dr_model.specs.Plans.{drain_plan, has_room, has_room_for}
-use Rattle.dr_model.specs.Carried.{carried_out, answered, masters_lost, after_plan}
-use Rattle.dr_model.specs.Forming.{Part, Way, stays, ends, goes_on, and_then, unless_refused, refusal_said, after_part, part_refusal, part, drains, is_draining, ask, next_asked, master_in, phase_in, has_committed, still_left, turn_by, turn_in, turns, most_turns, form_refusal, form_in, formed, form_said}
-use Rattle.dr_laws_losses.proofs.Alike.{NoIssue, AlikeEvents, alike-same, alike-length}
-use Rattle.dr_laws_losses.proofs.Worlds.{Alike, AlikeOutcome, by-control, carried-alike, plan-alike, lost-alike}
+use Rattle.dr_model.specs.Carried.{carried_out, answered}
+use Rattle.dr_model.specs.Forming.{Way, stays, ends, goes_on, and_then, unless_refused, refusal_said, after_part, part_refusal, part, drains, is_draining, ask, next_asked, master_in, phase_in, has_committed, still_left, turn_by, turn_in, turns, most_turns, form_refusal, form_in, formed}
+use Rattle.dr_laws_losses.proofs.Alike.{NoIssue, alike-same, alike-length}
+use Rattle.dr_laws_losses.proofs.Worlds.{Alike, AlikeOutcome, carried-alike, lost-alike}
 
 module _ (u : ℕ) where
   -- the same room is left

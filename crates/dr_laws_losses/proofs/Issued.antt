@@ -1,23 +1,20 @@
 -- A step tells of a write that is issued before all else, with the number that comes next.
-use Rattle.std.proofs.Common.{ℕ, ◌≡◌, ◌+◌, ◌⊎◌, inl, inr, refl, ap, sym, ◌∙◌, subst, append_assoc, Bool, true, false, cond, ◌||◌, List, [], ◌∷◌, ◌++◌, Option, Some, None, Result, Ok, Err}
-use Rattle.std.specs.List.{list_any}
-use Rattle.std.proofs.lemmas.Bool.{or_parts}
+use Rattle.std.proofs.Common.{ℕ, ◌≡◌, ◌+◌, ◌⊎◌, inl, inr, refl, ap, sym, ◌∙◌, append_assoc, Bool, true, false, cond, List, [], ◌∷◌, ◌++◌, Option, Some, None, Result, Ok, Err}
 use Rattle.std.proofs.lemmas.List.{append-nil}
-use Rattle.std.proofs.lemmas.List.Folds.{list_any-append}
 use Rattle.dr_ids.specs.declared.refusal.Refusal.{Refusal}
 use Rattle.dr_ids.specs.declared.refusal.Refusal.TheVariants.{JournalFull, Stopped as StoppedIn}
 use Rattle.dr_model.specs.declared.event.Event.{Event}
 use Rattle.dr_model.specs.declared.event.Event.TheVariants.{Issue, Ack, Stopped, Frozen, Thawed, Recovered}
 use Rattle.dr_model.specs.declared.step.Step.{Step}
-use Rattle.dr_model.specs.declared.step.Step.TheVariants.{Run, Image, Issue as IssueWrite, Write}
+use Rattle.dr_model.specs.declared.step.Step.TheVariants.{Run, Image}
 use Rattle.dr_model.specs.Answers.{answer}
 use Rattle.dr_model.specs.Limits.{image_events}
 use Rattle.dr_model.specs.Control.{Control, Fuse, Volume, World}
-use Rattle.dr_model.specs.Moves.{Move, Hold, target, told, told_in_stop, landed}
+use Rattle.dr_model.specs.Moves.{Hold, target, told, told_in_stop, landed}
 use Rattle.dr_model.specs.Carry.{Act, Make, OpenAttempt, Redo, Acknowledge, Drop, EndFreeze, EndThaw, EndRecovery, Next, Pass, Do, End, Entry, Outcome, act, carry, continue, go, follow}
 use Rattle.dr_model.specs.PlanParts.{Plan, refuses}
 use Rattle.dr_model.specs.Plans.{has_room_for}
-use Rattle.dr_model.specs.Carried.{begun, finish, carried_out, answered, after_plan, masters_lost}
+use Rattle.dr_model.specs.Carried.{begun, finish, carried_out, answered, after_plan}
 use Rattle.dr_model.specs.Forming.{Part, after_part}
 use Rattle.dr_model.specs.Runs.{Task, course, image_plan, imaged, after_task}
 use Rattle.dr_facts.proofs.Emits.{by_moves, emitted, stop-onto, all-told}
@@ -26,7 +23,7 @@ use Rattle.dr_laws_sound.proofs.Cases.{Case, Issues, Writes, Lists, Sends}
 use Rattle.dr_laws_sound.proofs.Listed.{all-lines}
 use Rattle.dr_model.specs.SessionPlans.{is_idle}
 use Rattle.dr_laws_sound.proofs.Parts.{Comes, last-plan, plain-case}
-use Rattle.dr_laws_losses.proofs.Alike.{is_issue, NoIssue}
+use Rattle.dr_laws_losses.proofs.Alike.{NoIssue}
 use Rattle.dr_laws_losses.proofs.Steps.{none-append, image-none}
 use Rattle.dr_laws_losses.proofs.Worlds.{unissued}
 use Rattle.dr_laws_losses.proofs.Told.{line-none, begun-none}

@@ -1,28 +1,27 @@
 -- The lost writes are known: what the primaries held as the recovery began, without what is in the cuts of its group.
-use Rattle.std.proofs.Common.{ℕ, ◌≡◌, ◌<◌, ◌≤◌, ◌+◌, ◌⊎◌, ◌↔◌, inl, inr, refl, ap, sym, ◌∙◌, subst, arith, append_assoc, Bool, true, false, cond, ◌||◌, ◌&&◌, nat_eq, List, [], ◌∷◌, ◌++◌, map, Option, Some, None, Result, Ok}
-use Rattle.std.specs.List.{fold, list_any}
+use Rattle.std.proofs.Common.{ℕ, ◌≡◌, ◌<◌, ◌≤◌, ◌+◌, inl, inr, refl, ap, sym, ◌∙◌, subst, arith, append_assoc, Bool, true, false, cond, ◌||◌, ◌&&◌, nat_eq, List, [], ◌∷◌, ◌++◌, Option, Some, None, Result, Ok}
+use Rattle.std.specs.List.{list_any}
 use Rattle.std.proofs.lemmas.Bool.{and_parts, eq-eqb, eqb-true}
 use Rattle.std.proofs.lemmas.List.{append-nil}
 use Rattle.std.proofs.lemmas.List.Sums.{fold-append}
 use Rattle.std.proofs.Math.Bool.{or-true}
 use Rattle.dr_ids.specs.declared.names.Member.{Member}
-use Rattle.dr_ids.specs.declared.refusal.Decision.{Decision}
 use Rattle.dr_ids.specs.Sizes.{most_tracks}
 use Rattle.dr_model.specs.declared.event.Event.{Event}
 use Rattle.dr_model.specs.declared.said.Addition.TheVariants.{InGroup as AnsweredGroup}
 use Rattle.dr_model.specs.declared.said.Said.TheVariants.{Done}
 use Rattle.dr_model.specs.declared.step.Step.{Step}
 use Rattle.dr_model.specs.declared.step.Step.TheVariants.{Recover}
-use Rattle.dr_model.specs.Histories.{Lists, histories, lists}
-use Rattle.dr_model.specs.Control.{Control, Pending, World, is_volume, nothing}
+use Rattle.dr_model.specs.Histories.{histories, lists}
+use Rattle.dr_model.specs.Control.{Control, Pending, World, nothing}
 use Rattle.dr_model.specs.Entries.{fields_at}
 use Rattle.dr_model.specs.Sessions.{Session, session_in, members_in}
-use Rattle.dr_model.specs.SessionEntries.{counts_in, counts_at}
+use Rattle.dr_model.specs.SessionEntries.{counts_in}
 use Rattle.dr_model.specs.Groups.{In, MemberStands}
 use Rattle.dr_model.specs.Table.{waiting}
 use Rattle.dr_model.specs.Laws.{Sound, AllPending, Below, Waits}
 use Rattle.dr_model.specs.Cuts.{CutAt, cuts}
-use Rattle.dr_model.specs.ClosedCuts.{InGroup, ClosedCuts, LastCut}
+use Rattle.dr_model.specs.ClosedCuts.{InGroup}
 use Rattle.dr_model.specs.Runs.{Task, after_task, after_tasks, run}
 use Rattle.dr_facts.proofs.Lists.{from-map, to-map, is-met}
 use Rattle.dr_laws_sessions.proofs.Changes.{session-found}
@@ -39,14 +38,14 @@ use Rattle.dr_laws_recovery.proofs.KeepsWrites.{told-task}
 use Rattle.dr_laws_recovery.proofs.CountedAlong.{Counts, counts-run}
 use Rattle.dr_laws_recovery.proofs.ClosesAlong.{closed-run}
 use Rattle.dr_lost.specs.declared.lost.Pair.{Pair}
-use Rattle.dr_lost.specs.Lost.{IsLost, IsHeld}
-use Rattle.dr_laws_losses.specs.Pairs.{PairsHoldSame}
-use Rattle.dr_laws_losses.specs.Losses.{members_of, target_pair, AreTargets, recovered_world, RecoversAt, IsUncut}
+use Rattle.dr_lost.specs.Lost.{IsLost}
+use Rattle.dr_laws_losses.specs.Losses.{members_of, target_pair, recovered_world, RecoversAt, IsUncut}
 use Rattle.dr_laws_losses.proofs.Alike.{issues_it}
 use Rattle.dr_laws_losses.proofs.Told.{told-none}
 use Rattle.dr_laws_losses.proofs.Targets.{AlikeRun, run-alike, holds-as-cut}
 use Rattle.dr_laws_losses.proofs.Ends.{HasEnded, recover-ended}
-use Rattle.dr_laws_losses.proofs.Tidy.{Tidy, issued-more, tidy-run}
+use Rattle.dr_laws_losses.proofs.Tidy.{issued-more, tidy-run}
+use Rattle.dr_laws_losses.proofs.Positive.{held-positive}
 
 -- ---- lists
 
@@ -216,13 +215,13 @@ module _ (before first : List Task) (t : Task) (rest : List Task) (s n : ℕ) (p
   pub begun-longer : Longer begun.events u.events
   begun-longer = subst (λ ts. Longer begun.events (run ts).events) (sym (append_assoc before first (t ∷ []))) (run-longer before (first ++ t ∷ []))
 
-  module _ (w : ℕ) (positive : 0 < w) where
+  module _ (w : ℕ) where
     -- what was held as the recovery began was told of
     pub told-of : (v q : ℕ) → In w (lists begun.events v q) → list_any (issues_it w) u.events ≡ true
     told-of v q h =
         let l : Longer begun.events u.events = begun-longer in
         let numbered : w < begun.control.issued + 1 = below-in (begun.control.issued + 1) w (lists begun.events v q) ((sound-run before).queue.numbers.now v q) h in
-        subst (λ es. list_any (issues_it w) es ≡ true) (sym l.is) (issued-more w begun.events l.more ((tidy-run before).issued w positive numbered))
+        subst (λ es. list_any (issues_it w) es ≡ true) (sym l.is) (issued-more w begun.events l.more ((tidy-run before).issued w (held-positive before w v q h) numbered))
 
     pub to-uncut : IsLost most_tracks (lists begun.events) (lists end.events) pairs w → IsUncut (members_of u s) begun.events u.events s n w
     to-uncut l =

@@ -1,19 +1,17 @@
 -- What a recovery loses, said of its steps.
-use Rattle.std.proofs.Common.{ℕ, ◌≡◌, ◌<◌, ◌↔◌, inl, inr, refl, ap, sym, ◌∙◌, subst, append_assoc, List, [], ◌∷◌, ◌++◌, map}
+use Rattle.std.proofs.Common.{ℕ, ◌≡◌, ◌↔◌, inl, inr, ap, sym, ◌∙◌, subst, append_assoc, List, [], ◌∷◌, ◌++◌}
 use Rattle.dr_ids.specs.Sizes.{most_tracks}
-use Rattle.dr_model.specs.declared.event.Event.{Event}
 use Rattle.dr_model.specs.declared.event.Event.TheVariants.{Cut}
 use Rattle.dr_model.specs.Histories.{lists}
 use Rattle.dr_model.specs.Control.{World}
 use Rattle.dr_model.specs.Dependence.{DependsOn}
-use Rattle.dr_model.specs.Groups.{In}
 use Rattle.dr_model.specs.HeldWrites.{WasAcknowledged}
 use Rattle.dr_model.specs.TakenWrites.{WasTaken}
 use Rattle.dr_model.specs.Runs.{Task, run}
 use Rattle.dr_laws_recovery.proofs.TakenAt.{kept-or-taken}
 use Rattle.dr_lost.specs.declared.lost.Pair.{Pair}
 use Rattle.dr_lost.specs.Lost.{IsLost, IsHeld}
-use Rattle.dr_laws_losses.specs.Losses.{members_of, recovered_world, RecoversAt, RecoversAll, IsUncut, WasGivenBack, firsts, seconds, LossIsKnown}
+use Rattle.dr_laws_losses.specs.Losses.{members_of, recovered_world, RecoversAll, IsUncut, WasGivenBack, firsts, seconds, LossIsKnown}
 use Rattle.dr_laws_losses.proofs.Known.{to-uncut, from-uncut}
 use Rattle.dr_laws_losses.proofs.Broken.{given-back}
 
@@ -28,10 +26,10 @@ module _ (before recovery : List Task) (s n : ℕ) (pairs : List Pair) (r : Reco
   end-is = ap run (ap (λ ts. before ++ ts) r.cut ∙ sym (append_assoc before r.first (r.step ∷ r.rest)))
 
   abbrev LosesAt : World → Type 0
-  LosesAt end = (w : ℕ) → 0 < w → IsLost most_tracks (lists begun.events) (lists end.events) pairs w ↔ IsUncut (members_of u s) begun.events u.events s n w
+  LosesAt end = (w : ℕ) → IsLost most_tracks (lists begun.events) (lists end.events) pairs w ↔ IsUncut (members_of u s) begun.events u.events s n w
 
   abbrev KeepsAt : World → Type 0
-  KeepsAt end = (w x : ℕ) → 0 < x → IsHeld most_tracks (lists end.events) (firsts pairs) w → IsHeld most_tracks (lists begun.events) (seconds pairs) w
+  KeepsAt end = (w x : ℕ) → IsHeld most_tracks (lists end.events) (firsts pairs) w → IsHeld most_tracks (lists begun.events) (seconds pairs) w
       → IsLost most_tracks (lists begun.events) (lists end.events) pairs x → DependsOn end.events w x → WasGivenBack (members_of u s) begun.events u.events s n x
 
   was-taken : (x : ℕ) (g : WasGivenBack (members_of u s) begun.events u.events s n x) → WasAcknowledged g.last.place.before x g.member.a.0 g.track → WasTaken (before ++ r.first ++ r.step ∷ []) g.last.place.before x g.member.a.0 g.track
@@ -42,7 +40,7 @@ module _ (before recovery : List Task) (s n : ℕ) (pairs : List Pair) (r : Reco
 
   pub loss-is-known : LossIsKnown before recovery s n pairs r
   loss-is-known = record {
-    lost = subst LosesAt (sym end-is) (λ w positive. (to-uncut before r.first r.step r.rest s n pairs r.so w positive, from-uncut before r.first r.step r.rest s n pairs r.so w positive));
+    lost = subst LosesAt (sym end-is) (λ w. (to-uncut before r.first r.step r.rest s n pairs r.so w, from-uncut before r.first r.step r.rest s n pairs r.so w));
     kept = subst KeepsAt (sym end-is) (given-back before r.first r.step r.rest s n pairs r.so);
     taken = was-taken;
   }

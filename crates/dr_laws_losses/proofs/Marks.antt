@@ -1,5 +1,5 @@
 -- Where write u lays a byte and no other write lays any, the image of a list of writes says whether u is one of them.
-use Rattle.std.proofs.Common.{ℕ, ◌≡◌, ◌≢◌, inl, inr, refl, ap, sym, ◌∙◌, subst, Bool, true, false, cond, ◌||◌, nat_eq, List, [], ◌∷◌, ◌++◌}
+use Rattle.std.proofs.Common.{ℕ, ◌≡◌, ◌≢◌, inl, inr, refl, ap, sym, ◌∙◌, Bool, true, false, cond, ◌||◌, nat_eq, List, [], ◌∷◌}
 use Rattle.std.specs.List.{fold, list_any, slice_index_or}
 use Rattle.std.proofs.lemmas.Bool.Decides.{eqb_tells}
 use Rattle.dr_logic.specs.Bytes.{zeros}

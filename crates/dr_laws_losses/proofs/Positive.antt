@@ -1,5 +1,5 @@
 -- Host writes are numbered from 1: no other number is acknowledged, mirrored or pending, and so no list has one.
-use Rattle.std.proofs.Common.{ℕ, ◌≡◌, ◌≢◌, ◌<◌, ◌+◌, ◌⊎◌, inl, inr, refl, ap, sym, ◌∙◌, subst, arith, Bool, true, false, cond, ◌||◌, nat_eq, List, [], ◌∷◌, ◌++◌, filter, Option, Some, None, Result, Ok, Err}
+use Rattle.std.proofs.Common.{ℕ, ◌≡◌, ◌≢◌, ◌<◌, ◌+◌, ◌⊎◌, inl, inr, refl, ap, sym, ◌∙◌, subst, arith, Bool, true, false, cond, ◌||◌, nat_eq, List, [], ◌∷◌, ◌++◌, Option, Some, None, Result, Ok, Err}
 use Rattle.std.specs.Prelude.{option_map}
 use Rattle.std.specs.List.{find, list_any}
 use Rattle.std.proofs.lemmas.Bool.{ne_eqb}
@@ -7,9 +7,9 @@ use Rattle.std.proofs.lemmas.List.Folds.{list_any-append}
 use Rattle.std.proofs.Math.Bool.{or-true}
 use Rattle.dr_ids.specs.declared.refusal.Refusal.TheVariants.{JournalFull}
 use Rattle.dr_model.specs.declared.event.Event.{Event}
-use Rattle.dr_model.specs.declared.event.Event.TheVariants.{Ack, Mirrored, Stopped, Issue, PairLine, FlashLine, SessionLine, MirrorLine, ImageStart, ImageVolume, ImageBlock, ImageEnd}
+use Rattle.dr_model.specs.declared.event.Event.TheVariants.{Ack, Mirrored, Stopped, PairLine, FlashLine, SessionLine, MirrorLine, ImageStart, ImageVolume, ImageBlock, ImageEnd}
 use Rattle.dr_model.specs.declared.step.Step.{Step}
-use Rattle.dr_model.specs.declared.step.Step.TheVariants.{Run, Image, Apply, Write}
+use Rattle.dr_model.specs.declared.step.Step.TheVariants.{Run, Image}
 use Rattle.dr_model.specs.Answers.{answer}
 use Rattle.dr_model.specs.Groups.{In}
 use Rattle.dr_model.specs.HeldWrites.{IsMirrored}
@@ -27,14 +27,13 @@ use Rattle.dr_model.specs.Carry.{Act, Make, OpenAttempt, Redo, Acknowledge, Drop
 use Rattle.dr_model.specs.PlanParts.{Plan, refuses}
 use Rattle.dr_model.specs.Plans.{has_landed, landed_on, has_room_for}
 use Rattle.dr_model.specs.SessionPlans.{is_idle, exchanged}
-use Rattle.dr_model.specs.Carried.{begun, carried_out, answered, said, after_plan, masters_lost}
+use Rattle.dr_model.specs.Carried.{carried_out, answered, after_plan, masters_lost}
 use Rattle.dr_model.specs.Forming.{Part, after_part}
 use Rattle.dr_model.specs.Runs.{Task, course, answered_part, image_told, image_plan, imaged, after_task, after_tasks, run}
-use Rattle.dr_facts.proofs.Emits.{Tag, Acks, Mirrors, Of, Lists as ByEvents, any-lists, all_tags, emits, each-told}
+use Rattle.dr_facts.proofs.Emits.{Tag, Acks, Mirrors, Of, any-lists, all_tags, emits, each-told}
 use Rattle.dr_facts.proofs.Entries.{any_world, plan-from}
 use Rattle.dr_facts.proofs.Reasons.{NoStop}
 use Rattle.dr_laws_closed.proofs.Pendings.{all-filter, all-more}
-use Rattle.dr_laws_cuts.proofs.Places.{snoc}
 use Rattle.dr_laws_targets.proofs.Held.{held-stored}
 use Rattle.dr_laws_sound.proofs.Turns.{after_act, act-cases, Counts, server_of}
 use Rattle.dr_laws_sound.proofs.Starts.{find-all}
@@ -43,7 +42,6 @@ use Rattle.dr_laws_sound.proofs.Cases.{Case, Says, Issues, Writes, Lists, Sends,
 use Rattle.dr_laws_sound.proofs.Does.{IsWrite, Issued, Found, Does, Acts, Late, Lands, Overwrites, LandsBoth, Mirrors as DoesMirror, Acknowledges}
 use Rattle.dr_laws_sound.proofs.DoesPlans.{Entered, case-does}
 use Rattle.dr_laws_sound.proofs.Parts.{Comes, last-plan, plain-case}
-use Rattle.dr_laws_sound.proofs.Journal.{run-more}
 
 -- the event speaks of write 0
 abbrev hears_zero : Event → Bool

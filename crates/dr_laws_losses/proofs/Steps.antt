@@ -1,5 +1,5 @@
 -- Steps in two such worlds: for each step in the one there is a step in the other one that leads to such worlds again.
-use Rattle.std.proofs.Common.{◌||◌, map, ℕ, zero, suc, ◌≡◌, ◌<◌, ◌+◌, inl, inr, refl, ap, sym, ◌∙◌, subst, arith, Bool, true, false, cond, not, List, [], ◌∷◌, ◌++◌, Option, Some, None, Result, Ok, Err, append_assoc}
+use Rattle.std.proofs.Common.{◌||◌, map, ℕ, zero, suc, ◌≡◌, ◌<◌, ◌+◌, inl, inr, refl, ap, sym, ◌∙◌, subst, arith, Bool, true, false, cond, not, List, [], ◌∷◌, ◌++◌, Option, Some, None, Result, Ok, Err}
 use Rattle.std.specs.List.{find, flat_map, list_any, range_with_len}
 use Rattle.std.specs.Str.{bytes_eq}
 use Rattle.std.proofs.lemmas.List.Folds.{list_any-append}
@@ -7,7 +7,7 @@ use Rattle.std.proofs.lemmas.Slice.Eq.{bytes_eq-Decides}
 use Rattle.dr_ids.specs.declared.refusal.Refusal.{Refusal}
 use Rattle.dr_ids.specs.declared.refusal.Refusal.TheVariants.{JournalFull, Syntax, Stopped as StoppedIn}
 use Rattle.dr_model.specs.declared.event.Event.{Event}
-use Rattle.dr_model.specs.declared.event.Event.TheVariants.{Issue as IssueTold, Shown, ImageStart, ImageBlock, ImageEnd}
+use Rattle.dr_model.specs.declared.event.Event.TheVariants.{Issue as IssueTold, ImageStart, ImageBlock, ImageEnd}
 use Rattle.dr_model.specs.declared.said.Addition.TheVariants.{Alone}
 use Rattle.dr_model.specs.declared.said.Said.{Said}
 use Rattle.dr_model.specs.declared.said.Said.TheVariants.{Done, Refused}
@@ -23,18 +23,17 @@ use Rattle.dr_model.specs.Histories.{Histories, histories, lists}
 use Rattle.dr_model.specs.Control.{Control, World}
 use Rattle.dr_model.specs.PlantImage.{Kept, Volume}
 use Rattle.dr_model.specs.Carry.{Next, Pass, Do, End, Entry, carry, go, check, follow}
-use Rattle.dr_model.specs.PairEntries.{refuse_if, end_if, first_differing, differs_at, make_entries}
+use Rattle.dr_model.specs.PairEntries.{refuse_if, end_if, first_differing, make_entries}
 use Rattle.dr_model.specs.PlanParts.{Plan, unless, refuses, only_says, entries_plan, none_follow}
-use Rattle.dr_model.specs.Plans.{plan_of, has_room, has_room_for, issue_refusal, issue_done, write_done, show_refusal, show_done, make_pair_plan, found_volumes, compare_plan, compare_entries}
-use Rattle.dr_model.specs.Carried.{begun, finish, carried_out, answered, said, after_plan, masters_lost}
+use Rattle.dr_model.specs.Plans.{plan_of, has_room, has_room_for, issue_refusal, issue_done, write_done, show_refusal, show_done, found_volumes, compare_entries}
+use Rattle.dr_model.specs.Carried.{begun, finish, carried_out, answered, after_plan, masters_lost}
 use Rattle.dr_model.specs.Forming.{Way, formed, form_said}
-use Rattle.dr_model.specs.Runs.{Task, own_course, compared, image_told, volume_told, blocks_told, image_plan, imaged, after_task}
-use Rattle.dr_model.specs.Cuts.{Past, past}
+use Rattle.dr_model.specs.Runs.{Task, compared, image_told, volume_told, blocks_told, image_plan, imaged, after_task}
 use Rattle.dr_laws_cuts.proofs.Journal.{past-history}
 use Rattle.dr_laws_losses.specs.Pairs.{HoldsSame}
-use Rattle.dr_laws_losses.proofs.Alike.{mark, is_issue, NoIssue, AlikeEvents, SamePast, alike-append, alike-same, past-alike}
-use Rattle.dr_laws_losses.proofs.Worlds.{Alike, by-control, told-both, carried-alike, said-alike, plan-alike, lost-alike, with_told}
-use Rattle.dr_laws_losses.proofs.Forms.{room-same, same-plan, AlikeWay, formed-alike}
+use Rattle.dr_laws_losses.proofs.Alike.{mark, is_issue, NoIssue, AlikeEvents, alike-same, past-alike}
+use Rattle.dr_laws_losses.proofs.Worlds.{Alike, by-control, told-both, said-alike, plan-alike, lost-alike, with_told}
+use Rattle.dr_laws_losses.proofs.Forms.{room-same, AlikeWay, formed-alike}
 
 -- ---- plans that come to no act
 

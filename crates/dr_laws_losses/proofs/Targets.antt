@@ -1,8 +1,7 @@
 -- A target that counts holds the writes that the cut of its number has, and no others.
-use Rattle.std.proofs.Common.{ℕ, ◌≡◌, ◌<◌, refl, ap, sym, subst, ◌∙◌, Bool, true, false, nat_eq, List, [], ◌∷◌, ◌++◌}
+use Rattle.std.proofs.Common.{ℕ, ◌≡◌, ◌<◌, refl, ap, sym, subst, ◌∙◌, true, false, nat_eq, List, [], ◌∷◌, ◌++◌}
 use Rattle.std.specs.List.{list_any}
 use Rattle.dr_ids.specs.declared.names.Member.{Member}
-use Rattle.dr_model.specs.declared.event.Event.{Event}
 use Rattle.dr_model.specs.declared.step.Step.{Step}
 use Rattle.dr_model.specs.Histories.{Lists, Histories, Write, histories, lists}
 use Rattle.dr_model.specs.Control.{Control, World, nothing}
@@ -11,13 +10,13 @@ use Rattle.dr_model.specs.Entries.{fields_at}
 use Rattle.dr_model.specs.Sessions.{Session}
 use Rattle.dr_model.specs.Groups.{In}
 use Rattle.dr_model.specs.Table.{waiting}
-use Rattle.dr_model.specs.Cuts.{Cuts, Past, past, cuts}
-use Rattle.dr_model.specs.Runs.{Task, after_task, after_tasks, run}
+use Rattle.dr_model.specs.Cuts.{Cuts, past, cuts}
+use Rattle.dr_model.specs.Runs.{Task, after_task, after_tasks}
 use Rattle.dr_laws_cuts.proofs.Journal.{past-history}
 use Rattle.dr_laws_targets.specs.Counted.{CountsAsTarget, TargetsShowCuts}
 use Rattle.dr_laws_losses.specs.Pairs.{PairsHoldSame}
 use Rattle.dr_laws_losses.proofs.Alike.{NoIssue, AlikeEvents, SamePast, past-alike, past-laid, issues_it}
-use Rattle.dr_laws_losses.proofs.Worlds.{Alike, by-control}
+use Rattle.dr_laws_losses.proofs.Worlds.{Alike}
 use Rattle.dr_laws_losses.proofs.Steps.{issues, AlikeTask, task-alike, lists-alike}
 use Rattle.dr_laws_losses.proofs.Marks.{image-tells}
 
@@ -54,10 +53,10 @@ module _ (u : ℕ) where
       let is : (past g.events).history ≡ histories g.events = past-history g.events in
       ap (λ (l : Lists). list_any (nat_eq u) (l m.c.0 t ++ waiting g.control.pending m.c.0 t)) (sym (lists-alike u w.events g.events a))
       ∙ image-tells u write
-          (λ n. ap (λ (h : Histories). (h.write n).offset) (sym is) ∙ p.offset n)
-          (λ n ne. ap (λ (h : Histories). (h.write n).bytes) (sym is) ∙ p.others n ne)
-          (ap (λ (h : Histories). (h.write u).bytes) (sym is) ∙ past-laid u w.events g.events a issued)
-          (lists g.events m.c.0 t ++ waiting g.control.pending m.c.0 t) ((cuts g.events).held (fields_at g.control m.c.0).sequence m.a.0 t) (shows.shows x m listed here counts t low)
+      (λ n. ap (λ (h : Histories). (h.write n).offset) (sym is) ∙ p.offset n)
+      (λ n ne. ap (λ (h : Histories). (h.write n).bytes) (sym is) ∙ p.others n ne)
+      (ap (λ (h : Histories). (h.write u).bytes) (sym is) ∙ past-laid u w.events g.events a issued)
+      (lists g.events m.c.0 t ++ waiting g.control.pending m.c.0 t) ((cuts g.events).held (fields_at g.control m.c.0).sequence m.a.0 t) (shows.shows x m listed here counts t low)
       ∙ ap (λ (c : Cuts). list_any (nat_eq u) (c.held (fields_at g.control m.c.0).sequence m.a.0 t)) p.cuts
 
   pub holds-as-cut : (w g : World) → Alike u w g → TargetsShowCuts g → list_any (issues_it u) w.events ≡ true → HoldsAsCut w w

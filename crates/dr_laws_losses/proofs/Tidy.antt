@@ -1,5 +1,5 @@
 -- Each write that is numbered was told of as it was issued, and lists have writes on tracks alone that their volume has.
-use Rattle.std.proofs.Common.{ℕ, ◌≡◌, ◌≢◌, ◌<◌, ◌+◌, ◌⊎◌, inl, inr, refl, ap, sym, ◌∙◌, subst, arith, Bool, true, false, cond, ◌||◌, nat_eq, List, [], ◌∷◌, ◌++◌, length, Option, Some, None}
+use Rattle.std.proofs.Common.{ℕ, ◌≡◌, ◌≢◌, ◌<◌, ◌+◌, inl, inr, refl, ap, sym, ◌∙◌, subst, arith, Bool, true, false, cond, ◌||◌, nat_eq, List, [], ◌∷◌, ◌++◌, length, Option, Some, None}
 use Rattle.std.specs.List.{fold, list_any}
 use Rattle.std.proofs.lemmas.Bool.{or_parts}
 use Rattle.std.proofs.lemmas.Bool.Decides.{eqb_tells}
@@ -11,19 +11,18 @@ use Rattle.dr_logic.specs.Tables.{at, at2}
 use Rattle.dr_model.specs.declared.event.Event.{Event}
 use Rattle.dr_model.specs.declared.event.Event.TheVariants.{Cut, Volume as VolumeDefined, Issue, Ack, Mirrored, Sent, Flashed, Committed, Reverted, Set, Back, Blanked, Stopped, Frozen, Thawed, Recovered, Begin}
 use Rattle.dr_model.specs.Histories.{Lists, Write, Histories, joined, after_event, histories, lists}
-use Rattle.dr_model.specs.Control.{Control, Fuse, Pending, Volume, World, is_volume, new_volume, nothing}
+use Rattle.dr_model.specs.Control.{Fuse, Pending, Volume, World, is_volume, new_volume, nothing}
 use Rattle.dr_model.specs.Moves.{Move, Land, Overwrite, Store, Mirror, LandBoth, Flash, Relate, Resync, Restore, Restart, Hold, target, told, told_in_stop, landed, keeps_staged, moved_keeping}
 use Rattle.dr_model.specs.Carry.{Act, Make, OpenAttempt, Redo, Acknowledge, Drop, EndFreeze, EndThaw, EndRecovery, acknowledged, dropped, frozen, thawed, recovered}
 use Rattle.dr_model.specs.Runs.{Task, run}
 use Rattle.dr_model.specs.Groups.{In}
 use Rattle.dr_model.specs.Table.{Table, table}
 use Rattle.dr_model.specs.Laws.{SoundBut, Sound, FlashFits, source}
-use Rattle.dr_model.specs.Allowed.{May, MayOpen, Ready, Allowed}
+use Rattle.dr_model.specs.Allowed.{May, Ready, Allowed}
 use Rattle.dr_model.specs.Cuts.{Cuts, Past, past, cuts, past_event, cuts_after}
 use Rattle.dr_model.proofs.Images.{histories-append}
 use Rattle.dr_laws_cuts.proofs.Journal.{past-history, cuts-append, cuts-quiet}
 use Rattle.dr_facts.proofs.Tables.{at_cases, at2_cases, at_part}
-use Rattle.dr_facts.proofs.Lists.{in-joined}
 use Rattle.dr_facts.proofs.Emits.{Tag, Defines, Issues, Acks, Mirrors, Sends, Flashes, Sets, Backs, Of, AllOf, of-append, all_tags, emits, each-told}
 use Rattle.dr_laws_sound.proofs.Turns.{done, done_in_stop, opened_in_stop, not_done, fused, server_at, next_of, carried_in, after_act}
 use Rattle.dr_laws_sound.proofs.KeepsSound.{MayDo}
@@ -33,7 +32,7 @@ use Rattle.dr_laws_sound.proofs.FitsMessages.{opened}
 use Rattle.dr_laws_sound.proofs.Starts as starts
 use Rattle.dr_laws_sound.proofs.Steps as steps
 use Rattle.dr_laws_sound.proofs.Rides.{Rides}
-use Rattle.dr_laws_sound.proofs.Riders.{Unheard, with_tables, Rider, rides-tasks}
+use Rattle.dr_laws_sound.proofs.Riders.{Unheard, Rider, rides-tasks}
 use Rattle.dr_laws_losses.proofs.Alike.{issues_it}
 
 -- ---- lists on tracks that volumes have

@@ -1,17 +1,16 @@
 -- What a step tells before it does anything issues no write, unless it is a host write.
-use Rattle.std.proofs.Common.{ℕ, ◌≡◌, refl, sym, ◌∙◌, Bool, true, false, List, [], ◌∷◌, Result, Ok, Err}
+use Rattle.std.proofs.Common.{ℕ, ◌≡◌, refl, Bool, true, false, List, [], ◌∷◌, Result, Ok}
 use Rattle.dr_model.specs.declared.event.Event.{Event}
 use Rattle.dr_model.specs.declared.event.Event.TheVariants.{PairLine, FlashLine, SessionLine, MirrorLine, ImageStart, ImageVolume, ImageBlock, ImageEnd}
 use Rattle.dr_model.specs.declared.step.Step.{Step}
-use Rattle.dr_model.specs.declared.step.Step.TheVariants.{Issue, Write}
 use Rattle.dr_model.specs.Control.{Control}
 use Rattle.dr_model.specs.MessagePlans.{told_begun}
 use Rattle.dr_model.specs.PlanParts.{Plan}
 use Rattle.dr_model.specs.Plans.{plan_of}
 use Rattle.dr_model.specs.SessionPlans.{is_idle}
-use Rattle.dr_laws_sound.proofs.Listed.{IsLine, AllLines, all-lines}
+use Rattle.dr_laws_sound.proofs.Listed.{IsLine, all-lines}
 use Rattle.dr_laws_sound.proofs.Cases.{Case, Issues, Writes, Lists, Sends, of-case}
-use Rattle.dr_laws_losses.proofs.Alike.{is_issue, NoIssue}
+use Rattle.dr_laws_losses.proofs.Alike.{NoIssue}
 use Rattle.dr_laws_losses.proofs.Steps.{issues}
 
 pub line-none : (e : Event) (es : List Event) → IsLine e → NoIssue es → NoIssue (e ∷ es)

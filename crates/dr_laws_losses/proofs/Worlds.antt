@@ -1,22 +1,21 @@
 -- Acts and plans by the control state alone: in two worlds with one control state, whose journals tell the same but for what host writes lay,
 -- they come to such worlds again.
-use Rattle.std.proofs.Common.{ℕ, ◌≡◌, ◌+◌, inl, inr, refl, ap, sym, ◌∙◌, subst, Bool, true, false, cond, not, List, [], ◌∷◌, ◌++◌, Option, Some, None}
+use Rattle.std.proofs.Common.{ℕ, ◌≡◌, ◌+◌, inr, refl, ap, sym, subst, Bool, true, false, cond, not, List, [], ◌∷◌, ◌++◌, Option, Some, None}
 use Rattle.dr_logic.specs.Tables.{at}
 use Rattle.dr_ids.specs.declared.refusal.Refusal.{Refusal}
 use Rattle.dr_ids.specs.declared.refusal.Refusal.TheVariants.{Stopped as StoppedIn}
-use Rattle.dr_model.specs.Refusals.{stopped}
 use Rattle.dr_model.specs.declared.event.Event.{Event}
-use Rattle.dr_model.specs.declared.event.Event.TheVariants.{Issue, Ack, Stopped, Frozen, Thawed, Recovered, Answer}
+use Rattle.dr_model.specs.declared.event.Event.TheVariants.{Issue, Ack, Stopped, Frozen, Thawed, Recovered}
 use Rattle.dr_model.specs.declared.said.Said.{Said}
 use Rattle.dr_model.specs.Answers.{answer}
 use Rattle.dr_model.specs.Histories.{Write, histories}
 use Rattle.dr_model.specs.Layout.{Fields}
 use Rattle.dr_model.specs.Control.{Control, Fuse, Volume, World}
 use Rattle.dr_model.specs.Moves.{Move, Land, Overwrite, Keep, Fetch, Restore, Store, Mirror, LandBoth, Hold, Carried, settled, settled_in_stop, target, next_fields, carried, told, told_in_stop, landed, keeps_staged, moved_keeping, updated_keeping}
-use Rattle.dr_model.specs.Carry.{lower, burnt, Act, Make, OpenAttempt, Redo, Acknowledge, Drop, EndFreeze, EndThaw, EndRecovery, Next, Pass, Do, End, Entry, Turn, Outcome, Ended, ended, gives_way, gate_at, writes, counts_by, pass, equal, spent, off, update_keeping, turn_ended, finished, cut_short, turn, redo, redo_ended, redo_writes, act, attempt_begun, opened_by, continue, go, carry, follow}
+use Rattle.dr_model.specs.Carry.{lower, burnt, Act, Make, OpenAttempt, Redo, Acknowledge, Drop, EndFreeze, EndThaw, EndRecovery, Next, Pass, Do, End, Entry, Turn, Outcome, Ended, ended, gives_way, gate_at, writes, counts_by, pass, equal, spent, off, update_keeping, finished, cut_short, turn, redo, redo_writes, act, attempt_begun, opened_by, continue, go, carry, follow}
 use Rattle.dr_model.specs.Sessions.{changed, begun as attempted}
 use Rattle.dr_model.specs.PlanParts.{Plan}
-use Rattle.dr_model.specs.Carried.{begun, finish, carried_out, answered, said, after_plan, losing, masters_lost}
+use Rattle.dr_model.specs.Carried.{begun, finish, carried_out, said, after_plan, losing, masters_lost}
 use Rattle.dr_facts.proofs.Emits.{Of, Lists as ByEvents, by_moves, any-lists, emitted, stop-onto, all-told}
 use Rattle.dr_laws_losses.proofs.Alike.{is_issue, NoIssue, AlikeEvents, alike-append, alike-same}
 

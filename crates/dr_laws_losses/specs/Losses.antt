@@ -1,5 +1,5 @@
 -- What a recovery of a session loses, where all members count.
-use Rattle.std.specs.Prelude.{◌≡◌, ◌<◌, ◌↔◌, ℕ, true, List, [], ◌∷◌, ◌++◌, map, Ok}
+use Rattle.std.specs.Prelude.{◌≡◌, ◌↔◌, ℕ, true, List, [], ◌∷◌, ◌++◌, map, Ok}
 use Rattle.dr_ids.specs.declared.names.Member.{Member}
 use Rattle.dr_ids.specs.declared.refusal.Decision.{Decision}
 use Rattle.dr_model.specs.declared.event.Event.{Event}
@@ -70,8 +70,8 @@ pub record IsUncut (ms : List Member) (begun events : List Event) (s n w : ℕ) 
   pub cut : CutAt events s n member.a.0
   pub without : In w (lists cut.before member.a.0 track) → ⊥
 
--- Write w was acknowledged before the last cut of the group, and yet a primary's track didn't hold it there: the track held it as the recovery
--- began. So it was taken away before that cut, or had come to another volume, and was given to that primary after it.
+-- Write w was acknowledged before the last cut of the group, and yet a primary's track that held it as the recovery began didn't hold it there: it
+-- was taken away and given back, or it was one of another volume, and came from that.
 pub record WasGivenBack (ms : List Member) (begun events : List Event) (s n w : ℕ) : Type 0 where
   pub member : Member
   pub here : In member ms
@@ -81,21 +81,21 @@ pub record WasGivenBack (ms : List Member) (begun events : List Event) (s n w : 
   pub acknowledged : In (Ack w) last.place.before
   pub lacked : In w (lists last.place.before member.a.0 track) → ⊥
 
--- some volumes of pairs
+-- the volumes that are used after the recovery
 abbrev pub firsts : List Pair → List ℕ
 firsts pairs = map (λ (p : Pair). p.first) pairs
 
--- and the others
+-- those in whose place they are used
 abbrev pub seconds : List Pair → List ℕ
 seconds pairs = map (λ (p : Pair). p.second) pairs
 
--- What such a recovery loses. The lost writes are those that a primary held as the recovery began and whose cut hasn't them; writes are numbered
--- from 1. If a write that is kept depends on a lost one, that was given back; and if it was acknowledged for that track of that primary, a step that may take
+-- What such a recovery loses. The lost writes are exactly those that a primary held as the recovery began and that its cut hasn't. A write that is
+-- kept depends on no lost one, but on one that was given back; and if that was acknowledged for this track of this primary, a step that may take
 -- writes away took it away before the last cut of the group.
 pub record LossIsKnown (before recovery : List Task) (s n : ℕ) (pairs : List Pair) (r : RecoversAll before recovery s n pairs) : Type 0 where
-  pub lost : (w : ℕ) → 0 < w → IsLost most_tracks (lists (run before).events) (lists (run (before ++ recovery)).events) pairs w
+  pub lost : (w : ℕ) → IsLost most_tracks (lists (run before).events) (lists (run (before ++ recovery)).events) pairs w
       ↔ IsUncut (members_of (recovered_world before r.first r.step) s) (run before).events (recovered_world before r.first r.step).events s n w
-  pub kept : (w u : ℕ) → 0 < u → IsHeld most_tracks (lists (run (before ++ recovery)).events) (firsts pairs) w → IsHeld most_tracks (lists (run before).events) (seconds pairs) w
+  pub kept : (w u : ℕ) → IsHeld most_tracks (lists (run (before ++ recovery)).events) (firsts pairs) w → IsHeld most_tracks (lists (run before).events) (seconds pairs) w
       → IsLost most_tracks (lists (run before).events) (lists (run (before ++ recovery)).events) pairs u → DependsOn (run (before ++ recovery)).events w u
       → WasGivenBack (members_of (recovered_world before r.first r.step) s) (run before).events (recovered_world before r.first r.step).events s n u
   pub taken : (u : ℕ) (g : WasGivenBack (members_of (recovered_world before r.first r.step) s) (run before).events (recovered_world before r.first r.step).events s n u)
