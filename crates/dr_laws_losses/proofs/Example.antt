@@ -1,5 +1,5 @@
 -- The example, carried out. Of sets nothing computes: so the seal is carried out entry by entry, and all else at once.
-use Rattle.std.proofs.Common.{◌≡◌, inl, inr, subst, refl, ap, sym, ◌∙◌, true, false, cond, not, ◌&&◌, ◌||◌, nat_eq, [], ◌∷◌, ◌++◌, Some, None}
+use Rattle.std.proofs.Common.{arith, ◌≡◌, inl, inr, subst, refl, ap, sym, ◌∙◌, true, false, cond, not, ◌&&◌, ◌||◌, nat_eq, [], ◌∷◌, ◌++◌, Some, None}
 use Rattle.std.specs.FinSet.{len, len-empty}
 use Rattle.dr_logic.specs.Bytes.{zeros}
 use Rattle.dr_ids.specs.declared.names.Member.{Member}
@@ -21,7 +21,9 @@ use Rattle.dr_model.specs.Forming.{drains, turns}
 use Rattle.dr_model.specs.Moves.{Seal}
 use Rattle.dr_model.specs.Carry.{Make, Pass, Do, Outcome, carry, go, act, turn, update_keeping, redo}
 use Rattle.dr_model.specs.Carried.{begun, finish, answered, said, after_plan, masters_lost}
-use Rattle.dr_model.specs.Histories.{histories}
+use Rattle.dr_ids.specs.Sizes.{most_tracks}
+use Rattle.dr_lost.specs.Lost.{IsLost}
+use Rattle.dr_model.specs.Histories.{histories, lists}
 use Rattle.dr_model.specs.Contents.{image, laid}
 use Rattle.dr_model.specs.Runs.{course, after_task, after_tasks, run}
 use Rattle.dr_model.specs.Messages.{heard}
@@ -174,4 +176,27 @@ meets = record {
     stays = λ q here t. refl;
     alike = alike;
   };
+}
+
+-- ---- what is lost
+
+held-there : lists last_world.events 256 0 ≡ 1 ∷ []
+unfolding w after_tasks after_plan carry act turn update_keeping redo histories image laid changed zeros decision decided servers_where all_tracks is_whole rest in_order drains turns
+held-there = refl
+
+kept-there : lists found.events 768 0 ≡ []
+unfolding w after_tasks after_plan carry act turn update_keeping redo histories image laid changed zeros decision decided servers_where all_tracks is_whole rest in_order drains turns
+kept-there = refl
+
+pub holds : lists (run before).events 256 0 ≡ 1 ∷ []
+holds = ap (λ (v : World). lists v.events 256 0) before-is ∙ held-there
+
+pub loses : IsLost most_tracks (lists (run before).events) (lists (run (before ++ recover ∷ [])).events) pairs 1
+loses = record {
+  pair = record { second = 256; first = 768 };
+  track = 0;
+  among = inl refl;
+  below = omega arith;
+  held = subst (In 1) (sym holds) (inl refl);
+  gone = λ h. subst (In 1) (ap (λ (v : World). lists v.events 768 0) found-is ∙ kept-there) h;
 }

@@ -1,4 +1,4 @@
--- An example: one Global Copy pair under Global Mirror. A write is in group 1, and another one comes after it; then the first site is lost.
+-- An example: one Global Copy pair under Global Mirror. A write comes after group 1, and then the first site is lost.
 use Rattle.std.specs.Prelude.{ℕ, true, false, List, [], ◌∷◌, ◌++◌, None, Ok}
 use Rattle.dr_model.specs.declared.step.Name.{Name}
 use Rattle.dr_model.specs.declared.step.Devs.{Devs}
@@ -7,10 +7,11 @@ use Rattle.dr_model.specs.declared.step.Step.TheVariants.{Server, Volume, MakePa
 use Rattle.dr_model.specs.Runs.{Task}
 use Rattle.dr_lost.specs.declared.lost.Pair.{Pair}
 
--- the names of both servers
+-- the server of the first site
 abbrev pub name_a : Name
 name_a = record { len = 1; bytes = 65 ∷ [] }
 
+-- that of the second one
 abbrev pub name_b : Name
 name_b = record { len = 1; bytes = 66 ∷ [] }
 
