@@ -87,7 +87,7 @@ one-more tasks t old before after e n i is =
     in-way told middle behind placed begins = elim told.way [
       | inl none ↦ none-placed told.first middle behind e none (is-issue n e i) placed
       | inr one ↦
-          let parts = one-placed _ e middle behind (sym one.5 ∙ placed) in
+          let parts = one-placed _ e middle behind (sym one.6 ∙ placed) in
           record { first = tasks; is = begins ∙ ap (λ m. (run tasks).events ++ m) parts.0 ∙ append-nil (run tasks).events; number = same-number n ((run tasks).control.issued + 1) e i _ _ _ _ _ parts.1 }
     ]
 

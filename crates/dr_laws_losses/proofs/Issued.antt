@@ -26,6 +26,7 @@ use Rattle.dr_laws_sound.proofs.Parts.{Comes, last-plan, plain-case}
 use Rattle.dr_laws_losses.proofs.Alike.{NoIssue}
 use Rattle.dr_laws_losses.proofs.Steps.{none-append, image-none}
 use Rattle.dr_laws_losses.proofs.Worlds.{unissued}
+use Rattle.dr_laws_losses.specs.Pairs.{asks_write}
 use Rattle.dr_laws_losses.proofs.Told.{line-none, begun-none}
 
 -- from w to u events were told, and no write was issued
@@ -98,7 +99,7 @@ pub record TellsFirst (w : World) (t : Task) : Type 0 where
   pub more : List Event
   pub is : (after_task w t).events ≡ w.events ++ (first ++ more)
   pub none : NoIssue more
-  pub way : NoIssue first ⊎ ((v : ℕ) × (q : ℕ) × (offset : ℕ) × (len : ℕ) × (bytes : List ℕ) × (first ≡ Issue (w.control.issued + 1) v q offset len bytes ∷ []))
+  pub way : NoIssue first ⊎ ((asks_write t.asked ≡ true) × (v : ℕ) × (q : ℕ) × (offset : ℕ) × (len : ℕ) × (bytes : List ℕ) × (first ≡ Issue (w.control.issued + 1) v q offset len bytes ∷ []))
 
 -- a plan that begins where its step does
 plan-tells : (w : World) (line : ℕ) (p : Plan) → Quietly (begun w p) (after_plan w line p)
@@ -112,17 +113,17 @@ plan-tells w line p =
     }
 
 -- what its plan tells as it begins
-abbrev Way : Control → List Event → Type 0
-Way k first = NoIssue first ⊎ ((v : ℕ) × (q : ℕ) × (offset : ℕ) × (len : ℕ) × (bytes : List ℕ) × (first ≡ Issue (k.issued + 1) v q offset len bytes ∷ []))
+abbrev Way : Result Step ℕ → Control → List Event → Type 0
+Way asked k first = NoIssue first ⊎ ((asks_write asked ≡ true) × (v : ℕ) × (q : ℕ) × (offset : ℕ) × (len : ℕ) × (bytes : List ℕ) × (first ≡ Issue (k.issued + 1) v q offset len bytes ∷ []))
 
-case-way : (k : Control) (events : List Event) (line : ℕ) (asked : Result Step ℕ) (p : Plan) → Case k events line asked p → Way k p.told
-case-way k events line _ _ (Issues v t offset len bytes free) = inr (v, t, offset, len, bytes, refl)
-case-way k events line _ _ (Writes v t offset len bytes free) = inr (v, t, offset, len, bytes, refl)
+case-way : (k : Control) (events : List Event) (line : ℕ) (asked : Result Step ℕ) (p : Plan) → Case k events line asked p → Way asked k p.told
+case-way k events line _ _ (Issues v t offset len bytes free) = inr (refl, v, t, offset, len, bytes, refl)
+case-way k events line _ _ (Writes v t offset len bytes free) = inr (refl, v, t, offset, len, bytes, refl)
 case-way k events line _ _ (Lists told ls few) = inl (all-lines NoIssue refl line-none told ls)
 case-way k events line _ _ (Sends s server x r o posts) = inl (begun-none (is_idle r.master.phase) s o.number)
 case-way k events line _ _ c = inl refl
 
-plan-first : (w : World) (t : Task) (p : Plan) → Way w.control p.told → (after_task w t).events ≡ (after_plan w t.line p).events → TellsFirst w t
+plan-first : (w : World) (t : Task) (p : Plan) → Way t.asked w.control p.told → (after_task w t).events ≡ (after_plan w t.line p).events → TellsFirst w t
 plan-first w t p way is =
     let q : Quietly (begun w p) (after_plan w t.line p) = plan-tells w t.line p in
     record { first = p.told; more = q.more; is = is ∙ (q.is ∙ append_assoc w.events p.told q.more); none = q.none; way = way }

@@ -15,5 +15,6 @@ pub mod Positive
 pub mod Known
 pub mod Issued
 pub mod Broken
+pub mod Early
 pub mod Laws
 pub mod Example

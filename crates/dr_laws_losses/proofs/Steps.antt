@@ -30,7 +30,7 @@ use Rattle.dr_model.specs.Carried.{begun, finish, carried_out, answered, after_p
 use Rattle.dr_model.specs.Forming.{Way, formed, form_said}
 use Rattle.dr_model.specs.Runs.{Task, compared, image_told, volume_told, blocks_told, image_plan, imaged, after_task}
 use Rattle.dr_laws_cuts.proofs.Journal.{past-history}
-use Rattle.dr_laws_losses.specs.Pairs.{HoldsSame}
+use Rattle.dr_laws_losses.specs.Pairs.{HoldsSame, issues}
 use Rattle.dr_laws_losses.proofs.Alike.{mark, is_issue, NoIssue, AlikeEvents, alike-same, past-alike}
 use Rattle.dr_laws_losses.proofs.Worlds.{Alike, by-control, told-both, said-alike, plan-alike, lost-alike, with_told}
 use Rattle.dr_laws_losses.proofs.Forms.{room-same, AlikeWay, formed-alike}
@@ -123,12 +123,6 @@ same-bytes xs ys is = ap not ((bytes_eq-Decides xs ys).1 is)
 none-differs : (p : ℕ → Bool) (n from : ℕ) → ((t : ℕ) → t < from + n → p t ≡ false) → find p (range_with_len from n) ≡ None
 none-differs p zero from none = refl
 none-differs p (suc n) from none = ap (λ b. cond b (Some from) (find p (range_with_len (from + 1) n))) (none from (omega arith)) ∙ none-differs p n (from + 1) (λ t lt. none t (omega arith))
-
--- steps that issue a write
-abbrev pub issues : Step → Bool
-issues (Issue v t offset len bytes) = true
-issues (Write v t offset len bytes) = true
-issues step = false
 
 module _ (u : ℕ) where
   -- what lists say is the same in both

@@ -14,10 +14,10 @@ use Rattle.dr_model.specs.Cuts.{Cuts, past, cuts}
 use Rattle.dr_model.specs.Runs.{Task, after_task, after_tasks}
 use Rattle.dr_laws_cuts.proofs.Journal.{past-history}
 use Rattle.dr_laws_targets.specs.Counted.{CountsAsTarget, TargetsShowCuts}
-use Rattle.dr_laws_losses.specs.Pairs.{PairsHoldSame}
+use Rattle.dr_laws_losses.specs.Pairs.{PairsHoldSame, issues}
 use Rattle.dr_laws_losses.proofs.Alike.{NoIssue, AlikeEvents, SamePast, past-alike, past-laid, issues_it}
 use Rattle.dr_laws_losses.proofs.Worlds.{Alike}
-use Rattle.dr_laws_losses.proofs.Steps.{issues, AlikeTask, task-alike, lists-alike}
+use Rattle.dr_laws_losses.proofs.Steps.{AlikeTask, task-alike, lists-alike}
 use Rattle.dr_laws_losses.proofs.Marks.{image-tells}
 
 module _ (u : ℕ) where

@@ -11,7 +11,7 @@ use Rattle.dr_model.specs.SessionPlans.{is_idle}
 use Rattle.dr_laws_sound.proofs.Listed.{IsLine, all-lines}
 use Rattle.dr_laws_sound.proofs.Cases.{Case, Issues, Writes, Lists, Sends, of-case}
 use Rattle.dr_laws_losses.proofs.Alike.{NoIssue}
-use Rattle.dr_laws_losses.proofs.Steps.{issues}
+use Rattle.dr_laws_losses.specs.Pairs.{issues, asks_write}
 
 pub line-none : (e : Event) (es : List Event) → IsLine e → NoIssue es → NoIssue (e ∷ es)
 line-none (PairLine line v u state kind k) es l none = none
@@ -27,10 +27,6 @@ line-none e es l none = absurd l
 pub begun-none : (b : Bool) (s n : ℕ) → NoIssue (told_begun b s n)
 begun-none true s n = refl
 begun-none false s n = refl
-
-abbrev pub asks_write : Result Step ℕ → Bool
-asks_write (Ok step) = issues step
-asks_write asked = false
 
 pub case-none : (k : Control) (events : List Event) (line : ℕ) (asked : Result Step ℕ) (p : Plan) → Case k events line asked p → asks_write asked ≡ false → NoIssue p.told
 case-none k events line _ _ (Issues v t offset len bytes free) none = absurd cc
