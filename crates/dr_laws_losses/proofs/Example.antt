@@ -1,4 +1,4 @@
--- The example, carried out. Of sets nothing computes: so the seal is carried out entry by entry, and all else at once.
+-- The example, carried out: its seal entry by entry, and all else at once.
 use Rattle.std.proofs.Common.{arith, ◌≡◌, inl, inr, subst, refl, ap, sym, ◌∙◌, true, false, cond, not, ◌&&◌, ◌||◌, nat_eq, [], ◌∷◌, ◌++◌, Some, None}
 use Rattle.std.specs.FinSet.{len, len-empty}
 use Rattle.dr_logic.specs.Bytes.{zeros}
@@ -38,98 +38,53 @@ use Rattle.dr_laws_losses.specs.Pairs.{PairsHoldSame}
 use Rattle.dr_laws_losses.specs.Losses.{members_of, AreTargets, RecoversAll}
 use Rattle.dr_laws_losses.specs.Example.{volumes, pairs_made, unsealed, exchange, work, before, recover, pairs}
 use Rattle.dr_laws_losses.proofs.Known.{tasks-joined}
-
-abbrev m : Member
-m = record { a = record { 0 = 256 }; b = record { 0 = 512 }; c = record { 0 = 768 }; server = record { 0 = 0 } }
+use Rattle.dr_laws_losses.proofs.Early.{hold-same}
+use Rattle.dr_laws_losses.proofs.Sealed.{m, seals, moved_on, control_then, sealed, MaySeal, seal-is}
 
 -- as the seal begins
 w : World
 w = run (volumes ++ pairs_made ++ unsealed)
 
-abbrev seals : Plan
-seals = record { first = same; told = []; entries = seal_entries 1 256 512 1; follows = none_follow; last = exchanged 1 0 true phases.Seal (m ∷ []); says = says_phase 1 }
-
 plan-is : (course w (exchange 14)).last.plan ≡ seals
 unfolding w after_tasks after_plan carry act turn update_keeping redo histories image laid changed zeros decision decided servers_where all_tracks is_whole rest in_order drains turns
 plan-is = refl
 
-task-is : after_task w (exchange 14) ≡ masters_lost w (after_plan w 14 seals)
-task-is = ap (λ (p : Plan). masters_lost w (after_plan w 14 p)) plan-is
-
--- ---- its entries
-
-abbrev b : World
-b = begun w seals
-
-first-is : refuse_if (void_refusal 256 1) b.control ≡ Pass
+first-is : refuse_if (void_refusal 256 1) (begun w seals).control ≡ Pass
 unfolding w after_tasks after_plan carry act turn update_keeping redo histories image laid changed zeros decision decided servers_where all_tracks is_whole rest in_order drains turns
 first-is = refl
 
-bare : len (fields_at b.control 256).out_of_sync ≡ 0
+bare : len (fields_at (begun w seals).control 256).out_of_sync ≡ 0
 unfolding w after_tasks after_plan carry act turn update_keeping redo histories image laid changed zeros decision decided servers_where all_tracks is_whole rest in_order drains turns
 bare = len-empty nat_cmp
 
-reached : send_refusal 256 512 b.control ≡ None
+reached : send_refusal 256 512 (begun w seals).control ≡ None
 unfolding w after_tasks after_plan carry act turn update_keeping redo histories image laid changed zeros decision decided servers_where all_tracks is_whole rest in_order drains turns
 reached = refl
 
-unsealed-yet : nat_eq (fields_at b.control 512).seal 1 ≡ false
+unsealed-yet : nat_eq (fields_at (begun w seals).control 512).seal 1 ≡ false
 unfolding w after_tasks after_plan carry act turn update_keeping redo histories image laid changed zeros decision decided servers_where all_tracks is_whole rest in_order drains turns
 unsealed-yet = refl
 
-second-is : refuse_if (seal_refusal 256 512) b.control ≡ Pass
-second-is = ap (λ n. end_if (cond (nat_eq n 0) (send_refusal 256 512 b.control) None)) bare ∙ ap end_if reached
-
-third-is : seal_on 1 256 512 1 b.control ≡ Do (Make (Seal 512 256 1 1))
-third-is = ap (λ n. cond (nat_eq n 0 && not (nat_eq (fields_at b.control 512).seal 1)) (Do (Make (Seal 512 256 1 1))) Pass) bare ∙ ap (λ c. cond (true && not c) (Do (Make (Seal 512 256 1 1))) Pass) unsealed-yet
-
-abbrev o : Outcome
-o = go b (Do (Make (Seal 512 256 1 1))) (λ v. carry v [])
-
-entries-are : carry b seals.entries ≡ o
-entries-are =
-    carry-first b (refuse_if (void_refusal 256 1)) (refuse_if (seal_refusal 256 512) ∷ seal_on 1 256 512 1 ∷ []) Pass first-is
-    ∙ (carry-first b (refuse_if (seal_refusal 256 512)) (seal_on 1 256 512 1 ∷ []) Pass second-is
-    ∙ carry-first b (seal_on 1 256 512 1) [] (Do (Make (Seal 512 256 1 1))) third-is)
-
--- ---- as it ends
-
-ends-well : o.1 ≡ None
+ends-well : (moved_on w).1 ≡ None
 unfolding w after_tasks after_plan carry act turn update_keeping redo histories image laid changed zeros decision decided servers_where all_tracks is_whole rest in_order drains turns
 ends-well = refl
 
-bare-then : len (fields_at o.0.control 256).out_of_sync ≡ 0
+bare-then : len (fields_at (moved_on w).0.control 256).out_of_sync ≡ 0
 unfolding w after_tasks after_plan carry act turn update_keeping redo histories image laid changed zeros decision decided servers_where all_tracks is_whole rest in_order drains turns
 bare-then = len-empty nat_cmp
 
-abbrev control_then : Control
-control_then = record o.0.control { sessions = changed 1 (with_master (λ r. phases.taken r 0 phases.Done)) o.0.control.sessions; flight = heard 1 0 (o.0.control.flight.epoch 1) phases.Seal o.0.control.flight }
-
-control-is : seals.last o.0.control ≡ control_then
-control-is = ap (λ n. record o.0.control { sessions = changed 1 (with_master (λ r. phases.taken r 0 (cond (not (nat_eq n 0) || false) phases.NotYet phases.Done))) o.0.control.sessions; flight = heard 1 0 (o.0.control.flight.epoch 1) phases.Seal o.0.control.flight }) bare-then
-
-abbrev sealed : World
-sealed = masters_lost w (said (record o.0 { control = control_then }) 14 (says_phase 1 control_then))
-
-answered-is : (e : Outcome) → carry b seals.entries ≡ e → e.1 ≡ None → after_plan w 14 seals ≡ said (record e.0 { control = seals.last e.0.control }) 14 (says_phase 1 (seals.last e.0.control))
-unfolding after_plan
-answered-is (v, None) is none = ap (λ (e : Outcome). said (finish seals e.0 e.1) 14 (answered seals (finish seals e.0 e.1).control e.1)) is
-answered-is (v, Some r) is none = absurd cc
-
-seal-is : after_task w (exchange 14) ≡ sealed
-seal-is =
-    task-is ∙ ap (masters_lost w) (answered-is o entries-are ends-well)
-    ∙ ap (λ (k : Control). masters_lost w (said (record o.0 { control = k }) 14 (says_phase 1 k))) control-is
+may-seal : MaySeal w
+may-seal = record { plan = plan-is; first = first-is; bare = bare; reached = reached; unsealed = unsealed-yet; well = ends-well; bare_then = bare-then }
 
 -- ---- all of it
 
-before-is : run before ≡ after_tasks sealed work
+before-is : run before ≡ after_tasks (sealed w) work
 unfolding after_tasks w
-before-is = tasks-joined (volumes ++ pairs_made ++ unsealed) (exchange 14 ∷ work) ∙ ap (λ v. after_tasks v work) seal-is
+before-is = tasks-joined (volumes ++ pairs_made ++ unsealed) (exchange 14 ∷ work) ∙ ap (λ v. after_tasks v work) (seal-is w may-seal)
 
 -- the world as the recovery begins, and as it is answered
 abbrev last_world : World
-last_world = after_tasks sealed work
+last_world = after_tasks (sealed w) work
 
 abbrev found : World
 found = after_task last_world recover
@@ -148,8 +103,13 @@ counts-there = refl
 
 -- no write was issued when the pair was made
 alike : PairsHoldSame nothing (before ++ recover ∷ [])
-unfolding after_plan carry act turn update_keeping histories
-alike = (tt, (tt, (tt, (tt, (tt, (tt, (λ full none t lt. refl, (tt, (tt, (tt, (tt, (tt, (tt, (tt, (tt, (tt, (tt, (tt, (tt, (tt, tt))))))))))))))))))))
+alike = hold-same (before ++ recover ∷ []) (record {
+  early = volumes ++ pairs_made;
+  late = unsealed ++ exchange 14 ∷ (work ++ recover ∷ []);
+  cut = refl;
+  unwritten = refl;
+  copied = refl;
+})
 
 -- ---- the premises
 

@@ -17,4 +17,5 @@ pub mod Issued
 pub mod Broken
 pub mod Early
 pub mod Laws
+pub mod Sealed
 pub mod Example
