@@ -87,6 +87,10 @@ tasks-longer (t ∷ tasks) w =
     let rest : Longer (after_task w t).events (after_tasks (after_task w t) tasks).events = tasks-longer tasks (after_task w t) in
     record { more = one.more ++ rest.more; is = rest.is ∙ ap (λ es. es ++ rest.more) one.is ∙ append_assoc w.events one.more rest.more }
 
+pub first-then : (w : World) (t : Task) (ts : List Task) → after_tasks w (t ∷ ts) ≡ after_tasks (after_task w t) ts
+unfolding after_tasks
+first-then w t ts = refl
+
 pub tasks-joined : (xs ys : List Task) → run (xs ++ ys) ≡ after_tasks (run xs) ys
 unfolding after_tasks
 tasks-joined xs ys = fold-append after_task nothing xs ys

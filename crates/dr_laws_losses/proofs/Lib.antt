@@ -19,3 +19,4 @@ pub mod Early
 pub mod Laws
 pub mod Sealed
 pub mod Example
+pub mod Uncopied

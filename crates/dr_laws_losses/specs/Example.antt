@@ -70,3 +70,17 @@ recover = task 20 (Recover 1)
 -- the target is used in the place of the primary
 abbrev pub pairs : List Pair
 pairs = record { second = 256; first = 768 } ∷ []
+
+-- ---- another one: a byte that was there is written, and then the pair is made without a copy
+
+-- up to the seal
+abbrev pub written : List Task
+written = volumes ++ task 21 (Write 256 0 0 1 (0 ∷ [])) ∷ pairs_made ++ unsealed
+
+-- after it; and then the first site is lost
+abbrev pub unwritten : List Task
+unwritten = exchange 15 ∷ exchange 16 ∷ exchange 17 ∷ task 19 (Stop name_a) ∷ []
+
+-- all that comes before the recovery
+abbrev pub uncopied : List Task
+uncopied = written ++ exchange 14 ∷ unwritten
