@@ -1,5 +1,5 @@
 -- Where pairs that are made without a copy are made before the first host write, their volumes hold the same writes: none.
-use Rattle.std.proofs.Common.{ℕ, ◌≡◌, ◌<◌, ◌+◌, ◌⊎◌, inl, inr, refl, ap, sym, ◌∙◌, subst, append_assoc, Bool, true, false, not, List, [], ◌∷◌, ◌++◌, Result, Ok, Err}
+use Rattle.std.proofs.Common.{ℕ, ◌≡◌, ◌<◌, ◌+◌, inl, inr, refl, ap, sym, ◌∙◌, subst, append_assoc, true, false, not, List, [], ◌∷◌, ◌++◌, Result, Ok}
 use Rattle.std.specs.List.{list_any}
 use Rattle.std.proofs.lemmas.Bool.{or_parts}
 use Rattle.std.proofs.lemmas.List.{append-nil}
@@ -63,11 +63,12 @@ early-same : (todo done rest : List Task) → NoIssue (run done).events → list
 early-same [] done rest none other later = subst (λ ts. PairsHoldSame (run ts) rest) (append-nil done) later
 early-same (t ∷ todo) done rest none other later =
     let both = or_parts (asks_write t.asked) _ other in
-    let is : run (done ++ t ∷ []) ≡ after_task (run done) t = run-more done t in
-    (same-none done none t.asked,
-    subst (λ w. PairsHoldSame w (todo ++ rest)) is
-    (early-same todo (done ++ t ∷ []) rest (subst (λ (w : World). NoIssue w.events) (sym is) (step-none (run done) t none both.0)) both.1
-    (subst (λ ts. PairsHoldSame (run ts) rest) (sym (append_assoc done (t ∷ []) todo)) later)))
+    let is : run (done ++ t ∷ []) ≡ after_task (run done) t = run-more done t in (
+      same-none done none t.asked,
+      subst (λ w. PairsHoldSame w (todo ++ rest)) is
+          (early-same todo (done ++ t ∷ []) rest (subst (λ (w : World). NoIssue w.events) (sym is) (step-none (run done) t none both.0)) both.1
+          (subst (λ ts. PairsHoldSame (run ts) rest) (sym (append_assoc done (t ∷ []) todo)) later)),
+    )
 
 nothing-told : NoIssue (run []).events
 unfolding after_tasks

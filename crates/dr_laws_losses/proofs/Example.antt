@@ -1,34 +1,28 @@
 -- The example, carried out: its seal entry by entry, and all else at once.
-use Rattle.std.proofs.Common.{arith, ◌≡◌, inl, inr, subst, refl, ap, sym, ◌∙◌, true, false, cond, not, ◌&&◌, ◌||◌, nat_eq, [], ◌∷◌, ◌++◌, Some, None}
+use Rattle.std.proofs.Common.{arith, ◌≡◌, inl, inr, subst, refl, ap, sym, ◌∙◌, true, false, nat_eq, [], ◌∷◌, ◌++◌, None}
 use Rattle.std.specs.FinSet.{len, len-empty}
 use Rattle.dr_logic.specs.Bytes.{zeros}
 use Rattle.dr_ids.specs.declared.names.Member.{Member}
 use Rattle.dr_ids.specs.declared.refusal.Decision.TheVariants.{Nothing}
 use Rattle.dr_model.specs.declared.said.Addition.TheVariants.{InGroup}
 use Rattle.dr_model.specs.declared.said.Said.TheVariants.{Done}
-use Rattle.dr_model.specs.Control.{Control, World}
+use Rattle.dr_model.specs.Control.{World}
 use Rattle.dr_model.specs.Entries.{fields_at}
-use Rattle.dr_model.specs.Phases as phases
-use Rattle.dr_model.specs.Sessions.{changed, with_master}
-use Rattle.dr_model.specs.SessionEntries.{seal_entries, seal_on, void_refusal, seal_refusal}
-use Rattle.dr_model.specs.SessionPlans.{exchanged, says_phase}
-use Rattle.dr_model.specs.PairEntries.{send_refusal, refuse_if, end_if}
-use Rattle.dr_model.specs.PlanParts.{Plan, same, none_follow}
+use Rattle.dr_model.specs.Sessions.{changed}
+use Rattle.dr_model.specs.SessionEntries.{void_refusal}
+use Rattle.dr_model.specs.PairEntries.{send_refusal, refuse_if}
 use Rattle.dr_model.specs.Decisions.{decision, decided}
 use Rattle.dr_model.specs.Phases.{servers_where}
 use Rattle.dr_model.specs.Relations.{all_tracks, is_whole, rest, in_order}
 use Rattle.dr_model.specs.Forming.{drains, turns}
-use Rattle.dr_model.specs.Moves.{Seal}
-use Rattle.dr_model.specs.Carry.{Make, Pass, Do, Outcome, carry, go, act, turn, update_keeping, redo}
-use Rattle.dr_model.specs.Carried.{begun, finish, answered, said, after_plan, masters_lost}
+use Rattle.dr_model.specs.Carry.{Pass, carry, act, turn, update_keeping, redo}
+use Rattle.dr_model.specs.Carried.{begun, after_plan}
 use Rattle.dr_ids.specs.Sizes.{most_tracks}
 use Rattle.dr_lost.specs.Lost.{IsLost}
 use Rattle.dr_model.specs.Histories.{histories, lists}
 use Rattle.dr_model.specs.Contents.{image, laid}
 use Rattle.dr_model.specs.Runs.{course, after_task, after_tasks, run}
-use Rattle.dr_model.specs.Messages.{heard}
 use Rattle.std.specs.Ordering.{nat_cmp}
-use Rattle.dr_model.proofs.CarryLemmas.{carry-first}
 use Rattle.dr_model.specs.Groups.{In}
 use Rattle.dr_laws_sound.specs.Acknowledged.{said_in}
 use Rattle.dr_laws_sound.proofs.Journal.{run-more}
@@ -36,10 +30,10 @@ use Rattle.dr_model.specs.SessionEntries.{counts_at}
 use Rattle.dr_model.specs.Control.{nothing}
 use Rattle.dr_laws_losses.specs.Pairs.{PairsHoldSame}
 use Rattle.dr_laws_losses.specs.Losses.{members_of, AreTargets, RecoversAll}
-use Rattle.dr_laws_losses.specs.Example.{volumes, pairs_made, unsealed, exchange, work, before, recover, pairs}
+use Rattle.dr_laws_losses.specs.Example.{member, volumes, pairs_made, unsealed, exchange, work, before, recover, pairs}
 use Rattle.dr_laws_losses.proofs.Known.{tasks-joined}
 use Rattle.dr_laws_losses.proofs.Early.{hold-same}
-use Rattle.dr_laws_losses.proofs.Sealed.{m, seals, moved_on, control_then, sealed, MaySeal, seal-is}
+use Rattle.dr_laws_losses.proofs.Sealed.{seals, moved_on, sealed, MaySeal, seal-is}
 
 -- as the seal begins
 w : World
@@ -93,11 +87,11 @@ answers-there : said_in last_world recover ≡ Done (InGroup 1 (Nothing 1))
 unfolding w after_tasks after_plan carry act turn update_keeping redo histories image laid changed zeros decision decided servers_where all_tracks is_whole rest in_order drains turns
 answers-there = refl
 
-members-there : members_of found 1 ≡ m ∷ []
+members-there : members_of found 1 ≡ member ∷ []
 unfolding w after_tasks after_plan carry act turn update_keeping redo histories image laid changed zeros decision decided servers_where all_tracks is_whole rest in_order drains turns
 members-there = refl
 
-counts-there : counts_at 1 found.control m ≡ true
+counts-there : counts_at 1 found.control member ≡ true
 unfolding w after_tasks after_plan carry act turn update_keeping redo histories image laid changed zeros decision decided servers_where all_tracks is_whole rest in_order drains turns
 counts-there = refl
 
@@ -113,7 +107,7 @@ alike = hold-same (before ++ recover ∷ []) (record {
 
 -- ---- the premises
 
-one-member : (q : Member) → In q (m ∷ []) → q ≡ m
+one-member : (q : Member) → In q (member ∷ []) → q ≡ member
 one-member q (inl is) = is
 one-member q (inr none) = absurd none
 

@@ -1,11 +1,6 @@
 -- The seal of the examples, entry by entry: of sets nothing computes, and where nothing is out of sync the secondary is sealed.
-use Rattle.std.proofs.Common.{arith, ◌≡◌, inl, inr, subst, refl, ap, sym, ◌∙◌, true, false, cond, not, ◌&&◌, ◌||◌, nat_eq, [], ◌∷◌, ◌++◌, Some, None}
-use Rattle.std.specs.FinSet.{len, len-empty}
-use Rattle.dr_logic.specs.Bytes.{zeros}
-use Rattle.dr_ids.specs.declared.names.Member.{Member}
-use Rattle.dr_ids.specs.declared.refusal.Decision.TheVariants.{Nothing}
-use Rattle.dr_model.specs.declared.said.Addition.TheVariants.{InGroup}
-use Rattle.dr_model.specs.declared.said.Said.TheVariants.{Done}
+use Rattle.std.proofs.Common.{◌≡◌, ap, ◌∙◌, true, false, cond, not, ◌&&◌, ◌||◌, nat_eq, [], ◌∷◌, Some, None}
+use Rattle.std.specs.FinSet.{len}
 use Rattle.dr_model.specs.Control.{Control, World}
 use Rattle.dr_model.specs.Entries.{fields_at}
 use Rattle.dr_model.specs.Phases as phases
@@ -14,36 +9,17 @@ use Rattle.dr_model.specs.SessionEntries.{seal_entries, seal_on, void_refusal, s
 use Rattle.dr_model.specs.SessionPlans.{exchanged, says_phase}
 use Rattle.dr_model.specs.PairEntries.{send_refusal, refuse_if, end_if}
 use Rattle.dr_model.specs.PlanParts.{Plan, same, none_follow}
-use Rattle.dr_model.specs.Decisions.{decision, decided}
 use Rattle.dr_model.specs.Phases.{servers_where}
-use Rattle.dr_model.specs.Relations.{all_tracks, is_whole, rest, in_order}
-use Rattle.dr_model.specs.Forming.{drains, turns}
 use Rattle.dr_model.specs.Moves.{Seal}
-use Rattle.dr_model.specs.Carry.{Make, Pass, Do, Outcome, carry, go, act, turn, update_keeping, redo}
+use Rattle.dr_model.specs.Carry.{Make, Pass, Do, Outcome, carry, go}
 use Rattle.dr_model.specs.Carried.{begun, finish, answered, said, after_plan, masters_lost}
-use Rattle.dr_ids.specs.Sizes.{most_tracks}
-use Rattle.dr_lost.specs.Lost.{IsLost}
-use Rattle.dr_model.specs.Histories.{histories, lists}
-use Rattle.dr_model.specs.Contents.{image, laid}
-use Rattle.dr_model.specs.Runs.{course, after_task, after_tasks, run}
+use Rattle.dr_model.specs.Runs.{course, after_task}
 use Rattle.dr_model.specs.Messages.{heard}
-use Rattle.std.specs.Ordering.{nat_cmp}
 use Rattle.dr_model.proofs.CarryLemmas.{carry-first}
-use Rattle.dr_model.specs.Groups.{In}
-use Rattle.dr_laws_sound.specs.Acknowledged.{said_in}
-use Rattle.dr_laws_sound.proofs.Journal.{run-more}
-use Rattle.dr_model.specs.SessionEntries.{counts_at}
-use Rattle.dr_model.specs.Control.{nothing}
-use Rattle.dr_laws_losses.specs.Pairs.{PairsHoldSame}
-use Rattle.dr_laws_losses.specs.Losses.{members_of, AreTargets, RecoversAll}
-use Rattle.dr_laws_losses.specs.Example.{volumes, pairs_made, unsealed, exchange, work, before, recover, pairs}
-use Rattle.dr_laws_losses.proofs.Known.{tasks-joined}
-
-abbrev pub m : Member
-m = record { a = record { 0 = 256 }; b = record { 0 = 512 }; c = record { 0 = 768 }; server = record { 0 = 0 } }
+use Rattle.dr_laws_losses.specs.Example.{member, exchange}
 
 abbrev pub seals : Plan
-seals = record { first = same; told = []; entries = seal_entries 1 256 512 1; follows = none_follow; last = exchanged 1 0 true phases.Seal (m ∷ []); says = says_phase 1 }
+seals = record { first = same; told = []; entries = seal_entries 1 256 512 1; follows = none_follow; last = exchanged 1 0 true phases.Seal (member ∷ []); says = says_phase 1 }
 
 -- the world after the one move that it makes
 abbrev pub moved_on : World → Outcome

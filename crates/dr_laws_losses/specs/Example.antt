@@ -1,5 +1,6 @@
 -- An example: one Global Copy pair under Global Mirror. A write comes after group 1, and then the first site is lost.
 use Rattle.std.specs.Prelude.{ℕ, true, false, List, [], ◌∷◌, ◌++◌, None, Ok}
+use Rattle.dr_ids.specs.declared.names.Member.{Member}
 use Rattle.dr_model.specs.declared.step.Name.{Name}
 use Rattle.dr_model.specs.declared.step.Devs.{Devs}
 use Rattle.dr_model.specs.declared.step.Step.{Step}
@@ -70,6 +71,10 @@ recover = task 20 (Recover 1)
 -- the target is used in the place of the primary
 abbrev pub pairs : List Pair
 pairs = record { second = 256; first = 768 } ∷ []
+
+-- the session's member
+abbrev pub member : Member
+member = record { a = record { 0 = 256 }; b = record { 0 = 512 }; c = record { 0 = 768 }; server = record { 0 = 0 } }
 
 -- ---- another one: a byte that was there is written, and then the pair is made without a copy
 
