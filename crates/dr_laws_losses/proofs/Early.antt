@@ -18,7 +18,7 @@ use Rattle.dr_laws_losses.proofs.Alike.{is_issue, NoIssue, issues_it}
 use Rattle.dr_laws_losses.proofs.Steps.{none-append}
 use Rattle.dr_laws_losses.proofs.Issued.{TellsFirst, tells-first}
 use Rattle.dr_laws_losses.proofs.Tidy.{tidy-run}
-use Rattle.dr_laws_losses.proofs.Positive.{held-positive}
+use Rattle.dr_laws_losses.proofs.Numbers.{held-positive}
 use Rattle.dr_laws_losses.proofs.Known.{below-in}
 
 -- a journal that issues no write issues not that one

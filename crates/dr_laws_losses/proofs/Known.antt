@@ -45,7 +45,7 @@ use Rattle.dr_laws_losses.proofs.Told.{told-none}
 use Rattle.dr_laws_losses.proofs.Targets.{AlikeRun, run-alike, holds-as-cut}
 use Rattle.dr_laws_losses.proofs.Ends.{HasEnded, recover-ended}
 use Rattle.dr_laws_losses.proofs.Tidy.{issued-more, tidy-run}
-use Rattle.dr_laws_losses.proofs.Positive.{held-positive}
+use Rattle.dr_laws_losses.proofs.Numbers.{held-positive}
 
 -- ---- lists
 
