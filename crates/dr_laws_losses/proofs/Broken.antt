@@ -39,15 +39,15 @@ use Rattle.dr_laws_losses.proofs.Known.{Longer, run-longer, below-in, in-its-gro
 -- ---- where a write is issued
 
 -- the step that issues it begins there, with the number that comes next
-record IssuedAt (before : List Event) (n : ℕ) : Type 0 where
-  first : List Task
-  is : before ≡ (run first).events
-  number : n ≡ (run first).control.issued + 1
+pub record IssuedAt (before : List Event) (n : ℕ) : Type 0 where
+  pub first : List Task
+  pub is : before ≡ (run first).events
+  pub number : n ≡ (run first).control.issued + 1
 
-abbrev IsIssue : ℕ → Event → Type 0
+abbrev pub IsIssue : ℕ → Event → Type 0
 IsIssue n e = (v : ℕ) × (q : ℕ) × (offset : ℕ) × (len : ℕ) × (bytes : List ℕ) × (e ≡ Issue n v q offset len bytes)
 
-abbrev HasIssues : List Task → Type 0
+abbrev pub HasIssues : List Task → Type 0
 HasIssues tasks = (before after : List Event) (e : Event) (n : ℕ) → IsIssue n e → (run tasks).events ≡ before ++ e ∷ after → IssuedAt before n
 
 is-issue : (n : ℕ) (e : Event) → IsIssue n e → is_issue e ≡ true
@@ -101,7 +101,7 @@ one-more tasks t old before after e n i is =
     by told (inl p) = old before p.behind e n i p.is
     by told (inr p) = in-step told p.middle p.other p.first
 
-issued-at : (tasks : List Task) → HasIssues tasks
+pub issued-at : (tasks : List Task) → HasIssues tasks
 issued-at tasks = snoc HasIssues no-steps one-more tasks
 
 -- ---- what is held of a cut

@@ -22,7 +22,7 @@ use Rattle.dr_laws_losses.proofs.Numbers.{held-positive}
 use Rattle.dr_laws_losses.proofs.Known.{below-in}
 
 -- a journal that issues no write issues not that one
-none-it : (n : ℕ) (es : List Event) → NoIssue es → list_any (issues_it n) es ≡ false
+pub none-it : (n : ℕ) (es : List Event) → NoIssue es → list_any (issues_it n) es ≡ false
 none-it n [] none = refl
 none-it n (Issue k v t offset len bytes ∷ es) none = absurd cc
 none-it n (e ∷ es) none = none-it n es (or_parts (is_issue e) (list_any is_issue es) none).1
@@ -39,7 +39,7 @@ none-held tasks none v q = by (lists (run tasks).events v q) refl
         absurd (let told : true ≡ false = sym ((tidy-run tasks).issued w (held-positive tasks w v q here) low) ∙ none-it w (run tasks).events none in cc)
 
 -- a step that is no host write issues none
-step-none : (w : World) (t : Task) → NoIssue w.events → asks_write t.asked ≡ false → NoIssue (after_task w t).events
+pub step-none : (w : World) (t : Task) → NoIssue w.events → asks_write t.asked ≡ false → NoIssue (after_task w t).events
 step-none w t none other =
     let told : TellsFirst w t = tells-first w t in
     subst NoIssue (sym told.is) (none-append w.events (told.first ++ told.more) none (none-append told.first told.more (elim told.way [

@@ -16,6 +16,7 @@ pub mod Known
 pub mod Issued
 pub mod Broken
 pub mod Early
+pub mod GivenBack
 pub mod Laws
 pub mod Sealed
 pub mod Example

@@ -1,5 +1,6 @@
 -- What a recovery of a session loses, where all members count.
-use Rattle.std.specs.Prelude.{◌≡◌, ◌↔◌, ℕ, true, List, [], ◌∷◌, ◌++◌, map, Ok}
+use Rattle.std.specs.List.{list_any}
+use Rattle.std.specs.Prelude.{◌≡◌, ◌↔◌, ℕ, true, false, List, [], ◌∷◌, ◌++◌, map, Ok}
 use Rattle.dr_ids.specs.declared.names.Member.{Member}
 use Rattle.dr_ids.specs.declared.refusal.Decision.{Decision}
 use Rattle.dr_model.specs.declared.event.Event.{Event}
@@ -14,7 +15,7 @@ use Rattle.dr_model.specs.Groups.{In}
 use Rattle.dr_model.specs.Histories.{lists}
 use Rattle.dr_model.specs.Dependence.{DependsOn}
 use Rattle.dr_model.specs.HeldWrites.{WasAcknowledged}
-use Rattle.dr_model.specs.TakenWrites.{WasTaken}
+use Rattle.dr_model.specs.TakenWrites.{takes_from, WasTaken}
 use Rattle.dr_model.specs.Runs.{Task, run}
 use Rattle.dr_model.specs.SessionEntries.{counts_at}
 use Rattle.dr_model.specs.Sessions.{session_in, members_in}
@@ -22,7 +23,7 @@ use Rattle.dr_laws_sound.specs.Acknowledged.{said_in}
 use Rattle.dr_ids.specs.Sizes.{most_tracks}
 use Rattle.dr_lost.specs.declared.lost.Pair.{Pair}
 use Rattle.dr_lost.specs.Lost.{IsLost, IsHeld}
-use Rattle.dr_laws_losses.specs.Pairs.{PairsHoldSame}
+use Rattle.dr_laws_losses.specs.Pairs.{PairsHoldSame, asks_write}
 
 -- the members of session s
 abbrev pub members_of : World → ℕ → List Member
@@ -100,3 +101,11 @@ pub record LossIsKnown (before recovery : List Task) (s n : ℕ) (pairs : List P
       → WasGivenBack (members_of (recovered_world before r.first r.step) s) (run before).events (recovered_world before r.first r.step).events s n u
   pub taken : (u : ℕ) (g : WasGivenBack (members_of (recovered_world before r.first r.step) s) (run before).events (recovered_world before r.first r.step).events s n u)
       → WasAcknowledged g.last.place.before u g.member.a.0 g.track → WasTaken (before ++ r.first ++ r.step ∷ []) g.last.place.before u g.member.a.0 g.track
+
+-- No step after the first host write may take writes away from a primary of these members: it isn't restored, no copy is taken onto it, and nothing is sent to it.
+pub record PrimariesKeep (tasks : List Task) (ms : List Member) : Type 0 where
+  pub early : List Task
+  pub late : List Task
+  pub cut : tasks ≡ early ++ late
+  pub unwritten : list_any (λ (t : Task). asks_write t.asked) early ≡ false
+  pub keep : (before after : List Task) (t : Task) (m : Member) → late ≡ before ++ t ∷ after → In m ms → takes_from (run (early ++ before)).control t.asked m.a.0 ≡ false
