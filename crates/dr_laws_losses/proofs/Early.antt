@@ -70,7 +70,7 @@ early-same (t ∷ todo) done rest none other later =
           (subst (λ ts. PairsHoldSame (run ts) rest) (sym (append_assoc done (t ∷ []) todo)) later)),
     )
 
-nothing-told : NoIssue (run []).events
+pub nothing-told : NoIssue (run []).events
 unfolding after_tasks
 nothing-told = refl
 

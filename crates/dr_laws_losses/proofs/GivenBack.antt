@@ -1,10 +1,11 @@
 -- Where no step takes writes away from primaries once there are host writes, nothing is given back to one.
 use Rattle.std.proofs.Common.{ℕ, ◌≡◌, ◌≢◌, ◌<◌, ◌+◌, ◌⊎◌, inl, inr, refl, ap, sym, ◌∙◌, subst, arith, append_assoc, Bool, true, false, ◌||◌, List, [], ◌∷◌, ◌++◌, Result, Ok}
 use Rattle.std.specs.List.{list_any}
-use Rattle.std.proofs.lemmas.Bool.{or_parts, ne_eqb, eqb-true}
+use Rattle.std.proofs.lemmas.Bool.{or_parts, eq-eqb, eqb-true}
 use Rattle.std.proofs.lemmas.List.{append-nil, append_cancel_left}
 use Rattle.std.proofs.lemmas.List.Folds.{list_any-append}
 use Rattle.dr_logic.specs.Tables.{at, at2}
+use Rattle.dr_logic.proofs.Lists.{cons-parts}
 use Rattle.dr_logic.proofs.Tables.{at_other}
 use Rattle.dr_facts.proofs.Tables.{at_cases, at2_cases}
 use Rattle.dr_ids.specs.declared.names.Member.{Member}
@@ -31,7 +32,7 @@ use Rattle.dr_laws_recovery.proofs.KeepsWrites.{told-task, replaced-may}
 use Rattle.dr_laws_losses.specs.Pairs.{asks_write}
 use Rattle.dr_laws_losses.specs.Losses.{PrimariesKeep, WasGivenBack}
 use Rattle.dr_laws_losses.proofs.Alike.{NoIssue, issues_it}
-use Rattle.dr_laws_losses.proofs.Early.{none-it, step-none}
+use Rattle.dr_laws_losses.proofs.Early.{none-it, step-none, nothing-told}
 use Rattle.dr_laws_losses.proofs.Tidy.{tidy-run}
 use Rattle.dr_laws_losses.proofs.Numbers.{IsNumber, HeardOf, heard-run, heard-at}
 use Rattle.dr_laws_losses.proofs.Broken.{IssuedAt, IsIssue, issued-at}
@@ -149,3 +150,118 @@ module _ (u v t : ℕ) where
   event-gains h (Back x q from) lacks i = inl (track-gains h.now x q (h.now from q) lacks i)
   event-gains h (Blanked x q) lacks i = inl (track-gains h.now x q [] lacks i)
   event-gains h e lacks i = absurd (lacks i)
+
+-- ---- journals
+
+-- of two fronts of a list one is a front of the other
+fronts : (es fs x y : List Event) → es ++ x ≡ fs ++ y → Longer es fs ⊎ Longer fs es
+fronts [] fs x y is = inl (record { more = fs; is = refl })
+fronts (e ∷ es) [] x y is = inr (record { more = e ∷ es; is = refl })
+fronts (e ∷ es) (f ∷ fs) x y is = by (cons-parts is).0 (fronts es fs x y (cons-parts is).1)
+  where
+    by : e ≡ f → Longer es fs ⊎ Longer fs es → Longer (e ∷ es) (f ∷ fs) ⊎ Longer (f ∷ fs) (e ∷ es)
+    by same (inl l) = inl (record { more = l.more; is = λ i. sym same i ∷ l.is i })
+    by same (inr l) = inr (record { more = l.more; is = λ i. same i ∷ l.is i })
+
+-- where an event is
+record Found (es : List Event) (e : Event) : Type 0 where
+  before : List Event
+  after : List Event
+  is : es ≡ before ++ e ∷ after
+
+found-in : (es : List Event) (e : Event) → In e es → Found es e
+found-in [] e h = absurd h
+found-in (x ∷ es) e (inl same) = record { before = []; after = es; is = ap (λ x. x ∷ es) (sym same) }
+found-in (x ∷ es) e (inr later) = let f : Found es e = found-in es e later in record { before = x ∷ f.before; after = f.after; is = ap (λ es. x ∷ es) f.is }
+
+record IssueIn (u : ℕ) (es : List Event) : Type 0 where
+  before : List Event
+  event : Event
+  after : List Event
+  is : es ≡ before ++ event ∷ after
+  issue : IsIssue u event
+
+is-it : (u : ℕ) (e : Event) → issues_it u e ≡ true → IsIssue u e
+is-it u (Issue n v t offset len bytes) is = (v, t, offset, len, bytes, ap (λ n. Issue n v t offset len bytes) (sym (eqb-true u n is)))
+is-it u e is = absurd cc
+
+issue-in : (u : ℕ) (es : List Event) → list_any (issues_it u) es ≡ true → IssueIn u es
+issue-in u [] is = absurd cc
+issue-in u (e ∷ es) is = by (issues_it u e) refl is (issue-in u es)
+  where
+    by : (b : Bool) → issues_it u e ≡ b → (b || list_any (issues_it u) es) ≡ true → (list_any (issues_it u) es ≡ true → IssueIn u es) → IssueIn u (e ∷ es)
+    by true it any later = record { before = []; event = e; after = es; is = refl; issue = is-it u e it }
+    by false it any later = let i : IssueIn u es = later any in record { before = e ∷ i.before; event = i.event; after = i.after; is = ap (λ es. e ∷ es) i.is; issue = i.issue }
+
+-- a write that isn't issued again stays on its track
+write-event : (u : ℕ) (h : Histories) (e : Event) → issues_it u e ≡ false → (after_event h e).write u ≡ h.write u
+write-event u h (Issue n v t offset len bytes) not = at_other h.write n _ u (λ is. absurd (let it : true ≡ false = sym (eq-eqb u n is) ∙ not in cc))
+write-event u h e not = refl
+
+write-stays : (u : ℕ) (more es : List Event) → list_any (issues_it u) more ≡ false → (histories (es ++ more)).write u ≡ (histories es).write u
+write-stays u [] es none = ap (λ es. (histories es).write u) (append-nil es)
+write-stays u (e ∷ more) es none =
+    let both = or_parts (issues_it u e) (list_any (issues_it u) more) none in
+    ap (λ es. (histories es).write u) (sym (append_assoc es (e ∷ []) more)) ∙ (write-stays u more (es ++ e ∷ []) both.1
+    ∙ (ap (λ (h : Histories). h.write u) (histories-push es e) ∙ write-event u (histories es) e both.0))
+
+-- ---- runs
+
+-- the journal speaks of write u
+abbrev SpeaksOf : ℕ → List Event → Type 0
+SpeaksOf u es = In (Ack u) es ⊎ IsMirrored es u
+
+speaks-more : (u : ℕ) (es more : List Event) → SpeaksOf u es → SpeaksOf u (es ++ more)
+speaks-more u es more (inl acked) = inl (in-first es more (Ack u) acked)
+speaks-more u es more (inr m) = inr (record { secondary = m.secondary; told = in-first es more (Mirrored u m.secondary) m.told })
+
+speaks-number : (tasks : List Task) (u : ℕ) → SpeaksOf u (run tasks).events → IsNumber (run tasks).control.issued u
+speaks-number tasks u (inl acked) = heard-at (run tasks).control.issued (run tasks).events (heard-run tasks) (Ack u) acked
+speaks-number tasks u (inr m) = heard-at (run tasks).control.issued (run tasks).events (heard-run tasks) (Mirrored u m.secondary) m.told
+
+-- so a write was issued
+spoken-issued : {P : Type 0} (tasks : List Task) (u : ℕ) → SpeaksOf u (run tasks).events → NoIssue (run tasks).events → P
+spoken-issued tasks u speaks none =
+    let n : IsNumber (run tasks).control.issued u = speaks-number tasks u speaks in
+    absurd (let e : true ≡ false = sym ((tidy-run tasks).issued u n.0 n.1) ∙ none-it u (run tasks).events none in cc)
+
+quiet-run : (todo done : List Task) → NoIssue (run done).events → list_any (λ (t : Task). asks_write t.asked) todo ≡ false → NoIssue (run (done ++ todo)).events
+quiet-run [] done none other = subst (λ ts. NoIssue (run ts).events) (sym (append-nil done)) none
+quiet-run (t ∷ todo) done none other =
+    let both = or_parts (asks_write t.asked) _ other in
+    subst (λ ts. NoIssue (run ts).events) (append_assoc done (t ∷ []) todo)
+    (quiet-run todo (done ++ t ∷ []) (subst (λ (w : World). NoIssue w.events) (sym (run-more done t)) (step-none (run done) t none both.0)) both.1)
+
+module _ (tasks : List Task) (ms : List Member) (keep : PrimariesKeep tasks ms) (m : Member) (of : In m ms) where
+  abbrev a : ℕ
+  a = m.a.0
+
+  -- once a write was spoken of, no list of the primary is replaced
+  no-replace : (before : List Event) (e : Event) (after : List Event) → (run tasks).events ≡ before ++ e ∷ after → (u t : ℕ) → SpeaksOf u before → Replaces (histories before).write a t e → ⊥
+  no-replace before e after is u t speaks replaces = by (place-in keep.early keep.late s.first s.step s.rest (sym keep.cut ∙ s.is))
+    where
+      s : StepAt tasks before e
+      s = step-at tasks before e after is
+
+      early : InFirst keep.early s.first s.step → ⊥
+      early p =
+          let xs : List Task = s.first ++ s.step ∷ [] in
+          let all : list_any (λ (t : Task). asks_write t.asked) (xs ++ p.behind) ≡ false = ap (list_any (λ (t : Task). asks_write t.asked)) (append_assoc s.first (s.step ∷ []) p.behind ∙ sym p.is) ∙ keep.unwritten in
+          let none : NoIssue (run xs).events = quiet-run xs [] nothing-told (or_parts _ _ (sym (list_any-append (λ (t : Task). asks_write t.asked) xs p.behind) ∙ all)).0 in
+          let leads : (run xs).events ≡ before ++ e ∷ s.later = ap (λ (w : World). w.events) (run-more s.first s.step) ∙ s.ended in
+          spoken-issued xs u (subst (SpeaksOf u) (sym leads) (speaks-more u before (e ∷ s.later) speaks)) none
+
+      late : InOther keep.early keep.late s.first s.step s.rest → ⊥
+      late p =
+          let w : World = run s.first in
+          let told : Told (MayTake w.control s.step.asked) w.events (after_task w s.step).events = told-task w s.step in
+          let more : told.more ≡ s.since ++ e ∷ s.later = append_cancel_left w.events told.more (s.since ++ e ∷ s.later) (sym told.is ∙ s.ended ∙ ap (λ es. es ++ e ∷ s.later) s.begun ∙ append_assoc w.events s.since (e ∷ s.later)) in
+          let takes : takes_from w.control s.step.asked a ≡ true =
+          replaced-may (MayTake w.control s.step.asked) (histories before).write a t e replaces
+              (at-place (TakesFrom (MayTake w.control s.step.asked)) s.since e s.later (subst (AllOf (TakesFrom (MayTake w.control s.step.asked))) more told.each)) in
+          let keeps : takes_from w.control s.step.asked a ≡ false = subst (λ ts. takes_from (run ts).control s.step.asked a ≡ false) (sym p.first) (keep.keep p.middle s.rest s.step m p.other of) in
+          absurd (let no : true ≡ false = sym takes ∙ keeps in cc)
+
+      by : InFirst keep.early s.first s.step ⊎ InOther keep.early keep.late s.first s.step s.rest → ⊥
+      by (inl p) = early p
+      by (inr p) = late p
