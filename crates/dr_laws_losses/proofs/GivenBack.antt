@@ -1,7 +1,8 @@
 -- Where no step takes writes away from primaries once there are host writes, nothing is given back to one.
 use Rattle.std.proofs.Common.{ℕ, ◌≡◌, ◌≢◌, ◌<◌, ◌+◌, ◌⊎◌, inl, inr, refl, ap, sym, ◌∙◌, subst, arith, append_assoc, Bool, true, false, ◌||◌, List, [], ◌∷◌, ◌++◌, Result, Ok}
 use Rattle.std.specs.List.{list_any}
-use Rattle.std.proofs.lemmas.Bool.{or_parts, eq-eqb, eqb-true}
+use Rattle.std.proofs.lemmas.Bool.{or_parts, eq-eqb, eqb-true, false_from_ne_true}
+use Rattle.std.proofs.lemmas.Bool.Decides.{eqb_tells}
 use Rattle.std.proofs.lemmas.List.{append-nil, append_cancel_left}
 use Rattle.std.proofs.lemmas.List.Folds.{list_any-append}
 use Rattle.dr_logic.specs.Tables.{at, at2}
@@ -153,6 +154,17 @@ module _ (u v t : ℕ) where
 
 -- ---- journals
 
+-- a list has a number, or it hasn't
+list_has : (n : ℕ) (ns : List ℕ) → In n ns ⊎ (In n ns → ⊥)
+list_has n [] = inr (λ h. h)
+list_has n (m ∷ ns) = elim (eqb_tells n m) [
+  | inl is ↦ inl (inl is.1)
+  | inr ne ↦ elim (list_has n ns) [
+    | inl later ↦ inl (inr later)
+    | inr not ↦ inr (λ h. elim h [ inl is ↦ ne.1 is | inr later ↦ not later ])
+  ]
+]
+
 -- of two fronts of a list one is a front of the other
 fronts : (es fs x y : List Event) → es ++ x ≡ fs ++ y → Longer es fs ⊎ Longer fs es
 fronts [] fs x y is = inl (record { more = fs; is = refl })
@@ -265,3 +277,97 @@ module _ (tasks : List Task) (ms : List Member) (keep : PrimariesKeep tasks ms) 
       by : InFirst keep.early s.first s.step ⊎ InOther keep.early keep.late s.first s.step s.rest → ⊥
       by (inl p) = early p
       by (inr p) = late p
+
+  -- no write is acknowledged on another track than at first
+  module _ (u t : ℕ) (es : List Event) (acked : In (Ack u) es) (more : List Event) (rest : List Event) (leads : (run tasks).events ≡ es ++ more ++ rest) where
+    f : Found es (Ack u)
+    f = found-in es (Ack u) acked
+
+    abbrev since : List Event
+    since = Ack u ∷ (f.after ++ more)
+
+    joined-is : es ++ more ≡ f.before ++ since
+    joined-is = ap (λ es. es ++ more) f.is ∙ append_assoc f.before (Ack u ∷ f.after) more
+
+    not-again : IssueIn u since → ⊥
+    not-again i = by i.before i.is
+      where
+        by : (before : List Event) → since ≡ before ++ i.event ∷ i.after → ⊥
+        by [] is = let e : Ack u ≡ i.event = (cons-parts is).0 in let it : i.event ≡ Issue u _ _ _ _ _ = i.issue.5 in cc
+        by (x ∷ before) is =
+            let whole : (run tasks).events ≡ (f.before ++ x ∷ before) ++ i.event ∷ (i.after ++ rest) =
+            leads ∙ ap (λ es. es ++ rest) (joined-is ∙ ap (λ es. f.before ++ es) is ∙ sym (append_assoc f.before (x ∷ before) (i.event ∷ i.after))) ∙ append_assoc (f.before ++ x ∷ before) (i.event ∷ i.after) rest in
+            let at : IssuedAt (f.before ++ x ∷ before) u = issued-at tasks (f.before ++ x ∷ before) (i.after ++ rest) i.event u i.issue whole in
+            let here : In (Ack u) (f.before ++ x ∷ before) = in-second f.before (x ∷ before) (Ack u) (inl (cons-parts is).0) in
+            let low : IsNumber (run at.first).control.issued u = speaks-number at.first u (inl (subst (In (Ack u)) at.is here)) in
+            let lt : u < (run at.first).control.issued + 1 = low.1 in
+            let number : u ≡ (run at.first).control.issued + 1 = at.number in
+            omega (arith, lt, number)
+
+    none-again : list_any (issues_it u) since ≡ false
+    none-again = false_from_ne_true _ (λ it. not-again (issue-in u since it))
+
+    write-is : (histories (es ++ more)).write u ≡ (histories f.before).write u
+    write-is = ap (λ es. (histories es).write u) joined-is ∙ write-stays u since f.before none-again
+
+    -- so where it is acknowledged again, it was acknowledged there
+    acked-there : IsAcked u a t (es ++ more) (Ack u) → WasAcknowledged es u a t
+    acked-there k = record { before = f.before; behind = f.after; is = f.is; volume = sym (ap (λ (w : Write). w.volume) write-is) ∙ k.volume; track = sym (ap (λ (w : Write). w.track) write-is) ∙ k.track }
+
+  -- ---- nothing is given back
+
+  module _ (u t : ℕ) (es : List Event) (acked : In (Ack u) es) (lacks : In u (lists es a t) → ⊥) where
+    -- a list that gains the write
+    gains-none : (more rest : List Event) → (run tasks).events ≡ es ++ more ++ rest → In u (lists (es ++ more) a t) → ⊥
+    gains-none more rest leads here = elim (along u a t (Lacks u a t) (Gains u a t) each more es lacks) [
+      | inl none ↦ none here
+      | inr turns ↦ by turns turns.so
+    ]
+      where
+        each : (es : List Event) (e : Event) → Lacks u a t es → Lacks u a t (es ++ e ∷ []) ⊎ Gains u a t es e
+        each es e none = dec (list_has u (lists (es ++ e ∷ []) a t))
+          where
+            dec : (In u (lists (es ++ e ∷ []) a t)) ⊎ (In u (lists (es ++ e ∷ []) a t) → ⊥) → Lacks u a t (es ++ e ∷ []) ⊎ Gains u a t es e
+            dec (inr not) = inl not
+            dec (inl i) = elim (event-gains u a t (histories es) e none (subst (λ (h : Histories). In u (h.now a t)) (histories-push es e) i)) [
+              | inl replaces ↦ inr (inl replaces)
+              | inr k ↦ inr (inr (record { is = k.0; volume = k.1.0; track = k.1.1 }))
+            ]
+
+        by : (turns : Turns u a t es more (Gains u a t)) → Gains u a t (es ++ turns.before) turns.event → ⊥
+        by turns (inl replaces) =
+            no-replace (es ++ turns.before) turns.event (turns.after ++ rest)
+            (leads ∙ ap (λ m. es ++ m ++ rest) turns.is ∙ ap (λ es. es ++ rest) (sym (append_assoc es turns.before (turns.event ∷ turns.after))) ∙ append_assoc (es ++ turns.before) (turns.event ∷ turns.after) rest)
+            u t (speaks-more u es turns.before (inl acked)) replaces
+        by turns (inr k) =
+            let before_leads : (run tasks).events ≡ es ++ turns.before ++ (turns.event ∷ (turns.after ++ rest)) =
+            leads ∙ ap (λ m. es ++ m ++ rest) turns.is ∙ ap (λ es. es ++ rest) (sym (append_assoc es turns.before (turns.event ∷ turns.after))) ∙ append_assoc (es ++ turns.before) (turns.event ∷ turns.after) rest in
+            let there : WasAcknowledged es u a t = acked-there u t es acked turns.before (turns.event ∷ (turns.after ++ rest)) before_leads (record { is = refl; volume = k.volume; track = k.track }) in
+            elim (acknowledged-kept es u a t there) [
+              | inl in_list ↦ lacks in_list
+              | inr r ↦ no-replace r.before r.event (r.behind ++ (more ++ rest)) (leads ∙ append_assoc es more rest ∙ ap (λ es. es ++ (more ++ rest)) r.is ∙ append_assoc r.before (r.event ∷ r.behind) (more ++ rest)) u t (inl r.acknowledged) r.replaces
+            ]
+
+  -- one that loses it
+  loses-none : (u t : ℕ) (es more rest : List Event) → (run tasks).events ≡ es ++ more ++ rest → In u (lists es a t) → (In u (lists (es ++ more) a t) → ⊥) → ⊥
+  loses-none u t es more rest leads here gone = elim (along u a t (λ es. In u (lists es a t)) (λ es e. Replaces (histories es).write a t e) (loses-by u a t) more es here) [
+    | inl stays ↦ gone stays
+    | inr turns ↦ no-replace (es ++ turns.before) turns.event (turns.after ++ rest)
+      (leads ∙ ap (λ m. es ++ m ++ rest) turns.is ∙ ap (λ es. es ++ rest) (sym (append_assoc es turns.before (turns.event ∷ turns.after))) ∙ append_assoc (es ++ turns.before) (turns.event ∷ turns.after) rest)
+      u t (speaks-more u es turns.before (held-stored es u a t here)) turns.so
+  ]
+
+-- where primaries keep their writes, nothing is given back to one
+pub none-given : (tasks : List Task) (ms : List Member) (begun : List Event) (s n u : ℕ) → PrimariesKeep tasks ms → Longer begun (run tasks).events → WasGivenBack ms begun (run tasks).events s n u → ⊥
+none-given tasks ms begun s n u keep l g = by (fronts g.last.place.before begun (Cut s n g.last.volume ∷ g.last.place.behind) l.more (sym g.last.place.is ∙ l.is))
+  where
+    rest-of : (xs ys zs more : List Event) → zs ≡ xs ++ more → (run tasks).events ≡ zs ++ ys → (run tasks).events ≡ xs ++ more ++ ys
+    rest-of xs ys zs more is leads = leads ∙ ap (λ zs. zs ++ ys) is
+
+    by : Longer g.last.place.before begun ⊎ Longer begun g.last.place.before → ⊥
+    by (inl later) =
+        gains-none tasks ms keep g.member g.here u g.track g.last.place.before g.acknowledged g.lacked later.more l.more (rest-of g.last.place.before l.more begun later.more later.is l.is)
+        (subst (λ es. In u (lists es g.member.a.0 g.track)) later.is g.held)
+    by (inr earlier) =
+        loses-none tasks ms keep g.member g.here u g.track begun earlier.more (Cut s n g.last.volume ∷ g.last.place.behind) (rest-of begun (Cut s n g.last.volume ∷ g.last.place.behind) g.last.place.before earlier.more earlier.is g.last.place.is)
+        g.held (λ h. g.lacked (subst (λ es. In u (lists es g.member.a.0 g.track)) (sym earlier.is) h))
