@@ -12,7 +12,8 @@ use Rattle.dr_laws_recovery.proofs.TakenAt.{kept-or-taken}
 use Rattle.dr_lost.specs.declared.lost.Pair.{Pair}
 use Rattle.dr_lost.specs.Lost.{IsLost, IsHeld}
 use Rattle.dr_laws_losses.specs.Losses.{members_of, recovered_world, RecoversAll, IsUncut, WasGivenBack, firsts, seconds, LossIsKnown}
-use Rattle.dr_laws_losses.proofs.Known.{to-uncut, from-uncut}
+use Rattle.dr_laws_losses.proofs.Known.{to-uncut, from-uncut, begun-longer}
+use Rattle.dr_laws_losses.proofs.GivenBack.{none-given}
 use Rattle.dr_laws_losses.proofs.Broken.{given-back}
 
 module _ (before recovery : List Task) (s n : ℕ) (pairs : List Pair) (r : RecoversAll before recovery s n pairs) where
@@ -32,15 +33,12 @@ module _ (before recovery : List Task) (s n : ℕ) (pairs : List Pair) (r : Reco
   KeepsAt end = (w x : ℕ) → IsHeld most_tracks (lists end.events) (firsts pairs) w → IsHeld most_tracks (lists begun.events) (seconds pairs) w
       → IsLost most_tracks (lists begun.events) (lists end.events) pairs x → DependsOn end.events w x → WasGivenBack (members_of u s) begun.events u.events s n x
 
-  was-taken : (x : ℕ) (g : WasGivenBack (members_of u s) begun.events u.events s n x) → WasAcknowledged g.last.place.before x g.member.a.0 g.track → WasTaken (before ++ r.first ++ r.step ∷ []) g.last.place.before x g.member.a.0 g.track
-  was-taken x g acked = elim (kept-or-taken (before ++ r.first ++ r.step ∷ []) g.last.place.before (Cut s n g.last.volume ∷ g.last.place.behind) g.last.place.is x g.member.a.0 g.track acked) [
-    | inl here ↦ absurd (g.lacked here)
-    | inr taken ↦ taken
-  ]
+  all : KeepsAt (run (before ++ recovery))
+  all = subst KeepsAt (sym end-is) (given-back before r.first r.step r.rest s n pairs r.so)
 
   pub loss-is-known : LossIsKnown before recovery s n pairs r
   loss-is-known = record {
     lost = subst LosesAt (sym end-is) (λ w. (to-uncut before r.first r.step r.rest s n pairs r.so w, from-uncut before r.first r.step r.rest s n pairs r.so w));
-    kept = subst KeepsAt (sym end-is) (given-back before r.first r.step r.rest s n pairs r.so);
-    taken = was-taken;
+    kept = all;
+    whole = λ keep w x kept was lost d. none-given (before ++ r.first ++ r.step ∷ []) (members_of u s) begun.events s n x keep (begun-longer before r.first r.step r.rest s n pairs r.so) (all w x kept was lost d);
   }

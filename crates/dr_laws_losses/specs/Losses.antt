@@ -14,8 +14,7 @@ use Rattle.dr_model.specs.ClosedCuts.{LastCut}
 use Rattle.dr_model.specs.Groups.{In}
 use Rattle.dr_model.specs.Histories.{lists}
 use Rattle.dr_model.specs.Dependence.{DependsOn}
-use Rattle.dr_model.specs.HeldWrites.{WasAcknowledged}
-use Rattle.dr_model.specs.TakenWrites.{takes_from, WasTaken}
+use Rattle.dr_model.specs.TakenWrites.{takes_from}
 use Rattle.dr_model.specs.Runs.{Task, run}
 use Rattle.dr_model.specs.SessionEntries.{counts_at}
 use Rattle.dr_model.specs.Sessions.{session_in, members_in}
@@ -90,18 +89,6 @@ firsts pairs = map (λ (p : Pair). p.first) pairs
 abbrev pub seconds : List Pair → List ℕ
 seconds pairs = map (λ (p : Pair). p.second) pairs
 
--- What such a recovery loses. The lost writes are exactly those that a primary held as the recovery began and that its cut hasn't. A write that is
--- kept depends on no lost one, but on one that was given back; and if that was acknowledged for this track of this primary, a step that may take
--- writes away took it away before the last cut of the group.
-pub record LossIsKnown (before recovery : List Task) (s n : ℕ) (pairs : List Pair) (r : RecoversAll before recovery s n pairs) : Type 0 where
-  pub lost : (w : ℕ) → IsLost most_tracks (lists (run before).events) (lists (run (before ++ recovery)).events) pairs w
-      ↔ IsUncut (members_of (recovered_world before r.first r.step) s) (run before).events (recovered_world before r.first r.step).events s n w
-  pub kept : (w u : ℕ) → IsHeld most_tracks (lists (run (before ++ recovery)).events) (firsts pairs) w → IsHeld most_tracks (lists (run before).events) (seconds pairs) w
-      → IsLost most_tracks (lists (run before).events) (lists (run (before ++ recovery)).events) pairs u → DependsOn (run (before ++ recovery)).events w u
-      → WasGivenBack (members_of (recovered_world before r.first r.step) s) (run before).events (recovered_world before r.first r.step).events s n u
-  pub taken : (u : ℕ) (g : WasGivenBack (members_of (recovered_world before r.first r.step) s) (run before).events (recovered_world before r.first r.step).events s n u)
-      → WasAcknowledged g.last.place.before u g.member.a.0 g.track → WasTaken (before ++ r.first ++ r.step ∷ []) g.last.place.before u g.member.a.0 g.track
-
 -- No step after the first host write may take writes away from a primary of these members: it isn't restored, no copy is taken onto it, and nothing is sent to it.
 pub record PrimariesKeep (tasks : List Task) (ms : List Member) : Type 0 where
   pub early : List Task
@@ -109,3 +96,15 @@ pub record PrimariesKeep (tasks : List Task) (ms : List Member) : Type 0 where
   pub cut : tasks ≡ early ++ late
   pub unwritten : list_any (λ (t : Task). asks_write t.asked) early ≡ false
   pub keep : (before after : List Task) (t : Task) (m : Member) → late ≡ before ++ t ∷ after → In m ms → takes_from (run (early ++ before)).control t.asked m.a.0 ≡ false
+
+-- What such a recovery loses. The lost writes are exactly those that a primary held as the recovery began and that its cut hasn't. A write that is
+-- kept depends on no lost one, but on one that was given back; and on none at all, if primaries keep their writes.
+pub record LossIsKnown (before recovery : List Task) (s n : ℕ) (pairs : List Pair) (r : RecoversAll before recovery s n pairs) : Type 0 where
+  pub lost : (w : ℕ) → IsLost most_tracks (lists (run before).events) (lists (run (before ++ recovery)).events) pairs w
+      ↔ IsUncut (members_of (recovered_world before r.first r.step) s) (run before).events (recovered_world before r.first r.step).events s n w
+  pub kept : (w u : ℕ) → IsHeld most_tracks (lists (run (before ++ recovery)).events) (firsts pairs) w → IsHeld most_tracks (lists (run before).events) (seconds pairs) w
+      → IsLost most_tracks (lists (run before).events) (lists (run (before ++ recovery)).events) pairs u → DependsOn (run (before ++ recovery)).events w u
+      → WasGivenBack (members_of (recovered_world before r.first r.step) s) (run before).events (recovered_world before r.first r.step).events s n u
+  pub whole : PrimariesKeep (before ++ r.first ++ r.step ∷ []) (members_of (recovered_world before r.first r.step) s)
+      → (w u : ℕ) → IsHeld most_tracks (lists (run (before ++ recovery)).events) (firsts pairs) w → IsHeld most_tracks (lists (run before).events) (seconds pairs) w
+      → IsLost most_tracks (lists (run before).events) (lists (run (before ++ recovery)).events) pairs u → DependsOn (run (before ++ recovery)).events w u → ⊥

@@ -22,7 +22,8 @@ ghost use Rattle.dr_laws_losses.specs.Example.{before, uncopied, recover, member
 /// answered with a group; all members of the session count then; the pairs are the targets of all of them; at the end of the run the lists of these targets are as
 /// they were then; and each pair that was made without a copy was made of volumes that held the same writes. Then the lost writes are exactly those that a primary held
 /// as the recovery began and that its cut for the group hasn't. No write that is kept depends on a lost one, but on one that was given back: one that was acknowledged
-/// before the last cut of the group, although the track of the primary that held it as the recovery began didn't hold it there.
+/// before the last cut of the group, although the track of the primary that held it as the recovery began didn't hold it there. And none is given back if no step after
+/// the first host write may take writes away from a primary of the session.
 pub fn the_loss_of_a_recovery_is_known()
     ensures { (before recovery : List Task) (s n : ℕ) (pairs : List Pair) (r : RecoversAll before recovery s n pairs) → LossIsKnown before recovery s n pairs r }
 {}
