@@ -1,5 +1,5 @@
 -- The example, carried out: its seal entry by entry, and all else at once.
-use Rattle.std.proofs.Common.{arith, ◌≡◌, inl, inr, subst, refl, ap, sym, ◌∙◌, true, false, nat_eq, [], ◌∷◌, ◌++◌, None}
+use Rattle.std.proofs.Common.{List, arith, ◌≡◌, inl, inr, subst, refl, ap, sym, ◌∙◌, true, false, nat_eq, [], ◌∷◌, ◌++◌, None}
 use Rattle.std.specs.FinSet.{len, len-empty}
 use Rattle.dr_logic.specs.Bytes.{zeros}
 use Rattle.dr_ids.specs.declared.names.Member.{Member}
@@ -21,16 +21,19 @@ use Rattle.dr_ids.specs.Sizes.{most_tracks}
 use Rattle.dr_lost.specs.Lost.{IsLost}
 use Rattle.dr_model.specs.Histories.{histories, lists}
 use Rattle.dr_model.specs.Contents.{image, laid}
-use Rattle.dr_model.specs.Runs.{course, after_task, after_tasks, run}
+use Rattle.dr_model.specs.Runs.{Task, course, after_task, after_tasks, run}
 use Rattle.std.specs.Ordering.{nat_cmp}
+use Rattle.dr_logic.proofs.Lists.{cons-parts}
+use Rattle.dr_model.specs.declared.step.Step.TheVariants.{Write, Stop}
+use Rattle.dr_model.specs.TakenWrites.{takes_from}
 use Rattle.dr_model.specs.Groups.{In}
 use Rattle.dr_laws_sound.specs.Acknowledged.{said_in}
 use Rattle.dr_laws_sound.proofs.Journal.{run-more}
 use Rattle.dr_model.specs.SessionEntries.{counts_at}
 use Rattle.dr_model.specs.Control.{nothing}
 use Rattle.dr_laws_losses.specs.Pairs.{PairsHoldSame}
-use Rattle.dr_laws_losses.specs.Losses.{members_of, AreTargets, RecoversAll}
-use Rattle.dr_laws_losses.specs.Example.{member, volumes, pairs_made, unsealed, exchange, work, before, recover, pairs}
+use Rattle.dr_laws_losses.specs.Losses.{members_of, AreTargets, RecoversAll, PrimariesKeep}
+use Rattle.dr_laws_losses.specs.Example.{member, name_a, task, volumes, pairs_made, unsealed, exchange, work, before, recover, pairs}
 use Rattle.dr_laws_losses.proofs.Known.{tasks-joined}
 use Rattle.dr_laws_losses.proofs.Early.{hold-same}
 use Rattle.dr_laws_losses.proofs.Sealed.{seals, moved_on, sealed, MaySeal, seal-is}
@@ -153,4 +156,53 @@ loses = record {
   below = omega arith;
   held = subst (In 1) (sym holds) (inl refl);
   gone = λ h. subst (In 1) (ap (λ (v : World). lists v.events 768 0) found-is ∙ kept-there) h;
+}
+
+-- ---- and the primary keeps its writes
+
+abbrev grouped : List Task
+grouped = exchange 15 ∷ exchange 16 ∷ exchange 17 ∷ []
+
+abbrev first_steps : List Task
+first_steps = volumes ++ pairs_made ++ unsealed ++ exchange 14 ∷ grouped
+
+grouped-is : run first_steps ≡ after_tasks (sealed w) grouped
+unfolding after_tasks w
+grouped-is = tasks-joined (volumes ++ pairs_made ++ unsealed) (exchange 14 ∷ grouped) ∙ ap (λ v. after_tasks v grouped) (seal-is w may-seal)
+
+abbrev wrote : Task
+wrote = task 18 (Write 256 0 0 1 (1 ∷ []))
+
+abbrev stops : Task
+stops = task 19 (Stop name_a)
+
+write-keeps : takes_from (after_tasks (sealed w) grouped).control wrote.asked 256 ≡ false
+unfolding w after_tasks after_plan carry act turn update_keeping redo histories image laid changed zeros decision decided servers_where all_tracks is_whole rest in_order drains turns
+write-keeps = refl
+
+recover-keeps : takes_from last_world.control recover.asked 256 ≡ false
+unfolding w after_tasks after_plan carry act turn update_keeping redo histories image laid changed zeros decision decided servers_where all_tracks is_whole rest in_order drains turns
+recover-keeps = refl
+
+keep-by : (before after : List Task) (t : Task) → wrote ∷ stops ∷ recover ∷ [] ≡ before ++ t ∷ after → takes_from (run (first_steps ++ before)).control t.asked 256 ≡ false
+keep-by [] after t is = subst (λ (t : Task). takes_from (run first_steps).control t.asked 256 ≡ false) (cons-parts is).0 (ap (λ (v : World). takes_from v.control wrote.asked 256) grouped-is ∙ write-keeps)
+keep-by (x ∷ []) after t is = subst (λ (t : Task). takes_from (run (first_steps ++ x ∷ [])).control t.asked 256 ≡ false) (cons-parts (cons-parts is).1).0 refl
+keep-by (x ∷ y ∷ []) after t is =
+    subst (λ x. takes_from (run (first_steps ++ x ∷ y ∷ [])).control t.asked 256 ≡ false) (cons-parts is).0
+    (subst (λ y. takes_from (run (first_steps ++ wrote ∷ y ∷ [])).control t.asked 256 ≡ false) (cons-parts (cons-parts is).1).0
+    (subst (λ (t : Task). takes_from (run (first_steps ++ wrote ∷ stops ∷ [])).control t.asked 256 ≡ false) (cons-parts (cons-parts (cons-parts is).1).1).0
+    (ap (λ (v : World). takes_from v.control recover.asked 256) before-is ∙ recover-keeps)))
+keep-by (x ∷ y ∷ z ∷ before) after t is = absurd (empty before (cons-parts (cons-parts (cons-parts is).1).1).1)
+  where
+    empty : (before : List Task) → [] ≡ before ++ t ∷ after → ⊥
+    empty [] is = cc
+    empty (x ∷ before) is = cc
+
+pub keeps : PrimariesKeep (before ++ recover ∷ []) (member ∷ [])
+keeps = record {
+  early = first_steps;
+  late = wrote ∷ stops ∷ recover ∷ [];
+  cut = refl;
+  unwritten = refl;
+  keep = λ before after t q is here. subst (λ (q : Member). takes_from (run (first_steps ++ before)).control t.asked q.a.0 ≡ false) (sym (one-member q here)) (keep-by before after t is);
 }

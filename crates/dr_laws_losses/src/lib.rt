@@ -14,7 +14,7 @@ ghost use Rattle.dr_model.specs.Histories.{lists};
 ghost use Rattle.dr_model.specs.Runs.{Task, run};
 ghost use Rattle.dr_lost.specs.declared.lost.Pair.{Pair};
 ghost use Rattle.dr_lost.specs.Lost.{IsLost};
-ghost use Rattle.dr_laws_losses.specs.Losses.{members_of, RecoversAll, LossIsKnown};
+ghost use Rattle.dr_laws_losses.specs.Losses.{members_of, RecoversAll, PrimariesKeep, LossIsKnown};
 ghost use Rattle.dr_laws_losses.specs.Pairs.{PairsHoldSame, PairsComeFirst};
 ghost use Rattle.dr_laws_losses.specs.Example.{before, uncopied, recover, member, pairs};
 
@@ -33,9 +33,10 @@ pub fn pairs_before_the_first_write_hold_the_same()
     ensures { (tasks : List Task) → PairsComeFirst tasks → PairsHoldSame nothing tasks }
 {}
 
-/// An example: a recovery that meets all this. What it loses is the write that came after its group.
+/// An example: a recovery that meets all this, of a primary that keeps its writes. What it loses is the write that came after its group.
 pub fn an_example_loses_a_write()
     ensures meets { RecoversAll before (recover ∷ []) 1 1 pairs }
+    ensures keeps { PrimariesKeep (before ++ recover ∷ []) (member ∷ []) }
     ensures holds { lists (run before).events 256 0 ≡ 1 ∷ [] }
     ensures loses { IsLost most_tracks (lists (run before).events) (lists (run (before ++ recover ∷ [])).events) pairs 1 }
 {}

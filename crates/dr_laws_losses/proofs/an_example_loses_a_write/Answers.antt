@@ -9,3 +9,6 @@ returns-clause-holds c = example.holds
 
 pub returns-clause-loses : goal.returns-clause-loses
 returns-clause-loses c = example.loses
+
+pub returns-clause-keeps : goal.returns-clause-keeps
+returns-clause-keeps c = example.keeps
