@@ -33,69 +33,69 @@ use Rattle.dr_laws_losses.proofs.Known.{tasks-joined, first-then}
 use Rattle.dr_laws_losses.proofs.Sealed.{seals, moved_on, sealed, MaySeal, seal-is}
 
 -- as the seal begins
-w : World
-w = run written
+seal_world : World
+seal_world = run written
 
-plan-is : (course w (exchange 14)).last.plan ≡ seals
-unfolding w after_tasks after_plan carry act turn update_keeping redo histories image laid changed zeros decision decided servers_where all_tracks is_whole rest in_order drains turns
+plan-is : (course seal_world (exchange 14)).last.plan ≡ seals
+unfolding seal_world after_tasks after_plan carry act turn update_keeping redo histories image laid changed zeros decision decided servers_where all_tracks is_whole rest in_order drains turns
 plan-is = refl
 
-first-is : refuse_if (void_refusal 256 1) (begun w seals).control ≡ Pass
-unfolding w after_tasks after_plan carry act turn update_keeping redo histories image laid changed zeros decision decided servers_where all_tracks is_whole rest in_order drains turns
+first-is : refuse_if (void_refusal 256 1) (begun seal_world seals).control ≡ Pass
+unfolding seal_world after_tasks after_plan carry act turn update_keeping redo histories image laid changed zeros decision decided servers_where all_tracks is_whole rest in_order drains turns
 first-is = refl
 
-bare : len (fields_at (begun w seals).control 256).out_of_sync ≡ 0
-unfolding w after_tasks after_plan carry act turn update_keeping redo histories image laid changed zeros decision decided servers_where all_tracks is_whole rest in_order drains turns
+bare : len (fields_at (begun seal_world seals).control 256).out_of_sync ≡ 0
+unfolding seal_world after_tasks after_plan carry act turn update_keeping redo histories image laid changed zeros decision decided servers_where all_tracks is_whole rest in_order drains turns
 bare = len-empty nat_cmp
 
-reached : send_refusal 256 512 (begun w seals).control ≡ None
-unfolding w after_tasks after_plan carry act turn update_keeping redo histories image laid changed zeros decision decided servers_where all_tracks is_whole rest in_order drains turns
+reached : send_refusal 256 512 (begun seal_world seals).control ≡ None
+unfolding seal_world after_tasks after_plan carry act turn update_keeping redo histories image laid changed zeros decision decided servers_where all_tracks is_whole rest in_order drains turns
 reached = refl
 
-unsealed-yet : nat_eq (fields_at (begun w seals).control 512).seal 1 ≡ false
-unfolding w after_tasks after_plan carry act turn update_keeping redo histories image laid changed zeros decision decided servers_where all_tracks is_whole rest in_order drains turns
+unsealed-yet : nat_eq (fields_at (begun seal_world seals).control 512).seal 1 ≡ false
+unfolding seal_world after_tasks after_plan carry act turn update_keeping redo histories image laid changed zeros decision decided servers_where all_tracks is_whole rest in_order drains turns
 unsealed-yet = refl
 
-ends-well : (moved_on w).1 ≡ None
-unfolding w after_tasks after_plan carry act turn update_keeping redo histories image laid changed zeros decision decided servers_where all_tracks is_whole rest in_order drains turns
+ends-well : (moved_on seal_world).1 ≡ None
+unfolding seal_world after_tasks after_plan carry act turn update_keeping redo histories image laid changed zeros decision decided servers_where all_tracks is_whole rest in_order drains turns
 ends-well = refl
 
-bare-then : len (fields_at (moved_on w).0.control 256).out_of_sync ≡ 0
-unfolding w after_tasks after_plan carry act turn update_keeping redo histories image laid changed zeros decision decided servers_where all_tracks is_whole rest in_order drains turns
+bare-then : len (fields_at (moved_on seal_world).0.control 256).out_of_sync ≡ 0
+unfolding seal_world after_tasks after_plan carry act turn update_keeping redo histories image laid changed zeros decision decided servers_where all_tracks is_whole rest in_order drains turns
 bare-then = len-empty nat_cmp
 
-may-seal : MaySeal w
+may-seal : MaySeal seal_world
 may-seal = record { plan = plan-is; first = first-is; bare = bare; reached = reached; unsealed = unsealed-yet; well = ends-well; bare_then = bare-then }
 
 -- ---- all of it
 
-before-is : run uncopied ≡ after_tasks (sealed w) unwritten
-unfolding w
-before-is = tasks-joined written (exchange 14 ∷ unwritten) ∙ (by ∙ ap (λ v. after_tasks v unwritten) (seal-is w may-seal))
+before-is : run uncopied ≡ after_tasks (sealed seal_world) unwritten
+unfolding seal_world
+before-is = tasks-joined written (exchange 14 ∷ unwritten) ∙ (by ∙ ap (λ v. after_tasks v unwritten) (seal-is seal_world may-seal))
   where
-    by : after_tasks (run written) (exchange 14 ∷ unwritten) ≡ after_tasks (after_task w (exchange 14)) unwritten
+    by : after_tasks (run written) (exchange 14 ∷ unwritten) ≡ after_tasks (after_task seal_world (exchange 14)) unwritten
     by = first-then (run written) (exchange 14) unwritten
 
 -- the world as the recovery begins, and as it is answered
-abbrev last_world : World
-last_world = after_tasks (sealed w) unwritten
+abbrev lost_world : World
+lost_world = after_tasks (sealed seal_world) unwritten
 
-abbrev found : World
-found = after_task last_world recover
+abbrev recovered : World
+recovered = after_task lost_world recover
 
-answers-there : said_in last_world recover ≡ Done (InGroup 1 (Nothing 1))
-unfolding w after_tasks after_plan carry act turn update_keeping redo histories image laid changed zeros decision decided servers_where all_tracks is_whole rest in_order drains turns
+answers-there : said_in lost_world recover ≡ Done (InGroup 1 (Nothing 1))
+unfolding seal_world after_tasks after_plan carry act turn update_keeping redo histories image laid changed zeros decision decided servers_where all_tracks is_whole rest in_order drains turns
 answers-there = refl
 
-members-there : members_of found 1 ≡ member ∷ []
-unfolding w after_tasks after_plan carry act turn update_keeping redo histories image laid changed zeros decision decided servers_where all_tracks is_whole rest in_order drains turns
+members-there : members_of recovered 1 ≡ member ∷ []
+unfolding seal_world after_tasks after_plan carry act turn update_keeping redo histories image laid changed zeros decision decided servers_where all_tracks is_whole rest in_order drains turns
 members-there = refl
 
-counts-there : counts_at 1 found.control member ≡ true
-unfolding w after_tasks after_plan carry act turn update_keeping redo histories image laid changed zeros decision decided servers_where all_tracks is_whole rest in_order drains turns
+counts-there : counts_at 1 recovered.control member ≡ true
+unfolding seal_world after_tasks after_plan carry act turn update_keeping redo histories image laid changed zeros decision decided servers_where all_tracks is_whole rest in_order drains turns
 counts-there = refl
 
-found-is : run (uncopied ++ recover ∷ []) ≡ found
+found-is : run (uncopied ++ recover ∷ []) ≡ recovered
 found-is = run-more uncopied recover ∙ ap (λ v. after_task v recover) before-is
 
 pub answers : said_in (run uncopied) recover ≡ Done (InGroup 1 (Nothing 1))
@@ -109,16 +109,16 @@ counts = ap (λ (v : World). counts_at 1 v.control member) found-is ∙ counts-t
 
 -- ---- what is lost, and what is in the cut
 
-held-there : lists last_world.events 256 0 ≡ 1 ∷ []
-unfolding w after_tasks after_plan carry act turn update_keeping redo histories image laid changed zeros decision decided servers_where all_tracks is_whole rest in_order drains turns
+held-there : lists lost_world.events 256 0 ≡ 1 ∷ []
+unfolding seal_world after_tasks after_plan carry act turn update_keeping redo histories image laid changed zeros decision decided servers_where all_tracks is_whole rest in_order drains turns
 held-there = refl
 
-kept-there : lists found.events 768 0 ≡ []
-unfolding w after_tasks after_plan carry act turn update_keeping redo histories image laid changed zeros decision decided servers_where all_tracks is_whole rest in_order drains turns
+kept-there : lists recovered.events 768 0 ≡ []
+unfolding seal_world after_tasks after_plan carry act turn update_keeping redo histories image laid changed zeros decision decided servers_where all_tracks is_whole rest in_order drains turns
 kept-there = refl
 
-cut-there : (cuts found.events).held 1 256 0 ≡ 1 ∷ []
-unfolding w after_tasks after_plan carry act turn update_keeping redo histories image laid changed zeros decision decided servers_where all_tracks is_whole rest in_order drains turns past
+cut-there : (cuts recovered.events).held 1 256 0 ≡ 1 ∷ []
+unfolding seal_world after_tasks after_plan carry act turn update_keeping redo histories image laid changed zeros decision decided servers_where all_tracks is_whole rest in_order drains turns past
 cut-there = refl
 
 pub loses : IsLost most_tracks (lists (run uncopied).events) (lists (run (uncopied ++ recover ∷ [])).events) pairs 1
