@@ -12,13 +12,9 @@ use Rattle.dr_model.specs.Histories.{Lists, Write, Histories, no_history, joined
 use Rattle.dr_model.specs.Cuts.{Past, past, cuts, no_cuts, past_event, cut_for}
 use Rattle.dr_laws_closed.specs.Moments.{Standing, standing, standing_event, none_stands}
 use Rattle.dr_laws_targets.specs.Committeds.{committeds, committed_event}
+use Rattle.dr_laws_recovery.proofs.OnTracks.{is_issue}
 
--- an event issues a write
-abbrev pub is_issue : Event → Bool
-is_issue (Issue n v t offset len bytes) = true
-is_issue e = false
-
--- it answers a step or shows a track
+-- an event answers a step or shows a track
 abbrev pub is_said : Event → Bool
 is_said (Answer line code a b c) = true
 is_said (Shown line v t bytes) = true

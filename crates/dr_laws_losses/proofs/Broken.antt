@@ -8,7 +8,7 @@ use Rattle.std.proofs.lemmas.List.Folds.{list_any-append}
 use Rattle.std.proofs.Math.Bool.{or-true}
 use Rattle.dr_logic.proofs.Lists.{cons-parts}
 use Rattle.dr_logic.proofs.Tables.{at2_same}
-use Rattle.dr_facts.proofs.Tables.{at2_cases, at2_other}
+use Rattle.dr_facts.proofs.Tables.{at2_other}
 use Rattle.dr_ids.specs.declared.names.Member.{Member}
 use Rattle.dr_ids.specs.Sizes.{most_tracks}
 use Rattle.dr_model.specs.declared.event.Event.{Event}
@@ -29,10 +29,11 @@ use Rattle.dr_laws_cuts.proofs.Places.{snoc}
 use Rattle.dr_laws_sound.proofs.Journal.{run-more}
 use Rattle.dr_laws_recovery.proofs.CountedAlong.{counts-run}
 use Rattle.dr_laws_recovery.proofs.ClosesAlong.{closed-run}
+use Rattle.dr_laws_recovery.proofs.OnTracks.{is_issue}
 use Rattle.dr_lost.specs.declared.lost.Pair.{Pair}
 use Rattle.dr_lost.specs.Lost.{IsLost, IsHeld}
 use Rattle.dr_laws_losses.specs.Losses.{members_of, target_pair, recovered_world, RecoversAt, IsUncut, WasGivenBack}
-use Rattle.dr_laws_losses.proofs.Alike.{is_issue, NoIssue}
+use Rattle.dr_laws_losses.proofs.Alike.{NoIssue}
 use Rattle.dr_laws_losses.proofs.Issued.{TellsFirst, tells-first}
 use Rattle.dr_laws_losses.proofs.Known.{Longer, run-longer, below-in, in-its-group, its-cut, to-cut, told-of, to-uncut}
 
@@ -106,19 +107,21 @@ issued-at tasks = snoc HasIssues no-steps one-more tasks
 
 -- ---- what is held of a cut
 
-stays-cut : (n a : ℕ) (p : Past) (e : Event) → is_some (p.cuts.by n a) ≡ true → is_some ((past_event p e).cuts.by n a) ≡ true
-stays-cut n a p (Cut z k x) h = at2_cases (λ j y o. is_some (p.cuts.by j y) ≡ true → is_some o ≡ true) p.cuts.by k x (Some z) (λ h. refl) (λ j y ne h. h) n a h
-stays-cut n a p e h = h
+-- an event that cuts no volume anew for a group leaves what that has
+same-cut : (n a : ℕ) (p : Past) (e : Event) → IsNew p e → is_some (p.cuts.by n a) ≡ true → ((past_event p e).cuts.by n a ≡ p.cuts.by n a) × ((past_event p e).cuts.held n a ≡ p.cuts.held n a)
+same-cut n a p (Cut s k x) fresh cut = (at2_other p.cuts.by k x (Some s) n a other, at2_other p.cuts.held k x (p.history.now x) n a other)
+  where
+    other : n ≡ k → a ≡ x → ⊥
+    other here there = absurd (let gone : p.cuts.by n a ≡ None = (λ i. p.cuts.by (here i) (there i)) ∙ fresh in let e : true ≡ false = sym cut ∙ ap is_some gone in cc)
+same-cut n a p e fresh cut = (refl, refl)
 
 -- along events none of which cuts the volume for that number again
 held-along : (n a : ℕ) (es : List Event) (p : Past) → AllNew p es → is_some (p.cuts.by n a) ≡ true → (fold past_event p es).cuts.held n a ≡ p.cuts.held n a
 unfolding AllNew
 held-along n a [] p new cut = refl
-held-along n a (e ∷ es) p new cut = held-along n a es (past_event p e) new.1 (stays-cut n a p e cut) ∙ by e new.0
-  where
-    by : (e : Event) → IsNew p e → (past_event p e).cuts.held n a ≡ p.cuts.held n a
-    by (Cut s k x) fresh = at2_other p.cuts.held k x (p.history.now x) n a (λ here there. absurd (let gone : p.cuts.by n a ≡ None = (λ i. p.cuts.by (here i) (there i)) ∙ fresh in let e : true ≡ false = sym cut ∙ ap is_some gone in cc))
-    by e fresh = refl
+held-along n a (e ∷ es) p new cut =
+    let same = same-cut n a p e new.0 cut in
+    held-along n a es (past_event p e) new.1 (ap is_some same.0 ∙ cut) ∙ same.1
 
 new-after : (p : Past) (es more : List Event) → AllNew p (es ++ more) → AllNew (fold past_event p es) more
 unfolding AllNew

@@ -14,7 +14,8 @@ use Rattle.dr_model.specs.Runs.{Task, after_task, after_tasks, run}
 use Rattle.dr_laws_sound.proofs.Journal.{run-more}
 use Rattle.dr_laws_sound.proofs.Steps.{sound-run}
 use Rattle.dr_laws_losses.specs.Pairs.{HoldsSame, PairsHoldSame, PairsComeFirst, asks_write, copies_none}
-use Rattle.dr_laws_losses.proofs.Alike.{is_issue, NoIssue, issues_it}
+use Rattle.dr_laws_recovery.proofs.OnTracks.{is_issue}
+use Rattle.dr_laws_losses.proofs.Alike.{NoIssue, issues_it}
 use Rattle.dr_laws_losses.proofs.Steps.{none-append}
 use Rattle.dr_laws_losses.proofs.Issued.{TellsFirst, tells-first}
 use Rattle.dr_laws_losses.proofs.Tidy.{tidy-run}

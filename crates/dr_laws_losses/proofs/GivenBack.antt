@@ -1,5 +1,5 @@
 -- Where no step takes writes away from primaries once there are host writes, nothing is given back to one.
-use Rattle.std.proofs.Common.{ℕ, ◌≡◌, ◌≢◌, ◌<◌, ◌+◌, ◌⊎◌, inl, inr, refl, ap, sym, ◌∙◌, subst, arith, append_assoc, Bool, true, false, ◌||◌, List, [], ◌∷◌, ◌++◌, Result, Ok}
+use Rattle.std.proofs.Common.{ℕ, ◌≡◌, ◌<◌, ◌+◌, ◌⊎◌, inl, inr, refl, ap, sym, ◌∙◌, subst, arith, append_assoc, Bool, true, false, ◌||◌, List, [], ◌∷◌, ◌++◌}
 use Rattle.std.specs.List.{list_any}
 use Rattle.std.proofs.lemmas.Bool.{or_parts, eq-eqb, eqb-true, false_from_ne_true}
 use Rattle.std.proofs.lemmas.Bool.Decides.{eqb_tells}
@@ -12,75 +12,30 @@ use Rattle.dr_facts.proofs.Tables.{at_cases, at2_cases}
 use Rattle.dr_ids.specs.declared.names.Member.{Member}
 use Rattle.dr_model.specs.declared.event.Event.{Event}
 use Rattle.dr_model.specs.declared.event.Event.TheVariants.{Volume as VolumeDefined, Issue, Ack, Mirrored, Sent, Flashed, Reverted, Set, Back, Blanked, Cut}
-use Rattle.dr_model.specs.declared.step.Step.{Step}
 use Rattle.dr_model.specs.Histories.{Lists, Write, Histories, joined, after_event, histories, lists}
-use Rattle.dr_model.specs.HeldWrites.{IsMirrored, WasAcknowledged, WasReplaced, Replaces}
+use Rattle.dr_model.specs.HeldWrites.{IsMirrored, WasAcknowledged, Replaces}
 use Rattle.dr_model.specs.TakenWrites.{takes_from}
 use Rattle.dr_model.specs.Control.{World}
 use Rattle.dr_model.specs.Groups.{In}
-use Rattle.dr_model.specs.ClosedCuts.{LastCut}
-use Rattle.dr_model.specs.Runs.{Task, after_task, after_tasks, run}
+use Rattle.dr_model.specs.Runs.{Task, after_task, run}
 use Rattle.dr_model.proofs.Images.{histories-push}
 use Rattle.dr_facts.proofs.Emits.{AllOf}
 use Rattle.dr_facts.proofs.Joined.{InFirst, InOther, place-in}
 use Rattle.dr_facts.proofs.Lists.{in-first, in-second, in-joined}
-use Rattle.dr_laws_cuts.proofs.Places.{snoc}
 use Rattle.dr_laws_targets.proofs.Held.{held-stored, acknowledged-kept, stays-or}
 use Rattle.dr_laws_sound.proofs.Journal.{run-more}
 use Rattle.dr_laws_recovery.proofs.Takes.{TakesFrom, at-place, Told}
 use Rattle.dr_laws_recovery.proofs.TakesSteps.{MayTake}
 use Rattle.dr_laws_recovery.proofs.KeepsWrites.{told-task, replaced-may}
+use Rattle.dr_laws_recovery.proofs.TakenAt.{StepAt, step-at}
 use Rattle.dr_laws_losses.specs.Pairs.{asks_write}
 use Rattle.dr_laws_losses.specs.Losses.{PrimariesKeep, WasGivenBack}
 use Rattle.dr_laws_losses.proofs.Alike.{NoIssue, issues_it}
 use Rattle.dr_laws_losses.proofs.Early.{none-it, step-none, nothing-told}
 use Rattle.dr_laws_losses.proofs.Tidy.{tidy-run}
-use Rattle.dr_laws_losses.proofs.Numbers.{IsNumber, HeardOf, heard-run, heard-at}
+use Rattle.dr_laws_losses.proofs.Numbers.{IsNumber, heard-run, heard-at}
 use Rattle.dr_laws_losses.proofs.Broken.{IssuedAt, IsIssue, issued-at}
-use Rattle.dr_laws_losses.proofs.Known.{Longer, run-longer}
-
--- ---- the step that tells an event
-
-record StepAt (tasks : List Task) (before : List Event) (e : Event) : Type 0 where
-  first : List Task
-  step : Task
-  rest : List Task
-  is : tasks ≡ first ++ step ∷ rest
-  since : List Event
-  begun : before ≡ (run first).events ++ since
-  later : List Event
-  ended : (after_task (run first) step).events ≡ before ++ e ∷ later
-
-abbrev HasStep : List Task → Type 0
-HasStep tasks = (before : List Event) (e : Event) (after : List Event) → (run tasks).events ≡ before ++ e ∷ after → StepAt tasks before e
-
-no-step : HasStep []
-unfolding after_tasks
-no-step [] e after is = absurd cc
-no-step (b ∷ before) e after is = absurd cc
-
-step-more : (tasks : List Task) (t : Task) → HasStep tasks → HasStep (tasks ++ t ∷ [])
-step-more tasks t old before e after is =
-    let told : Told (MayTake (run tasks).control t.asked) (run tasks).events (after_task (run tasks) t).events = told-task (run tasks) t in
-    by told.more told.is (place-in (run tasks).events told.more before e after (sym told.is ∙ ap (λ (w : World). w.events) (sym (run-more tasks t)) ∙ is))
-  where
-    by : (more : List Event) → (after_task (run tasks) t).events ≡ (run tasks).events ++ more → InFirst (run tasks).events before e ⊎ InOther (run tasks).events more before e after → StepAt (tasks ++ t ∷ []) before e
-    by more is (inl p) =
-        let s : StepAt tasks before e = old before e p.behind p.is in
-        record { first = s.first; step = s.step; rest = s.rest ++ t ∷ []; is = ap (λ ts. ts ++ t ∷ []) s.is ∙ append_assoc s.first (s.step ∷ s.rest) (t ∷ []); since = s.since; begun = s.begun; later = s.later; ended = s.ended }
-    by more is (inr p) = record {
-      first = tasks;
-      step = t;
-      rest = [];
-      is = refl;
-      since = p.middle;
-      begun = p.first;
-      later = after;
-      ended = is ∙ ap (λ zs. (run tasks).events ++ zs) p.other ∙ sym (append_assoc (run tasks).events p.middle (e ∷ after)) ∙ ap (λ zs. zs ++ e ∷ after) (sym p.first);
-    }
-
-step-at : (tasks : List Task) → HasStep tasks
-step-at tasks = snoc HasStep no-step step-more tasks
+use Rattle.dr_laws_losses.proofs.Known.{Longer}
 
 -- ---- a list that gains a write, and one that loses it
 
@@ -270,7 +225,7 @@ module _ (tasks : List Task) (ms : List Member) (keep : PrimariesKeep tasks ms) 
           let more : told.more ≡ s.since ++ e ∷ s.later = append_cancel_left w.events told.more (s.since ++ e ∷ s.later) (sym told.is ∙ s.ended ∙ ap (λ es. es ++ e ∷ s.later) s.begun ∙ append_assoc w.events s.since (e ∷ s.later)) in
           let takes : takes_from w.control s.step.asked a ≡ true =
           replaced-may (MayTake w.control s.step.asked) (histories before).write a t e replaces
-              (at-place (TakesFrom (MayTake w.control s.step.asked)) s.since e s.later (subst (AllOf (TakesFrom (MayTake w.control s.step.asked))) more told.each)) in
+          (at-place (TakesFrom (MayTake w.control s.step.asked)) s.since e s.later (subst (AllOf (TakesFrom (MayTake w.control s.step.asked))) more told.each)) in
           let keeps : takes_from w.control s.step.asked a ≡ false = subst (λ ts. takes_from (run ts).control s.step.asked a ≡ false) (sym p.first) (keep.keep p.middle s.rest s.step m p.other of) in
           absurd (let no : true ≡ false = sym takes ∙ keeps in cc)
 
@@ -353,8 +308,8 @@ module _ (tasks : List Task) (ms : List Member) (keep : PrimariesKeep tasks ms) 
   loses-none u t es more rest leads here gone = elim (along u a t (λ es. In u (lists es a t)) (λ es e. Replaces (histories es).write a t e) (loses-by u a t) more es here) [
     | inl stays ↦ gone stays
     | inr turns ↦ no-replace (es ++ turns.before) turns.event (turns.after ++ rest)
-      (leads ∙ ap (λ m. es ++ m ++ rest) turns.is ∙ ap (λ es. es ++ rest) (sym (append_assoc es turns.before (turns.event ∷ turns.after))) ∙ append_assoc (es ++ turns.before) (turns.event ∷ turns.after) rest)
-      u t (speaks-more u es turns.before (held-stored es u a t here)) turns.so
+        (leads ∙ ap (λ m. es ++ m ++ rest) turns.is ∙ ap (λ es. es ++ rest) (sym (append_assoc es turns.before (turns.event ∷ turns.after))) ∙ append_assoc (es ++ turns.before) (turns.event ∷ turns.after) rest)
+        u t (speaks-more u es turns.before (held-stored es u a t here)) turns.so
   ]
 
 -- where primaries keep their writes, nothing is given back to one

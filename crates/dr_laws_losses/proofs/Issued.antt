@@ -25,7 +25,7 @@ use Rattle.dr_model.specs.SessionPlans.{is_idle}
 use Rattle.dr_laws_sound.proofs.Parts.{Comes, last-plan, plain-case}
 use Rattle.dr_laws_losses.proofs.Alike.{NoIssue}
 use Rattle.dr_laws_losses.proofs.Steps.{none-append, image-none}
-use Rattle.dr_laws_losses.proofs.Worlds.{unissued}
+use Rattle.dr_laws_recovery.proofs.OnTracks.{no-issues}
 use Rattle.dr_laws_losses.specs.Pairs.{asks_write}
 use Rattle.dr_laws_losses.proofs.Told.{line-none, begun-none}
 
@@ -42,8 +42,8 @@ quietly-then : (w u v : World) → Quietly w u → Quietly u v → Quietly w v
 quietly-then w u v a b = record { more = a.more ++ b.more; is = b.is ∙ ap (λ es. es ++ b.more) a.is ∙ append_assoc w.events a.more b.more; none = none-append a.more b.more a.none b.none }
 
 does-quietly : (w : World) (a : Act) (f : Option Fuse) → Quietly w (after_act w a f)
-does-quietly w (Make m) f = record { more = told m (w.control.volume (target m)); is = refl; none = all-told _ unissued m (w.control.volume (target m)) }
-does-quietly w (OpenAttempt v s n) f = record { more = told (Hold v s n true) (w.control.volume v); is = refl; none = all-told _ unissued (Hold v s n true) (w.control.volume v) }
+does-quietly w (Make m) f = record { more = told m (w.control.volume (target m)); is = refl; none = all-told _ no-issues m (w.control.volume (target m)) }
+does-quietly w (OpenAttempt v s n) f = record { more = told (Hold v s n true) (w.control.volume v); is = refl; none = all-told _ no-issues (Hold v s n true) (w.control.volume v) }
 does-quietly w (Redo v) f = record { more = []; is = sym (append-nil w.events); none = refl }
 does-quietly w (Acknowledge n) f = record { more = Ack n ∷ []; is = refl; none = refl }
 does-quietly w (Drop n) f = record { more = []; is = sym (append-nil w.events); none = refl }
@@ -54,10 +54,10 @@ does-quietly w (EndRecovery s n) f = record { more = Recovered s n ∷ []; is = 
 counts-quietly : (w : World) (a : Act) → Counts w a (λ t. Quietly w t.0)
 counts-quietly w (Make m) = λ f.
     let u : Volume = w.control.volume (target m) in
-    record { more = told_in_stop m u ++ Stopped u.server (landed m) ∷ []; is = refl; none = stop-onto by_moves _ unissued m u (Stopped u.server (landed m) ∷ []) (emitted m) refl }
+    record { more = told_in_stop m u ++ Stopped u.server (landed m) ∷ []; is = refl; none = stop-onto by_moves _ no-issues m u (Stopped u.server (landed m) ∷ []) (emitted m) refl }
 counts-quietly w (OpenAttempt v s n) = λ f.
     let u : Volume = w.control.volume v in
-    record { more = told_in_stop (Hold v s n true) u ++ Stopped u.server 0 ∷ []; is = refl; none = stop-onto by_moves _ unissued (Hold v s n true) u (Stopped u.server 0 ∷ []) (emitted (Hold v s n true)) refl }
+    record { more = told_in_stop (Hold v s n true) u ++ Stopped u.server 0 ∷ []; is = refl; none = stop-onto by_moves _ no-issues (Hold v s n true) u (Stopped u.server 0 ∷ []) (emitted (Hold v s n true)) refl }
 counts-quietly w (Redo v) = tt
 counts-quietly w (Acknowledge n) = tt
 counts-quietly w (Drop n) = tt

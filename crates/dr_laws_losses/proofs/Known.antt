@@ -1,10 +1,9 @@
 -- The lost writes are known: what the primaries held as the recovery began, without what is in the cuts of its group.
-use Rattle.std.proofs.Common.{ℕ, ◌≡◌, ◌<◌, ◌≤◌, ◌+◌, inl, inr, refl, ap, sym, ◌∙◌, subst, arith, append_assoc, Bool, true, false, cond, ◌||◌, ◌&&◌, nat_eq, List, [], ◌∷◌, ◌++◌, Option, Some, None, Result, Ok}
+use Rattle.std.proofs.Common.{ℕ, ◌≡◌, ◌<◌, ◌≤◌, ◌+◌, inl, inr, refl, ap, sym, ◌∙◌, subst, arith, append_assoc, Bool, true, false, cond, ◌&&◌, nat_eq, List, [], ◌∷◌, ◌++◌, Option, Some, None, Result, Ok}
 use Rattle.std.specs.List.{list_any}
-use Rattle.std.proofs.lemmas.Bool.{and_parts, eq-eqb, eqb-true}
+use Rattle.std.proofs.lemmas.Bool.{and_parts, eqb-true}
 use Rattle.std.proofs.lemmas.List.{append-nil}
 use Rattle.std.proofs.lemmas.List.Sums.{fold-append}
-use Rattle.std.proofs.Math.Bool.{or-true}
 use Rattle.dr_ids.specs.declared.names.Member.{Member}
 use Rattle.dr_ids.specs.Sizes.{most_tracks}
 use Rattle.dr_model.specs.declared.event.Event.{Event}
@@ -39,6 +38,7 @@ use Rattle.dr_laws_recovery.proofs.CountedAlong.{Counts, counts-run}
 use Rattle.dr_laws_recovery.proofs.ClosesAlong.{closed-run}
 use Rattle.dr_lost.specs.declared.lost.Pair.{Pair}
 use Rattle.dr_lost.specs.Lost.{IsLost}
+use Rattle.dr_lost.proofs.SetLemmas.{met-is}
 use Rattle.dr_laws_losses.specs.Losses.{members_of, target_pair, recovered_world, RecoversAt, IsUncut}
 use Rattle.dr_laws_losses.proofs.Alike.{issues_it}
 use Rattle.dr_laws_losses.proofs.Told.{told-none}
@@ -49,14 +49,9 @@ use Rattle.dr_laws_losses.proofs.Numbers.{held-positive}
 
 -- ---- lists
 
-in-any : (n : ℕ) (ns : List ℕ) → In n ns → list_any (nat_eq n) ns ≡ true
-in-any n [] h = absurd h
-in-any n (m ∷ ns) (inl is) = ap (λ b. b || list_any (nat_eq n) ns) (eq-eqb n m is)
-in-any n (m ∷ ns) (inr later) = ap (λ b. nat_eq n m || b) (in-any n ns later) ∙ or-true (nat_eq n m)
-
 -- what one list has, another one has that answers alike
 same-in : (n : ℕ) (xs ys : List ℕ) → list_any (nat_eq n) xs ≡ list_any (nat_eq n) ys → In n xs → In n ys
-same-in n xs ys same h = is-met n ys (sym same ∙ in-any n xs h)
+same-in n xs ys same h = is-met n ys (sym same ∙ met-is n xs h)
 
 pub below-in : (k n : ℕ) (ws : List ℕ) → Below k ws → In n ws → n < k
 below-in k n [] b h = absurd h

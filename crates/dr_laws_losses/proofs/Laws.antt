@@ -1,14 +1,10 @@
 -- What a recovery loses, said of its steps.
-use Rattle.std.proofs.Common.{ℕ, ◌≡◌, ◌↔◌, inl, inr, ap, sym, ◌∙◌, subst, append_assoc, List, [], ◌∷◌, ◌++◌}
+use Rattle.std.proofs.Common.{ℕ, ◌≡◌, ◌↔◌, ap, sym, ◌∙◌, subst, append_assoc, List, [], ◌∷◌, ◌++◌}
 use Rattle.dr_ids.specs.Sizes.{most_tracks}
-use Rattle.dr_model.specs.declared.event.Event.TheVariants.{Cut}
 use Rattle.dr_model.specs.Histories.{lists}
 use Rattle.dr_model.specs.Control.{World}
 use Rattle.dr_model.specs.Dependence.{DependsOn}
-use Rattle.dr_model.specs.HeldWrites.{WasAcknowledged}
-use Rattle.dr_model.specs.TakenWrites.{WasTaken}
 use Rattle.dr_model.specs.Runs.{Task, run}
-use Rattle.dr_laws_recovery.proofs.TakenAt.{kept-or-taken}
 use Rattle.dr_lost.specs.declared.lost.Pair.{Pair}
 use Rattle.dr_lost.specs.Lost.{IsLost, IsHeld}
 use Rattle.dr_laws_losses.specs.Losses.{members_of, recovered_world, RecoversAll, IsUncut, WasGivenBack, firsts, seconds, LossIsKnown}

@@ -1,10 +1,7 @@
 -- Host writes are numbered from 1 on, in order: no other number is acknowledged, mirrored or pending, and so no list has one.
-use Rattle.std.proofs.Common.{ℕ, ◌≡◌, ◌≢◌, ◌<◌, ◌+◌, ◌⊎◌, inl, inr, refl, ap, sym, ◌∙◌, subst, arith, Bool, true, false, cond, ◌||◌, nat_eq, List, [], ◌∷◌, ◌++◌, Option, Some, None, Result, Ok, Err}
+use Rattle.std.proofs.Common.{ℕ, ◌≡◌, ◌<◌, ◌+◌, ◌⊎◌, inl, inr, refl, sym, ◌∙◌, subst, arith, Bool, true, false, cond, List, [], ◌∷◌, ◌++◌, Option, Some, None, Result, Ok, Err}
 use Rattle.std.specs.Prelude.{option_map}
-use Rattle.std.specs.List.{find, list_any}
-use Rattle.std.proofs.lemmas.Bool.{ne_eqb}
-use Rattle.std.proofs.lemmas.List.Folds.{list_any-append}
-use Rattle.std.proofs.Math.Bool.{or-true}
+use Rattle.std.specs.List.{find}
 use Rattle.dr_ids.specs.declared.refusal.Refusal.TheVariants.{JournalFull}
 use Rattle.dr_model.specs.declared.event.Event.{Event}
 use Rattle.dr_model.specs.declared.event.Event.TheVariants.{Ack, Mirrored, Stopped, PairLine, FlashLine, SessionLine, MirrorLine, ImageStart, ImageVolume, ImageBlock, ImageEnd}
@@ -14,7 +11,6 @@ use Rattle.dr_model.specs.Answers.{answer}
 use Rattle.dr_model.specs.Groups.{In}
 use Rattle.dr_model.specs.HeldWrites.{IsMirrored}
 use Rattle.dr_model.specs.Histories.{lists}
-use Rattle.std.proofs.lemmas.Bool.Decides.{eqb_tells}
 use Rattle.dr_model.specs.PlantImage.{Volume as ListedVolume}
 use Rattle.dr_model.specs.Listings.{lists as lists_plan}
 use Rattle.dr_model.specs.SessionEntries.{members_on}

@@ -31,7 +31,8 @@ use Rattle.dr_model.specs.Forming.{Way, formed, form_said}
 use Rattle.dr_model.specs.Runs.{Task, compared, image_told, volume_told, blocks_told, image_plan, imaged, after_task}
 use Rattle.dr_laws_cuts.proofs.Journal.{past-history}
 use Rattle.dr_laws_losses.specs.Pairs.{HoldsSame, issues}
-use Rattle.dr_laws_losses.proofs.Alike.{mark, is_issue, NoIssue, AlikeEvents, alike-same, past-alike}
+use Rattle.dr_laws_recovery.proofs.OnTracks.{is_issue}
+use Rattle.dr_laws_losses.proofs.Alike.{mark, NoIssue, AlikeEvents, alike-same, past-alike}
 use Rattle.dr_laws_losses.proofs.Worlds.{Alike, by-control, told-both, said-alike, plan-alike, lost-alike, with_told}
 use Rattle.dr_laws_losses.proofs.Forms.{room-same, AlikeWay, formed-alike}
 

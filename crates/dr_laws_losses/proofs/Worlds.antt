@@ -5,7 +5,7 @@ use Rattle.dr_logic.specs.Tables.{at}
 use Rattle.dr_ids.specs.declared.refusal.Refusal.{Refusal}
 use Rattle.dr_ids.specs.declared.refusal.Refusal.TheVariants.{Stopped as StoppedIn}
 use Rattle.dr_model.specs.declared.event.Event.{Event}
-use Rattle.dr_model.specs.declared.event.Event.TheVariants.{Issue, Ack, Stopped, Frozen, Thawed, Recovered}
+use Rattle.dr_model.specs.declared.event.Event.TheVariants.{Ack, Stopped, Frozen, Thawed, Recovered}
 use Rattle.dr_model.specs.declared.said.Said.{Said}
 use Rattle.dr_model.specs.Answers.{answer}
 use Rattle.dr_model.specs.Histories.{Write, histories}
@@ -16,17 +16,9 @@ use Rattle.dr_model.specs.Carry.{lower, burnt, Act, Make, OpenAttempt, Redo, Ack
 use Rattle.dr_model.specs.Sessions.{changed, begun as attempted}
 use Rattle.dr_model.specs.PlanParts.{Plan}
 use Rattle.dr_model.specs.Carried.{begun, finish, carried_out, said, after_plan, losing, masters_lost}
-use Rattle.dr_facts.proofs.Emits.{Of, Lists as ByEvents, by_moves, any-lists, emitted, stop-onto, all-told}
-use Rattle.dr_laws_losses.proofs.Alike.{is_issue, NoIssue, AlikeEvents, alike-append, alike-same}
-
--- ---- what moves tell issues no write
-
-no-issue : (e : Event) → Of by_moves e → is_issue e ≡ false
-no-issue (Issue n v t offset len bytes) by = absurd cc
-no-issue e by = refl
-
-pub unissued : ByEvents (Of by_moves) NoIssue
-unissued = any-lists (Of by_moves) is_issue no-issue
+use Rattle.dr_facts.proofs.Emits.{by_moves, emitted, stop-onto, all-told}
+use Rattle.dr_laws_recovery.proofs.OnTracks.{no-issues}
+use Rattle.dr_laws_losses.proofs.Alike.{NoIssue, AlikeEvents, alike-append, alike-same}
 
 -- ---- what is carried
 
@@ -110,7 +102,7 @@ module _ (u : ℕ) where
             fuse = at k.fuse row.server (lower (same.gate row f i + 1) (k.fuse row.server));
             pending = settled m k.pending;
           };
-          events = told-both w g (told m row) a (all-told _ unissued m row);
+          events = told-both w g (told m row) a (all-told _ no-issues m row);
         };
         stop = refl;
       }
@@ -122,7 +114,7 @@ module _ (u : ℕ) where
             fuse = at k.fuse row.server (burnt (k.fuse row.server));
             pending = settled_in_stop m k.pending;
           };
-          events = told-both w g (told_in_stop m row ++ Stopped row.server (landed m) ∷ []) a (stop-onto by_moves _ unissued m row (Stopped row.server (landed m) ∷ []) (emitted m) refl);
+          events = told-both w g (told_in_stop m row ++ Stopped row.server (landed m) ∷ []) a (stop-onto by_moves _ no-issues m row (Stopped row.server (landed m) ∷ []) (emitted m) refl);
         };
         stop = refl;
       }
