@@ -232,7 +232,8 @@ module _ (before first : List Task) (t : Task) (rest : List Task) (s n : ℕ) (p
         member = m;
         here = g.here;
         track = kept.track;
-        held = to-cut before first t rest s n pairs r m g.here w (told-of before first t rest s n pairs r w was.volume was.track was.held) (its-cut before first t rest s n pairs r m g.here) kept.track (subst (In w) (r.stays m g.here kept.track) h);
+        held = to-cut before first t rest s n pairs r m g.here w (told-of before first t rest s n pairs r w was.volume was.track was.held)
+            (its-cut before first t rest s n pairs r m g.here) kept.track (subst (In w) (r.stays m g.here kept.track) h);
       }
 
   pub given-back : (w x : ℕ) → IsHeld most_tracks (lists end.events) (map (λ (p : Pair). p.first) pairs) w → IsHeld most_tracks (lists begun.events) (map (λ (p : Pair). p.second) pairs) w

@@ -173,7 +173,8 @@ module _ (w : World) (sound : Sound w) (s n : ℕ) (d : Decision) (x : Session) 
         let i = from-filter (λ v. remains_in s reverts (fields_at w.control v)) w.control.volumes v h in
         let counted = and_parts (counts_in s (fields_at w.control v)) _ i.1 in
         let so = and_parts _ _ counted.0 in
-        let t : IsTarget w.control.sessions v (fields_at w.control v).session (roles w.control v).source (fields_at w.control v).recorded (fields_at w.control v).inhibited (fields_at w.control v).reversing = (sound.attempts.volumes v).counted so.1 in
+        let t : IsTarget w.control.sessions v (fields_at w.control v).session (roles w.control v).source (fields_at w.control v).recorded
+        (fields_at w.control v).inhibited (fields_at w.control v).reversing = (sound.attempts.volumes v).counted so.1 in
         let y = session-found w.control.sessions s x found in
         let same : t.session ≡ x = same-session w.control.sessions t.session x sound.groups.once t.listed y.0 (t.number ∙ (eqb-true (fields_at w.control v).session s so.0 ∙ sym y.1)) in
         let here : In t.member x.members = subst (λ (y : Session). In t.member y.members) same t.here in
@@ -191,7 +192,11 @@ module _ (w : World) (sound : Sound w) (s n : ℕ) (d : Decision) (x : Session) 
 
     pub ended-after : (line : ℕ) → HasEnded (masters_lost w (after_plan w line p)) s n
     unfolding after_plan
-    ended-after line = subst (λ (k : Control). HasEnded (record { control = losing w.control.on k; contents = (masters_lost w (after_plan w line p)).contents; events = (masters_lost w (after_plan w line p)).events }) s n) (sym (ended-control p last-is o none))
+    ended-after line = subst (λ (k : Control). HasEnded (record {
+      control = losing w.control.on k;
+      contents = (masters_lost w (after_plan w line p)).contents;
+      events = (masters_lost w (after_plan w line p)).events;
+    }) s n) (sym (ended-control p last-is o none))
         (record { number = number-is; on = on-is })
 
 -- ---- any recovery
@@ -207,22 +212,27 @@ module _ (w : World) (sound : Sound w) (s n : ℕ) (d : Decision) where
   goes : (line : ℕ) → AnsweredSo (recover_plan w.control s) → HasEnded (masters_lost w (after_plan w line (recover_plan w.control s))) s n
   goes line says = of (session_in w.control.sessions s) refl
     where
-      run : (x : Session) (found : session_in w.control.sessions s ≡ Some x) (running : secondary_refusal x.members w.control ≡ None) → (r : Option Refusal) → (carry (begun w (recover_plan w.control s)) (recover_plan w.control s).entries).1 ≡ r → HasEnded (masters_lost w (after_plan w line (recover_plan w.control s))) s n
+      run : (x : Session) (found : session_in w.control.sessions s ≡ Some x) (running : secondary_refusal x.members w.control ≡ None) → (r : Option Refusal)
+          → (carry (begun w (recover_plan w.control s)) (recover_plan w.control s).entries).1 ≡ r → HasEnded (masters_lost w (after_plan w line (recover_plan w.control s))) s n
       run x found running None none = ended-after w sound s n d x found running none says line
       run x found running (Some r) some = refused-never r n d (ill (carry (begun w (recover_plan w.control s)) (recover_plan w.control s).entries).1 some says)
         where
-          ill : (e : Option Refusal) → e ≡ Some r → answered (recover_plan w.control s) (finish (recover_plan w.control s) (carry (begun w (recover_plan w.control s)) (recover_plan w.control s).entries).0 e).control e ≡ Done (AnsweredGroup n d) → Refused r ≡ Done (AnsweredGroup n d)
-          ill e is says = subst (λ e. answered (recover_plan w.control s) (finish (recover_plan w.control s) (carry (begun w (recover_plan w.control s)) (recover_plan w.control s).entries).0 e).control e ≡ Done (AnsweredGroup n d)) is says
+          ill : (e : Option Refusal) → e ≡ Some r → answered (recover_plan w.control s) (finish (recover_plan w.control s)
+              (carry (begun w (recover_plan w.control s)) (recover_plan w.control s).entries).0 e).control e ≡ Done (AnsweredGroup n d) → Refused r ≡ Done (AnsweredGroup n d)
+          ill e is says = subst (λ e. answered (recover_plan w.control s) (finish (recover_plan w.control s)
+              (carry (begun w (recover_plan w.control s)) (recover_plan w.control s).entries).0 e).control e ≡ Done (AnsweredGroup n d)) is says
 
       some : (x : Session) → session_in w.control.sessions s ≡ Some x → (r : Option Refusal) → secondary_refusal x.members w.control ≡ r → HasEnded (masters_lost w (after_plan w line (recover_plan w.control s))) s n
       some x found None running = run x found running _ refl
-      some x found (Some r) is = refused-so r (subst AnsweredSo (ap (λ o. on_session o (λ x. unless (secondary_refusal x.members w.control) (recover_done s (decided_in s w.control) x.members))) found ∙ ap (λ r. unless r (recover_done s (decided_in s w.control) x.members)) is) says)
+      some x found (Some r) is = refused-so r (subst AnsweredSo (ap (λ o. on_session o (λ x. unless (secondary_refusal x.members w.control)
+          (recover_done s (decided_in s w.control) x.members))) found ∙ ap (λ r. unless r (recover_done s (decided_in s w.control) x.members)) is) says)
 
       of : (o : Option Session) → session_in w.control.sessions s ≡ o → HasEnded (masters_lost w (after_plan w line (recover_plan w.control s))) s n
       of None none = refused-so (unknown OfSession) (subst AnsweredSo (ap (λ o. on_session o (λ x. unless (secondary_refusal x.members w.control) (recover_done s (decided_in s w.control) x.members))) none) says)
       of (Some x) found = some x found _ refl
 
-  pub recover-ended : (line : ℕ) (listed : List ListedVolume) → said_in w (record { line = line; asked = Ok (Recover s); listed = listed }) ≡ Done (AnsweredGroup n d) → HasEnded (after_task w (record { line = line; asked = Ok (Recover s); listed = listed })) s n
+  pub recover-ended : (line : ℕ) (listed : List ListedVolume) → said_in w (record { line = line; asked = Ok (Recover s); listed = listed }) ≡ Done (AnsweredGroup n d)
+      → HasEnded (after_task w (record { line = line; asked = Ok (Recover s); listed = listed })) s n
   recover-ended line listed says = by (has_room w.events) says
     where
       by : (b : Bool) → AnsweredSo (cond b (recover_plan w.control s) (refuses JournalFull)) → HasEnded (masters_lost w (after_plan w line (cond b (recover_plan w.control s) (refuses JournalFull)))) s n

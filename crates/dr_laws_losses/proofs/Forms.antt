@@ -96,7 +96,8 @@ module _ (u : ℕ) where
       by true = drains-alike (members_on server ms) w g a
       by false = stays-alike w g a
 
-  turn_by-alike : (s : ℕ) (p : PhaseName) (ms : List Member) (o : Option ℕ) (more other : World → Way) → ((w g : World) → Alike u w g → AlikeWay (more w) (other g)) → (w g : World) → Alike u w g → AlikeWay (turn_by w s p ms o more) (turn_by g s p ms o other)
+  turn_by-alike : (s : ℕ) (p : PhaseName) (ms : List Member) (o : Option ℕ) (more other : World → Way)
+      → ((w g : World) → Alike u w g → AlikeWay (more w) (other g)) → (w g : World) → Alike u w g → AlikeWay (turn_by w s p ms o more) (turn_by g s p ms o other)
   turn_by-alike s p ms None more other each w g a = ends-alike w g (OutOfOrder p) a
   turn_by-alike s p ms (Some server) more other each w g a = then-alike (ask w s p ms server) (ask g s p ms server) more other each (ask-alike s p ms server w g a)
 
@@ -119,11 +120,13 @@ module _ (u : ℕ) where
     where
       step : ((left : ℕ) (committed : Bool) → AlikeWays (λ w. turns bound w s left committed)) → (v h : World) → Alike u v h → AlikeWay (next_turn bound s left committed w.control v) (next_turn bound s left committed g.control h)
       step more v h b =
-          subst (λ (k : Control). AlikeWay (next_turn bound s left committed w.control v) (turns bound h s (still_left committed (phase_in h.control s) left) (has_committed committed (phase_in k s) (phase_in h.control s)))) (sym a.control)
+          subst (λ (k : Control). AlikeWay (next_turn bound s left committed w.control v)
+          (turns bound h s (still_left committed (phase_in h.control s) left) (has_committed committed (phase_in k s) (phase_in h.control s)))) (sym a.control)
           (subst (λ (j : Control). AlikeWay (next_turn bound s left committed w.control v) (turns bound h s (still_left committed (phase_in j s) left) (has_committed committed (phase_in w.control s) (phase_in j s)))) (sym b.control)
           (more (still_left committed (phase_in v.control s) left) (has_committed committed (phase_in w.control s) (phase_in v.control s)) v h b))
 
-      by : ((left : ℕ) (committed : Bool) → AlikeWays (λ w. turns bound w s left committed)) → (b : Bool) → AlikeWay (cond b (stays w) (turn_in w s (next_turn bound s left committed w.control))) (cond b (stays g) (turn_in g s (next_turn bound s left committed g.control)))
+      by : ((left : ℕ) (committed : Bool) → AlikeWays (λ w. turns bound w s left committed)) → (b : Bool)
+          → AlikeWay (cond b (stays w) (turn_in w s (next_turn bound s left committed w.control))) (cond b (stays g) (turn_in g s (next_turn bound s left committed g.control)))
       by more true = stays-alike w g a
       by more false = turn_in-alike s (next_turn bound s left committed w.control) (next_turn bound s left committed g.control) (step more) w g a
 

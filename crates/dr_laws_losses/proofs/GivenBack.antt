@@ -300,7 +300,8 @@ module _ (tasks : List Task) (ms : List Member) (keep : PrimariesKeep tasks ms) 
             let there : WasAcknowledged es u a t = acked-there u t es acked turns.before (turns.event ∷ (turns.after ++ rest)) before_leads (record { is = refl; volume = k.volume; track = k.track }) in
             elim (acknowledged-kept es u a t there) [
               | inl in_list ↦ lacks in_list
-              | inr r ↦ no-replace r.before r.event (r.behind ++ (more ++ rest)) (leads ∙ append_assoc es more rest ∙ ap (λ es. es ++ (more ++ rest)) r.is ∙ append_assoc r.before (r.event ∷ r.behind) (more ++ rest)) u t (inl r.acknowledged) r.replaces
+              | inr r ↦ no-replace r.before r.event (r.behind ++ (more ++ rest)) (leads ∙ append_assoc es more rest
+                  ∙ ap (λ es. es ++ (more ++ rest)) r.is ∙ append_assoc r.before (r.event ∷ r.behind) (more ++ rest)) u t (inl r.acknowledged) r.replaces
             ]
 
   -- one that loses it
@@ -324,5 +325,6 @@ none-given tasks ms begun s n u keep l g = by (fronts g.last.place.before begun 
         gains-none tasks ms keep g.member g.here u g.track g.last.place.before g.acknowledged g.lacked later.more l.more (rest-of g.last.place.before l.more begun later.more later.is l.is)
         (subst (λ es. In u (lists es g.member.a.0 g.track)) later.is g.held)
     by (inr earlier) =
-        loses-none tasks ms keep g.member g.here u g.track begun earlier.more (Cut s n g.last.volume ∷ g.last.place.behind) (rest-of begun (Cut s n g.last.volume ∷ g.last.place.behind) g.last.place.before earlier.more earlier.is g.last.place.is)
+        loses-none tasks ms keep g.member g.here u g.track begun earlier.more (Cut s n g.last.volume ∷ g.last.place.behind)
+        (rest-of begun (Cut s n g.last.volume ∷ g.last.place.behind) g.last.place.before earlier.more earlier.is g.last.place.is)
         g.held (λ h. g.lacked (subst (λ es. In u (lists es g.member.a.0 g.track)) (sym earlier.is) h))

@@ -149,4 +149,5 @@ tells-first w t = by t.asked
         of true = image-none t.listed
         of false = refl
     by (Ok step) = plan-first w (record { line = t.line; asked = Ok step; listed = t.listed }) _ (case-way w.control w.events t.line (Ok step) _ (plain-case w (record { line = t.line; asked = Ok step; listed = t.listed }) (λ e. cc))) refl
-    by (Err column) = plan-first w (record { line = t.line; asked = Err column; listed = t.listed }) _ (case-way w.control w.events t.line (Err column) _ (plain-case w (record { line = t.line; asked = Err column; listed = t.listed }) (λ e. cc))) refl
+    by (Err column) = plan-first w (record { line = t.line; asked = Err column; listed = t.listed }) _
+        (case-way w.control w.events t.line (Err column) _ (plain-case w (record { line = t.line; asked = Err column; listed = t.listed }) (λ e. cc))) refl

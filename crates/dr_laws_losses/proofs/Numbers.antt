@@ -121,8 +121,16 @@ all-stopped i (LandBoth n v t) ps all = all-marked i n ps all
 all-stopped i m ps all = all
 
 does-numbers : (i : ℕ) (w : World) (a : Act) (f : Option Fuse) → NamesNone i a → NumbersAt i w → NumbersAt i (after_act w a f)
-does-numbers i w (Make m) f lt k = record { heard = heard-append i w.events (told m (w.control.volume (target m))) k.heard (told-heard i m (w.control.volume (target m)) lt); pending = all-settled i m w.control.pending k.pending; issued = k.issued }
-does-numbers i w (OpenAttempt v s n) f lt k = record { heard = heard-append i w.events (told (Hold v s n true) (w.control.volume v)) k.heard (kind-told i (Hold v s n true) (w.control.volume v) refl); pending = k.pending; issued = k.issued }
+does-numbers i w (Make m) f lt k = record {
+  heard = heard-append i w.events (told m (w.control.volume (target m))) k.heard (told-heard i m (w.control.volume (target m)) lt);
+  pending = all-settled i m w.control.pending k.pending;
+  issued = k.issued;
+}
+does-numbers i w (OpenAttempt v s n) f lt k = record {
+  heard = heard-append i w.events (told (Hold v s n true) (w.control.volume v)) k.heard (kind-told i (Hold v s n true) (w.control.volume v) refl);
+  pending = k.pending;
+  issued = k.issued;
+}
 does-numbers i w (Redo v) f lt k = record { heard = k.heard; pending = k.pending; issued = k.issued }
 does-numbers i w (Acknowledge n) f lt k = record { heard = heard-append i w.events (Ack n ∷ []) k.heard (lt, tt); pending = all-filter (λ p. IsNumber i p.w) (is_other n) w.control.pending k.pending; issued = k.issued }
 does-numbers i w (Drop n) f lt k = record { heard = k.heard; pending = all-filter (λ p. IsNumber i p.w) (is_other n) w.control.pending k.pending; issued = k.issued }
@@ -131,7 +139,11 @@ does-numbers i w (EndThaw l m) f lt k = record { heard = heard-append i w.events
 does-numbers i w (EndRecovery s n) f lt k = record { heard = heard-append i w.events _ k.heard (tt, tt); pending = k.pending; issued = k.issued }
 
 counts-numbers : (i : ℕ) (w : World) (a : Act) → NamesNone i a → NumbersAt i w → Counts w a (λ t. NumbersAt i t.0)
-counts-numbers i w (Make m) lt k = λ f. record { heard = heard-append i w.events _ k.heard (stop-heard i m (w.control.volume (target m)) (w.control.volume (target m)).server (landed m) lt); pending = all-stopped i m w.control.pending k.pending; issued = k.issued }
+counts-numbers i w (Make m) lt k = λ f. record {
+  heard = heard-append i w.events _ k.heard (stop-heard i m (w.control.volume (target m)) (w.control.volume (target m)).server (landed m) lt);
+  pending = all-stopped i m w.control.pending k.pending;
+  issued = k.issued;
+}
 counts-numbers i w (OpenAttempt v s n) lt k = λ f. record { heard = heard-append i w.events _ k.heard (stop-heard i (Hold v s n true) (w.control.volume v) (w.control.volume v).server 0 tt); pending = k.pending; issued = k.issued }
 counts-numbers i w (Redo v) lt k = tt
 counts-numbers i w (Acknowledge n) lt k = tt
@@ -263,7 +275,8 @@ module _ (w : World) (k : Numbers w) where
       plan-from any_world (Acts c asked) NoStop (Late asked) (NumbersAt i) (λ u j. tt) (λ u a d j. act-numbers i u a (does-none i c asked known u a j d) j) w p
       (record { heard = heard-append i w.events p.told (heard-more c.issued i le w.events k.heard) (begins-told i c w.events line asked p x); pending = begins-pending c w.events line asked p x k.pending; issued = refl })
       e.entries e.follows
-      (λ v j. let last : KeepsTables v.control (p.last v.control) = last-tables c w.events line asked p x v.control in record { heard = j.heard; pending = subst (AllNumbers i) (sym last.pending) j.pending; issued = last.issued ∙ j.issued }) in
+      (λ v j. let last : KeepsTables v.control (p.last v.control) = last-tables c w.events line asked p x v.control in
+      record { heard = j.heard; pending = subst (AllNumbers i) (sym last.pending) j.pending; issued = last.issued ∙ j.issued }) in
       subst (λ n. NumbersAt n (carried_out w p).0) (sym done.issued) done
 
   -- a step that carries out no write

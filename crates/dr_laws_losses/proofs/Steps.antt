@@ -153,7 +153,8 @@ module _ (u : ℕ) where
     idle-alike ds s r leave =
         let p : Plan = entries_plan ds s in
         let begins : Alike u (begun w p) (begun g (refuses r)) = record { control = a.control; events = told-both u w g [] a.events refl } in
-        lost-alike u w g _ _ a (said-alike u (carried_out w p).0 (carried_out g (refuses r)).0 line line (answered p (carried_out w p).0.control (carried_out w p).1) (answered (refuses r) (carried_out g (refuses r)).0.control (carried_out g (refuses r)).1) (subst (λ v. Alike u v (begun g (refuses r))) (sym (leave-carried w ds s leave)) begins))
+        lost-alike u w g _ _ a (said-alike u (carried_out w p).0 (carried_out g (refuses r)).0 line line (answered p (carried_out w p).0.control (carried_out w p).1)
+        (answered (refuses r) (carried_out g (refuses r)).0.control (carried_out g (refuses r)).1) (subst (λ v. Alike u v (begun g (refuses r))) (sym (leave-carried w ds s leave)) begins))
 
     -- where there is room in the journal
     in-room : (p q : Plan) → Alike u (masters_lost w (after_plan w line p)) (masters_lost g (after_plan g line q))
@@ -170,8 +171,10 @@ module _ (u : ℕ) where
     by-plan : (p : Control → Plan) → NoIssue (p w.control).told
         → Alike u (masters_lost w (after_plan w line (cond (has_room w.events) (p w.control) (refuses JournalFull)))) (masters_lost g (after_plan g line (cond (has_room g.events) (p g.control) (refuses JournalFull))))
     by-plan p none =
-        subst (λ b. Alike u (masters_lost w (after_plan w line (cond (has_room w.events) (p w.control) (refuses JournalFull)))) (masters_lost g (after_plan g line (cond b (p g.control) (refuses JournalFull))))) (sym (room-same u step_events w g a))
-        (subst (λ (k : Control). Alike u (masters_lost w (after_plan w line (cond (has_room w.events) (p w.control) (refuses JournalFull)))) (masters_lost g (after_plan g line (cond (has_room w.events) (p k) (refuses JournalFull))))) (sym a.control)
+        subst (λ b. Alike u (masters_lost w (after_plan w line (cond (has_room w.events) (p w.control) (refuses JournalFull))))
+        (masters_lost g (after_plan g line (cond b (p g.control) (refuses JournalFull))))) (sym (room-same u step_events w g a))
+        (subst (λ (k : Control). Alike u (masters_lost w (after_plan w line (cond (has_room w.events) (p w.control) (refuses JournalFull))))
+        (masters_lost g (after_plan g line (cond (has_room w.events) (p k) (refuses JournalFull))))) (sym a.control)
         (by (has_room w.events)))
       where
         by : (b : Bool) → Alike u (masters_lost w (after_plan w line (cond b (p w.control) (refuses JournalFull)))) (masters_lost g (after_plan g line (cond b (p w.control) (refuses JournalFull))))
@@ -218,13 +221,16 @@ module _ (u : ℕ) where
       none-there : (full : Bool) → choices.full ≡ full → differing w.events full ≡ None → differing events full ≡ None
       none-there true is none = refl
       none-there false is none = none-differs _ (k.volume x).tracks 0 (λ t lt. same-bytes (image_at events x t) (image_at events y t)
-          (ap (image (histories events).write) (ap (λ (l : ℕ → ℕ → List ℕ). l x t) (lists-alike w.events events e) ∙ same is none t (let under : t < 0 + (k.volume x).tracks = lt in omega arith) ∙ sym (ap (λ (l : ℕ → ℕ → List ℕ). l y t) (lists-alike w.events events e)))))
+          (ap (image (histories events).write) (ap (λ (l : ℕ → ℕ → List ℕ). l x t) (lists-alike w.events events e)
+          ∙ same is none t (let under : t < 0 + (k.volume x).tracks = lt in omega arith) ∙ sym (ap (λ (l : ℕ → ℕ → List ℕ). l y t) (lists-alike w.events events e)))))
 
       pair-by : (o : Option ℕ) → differing w.events choices.full ≡ o → AlikeTask w g (record { line = line; asked = Ok (MakePair devs x y n choices); listed = listed })
       pair-by None none = record {
         other = record { line = line; asked = Ok (MakePair devs x y n choices); listed = listed };
-        alike = subst (λ o. Alike u (masters_lost w (after_plan w line (cond (has_room w.events) (plan_by o) (refuses JournalFull)))) (masters_lost g (after_plan g line (cond (has_room g.events) (plan_by (differing events choices.full)) (refuses JournalFull))))) (sym none)
-            (subst (λ o. Alike u (masters_lost w (after_plan w line (cond (has_room w.events) (plan_by None) (refuses JournalFull)))) (masters_lost g (after_plan g line (cond (has_room g.events) (plan_by o) (refuses JournalFull))))) (sym (none-there choices.full refl none))
+        alike = subst (λ o. Alike u (masters_lost w (after_plan w line (cond (has_room w.events) (plan_by o) (refuses JournalFull))))
+            (masters_lost g (after_plan g line (cond (has_room g.events) (plan_by (differing events choices.full)) (refuses JournalFull))))) (sym none)
+            (subst (λ o. Alike u (masters_lost w (after_plan w line (cond (has_room w.events) (plan_by None) (refuses JournalFull))))
+            (masters_lost g (after_plan g line (cond (has_room g.events) (plan_by o) (refuses JournalFull))))) (sym (none-there choices.full refl none))
             (by-plan w g a line (λ k. plan_by None) refl));
       }
       pair-by (Some t) some = record {
@@ -258,7 +264,8 @@ module _ (u : ℕ) where
 
         by : (o : Option Refusal) → Alike u (masters_lost w (after_plan w line (unless o (make offset len bytes)))) (masters_lost g (after_plan g line (unless o (make 0 1 (mark u (k.issued + 1))))))
         by None = subst (λ p. Alike u (masters_lost w (after_plan w line (make offset len bytes))) (masters_lost g (after_plan g line p))) (sym other)
-            (answered-alike w g a line (make offset len bytes) (IssueTold (k.issued + 1) v t 0 1 (mark u (k.issued + 1)) ∷ []) (subst (λ es. AlikeEvents u es (IssueTold (k.issued + 1) v t 0 1 (mark u (k.issued + 1)) ∷ [])) (sym (tells offset len bytes)) remarked))
+            (answered-alike w g a line (make offset len bytes) (IssueTold (k.issued + 1) v t 0 1 (mark u (k.issued + 1)) ∷ [])
+            (subst (λ es. AlikeEvents u es (IssueTold (k.issued + 1) v t 0 1 (mark u (k.issued + 1)) ∷ [])) (sym (tells offset len bytes)) remarked))
         by (Some r) = same-answered w g a line (refuses r) refl
 
     run-alike : (s n : ℕ) → let x : Way = formed w s n in let y : Way = formed g s n in
@@ -267,8 +274,10 @@ module _ (u : ℕ) where
         let x : Way = formed w s n in
         let y : Way = formed g s n in
         let same : AlikeWay u x y = formed-alike u s n w g a in
-        subst (λ r. Alike u (masters_lost x.world (after_plan x.world line (only_says (form_said s x.world.control x.refusal)))) (masters_lost y.world (after_plan y.world line (only_says (form_said s y.world.control r))))) (sym same.refusal)
-        (subst (λ (j : Control). Alike u (masters_lost x.world (after_plan x.world line (only_says (form_said s x.world.control x.refusal)))) (masters_lost y.world (after_plan y.world line (only_says (form_said s j x.refusal))))) (sym same.world.control)
+        subst (λ r. Alike u (masters_lost x.world (after_plan x.world line (only_says (form_said s x.world.control x.refusal))))
+        (masters_lost y.world (after_plan y.world line (only_says (form_said s y.world.control r))))) (sym same.refusal)
+        (subst (λ (j : Control). Alike u (masters_lost x.world (after_plan x.world line (only_says (form_said s x.world.control x.refusal))))
+        (masters_lost y.world (after_plan y.world line (only_says (form_said s j x.refusal))))) (sym same.world.control)
         (same-answered x.world y.world same.world line (only_says (form_said s x.world.control x.refusal)) refl))
 
     image-alike : (vs : List Volume) → Alike u (masters_lost w (after_plan w line (imaged w vs))) (masters_lost g (after_plan g line (imaged g vs)))

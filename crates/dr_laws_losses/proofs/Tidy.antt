@@ -148,7 +148,8 @@ acked-low : (w : World) (n v t : ℕ) → (writes w n).volume ≡ v → (writes 
 acked-low w n v t volume track low = subst (λ v. (writes w n).track < sizes w v) (sym volume) (subst (λ t. t < sizes w v) (sym track) low)
 
 target-sizes : (starts : Option ℕ) (w : World) → SoundBut starts w → (v from : ℕ) → source (table w v) ≡ Some from → sizes w v ≡ sizes w from
-target-sizes starts w s v from related = let f : FlashFits (is_volume w.control from) (source (table w from)) (w.control.volume v).server (w.control.volume from).server (sizes w v) (sizes w from) = s.rows.structure.flash v from related in f.same_tracks
+target-sizes starts w s v from related = let f : FlashFits (is_volume w.control from) (source (table w from)) (w.control.volume v).server
+    (w.control.volume from).server (sizes w v) (sizes w from) = s.rows.structure.flash v from related in f.same_tracks
 
 related-source : (w : World) (v from : ℕ) → source (table w v) ≡ Some from → (w.control.volume v).fields.source ≡ from
 related-source w v from is = by (w.control.volume v).fields.related is
@@ -216,7 +217,8 @@ module _ (starts : Option ℕ) (w : World) (s : SoundBut starts w) (k : Tidy w) 
   tidy-done m f may = tidy-more w (done w m f) (told m (w.control.volume (target m))) k refl refl refl (moved-sizes w m) (told-heard starts w s m may.allowed may.ready)
 
   tidy-stop : (m : Move) (f : Option Fuse) → May w m → Tidy (done_in_stop w m f)
-  tidy-stop m f may = tidy-more w (done_in_stop w m f) (told_in_stop m (w.control.volume (target m)) ++ Stopped (server_at w (target m)) (landed m) ∷ []) k refl refl refl (moved-sizes w m) (stop-heard starts w s m may.allowed may.ready (server_at w (target m)) (landed m))
+  tidy-stop m f may = tidy-more w (done_in_stop w m f) (told_in_stop m (w.control.volume (target m)) ++ Stopped (server_at w (target m)) (landed m) ∷ []) k refl refl refl
+      (moved-sizes w m) (stop-heard starts w s m may.allowed may.ready (server_at w (target m)) (landed m))
 
 tidy-not : (w : World) (x : ℕ) (f : Option Fuse) → Tidy w → Tidy (not_done w x f)
 tidy-not w x f k = tidy-one w (not_done w x f) (Stopped x 0 ∷ []) k refl refl refl refl (tt, tt)
@@ -232,7 +234,8 @@ acts = record {
   where
     does : (w : World) (a : Act) (f : Option Fuse) → Sound w → Tidy w → MayDo w a → Tidy (after_act w a f)
     does w (Make m) f s k may = tidy-done None w s k m f may
-    does w (OpenAttempt v i n) f s k may = tidy-more w (after_act w (OpenAttempt v i n) f) (told (Hold v i n true) (w.control.volume v)) k refl refl refl (moved-sizes w (Hold v i n true)) (kind-told w (Hold v i n true) (w.control.volume v) refl)
+    does w (OpenAttempt v i n) f s k may = tidy-more w (after_act w (OpenAttempt v i n) f)
+        (told (Hold v i n true) (w.control.volume v)) k refl refl refl (moved-sizes w (Hold v i n true)) (kind-told w (Hold v i n true) (w.control.volume v) refl)
     does w (Redo v) f s k may = tidy-one w (fused w (server_at w v) f) [] k (sym (append-nil w.events)) refl refl refl tt
     does w (Acknowledge n) f s k may = absurd may
     does w (Drop n) f s k may = tidy-one w (dropped w n) [] k (sym (append-nil w.events)) refl refl refl tt
@@ -297,7 +300,8 @@ tidy-defines w s v server tracks here undefined k = record {
       (at_cases (λ q (f : ℕ → List ℕ). (t n : ℕ) → In n (f t) → t < sizes u q) h.now v (λ t. []) (λ t n i. absurd i) (λ q ne t n i. subst (λ k. t < k) (sym (else q ne)) (k.low.0 q t n i)), aside-low);
   held = λ n q t m i. held-low n q t m (subst (λ (c : Cuts). In m (c.held n q t)) (cuts-quiet w.events (VolumeDefined v server tracks ∷ []) (tt, tt)) i);
   none = λ q free. elim (eqb_tells q v) [
-    | inl is ↦ absurd (let now : list_any (nat_eq q) (w.control.volumes ++ v ∷ []) ≡ true = list_any-append (nat_eq q) w.control.volumes (v ∷ []) ∙ ap (λ b. list_any (nat_eq q) w.control.volumes || (b || false)) is.0 ∙ or-true (list_any (nat_eq q) w.control.volumes) in let e : true ≡ false = sym now ∙ free in cc)
+    | inl is ↦ absurd (let now : list_any (nat_eq q) (w.control.volumes ++ v ∷ []) ≡ true = list_any-append (nat_eq q) w.control.volumes (v ∷ [])
+        ∙ ap (λ b. list_any (nat_eq q) w.control.volumes || (b || false)) is.0 ∙ or-true (list_any (nat_eq q) w.control.volumes) in let e : true ≡ false = sym now ∙ free in cc)
     | inr not ↦ else q not.1 ∙ k.none q (or_parts (list_any (nat_eq q) w.control.volumes) _ (sym (list_any-append (nat_eq q) w.control.volumes (v ∷ [])) ∙ free)).0
   ];
 }
