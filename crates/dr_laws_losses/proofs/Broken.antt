@@ -32,7 +32,7 @@ use Rattle.dr_laws_recovery.proofs.ClosesAlong.{closed-run}
 use Rattle.dr_laws_recovery.proofs.OnTracks.{is_issue}
 use Rattle.dr_lost.specs.declared.lost.Pair.{Pair}
 use Rattle.dr_lost.specs.Lost.{IsLost, IsHeld}
-use Rattle.dr_laws_losses.specs.Losses.{members_of, target_pair, recovered_world, RecoversAt, IsUncut, WasGivenBack}
+use Rattle.dr_laws_losses.specs.Losses.{target_pair, recovered_world, RecoversAt, IsUncut, WasGivenBack}
 use Rattle.dr_laws_losses.proofs.Alike.{NoIssue}
 use Rattle.dr_laws_losses.proofs.Issued.{TellsFirst, tells-first}
 use Rattle.dr_laws_losses.proofs.Known.{Longer, run-longer, below-in, in-its-group, its-cut, to-cut, told-of, to-uncut}
@@ -163,7 +163,7 @@ earlier-in es before after early late e f is other lt = elim (place-in before (e
 
 -- ---- the recovery
 
-module _ (before first : List Task) (t : Task) (rest : List Task) (s n : ℕ) (pairs : List Pair) (r : RecoversAt before first t rest s n pairs) where
+module _ (before first : List Task) (t : Task) (rest : List Task) (s n : ℕ) (ms : List Member) (pairs : List Pair) (r : RecoversAt before first t rest s n ms pairs) where
   abbrev tasks : List Task
   tasks = before ++ first ++ t ∷ []
 
@@ -180,7 +180,7 @@ module _ (before first : List Task) (t : Task) (rest : List Task) (s n : ℕ) (p
   end-longer = subst (λ ts. Longer u.events (run ts).events) (append_assoc (before ++ first) (t ∷ []) rest) (run-longer tasks rest)
 
   -- a write of a cut was issued before it
-  issued-before : (m : Member) (of : In m (members_of u s)) (c : CutAt u.events s n m.a.0) (w q : ℕ) → In w (lists c.before m.a.0 q) → (bw aw : List Event) (e : Event) → IsIssue w e → end.events ≡ bw ++ e ∷ aw → Longer bw c.before
+  issued-before : (m : Member) (of : In m ms) (c : CutAt u.events s n m.a.0) (w q : ℕ) → In w (lists c.before m.a.0 q) → (bw aw : List Event) (e : Event) → IsIssue w e → end.events ≡ bw ++ e ∷ aw → Longer bw c.before
   issued-before m of c w q here bw aw e it is =
       let l : Longer u.events end.events = end-longer in
       let whole : c.before ++ Cut s n m.a.0 ∷ (c.behind ++ l.more) ≡ bw ++ e ∷ aw = sym (append_assoc c.before (Cut s n m.a.0 ∷ c.behind) l.more) ∙ (ap (λ es. es ++ l.more) (sym c.is) ∙ (sym l.is ∙ is)) in
@@ -218,40 +218,40 @@ module _ (before first : List Task) (t : Task) (rest : List Task) (s n : ℕ) (p
   -- a write that is kept is in a cut
   record IsInCut (w : ℕ) : Type 0 where
     member : Member
-    here : In member (members_of u s)
+    here : In member ms
     track : ℕ
-    held : In w (lists (its-cut before first t rest s n pairs r member here).before member.a.0 track)
+    held : In w (lists (its-cut before first t rest s n ms pairs r member here).before member.a.0 track)
 
   kept-in : (w : ℕ) → IsHeld most_tracks (lists end.events) (map (λ (p : Pair). p.first) pairs) w → IsHeld most_tracks (lists begun.events) (map (λ (p : Pair). p.second) pairs) w → IsInCut w
   kept-in w kept was =
       let o = from-map (λ (p : Pair). p.first) pairs kept.volume kept.among in
-      let g = from-map target_pair (members_of u s) o.from ((r.targets o.from).0 o.here) in
+      let g = from-map target_pair ms o.from ((r.targets o.from).0 o.here) in
       let m : Member = g.from in
       let h : In w (lists end.events m.c.0 kept.track) = subst (λ v. In w (lists end.events v kept.track)) (o.is ∙ ap (λ (p : Pair). p.first) g.is) kept.held in
       record {
         member = m;
         here = g.here;
         track = kept.track;
-        held = to-cut before first t rest s n pairs r m g.here w (told-of before first t rest s n pairs r w was.volume was.track was.held)
-            (its-cut before first t rest s n pairs r m g.here) kept.track (subst (In w) (r.stays m g.here kept.track) h);
+        held = to-cut before first t rest s n ms pairs r m g.here w (told-of before first t rest s n ms pairs r w was.volume was.track was.held)
+            (its-cut before first t rest s n ms pairs r m g.here) kept.track (subst (In w) (r.stays m g.here kept.track) h);
       }
 
   pub given-back : (w x : ℕ) → IsHeld most_tracks (lists end.events) (map (λ (p : Pair). p.first) pairs) w → IsHeld most_tracks (lists begun.events) (map (λ (p : Pair). p.second) pairs) w
-      → IsLost most_tracks (lists begun.events) (lists end.events) pairs x → DependsOn end.events w x → WasGivenBack (members_of u s) begun.events u.events s n x
+      → IsLost most_tracks (lists begun.events) (lists end.events) pairs x → DependsOn end.events w x → WasGivenBack ms begun.events u.events s n x
   given-back w x kept was lost d =
       let issue : Split end.events d.issued (Issue w d.volume d.track d.offset d.len d.bytes) = split-at end.events d.issued _ d.issue in
       let ack : Split end.events d.acknowledged (Ack x) = split-at end.events d.acknowledged (Ack x) d.ack in
       let it : IsIssue w (Issue w d.volume d.track d.offset d.len d.bytes) = (d.volume, d.track, d.offset, d.len, d.bytes, refl) in
       let k : IsInCut w = kept-in w kept was in
-      let c : CutAt u.events s n k.member.a.0 = its-cut before first t rest s n pairs r k.member k.here in
+      let c : CutAt u.events s n k.member.a.0 = its-cut before first t rest s n ms pairs r k.member k.here in
       let l : Longer issue.before c.before = issued-before k.member k.here c w k.track k.held issue.before issue.after _ it issue.is in
       let order : d.acknowledged < d.issued = d.order in
       let early : length ack.before < length issue.before = (let a : length ack.before ≡ d.acknowledged = ack.at in let b : length issue.before ≡ d.issued = issue.at in omega arith) in
       let acked : In (Ack x) issue.before = earlier-in end.events issue.before issue.after ack.before ack.after _ (Ack x) issue.is ack.is early in
       let closed : ClosedCuts u.events s n = closed-run tasks s n in
-      let g : InGroup u.events s n k.member.a.0 = in-its-group before first t rest s n pairs r k.member k.here in
+      let g : InGroup u.events s n k.member.a.0 = in-its-group before first t rest s n ms pairs r k.member k.here in
       let p : LastCut u.events s n = closed.last k.member.a.0 g in
-      let gone : IsUncut (members_of u s) begun.events u.events s n x = to-uncut before first t rest s n pairs r x lost in
+      let gone : IsUncut ms begun.events u.events s n x = to-uncut before first t rest s n ms pairs r x lost in
       record {
         member = gone.member;
         here = gone.here;
@@ -259,5 +259,5 @@ module _ (before first : List Task) (t : Task) (rest : List Task) (s n : ℕ) (p
         held = gone.held;
         last = p;
         acknowledged = before-last k.member.a.0 c p (Ack x) (subst (In (Ack x)) (sym l.is) (in-first issue.before l.more (Ack x) acked));
-        lacked = λ h. gone.without (subst (In x) (sym (closed.moment gone.member.a.0 (in-its-group before first t rest s n pairs r gone.member gone.here) gone.cut p gone.track)) h);
+        lacked = λ h. gone.without (subst (In x) (sym (closed.moment gone.member.a.0 (in-its-group before first t rest s n ms pairs r gone.member gone.here) gone.cut p gone.track)) h);
       }

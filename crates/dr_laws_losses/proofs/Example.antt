@@ -32,7 +32,7 @@ use Rattle.dr_laws_sound.proofs.Journal.{run-more}
 use Rattle.dr_model.specs.SessionEntries.{counts_at}
 use Rattle.dr_model.specs.Control.{nothing}
 use Rattle.dr_laws_losses.specs.Pairs.{PairsHoldSame}
-use Rattle.dr_laws_losses.specs.Losses.{members_of, AreTargets, RecoversAll, PrimariesKeep}
+use Rattle.dr_laws_losses.specs.Losses.{members_of, RecoversTargets, PrimariesKeep}
 use Rattle.dr_laws_losses.specs.Example.{member, name_a, task, volumes, pairs_made, unsealed, exchange, work, before, recover, pairs}
 use Rattle.dr_laws_losses.proofs.Known.{tasks-joined}
 use Rattle.dr_laws_losses.proofs.Early.{hold-same}
@@ -117,7 +117,7 @@ one-member q (inr none) = absurd none
 found-is : run (before ++ recover ∷ []) ≡ found
 found-is = run-more before recover ∙ ap (λ v. after_task v recover) before-is
 
-pub meets : RecoversAll before (recover ∷ []) 1 1 pairs
+pub meets : RecoversTargets before (recover ∷ []) 1 1 (member ∷ []) pairs
 meets = record {
   first = [];
   step = recover;
@@ -127,9 +127,9 @@ meets = record {
     asked = refl;
     decision = Nothing 1;
     answered = ap (λ v. said_in v recover) before-is ∙ answers-there;
-    counted = λ q here. subst (λ (v : World). (q : Member) → In q (members_of v 1) → counts_at 1 v.control q ≡ true) (sym found-is)
-        (λ q here. ap (counts_at 1 found.control) (one-member q (subst (In q) members-there here)) ∙ counts-there) q here;
-    targets = subst (λ (v : World). AreTargets (members_of v 1) pairs) (sym found-is) (subst (λ ms. AreTargets ms pairs) (sym members-there) (λ p. (λ h. h, λ h. h)));
+    members = λ q here. subst (In q) (sym (ap (λ (v : World). members_of v 1) found-is ∙ members-there)) here;
+    counted = λ q here. ap (λ (v : World). counts_at 1 v.control q) found-is ∙ (ap (counts_at 1 found.control) (one-member q here) ∙ counts-there);
+    targets = λ p. (λ h. h, λ h. h);
     stays = λ q here t. refl;
     alike = alike;
   };

@@ -95,7 +95,7 @@ run-longer xs ys = subst (λ (w : World). Longer (run xs).events w.events) (sym 
 
 -- ---- the recovery
 
-module _ (before first : List Task) (t : Task) (rest : List Task) (s n : ℕ) (pairs : List Pair) (r : RecoversAt before first t rest s n pairs) where
+module _ (before first : List Task) (t : Task) (rest : List Task) (s n : ℕ) (ms : List Member) (pairs : List Pair) (r : RecoversAt before first t rest s n ms pairs) where
   abbrev tasks : List Task
   tasks = before ++ first ++ t ∷ []
 
@@ -141,9 +141,9 @@ module _ (before first : List Task) (t : Task) (rest : List Task) (s n : ℕ) (p
       by None none here = absurd here
       by (Some x) found here = let there = session-found k.sessions s x found in record { session = x; listed = there.0; number = there.1; here = here }
 
-  module _ (m : Member) (of : In m (members_of u s)) where
+  module _ (m : Member) (of : In m ms) where
     i : IsIn m
-    i = is-in m of
+    i = is-in m (r.members m of)
 
     stands : MemberStands k m
     stands = (sound.groups.each i.session i.listed).stands m i.here
@@ -222,9 +222,9 @@ module _ (before first : List Task) (t : Task) (rest : List Task) (s n : ℕ) (p
         let numbered : w < begun.control.issued + 1 = below-in (begun.control.issued + 1) w (lists begun.events v q) ((sound-run before).queue.numbers.now v q) h in
         subst (λ es. list_any (issues_it w) es ≡ true) (sym l.is) (issued-more w begun.events l.more ((tidy-run before).issued w (held-positive before w v q h) numbered))
 
-    pub to-uncut : IsLost most_tracks (lists begun.events) (lists end.events) pairs w → IsUncut (members_of u s) begun.events u.events s n w
+    pub to-uncut : IsLost most_tracks (lists begun.events) (lists end.events) pairs w → IsUncut ms begun.events u.events s n w
     to-uncut l =
-        let o = from-map target_pair (members_of u s) l.pair ((r.targets l.pair).0 l.among) in
+        let o = from-map target_pair ms l.pair ((r.targets l.pair).0 l.among) in
         let m : Member = o.from in
         let c : CutAt u.events s n m.a.0 = its-cut m o.here in
         let held : In w (lists begun.events m.a.0 l.track) = subst (λ (p : Pair). In w (lists begun.events p.second l.track)) o.is l.held in
@@ -237,14 +237,14 @@ module _ (before first : List Task) (t : Task) (rest : List Task) (s n : ℕ) (p
           without = λ h. l.gone (subst (λ (p : Pair). In w (lists end.events p.first l.track)) (sym o.is) (subst (In w) (sym (r.stays m o.here l.track)) (from-cut m o.here w (told-of m.a.0 l.track held) c l.track h)));
         }
 
-    pub from-uncut : IsUncut (members_of u s) begun.events u.events s n w → IsLost most_tracks (lists begun.events) (lists end.events) pairs w
+    pub from-uncut : IsUncut ms begun.events u.events s n w → IsLost most_tracks (lists begun.events) (lists end.events) pairs w
     from-uncut c =
         let low : c.track < (begun.control.volume c.member.a.0).tracks = (tidy-run before).low.0 c.member.a.0 c.track w c.held in
         let most : (begun.control.volume c.member.a.0).tracks ≤ most_tracks = (within-run before).tracks c.member.a.0 in
         record {
           pair = target_pair c.member;
           track = c.track;
-          among = (r.targets (target_pair c.member)).1 (to-map target_pair (members_of u s) c.member c.here);
+          among = (r.targets (target_pair c.member)).1 (to-map target_pair ms c.member c.here);
           below = omega arith;
           held = c.held;
           gone = λ h. c.without (to-cut c.member c.here w (told-of c.member.a.0 c.track c.held) c.cut c.track (subst (In w) (r.stays c.member c.here c.track) h));

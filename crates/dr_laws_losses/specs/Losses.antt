@@ -1,4 +1,4 @@
--- What a recovery of a session loses, where all members count.
+-- What a recovery of a session loses, where the targets of members that count are used.
 use Rattle.std.specs.List.{list_any}
 use Rattle.std.specs.Prelude.{◌≡◌, ◌↔◌, ℕ, true, false, List, [], ◌∷◌, ◌++◌, map, Ok}
 use Rattle.dr_ids.specs.declared.names.Member.{Member}
@@ -41,25 +41,25 @@ abbrev pub recovered_world : List Task → List Task → Task → World
 recovered_world before first t = run (before ++ first ++ t ∷ [])
 
 -- Of a run, `before` is what comes before its recovery, and that has a recovery of session s, `t`, after its first steps. It was answered with
--- group n. All members of the session count then, and the pairs are their targets. What comes after it changes no list of these targets.
--- Each pair that was made without a copy was made of volumes that held the same writes.
-pub record RecoversAt (before first : List Task) (t : Task) (rest : List Task) (s n : ℕ) (pairs : List Pair) : Type 0 where
+-- group n. Some members of the session count then, all or a part of them, and the pairs are their targets. What comes after it changes no list
+-- of these targets. Each pair that was made without a copy was made of volumes that held the same writes.
+pub record RecoversAt (before first : List Task) (t : Task) (rest : List Task) (s n : ℕ) (ms : List Member) (pairs : List Pair) : Type 0 where
   pub asked : t.asked ≡ Ok (Recover s)
   pub decision : Decision
   pub answered : said_in (run (before ++ first)) t ≡ Done (AnsweredGroup n decision)
-  pub counted : (m : Member) → In m (members_of (recovered_world before first t) s) → counts_at s (recovered_world before first t).control m ≡ true
-  pub targets : AreTargets (members_of (recovered_world before first t) s) pairs
-  pub stays : (m : Member) → In m (members_of (recovered_world before first t) s) → (q : ℕ)
-      → lists (run (before ++ first ++ t ∷ rest)).events m.c.0 q ≡ lists (recovered_world before first t).events m.c.0 q
+  pub members : (m : Member) → In m ms → In m (members_of (recovered_world before first t) s)
+  pub counted : (m : Member) → In m ms → counts_at s (recovered_world before first t).control m ≡ true
+  pub targets : AreTargets ms pairs
+  pub stays : (m : Member) → In m ms → (q : ℕ) → lists (run (before ++ first ++ t ∷ rest)).events m.c.0 q ≡ lists (recovered_world before first t).events m.c.0 q
   pub alike : PairsHoldSame nothing (before ++ first ++ t ∷ [])
 
 -- so one of the steps of the recovery is such
-pub record RecoversAll (before recovery : List Task) (s n : ℕ) (pairs : List Pair) : Type 0 where
+pub record RecoversTargets (before recovery : List Task) (s n : ℕ) (ms : List Member) (pairs : List Pair) : Type 0 where
   pub first : List Task
   pub step : Task
   pub rest : List Task
   pub cut : recovery ≡ first ++ step ∷ rest
-  pub so : RecoversAt before first step rest s n pairs
+  pub so : RecoversAt before first step rest s n ms pairs
 
 -- The primary of a member held write w as the recovery began, and the cut that it has for group n hasn't it.
 pub record IsUncut (ms : List Member) (begun events : List Event) (s n w : ℕ) : Type 0 where
@@ -99,12 +99,12 @@ pub record PrimariesKeep (tasks : List Task) (ms : List Member) : Type 0 where
 
 -- What such a recovery loses. The lost writes are exactly those that a primary held as the recovery began and that its cut hasn't. A write that is
 -- kept depends on no lost one, but on one that was given back; and on none at all, if primaries keep their writes.
-pub record LossIsKnown (before recovery : List Task) (s n : ℕ) (pairs : List Pair) (r : RecoversAll before recovery s n pairs) : Type 0 where
+pub record LossIsKnown (before recovery : List Task) (s n : ℕ) (ms : List Member) (pairs : List Pair) (r : RecoversTargets before recovery s n ms pairs) : Type 0 where
   pub lost : (w : ℕ) → IsLost most_tracks (lists (run before).events) (lists (run (before ++ recovery)).events) pairs w
-      ↔ IsUncut (members_of (recovered_world before r.first r.step) s) (run before).events (recovered_world before r.first r.step).events s n w
+      ↔ IsUncut ms (run before).events (recovered_world before r.first r.step).events s n w
   pub kept : (w u : ℕ) → IsHeld most_tracks (lists (run (before ++ recovery)).events) (firsts pairs) w → IsHeld most_tracks (lists (run before).events) (seconds pairs) w
       → IsLost most_tracks (lists (run before).events) (lists (run (before ++ recovery)).events) pairs u → DependsOn (run (before ++ recovery)).events w u
-      → WasGivenBack (members_of (recovered_world before r.first r.step) s) (run before).events (recovered_world before r.first r.step).events s n u
-  pub whole : PrimariesKeep (before ++ r.first ++ r.step ∷ []) (members_of (recovered_world before r.first r.step) s)
+      → WasGivenBack ms (run before).events (recovered_world before r.first r.step).events s n u
+  pub whole : PrimariesKeep (before ++ r.first ++ r.step ∷ []) ms
       → (w u : ℕ) → IsHeld most_tracks (lists (run (before ++ recovery)).events) (firsts pairs) w → IsHeld most_tracks (lists (run before).events) (seconds pairs) w
       → IsLost most_tracks (lists (run before).events) (lists (run (before ++ recovery)).events) pairs u → DependsOn (run (before ++ recovery)).events w u → ⊥

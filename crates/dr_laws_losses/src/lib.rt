@@ -2,6 +2,7 @@
 #![tactic(auto)]
 
 ghost use Rattle.std.specs.Prelude.{◌≡◌, ◌++◌, ◌∷◌, [], ℕ, true, List};
+ghost use Rattle.dr_ids.specs.declared.names.Member.{Member};
 ghost use Rattle.dr_ids.specs.declared.refusal.Decision.TheVariants.{Nothing};
 ghost use Rattle.dr_model.specs.declared.said.Addition.TheVariants.{InGroup};
 ghost use Rattle.dr_model.specs.declared.said.Said.TheVariants.{Done};
@@ -14,18 +15,18 @@ ghost use Rattle.dr_model.specs.Histories.{lists};
 ghost use Rattle.dr_model.specs.Runs.{Task, run};
 ghost use Rattle.dr_lost.specs.declared.lost.Pair.{Pair};
 ghost use Rattle.dr_lost.specs.Lost.{IsLost};
-ghost use Rattle.dr_laws_losses.specs.Losses.{members_of, RecoversAll, PrimariesKeep, LossIsKnown};
+ghost use Rattle.dr_laws_losses.specs.Losses.{members_of, RecoversTargets, PrimariesKeep, LossIsKnown};
 ghost use Rattle.dr_laws_losses.specs.Pairs.{PairsHoldSame, PairsComeFirst};
 ghost use Rattle.dr_laws_losses.specs.Example.{before, uncopied, recover, member, pairs};
 
-/// What is lost where the targets of a session are used in place of its primaries. Of a run and its recovery: a step of that recovers the session and is
-/// answered with a group; all members of the session count then; the pairs are the targets of all of them; at the end of the run the lists of these targets are as
-/// they were then; and each pair that was made without a copy was made of volumes that held the same writes. Then the lost writes are exactly those that a primary held
+/// What is lost where the targets of members of a session are used in place of their primaries. Of a run and its recovery: a step of that recovers the session and is
+/// answered with a group; these members count then, all that the session has or a part of them; the pairs are their targets; at the end of the run the lists of these
+/// targets are as they were then; and each pair that was made without a copy was made of volumes that held the same writes. Then the lost writes are exactly those that a primary held
 /// as the recovery began and that its cut for the group hasn't. No write that is kept depends on a lost one, but on one that was given back: one that was acknowledged
 /// before the last cut of the group, although the track of the primary that held it as the recovery began didn't hold it there. And none is given back if no step after
 /// the first host write may take writes away from a primary of the session.
 pub fn the_loss_of_a_recovery_is_known()
-    ensures { (before recovery : List Task) (s n : ℕ) (pairs : List Pair) (r : RecoversAll before recovery s n pairs) → LossIsKnown before recovery s n pairs r }
+    ensures { (before recovery : List Task) (s n : ℕ) (ms : List Member) (pairs : List Pair) (r : RecoversTargets before recovery s n ms pairs) → LossIsKnown before recovery s n ms pairs r }
 {}
 
 /// Each pair of a run that was made without a copy was made of volumes that held the same writes, if it was made before the first host write.
@@ -35,7 +36,7 @@ pub fn pairs_before_the_first_write_hold_the_same()
 
 /// An example: a recovery that meets all this, of a primary that keeps its writes. What it loses is the write that came after its group.
 pub fn an_example_loses_a_write()
-    ensures meets { RecoversAll before (recover ∷ []) 1 1 pairs }
+    ensures meets { RecoversTargets before (recover ∷ []) 1 1 (member ∷ []) pairs }
     ensures keeps { PrimariesKeep (before ++ recover ∷ []) (member ∷ []) }
     ensures holds { lists (run before).events 256 0 ≡ 1 ∷ [] }
     ensures loses { IsLost most_tracks (lists (run before).events) (lists (run (before ++ recover ∷ [])).events) pairs 1 }
