@@ -24,7 +24,7 @@ ghost use Rattle.dr_laws_losses.specs.Example.{before, uncopied, recover, member
 /// targets are as they were then; and each pair that was made without a copy was made of volumes that held the same writes. Then the lost writes are exactly those that a primary held
 /// as the recovery began and that its cut for the group hasn't. No write that is kept depends on a lost one, but on one that was given back: one that was acknowledged
 /// before the last cut of the group, although the track of the primary that held it as the recovery began didn't hold it there. And none is given back if no step after
-/// the first host write may take writes away from a primary of the session.
+/// the first host write may take writes away from one of these primaries.
 pub fn the_loss_of_a_recovery_is_known()
     ensures { (before recovery : List Task) (s n : ℕ) (ms : List Member) (pairs : List Pair) (r : RecoversTargets before recovery s n ms pairs) → LossIsKnown before recovery s n ms pairs r }
 {}
