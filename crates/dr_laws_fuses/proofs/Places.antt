@@ -21,16 +21,24 @@ use Rattle.dr_laws_fuses.proofs.Acts.{Goes, Passes, Meets}
 use Rattle.dr_laws_fuses.proofs.Steps.{Alike, task-alike}
 use Rattle.dr_laws_fuses.proofs.Later.{same-goes, told-since}
 
-module _ (place : ℕ → Option ℕ) (own : ℕ) where
+-- a place is the one that is given, or it isn't
+same-place : (p : ℕ) (own : Option ℕ) → (Some p ≡ own) ⊎ (Some p ≢ own)
+same-place p None = inr (λ e. cc)
+same-place p (Some q) = elim (cases_eq p q) [
+  | inl e ↦ inl (ap Some e)
+  | inr ne ↦ inr (λ e. ne (let is : p ≡ q = cc in is))
+]
+
+module _ (place : ℕ → Option ℕ) (own : Option ℕ) where
   -- the fuse of server q, by its place
   record Stands (q : ℕ) (f g : Option Fuse) : Type 0 where
     kept : place q ≡ None → g ≡ f
-    same : place q ≡ Some own → g ≡ f
+    same : place q ≡ own → g ≡ f
     others : Outlasts f g
 
   -- a server at another place
   abbrev Other : ℕ → Type 0
-  Other q = (p : ℕ) × (place q ≡ Some p) × (p ≢ own)
+  Other q = (p : ℕ) × (place q ≡ Some p) × (Some p ≢ own)
 
   equal-stands : (q : ℕ) (f g : Option Fuse) → f ≡ g → Stands q f g
   equal-stands q f g is = record { kept = λ none. sym is; same = λ here. sym is; others = subst (Outlasts f) is (itself f) }
@@ -45,8 +53,8 @@ module _ (place : ℕ → Option ℕ) (own : ℕ) where
     where
       by : (o : Option ℕ) → place q ≡ o → (f ≡ g) ⊎ Other q
       by None is = inl (sym (stands.kept is))
-      by (Some p) is = elim (cases_eq p own) [
-        | inl e ↦ inl (sym (stands.same (is ∙ ap Some e)))
+      by (Some p) is = elim (same-place p own) [
+        | inl e ↦ inl (sym (stands.same (is ∙ e)))
         | inr ne ↦ inr (p, is, ne)
       ]
 
@@ -55,7 +63,7 @@ module _ (place : ℕ → Option ℕ) (own : ℕ) where
     apart : (f g : Option Fuse) → Outlasts f g → Stands q f g
     apart f g more = record {
       kept = λ none. none_some none there.1;
-      same = λ here. (let both : Some there.0 ≡ Some own = sym there.1 ∙ here in let e : there.0 ≡ own = cc in absurd (there.2 e));
+      same = λ here. absurd (there.2 (sym there.1 ∙ here));
       others = more;
     }
 
@@ -110,11 +118,11 @@ module _ (place : ℕ → Option ℕ) (own : ℕ) where
     place-changes (Ok (StopAfter armed_on writes torn)) is name q set named = equal-stands q (Some (armed writes torn)) (Some (armed writes torn)) refl
     place-changes asked is name q set named = let never : None ≡ Some name = set in absurd cc
 
-    place-stays : first (told_since w (after_task w t)) ≡ Some own → first (told_since w (after_task (with_fuses w h) t)) ≡ Some own
+    place-stays : first (told_since w (after_task w t)) ≡ own → first (told_since w (after_task (with_fuses w h) t)) ≡ own
     place-stays one = by (task-alike Stands Other lasts w h all-stand t.line t.asked t.listed (place-changes t.asked refl))
       where
-        by : Alike Stands Other lasts w (after_task w t) (after_task (with_fuses w h) t) → first (told_since w (after_task (with_fuses w h) t)) ≡ Some own
-        by (inl same) = subst (λ v. first (told_since w v) ≡ Some own) (sym same.is) one
+        by : Alike Stands Other lasts w (after_task w t) (after_task (with_fuses w h) t) → first (told_since w (after_task (with_fuses w h) t)) ≡ own
+        by (inl same) = subst (λ v. first (told_since w v) ≡ own) (sym same.is) one
         by (inr parted) = ap first (told-since w (after_task (with_fuses w h) t) (parted.common ++ parted.other) parted.second) ∙ first-both parted.common parted.other ∙ common (first parted.common) early
           where
             p : ℕ
@@ -123,12 +131,12 @@ module _ (place : ℕ → Option ℕ) (own : ℕ) where
             late : first parted.rest ≡ Some parted.met.0
             late = first-stop parted.rest parted.server parted.met.0 parted.met.1 parted.tells
 
-            early : option_or (first parted.common) (Some parted.met.0) ≡ Some own
+            early : option_or (first parted.common) (Some parted.met.0) ≡ own
             early = ap (option_or (first parted.common)) (sym late) ∙ sym (first-both parted.common parted.rest) ∙ sym (ap first (told-since w (after_task w t) (parted.common ++ parted.rest) parted.first)) ∙ one
 
-            common : (o : Option ℕ) → option_or o (Some parted.met.0) ≡ Some own → option_or o (first parted.other) ≡ Some own
-            common None is = let e : parted.met.0 ≡ own = cc in absurd (parted.met.2 e)
+            common : (o : Option ℕ) → option_or o (Some parted.met.0) ≡ own → option_or o (first parted.other) ≡ own
+            common None is = absurd (parted.met.2 is)
             common (Some x) is = is
 
-pub first-place-stays : (place : ℕ → Option ℕ) (own : ℕ) (w : World) (g : ℕ → Option Fuse) (t : Task) → FirstPlaceStays place own w g t
+pub first-place-stays : (place : ℕ → Option ℕ) (own : Option ℕ) (w : World) (g : ℕ → Option Fuse) (t : Task) → FirstPlaceStays place own w g t
 first-place-stays place own w g t more starts one = place-stays place own w t g more starts one

@@ -86,11 +86,11 @@ Outlasts f None = Unit {0}
 Outlasts (Some f) (Some g) = f.after ≤ g.after
 Outlasts None (Some g) = ⊥
 
--- By the places that servers have among some: those without one have the same fuses, and so has the one at that place; all others let at least as
--- many writes pass.
-pub record Lasts (place : ℕ → Option ℕ) (own : ℕ) (f g : ℕ → Option Fuse) : Type 0 where
+-- By the places that servers have among some: those without one have the same fuses, and so has the one at that place, if one is given; all others let at
+-- least as many writes pass.
+pub record Lasts (place : ℕ → Option ℕ) (own : Option ℕ) (f g : ℕ → Option Fuse) : Type 0 where
   pub kept : (q : ℕ) → place q ≡ None → g q ≡ f q
-  pub same : (q : ℕ) → place q ≡ Some own → g q ≡ f q
+  pub same : (q : ℕ) → place q ≡ own → g q ≡ f q
   pub others : (q : ℕ) → Outlasts (f q) (g q)
 
 -- the place of the server whose stop an event tells
@@ -102,10 +102,10 @@ stop_at place _ = None
 abbrev pub first_place : (ℕ → Option ℕ) → World → Task → Option ℕ
 first_place place w t = slice_get (filter_map (stop_at place) (told_since w (after_task w t))) 0
 
--- The step starts no server. If the first of these servers that stops in it is that of one place in the one world, so it is in the other.
-abbrev pub FirstPlaceStays : (ℕ → Option ℕ) → ℕ → World → (ℕ → Option Fuse) → Task → Type 0
+-- The step starts no server. If the first of these servers that stops in it is that of one place in the one world, or none of them stops, so it is in the other.
+abbrev pub FirstPlaceStays : (ℕ → Option ℕ) → Option ℕ → World → (ℕ → Option Fuse) → Task → Type 0
 FirstPlaceStays place own w g t =
-    Lasts place own w.control.fuse g → ((name : Name) → t.asked ≡ Ok (Start name) → ⊥) → first_place place w t ≡ Some own → first_place place (with_fuses w g) t ≡ Some own
+    Lasts place own w.control.fuse g → ((name : Name) → t.asked ≡ Ok (Start name) → ⊥) → first_place place w t ≡ own → first_place place (with_fuses w g) t ≡ own
 
 -- ---- a server at its last device write
 

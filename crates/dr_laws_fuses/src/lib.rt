@@ -26,9 +26,9 @@ pub fn any_bytes_tear_as_a_fill()
 {}
 
 /// Two worlds differ in the fuses of some servers alone, each with its place among them: that at one place is the same, all others let at least as many
-/// writes pass in the second. If of these servers that one stops first in a step, which starts none, it does so in the other world.
+/// writes pass in the second. If of these servers that one stops first in a step, which starts none, or if none of them stops, it is so in the other world.
 pub fn the_first_stop_stays()
-    ensures { (place : ℕ → Option ℕ) (own : ℕ) (w : World) (g : ℕ → Option Fuse) (t : Task) → FirstPlaceStays place own w g t }
+    ensures { (place : ℕ → Option ℕ) (own : Option ℕ) (w : World) (g : ℕ → Option Fuse) (t : Task) → FirstPlaceStays place own w g t }
 {}
 
 /// A server whose fuse is at 0, and leaves what stood in the block, leaves its volumes and their tracks as they were in any step that doesn't start it; so
