@@ -36,7 +36,7 @@ OfTrack write t ws = (u : ℕ) → In u ws → (write u).track ≡ t
 abbrev pub OnTracks : Histories → Type 0
 OnTracks h = OfEach (OfTrack h.write) h
 
-abbrev is_issue : Event → Bool
+abbrev pub is_issue : Event → Bool
 is_issue (Issue n v t offset len bytes) = true
 is_issue e = false
 
@@ -103,7 +103,7 @@ no-issue : (e : Event) → Of by_moves e → is_issue e ≡ false
 no-issue (Issue n v t offset len bytes) by = absurd cc
 no-issue e by = refl
 
-no-issues : Lists (Of by_moves) (λ es. list_any is_issue es ≡ false)
+pub no-issues : Lists (Of by_moves) (λ es. list_any is_issue es ≡ false)
 no-issues = any-lists (Of by_moves) is_issue no-issue
 
 abbrev pub Tracked : World → Type 0

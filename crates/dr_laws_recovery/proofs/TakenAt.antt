@@ -33,7 +33,7 @@ pub record StepAt (tasks : List Task) (before : List Event) (e : Event) : Type 0
   pub later : List Event
   pub ended : (after_task (run first) step).events ≡ before ++ e ∷ later
 
-abbrev HasStep : List Task → Type 0
+abbrev pub HasStep : List Task → Type 0
 HasStep tasks = (before : List Event) (e : Event) (behind : List Event) → (run tasks).events ≡ before ++ e ∷ behind → StepAt tasks before e
 
 none-told : HasStep []
@@ -61,7 +61,7 @@ one-more tasks t old before e behind is =
       ended = is ∙ ap (λ zs. (run tasks).events ++ zs) p.other ∙ sym (append_assoc (run tasks).events p.middle (e ∷ behind)) ∙ ap (λ zs. zs ++ e ∷ behind) (sym p.first);
     }
 
-step-at : (tasks : List Task) → HasStep tasks
+pub step-at : (tasks : List Task) → HasStep tasks
 step-at tasks = snoc HasStep none-told one-more tasks
 
 -- ---- so what was replaced was taken

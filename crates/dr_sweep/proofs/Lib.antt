@@ -8,5 +8,6 @@ pub mod PointLemmas
 pub mod ComesLemmas
 pub mod PartLemmas
 pub mod RowLemmas
+pub mod WithinLemmas
 pub mod LossLemmas
 pub mod CallLemmas

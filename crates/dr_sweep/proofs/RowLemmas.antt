@@ -6,6 +6,8 @@ use Rattle.std.proofs.lemmas.List.{append-nil}
 use Rattle.std.proofs.lemmas.Option.{slice_get-get_or}
 use Rattle.dr_listing.proofs.TakenLemmas.{in-at}
 use Rattle.dr_lost.proofs.SetLemmas.{range-more}
+use Rattle.dr_laws_fuses.proofs.Armed.{any-torn}
+use Rattle.dr_plan.specs.Points.{lines_before}
 use Rattle.dr_plan.specs.declared.points.Point.{Point}
 use Rattle.dr_plan.specs.declared.points.Point.TheVariants.{Cut, Gap}
 use Rattle.dr_plan.specs.declared.points.Torn.{Torn}
@@ -18,7 +20,7 @@ use Rattle.dr_sweep.specs.declared.parts.Part.TheVariants.{Between, Within}
 use Rattle.dr_sweep.specs.declared.fault.PointFault.{PointFault}
 use Rattle.dr_sweep.specs.declared.fault.PointFault.TheVariants.{NoMemory, TooLong}
 use Rattle.dr_sweep.specs.Comes.{PointTold, ComesTo, Reaches, FailsAt}
-use Rattle.dr_sweep.specs.Parts.{AreRowsOf, AreWithin, AreRows, AreSwept, IsTriedTorn, FailsWrite, FailsIn, FailsAtPart, Tells, Gives, Adds, AddsWhereReached, AddsWrite, first_write, write_points, points_from, parts_of}
+use Rattle.dr_sweep.specs.Parts.{AreRowsOf, NoneFrom, AreWithin, AreRows, AreSwept, IsTriedTorn, FailsWrite, FailsIn, FailsAtPart, Tells, Gives, Adds, AddsWhereReached, AddsWrite, first_write, write_points, points_from, parts_of}
 use Rattle.dr_sweep.specs.Rows.{IsRow}
 
 -- rows that are such, and then rows that are such, where both together are so
@@ -144,17 +146,18 @@ module _ (plan : Sweep) where
       pub write-more : (a b c : List Outcome) → Adds (AreUpTo write) a b → AddsWrite plan disaster place server write b c true → Adds (AreUpTo (write + 1)) a c
       write-more a b c so_far adds = adds-then (AreUpTo write) (AreRowsOf plan (write_points disaster place server write)) (AreUpTo (write + 1)) a b c (one-more adds.1) so_far adds.0
 
-      ends-here : Reaches plan (Cut disaster place server write Unchanged) false → (rows : List Outcome) → AreUpTo write rows → AreWithin plan disaster place server rows
-      ends-here misses rows so_far = record {
+      ends-here : NoneFrom plan disaster place server write → (rows : List Outcome) → AreUpTo write rows → AreWithin plan disaster place server rows
+      ends-here none rows so_far = record {
         writes = so_far.writes;
         are = so_far.are;
         reached = λ w from below. so_far.reached w from (let is = so_far.count in omega (arith, is, below));
-        end = inl (subst (λ n. Reaches plan (Cut disaster place server n Unchanged) false) so_far.count misses);
+        end = inl (subst (λ n. NoneFrom plan disaster place server n) so_far.count none);
+        torn = λ name w bytes named before rest. any-torn before rest (length (lines_before plan place) + 1) name w bytes;
       }
 
       -- the next one isn't reached
-      pub write-ends : (a b c : List Outcome) → Adds (AreUpTo write) a b → AddsWrite plan disaster place server write b c false → Adds (AreWithin plan disaster place server) a c
-      write-ends a b c so_far none = subst (λ (rows : List Outcome). Adds (AreWithin plan disaster place server) a rows) (sym none.0) (adds-as (AreUpTo write) (AreWithin plan disaster place server) a b (ends-here none.1) so_far)
+      pub write-ends : (a b c : List Outcome) → (Reaches plan (Cut disaster place server write Unchanged) false → NoneFrom plan disaster place server write) → Adds (AreUpTo write) a b → AddsWrite plan disaster place server write b c false → Adds (AreWithin plan disaster place server) a c
+      write-ends a b c from so_far none = subst (λ (rows : List Outcome). Adds (AreWithin plan disaster place server) a rows) (sym none.0) (adds-as (AreUpTo write) (AreWithin plan disaster place server) a b (ends-here (from none.1)) so_far)
 
       counted-out : write ≡ 2 ^ 32 - 1 → (rows : List Outcome) → AreUpTo write rows → AreWithin plan disaster place server rows
       counted-out last rows so_far = record {
@@ -162,6 +165,7 @@ module _ (plan : Sweep) where
         are = so_far.are;
         reached = λ w from below. so_far.reached w from (let is = so_far.count in omega (arith, is, below));
         end = inr (sym so_far.count ∙ last);
+        torn = λ name w bytes named before rest. any-torn before rest (length (lines_before plan place) + 1) name w bytes;
       }
 
       -- no fuse counts more

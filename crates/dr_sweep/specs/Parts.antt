@@ -5,15 +5,22 @@ use Rattle.std.specs.Option.{option_map_or}
 use Rattle.std.specs.Str.{bytes_eq}
 use Rattle.dr_model.specs.declared.step.Name.{Name}
 use Rattle.dr_model.specs.declared.step.Step.{Step}
-use Rattle.dr_model.specs.declared.step.Step.TheVariants.{Start, Stop}
+use Rattle.dr_model.specs.declared.step.Step.TheVariants.{Start, Stop, StopAfter}
+use Rattle.dr_model.specs.declared.step.TornWord.{TornWord}
+use Rattle.dr_model.specs.declared.step.TornWord.TheVariants.{Fill, Bytes}
+use Rattle.dr_model.specs.Control.{World}
 use Rattle.dr_model.specs.Grammar.{line_of}
 use Rattle.dr_model.specs.Groups.{In}
 use Rattle.dr_model.specs.LineText.{name_text}
+use Rattle.dr_model.specs.Lines.{task, tasks_of, tasks_from}
+use Rattle.dr_model.specs.Listed.{as_asked}
+use Rattle.dr_model.specs.Runs.{Task, run}
+use Rattle.dr_laws_fuses.specs.Laws.{TornAlike}
 use Rattle.dr_plan.specs.declared.points.Point.{Point}
 use Rattle.dr_plan.specs.declared.points.Point.TheVariants.{Cut, Gap}
 use Rattle.dr_plan.specs.declared.points.Torn.{Torn}
 use Rattle.dr_plan.specs.declared.points.Torn.TheVariants.{Unchanged, Zeros, Ones}
-use Rattle.dr_plan.specs.Points.{calm_script}
+use Rattle.dr_plan.specs.Points.{calm_script, lines_before}
 use Rattle.dr_plan.specs.Sweep.{Sweep, Tried}
 use Rattle.dr_rows.specs.Outcome.{Outcome}
 use Rattle.dr_sweep.specs.declared.parts.Part.{Part}
@@ -21,6 +28,7 @@ use Rattle.dr_sweep.specs.declared.parts.Part.TheVariants.{Between, Within}
 use Rattle.dr_sweep.specs.declared.fault.PointFault.{PointFault}
 use Rattle.dr_sweep.specs.declared.fault.PointFault.TheVariants.{NoMemory, TooLong}
 use Rattle.dr_sweep.specs.Comes.{PointTold, ComesTo, Reaches, FailsAt, RunsTooLong, name_at, servers_lost}
+use Rattle.dr_sweep.specs.Reach.{stops_since}
 use Rattle.dr_sweep.specs.Rows.{IsRow}
 
 -- ---- parts
@@ -88,13 +96,44 @@ abbrev pub AreRowsOf : Sweep → List Point → List Outcome → Type 0
 AreRowsOf plan [] rows = rows ≡ []
 AreRowsOf plan (point ∷ points) rows = BeginsWith plan point (AreRowsOf plan points) rows ⊎ (Reaches plan point false × AreRowsOf plan points rows)
 
+-- the step of a line that arms the fuse of a server, right before a tried one
+abbrev pub arms_before : Sweep → ℕ → Name → ℕ → TornWord → Task
+arms_before plan place name write torn = task (length (lines_before plan place) + 1) (Ok (StopAfter name write torn))
+
+-- after these steps, and with that fuse, a step doesn't stop the server
+abbrev pub PassesBy : Sweep → ℕ → Name → List Task → Task → ℕ → TornWord → Type 0
+PassesBy plan place name before step write torn =
+    let arms : Task = arms_before plan place name write torn in
+    stops_since (name_text name) (length (run (before ++ arms ∷ [])).events) (run (before ++ arms ∷ step ∷ [])).events ≡ false
+
+-- No device write of a server in a tried step from that one on stops it there, whatever it leaves in the block: after the lines before the step, with
+-- what they listed in a run.
+pub record NoneFrom (plan : Sweep) (disaster place server write : ℕ) : Type 0 where
+  pub name : Name
+  pub is : name_at plan disaster server ≡ Some name
+  pub tried : Tried
+  pub tried_is : slice_get plan.tried place ≡ Some tried
+  pub before : List Task
+  pub step : Task
+  pub asks_before : map as_asked before ≡ tasks_from 1 (lines_before plan place)
+  pub asks_step : as_asked step ∷ [] ≡ tasks_of (length (lines_before plan place) + 2) tried.text
+  pub none : (later : ℕ) (torn : TornWord) → write ≤ later → PassesBy plan place name before step later torn
+
+-- With any torn bytes a run comes to what it comes to where the block is filled with 00, or with 01, but for that fuse: whatever steps stand before and
+-- after the line that arms it, with what they list.
+abbrev pub TearsAsFilled : Sweep → ℕ → Name → ℕ → List ℕ → Type 0
+TearsAsFilled plan place name write bytes =
+    (before rest : List Task) → let leads : TornWord → World = λ torn. run (before ++ arms_before plan place name write torn ∷ rest) in
+    TornAlike (leads (Bytes bytes)) (leads (Fill 0)) ⊎ TornAlike (leads (Bytes bytes)) (leads (Fill 1))
+
 -- The rows of a server's device writes in a tried step: from the first that can be cut short, as long as one is reached where its block stays as
--- it was. One write further the server isn't stopped in the step, or no fuse counts as many.
+-- it was. None further stops the server in the step, with any torn bytes; or no fuse counts as many. And those with 00 and 01 stand for all bytes.
 pub record AreWithin (plan : Sweep) (disaster place server : ℕ) (rows : List Outcome) : Type 0 where
   pub writes : ℕ
   pub are : AreRowsOf plan (points_from disaster place server (first_write plan disaster place server) writes) rows
   pub reached : (write : ℕ) → first_write plan disaster place server ≤ write → write < first_write plan disaster place server + writes → Reaches plan (Cut disaster place server write Unchanged) true
-  pub end : Reaches plan (Cut disaster place server (first_write plan disaster place server + writes) Unchanged) false ⊎ (first_write plan disaster place server + writes ≡ 2 ^ 32 - 1)
+  pub end : NoneFrom plan disaster place server (first_write plan disaster place server + writes) ⊎ (first_write plan disaster place server + writes ≡ 2 ^ 32 - 1)
+  pub torn : (name : Name) (write : ℕ) (bytes : List ℕ) → name_at plan disaster server ≡ Some name → TearsAsFilled plan place name write bytes
 
 -- the rows of a part
 abbrev pub AreRows : Sweep → Part → List Outcome → Type 0

@@ -89,7 +89,8 @@ pub(crate) fn servers_lost(plan: &SweepPlan, disaster: usize) -> usize
 
 /// The server of a disaster.
 pub(crate) fn name_at(plan: &SweepPlan, disaster: usize, server: usize) -> Option<&Name>
-    ensures { option_copied result ≡ name_at plan.now disaster server }
+    ensures name { option_copied result ≡ name_at plan.now disaster server }
+    ensures sweep { IsSweep plan.now }
 {
     plan.disasters().get(disaster)?.servers().get(server)
 }

@@ -6,6 +6,7 @@ ghost use Rattle.std.specs.List.{cons_option};
 ghost use Rattle.dr_model.specs.Groups.{In};
 ghost use Rattle.dr_model.specs.LineText.{name_text};
 ghost use Rattle.dr_plan.specs.declared.points.Point.TheVariants.{Cut};
+ghost use Rattle.dr_plan.specs.Parts.{IsSweep};
 ghost use Rattle.dr_plan.specs.Points.{script_of};
 ghost use Rattle.dr_sweep.specs.Comes.{FailsAt};
 ghost use Rattle.dr_sweep.specs.Parts.{first_by, first_in, first_write, Tells, Gives, Adds, AddsWhereReached, AddsWrite, AreWithin, AreRows, FailsWrite, FailsIn, IsOf, parts_of};
@@ -64,7 +65,8 @@ fn first_write(
     place: usize,
     server: usize,
 ) -> Result<u32, AllocError>
-    ensures { IfOk result (λ first. first ≡ first_write plan.now disaster place server) }
+    ensures first { IfOk result (λ first. first ≡ first_write plan.now disaster place server) }
+    ensures sweep { IsSweep plan.now }
 {
     let Some(name) = name_at(plan, disaster, server) else {
         return Ok(0);

@@ -1,0 +1,12 @@
+pub mod Acts
+pub mod Blind
+pub mod BlindPlans
+pub mod Plans
+pub mod PlanTable
+pub mod Steps
+pub mod Torn
+pub mod Later
+pub mod Places
+pub mod LastWrite
+pub mod Names
+pub mod Armed
