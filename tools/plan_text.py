@@ -7,7 +7,7 @@ import re
 from dataclasses import dataclass, field
 from functools import lru_cache
 
-MOST = 8  # disasters, and uses
+MOST = 8  # disasters, servers of one, and uses
 NAME = re.compile(r"[A-Za-z][A-Za-z0-9._-]{0,23}")
 VOLUME = re.compile(r"[0-9A-Fa-f]{4}")
 NUMBER = re.compile(r"[0-9]{1,10}")
@@ -190,6 +190,8 @@ class Reader:
     def lose(self, at, names):
         if len(self.plan.loses) == MOST:
             raise BadPlan(at, f"more than {MOST} disasters")
+        if len(names) > MOST:
+            raise BadPlan(at, f"more than {MOST} servers")
         for place, name in enumerate(names):
             if name in names[:place]:
                 raise BadPlan(at, f"server twice: {name}")

@@ -1,6 +1,7 @@
 """The rows of a plan of a sweep, made by runs of `drsim`.
 
-A point is reached if the tried line is answered that its server was stopped. Groups, refusals and acknowledgements are answers. What the
+A point is reached if the tried line is answered that its server was stopped. How many device writes each other server of the disaster makes
+before is asked pair by pair (`Counts`): which of the two does the tried line say was stopped, if no other server's fuse is ever reached? Groups, refusals and acknowledgements are answers. What the
 second volumes of a use hold as the recovery begins, and what the first ones hold at the end, is seen on their tracks (`Holdings`). The phases
 of masters are those of `showgmir` before the tried line; which members count after an `@recover` says `drsim recover` of an `@image`
 there, and how many there are `lssession`.
@@ -13,9 +14,10 @@ from plan_text import span, words_of
 from sweep_runs import Fault, Holdings, Script, Writes, member_asks, members_in, phase_asks, phase_in, sessions_of
 
 TORN = ("none", "00", "01")
-HEADING = ("disaster,use,line,part,server,write,torn,phases,group,decision,members,newest,lost,lost writes,age,broken,refused,first refused line")
+HEADING = ("disaster,use,line,part,server,write,torn,place,phases,group,decision,members,newest,lost,lost writes,age,broken,refused,first refused line")
 MOST_WRITES = 100_000
 MOST_LISTED = 16
+NEVER = (1 << 32) - 1  # device writes that no line makes
 
 
 @dataclass
@@ -34,8 +36,12 @@ class Point:
     disaster: int
     place: int
     server: str = None
-    write: int = 0
     torn: str = "-"
+    counts: dict = None  # of each server of the disaster, how many device writes it makes in the step before
+
+    @property
+    def write(self):
+        return self.counts[self.server] if self.server else 0
 
 
 @dataclass
@@ -58,6 +64,10 @@ class Row:
         return [line for line, answer in self.answers if answer.startswith("E")]
 
 
+def fuse_of(server, count, torn):
+    return f"@stop {server} after {count} torn {torn}"
+
+
 def or_dash(words):
     return " ".join(words) or "-"
 
@@ -68,6 +78,32 @@ def dashed(value, front="w"):
 
 def quoted(cell):
     return f'"{cell}"' if "," in cell else cell
+
+
+class Counts:
+    """How many device writes the other servers of a disaster make in a tried line before a device write of one of them."""
+
+    def __init__(self, drsim, before, line, server, others):
+        self.drsim, self.before, self.line, self.server = drsim, before, line, server
+        self.known, self.never = dict.fromkeys(others, 0), dict.fromkeys(others, NEVER)
+
+    def stopped(self, fuses):
+        """Which server the tried line says was stopped; none if it says no such thing."""
+        lines = self.before + [fuse_of(name, count, "none") for name, count in {**self.never, **fuses}.items()] + [self.line]
+        found = re.fullmatch(r"E21 stopped (\S+)", self.drsim.run(lines).answers.get(len(lines), [""])[-1])
+        return found[1] if found else None
+
+    def at(self, write):
+        """The counts of the device write of that number: the least with which its server is the one that is stopped. They never fall from one
+        write to the next, so those of the one before are where to begin."""
+        for other in self.known:
+            for _ in range(MOST_WRITES):
+                if self.stopped({self.server: write, other: self.known[other]}) != other:
+                    break
+                self.known[other] += 1
+            else:
+                raise Fault(f"`{self.line}` has too many device writes")
+        return {**self.known, self.server: write}
 
 
 class Rows:
@@ -104,28 +140,25 @@ class Rows:
 
     def cuts(self, disaster, place, server):
         """The points of a server in a tried step: as long as the server is stopped there."""
-        found, line = [], self.plan.tried[place].text
-        others = [f"@stop {name}" for name in self.plan.loses[disaster] if name != server]
+        found, line, before, servers = [], self.plan.tried[place].text, self.before(place), self.plan.loses[disaster]
+        others = [name for name in servers if name != server]
+        counts = Counts(self.drsim, before, line, server, others)
         for write in range(1 if words_of(line) == ["@start", server] else 0, MOST_WRITES):
-            reached = 0
-            for torn in TORN:
-                before = self.before(place) + [f"@stop {server} after {write} torn {torn}", line]
-                row = self.row(Point(disaster, place, server, write, torn), before + others, len(before) - 2, f"E21 stopped {server}")
-                if row:
-                    found.append(row)
-                    reached += 1
-                elif torn == "none":
-                    return found
-            if not reached:
+            if words_of(line)[0] == "@stop" or counts.stopped({server: write}) != server:
                 return found
+            count = counts.at(write)
+            for torn in TORN:
+                fuses = [fuse_of(name, count[name], torn if name == server else "none") for name in servers]
+                front = before + fuses + [line] + [f"@stop {name}" for name in others]
+                found.append(self.row(Point(disaster, place, server, torn, count), front, len(before), f"E21 stopped {server}"))
         raise Fault(f"`{line}` has too many device writes")
 
     def row(self, point, front, began, stops=None):
-        """The row of a point by the lines before the recovery. The tried line or the stops begin after that many; the tried line answers `stops`."""
+        """The row of a point by the lines before the recovery. The fuses or the stops begin after that many; the tried line answers `stops`."""
         plan, script = self.plan, front + self.plan.recovery
         run = self.drsim.run(script).answers
-        if stops and run.get(began + 2, [""])[-1] != stops:
-            return None
+        if stops and run[began + len(point.counts) + 1][-1] != stops:
+            raise Fault(f"`{front[began + len(point.counts)]}` isn't answered `{stops}` with {point.counts}")
         phases = self.phases(script[:began], run, point.place)
         off = [f"@show {self.volume_on(name)} 0 " for name in plan.loses[point.disaster] if self.volume_on(name)]
         stop = Holdings(self.drsim, front, run, self.seconds, self.servers, {len(front): off})
@@ -182,7 +215,7 @@ class Rows:
         point, plan = row.point, self.plan
         at = plan.place(point.place) if point.server is None else plan.tried[point.place].place
         line, _, part = at.partition(".")
-        where = ["gap", "-", "-"] if point.server is None else [point.server, str(point.write), point.torn]
+        where = ["gap", "-", "-", "-"] if point.server is None else [point.server, str(point.write), point.torn, str(sum(point.counts.values()))]
         phases = or_dash([f"{session}:{phase}" for session, phase in row.phases])
         came = [or_dash([n for n, _ in row.groups]), quoted(or_dash([decision for _, decision in row.groups])),
                 or_dash([f"{counted}/{every}" for counted, every in row.members]), dashed(row.newest)]

@@ -90,7 +90,7 @@ to-flat f [] x w h k = absurd h
 to-flat f (z ∷ xs) x w (inl is) k = in-first (f z) (flat_map f xs) w (subst (λ y. In w (f y)) is k)
 to-flat f (z ∷ xs) x w (inr more) k = in-second (f z) (flat_map f xs) w (to-flat f xs x w more k)
 
-range-in : (n a t : ℕ) → a ≤ t → t < a + n → In t (range_with_len a n)
+pub range-in : (n a t : ℕ) → a ≤ t → t < a + n → In t (range_with_len a n)
 range-in zero a t low high = absurd (omega (arith, low, high))
 range-in (suc n) a t low high = by (cases_eq t a) (λ ne. range-in n (a + 1) t (omega (arith, ne, low)) (omega (arith, high)))
   where

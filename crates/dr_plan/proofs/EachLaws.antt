@@ -1,9 +1,9 @@
 -- Each plan is read.
-use Rattle.std.proofs.Common.{ℕ, ◌≡◌, ◌<◌, ◌≤◌, ◌+◌, Bool, true, false, cond, List, [], ◌∷◌, ◌++◌, length, map, refl, ap, sym, ◌∙◌, subst, arith, append_assoc, nat_eq, nat_lt, Option, Some, None}
+use Rattle.std.proofs.Common.{ℕ, ◌≡◌, ◌<◌, ◌≤◌, ◌+◌, Bool, true, false, cond, List, [], ◌∷◌, ◌++◌, length, map, refl, ap, sym, ◌∙◌, subst, arith, append_assoc, nat_eq, nat_le, nat_lt, Option, Some, None}
 use Rattle.std.specs.Prelude.{All, Ok, Err, fold}
 use Rattle.std.proofs.lemmas.Bool.Decides.{nat_tests}
 use Rattle.std.proofs.lemmas.Grind.{common_steps}
-use Rattle.std.proofs.lemmas.List.{append-nil}
+use Rattle.std.proofs.lemmas.List.{append-nil, get_or_at}
 use Rattle.std.proofs.lemmas.List.Elements.{All-drop}
 use Rattle.std.proofs.lemmas.Option.{same_Some}
 use Rattle.dr_facts.proofs.Options.{bound}
@@ -16,13 +16,13 @@ use Rattle.dr_plan.specs.declared.marks.Mark.TheVariants.{Lose, AtMost, Here, Th
 use Rattle.dr_plan.specs.declared.stages.Stage.{Stage}
 use Rattle.dr_plan.specs.declared.stages.Stage.TheVariants.{Start, Losing, Using, Bounded, Trying, Recovering}
 use Rattle.dr_plan.specs.declared.reading.Reading.{Reading}
-use Rattle.dr_plan.specs.declared.reason.Reason.TheVariants.{ManyDisasters, ManyUses, UnequalRanges}
+use Rattle.dr_plan.specs.declared.reason.Reason.TheVariants.{ManyDisasters, ManyServers, ManyUses, UnequalRanges}
 use Rattle.dr_plan.specs.Above.{unless, steps_read, servers_in, volumes_in}
 use Rattle.dr_plan.specs.Marks.{is_mark, mark_of}
 use Rattle.dr_plan.specs.Outcome.{TellsFault, IsNoPlan}
 use Rattle.dr_plan.specs.Parts.{IsMark, marks_in, Ranges, use_mark, pairs_of, bound_marks, with_ranges, ComeOnce, IsSetup, IsPlan, tried_from, announced_by, announced_from}
 use Rattle.dr_plan.specs.Reading.{announces, stage_after, servers_fault, pairs_fault, with_line, kept, tried_steps, used_pairs, noted, read_on, read_lines, begun, sweep_of}
-use Rattle.dr_plan.specs.Sweep.{Sweep, Use as HostUse, empty, most_disasters, most_uses}
+use Rattle.dr_plan.specs.Sweep.{Sweep, Use as HostUse, empty, most_disasters, most_servers, most_uses}
 use Rattle.dr_plan.specs.declared.fault.PlanFault.{PlanFault}
 use Rattle.dr_plan.specs.declared.fault.PlanFault.TheVariants.{NoMemory, BadLine}
 use Rattle.dr_plan.proofs.ApartLemmas.{tried-more}
@@ -203,7 +203,11 @@ lose_notes plan s number stage done rest line servers ls loses uses limit m cut 
     let lt : length loses < most_disasters = omega (arith, count, same, few) in
     let room : nat_lt (length loses) most_disasters ≡ true = grind (arith, nat_tests, lt) in
     let well : servers_fault (servers_in done) [] servers ≡ None = names-complete (servers_in done) [] servers (s.servers done servers (line, rest, cut, m)) once in
-    ap (λ b. cond b (unless (servers_fault (servers_in done) [] servers) made) (Err ManyDisasters)) room ∙ ap (λ f. unless f made) well
+    let all_small : All (λ (names : List Name). length names ≤ most_servers) (loses ++ servers ∷ ls) = subst (All (λ (names : List Name). length names ≤ most_servers)) (sym all) s.few_servers in
+    let small : length servers ≤ most_servers = subst (λ (names : List Name). length names ≤ most_servers) (get_or_at loses servers ls servers (length loses) refl) (all_small (length loses) servers (omega (arith, count))) in
+    let few_names : nat_le (length servers) most_servers ≡ true = grind (arith, nat_tests, small) in
+    let named = unless (servers_fault (servers_in done) [] servers) made in
+    ap (λ b. cond b (cond (nat_le (length servers) most_servers) named (Err ManyServers)) (Err ManyDisasters)) room ∙ ap (λ b. cond b named (Err ManyServers)) few_names ∙ ap (λ f. unless f made) well
 
 use_notes : (plan : Sweep) (s : IsSetup plan) (number : ℕ) (stage : Stage) (done rest : List (List ℕ)) (line : List ℕ) (r : Ranges) (us : List Ranges) (loses : List (List Name)) (uses : List HostUse) (limit : Option ℕ) → IsMark line (use_mark r) → plan.setup ≡ done ++ line ∷ rest
     → fold with_ranges uses (r ∷ us) ≡ plan.uses → span_len r.first ≡ span_len r.second

@@ -1,5 +1,5 @@
 -- The set-up that was read so far, and one line more.
-use Rattle.std.proofs.Common.{ℕ, ◌≡◌, ◌<◌, ◌≤◌, ◌+◌, true, false, cond, List, [], ◌∷◌, ◌++◌, length, map, refl, ap, sym, ◌∙◌, subst, arith, append_assoc, nat_eq, nat_lt, Option, Some, None, ◌⊎◌, inl, inr}
+use Rattle.std.proofs.Common.{ℕ, ◌≡◌, ◌<◌, ◌≤◌, ◌+◌, true, false, cond, List, [], ◌∷◌, ◌++◌, length, map, refl, ap, sym, ◌∙◌, subst, arith, append_assoc, nat_eq, nat_le, nat_lt, Option, Some, None, ◌⊎◌, inl, inr}
 use Rattle.std.specs.Prelude.{All, Ok, Err, ◌||◌}
 use Rattle.std.proofs.lemmas.Bool.Decides.{nat_tests}
 use Rattle.std.proofs.lemmas.Grind.{common_steps}
@@ -10,11 +10,11 @@ use Rattle.dr_model.specs.declared.grammar.Span.{Span}
 use Rattle.dr_model.specs.LineWords.{paired, span_len}
 use Rattle.dr_plan.specs.declared.marks.Mark.{Mark}
 use Rattle.dr_plan.specs.declared.marks.Mark.TheVariants.{Lose, Use, AtMost}
-use Rattle.dr_plan.specs.declared.reason.Reason.TheVariants.{ManyDisasters, ManyUses, UnequalRanges}
+use Rattle.dr_plan.specs.declared.reason.Reason.TheVariants.{ManyDisasters, ManyServers, ManyUses, UnequalRanges}
 use Rattle.dr_plan.specs.Above.{unless, defines_server, servers_in, volumes_in}
 use Rattle.dr_plan.specs.Parts.{IsMark, marks_in, Ranges, use_mark, pairs_of, bound_marks, with_ranges, uses_of, StandsAfter, ComeOnce, AreAlike, IsSetup}
 use Rattle.dr_plan.specs.Reading.{announces, servers_fault, pairs_fault, has_use, lost_too, used_pairs, used_too}
-use Rattle.dr_plan.specs.Sweep.{Sweep, most_disasters, most_uses}
+use Rattle.dr_plan.specs.Sweep.{Sweep, most_disasters, most_servers, most_uses}
 use Rattle.dr_plan.proofs.FaultLaws.{ok-of, unless-of, names-sound, pairs-sound, uses-more, uses-few}
 use Rattle.dr_plan.proofs.OwnLemmas.{marks-append, none-more, own-more, none-said, after-more}
 
@@ -25,6 +25,7 @@ pub record Head (done : List (List ℕ)) (used : List Ranges) (plan : Sweep) : T
   pub uses : plan.uses ≡ uses_of used
   pub few : length plan.loses ≤ most_disasters
   pub few_used : length plan.uses ≤ most_uses
+  pub few_servers : All (λ (names : List Name). length names ≤ most_servers) plan.loses
   pub once : All ComeOnce plan.loses
   pub servers : (above : List (List ℕ)) (names : List Name) → StandsAfter done above (Lose names) → All (λ name. defines_server above name ≡ true) names
   pub lengths : All (λ (r : Ranges). span_len r.first ≡ span_len r.second) used
@@ -48,6 +49,7 @@ head-none done line used plan announced none h = record {
   uses = h.uses;
   few = h.few;
   few_used = h.few_used;
+  few_servers = h.few_servers;
   once = h.once;
   servers = λ above names s. after_other _ done line above (Lose names) (none-said line (Lose names) refl none) (h.servers above names) s;
   lengths = h.lengths;
@@ -91,9 +93,9 @@ bound_more marks loses used bound n unbound so_far =
 
 -- ---- a disaster more
 
-lost : (done : List (List ℕ)) (line : List ℕ) (servers : List Name) (used : List Ranges) (plan : Sweep) → IsMark line (Lose servers) → Head done used plan → used ≡ [] → plan.bound ≡ None → length plan.loses < most_disasters
+lost : (done : List (List ℕ)) (line : List ℕ) (servers : List Name) (used : List Ranges) (plan : Sweep) → IsMark line (Lose servers) → Head done used plan → used ≡ [] → plan.bound ≡ None → length plan.loses < most_disasters → length servers ≤ most_servers
     → servers_fault (servers_in plan.setup) [] servers ≡ None → Head (done ++ line ∷ []) used (record plan { loses = plan.loses ++ servers ∷ []; setup = plan.setup ++ line ∷ [] })
-lost done line servers used plan m h none unbound room fault =
+lost done line servers used plan m h none unbound room small fault =
     let more : length (plan.loses ++ servers ∷ []) ≡ length plan.loses + 1 = grind (arith, common_steps) in
     let sound = names-sound (servers_in plan.setup) [] servers fault in
     let known : All (λ name. defines_server done name ≡ true) servers = subst (λ ls. All (λ name. defines_server ls name ≡ true) servers) h.setup sound.0 in
@@ -103,6 +105,7 @@ lost done line servers used plan m h none unbound room fault =
       uses = h.uses;
       few = omega (arith, more, room);
       few_used = h.few_used;
+      few_servers = All-push (λ (names : List Name). length names ≤ most_servers) plan.loses servers h.few_servers small;
       once = All-push ComeOnce plan.loses servers h.once sound.1;
       servers = λ above names s. by above names known (after-more done line above (Lose names) s);
       lengths = h.lengths;
@@ -125,12 +128,16 @@ pub head-lose : (done : List (List ℕ)) (line : List ℕ) (servers : List Name)
     → Head (done ++ line ∷ []) used next × (1 ≤ length next.loses) × (next.bound ≡ None)
 head-lose done line servers used plan next m h none unbound notes =
     let made : Sweep = record plan { loses = plan.loses ++ servers ∷ []; setup = plan.setup ++ line ∷ [] } in
-    let a = ok-of (nat_lt (length plan.loses) most_disasters) (unless (servers_fault (servers_in plan.setup) [] servers) made) ManyDisasters next notes in
-    let b = unless-of (servers_fault (servers_in plan.setup) [] servers) made next a.1 in
+    let named = unless (servers_fault (servers_in plan.setup) [] servers) made in
+    let a = ok-of (nat_lt (length plan.loses) most_disasters) (cond (nat_le (length servers) most_servers) named (Err ManyServers)) ManyDisasters next notes in
+    let d = ok-of (nat_le (length servers) most_servers) named ManyServers next a.1 in
+    let b = unless-of (servers_fault (servers_in plan.setup) [] servers) made next d.1 in
     let few = a.0 in
+    let few_names = d.0 in
+    let small : length servers ≤ most_servers = grind (arith, nat_tests, few_names) in
     let room : length plan.loses < most_disasters = grind (arith, nat_tests, few) in
     let more : length (plan.loses ++ servers ∷ []) ≡ length plan.loses + 1 = grind (arith, common_steps) in
-    subst (λ (p : Sweep). Head (done ++ line ∷ []) used p × (1 ≤ length p.loses) × (p.bound ≡ None)) b.1 (lost done line servers used plan m h none unbound room b.0, omega (arith, more), unbound)
+    subst (λ (p : Sweep). Head (done ++ line ∷ []) used p × (1 ≤ length p.loses) × (p.bound ≡ None)) b.1 (lost done line servers used plan m h none unbound room small b.0, omega (arith, more), unbound)
 
 -- ---- ranges more
 
@@ -145,6 +152,7 @@ used_more done line r used plan m h unbound room equal fault =
       uses = ap (λ us. with_ranges us r) h.uses ∙ sym (uses-more used r);
       few = h.few;
       few_used = uses-few plan.uses r most_uses h.few_used room;
+      few_servers = h.few_servers;
       once = h.once;
       servers = λ above names s. after_other _ done line above (Lose names) (λ other. other_lose names other) (h.servers above names) s;
       lengths = All-push (λ (r : Ranges). span_len r.first ≡ span_len r.second) used r h.lengths equal;
@@ -186,6 +194,7 @@ head-bound done line n used plan m h unbound = record {
   uses = h.uses;
   few = h.few;
   few_used = h.few_used;
+  few_servers = h.few_servers;
   once = h.once;
   servers = λ above names s. after_other _ done line above (Lose names) (λ other. other_lose names other) (h.servers above names) s;
   lengths = h.lengths;
@@ -211,6 +220,7 @@ head-setup done used plan h some also = record {
   few_lost = h.few;
   some_used = also;
   few_used = h.few_used;
+  few_servers = h.few_servers;
   once = h.once;
   servers = λ above names s. h.servers above names (subst (λ ls. StandsAfter ls above (Lose names)) h.setup s);
   lengths = h.lengths;

@@ -13,6 +13,7 @@
 --   ends are the lines of their text (`WholeLemmas.antt`).
 -- - **A script** is made of the texts of its pieces (`PieceLemmas.antt`), and the steps follow from the lines (`StepLemmas.antt`). For
 --   callers: `pieces-script`, `script-pieces`, `pieces-lines`.
+-- - **Fuses** of a disaster's servers are added one after another (`FuseLemmas.antt`): what is left leads where all led.
 -- - **Names of a disaster** can be said by a line (`FitLemmas.antt`), as the marks of the set-up say them.
 -- - Look-ups by place are functions of their own whose clause is `option_copied result ≡ slice_get ..`: the clause of `get` itself isn't
 --   read in an answer.
@@ -24,6 +25,7 @@ pub mod FaultLemmas
 pub mod FirstLaws
 pub mod FitLemmas
 pub mod FollowLemmas
+pub mod FuseLemmas
 pub mod HeadLaws
 pub mod LineLemmas
 pub mod NameLemmas

@@ -17,11 +17,10 @@ use Rattle.dr_plan.specs.declared.points.Point.TheVariants.{Cut, Gap}
 use Rattle.dr_plan.specs.declared.points.Torn.{Torn}
 use Rattle.dr_plan.specs.Parts.{IsSweep}
 use Rattle.dr_plan.specs.Pieces.{Pieces, PieceTexts, cut_pieces, gap_pieces, pieces_of, lines_in, IsTextOf, AreTexts, AreCutUp, joined}
-use Rattle.dr_plan.specs.Points.{lines_before, cut_lines, gap_lines, lines_at, fuse_line, stop_line, others, text_of, with_end, script_of}
+use Rattle.dr_plan.specs.Points.{lines_before, cut_lines, gap_lines, lines_at, fuse_lines, stop_line, others, text_of, with_end, script_of}
 use Rattle.dr_plan.specs.Sweep.{Sweep, Tried, is_unbroken}
 use Rattle.dr_plan.proofs.FitLemmas.{Fit}
-use Rattle.dr_plan.proofs.PrintLemmas.{fuse-unbroken}
-use Rattle.dr_plan.proofs.StepLemmas.{name_at, text_at, before_whole, others_fit, stops_whole}
+use Rattle.dr_plan.proofs.StepLemmas.{text_at, before_whole, others_fit, stops_whole, fuses_whole}
 use Rattle.dr_plan.proofs.WholeLemmas.{lines-text}
 
 -- the text of lines one after another
@@ -31,25 +30,22 @@ text-append xs ys = flat_map-append with_end xs ys
 -- ---- the pieces of a script are all of it
 
 -- of a stop within a tried step, and of one between two
-abbrev cut_made : Sweep → List Name → ℕ → ℕ → ℕ → Torn → Name → Tried → Pieces
-cut_made plan names place server write torn name tried = record { front = lines_before plan place ++ fuse_line name write torn ∷ []; strike = tried.text ∷ []; stops = map stop_line (others server names) }
+abbrev cut_made : Sweep → List Name → ℕ → ℕ → Torn → List ℕ → Tried → Pieces
+cut_made plan names place server torn writes tried = record { front = lines_before plan place ++ fuse_lines names server torn writes; strike = tried.text ∷ []; stops = map stop_line (others server names) }
 
 abbrev gap_made : Sweep → List Name → ℕ → Pieces
 gap_made plan names place = record { front = lines_before plan place; strike = []; stops = map stop_line names }
 
-abbrev cut_script : Sweep → List Name → ℕ → ℕ → ℕ → Torn → Name → Tried → List (List ℕ)
-cut_script plan names place server write torn name tried = (lines_before plan place ++ fuse_line name write torn ∷ tried.text ∷ map stop_line (others server names)) ++ plan.recovery
+abbrev cut_script : Sweep → List Name → ℕ → ℕ → Torn → List ℕ → Tried → List (List ℕ)
+cut_script plan names place server torn writes tried = ((lines_before plan place ++ fuse_lines names server torn writes) ++ tried.text ∷ map stop_line (others server names)) ++ plan.recovery
 
-cut_regrouped : (front stops last : List (List ℕ)) (fuse line : List ℕ) → (front ++ fuse ∷ []) ++ (line ∷ (stops ++ last)) ≡ (front ++ fuse ∷ line ∷ stops) ++ last
-cut_regrouped front stops last fuse line = append_assoc front (fuse ∷ []) (line ∷ (stops ++ last)) ∙ sym (append_assoc front (fuse ∷ line ∷ stops) last)
-
-cut_lines_in : (plan : Sweep) (names : List Name) (place server write : ℕ) (torn : Torn) → option_map (lines_in plan) (cut_pieces plan names place server write torn) ≡ cut_lines plan names place server write torn
-cut_lines_in plan names place server write torn = by (slice_get names server) (slice_get plan.tried place)
+cut_lines_in : (plan : Sweep) (names : List Name) (place server : ℕ) (torn : Torn) (writes : List ℕ) → option_map (lines_in plan) (cut_pieces plan names place server torn writes) ≡ cut_lines plan names place server torn writes
+cut_lines_in plan names place server torn writes = by (slice_get names server) (slice_get plan.tried place)
   where
-    by : (n : Option Name) (t : Option Tried) → option_map (lines_in plan) (n >>= λ name. t >>= λ tried. Some (cut_made plan names place server write torn name tried)) ≡ (n >>= λ name. t >>= λ tried. Some (cut_script plan names place server write torn name tried))
+    by : (n : Option Name) (t : Option Tried) → option_map (lines_in plan) (n >>= λ name. t >>= λ tried. Some (cut_made plan names place server torn writes tried)) ≡ (n >>= λ name. t >>= λ tried. Some (cut_script plan names place server torn writes tried))
     by None t = refl
     by (Some name) None = refl
-    by (Some name) (Some tried) = ap Some (cut_regrouped (lines_before plan place) (map stop_line (others server names)) plan.recovery (fuse_line name write torn) tried.text)
+    by (Some name) (Some tried) = ap Some (sym (append_assoc (lines_before plan place ++ fuse_lines names server torn writes) (tried.text ∷ map stop_line (others server names)) plan.recovery))
 
 gap_lines_in : (plan : Sweep) (names : List Name) (place : ℕ) → option_map (lines_in plan) (gap_pieces plan names place) ≡ gap_lines plan names place
 gap_lines_in plan names place = by (nat_le place (length plan.tried))
@@ -60,11 +56,11 @@ gap_lines_in plan names place = by (nat_le place (length plan.tried))
 
 pub pieces-at : (plan : Sweep) (point : Point) → option_map (lines_in plan) (pieces_of plan point) ≡ lines_at plan point
 unfolding pieces_of lines_at
-pieces-at plan (Cut disaster place server write torn) = by (slice_get plan.loses disaster)
+pieces-at plan (Cut disaster place server torn writes) = by (slice_get plan.loses disaster)
   where
-    by : (lost : Option (List Name)) → option_map (lines_in plan) (lost >>= λ names. cut_pieces plan names place server write torn) ≡ (lost >>= λ names. cut_lines plan names place server write torn)
+    by : (lost : Option (List Name)) → option_map (lines_in plan) (lost >>= λ names. cut_pieces plan names place server torn writes) ≡ (lost >>= λ names. cut_lines plan names place server torn writes)
     by None = refl
-    by (Some names) = cut_lines_in plan names place server write torn
+    by (Some names) = cut_lines_in plan names place server torn writes
 pieces-at plan (Gap disaster place) = by (slice_get plan.loses disaster)
   where
     by : (lost : Option (List Name)) → option_map (lines_in plan) (lost >>= λ names. gap_pieces plan names place) ≡ (lost >>= λ names. gap_lines plan names place)
@@ -94,9 +90,9 @@ pub record AreWhole (p : Pieces) : Type 0 where
 one_whole : (line : List ℕ) → is_unbroken line ≡ true → Whole (line ∷ [])
 one_whole line e = All-cons (λ l. is_unbroken l ≡ true) line [] e (All-nil (λ l. is_unbroken l ≡ true))
 
-cut_whole : (plan : Sweep) (names : List Name) (place server write : ℕ) (torn : Torn) (name : Name) (tried : Tried) → IsSweep plan → Fit names → slice_get names server ≡ Some name → slice_get plan.tried place ≡ Some tried → AreWhole (cut_made plan names place server write torn name tried)
-cut_whole plan names place server write torn name tried are fit named here = record {
-  front_whole = All-append (λ l. is_unbroken l ≡ true) (lines_before plan place) (fuse_line name write torn ∷ []) (before_whole plan place are) (one_whole (fuse_line name write torn) (fuse-unbroken name write torn (name_at names server name fit named)));
+cut_whole : (plan : Sweep) (names : List Name) (place server : ℕ) (torn : Torn) (writes : List ℕ) (tried : Tried) → IsSweep plan → Fit names → slice_get plan.tried place ≡ Some tried → AreWhole (cut_made plan names place server torn writes tried)
+cut_whole plan names place server torn writes tried are fit here = record {
+  front_whole = All-append (λ l. is_unbroken l ≡ true) (lines_before plan place) (fuse_lines names server torn writes) (before_whole plan place are) (fuses_whole names server torn writes 0 fit);
   strike_whole = one_whole tried.text (text_at plan.tried place tried are.tried here);
   stops_whole = stops_whole (others server names) (others_fit server names fit);
 }
@@ -108,11 +104,11 @@ gap_whole plan names place are fit = record {
   stops_whole = stops_whole names fit;
 }
 
-cut_pieces_whole : (plan : Sweep) (names : List Name) (place server write : ℕ) (torn : Torn) → IsSweep plan → Fit names → (p : Pieces) → cut_pieces plan names place server write torn ≡ Some p → AreWhole p
-cut_pieces_whole plan names place server write torn are fit p h =
-    let named = bound (slice_get names server) (λ name. slice_get plan.tried place >>= λ tried. Some (cut_made plan names place server write torn name tried)) p h in
-    let here = bound (slice_get plan.tried place) (λ tried. Some (cut_made plan names place server write torn named.0 tried)) p named.2 in
-    subst AreWhole (same_Some (cut_made plan names place server write torn named.0 here.0) p here.2) (cut_whole plan names place server write torn named.0 here.0 are fit named.1 here.1)
+cut_pieces_whole : (plan : Sweep) (names : List Name) (place server : ℕ) (torn : Torn) (writes : List ℕ) → IsSweep plan → Fit names → (p : Pieces) → cut_pieces plan names place server torn writes ≡ Some p → AreWhole p
+cut_pieces_whole plan names place server torn writes are fit p h =
+    let named = bound (slice_get names server) (λ name. slice_get plan.tried place >>= λ tried. Some (cut_made plan names place server torn writes tried)) p h in
+    let here = bound (slice_get plan.tried place) (λ tried. Some (cut_made plan names place server torn writes tried)) p named.2 in
+    subst AreWhole (same_Some (cut_made plan names place server torn writes here.0) p here.2) (cut_whole plan names place server torn writes here.0 are fit here.1)
 
 gap_pieces_whole : (plan : Sweep) (names : List Name) (place : ℕ) → IsSweep plan → Fit names → (p : Pieces) → gap_pieces plan names place ≡ Some p → AreWhole p
 gap_pieces_whole plan names place are fit p h = by (nat_le place (length plan.tried)) h
@@ -127,9 +123,9 @@ lost_fit plan disaster names are h = subst Fit (get_or_from_slice_get plan.loses
 
 pub pieces-whole : (plan : Sweep) → IsSweep plan → (point : Point) (p : Pieces) → pieces_of plan point ≡ Some p → AreWhole p
 unfolding pieces_of
-pieces-whole plan are (Cut disaster place server write torn) p h =
-    let lost = bound (slice_get plan.loses disaster) (λ names. cut_pieces plan names place server write torn) p h in
-    cut_pieces_whole plan lost.0 place server write torn are (lost_fit plan disaster lost.0 are lost.1) p lost.2
+pieces-whole plan are (Cut disaster place server torn writes) p h =
+    let lost = bound (slice_get plan.loses disaster) (λ names. cut_pieces plan names place server torn writes) p h in
+    cut_pieces_whole plan lost.0 place server torn writes are (lost_fit plan disaster lost.0 are lost.1) p lost.2
 pieces-whole plan are (Gap disaster place) p h =
     let lost = bound (slice_get plan.loses disaster) (λ names. gap_pieces plan names place) p h in
     gap_pieces_whole plan lost.0 place are (lost_fit plan disaster lost.0 are lost.1) p lost.2
@@ -157,19 +153,18 @@ text_is ls text whole is = (is, ap lines is ∙ lines-text ls whole)
 texts_are : (front strike stops : List ℕ) (p : Pieces) → AreWhole p → front ≡ text_of p.front → strike ≡ text_of p.strike → stops ≡ text_of p.stops → AreTexts front strike stops p
 texts_are front strike stops p whole f k s = record { front_is = text_is p.front front whole.front_whole f; strike_is = text_is p.strike strike whole.strike_whole k; stops_are = text_is p.stops stops whole.stops_whole s }
 
-pub cut-made : (plan : Sweep) (names : List Name) (place server write : ℕ) (torn : Torn) (name : Name) (tried : Tried) (before front strike stops : List ℕ) → IsSweep plan → Fit names
+pub cut-made : (plan : Sweep) (names : List Name) (place server : ℕ) (torn : Torn) (writes : List ℕ) (name : Name) (tried : Tried) (before front strike stops : List ℕ) → IsSweep plan → Fit names
     → slice_get names server ≡ Some name → slice_get plan.tried place ≡ Some tried
-    → before ≡ text_of (lines_before plan place) → front ≡ before ++ with_end (fuse_line name write torn) → strike ≡ with_end tried.text → stops ≡ text_of (map stop_line (others server names))
-    → AreCutUp (cut_pieces plan names place server write torn) (Some (record { front = front; strike = strike; stops = stops }))
-cut-made plan names place server write torn name tried before front strike stops are fit named here b f k s =
-    let p = cut_made plan names place server write torn name tried in
-    let is : cut_pieces plan names place server write torn ≡ Some p =
-    ap (λ o. o >>= λ name. slice_get plan.tried place >>= λ tried. Some (cut_made plan names place server write torn name tried)) named
-    ∙ ap (λ o. o >>= λ tried. Some (cut_made plan names place server write torn name tried)) here in
-    let fuse = fuse_line name write torn in
-    let front_is : front ≡ text_of (lines_before plan place ++ fuse ∷ []) =
-    f ∙ ap (λ t. t ++ with_end fuse) b ∙ sym (text-append (lines_before plan place) (fuse ∷ []) ∙ ap (λ t. text_of (lines_before plan place) ++ t) (one_text fuse)) in
-    (p, is, texts_are front strike stops p (cut_whole plan names place server write torn name tried are fit named here) front_is (k ∙ sym (one_text tried.text)) s)
+    → before ≡ text_of (lines_before plan place) → front ≡ before ++ text_of (fuse_lines names server torn writes) → strike ≡ with_end tried.text → stops ≡ text_of (map stop_line (others server names))
+    → AreCutUp (cut_pieces plan names place server torn writes) (Some (record { front = front; strike = strike; stops = stops }))
+cut-made plan names place server torn writes name tried before front strike stops are fit named here b f k s =
+    let p = cut_made plan names place server torn writes tried in
+    let armed = fuse_lines names server torn writes in
+    let is : cut_pieces plan names place server torn writes ≡ Some p =
+    ap (λ o. o >>= λ name. slice_get plan.tried place >>= λ tried. Some (cut_made plan names place server torn writes tried)) named
+    ∙ ap (λ o. o >>= λ tried. Some (cut_made plan names place server torn writes tried)) here in
+    let front_is : front ≡ text_of (lines_before plan place ++ armed) = f ∙ ap (λ t. t ++ text_of armed) b ∙ sym (text-append (lines_before plan place) armed) in
+    (p, is, texts_are front strike stops p (cut_whole plan names place server torn writes tried are fit here) front_is (k ∙ sym (one_text tried.text)) s)
   where
     one_text : (line : List ℕ) → text_of (line ∷ []) ≡ with_end line
     one_text line = flat_map-cons with_end line [] ∙ append-nil (with_end line)
@@ -207,10 +202,10 @@ is_script plan pieces made all script last are whole these is up e =
     let text : script ≡ option_map text_of (option_map (lines_in plan) pieces) = e ∙ ap (λ ls. option_map (joined ls) made) is ∙ joined_lines plan pieces made up in
     record { text = text ∙ ap (option_map text_of) these; reads = ap (option_map lines) text ∙ lines_read plan pieces are whole ∙ these }
 
-pub cut-joined : (plan : Sweep) (names : List Name) (place server write : ℕ) (torn : Torn) (made : Option PieceTexts) (script : Option (List ℕ)) (last : List (List ℕ)) → IsSweep plan → Fit names
-    → last ≡ plan.recovery → AreCutUp (cut_pieces plan names place server write torn) made → script ≡ option_map (joined last) made → IsScript script (cut_lines plan names place server write torn)
-cut-joined plan names place server write torn made script last are fit is up e =
-    is_script plan (cut_pieces plan names place server write torn) made (cut_lines plan names place server write torn) script last are (cut_pieces_whole plan names place server write torn are fit) (cut_lines_in plan names place server write torn) is up e
+pub cut-joined : (plan : Sweep) (names : List Name) (place server : ℕ) (torn : Torn) (writes : List ℕ) (made : Option PieceTexts) (script : Option (List ℕ)) (last : List (List ℕ)) → IsSweep plan → Fit names
+    → last ≡ plan.recovery → AreCutUp (cut_pieces plan names place server torn writes) made → script ≡ option_map (joined last) made → IsScript script (cut_lines plan names place server torn writes)
+cut-joined plan names place server torn writes made script last are fit is up e =
+    is_script plan (cut_pieces plan names place server torn writes) made (cut_lines plan names place server torn writes) script last are (cut_pieces_whole plan names place server torn writes are fit) (cut_lines_in plan names place server torn writes) is up e
 
 pub gap-joined : (plan : Sweep) (names : List Name) (place : ℕ) (made : Option PieceTexts) (script : Option (List ℕ)) (last : List (List ℕ)) → IsSweep plan → Fit names
     → last ≡ plan.recovery → AreCutUp (gap_pieces plan names place) made → script ≡ option_map (joined last) made → IsScript script (gap_lines plan names place)

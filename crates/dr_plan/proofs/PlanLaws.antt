@@ -1,5 +1,5 @@
 -- What is read is a plan.
-use Rattle.std.proofs.Common.{ℕ, ◌≡◌, ◌≤◌, ◌+◌, Bool, true, false, cond, List, [], ◌∷◌, ◌++◌, length, refl, ap, sym, ◌∙◌, subst, arith, append_assoc, nat_eq, nat_lt, Option, Some, None, ◌⊎◌, inl, inr}
+use Rattle.std.proofs.Common.{ℕ, ◌≡◌, ◌≤◌, ◌+◌, Bool, true, false, cond, List, [], ◌∷◌, ◌++◌, length, refl, ap, sym, ◌∙◌, subst, arith, append_assoc, nat_eq, nat_le, nat_lt, Option, Some, None, ◌⊎◌, inl, inr}
 use Rattle.std.specs.Prelude.{Result, Ok, Err, ◌||◌}
 use Rattle.std.proofs.lemmas.Bool.{cases_Bool}
 use Rattle.std.proofs.lemmas.Grind.{common_steps}
@@ -16,12 +16,12 @@ use Rattle.dr_plan.specs.declared.stages.Stage.{Stage}
 use Rattle.dr_plan.specs.declared.stages.Stage.TheVariants.{Start, Losing, Using, Bounded, Trying, Recovering}
 use Rattle.dr_plan.specs.declared.reading.Reading.{Reading}
 use Rattle.dr_plan.specs.declared.reason.Reason.{Reason}
-use Rattle.dr_plan.specs.declared.reason.Reason.TheVariants.{ManyDisasters, ManyUses, UnequalRanges, NoLineFollows}
+use Rattle.dr_plan.specs.declared.reason.Reason.TheVariants.{ManyDisasters, ManyServers, ManyUses, UnequalRanges, NoLineFollows}
 use Rattle.dr_plan.specs.Above.{unless, servers_in, volumes_in}
 use Rattle.dr_plan.specs.Marks.{is_mark, mark_of}
 use Rattle.dr_plan.specs.Parts.{IsMark, IsSetup, IsPlan, Ranges, ComeOnce, Tries, marks_in, announced_by, announced_from}
 use Rattle.dr_plan.specs.Reading.{Bad, announces, servers_fault, pairs_fault, has_use, with_pairs, used_pairs, stage_after, with_line, kept, noted, read_on, read_lines, lacking, missing, finished_by, finished, begun, sweep_of, tried_steps}
-use Rattle.dr_plan.specs.Sweep.{Sweep, Tried, most_disasters, most_uses}
+use Rattle.dr_plan.specs.Sweep.{Sweep, Tried, most_disasters, most_servers, most_uses}
 use Rattle.dr_plan.proofs.ApartLemmas.{tries-none, tries-more}
 use Rattle.dr_plan.proofs.FaultLaws.{ok-of, unless-of}
 use Rattle.dr_plan.proofs.FollowLemmas.{Passes, MayStand, plain-not, says-not, refused-is, passes-none, passes-more, all-read, all-followed}
@@ -91,6 +91,7 @@ setup_stays plan tried then_line recovery announced s = record {
   uses = s.uses;
   some_lost = s.some_lost;
   few_lost = s.few_lost;
+  few_servers = s.few_servers;
   some_used = s.some_used;
   few_used = s.few_used;
   once = s.once;
@@ -249,8 +250,10 @@ mark_step done line Refused number stage after plan next m own at goes notes p =
 noted_announced : (number : ℕ) (stage : Stage) (mark : Mark) (line : List ℕ) (plan next : Sweep) → announces mark ≡ false → noted number stage mark line plan ≡ Ok next → next.announced ≡ plan.announced
 noted_announced number stage (Lose servers) line plan next own notes =
     let made : Sweep = record plan { loses = plan.loses ++ servers ∷ []; setup = plan.setup ++ line ∷ [] } in
-    let a = ok-of (nat_lt (length plan.loses) most_disasters) (unless (servers_fault (servers_in plan.setup) [] servers) made) ManyDisasters next notes in
-    let b = unless-of (servers_fault (servers_in plan.setup) [] servers) made next a.1 in
+    let named = unless (servers_fault (servers_in plan.setup) [] servers) made in
+    let a = ok-of (nat_lt (length plan.loses) most_disasters) (cond (nat_le (length servers) most_servers) named (Err ManyServers)) ManyDisasters next notes in
+    let d = ok-of (nat_le (length servers) most_servers) named ManyServers next a.1 in
+    let b = unless-of (servers_fault (servers_in plan.setup) [] servers) made next d.1 in
     ap (λ (p : Sweep). p.announced) (sym b.1)
 noted_announced number stage (Use name first second) line plan next own notes =
     let made : Sweep = record plan { uses = with_pairs plan.uses name (paired first second); setup = plan.setup ++ line ∷ [] } in
@@ -334,6 +337,7 @@ read-begun = record {
       uses = refl;
       few = omega arith;
       few_used = omega arith;
+      few_servers = All-nil (λ (names : List Name). length names ≤ most_servers);
       once = All-nil ComeOnce;
       servers = λ above names s. no_line above (s.0) (s.1) (s.2);
       lengths = All-nil (λ (r : Ranges). span_len r.first ≡ span_len r.second);

@@ -12,6 +12,7 @@ use Rattle.std.proofs.lemmas.List.Folds.{list_all-append}
 use Rattle.dr_ids.specs.Spelling.{upper_digit, hex2, hex4}
 use Rattle.dr_model.specs.declared.step.Name.{Name}
 use Rattle.dr_model.specs.declared.step.Step.{Step}
+use Rattle.dr_model.specs.declared.step.Step.TheVariants.{StopAfter}
 use Rattle.dr_model.specs.declared.step.TornWord.{TornWord}
 use Rattle.dr_model.specs.declared.step.TornWord.TheVariants.{Same, Fill, Bytes}
 use Rattle.dr_model.specs.declared.grammar.Command.{Command}
@@ -31,7 +32,7 @@ use Rattle.dr_model.specs.LineText.{hex8, unpadded, sequence_text, name_text, by
 use Rattle.dr_script.proofs.CutLemmas.{spaced-append}
 use Rattle.dr_script.proofs.TextLemmas.{upper_not}
 use Rattle.dr_plan.specs.declared.points.Torn.{Torn}
-use Rattle.dr_plan.specs.Points.{torn_word, fuse_line}
+use Rattle.dr_plan.specs.Points.{torn_word}
 use Rattle.dr_plan.specs.Sweep.{is_unbroken}
 
 pub unbroken-append : (a b : List ℕ) → is_unbroken a ≡ true → is_unbroken b ≡ true → is_unbroken (a ++ b) ≡ true
@@ -297,7 +298,7 @@ unfolding step_text is_written
 step-unbroken step e = said_unbroken (saying step) e
 
 -- the line that arms a fuse, after any number of writes
-pub fuse-unbroken : (server : Name) (writes : ℕ) (torn : Torn) → name_fits server ≡ true → is_unbroken (fuse_line server writes torn) ≡ true
+pub fuse-unbroken : (server : Name) (writes : ℕ) (torn : Torn) → name_fits server ≡ true → is_unbroken (step_text (StopAfter server writes (torn_word torn))) ≡ true
 unfolding step_text at_saying settings operands form command_word said_count operand_text no_options no_operands
 fuse-unbroken server writes torn fits =
     let torn_bytes = spaced_one (torn_text (torn_word torn)) [] (torn_unbroken (torn_word torn)) refl in

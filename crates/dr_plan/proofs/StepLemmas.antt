@@ -1,5 +1,5 @@
 -- The script of a point, as its lines and steps are read.
-use Rattle.std.proofs.Common.{ℕ, ◌≡◌, ◌<◌, ◌≤◌, ◌+◌, ◌^◌, List, [], ◌∷◌, ◌++◌, length, take, drop, map, slice_get, refl, ap, sym, ◌∙◌, arith, append_assoc, Bool, true, false, cond, nat_le, Option, Some, None}
+use Rattle.std.proofs.Common.{ℕ, suc, ◌≡◌, ◌<◌, ◌≤◌, ◌+◌, ◌^◌, List, [], ◌∷◌, ◌++◌, length, take, drop, map, slice_get, refl, ap, sym, ◌∙◌, arith, append_assoc, Bool, true, false, cond, nat_le, Option, Some, None}
 use Rattle.std.specs.Prelude.{All, Ok}
 use Rattle.std.specs.Option.{option_map}
 use Rattle.std.specs.Str.Lines.{lines}
@@ -9,15 +9,15 @@ use Rattle.std.proofs.lemmas.List.Elements.{All-nil, All-cons, All-append, All-d
 use Rattle.std.proofs.lemmas.Option.{slice_get_within, get_or_from_slice_get}
 use Rattle.dr_model.specs.declared.step.Name.{Name}
 use Rattle.dr_model.specs.declared.step.Step.TheVariants.{Stop, StopAfter}
-use Rattle.dr_model.specs.LineText.{name_fits}
+use Rattle.dr_model.specs.LineText.{name_fits, step_text}
 use Rattle.dr_model.specs.LineWords.{◌>>=◌}
 use Rattle.dr_model.specs.Lines.{task, tasks, tasks_of, tasks_from, tasks_read}
 use Rattle.dr_script.proofs.StepLemmas.{reads}
 use Rattle.dr_plan.specs.declared.points.Torn.{Torn}
 use Rattle.dr_plan.specs.Parts.{IsSweep}
-use Rattle.dr_plan.specs.Points.{torn_word, stop_line, fuse_line, others, lines_before, calm_lines, cut_lines, gap_lines, stop_steps, cut_steps, gap_steps, text_of}
+use Rattle.dr_plan.specs.Points.{count_at, torn_at, torn_word, stop_line, fuses, fuse_lines, others, lines_before, calm_lines, cut_lines, gap_lines, stop_steps, steps_from, cut_steps, gap_steps, text_of}
 use Rattle.dr_plan.specs.Sweep.{Sweep, Tried, texts, is_unbroken}
-use Rattle.dr_plan.proofs.PrintLemmas.{step-unbroken}
+use Rattle.dr_plan.proofs.PrintLemmas.{step-unbroken, fuse-unbroken}
 use Rattle.dr_plan.proofs.StopLemmas.{stop-written, fuse-written}
 use Rattle.dr_plan.proofs.WholeLemmas.{lines-text}
 
@@ -47,6 +47,13 @@ stops_whole [] fit = All-nil (λ l. is_unbroken l ≡ true)
 stops_whole (name ∷ names) fit =
     All-cons (λ l. is_unbroken l ≡ true) (stop_line name) (map stop_line names) (step-unbroken (Stop name) (stop-written name (fit 0 name (omega arith)))) (stops_whole names (All-drop (λ name. name_fits name ≡ true) 1 (name ∷ names) fit))
 
+pub fuses_whole : (names : List Name) (server : ℕ) (torn : Torn) (writes : List ℕ) (place : ℕ) → All (λ name. name_fits name ≡ true) names → All (λ l. is_unbroken l ≡ true) (map step_text (fuses server torn writes place names))
+fuses_whole [] server torn writes place fit = All-nil (λ l. is_unbroken l ≡ true)
+fuses_whole (name ∷ names) server torn writes place fit =
+    All-cons (λ l. is_unbroken l ≡ true) (step_text (StopAfter name (count_at writes place) (torn_word (torn_at server torn place)))) (map step_text (fuses server torn writes (place + 1) names))
+    (fuse-unbroken name (count_at writes place) (torn_at server torn place) (fit 0 name (omega arith)))
+    (fuses_whole names server torn writes (place + 1) (All-drop (λ name. name_fits name ≡ true) 1 (name ∷ names) fit))
+
 -- the steps of lines in two parts, of which the second begins with line k
 tasks_both : (number k : ℕ) (a b : List (List ℕ)) → k ≡ number + length a → tasks_from number (a ++ b) ≡ tasks_from number a ++ tasks_from k b
 tasks_both number k [] b e = ap (λ n. tasks_from n b) (let same : number ≡ k = omega arith in same)
@@ -59,42 +66,56 @@ stops_read number (name ∷ names) fit =
     ap (λ ts. ts ++ tasks_from (number + 1) (map stop_line names)) (ap (tasks_read number) (reads (Stop name) (stop-written name (fit 0 name (omega arith)))))
     ∙ ap (λ ts. task number (Ok (Stop name)) ∷ ts) (stops_read (number + 1) names (All-drop (λ name. name_fits name ≡ true) 1 (name ∷ names) fit))
 
--- two lines and more between what stands before and after
-pieces : (front stops last : List (List ℕ)) (fuse tried : List ℕ) (m n k j : ℕ) → m ≡ length front + 1 → n ≡ m + 1 → k ≡ m + 2 → j ≡ k + length stops
-    → tasks_from 1 ((front ++ fuse ∷ tried ∷ stops) ++ last) ≡ (tasks_from 1 front ++ (tasks_of m fuse ++ tasks_of n tried) ++ tasks_from k stops) ++ tasks_from j last
-pieces front stops last fuse tried m n k j em en ek ej =
-    tasks_both 1 j (front ++ fuse ∷ tried ∷ stops) last (let size : length (front ++ fuse ∷ tried ∷ stops) ≡ length front + 2 + length stops = grind (arith, common_steps) in omega arith)
+pub fuses-length : (names : List Name) (server : ℕ) (torn : Torn) (writes : List ℕ) (place : ℕ) → length (fuses server torn writes place names) ≡ length names
+fuses-length [] server torn writes place = refl
+fuses-length (name ∷ names) server torn writes place = ap suc (fuses-length names server torn writes (place + 1))
+
+pub fuses-read : (number : ℕ) (names : List Name) (server : ℕ) (torn : Torn) (writes : List ℕ) (place : ℕ) → All (λ name. name_fits name ≡ true) names → ((i : ℕ) → count_at writes i < 2 ^ 32)
+    → tasks_from number (map step_text (fuses server torn writes place names)) ≡ steps_from number (fuses server torn writes place names)
+fuses-read number [] server torn writes place fit few = refl
+fuses-read number (name ∷ names) server torn writes place fit few =
+    let step = StopAfter name (count_at writes place) (torn_word (torn_at server torn place)) in
+    ap (λ ts. ts ++ tasks_from (number + 1) (map step_text (fuses server torn writes (place + 1) names)))
+    (ap (tasks_read number) (reads step (fuse-written name (count_at writes place) (torn_at server torn place) (fit 0 name (omega arith)) (few place))))
+    ∙ ap (λ ts. task number (Ok step) ∷ ts) (fuses-read (number + 1) names server torn writes (place + 1) (All-drop (λ name. name_fits name ≡ true) 1 (name ∷ names) fit) few)
+
+-- fuses, a line and more between what stands before and after
+pieces : (front armed stops last : List (List ℕ)) (tried : List ℕ) (m n k j : ℕ) → m ≡ length front + 1 → n ≡ m + length armed → k ≡ n + 1 → j ≡ k + length stops
+    → tasks_from 1 (((front ++ armed) ++ tried ∷ stops) ++ last) ≡ (((tasks_from 1 front ++ tasks_from m armed) ++ tasks_of n tried) ++ tasks_from k stops) ++ tasks_from j last
+pieces front armed stops last tried m n k j em en ek ej =
+    tasks_both 1 j ((front ++ armed) ++ tried ∷ stops) last (let size : length ((front ++ armed) ++ tried ∷ stops) ≡ length front + length armed + 1 + length stops = grind (arith, common_steps) in omega arith)
     ∙ ap (λ ts. ts ++ tasks_from j last)
-    (tasks_both 1 m front (fuse ∷ tried ∷ stops) (omega arith)
-    ∙ ap (λ ts. tasks_from 1 front ++ ts)
-    ((λ i. tasks_of m fuse ++ (tasks_of (sym en i) tried ++ tasks_from ((let e : m + 1 + 1 ≡ k = omega arith in e) i) stops))
-    ∙ sym (append_assoc (tasks_of m fuse) (tasks_of n tried) (tasks_from k stops)))
-    ∙ sym (append_assoc (tasks_from 1 front) (tasks_of m fuse ++ tasks_of n tried) (tasks_from k stops)))
+    (tasks_both 1 n (front ++ armed) (tried ∷ stops) (let size : length (front ++ armed) ≡ length front + length armed = grind (arith, common_steps) in omega arith)
+    ∙ (λ i. tasks_both 1 m front armed (let e : m ≡ 1 + length front = omega arith in e) i ++ (tasks_of n tried ++ tasks_from (sym ek i) stops))
+    ∙ sym (append_assoc (tasks_from 1 front ++ tasks_from m armed) (tasks_of n tried) (tasks_from k stops)))
 
 front_length : (setup : List (List ℕ)) (tried : List Tried) (place : ℕ) → place ≤ length tried → length (setup ++ texts (take place tried)) ≡ length setup + place
 front_length setup tried place within = grind (arith, common_steps)
 
-cut_tasks : (plan : Sweep) (names : List Name) (place server write : ℕ) (torn : Torn) → All (λ name. name_fits name ≡ true) names → write < 2 ^ 32
-    → option_map (tasks_from 1) (cut_lines plan names place server write torn) ≡ cut_steps plan names place server write torn
-cut_tasks plan names place server write torn fit few = by (slice_get names server) refl (slice_get plan.tried place) refl
+cut_tasks : (plan : Sweep) (names : List Name) (place server : ℕ) (torn : Torn) (writes : List ℕ) → All (λ name. name_fits name ≡ true) names → ((i : ℕ) → count_at writes i < 2 ^ 32)
+    → option_map (tasks_from 1) (cut_lines plan names place server torn writes) ≡ cut_steps plan names place server torn writes
+cut_tasks plan names place server torn writes fit few = by (slice_get names server) (slice_get plan.tried place) refl
   where
-    by : (n : Option Name) → slice_get names server ≡ n → (t : Option Tried) → slice_get plan.tried place ≡ t
-        → option_map (tasks_from 1) (n >>= λ name. t >>= λ tried. Some ((lines_before plan place ++ fuse_line name write torn ∷ tried.text ∷ map stop_line (others server names)) ++ plan.recovery))
-        ≡ (n >>= λ name. t >>= λ tried. Some (tasks_from 1 (lines_before plan place) ++ task (length plan.setup + place + 1) (Ok (StopAfter name write (torn_word torn))) ∷ tasks_of (length plan.setup + place + 2) tried.text ++ stop_steps (length plan.setup + place + 3) (others server names)
-        ++ tasks_from (length plan.setup + place + 3 + length (others server names)) plan.recovery))
-    by None is t at = refl
-    by (Some name) is None at = refl
-    by (Some name) is (Some tried) at =
+    by : (n : Option Name) (t : Option Tried) → slice_get plan.tried place ≡ t
+        → option_map (tasks_from 1) (n >>= λ name. t >>= λ tried. Some (((lines_before plan place ++ fuse_lines names server torn writes) ++ tried.text ∷ map stop_line (others server names)) ++ plan.recovery))
+        ≡ (n >>= λ name. t >>= λ tried. Some ((((tasks_from 1 (lines_before plan place) ++ steps_from (length plan.setup + place + 1) (fuses server torn writes 0 names)) ++ tasks_of (length plan.setup + place + 1 + length names) tried.text)
+        ++ stop_steps (length plan.setup + place + 1 + length names + 1) (others server names)) ++ tasks_from (length plan.setup + place + 1 + length names + 1 + length (others server names)) plan.recovery))
+    by None t at = refl
+    by (Some name) None at = refl
+    by (Some name) (Some tried) at =
         let b : ℕ = length plan.setup + place in
+        let n : ℕ = b + 1 + length names in
         let o = others server names in
         let front = lines_before plan place in
+        let armed = fuse_lines names server torn writes in
         let within = slice_get_within plan.tried place tried at in
         let size : length front ≡ b = front_length plan.setup plan.tried place (omega arith) in
         let count : length (map stop_line o) ≡ length o = grind (arith, common_steps) in
-        let fuse = reads (StopAfter name write (torn_word torn)) (fuse-written name write torn (name_at names server name fit is) few) in
+        let armed_count : length armed ≡ length (fuses server torn writes 0 names) = grind (arith, common_steps) in
+        let all_armed = fuses-length names server torn writes 0 in
         ap Some
-        (pieces front (map stop_line o) plan.recovery (fuse_line name write torn) tried.text (b + 1) (b + 2) (b + 3) (b + 3 + length o) (omega (arith, size)) (omega arith) (omega arith) (omega (arith, count))
-        ∙ (λ i. (tasks_from 1 front ++ (tasks_read (b + 1) (fuse i) ++ tasks_of (b + 2) tried.text) ++ stops_read (b + 3) o (others_fit server names fit) i) ++ tasks_from (b + 3 + length o) plan.recovery))
+        (pieces front armed (map stop_line o) plan.recovery tried.text (b + 1) n (n + 1) (n + 1 + length o) (omega (arith, size)) (omega (arith, armed_count, all_armed)) (omega arith) (omega (arith, count))
+        ∙ (λ i. (((tasks_from 1 front ++ fuses-read (b + 1) names server torn writes 0 fit few i) ++ tasks_of n tried.text) ++ stops_read (n + 1) o (others_fit server names fit) i) ++ tasks_from (n + 1 + length o) plan.recovery))
 
 gap_tasks : (plan : Sweep) (names : List Name) (place : ℕ) → All (λ name. name_fits name ≡ true) names → option_map (tasks_from 1) (gap_lines plan names place) ≡ gap_steps plan names place
 gap_tasks plan names place fit = by (nat_le place (length plan.tried)) refl
@@ -117,9 +138,9 @@ tasks_lines : (script : Option (List ℕ)) → option_map tasks script ≡ optio
 tasks_lines None = refl
 tasks_lines (Some text) = refl
 
-pub cut-steps : (plan : Sweep) (names : List Name) (place server write : ℕ) (torn : Torn) (script : Option (List ℕ)) → All (λ name. name_fits name ≡ true) names → write < 2 ^ 32
-    → option_map lines script ≡ cut_lines plan names place server write torn → option_map tasks script ≡ cut_steps plan names place server write torn
-cut-steps plan names place server write torn script fit few read = tasks_lines script ∙ ap (option_map (tasks_from 1)) read ∙ cut_tasks plan names place server write torn fit few
+pub cut-steps : (plan : Sweep) (names : List Name) (place server : ℕ) (torn : Torn) (writes : List ℕ) (script : Option (List ℕ)) → All (λ name. name_fits name ≡ true) names → ((i : ℕ) → count_at writes i < 2 ^ 32)
+    → option_map lines script ≡ cut_lines plan names place server torn writes → option_map tasks script ≡ cut_steps plan names place server torn writes
+cut-steps plan names place server torn writes script fit few read = tasks_lines script ∙ ap (option_map (tasks_from 1)) read ∙ cut_tasks plan names place server torn writes fit few
 
 pub gap-steps : (plan : Sweep) (names : List Name) (place : ℕ) (script : Option (List ℕ)) → All (λ name. name_fits name ≡ true) names → option_map lines script ≡ gap_lines plan names place → option_map tasks script ≡ gap_steps plan names place
 gap-steps plan names place script fit read = tasks_lines script ∙ ap (option_map (tasks_from 1)) read ∙ gap_tasks plan names place fit

@@ -80,6 +80,8 @@ plan-sweep text plan p =
     record {
       some_lost = s.some_lost;
       few_lost = s.few_lost;
+      few_servers = s.few_servers;
+      once = s.once;
       fit = loses-fit plan.setup plan.loses (map use_mark s.used ++ bound_marks plan.bound) (s.marks ∙ ap (map Some) (append_assoc (map Lose plan.loses) (map use_mark s.used) (bound_marks plan.bound)));
       few_used = s.few_used;
       setup = first_all (λ l. is_unbroken l ≡ true) plan.setup (p.begin ∷ p.between) front;

@@ -12,7 +12,7 @@ use Rattle.dr_plan.specs.declared.marks.Mark.TheVariants.{Lose, Use, AtMost, Her
 use Rattle.dr_plan.specs.Above.{is_among, defines_server, tracks_in, line_steps, steps_of}
 use Rattle.dr_plan.specs.Marks.{is_mark, mark_of}
 use Rattle.dr_plan.specs.Reading.{announces, tried_steps, with_pairs}
-use Rattle.dr_plan.specs.Sweep.{Sweep, Use as HostUse, Tried, texts, most_disasters, most_uses, is_unbroken}
+use Rattle.dr_plan.specs.Sweep.{Sweep, Use as HostUse, Tried, texts, most_disasters, most_servers, most_uses, is_unbroken}
 
 -- ---- the plan's own lines
 
@@ -71,13 +71,14 @@ abbrev pub AreAlike : List (List ℕ) → Item → Type 0
 AreAlike above pair = (tracks : ℕ) × (tracks_in above pair.first ≡ Some tracks) × (tracks_in above pair.second ≡ Some tracks)
 
 -- The set-up says the disasters, after them the volumes that are used, and last the bound. What these name is defined by lines above
--- them; no disaster names a server twice, and ranges are of equal length.
+-- them; no disaster names a server twice, or more than eight, and ranges are of equal length.
 pub record IsSetup (plan : Sweep) : Type 0 where
   pub used : List Ranges
   pub marks : marks_in plan.setup ≡ map Some (map Lose plan.loses ++ map use_mark used ++ bound_marks plan.bound)
   pub uses : plan.uses ≡ uses_of used
   pub some_lost : 1 ≤ length plan.loses
   pub few_lost : length plan.loses ≤ most_disasters
+  pub few_servers : All (λ (names : List Name). length names ≤ most_servers) plan.loses
   pub some_used : 1 ≤ length used
   pub few_used : length plan.uses ≤ most_uses
   pub once : All ComeOnce plan.loses
@@ -143,11 +144,13 @@ pub record IsPlan (lines : List (List ℕ)) (plan : Sweep) : Type 0 where
   pub announced : plan.announced ≡ announced_from 1 lines
   pub followed : (above below : List (List ℕ)) (line : List ℕ) → lines ≡ above ++ line ∷ below → IsMark line Refused → BeginWithStep below
 
--- what holds of each plan: it has one to eight disasters, of names that a line can say, and at most eight uses, no line feed stands in a
--- line, and what is tried is one step a line
+-- what holds of each plan: it has one to eight disasters, of at most eight names that a line can say and each of which comes once, and at
+-- most eight uses, no line feed stands in a line, and what is tried is one step a line
 pub record IsSweep (plan : Sweep) : Type 0 where
   pub some_lost : 1 ≤ length plan.loses
   pub few_lost : length plan.loses ≤ most_disasters
+  pub few_servers : All (λ (names : List Name). length names ≤ most_servers) plan.loses
+  pub once : All ComeOnce plan.loses
   pub fit : All (All (λ (name : Name). name_fits name ≡ true)) plan.loses
   pub few_used : length plan.uses ≤ most_uses
   pub setup : All (λ line. is_unbroken line ≡ true) plan.setup

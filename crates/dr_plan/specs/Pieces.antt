@@ -7,20 +7,20 @@ use Rattle.dr_model.specs.LineWords.{◌>>=◌}
 use Rattle.dr_plan.specs.declared.points.Torn.{Torn}
 use Rattle.dr_plan.specs.declared.points.Point.{Point}
 use Rattle.dr_plan.specs.declared.points.Point.TheVariants.{Cut, Gap}
-use Rattle.dr_plan.specs.Points.{stop_line, fuse_line, others, lines_before, text_of}
+use Rattle.dr_plan.specs.Points.{stop_line, fuse_lines, others, lines_before, text_of}
 use Rattle.dr_plan.specs.Sweep.{Sweep}
 
 -- The lines of a point's script in pieces, without those of the recovery.
 pub record Pieces : Type 0 where
-  pub front : List (List ℕ)  -- the set-up, the tried steps before, and for a stop within a step the line that arms the fuse
+  pub front : List (List ℕ)  -- the set-up, the tried steps before, and for a stop within a step the lines that arm fuses
   pub strike : List (List ℕ)  -- the tried step that is cut short; none for a stop between steps
   pub stops : List (List ℕ)  -- the stops of the servers that are lost then
 
 -- a stop within a tried step
-abbrev pub cut_pieces : Sweep → List Name → ℕ → ℕ → ℕ → Torn → Option Pieces
-cut_pieces plan names place server write torn =
+abbrev pub cut_pieces : Sweep → List Name → ℕ → ℕ → Torn → List ℕ → Option Pieces
+cut_pieces plan names place server torn writes =
     slice_get names server >>= λ name. slice_get plan.tried place >>= λ tried.
-    Some (record { front = lines_before plan place ++ fuse_line name write torn ∷ []; strike = tried.text ∷ []; stops = map stop_line (others server names) })
+    Some (record { front = lines_before plan place ++ fuse_lines names server torn writes; strike = tried.text ∷ []; stops = map stop_line (others server names) })
 
 -- a stop after that many tried steps
 abbrev pub gap_pieces : Sweep → List Name → ℕ → Option Pieces
@@ -28,7 +28,7 @@ gap_pieces plan names place = if nat_le place (length plan.tried) then Some (rec
 
 -- the pieces of the script of a point; none where the plan has no such point
 unfoldable pub pieces_of : Sweep → Point → Option Pieces
-pieces_of plan (Cut disaster place server write torn) = slice_get plan.loses disaster >>= λ names. cut_pieces plan names place server write torn
+pieces_of plan (Cut disaster place server torn writes) = slice_get plan.loses disaster >>= λ names. cut_pieces plan names place server torn writes
 pieces_of plan (Gap disaster place) = slice_get plan.loses disaster >>= λ names. gap_pieces plan names place
 
 -- all lines of the script

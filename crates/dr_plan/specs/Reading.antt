@@ -1,5 +1,5 @@
 -- How a plan is read line by line, and why a line can't stand where it stands.
-use Rattle.std.specs.Prelude.{ℕ, ◌+◌, Bool, true, false, ◌&&◌, ◌||◌, List, [], ◌∷◌, ◌++◌, length, map, nat_eq, nat_lt, Option, Some, None, Result, Ok, Err, if◌then◌else◌}
+use Rattle.std.specs.Prelude.{ℕ, ◌+◌, Bool, true, false, ◌&&◌, ◌||◌, List, [], ◌∷◌, ◌++◌, length, map, nat_eq, nat_le, nat_lt, Option, Some, None, Result, Ok, Err, if◌then◌else◌}
 use Rattle.std.specs.List.{list_any}
 use Rattle.std.specs.Option.{option_or}
 use Rattle.std.specs.Str.{bytes_eq}
@@ -13,7 +13,7 @@ use Rattle.dr_model.specs.LineWords.{paired, span_len}
 use Rattle.dr_plan.specs.declared.marks.Mark.{Mark}
 use Rattle.dr_plan.specs.declared.marks.Mark.TheVariants.{Lose, Use, AtMost, Here, Then, Refused}
 use Rattle.dr_plan.specs.declared.reason.Reason.{Reason}
-use Rattle.dr_plan.specs.declared.reason.Reason.TheVariants.{HereMayStand, ServerTwice, ManyDisasters, ManyUses, UnknownServer, UnequalRanges, UnknownVolume, OtherSize, Syntax, NoLineFollows, Missing}
+use Rattle.dr_plan.specs.declared.reason.Reason.TheVariants.{HereMayStand, ServerTwice, ManyDisasters, ManyServers, ManyUses, UnknownServer, UnequalRanges, UnknownVolume, OtherSize, Syntax, NoLineFollows, Missing}
 use Rattle.dr_plan.specs.declared.reason.Lack.TheVariants.{Lose as LackLose, Use as LackUse, Here as LackHere, Then as LackThen}
 use Rattle.dr_plan.specs.declared.stages.Stage.{Stage}
 use Rattle.dr_plan.specs.declared.stages.Stage.TheVariants.{Start, Losing, Using, Bounded, Trying, Recovering}
@@ -21,7 +21,7 @@ use Rattle.dr_plan.specs.declared.above.VolumeSize.{VolumeSize}
 use Rattle.dr_plan.specs.declared.reading.Reading.{Reading}
 use Rattle.dr_plan.specs.Above.{unless, is_among, servers_in, volumes_in, tracks_of}
 use Rattle.dr_plan.specs.Marks.{is_mark, mark_of}
-use Rattle.dr_plan.specs.Sweep.{Sweep, Use as HostUse, Tried, empty, most_disasters, most_uses}
+use Rattle.dr_plan.specs.Sweep.{Sweep, Use as HostUse, Tried, empty, most_disasters, most_servers, most_uses}
 
 -- ---- stages
 
@@ -107,11 +107,16 @@ abbrev pub kept : Stage → ℕ → List ℕ → List Step → Sweep → Sweep
 kept Trying number line steps plan = record plan { tried = plan.tried ++ tried_steps number line steps }
 kept stage number line steps plan = with_line stage line plan
 
+-- a disaster more, of few servers
+abbrev pub lost_names : List Name → List ℕ → Sweep → Result Sweep Reason
+lost_names servers line plan =
+    unless (servers_fault (servers_in plan.setup) [] servers) (record plan { loses = plan.loses ++ servers ∷ []; setup = plan.setup ++ line ∷ [] })
+
 -- a disaster more
 abbrev pub lost_too : List Name → List ℕ → Sweep → Result Sweep Reason
 lost_too servers line plan =
     if nat_lt (length plan.loses) most_disasters
-    then unless (servers_fault (servers_in plan.setup) [] servers) (record plan { loses = plan.loses ++ servers ∷ []; setup = plan.setup ++ line ∷ [] })
+    then (if nat_le (length servers) most_servers then lost_names servers line plan else Err ManyServers)
     else Err ManyDisasters
 
 -- pairs more, of ranges of equal length

@@ -4,7 +4,7 @@ use Rattle.std.specs.Fmt.{decimal}
 use Rattle.dr_ids.specs.Spelling.{hex4}
 use Rattle.dr_model.specs.LineText.{name_text}
 use Rattle.dr_plan.specs.declared.reason.Reason.{Reason}
-use Rattle.dr_plan.specs.declared.reason.Reason.TheVariants.{HereMayStand, ServerTwice, ManyDisasters, ManyUses, UnknownServer, UnequalRanges, UnknownVolume, OtherSize, Syntax, NoLineFollows, Missing}
+use Rattle.dr_plan.specs.declared.reason.Reason.TheVariants.{HereMayStand, ServerTwice, ManyDisasters, ManyServers, ManyUses, UnknownServer, UnequalRanges, UnknownVolume, OtherSize, Syntax, NoLineFollows, Missing}
 use Rattle.dr_plan.specs.declared.reason.Lack.{Lack}
 use Rattle.dr_plan.specs.declared.reason.Lack.TheVariants.{Lose, Use, Here, Then}
 use Rattle.dr_plan.specs.declared.stages.Stage.{Stage}
@@ -31,6 +31,7 @@ abbrev pub reason_words : Reason → List ℕ
 reason_words (HereMayStand stage) = codes "here may stand: "
 reason_words (ServerTwice name) = codes "server twice: "
 reason_words ManyDisasters = codes "more than 8 disasters"
+reason_words ManyServers = codes "more than 8 servers"
 reason_words ManyUses = codes "more than 8 uses"
 reason_words (UnknownServer name) = codes "unknown server "
 reason_words UnequalRanges = codes "ranges of unequal length"

@@ -34,6 +34,10 @@ pub record Sweep : Type 0 where
 abbrev pub most_disasters : ℕ
 most_disasters = 8
 
+-- the most servers of a disaster, as many as there may be
+abbrev pub most_servers : ℕ
+most_servers = 8
+
 -- the most uses of a plan
 abbrev pub most_uses : ℕ
 most_uses = 8

@@ -32,7 +32,7 @@ pub use fault::PlanFault;
 pub use names::{Disaster, is_same_name, name_bytes};
 pub use pieces::{PieceTexts, pieces_at, script_at, script_line, setup_steps};
 pub use plan::{SweepPlan, Tried, Use};
-pub use points::{PlanPlace, Point, Torn, calm_script};
+pub use points::{PlanPlace, Point, Torn, WriteCounts, calm_script, count_at};
 pub use reading::read_plan;
 pub use reason::{Lack, Reason, push_reason, push_volume};
 pub use stages::Stage;

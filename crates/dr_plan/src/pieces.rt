@@ -16,7 +16,7 @@ use crate::above::read_steps;
 use crate::lines::push_tried;
 use crate::plan::{Draft, SweepPlan, Tried};
 use crate::points::{
-    Point, Torn, front, lost_at, push_end, push_fuse, push_lines, push_others, push_stops,
+    Point, Torn, front, lost_at, push_end, push_fuses, push_lines, push_others, push_stops,
     server_at, tried_at,
 };
 use dr_ids::Text;
@@ -42,7 +42,7 @@ impl Model for PieceTexts {
 }
 
 impl PieceTexts {
-    /// The set-up, the tried steps before, and for a stop within a step the line that arms the server's fuse.
+    /// The set-up, the tried steps before, and for a stop within a step the lines that arm the servers' fuses.
     pub fn front(&self) -> &[u8]
         ensures { result.now ≡ self.now.front }
     {
@@ -71,21 +71,21 @@ fn cut_pieces(
     servers: &[Name],
     place: usize,
     server: usize,
-    write: u32,
     torn: Torn,
+    writes: &[u32],
 ) -> Result<Option<PieceTexts>, AllocError>
     requires fit { All (λ name. name_fits name ≡ true) servers.now }
     requires sweep { IsSweep plan.now }
-    ensures { IfOk result (AreCutUp (cut_pieces plan.now servers.now place server write torn)) }
+    ensures { IfOk result (AreCutUp (cut_pieces plan.now servers.now place server torn writes.now)) }
 {
-    let Some(name) = server_at(servers, server) else {
+    let Some(_) = server_at(servers, server) else {
         return Ok(None);
     };
     let Some(tried) = tried_at(plan, place) else {
         return Ok(None);
     };
     let mut front = front(alloc, plan, place)?;
-    push_fuse(alloc, &mut front, name, write, torn)?;
+    push_fuses(alloc, &mut front, servers, server, torn, writes)?;
     let strike = script_line(alloc, tried.text())?;
     let mut stops = Text::new(alloc);
     push_others(alloc, &mut stops, servers, server)?;
@@ -135,10 +135,10 @@ pub fn pieces_at(
             disaster,
             place,
             server,
-            write,
             torn,
+            writes,
         } => match lost_at(plan, disaster) {
-            Some(lost) => cut_pieces(alloc, plan, lost.servers(), place, server, write, torn),
+            Some(lost) => cut_pieces(alloc, plan, lost.servers(), place, server, torn, &writes),
             None => Ok(None),
         },
         Point::Gap { disaster, place } => match lost_at(plan, disaster) {
@@ -169,16 +169,16 @@ fn cut_script(
     servers: &[Name],
     place: usize,
     server: usize,
-    write: u32,
     torn: Torn,
+    writes: &[u32],
 ) -> Result<Option<Text>, AllocError>
     requires fit { All (λ name. name_fits name ≡ true) servers.now }
     requires sweep { IsSweep plan.now }
-    ensures text { IfOk result (λ script. script ≡ option_map text_of (cut_lines plan.now servers.now place server write torn)) }
-    ensures lines { IfOk result (λ script. option_map lines script ≡ cut_lines plan.now servers.now place server write torn) }
-    ensures steps { IfOk result (λ script. option_map tasks script ≡ cut_steps plan.now servers.now place server write torn) }
+    ensures text { IfOk result (λ script. script ≡ option_map text_of (cut_lines plan.now servers.now place server torn writes.now)) }
+    ensures lines { IfOk result (λ script. option_map lines script ≡ cut_lines plan.now servers.now place server torn writes.now) }
+    ensures steps { IfOk result (λ script. option_map tasks script ≡ cut_steps plan.now servers.now place server torn writes.now) }
 {
-    let pieces = cut_pieces(alloc, plan, servers, place, server, write, torn)?;
+    let pieces = cut_pieces(alloc, plan, servers, place, server, torn, writes)?;
     join(pieces, &plan.recovery)
 }
 
@@ -212,10 +212,10 @@ pub fn script_at(alloc: Global, plan: &SweepPlan, point: Point) -> Result<Option
             disaster,
             place,
             server,
-            write,
             torn,
+            writes,
         } => match lost_at(plan, disaster) {
-            Some(lost) => cut_script(alloc, plan, lost.servers(), place, server, write, torn),
+            Some(lost) => cut_script(alloc, plan, lost.servers(), place, server, torn, &writes),
             None => Ok(None),
         },
         Point::Gap { disaster, place } => match lost_at(plan, disaster) {

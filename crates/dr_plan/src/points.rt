@@ -4,13 +4,14 @@ ghost use Rattle.std.specs.Prelude.{◌≡◌, ◌++◌, ◌≤◌, ◌<◌, ◌
 ghost use Rattle.std.specs.List.{slice_get};
 ghost use Rattle.std.specs.Option.{option_copied};
 ghost use Rattle.std.specs.Str.Lines.{lines};
-ghost use Rattle.dr_model.specs.LineText.{name_fits};
-ghost use Rattle.dr_plan.specs.Points.{torn_word, stop_line, fuse_line, others, lines_before, calm_lines, with_end, text_of, calm_script};
+ghost use Rattle.dr_model.specs.declared.step.Step.TheVariants.{StopAfter};
+ghost use Rattle.dr_model.specs.LineText.{name_fits, step_text};
+ghost use Rattle.dr_plan.specs.Points.{count_at, torn_at, torn_word, stop_line, fuses, fuse_lines, others, lines_before, calm_lines, with_end, text_of, calm_script};
 ghost use Rattle.dr_plan.specs.Sweep.{texts};
 
 use crate::names::Disaster;
 use crate::plan::{Draft, SweepPlan, Tried};
-use dr_ids::Text;
+use dr_ids::{MOST_SERVERS, Text};
 use dr_model::{Name, Step, TornWord};
 use dr_script::print_step;
 use std::alloc::{AllocError, Global};
@@ -26,17 +27,20 @@ pub enum Torn {
     Ones,
 }
 
+/// For each server of a disaster, by its place in it, how many device writes it makes in a tried step before the disaster.
+pub type WriteCounts = [u32; MOST_SERVERS];
+
 /// A place of a plan at which a disaster comes. All places are counted from 0, those of tried steps in all that are tried.
 #[derive(Clone, Copy)]
 pub enum Point {
-    /// In a tried step: after that many device writes in it one of a server of the disaster is cut short, and after the
-    /// step the disaster's other servers are lost.
+    /// In a tried step: a device write of a server of the disaster is cut short, and the disaster's other servers are lost
+    /// at that moment.
     Cut {
         disaster: usize,
         place: usize,
         server: usize,
-        write: u32,
         torn: Torn,
+        writes: WriteCounts,
     },
     /// After that many tried steps all servers of the disaster are lost.
     Gap {
@@ -52,6 +56,27 @@ pub struct PlanPlace {
     pub line: usize,
     /// The place among the steps of the line, counted from 1; 0 where it is the whole line.
     pub part: usize,
+}
+
+/// How many device writes the server at a place makes in the step before the disaster.
+pub fn count_at(writes: &[u32], place: usize) -> u32
+    ensures { result ≡ count_at writes.now place }
+{
+    match writes.get(place) {
+        Some(count) => *count,
+        None => 0,
+    }
+}
+
+/// What a stop leaves in the block of the server at a place: only that of the server that is cut short is torn.
+fn torn_at(server: usize, torn: Torn, place: usize) -> Torn
+    ensures { result ≡ torn_at server torn place }
+{
+    if place == server {
+        torn
+    } else {
+        Torn::Unchanged
+    }
 }
 
 fn torn_word(torn: Torn) -> TornWord
@@ -106,7 +131,7 @@ pub(crate) fn push_stops(alloc: Global, text: &mut Text, servers: &[Name]) -> Re
 }
 
 /// Adds the line that arms a server's fuse.
-pub(crate) fn push_fuse(
+fn push_fuse(
     alloc: Global,
     text: &mut Text,
     server: &Name,
@@ -114,7 +139,7 @@ pub(crate) fn push_fuse(
     torn: Torn,
 ) -> Result<(), AllocError>
     requires { name_fits server.now ≡ true }
-    ensures { OnOk result (text.new ≡ text.old ++ with_end (fuse_line server.now write torn)) }
+    ensures { OnOk result (text.new ≡ text.old ++ with_end (step_text (StopAfter server.now write (torn_word torn)))) }
 {
     let fuse = Step::StopAfter {
         server: *server,
@@ -123,6 +148,31 @@ pub(crate) fn push_fuse(
     };
     let line = print_step(alloc, &fuse)?;
     push_end(text, line.bytes())
+}
+
+/// Adds the lines that arm the fuses of a disaster's servers, of which one is cut short.
+pub(crate) fn push_fuses(
+    alloc: Global,
+    text: &mut Text,
+    servers: &[Name],
+    server: usize,
+    torn: Torn,
+    writes: &[u32],
+) -> Result<(), AllocError>
+    requires { All (λ name. name_fits name ≡ true) servers.now }
+    ensures { OnOk result (text.new ≡ text.old ++ text_of (fuse_lines servers.now server torn writes.now)) }
+{
+    for place in 0..servers.len() {
+        let count = count_at(writes, place);
+        push_fuse(
+            alloc,
+            text,
+            &servers[place],
+            count,
+            torn_at(server, torn, place),
+        )?;
+    }
+    Ok(())
 }
 
 /// Adds the lines of steps that are tried.

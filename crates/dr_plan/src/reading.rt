@@ -21,6 +21,7 @@ use crate::ranges::{paired, pairs_fault, span_len};
 use crate::reason::Reason;
 use crate::stages::{Stage, announces, lacking, stage_after};
 use crate::uses::{add_pairs, has_use};
+use dr_ids::MOST_SERVERS;
 use dr_io::split_line;
 use dr_model::{Name, Span};
 use dr_script::Line;
@@ -92,6 +93,9 @@ fn lose(
 {
     if MOST_DISASTERS <= plan.loses.len() {
         return Ok(Some(Reason::ManyDisasters));
+    }
+    if MOST_SERVERS < servers.servers().len() {
+        return Ok(Some(Reason::ManyServers));
     }
     let known = servers_in(alloc, &plan.setup)?;
     if let Some(reason) = servers_fault(&known, servers.servers()) {

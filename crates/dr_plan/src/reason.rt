@@ -29,6 +29,8 @@ pub enum Reason {
     ServerTwice(Name),
     /// There are as many disasters as there may be.
     ManyDisasters,
+    /// A disaster names more servers than there may be.
+    ManyServers,
     /// There are as many uses as there may be.
     ManyUses,
     /// No line above defines this server.
@@ -113,6 +115,7 @@ fn reason_words(reason: &Reason) -> &'static [u8]
         Reason::HereMayStand(_) => b"here may stand: ",
         Reason::ServerTwice(_) => b"server twice: ",
         Reason::ManyDisasters => b"more than 8 disasters",
+        Reason::ManyServers => b"more than 8 servers",
         Reason::ManyUses => b"more than 8 uses",
         Reason::UnknownServer(_) => b"unknown server ",
         Reason::UnequalRanges => b"ranges of unequal length",
@@ -137,6 +140,7 @@ fn push_rest(alloc: Global, text: &mut Text, reason: &Reason) -> Result<(), Allo
         Reason::Syntax(column) => push_column(alloc, text, *column),
         Reason::Missing(lack) => text.append(lack_word(*lack)),
         Reason::ManyDisasters => Ok(()),
+        Reason::ManyServers => Ok(()),
         Reason::ManyUses => Ok(()),
         Reason::UnequalRanges => Ok(()),
         Reason::NoLineFollows => Ok(()),

@@ -1,12 +1,14 @@
 -- The lines that are printed of a row.
 use Rattle.std.specs.Prelude.{ℕ, ◌+◌, List, [], ◌∷◌, ◌++◌, length, nat_eq, codes, if◌then◌else◌}
 use Rattle.std.specs.Fmt.{decimal}
-use Rattle.std.specs.List.{flat_map, range_with_len, slice_get}
+use Rattle.std.specs.List.{flat_map, range_with_len, slice_get, sum}
 use Rattle.std.specs.Option.{option_map_or}
+use Rattle.dr_plan.specs.Points.{count_at}
 use Rattle.dr_plan.specs.Sweep.{Sweep}
 use Rattle.dr_plan.specs.declared.points.PlanPlace.{PlanPlace}
 use Rattle.dr_plan.specs.declared.points.Point.{Point}
 use Rattle.dr_plan.specs.declared.points.Point.TheVariants.{Cut, Gap}
+use Rattle.dr_plan.specs.declared.points.Torn.{Torn}
 use Rattle.dr_rows.specs.Outcome.{Outcome, Loss}
 use Rattle.dr_rows.specs.Cells.{listed, use_name, phase_said, group_cell, decision_cell, members_said, newest_cell, quoted, server_name, torn_cell, least_cell, broken_cell, refused_count, first_refused_cell}
 use Rattle.dr_rows.specs.Words.{step_place, gap_place}
@@ -14,7 +16,7 @@ use Rattle.dr_rows.specs.Words.{step_place, gap_place}
 -- the names of the cells
 abbrev pub heading : List ℕ
 heading =
-    codes "disaster,use,line,part,server,write,torn,phases,group,decision,members,newest,lost,lost writes,age,broken,refused,first refused line" ++ 10 ∷ []
+    codes "disaster,use,line,part,server,write,torn,place,phases,group,decision,members,newest,lost,lost writes,age,broken,refused,first refused line" ++ 10 ∷ []
 
 -- a comma and a cell
 abbrev pub cell : List ℕ → List ℕ
@@ -28,15 +30,23 @@ part_cell part = if nat_eq part 0 then codes "-" else decimal part
 abbrev pub place_cells : PlanPlace → List ℕ
 place_cells p = cell (decimal p.line) ++ cell (part_cell p.part)
 
--- the line, the part, the server, the write and what is torn; a gap has the step before it
+-- how many device writes the servers of a disaster make in a step before the one that is cut short
+abbrev pub writes_before : List ℕ → ℕ
+writes_before writes = sum writes
+
+-- the server, the write, what is torn, and how many device writes come before
+abbrev pub write_cells : Sweep → ℕ → ℕ → Torn → List ℕ → List ℕ
+write_cells plan disaster server torn writes =
+    cell (server_name plan disaster server) ++ cell (decimal (count_at writes server)) ++ cell (torn_cell torn) ++ cell (decimal (writes_before writes))
+
+-- the line and the part, with these; a gap has the step before it
 abbrev pub cut_cells : Sweep → Point → List ℕ
-cut_cells plan (Cut disaster place server write torn) =
-    place_cells (step_place plan place) ++ cell (server_name plan disaster server) ++ cell (decimal write) ++ cell (torn_cell torn)
-cut_cells plan (Gap disaster place) = place_cells (gap_place plan place) ++ codes ",gap,-,-"
+cut_cells plan (Cut disaster place server torn writes) = place_cells (step_place plan place) ++ write_cells plan disaster server torn writes
+cut_cells plan (Gap disaster place) = place_cells (gap_place plan place) ++ codes ",gap,-,-,-"
 
 -- the disaster of a point
 abbrev pub disaster_of : Point → ℕ
-disaster_of (Cut disaster place server write torn) = disaster
+disaster_of (Cut disaster place server torn writes) = disaster
 disaster_of (Gap disaster place) = disaster
 
 -- the disaster, the use at a place, and where the disaster came

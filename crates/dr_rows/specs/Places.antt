@@ -2,6 +2,7 @@
 use Rattle.std.specs.Prelude.{ℕ, Bool, ◌&&◌, ◌||◌, true, false, not, List, [], ◌∷◌, ◌++◌, length, map, fold, max, min, nat_eq, if◌then◌else◌}
 use Rattle.std.specs.List.{flat_map, list_any, range_with_len}
 use Rattle.std.specs.Str.{bytes_eq}
+use Rattle.dr_plan.specs.Points.{count_at}
 use Rattle.dr_plan.specs.Sweep.{Sweep}
 use Rattle.dr_plan.specs.declared.points.Point.{Point}
 use Rattle.dr_plan.specs.declared.points.Point.TheVariants.{Cut, Gap}
@@ -12,7 +13,7 @@ use Rattle.dr_rows.specs.Cells.{kind}
 
 -- both stop the same servers after as many tried steps and writes, whatever is torn
 abbrev pub is_beside : Point → Point → Bool
-is_beside (Cut d p s w t) (Cut d' p' s' w' t') = nat_eq d d' && nat_eq p p' && nat_eq s s' && nat_eq w w'
+is_beside (Cut d p s t w) (Cut d' p' s' t' w') = nat_eq d d' && nat_eq p p' && nat_eq s s' && nat_eq (count_at w s) (count_at w' s')
 is_beside (Gap d p) (Gap d' p') = nat_eq d d' && nat_eq p p'
 is_beside _ _ = false
 

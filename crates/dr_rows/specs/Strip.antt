@@ -41,7 +41,7 @@ signs asks which rows = map (sign_of asks which) (places rows)
 
 -- the place is in that tried step, at that server
 abbrev pub is_cut_at : ℕ → ℕ → ℕ → Point → Bool
-is_cut_at disaster place server (Cut d p s write torn) = nat_eq d disaster && nat_eq p place && nat_eq s server
+is_cut_at disaster place server (Cut d p s torn writes) = nat_eq d disaster && nat_eq p place && nat_eq s server
 is_cut_at disaster place server _ = false
 
 -- it is after that many tried steps

@@ -3,7 +3,7 @@ use Rattle.std.specs.Prelude.{ℕ, ◌+◌, ◌-◌, List, [], ◌++◌, length,
 use Rattle.std.specs.Fmt.{decimal}
 use Rattle.std.specs.List.{slice_get}
 use Rattle.std.specs.Option.{option_map_or}
-use Rattle.dr_plan.specs.Points.{tried_place}
+use Rattle.dr_plan.specs.Points.{count_at, tried_place}
 use Rattle.dr_plan.specs.Sweep.{Sweep}
 use Rattle.dr_plan.specs.declared.points.PlanPlace.{PlanPlace}
 use Rattle.dr_plan.specs.declared.points.Point.{Point}
@@ -32,6 +32,7 @@ disaster_word disaster = if nat_eq disaster 0 then [] else codes " " ++ decimal 
 
 -- the program's words that show a point: `script LINE[.PART] SERVER WRITE TORN` or `script LINE[.PART] gap`
 abbrev pub point_words : Sweep → Point → List ℕ
-point_words plan (Cut disaster place server write torn) =
-    codes "script " ++ place_name (step_place plan place) ++ codes " " ++ server_name plan disaster server ++ codes " " ++ decimal write ++ codes " " ++ torn_cell torn ++ disaster_word disaster
+point_words plan (Cut disaster place server torn writes) =
+    codes "script " ++ place_name (step_place plan place) ++ codes " " ++ server_name plan disaster server ++ codes " " ++ decimal (count_at writes server) ++ codes " " ++ torn_cell torn
+    ++ disaster_word disaster
 point_words plan (Gap disaster place) = codes "script " ++ place_name (gap_place plan place) ++ codes " gap" ++ disaster_word disaster

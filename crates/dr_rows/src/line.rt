@@ -1,25 +1,25 @@
 //! The lines that are printed of a row.
 
 ghost use Rattle.std.specs.Prelude.{◌≡◌, ◌++◌, OnOk};
-ghost use Rattle.dr_rows.specs.Line.{heading, part_cell, place_cells, cut_cells, disaster_of, point_cells, phase_cells, answer_cells, member_cells, loss_cells, refusal_cells, loss_line, use_line, row_lines};
+ghost use Rattle.dr_rows.specs.Line.{heading, part_cell, place_cells, writes_before, write_cells, cut_cells, disaster_of, point_cells, phase_cells, answer_cells, member_cells, loss_cells, refusal_cells, loss_line, use_line, row_lines};
 
 use crate::cells::{
     decision_cell, push_broken, push_first_refused, push_group_cell, push_least, push_member_list,
     push_newest, push_phase_list, push_quoted, push_use_name, refused_count, server_name,
     torn_cell,
 };
-use crate::pieces::{push_counted, push_number};
+use crate::pieces::{push_counted, push_number, push_total};
 use crate::row::{Loss, Row};
 use crate::words::{gap_place, step_place};
 use dr_ids::Text;
-use dr_plan::{PlanPlace, Point, SweepPlan};
+use dr_plan::{PlanPlace, Point, SweepPlan, Torn, count_at};
 use std::alloc::{AllocError, Global};
 
 /// The line with the names of the cells.
 pub fn heading() -> &'static [u8]
     ensures { result.now ≡ heading }
 {
-    b"disaster,use,line,part,server,write,torn,phases,group,decision,members,newest,lost,lost writes,age,broken,refused,first refused line\n"
+    b"disaster,use,line,part,server,write,torn,place,phases,group,decision,members,newest,lost,lost writes,age,broken,refused,first refused line\n"
 }
 
 /// Adds the number of a part; a dash where a line has no parts.
@@ -42,7 +42,39 @@ fn push_place(text: &mut Text, p: PlanPlace) -> Result<(), AllocError>
     push_part(text, p.part)
 }
 
-/// Adds the line, the part, the server, the write and what is torn.
+/// How many device writes the servers of a disaster make in a step before the one that is cut short.
+fn writes_before(writes: &[u32]) -> u128
+    ensures { result ≡ writes_before writes.now }
+{
+    let mut sum = 0;
+    for count in writes {
+        sum += u128::from(*count);
+    }
+    sum
+}
+
+/// Adds the server, the write, what is torn, and how many device writes come before.
+fn push_write(
+    text: &mut Text,
+    plan: &SweepPlan,
+    disaster: usize,
+    server: usize,
+    torn: Torn,
+    writes: &[u32],
+) -> Result<(), AllocError>
+    ensures { OnOk result (text.new ≡ text.old ++ write_cells plan.now disaster server torn writes.now) }
+{
+    text.append(b",")?;
+    text.append(server_name(plan, disaster, server))?;
+    text.append(b",")?;
+    push_number(text, count_at(writes, server) as usize)?;
+    text.append(b",")?;
+    text.append(torn_cell(torn))?;
+    text.append(b",")?;
+    push_total(text, writes_before(writes))
+}
+
+/// Adds the line and the part, with these; a gap has the step before it.
 fn push_cut(text: &mut Text, plan: &SweepPlan, point: Point) -> Result<(), AllocError>
     ensures { OnOk result (text.new ≡ text.old ++ cut_cells plan.now point) }
 {
@@ -51,20 +83,15 @@ fn push_cut(text: &mut Text, plan: &SweepPlan, point: Point) -> Result<(), Alloc
             disaster,
             place,
             server,
-            write,
             torn,
+            writes,
         } => {
             push_place(text, step_place(plan, place))?;
-            text.append(b",")?;
-            text.append(server_name(plan, disaster, server))?;
-            text.append(b",")?;
-            push_number(text, write as usize)?;
-            text.append(b",")?;
-            text.append(torn_cell(torn))
+            push_write(text, plan, disaster, server, torn, &writes)
         }
         Point::Gap { place, .. } => {
             push_place(text, gap_place(plan, place))?;
-            text.append(b",gap,-,-")
+            text.append(b",gap,-,-,-")
         }
     }
 }

@@ -16,12 +16,19 @@ pub(crate) fn push_number(text: &mut Text, n: usize) -> Result<(), AllocError>
     text.append(buffer.format(n).as_bytes())
 }
 
+/// Adds a sum in decimal digits.
+pub(crate) fn push_total(text: &mut Text, n: u128) -> Result<(), AllocError>
+    ensures { OnOk result (text.new ≡ text.old ++ decimal n) }
+{
+    let mut buffer = Buffer::new();
+    text.append(buffer.format(n).as_bytes())
+}
+
 /// Adds the sum of two numbers.
 pub(crate) fn push_sum(text: &mut Text, a: usize, b: usize) -> Result<(), AllocError>
     ensures { OnOk result (text.new ≡ text.old ++ decimal (a + b)) }
 {
-    let mut buffer = Buffer::new();
-    text.append(buffer.format(a as u128 + b as u128).as_bytes())
+    push_total(text, a as u128 + b as u128)
 }
 
 /// Adds a place as a number that is counted from 1.

@@ -7,7 +7,7 @@ ghost use Rattle.dr_rows.specs.Places.{is_beside, joins, places, most_lost, diff
 
 use crate::cells::kind;
 use crate::row::Row;
-use dr_plan::Point;
+use dr_plan::{Point, count_at};
 use std::alloc::{AllocError, Global};
 
 /// Both stop the same servers after as many tried steps and writes, whatever is torn.
@@ -20,21 +20,21 @@ fn is_beside(a: Point, b: Point) -> bool
                 disaster,
                 place,
                 server,
-                write,
+                writes,
                 ..
             },
             Point::Cut {
                 disaster: other_disaster,
                 place: other_place,
                 server: other_server,
-                write: other_write,
+                writes: other_writes,
                 ..
             },
         ) => {
             disaster == other_disaster
                 && place == other_place
                 && server == other_server
-                && write == other_write
+                && count_at(&writes, server) == count_at(&other_writes, other_server)
         }
         (
             Point::Gap { disaster, place },

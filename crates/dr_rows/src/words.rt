@@ -6,7 +6,7 @@ ghost use Rattle.dr_rows.specs.Words.{step_place, gap_place, part_word, place_na
 use crate::cells::{server_name, torn_cell};
 use crate::pieces::{push_counted, push_number};
 use dr_ids::Text;
-use dr_plan::{PlanPlace, Point, SweepPlan};
+use dr_plan::{PlanPlace, Point, SweepPlan, count_at};
 use std::alloc::AllocError;
 
 /// The line and part of a tried step.
@@ -75,14 +75,14 @@ pub(crate) fn push_words(text: &mut Text, plan: &SweepPlan, point: Point) -> Res
             disaster,
             place,
             server,
-            write,
             torn,
+            writes,
         } => {
             push_place_name(text, step_place(plan, place))?;
             text.append(b" ")?;
             text.append(server_name(plan, disaster, server))?;
             text.append(b" ")?;
-            push_number(text, write as usize)?;
+            push_number(text, count_at(&writes, server) as usize)?;
             text.append(b" ")?;
             text.append(torn_cell(torn))?;
             push_disaster(text, disaster)

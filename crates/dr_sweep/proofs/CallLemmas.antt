@@ -1,10 +1,7 @@
 -- How a call of the program ends, by what was read and put.
 use Rattle.std.proofs.Common.{ℕ, ◌≡◌, inl, inr, List, refl, ap, ◌∙◌, sym, subst, Bool, true, false, Option, Some, None}
-use Rattle.std.specs.Option.{option_and_then}
 use Rattle.std.specs.Str.Lines.{lines}
 use Rattle.dr_logic.specs.Counts.{Counted}
-use Rattle.dr_plan.specs.declared.points.Point.{Point}
-use Rattle.dr_plan.specs.Points.{script_of}
 use Rattle.dr_plan.specs.Sweep.{Sweep}
 use Rattle.dr_rows.specs.Calm.{Calm}
 use Rattle.dr_rows.specs.Findings.{has_finding}
@@ -14,9 +11,10 @@ use Rattle.dr_sweep.specs.declared.ending.Ending.{Ending}
 use Rattle.dr_sweep.specs.declared.ending.Ending.TheVariants.{Done, Finding, Usage, ReadFault, WriteFault, NoMemory, TooLong, BadPlan}
 use Rattle.dr_sweep.specs.declared.printing.Asked.{Asked}
 use Rattle.dr_sweep.specs.declared.printing.Asked.TheVariants.{Rows, Script}
+use Rattle.dr_sweep.specs.declared.printing.NamedPoint.{NamedPoint}
 use Rattle.dr_sweep.specs.declared.printing.View.{View}
 use Rattle.dr_sweep.specs.Ending.{is_write_fault, finding_ending}
-use Rattle.dr_sweep.specs.Calls.{IsAnswer, IsCalm, IsReply, IsScript, IsShown, Puts, EndsOn, EndsText, OfText, IsSweep, usage_line}
+use Rattle.dr_sweep.specs.Calls.{IsAnswer, IsCalm, IsReply, IsScriptOf, IsShown, Puts, EndsOn, EndsText, OfText, IsSweep, usage_line}
 use Rattle.dr_sweep.specs.Parts.{AreSwept, parts_of}
 use Rattle.dr_top.specs.Offline.{IsTaken, HasTakenSome}
 use Rattle.dr_words.specs.declared.sweep.SweepCommand.{SweepCommand}
@@ -56,14 +54,13 @@ module _ {K : Type 0} (written : K → Option (List ℕ)) (faults : K → ℕ) (
     pub reply-put : (bytes : List ℕ) → bytes ≡ reply.text → (result : Ending) → Puts written k k' faults bytes reply.ending result → EndsOn written k k' faults plan (Rows view) result
     reply-put bytes same result put = answer-put plan (Rows view) reply.text reply.ending shown-so found-so result (subst (λ text. Puts written k k' faults text reply.ending result) same put)
 
-  -- the script of a point, or none
-  module _ (plan : Sweep) (point : Option Point) where
-    pub script-put : (script : List ℕ) → Some script ≡ option_and_then (script_of plan) point → (bytes : List ℕ) → bytes ≡ script → (result : Ending) → Puts written k k' faults bytes Done result → EndsOn written k k' faults plan (Script point) result
-    script-put script is bytes same result put =
-        answer-put plan (Script point) script Done (subst (λ found. IsScript found script Done) is (refl, refl)) refl result (subst (λ text. Puts written k k' faults text Done result) same put)
+  -- the script of a point that is named, or none
+  module _ (plan : Sweep) (named : Option NamedPoint) where
+    pub script-put : (script : List ℕ) → IsScriptOf plan named (Some script) → (bytes : List ℕ) → bytes ≡ script → (result : Ending) → Puts written k k' faults bytes Done result → EndsOn written k k' faults plan (Script named) result
+    script-put script is bytes same result put = answer-put plan (Script named) script Done (Some script, is, (refl, refl)) refl result (subst (λ text. Puts written k k' faults text Done result) same put)
 
-    pub none-put : None ≡ option_and_then (script_of plan) point → (result : Ending) → Puts written k k' faults usage_line Usage result → EndsOn written k k' faults plan (Script point) result
-    none-put is result put = answer-put plan (Script point) usage_line Usage (subst (λ found. IsScript found usage_line Usage) is (refl, refl)) refl result put
+    pub none-put : IsScriptOf plan named None → (result : Ending) → Puts written k k' faults usage_line Usage result → EndsOn written k k' faults plan (Script named) result
+    none-put is result put = answer-put plan (Script named) usage_line Usage (None, is, (refl, refl)) refl result put
 
 module _ {S K : Type 0} (left : S → Option (List ℕ)) (written : K → Option (List ℕ)) (s s' : S) (k k' : K) (read_faults : S → ℕ) (write_faults : K → ℕ) (command : SweepCommand) where
   some-taken : (text : List ℕ) → IsTaken left s s' text → HasTakenSome left s s'

@@ -1,5 +1,5 @@
 -- Read first: `RunLemmas.antt`: the pieces of a script are carried out one after another; `TellLemmas.antt`: names, answers and acknowledgements,
--- event by event; `RowLemmas.antt`: rows that are added one after another.
+-- event by event; `RowLemmas.antt`: rows that are added one after another; `WithinLemmas.antt`: the device writes of a server in a step, each with its counts.
 pub mod TellLemmas
 pub mod MemberLemmas
 pub mod ReadLemmas
@@ -7,7 +7,13 @@ pub mod RunLemmas
 pub mod PointLemmas
 pub mod ComesLemmas
 pub mod PartLemmas
+pub mod CountLemmas
+pub mod FirstLemmas
+pub mod ArmLemmas
+pub mod AskedLemmas
+pub mod LaterLemmas
 pub mod RowLemmas
 pub mod WithinLemmas
+pub mod NamedLemmas
 pub mod LossLemmas
 pub mod CallLemmas

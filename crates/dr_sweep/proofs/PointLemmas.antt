@@ -12,11 +12,19 @@ use Rattle.dr_plan.specs.Sweep.{Sweep}
 use Rattle.dr_plan.specs.declared.points.Point.{Point}
 use Rattle.dr_rows.specs.declared.row.Members.{Members}
 use Rattle.dr_rows.specs.declared.row.SessionPhase.{SessionPhase}
-use Rattle.dr_sweep.specs.Comes.{RunState, seen, Ran, CarriesOn, Carries, Fails, HaltsBy, Recovers, Strikes, Settles, FailsAfter, PointTold, ComesTo, Reaches, FailsAt, is_struck, servers_at}
+use Rattle.dr_sweep.specs.Comes.{RunState, seen, Ran, CarriesOn, Carries, Fails, HaltsBy, Recovers, Approaches, Settles, FailsAfter, PointTold, ComesTo, Stops, FailsAt, first_stop, servers_at}
 use Rattle.dr_sweep.specs.Moments.{any_runs, phases_of}
+use Rattle.dr_sweep.specs.Reach.{is_own}
+use Rattle.dr_sweep.specs.declared.reach.FirstStop.{FirstStop}
+use Rattle.dr_sweep.specs.declared.reach.FirstStop.TheVariants.{Own, Other, Nobody}
 use Rattle.dr_sweep.specs.declared.fault.PointFault.{PointFault}
 use Rattle.dr_sweep.specs.declared.fault.PointFault.TheVariants.{TooLong}
-use Rattle.dr_sweep.proofs.RunLemmas.{piece-fails, reaches, runs-on, comes, halts-longer}
+use Rattle.dr_sweep.proofs.RunLemmas.{piece-fails, stops-so, runs-on, comes, halts-longer}
+
+pub own-is : (stop : FirstStop) → is_own stop ≡ true → stop ≡ Own
+own-is Own is = refl
+own-is Nobody is = absurd cc
+own-is (Other other) is = absurd cc
 
 -- ---- stops and recovery
 
@@ -57,14 +65,15 @@ module _ (plan : Sweep) (sweep : IsSweep plan) (point : Point) (p : Pieces) (are
           second-run : CarriesOn began p.front p.strike r2 first-run.further
           second-run = goes2 began p.front p.strike first-run.further first-run.ran texts.strike_is
 
-          pub reached-so : (reached : Bool) → reached ≡ is_struck plan point (length r1.events) r2.events → Reaches plan point reached
-          reached-so reached is = reaches plan sweep point p are began fresh r1 r2 first-run second-run (length r1.events) refl reached (sym is)
+          pub approaches-so : (stop : FirstStop) (phases : List SessionPhase) → stop ≡ first_stop plan point (length r1.events) r2.events → phases ≡ phases_of (seen r1).control → Approaches plan point p began r2 stop phases
+          approaches-so stop phases is phases_are = record { before = r1; first = first-run; second = second-run; stopped = sym is; are = phases_are }
 
-          pub strikes-so : (phases : List SessionPhase) → true ≡ is_struck plan point (length r1.events) r2.events → phases ≡ phases_of (seen r1).control → Strikes plan point p began r2 phases
-          strikes-so phases is phases_are = record { before = r1; first = first-run; second = second-run; struck = sym is; are = phases_are }
+    -- the first stop
+    pub stops-there : (r2 : RunState) (stop : FirstStop) (phases : List SessionPhase) → Approaches plan point p began r2 stop phases → Stops plan point stop
+    stops-there r2 stop phases s = stops-so plan sweep point p are began fresh s.before r2 s.first s.second (length s.before.events) refl stop s.stopped
 
     -- the whole
-    module _ (r2 r4 : RunState) (phases : List SessionPhase) (s : Strikes plan point p began r2 phases) where
+    module _ (r2 r4 : RunState) (stop : FirstStop) (phases : List SessionPhase) (s : Approaches plan point p began r2 stop phases) where
       pub after-ran : Ran began (p.front ++ p.strike) r2 (s.first.further ++ s.second.further)
       after-ran = s.second.ran
 
@@ -81,7 +90,7 @@ module _ (plan : Sweep) (sweep : IsSweep plan) (point : Point) (p : Pieces) (are
           omega (arith, a, b, c, size)
 
       pub comes-so : (names : List Name) → names ≡ servers_at plan point → (told : PointTold) → Settles began (p.front ++ p.strike) p.stops plan.recovery names r4 (s.first.further ++ s.second.further) told.begin told.members
-          → told.events ≡ r4.events → told.before ≡ length (lines front) + length (lines strike) + length (lines stops) → told.phases ≡ phases → ComesTo plan point told
-      comes-so names named told done events before phases_are =
-          comes plan sweep point p are began fresh s.before r2 s.first s.second (length s.before.events) refl done.at done.third r4 told done.fourth s.struck
+          → stop ≡ Own → told.events ≡ r4.events → told.before ≡ length (lines front) + length (lines strike) + length (lines stops) → told.phases ≡ phases → ComesTo plan point told
+      comes-so names named told done own events before phases_are =
+          comes plan sweep point p are began fresh s.before r2 s.first s.second (length s.before.events) refl done.at done.third r4 told done.fourth (s.stopped ∙ own)
           (ap (any_runs (seen done.at).control) (sym named) ∙ done.off) events (before ∙ line-count) done.is (phases_are ∙ s.are)

@@ -1,13 +1,9 @@
--- The rows of points, of a server's device writes and of parts, one after another.
-use Rattle.std.proofs.Common.{ℕ, ◌≡◌, ◌<◌, ◌≤◌, ◌+◌, ◌-◌, ◌^◌, ◌⊎◌, inl, inr, List, [], ◌∷◌, ◌++◌, length, get_or, refl, ap, ◌∙◌, sym, subst, arith, append_assoc, Bool, true, false, Option, Some, None}
-use Rattle.std.specs.Prelude.{is_some}
-use Rattle.std.specs.List.{cons_option}
+-- The rows of points, of a device write and of parts, one after another.
+use Rattle.std.proofs.Common.{ℕ, ◌≡◌, ◌<◌, ◌⊎◌, inl, inr, List, [], ◌∷◌, ◌++◌, length, get_or, refl, ap, ◌∙◌, sym, subst, append_assoc, Bool, true, false}
+use Rattle.std.proofs.lemmas.Bool.{cases_Bool}
 use Rattle.std.proofs.lemmas.List.{append-nil}
 use Rattle.std.proofs.lemmas.Option.{slice_get-get_or}
 use Rattle.dr_listing.proofs.TakenLemmas.{in-at}
-use Rattle.dr_lost.proofs.SetLemmas.{range-more}
-use Rattle.dr_laws_fuses.proofs.Armed.{any-torn}
-use Rattle.dr_plan.specs.Points.{lines_before}
 use Rattle.dr_plan.specs.declared.points.Point.{Point}
 use Rattle.dr_plan.specs.declared.points.Point.TheVariants.{Cut, Gap}
 use Rattle.dr_plan.specs.declared.points.Torn.{Torn}
@@ -19,8 +15,10 @@ use Rattle.dr_sweep.specs.declared.parts.Part.{Part}
 use Rattle.dr_sweep.specs.declared.parts.Part.TheVariants.{Between, Within}
 use Rattle.dr_sweep.specs.declared.fault.PointFault.{PointFault}
 use Rattle.dr_sweep.specs.declared.fault.PointFault.TheVariants.{NoMemory, TooLong}
-use Rattle.dr_sweep.specs.Comes.{PointTold, ComesTo, Reaches, FailsAt}
-use Rattle.dr_sweep.specs.Parts.{AreRowsOf, NoneFrom, AreWithin, AreRows, AreSwept, IsTriedTorn, FailsWrite, FailsIn, FailsAtPart, Tells, Gives, Adds, AddsWhereReached, AddsWrite, first_write, write_points, points_from, parts_of}
+use Rattle.dr_sweep.specs.Comes.{PointTold, ComesTo, Stops, FailsAt}
+use Rattle.dr_sweep.specs.Parts.{IsRowOf, AreRowsOf, AreRows, AreSwept, IsTriedTorn, FailsWrite, FailsIn, FailsAtPart, Adds, AddsIf, AddsWhereReached, AddsWrite, write_points, parts_of}
+use Rattle.dr_sweep.specs.Reach.{is_own}
+use Rattle.dr_sweep.specs.declared.reach.FirstStop.{FirstStop}
 use Rattle.dr_sweep.specs.Rows.{IsRow}
 
 -- rows that are such, and then rows that are such, where both together are so
@@ -58,40 +56,47 @@ module _ (plan : Sweep) where
       })
   rows-append (p ∷ ps) qs xs ys (inr (misses, others)) more = inr (misses, rows-append ps qs xs ys others more)
 
-  -- a point's row alone
-  one-row : (p : Point) (row : Outcome) → Gives plan p (Some row) → AreRowsOf plan (p ∷ []) (row ∷ [])
-  one-row p row gives = inl (record { first = row; rest = []; cut = refl; point_is = gives.1; is = gives.2; others = refl })
+  -- the row of a point of whose run this was told was added
+  pub told-adds : (p : Point) (told : PointTold) (row : Outcome) (a b : List Outcome) → ComesTo plan p told → IsRow plan p told row → b ≡ a ++ row ∷ [] → Adds (AreRowsOf plan (p ∷ [])) a b
+  told-adds p told row a b comes is cut =
+      let of : IsRowOf plan row = record { told = told; comes = subst (λ (q : Point). ComesTo plan q told) (sym is.point_is) comes; is = subst (λ (q : Point). IsRow plan q told row) (sym is.point_is) is } in
+      record { more = row ∷ []; cut = cut; are = inl (record { first = row; rest = []; cut = refl; point_is = is.point_is; is = of; others = refl }) }
 
-  -- what a point came to was added
-  pub gives-adds : (p : Point) (row : Option Outcome) (a b : List Outcome) → Gives plan p row → b ≡ a ++ cons_option row [] → AddsWhereReached plan p (p ∷ []) a b (is_some row)
-  gives-adds p (Some row) a b gives cut = (record { more = row ∷ []; cut = cut; are = one-row p row gives }, gives.0)
-  gives-adds p None a b gives cut = (cut ∙ append-nil a, gives)
+  -- so it is if its server is the first to stop, and else none was
+  pub adds-reached : (p : Point) (stop : FirstStop) (a b : List Outcome) → Stops plan p stop → is_own stop ≡ true → Adds (AreRowsOf plan (p ∷ [])) a b → AddsWhereReached plan p (p ∷ []) a b stop
+  adds-reached p stop a b stops own adds = (stops, subst (λ (own : Bool). AddsIf own (AreRowsOf plan (p ∷ [])) a b) (sym own) adds)
 
-  -- the row of a point of whose run this was told
-  pub told-gives : (p : Point) (told : PointTold) (row : Outcome) → Tells plan p (Some told) → IsRow plan p told row → Gives plan p (Some row)
-  told-gives p told row tells is = (
-    tells.0,
-    is.point_is,
-    record {
-      told = told;
-      comes = subst (λ (q : Point). ComesTo plan q told) (sym is.point_is) tells.1;
-      is = subst (λ (q : Point). IsRow plan q told row) (sym is.point_is) is;
-    },
-  )
+  pub adds-missed : (p : Point) (points : List Point) (stop : FirstStop) (a b : List Outcome) → Stops plan p stop → is_own stop ≡ false → b ≡ a → AddsWhereReached plan p points a b stop
+  adds-missed p points stop a b stops other same = (stops, subst (λ (own : Bool). AddsIf own (AreRowsOf plan points) a b) (sym other) same)
+
+  pub was-reached : (p : Point) (points : List Point) (stop : FirstStop) (a b : List Outcome) → AddsWhereReached plan p points a b stop → is_own stop ≡ true → Adds (AreRowsOf plan points) a b
+  was-reached p points stop a b adds own = subst (λ (own : Bool). AddsIf own (AreRowsOf plan points) a b) own adds.1
+
+  pub was-missed : (p : Point) (points : List Point) (stop : FirstStop) (a b : List Outcome) → AddsWhereReached plan p points a b stop → is_own stop ≡ false → b ≡ a
+  was-missed p points stop a b adds other = subst (λ (own : Bool). AddsIf own (AreRowsOf plan points) a b) other adds.1
 
   -- reached or not, its rows were
-  pub adds-either : (p : Point) (a b : List Outcome) (reached : Bool) → AddsWhereReached plan p (p ∷ []) a b reached → Adds (AreRowsOf plan (p ∷ [])) a b
-  adds-either p a b true adds = adds.0
-  adds-either p a b false none = adds-none (AreRowsOf plan (p ∷ [])) a b none.0 (inr (none.1, refl))
+  pub adds-either : (p : Point) (stop : FirstStop) (a b : List Outcome) → AddsWhereReached plan p (p ∷ []) a b stop → Adds (AreRowsOf plan (p ∷ [])) a b
+  adds-either p stop a b adds = by (cases_Bool (is_own stop))
+    where
+      by : (is_own stop ≡ true) ⊎ (is_own stop ≡ false) → Adds (AreRowsOf plan (p ∷ [])) a b
+      by (inl own) = was-reached p (p ∷ []) stop a b adds own
+      by (inr other) = adds-none (AreRowsOf plan (p ∷ [])) a b (was-missed p (p ∷ []) stop a b adds other) (inr ((stop, adds.0, other), refl))
 
   -- the rows of a device write
-  pub adds-write : (d l x w : ℕ) (p q r : Point) (a b c e : List Outcome) (first second third : Bool) → p ≡ Cut d l x w Unchanged → q ≡ Cut d l x w Zeros → r ≡ Cut d l x w Ones → first ≡ true → AddsWhereReached plan p (p ∷ []) a b first → AddsWhereReached plan q (q ∷ []) b c second → AddsWhereReached plan r (r ∷ []) c e third → AddsWrite plan d l x w a e true
-  adds-write d l x w p q r a b c e first second third is_p is_q is_r reached adds adds' adds'' =
-      let begins = subst (λ (s : Bool). AddsWhereReached plan p (p ∷ []) a b s) reached adds in
-      let two = adds-then (AreRowsOf plan (p ∷ [])) (AreRowsOf plan (q ∷ [])) (AreRowsOf plan (p ∷ q ∷ [])) a b c (rows-append (p ∷ []) (q ∷ [])) begins.0 (adds-either q b c second adds') in
-      let all = adds-then (AreRowsOf plan (p ∷ q ∷ [])) (AreRowsOf plan (r ∷ [])) (AreRowsOf plan (p ∷ q ∷ r ∷ [])) a c e (rows-append (p ∷ q ∷ []) (r ∷ [])) two (adds-either r c e third adds'') in
-      let points : p ∷ q ∷ r ∷ [] ≡ write_points d l x w = cc in
-      (subst (λ (ps : List Point). Adds (AreRowsOf plan ps) a e) points all, subst (λ (o : Point). Reaches plan o true) is_p begins.1)
+  pub adds-write : (d l x : ℕ) (ws : List ℕ) (p q r : Point) (a b c e : List Outcome) (first second third : FirstStop) → p ≡ Cut d l x Unchanged ws → q ≡ Cut d l x Zeros ws → r ≡ Cut d l x Ones ws → is_own first ≡ true
+      → AddsWhereReached plan p (p ∷ []) a b first → AddsWhereReached plan q (q ∷ []) b c second → AddsWhereReached plan r (r ∷ []) c e third → AddsWrite plan d l x ws a e first
+  adds-write d l x ws p q r a b c e first second third is_p is_q is_r own adds adds' adds'' =
+      let two = adds-then (AreRowsOf plan (p ∷ [])) (AreRowsOf plan (q ∷ [])) (AreRowsOf plan (p ∷ q ∷ [])) a b c (rows-append (p ∷ []) (q ∷ [])) (adds-either p first a b adds) (adds-either q second b c adds') in
+      let all = adds-then (AreRowsOf plan (p ∷ q ∷ [])) (AreRowsOf plan (r ∷ [])) (AreRowsOf plan (p ∷ q ∷ r ∷ [])) a c e (rows-append (p ∷ q ∷ []) (r ∷ [])) two (adds-either r third c e adds'') in
+      let points : p ∷ q ∷ r ∷ [] ≡ write_points d l x ws = cc in
+      let added : Adds (AreRowsOf plan (write_points d l x ws)) a e = subst (λ (ps : List Point). Adds (AreRowsOf plan ps) a e) points all in
+      (subst (λ (o : Point). Stops plan o first) is_p adds.0, subst (λ (own : Bool). AddsIf own (AreRowsOf plan (write_points d l x ws)) a e) (sym own) added)
+
+  -- none of them
+  pub adds-no-write : (d l x : ℕ) (ws : List ℕ) (p : Point) (a b : List Outcome) (stop : FirstStop) → p ≡ Cut d l x Unchanged ws → is_own stop ≡ false → AddsWhereReached plan p (p ∷ []) a b stop → AddsWrite plan d l x ws a b stop
+  adds-no-write d l x ws p a b stop is other adds =
+      adds-missed (Cut d l x Unchanged ws) (write_points d l x ws) stop a b (subst (λ (o : Point). Stops plan o stop) is adds.0) other (was-missed p (p ∷ []) stop a b adds other)
 
   -- the rows of parts, and those of one part more
   pub swept-more : (part : Part) (parts : List Part) (rows more : List Outcome) → AreSwept plan parts rows → AreRows plan part more → AreSwept plan (parts ++ part ∷ []) (rows ++ more)
@@ -104,74 +109,6 @@ module _ (plan : Sweep) where
     others = swept-more part parts are.rest more are.others is;
   }
 
-  module _ (disaster place server : ℕ) where
-    abbrev first : ℕ
-    first = first_write plan disaster place server
-
-    -- the rows of a server's device writes from the first one up to one
-    pub record AreUpTo (write : ℕ) (rows : List Outcome) : Type 0 where
-      pub writes : ℕ
-      pub count : write ≡ first + writes
-      pub are : AreRowsOf plan (points_from disaster place server first writes) rows
-      pub reached : (w : ℕ) → first ≤ w → w < write → Reaches plan (Cut disaster place server w Unchanged) true
-
-    none-yet : (write : ℕ) → write ≡ first → AreUpTo write []
-    none-yet write is = record { writes = 0; count = is ∙ (let same : first ≡ first + 0 = omega arith in same); are = refl; reached = λ w from below. absurd (omega (arith, is, from, below)) }
-
-    -- before the first one
-    pub begins-within : (write : ℕ) (a b : List Outcome) → write ≡ first → b ≡ a → Adds (AreUpTo write) a b
-    begins-within write a b is same = adds-none (AreUpTo write) a b same (none-yet write is)
-
-    module _ (write : ℕ) where
-      at_most : (w : ℕ) → w < write + 1 → (w < write) ⊎ (w ≡ write)
-      at_most w below = grind (arith, below)
-
-      points_more : (writes : ℕ) → write ≡ first + writes → points_from disaster place server first (writes + 1) ≡ points_from disaster place server first writes ++ write_points disaster place server write
-      points_more writes count =
-          range-more (write_points disaster place server) first writes
-          ∙ ap (λ w. points_from disaster place server first writes ++ write_points disaster place server w) (sym count)
-
-      one-more : Reaches plan (Cut disaster place server write Unchanged) true → (rows more : List Outcome) → AreUpTo write rows → AreRowsOf plan (write_points disaster place server write) more → AreUpTo (write + 1) (rows ++ more)
-      one-more reaches rows more so_far are = record {
-        writes = so_far.writes + 1;
-        count = let is = so_far.count in omega (arith, is);
-        are = subst (λ (ps : List Point). AreRowsOf plan ps (rows ++ more)) (sym (points_more so_far.writes so_far.count)) (rows-append (points_from disaster place server first so_far.writes) (write_points disaster place server write) rows more so_far.are are);
-        reached = λ w from below. elim (at_most w below) [
-          | inl earlier ↦ so_far.reached w from earlier
-          | inr same ↦ subst (λ n. Reaches plan (Cut disaster place server n Unchanged) true) (sym same) reaches
-        ];
-      }
-
-      -- one device write more
-      pub write-more : (a b c : List Outcome) → Adds (AreUpTo write) a b → AddsWrite plan disaster place server write b c true → Adds (AreUpTo (write + 1)) a c
-      write-more a b c so_far adds = adds-then (AreUpTo write) (AreRowsOf plan (write_points disaster place server write)) (AreUpTo (write + 1)) a b c (one-more adds.1) so_far adds.0
-
-      ends-here : NoneFrom plan disaster place server write → (rows : List Outcome) → AreUpTo write rows → AreWithin plan disaster place server rows
-      ends-here none rows so_far = record {
-        writes = so_far.writes;
-        are = so_far.are;
-        reached = λ w from below. so_far.reached w from (let is = so_far.count in omega (arith, is, below));
-        end = inl (subst (λ n. NoneFrom plan disaster place server n) so_far.count none);
-        torn = λ name w bytes named before rest. any-torn before rest (length (lines_before plan place) + 1) name w bytes;
-      }
-
-      -- the next one isn't reached
-      pub write-ends : (a b c : List Outcome) → (Reaches plan (Cut disaster place server write Unchanged) false → NoneFrom plan disaster place server write) → Adds (AreUpTo write) a b → AddsWrite plan disaster place server write b c false → Adds (AreWithin plan disaster place server) a c
-      write-ends a b c from so_far none = subst (λ (rows : List Outcome). Adds (AreWithin plan disaster place server) a rows) (sym none.0) (adds-as (AreUpTo write) (AreWithin plan disaster place server) a b (ends-here (from none.1)) so_far)
-
-      counted-out : write ≡ 2 ^ 32 - 1 → (rows : List Outcome) → AreUpTo write rows → AreWithin plan disaster place server rows
-      counted-out last rows so_far = record {
-        writes = so_far.writes;
-        are = so_far.are;
-        reached = λ w from below. so_far.reached w from (let is = so_far.count in omega (arith, is, below));
-        end = inr (sym so_far.count ∙ last);
-        torn = λ name w bytes named before rest. any-torn before rest (length (lines_before plan place) + 1) name w bytes;
-      }
-
-      -- no fuse counts more
-      pub writes-out : (a b : List Outcome) → Adds (AreUpTo write) a b → write ≡ 2 ^ 32 - 1 → Adds (AreWithin plan disaster place server) a b
-      writes-out a b so_far last = adds-as (AreUpTo write) (AreWithin plan disaster place server) a b (counted-out last) so_far
-
 -- ---- what fails
 
 -- the part at a place
@@ -179,24 +116,8 @@ pub part-at : (parts : List Part) (i : ℕ) (d : Part) → i < length parts → 
 part-at parts i d low = in-at parts i (get_or parts i d) (slice_get-get_or parts i d low)
 
 -- a point of a device write has none
-pub write-fails : (plan : Sweep) (d l x w : ℕ) (torn : Torn) (p : Point) (fault : PointFault) → p ≡ Cut d l x w torn → IsTriedTorn plan d l x w torn → FailsAt plan p fault → FailsWrite plan d l x w fault
-write-fails plan d l x w torn p fault is here fails = record { torn = torn; here = here; fails = subst (λ (q : Point). FailsAt plan q fault) is fails }
-
--- so one of the part has none
-pub within-fails : (plan : Sweep) (d l x w : ℕ) (fault : PointFault) (rows : List Outcome) → AreUpTo plan d l x w rows → FailsWrite plan d l x w fault → FailsIn plan (Within d l x) fault
-within-fails plan d l x w NoMemory rows so_far fails = tt
-within-fails plan d l x w TooLong rows so_far fails = record {
-  point = Cut d l x w fails.torn;
-  tried = record {
-    write = w;
-    torn = fails.torn;
-    is = refl;
-    from = (let count = so_far.count in omega (arith, count));
-    earlier = so_far.reached;
-    here = fails.here;
-  };
-  fails = fails.fails;
-}
+pub write-fails : (plan : Sweep) (d l x : ℕ) (ws : List ℕ) (torn : Torn) (p : Point) (fault : PointFault) → p ≡ Cut d l x torn ws → IsTriedTorn plan d l x ws torn → FailsAt plan p fault → FailsWrite plan d l x ws fault
+write-fails plan d l x ws torn p fault is here fails = record { torn = torn; here = here; fails = subst (λ (q : Point). FailsAt plan q fault) is fails }
 
 -- the point of a gap has none
 pub between-fails : (plan : Sweep) (d l : ℕ) (fault : PointFault) → FailsAt plan (Gap d l) fault → FailsIn plan (Between d l) fault

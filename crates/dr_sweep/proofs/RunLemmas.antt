@@ -23,8 +23,10 @@ use Rattle.dr_plan.specs.Sweep.{Sweep}
 use Rattle.dr_plan.specs.declared.points.Point.{Point}
 use Rattle.dr_plan.proofs.PieceLemmas.{text-append, pieces-script, pieces-lines}
 use Rattle.dr_rows.specs.declared.row.Members.{Members}
-use Rattle.dr_sweep.specs.Comes.{RunState, seen, Ran, CarriesOn, ArePast, Halts, HaltsBy, Recovers, PointTold, ComesTo, Reaches, IsTooLong, FailsAt, is_struck, servers_at}
+use Rattle.dr_sweep.specs.Comes.{RunState, seen, Ran, CarriesOn, ArePast, Halts, HaltsBy, Recovers, PointTold, ComesTo, Stops, IsTooLong, FailsAt, first_stop, servers_at}
 use Rattle.dr_sweep.specs.Moments.{IsOff, runs_so, any_runs, phases_of, recovered_in, members_after, AreMembers}
+use Rattle.dr_sweep.specs.declared.reach.FirstStop.{FirstStop}
+use Rattle.dr_sweep.specs.declared.reach.FirstStop.TheVariants.{Own}
 use Rattle.dr_sweep.specs.declared.fault.PointFault.{PointFault}
 use Rattle.dr_sweep.specs.declared.fault.PointFault.TheVariants.{NoMemory, TooLong}
 use Rattle.dr_top.specs.Offline.{script_limits}
@@ -285,16 +287,17 @@ module _ (plan : Sweep) (sweep : IsSweep plan) (point : Point) (p : Pieces) (are
     from-there : length (run c1.further).events ≡ from
     from-there = ap (λ (w : World). length w.events) led ∙ sym at
 
-    pub reaches : (reached : Bool) → is_struck plan point from r2.events ≡ reached → Reaches plan point reached
-    reaches reached is = record {
+    pub stops-so : (stop : FirstStop) → first_stop plan point from r2.events ≡ stop → Stops plan point stop
+    stops-so stop is = record {
       pieces = p;
       are = are;
       front = c1.further;
       strike = c2.further;
       events = r2.events;
       asks_front = asks-front;
+      asks_strike = c2.asks;
       runs = record { before = began; after = r2.plant; fresh = fresh; world = seen r2; asks = c2.ran.asks; stands = c2.ran.has.stands };
-      is = ap (λ n. is_struck plan point n r2.events) from-there ∙ is;
+      is = ap (λ n. first_stop plan point n r2.events) from-there ∙ is;
     }
 
     -- and the stops of the others
@@ -314,7 +317,7 @@ module _ (plan : Sweep) (sweep : IsSweep plan) (point : Point) (p : Pieces) (are
 
       -- and the recovery
       module _ (r4 : RunState) (told : PointTold) (c4 : Recovers began (p.front ++ p.strike ++ p.stops) plan.recovery r3 r4 (c1.further ++ c2.further ++ c3.further) told.members) where
-        pub comes : is_struck plan point from r2.events ≡ true → any_runs (seen r3).control (servers_at plan point) ≡ false → told.events ≡ r4.events → told.before ≡ length (p.front ++ p.strike ++ p.stops) → told.begin ≡ length r3.events
+        pub comes : first_stop plan point from r2.events ≡ Own → any_runs (seen r3).control (servers_at plan point) ≡ false → told.events ≡ r4.events → told.before ≡ length (p.front ++ p.strike ++ p.stops) → told.begin ≡ length r3.events
             → told.phases ≡ phases_of (seen r1).control → ComesTo plan point told
         comes struck off events before begin phases = record {
           script = whole-script;
@@ -338,7 +341,7 @@ module _ (plan : Sweep) (sweep : IsSweep plan) (point : Point) (p : Pieces) (are
           asks_front = asks-front;
           asks_strike = c2.asks;
           asks_stops = c3.asks;
-          struck = ap (λ n. is_struck plan point n (run (c1.further ++ c2.further)).events) from-there ∙ ap (λ (w : World). is_struck plan point from w.events) c2.ran.has.stands.leads ∙ struck;
+          struck = ap (λ n. first_stop plan point n (run (c1.further ++ c2.further)).events) from-there ∙ ap (λ (w : World). first_stop plan point from w.events) c2.ran.has.stands.leads ∙ struck;
           lost = all-off (run (c1.further ++ c2.further ++ c3.further)).control (servers_at plan point) (ap (λ (w : World). any_runs w.control (servers_at plan point)) led3 ∙ off);
           before = before;
           begin = begin ∙ sym (ap (λ (w : World). length w.events) led3);

@@ -1,287 +1,379 @@
--- No device write after the last one of a server in a tried step stops it there.
-use Rattle.std.proofs.Common.{ℕ, ◌≡◌, ◌<◌, ◌≤◌, ◌+◌, ◌-◌, ◌^◌, Bool, true, false, cond, ◌||◌, List, [], ◌∷◌, ◌++◌, map, length, get_or, refl, ap, ◌∙◌, sym, subst, arith, append_assoc, Option, Some, Ok, nat_eq}
-use Rattle.std.specs.Prelude.{slice_get, All}
-use Rattle.std.specs.List.{list_any, fold, range_with_len, position}
-use Rattle.std.specs.Option.{option_map_or, option_and_then}
-use Rattle.std.specs.Str.{bytes_eq}
-use Rattle.std.proofs.lemmas.List.{map-append, append_cancel_left}
-use Rattle.std.proofs.lemmas.Slice.Eq.{bytes_eq-Decides}
-use Rattle.std.proofs.lemmas.Option.{slice_get_within, get_or_from_slice_get}
-use Rattle.std.proofs.lemmas.List.Quantifiers.{position-Some}
-use Rattle.std.proofs.lemmas.Grind.{common_steps}
+-- The device writes of a server in a tried step, one after another: each has its counts, and the counts of the next one are known.
+use Rattle.std.proofs.Common.{ℕ, zero, suc, ◌≡◌, ◌≢◌, ◌<◌, ◌≤◌, ◌+◌, ◌-◌, ◌^◌, ◌⊎◌, inl, inr, Bool, true, false, cond, List, [], ◌∷◌, ◌++◌, length, get_or, map, refl, ap, ◌∙◌, sym, subst, arith, nat_eq, ◌&&◌, Option, Some, None}
+use Rattle.std.specs.Prelude.{All}
+use Rattle.std.specs.List.{range_with_len, sum}
+use Rattle.std.proofs.lemmas.Bool.{and_parts, cases_Bool, cases_eq, cases_lt}
 use Rattle.std.proofs.lemmas.Bool.Decides.{nat_tests}
-use Rattle.dr_config.proofs.Lists.{element-at}
-use Rattle.dr_logic.proofs.Lists.{cons-parts, same_bytes}
-use Rattle.dr_model.specs.declared.event.Event.{Event}
-use Rattle.dr_model.specs.declared.event.Event.TheVariants.{Stopped}
-use Rattle.dr_model.specs.declared.step.Name.{Name}
-use Rattle.dr_model.specs.declared.step.Step.{Step}
-use Rattle.dr_model.specs.declared.step.Step.TheVariants.{Start, StopAfter}
-use Rattle.dr_model.specs.declared.step.TornWord.{TornWord}
-use Rattle.dr_model.specs.declared.step.TornWord.TheVariants.{Same}
+use Rattle.std.proofs.lemmas.Grind.{common_steps, flat_map-append}
+use Rattle.std.proofs.lemmas.List.{append-nil, map-append, get_or-map}
+use Rattle.std.proofs.lemmas.List.Concat.{flat_map-cons}
+use Rattle.std.proofs.lemmas.List.FromFn.{get_or-range_with_len}
+use Rattle.std.proofs.lemmas.List.Elements.{All-nil, All-push}
 use Rattle.dr_model.specs.Control.{World}
-use Rattle.dr_model.specs.Entries.{is_at}
-use Rattle.dr_model.specs.Grammar.{line_of}
-use Rattle.dr_model.specs.LineText.{name_text, name_fits}
-use Rattle.dr_model.specs.Lines.{task, tasks_read, tasks_of, tasks_from}
-use Rattle.dr_model.specs.Listed.{as_asked}
-use Rattle.dr_model.specs.PlanParts.{server_named, name_bytes}
-use Rattle.dr_model.specs.Runs.{Task, after_task, run}
-use Rattle.dr_model.specs.Text.{Heard, heard, untold as untold_yet, told_name}
-use Rattle.dr_script.proofs.StepLemmas.{reads}
-use Rattle.dr_laws_sound.specs.Stops.{stop_in}
-use Rattle.dr_laws_sound.proofs.Journal.{run-more, after_task-grows}
-use Rattle.dr_laws_fuses.specs.Laws.{told_since, tells_stop}
-use Rattle.dr_laws_fuses.proofs.Armed.{step-later, arm-same, arm-servers}
-use Rattle.dr_laws_fuses.proofs.Later.{told-since}
-use Rattle.dr_laws_fuses.proofs.Names.{name-told}
-use Rattle.dr_plan.specs.Parts.{IsSweep, IsOneStep}
-use Rattle.dr_plan.specs.Pieces.{Pieces, pieces_of}
-use Rattle.dr_plan.specs.Points.{lines_before, fuse_line, stop_line, others}
-use Rattle.dr_plan.specs.Sweep.{Sweep, Tried}
+use Rattle.dr_model.specs.Runs.{run}
+use Rattle.dr_plan.specs.declared.points.Point.{Point}
 use Rattle.dr_plan.specs.declared.points.Point.TheVariants.{Cut}
+use Rattle.dr_plan.specs.declared.points.Torn.{Torn}
 use Rattle.dr_plan.specs.declared.points.Torn.TheVariants.{Unchanged}
+use Rattle.dr_plan.specs.Parts.{IsSweep}
+use Rattle.dr_plan.specs.Points.{count_at}
+use Rattle.dr_plan.specs.Sweep.{Sweep}
+use Rattle.dr_rows.specs.Outcome.{Outcome}
+use Rattle.dr_sweep.specs.declared.fault.PointFault.{PointFault}
+use Rattle.dr_sweep.specs.declared.fault.PointFault.TheVariants.{NoMemory, TooLong}
 use Rattle.dr_sweep.specs.declared.parts.Part.TheVariants.{Within}
-use Rattle.dr_plan.proofs.StepLemmas.{name_at as name_at_fits}
-use Rattle.dr_plan.proofs.StopLemmas.{fuse-written}
-use Rattle.dr_sweep.specs.Comes.{Reaches, is_struck, name_at, servers_lost}
-use Rattle.dr_sweep.specs.Parts.{IsOf, first_write, first_in, first_by, arms_before, PassesBy, NoneFrom}
-use Rattle.dr_sweep.specs.Reach.{stops_named, stops_at, stops_since}
-use Rattle.dr_sweep.proofs.RunLemmas.{steps-append}
+use Rattle.dr_sweep.specs.declared.reach.FirstStop.{FirstStop}
+use Rattle.dr_sweep.specs.declared.reach.FirstStop.TheVariants.{Own, Other, Nobody}
+use Rattle.dr_sweep.specs.Comes.{Stops, first_stop, servers_at, servers_lost}
+use Rattle.dr_sweep.specs.Counts.{first_write, with_count, one_more, first_counts, switches, raised}
+use Rattle.dr_sweep.specs.Parts.{AreRowsOf, AreWithin, AtOnce, AreLeast, TellsFirst, IsLast, FindsCounts, FailsWrite, FailsIn, Adds, AddsIf, AddsWrite, write_points, points_of}
+use Rattle.dr_sweep.specs.Reach.{is_own}
+use Rattle.dr_sweep.proofs.CountLemmas.{counted-within, count-within-sum, with-few, with-more, with-most, more-same, more-other, more-length, more-sum, more-back, with-same, raised-later, first-same, first-other, first-sum, first-length}
+use Rattle.dr_sweep.proofs.FirstLemmas.{other-apart, other-within}
+use Rattle.dr_laws_fuses.proofs.Armed.{any-torn}
+use Rattle.dr_sweep.proofs.LaterLemmas.{later-first, later-none}
+use Rattle.dr_sweep.proofs.PointLemmas.{own-is}
+use Rattle.dr_sweep.proofs.RowLemmas.{adds-then, adds-as, adds-none, rows-append, was-missed}
 
--- ---- lists
+-- what a run tells is so of the steps that it carried out
+pub tells-so : (plan : Sweep) (point : Point) (stop : FirstStop) → Stops plan point stop → TellsFirst plan point stop
+tells-so plan point stop s = record {
+  pieces = s.pieces;
+  are = s.are;
+  front = s.front;
+  strike = s.strike;
+  asks_front = s.asks_front;
+  asks_strike = s.asks_strike;
+  lists = s.runs.stands.lists;
+  is = ap (λ (w : World). first_stop plan point (length (run s.front).events) w.events) s.runs.stands.leads ∙ ap (first_stop plan point (length (run s.front).events)) (sym s.runs.stands.journal) ∙ s.is;
+}
 
-seam : {X : Type 0} → (front : List X) (e : X) (es : List X) → slice_get (front ++ e ∷ es) (length front) ≡ Some e
-seam [] e es = refl
-seam (x ∷ front) e es = seam front e es
+module _ (plan : Sweep) (disaster place server : ℕ) where
+  abbrev first : ℕ
+  first = first_write plan disaster place server
 
--- the elements from a place on, one by one
-places : {X : Type 0} → (p : X → Bool) (front es : List X) → list_any (λ i. option_map_or p (slice_get (front ++ es) i) false) (range_with_len (length front) (length es)) ≡ list_any p es
-places p front [] = refl
-places p front (e ∷ es) =
-    let more : length (front ++ e ∷ []) ≡ length front + 1 = grind (arith, common_steps) in
-    let same : (front ++ e ∷ []) ++ es ≡ front ++ e ∷ es = append_assoc front (e ∷ []) es in
-    ap (λ o. option_map_or p o false || list_any (λ i. option_map_or p (slice_get (front ++ e ∷ es) i) false) (range_with_len (length front + 1) (length es))) (seam front e es)
-    ∙ ap (λ b. p e || b) (ap (λ xs. list_any (λ i. option_map_or p (slice_get xs i) false) (range_with_len (length front + 1) (length es))) (sym same)
-    ∙ ap (λ n. list_any (λ i. option_map_or p (slice_get ((front ++ e ∷ []) ++ es) i) false) (range_with_len n (length es))) (sym more) ∙ places p (front ++ e ∷ []) es)
+  -- these are the counts of the device writes before the one whose counts come next; they are so many in all
+  pub record UpTo (counts : List (List ℕ)) (writes : List ℕ) (total : ℕ) : Type 0 where
+    pub numbers : map (λ ws. count_at ws server) counts ≡ range_with_len first (length counts)
+    pub at_once : All (AtOnce plan disaster place server) counts
+    pub next : count_at writes server ≡ first + length counts
+    pub least : AreLeast plan disaster place server writes
+    pub all : sum writes ≡ total
+    pub size : length writes ≡ 8
+    pub alone : switches plan place ≡ true → (other : ℕ) → other ≢ server → count_at writes other ≡ 0
 
--- a mapped list that ends with an element
-record EndsWith {X Y : Type 0} (f : X → Y) (xs : List X) (ys : List Y) (y : Y) : Type 0 where
-  before : List X
-  last : X
-  cut : xs ≡ before ++ last ∷ []
-  are : map f before ≡ ys
-  is : f last ≡ y
-
-map-last : {X Y : Type 0} → (f : X → Y) (xs : List X) (ys : List Y) (y : Y) → map f xs ≡ ys ++ y ∷ [] → EndsWith f xs ys y
-map-last f [] [] y e = absurd cc
-map-last f [] (z ∷ ys) y e = absurd cc
-map-last {X = X} f (x ∷ xs) [] y e = by xs (cons-parts e).1
-  where
-    by : (xs : List X) → map f xs ≡ [] → EndsWith f (x ∷ xs) [] y
-    by [] none = record { before = []; last = x; cut = refl; are = refl; is = (cons-parts e).0 }
-    by (z ∷ zs) none = absurd cc
-map-last f (x ∷ xs) (z ∷ ys) y e =
-    let rest : EndsWith f xs ys y = map-last f xs ys y (cons-parts e).1 in
-    record { before = x ∷ rest.before; last = rest.last; cut = ap (λ zs. x ∷ zs) rest.cut; are = ap (λ w. w ∷ map f rest.before) (cons-parts e).0 ∙ ap (λ zs. z ∷ zs) rest.are; is = rest.is }
-
--- a mapped list of one element
-map-one : {X Y : Type 0} → (f : X → Y) (xs : List X) (y : Y) → map f xs ≡ y ∷ [] → (x : X) × (xs ≡ x ∷ []) × (f x ≡ y)
-map-one f [] y e = absurd cc
-map-one f (x ∷ []) y e = (x, refl, (cons-parts e).0)
-map-one f (x ∷ z ∷ xs) y e = absurd (let never = (cons-parts e).1 in cc)
-
--- ---- what is told of a server's stop
-
--- no stop of a server of that name is told, and so none of the server
-untold : (told : Heard) (name : List ℕ) (s : ℕ) (es : List Event) → told_name told s ≡ name → list_any (stops_named told name) es ≡ false → tells_stop s es ≡ false
-untold told name s [] is none = refl
-untold told name s (e ∷ es) is none = by e (untold told name s es is) none
-  where
-    here : (n : ℕ) → stops_named told name (Stopped s n) ≡ true
-    here n = ap (λ bs. bytes_eq bs name) is ∙ (bytes_eq-Decides name name).1 refl
-
-    stopped : (q n : ℕ) (b : Bool) → nat_eq q s ≡ b → (stops_named told name (Stopped q n) || list_any (stops_named told name) es) ≡ false → (list_any (stops_named told name) es ≡ false → tells_stop s es ≡ false) → (b || tells_stop s es) ≡ false
-    stopped q n true at none rest =
-        let e : q ≡ s = grind (arith, nat_tests) in
-        let first : (true || list_any (stops_named told name) es) ≡ false = ap (λ b. b || list_any (stops_named told name) es) (sym (here n)) ∙ ap (λ q. stops_named told name (Stopped q n) || list_any (stops_named told name) es) (sym e) ∙ none in
-        absurd cc
-    stopped q n false at none rest = rest (after (stops_named told name (Stopped q n)) none)
-      where
-        after : (b : Bool) → (b || list_any (stops_named told name) es) ≡ false → list_any (stops_named told name) es ≡ false
-        after true none = absurd cc
-        after false none = none
-
-    by : (e : Event) → (list_any (stops_named told name) es ≡ false → tells_stop s es ≡ false) → (stops_named told name e || list_any (stops_named told name) es) ≡ false → (is_at (stop_in e) s || tells_stop s es) ≡ false
-    by (Stopped q n) rest none = stopped q n (nat_eq q s) refl none rest
-    by e rest none = rest none
-
--- the stops of a name from a place on, by what was told there
-since : (name : List ℕ) (front es events : List Event) → events ≡ front ++ es → stops_since name (length front) events ≡ list_any (stops_named (fold heard untold_yet events) name) es
-since name front es events is =
-    let told : Heard = fold heard untold_yet events in
-    let size : length (front ++ es) - length front ≡ length es = (let both : length (front ++ es) ≡ length front + length es = grind (arith, common_steps) in omega arith) in
-    ap (λ xs. list_any (stops_at told name xs) (range_with_len (length front) (length xs - length front))) is
-    ∙ ap (λ n. list_any (stops_at told name (front ++ es)) (range_with_len (length front) n)) size
-    ∙ places (stops_named told name) front es
-
--- ---- steps of a run
-
--- a line that arms a fuse comes to the same, whatever is listed
-arms-listed : (w : World) (t : Task) (n : ℕ) (name : Name) (k : ℕ) (torn : TornWord) → as_asked t ≡ task n (Ok (StopAfter name k torn)) → after_task w t ≡ after_task w (task n (Ok (StopAfter name k torn)))
-arms-listed w t n name k torn is =
-    ap (λ m. after_task w (record { line = m; asked = t.asked; listed = t.listed })) (ap (λ (t : Task). t.line) is) ∙ ap (λ a. after_task w (record { line = n; asked = a; listed = t.listed })) (ap (λ (t : Task). t.asked) is)
-
-two-more : (before : List Task) (t u : Task) → run (before ++ t ∷ u ∷ []) ≡ after_task (after_task (run before) t) u
-two-more before t u = ap run (sym (append_assoc before (t ∷ []) (u ∷ []))) ∙ run-more (before ++ t ∷ []) u ∙ ap (λ w. after_task w u) (run-more before t)
-
--- the names of servers, and the same server by two of them
-same-name : (servers : List (List ℕ)) (a b : List ℕ) (s : ℕ) → position (bytes_eq a) servers ≡ Some s → position (bytes_eq b) servers ≡ Some s → bytes_eq a b ≡ true
-same-name servers a b s one other =
-    let first = position-Some (bytes_eq a) servers s [] one in
-    let second = position-Some (bytes_eq b) servers s [] other in
-    ap (bytes_eq a) (same_bytes b (get_or servers s []) second.1) ∙ first.1
-
--- the pieces of a device write's script
-pieces-made : (plan : Sweep) (d l x write : ℕ) (names : List Name) (name : Name) (tried : Tried) → slice_get plan.loses d ≡ Some names → slice_get names x ≡ Some name → slice_get plan.tried l ≡ Some tried
-    → pieces_of plan (Cut d l x write Unchanged) ≡ Some (record { front = lines_before plan l ++ fuse_line name write Unchanged ∷ []; strike = tried.text ∷ []; stops = map stop_line (others x names) })
-unfolding pieces_of
-pieces-made plan d l x write names name tried lost server line = rw (lost, server, line) refl
-
-module _ (plan : Sweep) (sweep : IsSweep plan) (d l x write : ℕ) (low : write < 2 ^ 32) (is : IsOf plan (Within d l x)) (from : first_write plan d l x ≤ write) (misses : Reaches plan (Cut d l x write Unchanged) false) where
-  abbrev L : List (List ℕ)
-  L = lines_before plan l
-
-  -- a run of the lines before, the line that arms the fuse, and the step, which didn't stop the server
-  record Passed : Type 0 where
-    name : Name
-    named : name_at plan d x ≡ Some name
-    tried : Tried
-    there : slice_get plan.tried l ≡ Some tried
-    before : List Task
-    step : Task
-    asks_before : map as_asked before ≡ tasks_from 1 L
-    asks_step : as_asked step ∷ [] ≡ tasks_of (length L + 2) tried.text
-    asked : Step
-    one : line_of tried.text ≡ Ok (asked ∷ [])
-    untold : let w : World = after_task (run before) (arms_before plan l name write Same) in stops_since (name_text name) (length w.events) (after_task w step).events ≡ false
-
-  passed : Passed
-  passed =
-      let lost = element-at plan.loses d is.0 in
-      let names : List Name = lost.0 in
-      let count : servers_lost plan d ≡ length names = ap (λ (names : Option (List Name)). option_map_or length names 0) lost.1 in
-      let server = element-at names x (let lt = is.2 in omega (arith, lt, count)) in
-      let name : Name = server.0 in
-      let line = element-at plan.tried l is.1 in
-      let tried : Tried = line.0 in
-      let fits : name_fits name ≡ true = name_at_fits names x name (fit_at d names lost.1) server.1 in
-      let F : List ℕ = fuse_line name write Unchanged in
-      let arms : Task = arms_before plan l name write Same in
-      let one = one_at l tried line.1 in
-      let made : pieces_of plan (Cut d l x write Unchanged) ≡ Some (record { front = L ++ F ∷ []; strike = tried.text ∷ []; stops = map stop_line (others x names) }) = pieces-made plan d l x write names name tried lost.1 server.1 line.1 in
-      let pieces : misses.pieces ≡ record { front = L ++ F ∷ []; strike = tried.text ∷ []; stops = map stop_line (others x names) } = (let both = sym misses.are ∙ made in cc) in
-      let front_is : misses.pieces.front ≡ L ++ F ∷ [] = ap (λ (p : Pieces). p.front) pieces in
-      let strike_is : misses.pieces.strike ≡ tried.text ∷ [] = ap (λ (p : Pieces). p.strike) pieces in
-      let fuse_read : tasks_from (length L + 1) (F ∷ []) ≡ arms ∷ [] = ap (λ r. tasks_read (length L + 1) r ++ []) (reads (StopAfter name write Same) (fuse-written name write Unchanged fits low)) in
-      let front_asks : map as_asked misses.front ≡ tasks_from 1 L ++ arms ∷ [] = misses.asks_front ∙ ap (tasks_from 1) front_is ∙ steps-append L (F ∷ []) ∙ ap (λ ts. tasks_from 1 L ++ ts) fuse_read in
-      let E : EndsWith as_asked misses.front (tasks_from 1 L) arms = map-last as_asked misses.front (tasks_from 1 L) arms front_asks in
-      let size : length (L ++ F ∷ []) + 1 ≡ length L + 2 = grind (arith, common_steps) in
-      let step_read : tasks_from (length (L ++ F ∷ []) + 1) (tried.text ∷ []) ≡ task (length L + 2) (Ok one.0) ∷ [] = ap (λ n. tasks_of n tried.text ++ []) size ∙ ap (λ r. tasks_read (length L + 2) r ++ []) one.1 in
-      let both_asks : map as_asked misses.front ++ map as_asked misses.strike ≡ map as_asked misses.front ++ task (length L + 2) (Ok one.0) ∷ [] =
-      sym (map-append as_asked misses.front misses.strike) ∙ misses.runs.asks ∙ steps-append misses.pieces.front misses.pieces.strike
-      ∙ ap (λ ts. ts ++ tasks_from (length misses.pieces.front + 1) misses.pieces.strike) (sym misses.asks_front)
-      ∙ ap (λ (p : Pieces). map as_asked misses.front ++ tasks_from (length p.front + 1) p.strike) pieces ∙ ap (λ ts. map as_asked misses.front ++ ts) step_read in
-      let S = map-one as_asked misses.strike (task (length L + 2) (Ok one.0)) (append_cancel_left (map as_asked misses.front) (map as_asked misses.strike) (task (length L + 2) (Ok one.0) ∷ []) both_asks) in
-      let w0 : World = run E.before in
-      let w : World = after_task w0 arms in
-      let front_run : run misses.front ≡ w = ap run E.cut ∙ run-more E.before E.last ∙ arms-listed w0 E.last (length L + 1) name write Same E.is in
-      let all_run : run (misses.front ++ misses.strike) ≡ after_task w S.0 = ap (λ ts. run (misses.front ++ ts)) S.1 ∙ run-more misses.front S.0 ∙ ap (λ v. after_task v S.0) front_run in
-      let events : misses.events ≡ (after_task w S.0).events = misses.runs.stands.journal ∙ ap (λ (v : World). v.events) (sym misses.runs.stands.leads ∙ all_run) in
-      let named : name_at plan d x ≡ Some name = ap (λ o. option_and_then (λ names. slice_get names x) o) lost.1 ∙ server.1 in
-      record {
-        name = name;
-        named = named;
-        tried = tried;
-        there = line.1;
-        before = E.before;
-        step = S.0;
-        asks_before = E.are;
-        asks_step = ap (λ t. t ∷ []) S.2 ∙ sym (ap (tasks_read (length L + 2)) one.1);
-        asked = one.0;
-        one = one.1;
-        untold =
-            ap (λ o. option_map_or (λ name. stops_since (name_text name) (length w.events) (after_task w S.0).events) o false) (sym named)
-            ∙ ap (λ es. option_map_or (λ name. stops_since (name_text name) (length w.events) es) (name_at plan d x) false) (sym events)
-            ∙ ap (λ (v : World). is_struck plan (Cut d l x write Unchanged) (length v.events) misses.events) (sym front_run) ∙ misses.is;
-      }
-    where
-      fit_at : (d : ℕ) (names : List Name) → slice_get plan.loses d ≡ Some names → All (λ name. name_fits name ≡ true) names
-      fit_at d names h = subst (λ (names : List Name). All (λ name. name_fits name ≡ true) names) (get_or_from_slice_get plan.loses d names names h) (sweep.fit d names (slice_get_within plan.loses d names h))
-
-      one_at : (l : ℕ) (t : Tried) → slice_get plan.tried l ≡ Some t → (step : Step) × (line_of t.text ≡ Ok (step ∷ []))
-      one_at l t h = subst (λ (t : Tried). IsOneStep t.text) (get_or_from_slice_get plan.tried l t t h) (sweep.one l t (slice_get_within plan.tried l t h))
-
-  -- nor does any further one
-  pub none-from : NoneFrom plan d l x write
-  none-from = record {
-    name = passed.name;
-    is = passed.named;
-    tried = passed.tried;
-    tried_is = passed.there;
-    before = passed.before;
-    step = passed.step;
-    asks_before = passed.asks_before;
-    asks_step = passed.asks_step;
-    none = none;
+  -- before the first one
+  pub begins-up : (writes : List ℕ) (write total : ℕ) → server < 8 → write ≡ first → writes ≡ first_counts server write → total ≡ write → UpTo [] writes total
+  begins-up writes write total low is are same = record {
+    numbers = refl;
+    at_once = All-nil (AtOnce plan disaster place server);
+    next = ap (λ ws. count_at ws server) are ∙ first-same server write low ∙ is ∙ (let none : first ≡ first + 0 = omega arith in none);
+    least = λ other n apart some. absurd (let none = ap (λ ws. count_at ws other) are ∙ first-other server write other apart in omega (arith, none, some));
+    all = ap sum are ∙ first-sum server write low ∙ sym same;
+    size = ap length are ∙ first-length server write;
+    alone = λ itself other apart. ap (λ ws. count_at ws other) are ∙ first-other server write other apart;
   }
+
+  -- ---- one raise
+
+  numbers_more : (a n : ℕ) → range_with_len a (n + 1) ≡ range_with_len a n ++ (a + n) ∷ []
+  numbers_more a zero = ap (λ k. k ∷ []) (let none : a ≡ a + 0 = omega arith in none)
+  numbers_more a (suc n) =
+      ap (range_with_len a) (let e : suc n + 1 ≡ suc (n + 1) = omega arith in e)
+      ∙ ap (λ ns. a ∷ ns) (numbers_more (a + 1) n ∙ ap (λ k. range_with_len (a + 1) n ++ k ∷ []) (let e : a + 1 + n ≡ a + suc n = omega arith in e))
+
+  module _ (sweep : IsSweep plan) (counts : List (List ℕ)) (writes : List ℕ) (total : ℕ) (up : UpTo counts writes total) (room : total < 2 ^ 32 - 1) where
+    summed : (next : ℕ) → next < 8 → sum (one_more next writes) ≡ total + 1
+    summed next low = let size = up.size in let all = up.all in let more = more-sum writes next (omega (arith, size, low)) in omega (arith, all, more)
+
+    -- the others' counts are still the least if one is raised
+    still_least : (next : ℕ) → next < 8 → (other n : ℕ) → other ≢ server → other ≢ next → count_at (one_more next writes) other ≡ n + 1 → TellsFirst plan (Cut disaster place server Unchanged (with_count other n (one_more next writes))) (Other other)
+    still_least next low other n apart away some = by (cases_Bool (switches plan place))
+      where
+        before : count_at writes other ≡ n + 1
+        before = sym (more-other writes next other away) ∙ some
+
+        by : (switches plan place ≡ true) ⊎ (switches plan place ≡ false) → TellsFirst plan (Cut disaster place server Unchanged (with_count other n (one_more next writes))) (Other other)
+        by (inl itself) = absurd (let none = up.alone itself other apart in let some = before in omega (arith, none, some))
+        by (inr moves) =
+            let lt = counted-within writes other n before in
+            let size = up.size in
+            let within : next < length writes = omega (arith, size, low) in
+            let longer = more-length writes next in
+            let all = summed next low in
+            later-first plan sweep disaster place server other (with_count other n writes) (with_count other n (one_more next writes)) apart
+            (with-same writes other n lt ∙ sym (with-same (one_more next writes) other n (omega (arith, longer, lt))))
+            (raised-later writes next other n away lt within)
+            (λ z. let most = with-few (one_more next writes) other n (2 ^ 32 - 1) (omega (arith, longer, lt)) (omega (arith, some)) (omega (arith, all, room)) z in omega (arith, most))
+            moves (up.least other n apart before)
+
+    own_least : server < 8 → AreLeast plan disaster place server (one_more server writes)
+    own_least low other n apart some = still_least server low other n apart apart some
+
+    other_least : (next : ℕ) → next < 8 → Stops plan (Cut disaster place server Unchanged writes) (Other next) → AreLeast plan disaster place server (one_more next writes)
+    other_least next low stops other n apart some = by (cases_eq other next)
+      where
+        by : (other ≡ next) ⊎ (other ≢ next) → TellsFirst plan (Cut disaster place server Unchanged (with_count other n (one_more next writes))) (Other other)
+        by (inr away) = still_least next low other n apart away some
+        by (inl is) =
+            let size = up.size in
+            let within : next < length writes = omega (arith, size, low) in
+            let back : with_count next n (one_more next writes) ≡ writes = more-back writes next n within (sym (ap (count_at (one_more next writes)) is) ∙ some) in
+            subst (λ (o : ℕ). TellsFirst plan (Cut disaster place server Unchanged (with_count o n (one_more next writes))) (Other o)) (sym is)
+            (subst (λ (ws : List ℕ). TellsFirst plan (Cut disaster place server Unchanged ws) (Other next)) (sym back) (tells-so plan (Cut disaster place server Unchanged writes) (Other next) stops))
+
+    sized : (next : ℕ) → length (one_more next writes) ≡ 8
+    sized next = more-length writes next ∙ up.size
+
+    longer : length (counts ++ writes ∷ []) ≡ length counts + 1
+    longer = grind (arith, common_steps)
+
+    -- the device write whose counts these are is the next one
+    pub own-up : server < 8 → Stops plan (Cut disaster place server Unchanged writes) Own → UpTo (counts ++ writes ∷ []) (one_more server writes) (total + 1)
+    own-up low stops = record {
+      numbers =
+          map-append (λ ws. count_at ws server) counts (writes ∷ [])
+          ∙ ap (λ ns. ns ++ count_at writes server ∷ []) up.numbers
+          ∙ ap (λ n. range_with_len first (length counts) ++ n ∷ []) up.next
+          ∙ sym (ap (range_with_len first) longer ∙ numbers_more first (length counts));
+      at_once = All-push (AtOnce plan disaster place server) counts writes up.at_once (record { first = stops; least = up.least });
+      next = (let size = up.size in let within : server < length writes = omega (arith, size, low) in let more = more-same writes server within in let is = up.next in let count = longer in omega (arith, more, is, count));
+      least = own_least low;
+      all = summed server low;
+      size = sized server;
+      alone = λ itself other apart. more-other writes server other apart ∙ up.alone itself other apart;
+    }
+
+    -- another server's count is one too few
+    pub other-up : (next : ℕ) → next < 8 → next ≢ server → switches plan place ≡ false → Stops plan (Cut disaster place server Unchanged writes) (Other next) → UpTo counts (one_more next writes) (total + 1)
+    other-up next low apart moves stops = record {
+      numbers = up.numbers;
+      at_once = up.at_once;
+      next = more-other writes next server (λ e. apart (sym e)) ∙ up.next;
+      least = other_least next low stops;
+      all = summed next low;
+      size = sized next;
+      alone = λ itself other far. absurd (let no : true ≡ false = sym itself ∙ moves in cc);
+    }
+
+  -- ---- what comes of a stop
+
+  module _ (counts : List (List ℕ)) (writes : List ℕ) (total : ℕ) (up : UpTo counts writes total) where
+    -- none is too few, and these are those of the last one
+    module _ (sweep : IsSweep plan) (low : server < 8) (room : total ≤ 2 ^ 32 - 1) where
+      beyond : (stop : FirstStop) → Stops plan (Cut disaster place server Unchanged writes) stop → raised plan place server stop ≡ None → switches plan place ≡ false → (later : ℕ) (torn : Torn) → count_at writes server ≤ later → later < 2 ^ 32
+          → TellsFirst plan (Cut disaster place server torn (with_count server later writes)) Nobody
+      beyond Own stops none moves later torn more few = absurd cc
+      beyond (Other other) stops none moves later torn more few = absurd (let some : Some other ≡ None = sym (ap (λ b. cond b None (Some other)) moves) ∙ none in cc)
+      beyond Nobody stops none moves later torn more few =
+          let size = up.size in
+          let within : server < length writes = omega (arith, size, low) in
+          let all = up.all in
+          later-none plan sweep disaster place server torn writes (with_count server later writes) (with-more writes server later within more)
+          (λ z. let most = with-most writes server later (2 ^ 32 - 1) within (omega (arith, few)) (omega (arith, all, room)) z in omega (arith, most)) moves
+          (tells-so plan (Cut disaster place server Unchanged writes) Nobody stops)
+
+      pub last-so : (stop : FirstStop) → Stops plan (Cut disaster place server Unchanged writes) stop → raised plan place server stop ≡ None → IsLast plan disaster place server writes
+      last-so stop stops none = record { least = up.least; end = inl (record { stop = stop; here = stops; none = none; beyond = beyond stop stops none }) }
+
+    pub last-out : total ≡ 2 ^ 32 - 1 → IsLast plan disaster place server writes
+    last-out out = record { least = up.least; end = inr (up.all ∙ out) }
+
+  -- by what is raised, whose stop it is
+  pub data Raises (next : ℕ) : FirstStop → Type 0 where
+    ByOwn : next ≡ server → Raises next Own
+    ByOther : {other : ℕ} → next ≡ other → switches plan place ≡ false → Raises next (Other other)
+
+  pub raises : (next : ℕ) (stop : FirstStop) → Some next ≡ raised plan place server stop → Raises next stop
+  raises next Own is = let same : next ≡ server = cc in ByOwn same
+  raises next Nobody is = absurd cc
+  raises next (Other other) is = by (switches plan place) refl is
     where
-      P : Passed
-      P = passed
+      by : (b : Bool) → switches plan place ≡ b → Some next ≡ cond b None (Some other) → Raises next (Other other)
+      by true itself h = absurd cc
+      by false moves h = let same : next ≡ other = cc in ByOther same moves
 
-      w0 : World
-      w0 = run passed.before
+  module _ (sweep : IsSweep plan) (few : servers_lost plan disaster ≤ 8) (low : server < 8) (lost : (writes : List ℕ) → length (servers_at plan (Cut disaster place server Unchanged writes)) ≡ servers_lost plan disaster) where
+    other_low : (writes : List ℕ) (other : ℕ) → Stops plan (Cut disaster place server Unchanged writes) (Other other) → other < 8
+    other_low writes other s = let here = other-within plan disaster place server Unchanged writes (length (run s.front).events) s.events other s.is in let count = lost writes in omega (arith, here, count, few)
 
-      one : World
-      one = after_task (run passed.before) (arms_before plan l passed.name write Same)
+    -- the server whose count is raised has one
+    pub next-low : (writes : List ℕ) (stop : FirstStop) (next : ℕ) → Stops plan (Cut disaster place server Unchanged writes) stop → Some next ≡ raised plan place server stop → next < 8
+    next-low writes stop next stops is = by stop stops (raises next stop is)
+      where
+        by : (stop : FirstStop) → Stops plan (Cut disaster place server Unchanged writes) stop → Raises next stop → next < 8
+        by Own s (ByOwn same) = omega (arith, same, low)
+        by Nobody s never = elim never [ ]
+        by (Other other) s (ByOther same moves) = let lt = other_low writes other s in omega (arith, same, lt)
 
-      u : World
-      u = after_task (after_task (run passed.before) (arms_before plan l passed.name write Same)) passed.step
+    -- one of the counts is raised: there is one device write more, or none
+    pub up-more : (counts : List (List ℕ)) (writes : List ℕ) (total : ℕ) (stop : FirstStop) (next : ℕ) → UpTo counts writes total → total < 2 ^ 32 - 1 → Stops plan (Cut disaster place server Unchanged writes) stop → Some next ≡ raised plan place server stop
+        → UpTo (counts ++ cond (is_own stop) (writes ∷ []) []) (one_more next writes) (total + 1)
+    up-more counts writes total stop next up room stops is = by stop stops (raises next stop is)
+      where
+        by : (stop : FirstStop) → Stops plan (Cut disaster place server Unchanged writes) stop → Raises next stop → UpTo (counts ++ cond (is_own stop) (writes ∷ []) []) (one_more next writes) (total + 1)
+        by Nobody s never = elim never [ ]
+        by Own s (ByOwn same) = subst (λ n. UpTo (counts ++ writes ∷ []) (one_more n writes) (total + 1)) (sym same) (own-up sweep counts writes total up room low s)
+        by (Other other) s (ByOther same moves) =
+            subst (λ n. UpTo (counts ++ []) (one_more n writes) (total + 1)) (sym same)
+            (subst (λ (cs : List (List ℕ)). UpTo cs (one_more other writes) (total + 1)) (sym (append-nil counts))
+            (other-up sweep counts writes total up room other (other_low writes other s) (other-apart plan disaster place server Unchanged writes (length (run s.front).events) s.events other s.is) moves s))
 
-      -- the step doesn't stop the server
-      quiet : (s : ℕ) → server_named w0.control (name_bytes P.name) ≡ Some s → tells_stop s (told_since one u) ≡ false
-      quiet s named =
-          let arm = after_task-grows w0 (arms_before plan l P.name write Same) in
-          let grows = after_task-grows one P.step in
-          let all : u.events ≡ w0.events ++ (arm.0 ++ grows.0) = grows.1 ∙ ap (λ es. es ++ grows.0) arm.1 ∙ append_assoc w0.events arm.0 grows.0 in
-          let told : told_name (fold heard untold_yet u.events) s ≡ name_bytes P.name = ap (λ es. told_name (fold heard untold_yet es) s) all ∙ name-told P.before (arm.0 ++ grows.0) (name_bytes P.name) s named in
-          ap (tells_stop s) (told-since one u grows.0 grows.1) ∙ untold (fold heard untold_yet u.events) (name_text P.name) s grows.0 told (sym (since (name_text P.name) one.events grows.0 u.events grows.1) ∙ P.untold)
+  -- a count that is raised stays within a fuse's
+  pub few-so-far : (counts : List (List ℕ)) (writes : List ℕ) (total next : ℕ) → UpTo counts writes total → next < 8 → total < 2 ^ 32 - 1 → count_at writes next < 2 ^ 32 - 1
+  few-so-far counts writes total next up low few = let size = up.size in let all = up.all in let within = count-within-sum writes next (omega (arith, size, low)) in omega (arith, all, within, few)
 
-      -- a start of that server takes no fuse away that counts a write
-      counts : (start : Name) (s : ℕ) → P.step.asked ≡ Ok (Start start) → server_named one.control (name_bytes start) ≡ Some s → server_named w0.control (name_bytes P.name) ≡ Some s → 1 ≤ write
-      counts start s asked one_named named =
-          let read : task (length L + 2) (Ok P.asked) ∷ [] ≡ tasks_of (length L + 2) P.tried.text = sym (ap (tasks_read (length L + 2)) P.one) in
-          let same : P.step.asked ≡ Ok P.asked = ap (λ (t : Task). t.asked) (cons-parts (P.asks_step ∙ sym read)).0 in
-          let starts : Ok P.asked ≡ Ok (Start start) = sym same ∙ asked in
-          let is_start : P.asked ≡ Start start = cc in
-          let servers : position (bytes_eq (name_bytes start)) w0.control.servers ≡ Some s = ap (position (bytes_eq (name_bytes start))) (sym (arm-servers w0 (length L + 1) P.name write 0 Same Same)) ∙ one_named in
-          let alike : bytes_eq (name_text start) (name_text P.name) ≡ true = same-name w0.control.servers (name_bytes start) (name_bytes P.name) s servers named in
-          let first : first_write plan d l x ≡ 1 =
-          ap (λ o. option_map_or (λ name. option_map_or (λ (t : Tried). first_in name t.text) (slice_get plan.tried l) 0) o 0) P.named ∙ ap (λ o. option_map_or (λ (t : Tried). first_in P.name t.text) o 0) P.there
-          ∙ ap (first_by P.name) (P.one ∙ ap (λ s. Ok (s ∷ [])) is_start) ∙ ap (λ b. cond b 1 0) alike in
-          omega (arith, first, from)
+  -- ---- their rows
 
-      none : (later : ℕ) (torn : TornWord) → write ≤ later → PassesBy plan l P.name P.before P.step later torn
-      none later torn le =
-          let more : ℕ = later - write in
-          let sum : write + more ≡ later = omega (arith, le) in
-          let n : ℕ = length L + 1 in
-          let arm : (k : ℕ) → Task = λ k. task n (Ok (StopAfter P.name k torn)) in
-          let told : (after_task (after_task w0 (arm (write + more))) P.step).events ≡ u.events = step-later w0 n P.name write more Same torn P.step counts quiet in
-          let armed : (after_task w0 (arm (write + more))).events ≡ one.events = arm-same w0 n P.name write more Same torn in
-          ap (λ (v : World). stops_since (name_text P.name) (length v.events) (run (P.before ++ arm later ∷ P.step ∷ [])).events) (run-more P.before (arm later))
-          ∙ ap (λ (v : World). stops_since (name_text P.name) (length (after_task w0 (arm later)).events) v.events) (two-more P.before (arm later) P.step)
-          ∙ ap (λ k. stops_since (name_text P.name) (length (after_task w0 (arm k)).events) (after_task (after_task w0 (arm k)) P.step).events) (sym sum)
-          ∙ ap (λ es. stops_since (name_text P.name) (length es) (after_task (after_task w0 (arm (write + more))) P.step).events) armed
-          ∙ ap (λ es. stops_since (name_text P.name) (length one.events) es) told
-          ∙ P.untold
+  -- the rows of the device writes before
+  pub record AreUpTo (writes : List ℕ) (total : ℕ) (rows : List Outcome) : Type 0 where
+    pub counts : List (List ℕ)
+    pub up : UpTo counts writes total
+    pub are : AreRowsOf plan (points_of disaster place server counts) rows
+
+  pub begins-within : (writes : List ℕ) (write total : ℕ) (a b : List Outcome) → server < 8 → write ≡ first → writes ≡ first_counts server write → total ≡ write → b ≡ a → Adds (AreUpTo writes total) a b
+  begins-within writes write total a b low is are same none = adds-none (AreUpTo writes total) a b none (record { counts = []; up = begins-up writes write total low is are same; are = refl })
+
+  module _ (sweep : IsSweep plan) (few : servers_lost plan disaster ≤ 8) (low : server < 8) (lost : (writes : List ℕ) → length (servers_at plan (Cut disaster place server Unchanged writes)) ≡ servers_lost plan disaster) where
+    rows_more : (writes : List ℕ) (total : ℕ) (stop : FirstStop) (next : ℕ) → total < 2 ^ 32 - 1 → Stops plan (Cut disaster place server Unchanged writes) stop → Some next ≡ raised plan place server stop → (rows more : List Outcome) → AreUpTo writes total rows
+        → AreRowsOf plan (points_of disaster place server (cond (is_own stop) (writes ∷ []) [])) more → AreUpTo (one_more next writes) (total + 1) (rows ++ more)
+    rows_more writes total stop next room stops is rows more so_far are =
+        let new = cond (is_own stop) (writes ∷ []) [] in
+        record {
+          counts = so_far.counts ++ new;
+          up = up-more sweep few low lost so_far.counts writes total stop next so_far.up room stops is;
+          are = subst (λ (ps : List Point). AreRowsOf plan ps (rows ++ more)) (sym (flat_map-append (write_points disaster place server) so_far.counts new))
+              (rows-append plan (points_of disaster place server so_far.counts) (points_of disaster place server new) rows more so_far.are are);
+        }
+
+    -- the rows of a device write, or none, by whether it is reached
+    added : (writes : List ℕ) (stop : FirstStop) (b c : List Outcome) → AddsWrite plan disaster place server writes b c stop → Adds (AreRowsOf plan (points_of disaster place server (cond (is_own stop) (writes ∷ []) []))) b c
+    added writes stop b c adds = by (is_own stop) adds.1
+      where
+        one : points_of disaster place server (writes ∷ []) ≡ write_points disaster place server writes
+        one = flat_map-cons (write_points disaster place server) writes [] ∙ append-nil (write_points disaster place server writes)
+
+        by : (own : Bool) → AddsIf own (AreRowsOf plan (write_points disaster place server writes)) b c → Adds (AreRowsOf plan (points_of disaster place server (cond own (writes ∷ []) []))) b c
+        by true h = subst (λ (ps : List Point). Adds (AreRowsOf plan ps) b c) (sym one) h
+        by false h = adds-none (AreRowsOf plan []) b c h refl
+
+    -- one device write more, or one more of another server before it
+    pub write-more : (writes : List ℕ) (total : ℕ) (stop : FirstStop) (next : ℕ) (a b c : List Outcome) → total < 2 ^ 32 - 1 → Adds (AreUpTo writes total) a b → AddsWrite plan disaster place server writes b c stop → Some next ≡ raised plan place server stop → Adds (AreUpTo (one_more next writes) (total + 1)) a c
+    write-more writes total stop next a b c room so_far adds is =
+        adds-then (AreUpTo writes total) (AreRowsOf plan (points_of disaster place server (cond (is_own stop) (writes ∷ []) []))) (AreUpTo (one_more next writes) (total + 1)) a b c (rows_more writes total stop next room adds.0 is) so_far (added writes stop b c adds)
+
+  within_so : (writes : List ℕ) (total : ℕ) → ((counts : List (List ℕ)) → UpTo counts writes total → IsLast plan disaster place server writes) → (rows : List Outcome) → AreUpTo writes total rows → AreWithin plan disaster place server rows
+  within_so writes total last rows so_far = record {
+    counts = so_far.counts;
+    numbers = so_far.up.numbers;
+    are = so_far.are;
+    at_once = so_far.up.at_once;
+    further = writes;
+    next = so_far.up.next;
+    last = last so_far.counts so_far.up;
+    torn = λ name write bytes named before rest line. any-torn before rest line name write bytes;
+  }
+
+  not_own : (stop : FirstStop) → None ≡ raised plan place server stop → is_own stop ≡ false
+  not_own Own is = absurd cc
+  not_own Nobody is = refl
+  not_own (Other other) is = refl
+
+  -- none is too few: they end here
+  pub write-ends : IsSweep plan → server < 8 → (writes : List ℕ) (total : ℕ) → total ≤ 2 ^ 32 - 1 → (stop : FirstStop) (a b c : List Outcome) → Adds (AreUpTo writes total) a b → AddsWrite plan disaster place server writes b c stop → None ≡ raised plan place server stop → Adds (AreWithin plan disaster place server) a c
+  write-ends sweep low writes total room stop a b c so_far adds is =
+      subst (λ (rows : List Outcome). Adds (AreWithin plan disaster place server) a rows) (sym (was-missed plan (Cut disaster place server Unchanged writes) (write_points disaster place server writes) stop b c adds (not_own stop is)))
+      (adds-as (AreUpTo writes total) (AreWithin plan disaster place server) a b (within_so writes total (λ counts up. last-so counts writes total up sweep low room stop adds.0 (sym is))) so_far)
+
+  -- no fuse counts more
+  pub writes-out : (writes : List ℕ) (total : ℕ) (a b : List Outcome) → Adds (AreUpTo writes total) a b → total ≡ 2 ^ 32 - 1 → Adds (AreWithin plan disaster place server) a b
+  writes-out writes total a b so_far out = adds-as (AreUpTo writes total) (AreWithin plan disaster place server) a b (within_so writes total (λ counts up. last-out counts writes total up out)) so_far
+
+  -- ---- what fails
+
+  -- the counts of an earlier device write
+  earlier_one : (counts : List (List ℕ)) (writes : List ℕ) (total w : ℕ) → UpTo counts writes total → first ≤ w → w < count_at writes server → (before : List ℕ) × (count_at before server ≡ w) × AtOnce plan disaster place server before
+  earlier_one counts writes total w up from below =
+      let next = up.next in
+      let i = w - first in
+      let lt : i < length counts = omega (arith, next, from, below) in
+      let number : count_at (get_or counts i []) server ≡ w =
+      sym (get_or-map (λ ws. count_at ws server) counts i [] 0 lt) ∙ ap (λ ns. get_or ns i 0) up.numbers ∙ get_or-range_with_len first (length counts) i 0 lt ∙ (let e : first + i ≡ w = omega (arith, from) in e) in
+      (get_or counts i [], number, up.at_once i [] lt)
+
+  pub within-fails : (counts : List (List ℕ)) (writes : List ℕ) (total : ℕ) (fault : PointFault) → UpTo counts writes total → FailsWrite plan disaster place server writes fault → FailsIn plan (Within disaster place server) fault
+  within-fails counts writes total NoMemory up fails = tt
+  within-fails counts writes total TooLong up fails = record {
+    point = Cut disaster place server fails.torn writes;
+    tried = record {
+      writes = writes;
+      torn = fails.torn;
+      is = refl;
+      from = (let next = up.next in omega (arith, next));
+      earlier = λ w from below. earlier_one counts writes total w up from below;
+      least = up.least;
+      here = fails.here;
+    };
+    fails = fails.fails;
+  }
+
+  -- ---- the counts of one that is named
+
+  -- the device writes before come to the one of that number at most, if the first one does
+  pub record Seeks (write : ℕ) (writes : List ℕ) (total : ℕ) : Type 0 where
+    pub counts : List (List ℕ)
+    pub up : UpTo counts writes total
+    pub short : (count_at writes server ≤ write) ⊎ (write < first)
+
+  pub begins-seeking : (write : ℕ) (writes : List ℕ) (from total : ℕ) → server < 8 → from ≡ first → writes ≡ first_counts server from → total ≡ from → Seeks write writes total
+  begins-seeking write writes from total low is are same =
+      let up = begins-up writes from total low is are same in
+      record { counts = []; up = up; short = by (cases_lt write first) up.next }
+    where
+      by : (write < first) ⊎ (first ≤ write) → count_at writes server ≡ first + length {A = List ℕ} [] → (count_at writes server ≤ write) ⊎ (write < first)
+      by (inr low) next = inl (omega (arith, low, next))
+      by (inl lt) next = inr lt
+
+  -- what is sought was found, or not
+  pub sought-own : (stop : FirstStop) (count write : ℕ) → (is_own stop && nat_eq count write) ≡ true → stop ≡ Own
+  sought-own stop count write is = own-is stop (and_parts (is_own stop) (nat_eq count write) is).0
+
+  pub sought-count : (stop : FirstStop) (count write : ℕ) → (is_own stop && nat_eq count write) ≡ true → count ≡ write
+  sought-count stop count write is = let test = (and_parts (is_own stop) (nat_eq count write) is).1 in grind (arith, nat_tests, test)
+
+  pub not-sought : (stop : FirstStop) (count write : ℕ) → (is_own stop && nat_eq count write) ≡ false → (is_own stop ≡ false) ⊎ (count ≢ write)
+  not-sought stop count write is = by (is_own stop) is
+    where
+      by : (own : Bool) → (own && nat_eq count write) ≡ false → (own ≡ false) ⊎ (count ≢ write)
+      by false h = inl refl
+      by true h = inr (λ e. let test : nat_eq count write ≡ true = grind (arith, nat_tests, e) in let clash : true ≡ false = sym test ∙ h in cc)
+
+  pub found-so : (write : ℕ) (writes : List ℕ) (total : ℕ) → Seeks write writes total → Stops plan (Cut disaster place server Unchanged writes) Own → count_at writes server ≡ write → FindsCounts plan disaster place server write (Some writes)
+  found-so write writes total seeks stops is = (is, record { first = stops; least = seeks.up.least })
+
+  pub none-so : IsSweep plan → server < 8 → (write : ℕ) (writes : List ℕ) (total : ℕ) → total ≤ 2 ^ 32 - 1 → (stop : FirstStop) → Seeks write writes total → Stops plan (Cut disaster place server Unchanged writes) stop → None ≡ raised plan place server stop → FindsCounts plan disaster place server write None
+  none-so sweep low write writes total room stop seeks stops is = record { further = writes; last = last-so seeks.counts writes total seeks.up sweep low room stop stops (sym is); past = seeks.short }
+
+  pub out-so : (write : ℕ) (writes : List ℕ) (total : ℕ) → Seeks write writes total → total ≡ 2 ^ 32 - 1 → FindsCounts plan disaster place server write None
+  out-so write writes total seeks out = record { further = writes; last = last-out seeks.counts writes total seeks.up out; past = seeks.short }
+
+  module _ (sweep : IsSweep plan) (few : servers_lost plan disaster ≤ 8) (low : server < 8) (lost : (writes : List ℕ) → length (servers_at plan (Cut disaster place server Unchanged writes)) ≡ servers_lost plan disaster) where
+    -- that one isn't it
+    pub seeks-on : (write : ℕ) (writes : List ℕ) (total : ℕ) (stop : FirstStop) (next : ℕ) → total < 2 ^ 32 - 1 → Seeks write writes total → Stops plan (Cut disaster place server Unchanged writes) stop → Some next ≡ raised plan place server stop
+        → (is_own stop ≡ false) ⊎ (count_at writes server ≢ write) → Seeks write (one_more next writes) (total + 1)
+    seeks-on write writes total stop next room seeks stops is other =
+        record { counts = seeks.counts ++ cond (is_own stop) (writes ∷ []) []; up = up-more sweep few low lost seeks.counts writes total stop next seeks.up room stops is; short = by stop (raises next stop is) stops other seeks.short }
+      where
+        by : (stop : FirstStop) → Raises next stop → Stops plan (Cut disaster place server Unchanged writes) stop → (is_own stop ≡ false) ⊎ (count_at writes server ≢ write) → (count_at writes server ≤ write) ⊎ (write < first) → (count_at (one_more next writes) server ≤ write) ⊎ (write < first)
+        by Own (ByOwn same) s o (inr before) = inr before
+        by Own (ByOwn same) s (inl other) (inl short) = absurd cc
+        by Nobody never s o h = elim never [ ]
+        by Own (ByOwn same) s (inr away) (inl short) =
+            let size = seeks.up.size in
+            let more = ap (λ n. count_at (one_more n writes) server) same ∙ more-same writes server (omega (arith, size, low)) in
+            inl (grind (arith, more, away, short))
+        by (Other other) (ByOther same moves) s o (inr before) = inr before
+        by (Other other) (ByOther same moves) s o (inl short) =
+            let apart = other-apart plan disaster place server Unchanged writes (length (run s.front).events) s.events other s.is in
+            let kept = ap (λ n. count_at (one_more n writes) server) same ∙ more-other writes other server (λ e. apart (sym e)) in
+            inl (omega (arith, kept, short))

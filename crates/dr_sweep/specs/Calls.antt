@@ -6,6 +6,8 @@ use Rattle.std.specs.Str.Lines.{lines}
 use Rattle.dr_logic.specs.Counts.{Counted, Rose}
 use Rattle.dr_io.specs.Given.{Gave, GavePart}
 use Rattle.dr_model.specs.declared.event.Event.{Event}
+use Rattle.dr_plan.specs.declared.points.Point.TheVariants.{Cut, Gap}
+use Rattle.dr_plan.specs.declared.points.Torn.{Torn}
 use Rattle.dr_plan.specs.declared.reason.Reason.{Reason}
 use Rattle.dr_plan.specs.Outcome.{IsFirstBad, IsNone}
 use Rattle.dr_plan.specs.Parts.{IsPlan}
@@ -23,9 +25,11 @@ use Rattle.dr_sweep.specs.declared.ending.Ending.{Ending}
 use Rattle.dr_sweep.specs.declared.ending.Ending.TheVariants.{Done, Finding, Usage, ReadFault, WriteFault, NoMemory, TooLong, BadPlan}
 use Rattle.dr_sweep.specs.declared.printing.Asked.{Asked}
 use Rattle.dr_sweep.specs.declared.printing.Asked.TheVariants.{Rows, Script}
+use Rattle.dr_sweep.specs.declared.printing.NamedPoint.{NamedPoint}
+use Rattle.dr_sweep.specs.declared.printing.NamedPoint.TheVariants.{Cut as NamedCut, Gap as NamedGap}
 use Rattle.dr_sweep.specs.declared.printing.View.{View}
 use Rattle.dr_sweep.specs.Ending.{is_read_fault, is_write_fault, finding_ending}
-use Rattle.dr_sweep.specs.Parts.{AreSwept, FailsLong, parts_of}
+use Rattle.dr_sweep.specs.Parts.{AreSwept, FailsLong, FindsCounts, parts_of}
 use Rattle.dr_sweep.specs.Printing.{says, asked_of}
 use Rattle.dr_top.specs.Offline.{IsTaken, HasTakenSome, HasTakenTooMuch}
 use Rattle.dr_words.specs.declared.sweep.SweepCommand.{SweepCommand}
@@ -62,10 +66,21 @@ abbrev pub IsScript : Option (List ℕ) → List ℕ → Ending → Type 0
 IsScript None text ending = (text ≡ usage_line) × (ending ≡ Usage)
 IsScript (Some script) text ending = (text ≡ script) × (ending ≡ Done)
 
+-- the script of a device write that is named, with its counts; none if it has no row
+abbrev pub IsCutScript : Sweep → ℕ → ℕ → ℕ → ℕ → Torn → Option (List ℕ) → Type 0
+IsCutScript plan disaster place server write torn script =
+    (counts : Option (List ℕ)) × FindsCounts plan disaster place server write counts × (script ≡ option_and_then (λ writes. script_of plan (Cut disaster place server torn writes)) counts)
+
+-- the script of a point that is named; none if there is no such point
+abbrev pub IsScriptOf : Sweep → Option NamedPoint → Option (List ℕ) → Type 0
+IsScriptOf plan None script = script ≡ None
+IsScriptOf plan (Some (NamedGap disaster place)) script = script ≡ script_of plan (Gap disaster place)
+IsScriptOf plan (Some (NamedCut disaster place server write torn)) script = IsCutScript plan disaster place server write torn script
+
 -- what is to be put of a plan for what is asked, and how a call ends that has put it
 abbrev pub IsAnswer : Sweep → Asked → List ℕ → Ending → Type 0
 IsAnswer plan (Rows view) text ending = IsShown plan view text ending
-IsAnswer plan (Script point) text ending = IsScript (option_and_then (script_of plan) point) text ending
+IsAnswer plan (Script named) text ending = (script : Option (List ℕ)) × IsScriptOf plan named script × IsScript script text ending
 
 module _ {K : Type 0} (written : K → Option (List ℕ)) (sink sink' : K) where
   -- an answer was put

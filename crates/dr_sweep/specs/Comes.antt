@@ -6,7 +6,6 @@ use Rattle.dr_io.specs.Lines.{most_bytes, most_lines}
 use Rattle.dr_model.specs.declared.event.Event.{Event}
 use Rattle.dr_model.specs.declared.step.Name.{Name}
 use Rattle.dr_model.specs.Control.{World}
-use Rattle.dr_model.specs.LineText.{name_text}
 use Rattle.dr_model.specs.Lines.{tasks_from}
 use Rattle.dr_model.specs.Listed.{as_asked}
 use Rattle.dr_model.specs.Runs.{Task, run}
@@ -20,7 +19,9 @@ use Rattle.dr_rows.specs.declared.row.SessionPhase.{SessionPhase}
 use Rattle.dr_sweep.specs.declared.fault.PointFault.{PointFault}
 use Rattle.dr_sweep.specs.declared.fault.PointFault.TheVariants.{NoMemory, TooLong}
 use Rattle.dr_sweep.specs.Moments.{phases_of, any_runs, IsOff, AreMembers}
-use Rattle.dr_sweep.specs.Reach.{stops_since}
+use Rattle.dr_sweep.specs.Reach.{stop_since, is_own}
+use Rattle.dr_sweep.specs.declared.reach.FirstStop.{FirstStop}
+use Rattle.dr_sweep.specs.declared.reach.FirstStop.TheVariants.{Own}
 use Rattle.dr_top.specs.OpenRuns.{RunProgress, HasRun, IsOfRun, FirstOf, BeforeFull, shown}
 use Rattle.dr_top.specs.Stands.{Stands}
 use Rattle.dr_top.specs.Tried.{AreAll, IsTried}
@@ -38,18 +39,17 @@ name_at plan disaster server = option_and_then (λ names. slice_get names server
 
 -- the disaster of a point
 abbrev pub disaster_of : Point → ℕ
-disaster_of (Cut disaster place server write torn) = disaster
+disaster_of (Cut disaster place server torn writes) = disaster
 disaster_of (Gap disaster place) = disaster
 
 -- the servers that are lost at a point
 abbrev pub servers_at : Sweep → Point → List Name
 servers_at plan point = unwrap_or (slice_get plan.loses (disaster_of point)) []
 
--- The journal tells after its first events, that many, that the server of a point was stopped. Between two steps there is no such server.
-abbrev pub is_struck : Sweep → Point → ℕ → List Event → Bool
-is_struck plan (Cut disaster place server write torn) from events =
-    option_map_or (λ name. stops_since (name_text name) from events) (name_at plan disaster server) false
-is_struck plan (Gap disaster place) from events = true
+-- Of the servers of a point's disaster, whose stop the journal tells first after its first events, that many. Between two steps none has to stop.
+abbrev pub first_stop : Sweep → Point → ℕ → List Event → FirstStop
+first_stop plan (Cut disaster place server torn writes) from events = stop_since (servers_at plan (Cut disaster place server torn writes)) server from events
+first_stop plan (Gap disaster place) from events = Own
 
 -- ---- runs of whole scripts
 
@@ -95,8 +95,8 @@ pub record RunsLines (ls : List (List ℕ)) (steps : List Task) (events : List E
   pub asks : map as_asked steps ≡ tasks_from 1 ls
   pub stands : Stands steps world events before after
 
--- The script of a point was run whole. The first steps are those before the disaster, then comes the one in which a server is stopped, then the
--- stops of the others, and then the recovery. In the world in which the recovery begins each server of the disaster is off.
+-- The script of a point was run whole. The first steps are those before the disaster, then comes the one in which its server is the first of the
+-- disaster to stop, then the stops of the others, and then the recovery. In the world in which the recovery begins each server of the disaster is off.
 pub record ComesTo (plan : Sweep) (point : Point) (told : PointTold) : Type 0 where
   pub script : List ℕ
   pub is : script_of plan point ≡ Some script
@@ -111,23 +111,28 @@ pub record ComesTo (plan : Sweep) (point : Point) (told : PointTold) : Type 0 wh
   pub asks_front : map as_asked front ≡ tasks_from 1 pieces.front
   pub asks_strike : map as_asked strike ≡ tasks_from (length pieces.front + 1) pieces.strike
   pub asks_stops : map as_asked stops ≡ tasks_from (length (pieces.front ++ pieces.strike) + 1) pieces.stops
-  pub struck : is_struck plan point (length (run front).events) (run (front ++ strike)).events ≡ true
+  pub struck : first_stop plan point (length (run front).events) (run (front ++ strike)).events ≡ Own
   pub lost : All (IsOff (run (front ++ strike ++ stops)).control) (servers_at plan point)
   pub before : told.before ≡ length (pieces.front ++ pieces.strike ++ pieces.stops)
   pub begin : told.begin ≡ length (run (front ++ strike ++ stops)).events
   pub phases : told.phases ≡ phases_of (run front).control
   pub members : AreMembers (run (front ++ strike ++ stops)) (told.before + 1) plan.recovery recovery told.members
 
--- whether the server of a point is stopped in the tried step
-pub record Reaches (plan : Sweep) (point : Point) (reached : Bool) : Type 0 where
+-- the lines before the disaster and the tried step were run: of the disaster's servers, this stop is the first in that step
+pub record Stops (plan : Sweep) (point : Point) (stop : FirstStop) : Type 0 where
   pub pieces : Pieces
   pub are : pieces_of plan point ≡ Some pieces
   pub front : List Task
   pub strike : List Task
   pub events : List Event
   pub asks_front : map as_asked front ≡ tasks_from 1 pieces.front
+  pub asks_strike : map as_asked strike ≡ tasks_from (length pieces.front + 1) pieces.strike
   pub runs : RunsLines (pieces.front ++ pieces.strike) (front ++ strike) events
-  pub is : is_struck plan point (length (run front).events) events ≡ reached
+  pub is : first_stop plan point (length (run front).events) events ≡ stop
+
+-- the server of the point isn't the first of the disaster to stop in the tried step
+abbrev pub Misses : Sweep → Point → Type 0
+Misses plan point = (stop : FirstStop) × Stops plan point stop × (is_own stop ≡ false)
 
 -- ---- why a point has no row
 
@@ -209,18 +214,13 @@ Carries old new text = (began : PlantState) (ls more : List (List ℕ)) (steps :
 abbrev pub Fails : RunState → RunState → List ℕ → PointFault → Type 0
 Fails old new text fault = (began : PlantState) (ls more : List (List ℕ)) (steps : List Task) → Ran began ls old steps → IsTextOf more text → HaltsBy began (ls ++ more) new fault
 
--- the server of the point was stopped in the tried step; before it the phases were these
-pub record Strikes (plan : Sweep) (point : Point) (p : Pieces) (began : PlantState) (new : RunState) (phases : List SessionPhase) : Type 0 where
+-- the lines before the disaster and the tried step were carried out: this stop is the first in that step; before it the phases were these
+pub record Approaches (plan : Sweep) (point : Point) (p : Pieces) (began : PlantState) (new : RunState) (stop : FirstStop) (phases : List SessionPhase) : Type 0 where
   pub before : RunState
   pub first : CarriesOn began [] p.front before []
   pub second : CarriesOn began p.front p.strike new first.further
-  pub struck : is_struck plan point (length before.events) new.events ≡ true
+  pub stopped : first_stop plan point (length before.events) new.events ≡ stop
   pub are : phases ≡ phases_of (seen before).control
-
--- by whether it was
-abbrev pub Approaches : Sweep → Point → Pieces → PlantState → RunState → Option (List SessionPhase) → Type 0
-Approaches plan point p began new None = Reaches plan point false
-Approaches plan point p began new (Some phases) = Strikes plan point p began new phases × Reaches plan point true
 
 -- the stops and the recovery were carried out after other lines
 pub record Settles (began : PlantState) (ls stops recovery : List (List ℕ)) (names : List Name) (new : RunState) (steps : List Task) (begin : ℕ) (members : List Members) : Type 0 where

@@ -5,6 +5,7 @@ pub mod Answers
 pub mod Moments
 pub mod Comes
 pub mod Rows
+pub mod Counts
 pub mod Parts
 pub mod Calm
 pub mod Seen

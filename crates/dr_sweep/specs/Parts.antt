@@ -1,34 +1,35 @@
 -- The parts of a sweep, and their rows.
-use Rattle.std.specs.Prelude.{◌≡◌, ℕ, ◌+◌, ◌-◌, ◌^◌, ◌<◌, ◌≤◌, ◌⊎◌, Bool, true, false, List, [], ◌∷◌, ◌++◌, length, map, slice_get, Option, Some, None, Result, Ok, if◌then◌else◌}
-use Rattle.std.specs.List.{flat_map, range_with_len}
-use Rattle.std.specs.Option.{option_map_or}
-use Rattle.std.specs.Str.{bytes_eq}
+use Rattle.std.specs.Prelude.{◌≡◌, ℕ, ◌+◌, ◌-◌, ◌^◌, ◌<◌, ◌≤◌, ◌⊎◌, List, [], ◌∷◌, ◌++◌, length, map, Option, Some, None, Ok, All, Bool, true, false}
+use Rattle.std.specs.List.{flat_map, range_with_len, sum}
+use Rattle.dr_model.specs.Groups.{In}
 use Rattle.dr_model.specs.declared.step.Name.{Name}
-use Rattle.dr_model.specs.declared.step.Step.{Step}
-use Rattle.dr_model.specs.declared.step.Step.TheVariants.{Start, Stop, StopAfter}
+use Rattle.dr_model.specs.declared.step.Step.TheVariants.{StopAfter}
 use Rattle.dr_model.specs.declared.step.TornWord.{TornWord}
 use Rattle.dr_model.specs.declared.step.TornWord.TheVariants.{Fill, Bytes}
-use Rattle.dr_model.specs.Control.{World}
-use Rattle.dr_model.specs.Grammar.{line_of}
-use Rattle.dr_model.specs.Groups.{In}
-use Rattle.dr_model.specs.LineText.{name_text}
-use Rattle.dr_model.specs.Lines.{task, tasks_of, tasks_from}
-use Rattle.dr_model.specs.Listed.{as_asked}
-use Rattle.dr_model.specs.Runs.{Task, run}
+use Rattle.dr_model.specs.Lines.{task, tasks_from}
+use Rattle.dr_model.specs.Listed.{as_asked, ListsAlong}
+use Rattle.dr_model.specs.Control.{World, nothing}
 use Rattle.dr_laws_fuses.specs.Laws.{TornAlike}
+use Rattle.dr_model.specs.Runs.{Task, run}
 use Rattle.dr_plan.specs.declared.points.Point.{Point}
 use Rattle.dr_plan.specs.declared.points.Point.TheVariants.{Cut, Gap}
 use Rattle.dr_plan.specs.declared.points.Torn.{Torn}
 use Rattle.dr_plan.specs.declared.points.Torn.TheVariants.{Unchanged, Zeros, Ones}
-use Rattle.dr_plan.specs.Points.{calm_script, lines_before}
-use Rattle.dr_plan.specs.Sweep.{Sweep, Tried}
+use Rattle.dr_plan.specs.Pieces.{Pieces, pieces_of}
+use Rattle.dr_plan.specs.Points.{calm_script, count_at}
+use Rattle.dr_plan.specs.Sweep.{Sweep}
 use Rattle.dr_rows.specs.Outcome.{Outcome}
 use Rattle.dr_sweep.specs.declared.parts.Part.{Part}
+use Rattle.dr_sweep.specs.declared.point.Came.{Came}
+use Rattle.dr_sweep.specs.declared.point.Came.TheVariants.{Struck, Missed}
 use Rattle.dr_sweep.specs.declared.parts.Part.TheVariants.{Between, Within}
 use Rattle.dr_sweep.specs.declared.fault.PointFault.{PointFault}
 use Rattle.dr_sweep.specs.declared.fault.PointFault.TheVariants.{NoMemory, TooLong}
-use Rattle.dr_sweep.specs.Comes.{PointTold, ComesTo, Reaches, FailsAt, RunsTooLong, name_at, servers_lost}
-use Rattle.dr_sweep.specs.Reach.{stops_since}
+use Rattle.dr_sweep.specs.Comes.{PointTold, ComesTo, Stops, Misses, FailsAt, RunsTooLong, first_stop, name_at, servers_lost}
+use Rattle.dr_sweep.specs.Counts.{first_write, with_count, raised, switches}
+use Rattle.dr_sweep.specs.Reach.{is_own}
+use Rattle.dr_sweep.specs.declared.reach.FirstStop.{FirstStop}
+use Rattle.dr_sweep.specs.declared.reach.FirstStop.TheVariants.{Own, Other, Nobody}
 use Rattle.dr_sweep.specs.Rows.{IsRow}
 
 -- ---- parts
@@ -51,28 +52,13 @@ parts_of plan = flat_map (disaster_parts plan) (range_with_len 0 (length plan.lo
 
 -- ---- points
 
--- By the steps of a line: the count of the first device write of that server that a fuse can cut short. A start takes away a fuse that is at 0. A line
--- that stops the server itself has no such write, so the count is one that no fuse has.
-abbrev pub first_by : Name → Result (List Step) ℕ → ℕ
-first_by name (Ok (Start server ∷ [])) = if bytes_eq (name_text server) (name_text name) then 1 else 0
-first_by name (Ok (Stop server ∷ [])) = if bytes_eq (name_text server) (name_text name) then 2 ^ 32 - 1 else 0
-first_by name _ = 0
+-- the points of a device write, by how many device writes each server of the disaster makes in the step before it
+abbrev pub write_points : ℕ → ℕ → ℕ → List ℕ → List Point
+write_points disaster place server writes = Cut disaster place server Unchanged writes ∷ Cut disaster place server Zeros writes ∷ Cut disaster place server Ones writes ∷ []
 
--- of a line
-abbrev pub first_in : Name → List ℕ → ℕ
-first_in name line = first_by name (line_of line)
-
--- of a server of a disaster in a tried step
-abbrev pub first_write : Sweep → ℕ → ℕ → ℕ → ℕ
-first_write plan disaster place server = option_map_or (λ name. option_map_or (λ (t : Tried). first_in name t.text) (slice_get plan.tried place) 0) (name_at plan disaster server) 0
-
--- the points of a device write
-abbrev pub write_points : ℕ → ℕ → ℕ → ℕ → List Point
-write_points disaster place server write = Cut disaster place server write Unchanged ∷ Cut disaster place server write Zeros ∷ Cut disaster place server write Ones ∷ []
-
--- those of that many device writes from one on
-abbrev pub points_from : ℕ → ℕ → ℕ → ℕ → ℕ → List Point
-points_from disaster place server first writes = flat_map (write_points disaster place server) (range_with_len first writes)
+-- those of several
+abbrev pub points_of : ℕ → ℕ → ℕ → List (List ℕ) → List Point
+points_of disaster place server counts = flat_map (write_points disaster place server) counts
 
 -- ---- rows
 
@@ -94,46 +80,72 @@ pub record BeginsWith (plan : Sweep) (point : Point) (after : List Outcome → T
 -- the rows of points in order, without the points that aren't reached
 abbrev pub AreRowsOf : Sweep → List Point → List Outcome → Type 0
 AreRowsOf plan [] rows = rows ≡ []
-AreRowsOf plan (point ∷ points) rows = BeginsWith plan point (AreRowsOf plan points) rows ⊎ (Reaches plan point false × AreRowsOf plan points rows)
+AreRowsOf plan (point ∷ points) rows = BeginsWith plan point (AreRowsOf plan points) rows ⊎ (Misses plan point × AreRowsOf plan points rows)
 
--- the step of a line that arms the fuse of a server, right before a tried one
-abbrev pub arms_before : Sweep → ℕ → Name → ℕ → TornWord → Task
-arms_before plan place name write torn = task (length (lines_before plan place) + 1) (Ok (StopAfter name write torn))
+-- Carried out, the lines before a point's disaster and the tried step tell this first stop.
+pub record TellsFirst (plan : Sweep) (point : Point) (stop : FirstStop) : Type 0 where
+  pub pieces : Pieces
+  pub are : pieces_of plan point ≡ Some pieces
+  pub front : List Task
+  pub strike : List Task
+  pub asks_front : map as_asked front ≡ tasks_from 1 pieces.front
+  pub asks_strike : map as_asked strike ≡ tasks_from (length pieces.front + 1) pieces.strike
+  pub lists : ListsAlong nothing (front ++ strike)
+  pub is : first_stop plan point (length (run front).events) (run (front ++ strike)).events ≡ stop
 
--- after these steps, and with that fuse, a step doesn't stop the server
-abbrev pub PassesBy : Sweep → ℕ → Name → List Task → Task → ℕ → TornWord → Type 0
-PassesBy plan place name before step write torn =
-    let arms : Task = arms_before plan place name write torn in
-    stops_since (name_text name) (length (run (before ++ arms ∷ [])).events) (run (before ++ arms ∷ step ∷ [])).events ≡ false
+-- No other server's count is greater than it has to be: with one device write fewer, its stop is the first.
+abbrev pub AreLeast : Sweep → ℕ → ℕ → ℕ → List ℕ → Type 0
+AreLeast plan disaster place server writes =
+    (other n : ℕ) → (other ≡ server → ⊥) → count_at writes other ≡ n + 1 → TellsFirst plan (Cut disaster place server Unchanged (with_count other n writes)) (Other other)
 
--- No device write of a server in a tried step from that one on stops it there, whatever it leaves in the block: after the lines before the step, with
--- what they listed in a run.
-pub record NoneFrom (plan : Sweep) (disaster place server write : ℕ) : Type 0 where
-  pub name : Name
-  pub is : name_at plan disaster server ≡ Some name
-  pub tried : Tried
-  pub tried_is : slice_get plan.tried place ≡ Some tried
-  pub before : List Task
-  pub step : Task
-  pub asks_before : map as_asked before ≡ tasks_from 1 (lines_before plan place)
-  pub asks_step : as_asked step ∷ [] ≡ tasks_of (length (lines_before plan place) + 2) tried.text
-  pub none : (later : ℕ) (torn : TornWord) → write ≤ later → PassesBy plan place name before step later torn
+-- So many device writes come before the one in which the server is cut short: with these counts its stop is the first in the step, and they are the
+-- least. So all servers of the disaster are lost at once.
+pub record AtOnce (plan : Sweep) (disaster place server : ℕ) (writes : List ℕ) : Type 0 where
+  pub first : Stops plan (Cut disaster place server Unchanged writes) Own
+  pub least : AreLeast plan disaster place server writes
+
+-- With these counts no server of the disaster stops in the step; nor does one with any greater count of the server, whatever that leaves in its block.
+-- In a step that starts or stops a server itself, no other one's count is one too few.
+pub record StopsNobody (plan : Sweep) (disaster place server : ℕ) (writes : List ℕ) : Type 0 where
+  pub stop : FirstStop
+  pub here : Stops plan (Cut disaster place server Unchanged writes) stop
+  pub none : raised plan place server stop ≡ None
+  pub beyond : switches plan place ≡ false → (later : ℕ) (torn : Torn) → count_at writes server ≤ later → later < 2 ^ 32 → TellsFirst plan (Cut disaster place server torn (with_count server later writes)) Nobody
+
+-- The server has no more device writes, or no fuse counts as many as they are in all.
+pub record IsLast (plan : Sweep) (disaster place server : ℕ) (writes : List ℕ) : Type 0 where
+  pub least : AreLeast plan disaster place server writes
+  pub end : StopsNobody plan disaster place server writes ⊎ (sum writes ≡ 2 ^ 32 - 1)
 
 -- With any torn bytes a run comes to what it comes to where the block is filled with 00, or with 01, but for that fuse: whatever steps stand before and
 -- after the line that arms it, with what they list.
-abbrev pub TearsAsFilled : Sweep → ℕ → Name → ℕ → List ℕ → Type 0
-TearsAsFilled plan place name write bytes =
-    (before rest : List Task) → let leads : TornWord → World = λ torn. run (before ++ arms_before plan place name write torn ∷ rest) in
+abbrev pub TearsAsFilled : Name → ℕ → List ℕ → Type 0
+TearsAsFilled name write bytes =
+    (before rest : List Task) (line : ℕ) → let leads : TornWord → World = λ torn. run (before ++ task line (Ok (StopAfter name write torn)) ∷ rest) in
     TornAlike (leads (Bytes bytes)) (leads (Fill 0)) ⊎ TornAlike (leads (Bytes bytes)) (leads (Fill 1))
 
--- The rows of a server's device writes in a tried step: from the first that can be cut short, as long as one is reached where its block stays as
--- it was. None further stops the server in the step, with any torn bytes; or no fuse counts as many. And those with 00 and 01 stand for all bytes.
+-- The rows of a server's device writes in a tried step: from the first that can be cut short on, each with its counts, to its last one; and the fills
+-- stand for all torn bytes.
 pub record AreWithin (plan : Sweep) (disaster place server : ℕ) (rows : List Outcome) : Type 0 where
-  pub writes : ℕ
-  pub are : AreRowsOf plan (points_from disaster place server (first_write plan disaster place server) writes) rows
-  pub reached : (write : ℕ) → first_write plan disaster place server ≤ write → write < first_write plan disaster place server + writes → Reaches plan (Cut disaster place server write Unchanged) true
-  pub end : NoneFrom plan disaster place server (first_write plan disaster place server + writes) ⊎ (first_write plan disaster place server + writes ≡ 2 ^ 32 - 1)
-  pub torn : (name : Name) (write : ℕ) (bytes : List ℕ) → name_at plan disaster server ≡ Some name → TearsAsFilled plan place name write bytes
+  pub counts : List (List ℕ)
+  pub numbers : map (λ writes. count_at writes server) counts ≡ range_with_len (first_write plan disaster place server) (length counts)
+  pub are : AreRowsOf plan (points_of disaster place server counts) rows
+  pub at_once : All (AtOnce plan disaster place server) counts
+  pub further : List ℕ
+  pub next : count_at further server ≡ first_write plan disaster place server + length counts
+  pub last : IsLast plan disaster place server further
+  pub torn : (name : Name) (write : ℕ) (bytes : List ℕ) → name_at plan disaster server ≡ Some name → TearsAsFilled name write bytes
+
+-- The server has no row of that number in the step: its last one has a lower number, or its first one a higher.
+pub record HasNoRow (plan : Sweep) (disaster place server write : ℕ) : Type 0 where
+  pub further : List ℕ
+  pub last : IsLast plan disaster place server further
+  pub past : (count_at further server ≤ write) ⊎ (write < first_write plan disaster place server)
+
+-- the counts of a server's device write of that number, or none if it has no such row
+abbrev pub FindsCounts : Sweep → ℕ → ℕ → ℕ → ℕ → Option (List ℕ) → Type 0
+FindsCounts plan disaster place server write (Some writes) = (count_at writes server ≡ write) × AtOnce plan disaster place server writes
+FindsCounts plan disaster place server write None = HasNoRow plan disaster place server write
 
 -- the rows of a part
 abbrev pub AreRows : Sweep → Part → List Outcome → Type 0
@@ -155,18 +167,19 @@ AreSwept plan (part ∷ parts) rows = BeginsPart plan part (AreSwept plan parts)
 
 -- ---- why there are none
 
--- the block stays as it was, or the device write is reached where it does
-abbrev pub IsTriedTorn : Sweep → ℕ → ℕ → ℕ → ℕ → Torn → Type 0
-IsTriedTorn plan disaster place server write torn = (torn ≡ Unchanged) ⊎ Reaches plan (Cut disaster place server write Unchanged) true
+-- the block stays as it was, or the point at which it does is reached
+abbrev pub IsTriedTorn : Sweep → ℕ → ℕ → ℕ → List ℕ → Torn → Type 0
+IsTriedTorn plan disaster place server writes torn = (torn ≡ Unchanged) ⊎ Stops plan (Cut disaster place server Unchanged writes) Own
 
--- The point of a device write that is tried: each one before it from the first on is reached.
+-- The point of a device write that is tried: each one before it from the first on is reached, and no other server's count is greater than it has to be.
 pub record IsTriedWrite (plan : Sweep) (disaster place server : ℕ) (point : Point) : Type 0 where
-  pub write : ℕ
+  pub writes : List ℕ
   pub torn : Torn
-  pub is : point ≡ Cut disaster place server write torn
-  pub from : first_write plan disaster place server ≤ write
-  pub earlier : (w : ℕ) → first_write plan disaster place server ≤ w → w < write → Reaches plan (Cut disaster place server w Unchanged) true
-  pub here : IsTriedTorn plan disaster place server write torn
+  pub is : point ≡ Cut disaster place server torn writes
+  pub from : first_write plan disaster place server ≤ count_at writes server
+  pub earlier : (w : ℕ) → first_write plan disaster place server ≤ w → w < count_at writes server → (before : List ℕ) × (count_at before server ≡ w) × AtOnce plan disaster place server before
+  pub least : AreLeast plan disaster place server writes
+  pub here : IsTriedTorn plan disaster place server writes torn
 
 -- the point of a part that is tried
 abbrev pub IsTriedPoint : Sweep → Part → Point → Type 0
@@ -174,10 +187,10 @@ IsTriedPoint plan (Between disaster place) point = point ≡ Gap disaster place
 IsTriedPoint plan (Within disaster place server) point = IsTriedWrite plan disaster place server point
 
 -- one of the points of a device write that are tried has no row
-pub record FailsWrite (plan : Sweep) (disaster place server write : ℕ) (fault : PointFault) : Type 0 where
+pub record FailsWrite (plan : Sweep) (disaster place server : ℕ) (writes : List ℕ) (fault : PointFault) : Type 0 where
   pub torn : Torn
-  pub here : IsTriedTorn plan disaster place server write torn
-  pub fails : FailsAt plan (Cut disaster place server write torn) fault
+  pub here : IsTriedTorn plan disaster place server writes torn
+  pub fails : FailsAt plan (Cut disaster place server torn writes) fault
 
 -- a point of the part is tried, and has no row
 pub record FailsTried (plan : Sweep) (part : Part) (fault : PointFault) : Type 0 where
@@ -217,15 +230,10 @@ IsOf plan (Within disaster place server) = (disaster < length plan.loses) × (pl
 
 -- ---- one step of the way
 
--- what the run of a point came to: its server was stopped in the tried step, and this is told of the run; or it wasn't
-abbrev pub Tells : Sweep → Point → Option PointTold → Type 0
-Tells plan point (Some told) = Reaches plan point true × ComesTo plan point told
-Tells plan point None = Reaches plan point false
-
--- what a point came to: a row, or none where it wasn't reached
-abbrev pub Gives : Sweep → Point → Option Outcome → Type 0
-Gives plan point (Some row) = Reaches plan point true × (row.point ≡ point) × IsRowOf plan row
-Gives plan point None = Reaches plan point false
+-- what the run of a point came to: its server is the first to stop in the tried step, and this is told of the run; or another stop is the first
+abbrev pub Tells : Sweep → Point → Came → Type 0
+Tells plan point (Struck told) = Stops plan point Own × ComesTo plan point told
+Tells plan point (Missed stop) = Stops plan point stop × (is_own stop ≡ false)
 
 -- rows that are such were added
 pub record Adds (are_such : List Outcome → Type 0) (old new : List Outcome) : Type 0 where
@@ -233,12 +241,16 @@ pub record Adds (are_such : List Outcome → Type 0) (old new : List Outcome) : 
   pub cut : new ≡ old ++ more
   pub are : are_such more
 
--- the rows of points were added where one of them is reached, and none where it isn't
-abbrev pub AddsWhereReached : Sweep → Point → List Point → List Outcome → List Outcome → Bool → Type 0
-AddsWhereReached plan point points old new true = Adds (AreRowsOf plan points) old new × Reaches plan point true
-AddsWhereReached plan point points old new false = (new ≡ old) × Reaches plan point false
+-- rows that are such were added, or none
+abbrev pub AddsIf : Bool → (List Outcome → Type 0) → List Outcome → List Outcome → Type 0
+AddsIf true are_such old new = Adds are_such old new
+AddsIf false are_such old new = new ≡ old
 
--- those of a device write were, where it is reached with its block as it was
-abbrev pub AddsWrite : Sweep → ℕ → ℕ → ℕ → ℕ → List Outcome → List Outcome → Bool → Type 0
-AddsWrite plan disaster place server write old new reached =
-    AddsWhereReached plan (Cut disaster place server write Unchanged) (write_points disaster place server write) old new reached
+-- by the first stop, the rows of points were added if it is that of the point's server, and else none
+abbrev pub AddsWhereReached : Sweep → Point → List Point → List Outcome → List Outcome → FirstStop → Type 0
+AddsWhereReached plan point points old new stop = Stops plan point stop × AddsIf (is_own stop) (AreRowsOf plan points) old new
+
+-- those of a device write were, if it is reached with its block as it was
+abbrev pub AddsWrite : Sweep → ℕ → ℕ → ℕ → List ℕ → List Outcome → List Outcome → FirstStop → Type 0
+AddsWrite plan disaster place server writes old new stop =
+    AddsWhereReached plan (Cut disaster place server Unchanged writes) (write_points disaster place server writes) old new stop

@@ -1,13 +1,8 @@
 -- What is printed of a sweep.
 use Rattle.std.specs.Prelude.{ℕ, zero, suc, ◌+◌, Bool, ◌&&◌, List, ◌++◌, length, nat_eq, position, slice_get, Option, Some, None, option_map, if◌then◌else◌}
 use Rattle.std.specs.List.{flat_map}
-use Rattle.std.specs.Str.{bytes_eq}
-use Rattle.dr_model.specs.declared.step.Name.{Name}
-use Rattle.dr_model.specs.LineText.{name_text}
 use Rattle.dr_model.specs.LineWords.{◌>>=◌}
 use Rattle.dr_chart.specs.Picture.{picture_text}
-use Rattle.dr_plan.specs.declared.points.Point.{Point}
-use Rattle.dr_plan.specs.declared.points.Point.TheVariants.{Cut, Gap}
 use Rattle.dr_plan.specs.declared.points.Torn.{Torn}
 use Rattle.dr_plan.specs.declared.points.Torn.TheVariants.{Unchanged, Zeros, Ones}
 use Rattle.dr_plan.specs.Sweep.{Sweep, Tried}
@@ -17,8 +12,13 @@ use Rattle.dr_rows.specs.Line.{heading, row_lines}
 use Rattle.dr_rows.specs.Outcome.{Outcome}
 use Rattle.dr_rows.specs.Places.{bars}
 use Rattle.dr_rows.specs.Report.{report}
+use Rattle.dr_sweep.specs.Parts.{IsOf}
+use Rattle.dr_sweep.specs.Reach.{server_of}
+use Rattle.dr_sweep.specs.declared.parts.Part.TheVariants.{Within}
 use Rattle.dr_sweep.specs.declared.printing.Asked.{Asked}
 use Rattle.dr_sweep.specs.declared.printing.Asked.TheVariants.{Rows, Script}
+use Rattle.dr_sweep.specs.declared.printing.NamedPoint.{NamedPoint}
+use Rattle.dr_sweep.specs.declared.printing.NamedPoint.TheVariants.{Cut, Gap}
 use Rattle.dr_sweep.specs.declared.printing.View.{View}
 use Rattle.dr_sweep.specs.declared.printing.View.TheVariants.{Report, Table, Picture}
 use Rattle.dr_words.specs.declared.sweep.PlanLine.{PlanLine}
@@ -48,10 +48,6 @@ torn_of Stays = Unchanged
 torn_of Fills0 = Zeros
 torn_of Fills1 = Ones
 
--- the place of a server among those of a disaster
-abbrev pub server_of : List Name → List ℕ → Option ℕ
-server_of names server = position (λ name. bytes_eq (name_text name) server) names
-
 -- the tried step is the line of the plan that was named, or the part of it
 abbrev pub is_at : PlanLine → Tried → Bool
 is_at line t = nat_eq t.line line.line && nat_eq t.part line.part
@@ -68,13 +64,13 @@ is_here plan line = nat_eq line.line (length plan.setup + 1) && nat_eq line.part
 abbrev pub gap_at : Sweep → PlanLine → Option ℕ
 gap_at plan line = if is_here plan line then Some 0 else option_map (λ n. n + 1) (tried_at plan line)
 
--- the point of the words `LINE SERVER WRITE TORN DISASTER`: disasters are counted from 1
-abbrev pub cut_of : Sweep → ℕ → PlanLine → List ℕ → ℕ → TornBytes → Option Point
+-- the point that the words `LINE SERVER WRITE TORN DISASTER` name: disasters are counted from 1
+abbrev pub cut_of : Sweep → ℕ → PlanLine → List ℕ → ℕ → TornBytes → Option NamedPoint
 cut_of plan disaster line server write torn =
     place_of disaster >>= λ d. tried_at plan line >>= λ p. slice_get plan.loses d >>= λ names. server_of names server >>= λ x. Some (Cut d p x write (torn_of torn))
 
--- the point of the words `LINE gap DISASTER`
-abbrev pub gap_of : Sweep → ℕ → PlanLine → Option Point
+-- the point that the words `LINE gap DISASTER` name
+abbrev pub gap_of : Sweep → ℕ → PlanLine → Option NamedPoint
 gap_of plan disaster line = place_of disaster >>= λ d. gap_at plan line >>= λ p. Some (Gap d p)
 
 -- what a command asks for
@@ -84,3 +80,8 @@ asked_of plan OnRows = Rows Table
 asked_of plan OnPicture = Rows Picture
 asked_of plan (CutScript disaster line server write torn) = Script (cut_of plan disaster line server write torn)
 asked_of plan (GapScript disaster line) = Script (gap_of plan disaster line)
+
+-- a device write that is asked for is in a tried step, of a server of its disaster
+abbrev pub AsksOf : Sweep → Asked → Type 0
+AsksOf plan (Script (Some (Cut disaster place server write torn))) = IsOf plan (Within disaster place server)
+AsksOf plan _ = Unit {0}

@@ -5,6 +5,7 @@ ghost use Rattle.std.specs.Str.Lines.{lines};
 ghost use Rattle.dr_sweep.specs.Calls.{bad_line_text, usage_line, IsCalm, IsReply, Puts, EndsOn, EndsBad, EndsText, IsSweep, EndsUsage};
 ghost use Rattle.dr_sweep.specs.Ending.{is_write_fault};
 ghost use Rattle.dr_sweep.specs.Parts.{AreSwept, FailsSweep, parts_of};
+ghost use Rattle.dr_sweep.specs.Printing.{AsksOf};
 ghost use Rattle.dr_sweep.specs.declared.ending.Ending.TheVariants.{Usage};
 ghost use Rattle.dr_sweep.specs.declared.printing.Asked.TheVariants.{Rows, Script};
 ghost use Rattle.dr_words.specs.Sweep.{sweep_command_of};
@@ -13,12 +14,13 @@ ghost use Rattle.dr_words.specs.declared.sweep.SweepCommand.{SweepCommand};
 use crate::calm::calm_of;
 use crate::ending::{Ending, ending_of, fault_ending, finding_ending};
 use crate::fault::PointFault;
+use crate::find::script_of;
 use crate::point::run_calm;
-use crate::printing::{Asked, View, asked_of, says, script_of};
+use crate::printing::{Asked, NamedPoint, View, asked_of, says};
 use crate::walk::all_rows;
 use dr_ids::Text;
 use dr_io::{Sink, Source};
-use dr_plan::{PlanFault, Point, Reason, SweepPlan, push_reason, read_plan};
+use dr_plan::{PlanFault, Reason, SweepPlan, push_reason, read_plan};
 use dr_rows::{Calm, Row, has_finding};
 use dr_top::{put_all, read_text};
 use dr_words::{SweepCommand, sweep_command_of};
@@ -114,19 +116,20 @@ fn show<K: Sink, Q: Sink>(
     }
 }
 
-/// Puts the script of a point, or the usage line if the plan has no such point.
+/// Puts the script of a point that is named, or the usage line if there is no such point.
 fn put_script<K: Sink>(
     alloc: Global,
     plan: &SweepPlan,
-    point: Option<Point>,
+    named: Option<NamedPoint>,
     sink: &mut K,
 ) -> Ending
-    ensures { EndsOn K.written sink.old sink.new K.faults plan.now (Script point) result }
+    requires { AsksOf plan.now (Script named) }
+    ensures { EndsOn K.written sink.old sink.new K.faults plan.now (Script named) result }
 {
-    match script_of(alloc, plan, point) {
+    match script_of(alloc, plan, named) {
         Ok(Some(script)) => put_text(sink, script.bytes(), Ending::Done),
         Ok(None) => put_text(sink, USAGE, Ending::Usage),
-        Err(_) => Ending::NoMemory,
+        Err(fault) => fault_ending(fault),
     }
 }
 
@@ -138,6 +141,7 @@ fn answer<K: Sink, Q: Sink>(
     sink: &mut K,
     progress: &mut Q,
 ) -> Ending
+    requires { AsksOf plan.now asked }
     ensures { EndsOn K.written sink.old sink.new K.faults plan.now asked result }
 {
     match asked {

@@ -8,14 +8,14 @@ ghost use Rattle.dr_plan.specs.Pieces.{AreTexts, IsCutUp, IsTextOf, Pieces, piec
 ghost use Rattle.dr_plant.specs.State.{PlantState, IsFresh};
 ghost use Rattle.dr_model.specs.Runs.{Task};
 ghost use Rattle.dr_plan.specs.Points.{script_of, calm_script};
-ghost use Rattle.dr_sweep.specs.Comes.{Approaches, Carries, Fails, FailsAfter, FailsAt, FailsOn, IsRun, Ran, RunsWhole, Settles, is_struck, name_at, seen, servers_at, servers_lost};
+ghost use Rattle.dr_sweep.specs.Comes.{Approaches, Carries, Fails, FailsAfter, FailsAt, FailsOn, IsRun, Ran, RunsWhole, Settles, Stops, first_stop, name_at, seen, servers_at, servers_lost};
 ghost use Rattle.dr_sweep.specs.Moments.{any_runs};
 ghost use Rattle.dr_sweep.specs.Seen.{run_seen};
 ghost use Rattle.dr_sweep.specs.declared.fault.PointFault.TheVariants.{TooLong};
 ghost use Rattle.dr_sweep.specs.Parts.{Tells};
 
 use crate::fault::PointFault;
-use crate::reach::stops_since;
+use crate::reach::{FirstStop, is_own, stop_since};
 use crate::run::PointRun;
 use dr_io::line_count;
 use dr_model::{Journal, Name};
@@ -107,21 +107,14 @@ fn servers_at(plan: &SweepPlan, point: Point) -> &[Name]
     }
 }
 
-/// Whether the journal tells after its first events, that many, that the server of a point was stopped.
-fn is_struck(plan: &SweepPlan, point: Point, journal: &Journal, from: usize) -> bool
+/// Of the servers of a point's disaster, whose stop the journal tells first after its first events, that many.
+fn first_stop(plan: &SweepPlan, point: Point, journal: &Journal, from: usize) -> FirstStop
     requires { from ≤ length journal.now.events }
-    ensures { result ≡ is_struck plan.now point from journal.now.events }
+    ensures { result ≡ first_stop plan.now point from journal.now.events }
 {
     match point {
-        Point::Cut {
-            disaster,
-            server,
-            ..
-        } => match name_at(plan, disaster, server) {
-            Some(name) => stops_since(journal, name, from),
-            None => false,
-        },
-        Point::Gap { .. } => true,
+        Point::Cut { server, .. } => stop_since(journal, servers_at(plan, point), server, from),
+        Point::Gap { .. } => FirstStop::Own,
     }
 }
 
@@ -135,45 +128,51 @@ fn lines_of(pieces: &PieceTexts) -> u128
     front + strike + stops
 }
 
-/// Carries out a tried step, and says whether the server of the point was stopped in it.
+/// Carries out a tried step, and says which server of the point's disaster stopped first in it.
 fn strike(
     alloc: Global,
     plan: &SweepPlan,
     point: Point,
     text: &[u8],
     run: &mut PointRun,
-) -> Result<bool, PointFault>
+) -> Result<FirstStop, PointFault>
     requires { IsRun (run_seen run.old) }
     ensures stays { IsRun (run_seen run.new) }
     ensures goes { OnOk result (Carries (run_seen run.old) (run_seen run.new) text.now) }
-    ensures struck { IfOk result (λ struck. struck ≡ is_struck plan.now point (length (run_seen run.old).events) (run_seen run.new).events) }
+    ensures stopped { IfOk result (λ stop. stop ≡ first_stop plan.now point (length (run_seen run.old).events) (run_seen run.new).events) }
     ensures fails { IfErr result (Fails (run_seen run.old) (run_seen run.new) text.now) }
 {
     let from = run.event_count();
     run.carry(alloc, text)?;
-    Ok(is_struck(plan, point, run.journal(), from))
+    Ok(first_stop(plan, point, run.journal(), from))
 }
 
-/// Carries out the lines before the disaster, and the tried step. Gives the phases before that step, if the point's server was stopped in it.
+/// What is told of the lines before a disaster and the tried step.
+#[derive(Drop)]
+struct Reached {
+    stop: FirstStop,
+    phases: Vec<SessionPhase>,
+}
+
+/// Carries out the lines before the disaster, and the tried step. Gives the first stop in that step, and the phases before it.
 fn approach(
     alloc: Global,
     plan: &SweepPlan,
     point: Point,
     pieces: &PieceTexts,
     run: &mut PointRun,
-) -> Result<Option<Vec<SessionPhase>>, PointFault>
+) -> Result<Reached, PointFault>
     requires run { IsRun (run_seen run.old) }
     requires fresh { IsFresh (run_seen run.old).plant }
     requires begins { Ran (run_seen run.old).plant [] (run_seen run.old) [] }
     requires sweep { IsSweep plan.now }
     ensures stays { IsRun (run_seen run.new) }
-    ensures comes { IfOk result (λ phases. (p : Pieces) → pieces_of plan.now point ≡ Some p → AreTexts pieces.now.front pieces.now.strike pieces.now.stops p → Approaches plan.now point p (run_seen run.old).plant (run_seen run.new) (option_map (λ v. v.items) phases)) }
+    ensures comes { IfOk result (λ a. (p : Pieces) → pieces_of plan.now point ≡ Some p → AreTexts pieces.now.front pieces.now.strike pieces.now.stops p → Approaches plan.now point p (run_seen run.old).plant (run_seen run.new) a.stop a.phases.items) }
     ensures fails { IfErr result (λ fault. (p : Pieces) → pieces_of plan.now point ≡ Some p → AreTexts pieces.now.front pieces.now.strike pieces.now.stops p → FailsAt plan.now point fault) }
 {
     let phases = run.carry_to(alloc, pieces.front())?;
     match strike(alloc, plan, point, pieces.strike(), run) {
-        Ok(true) => Ok(Some(phases)),
-        Ok(false) => Ok(None),
+        Ok(stop) => Ok(Reached { stop, phases }),
         Err(fault) => Err(fault),
     }
 }
@@ -225,7 +224,7 @@ fn settle(
     }
 }
 
-/// What is told of a point's run whose server was stopped.
+/// What is told of a point's run whose server stopped first.
 fn told_of(
     pieces: &PieceTexts,
     phases: Vec<SessionPhase>,
@@ -248,40 +247,87 @@ fn told_of(
     }
 }
 
-/// Runs the script of a point whose pieces these are: none if its server isn't stopped in the tried step, and then no further.
+/// What the run of a point came to.
+#[derive(Drop)]
+pub(crate) enum Came {
+    /// Its server was the first of the disaster to stop in the tried step.
+    Struck(PointTold),
+    /// Another stop was the first, or there was none; the run went no further.
+    Missed(FirstStop),
+}
+
+/// Runs the script of a point whose pieces these are, to the tried step or to its end.
 fn run_pieces(
     alloc: Global,
     plan: &SweepPlan,
     point: Point,
     pieces: &PieceTexts,
-) -> Result<Option<PointTold>, PointFault>
+) -> Result<Came, PointFault>
     requires { IsCutUp plan.now point (Some pieces.now) }
     ensures tells { IfOk result (Tells plan.now point) }
     ensures fails { IfErr result (FailsAt plan.now point) }
 {
     let servers = servers_at(plan, point);
     let mut run = PointRun::new(alloc);
-    let Some(phases) = approach(alloc, plan, point, pieces, &mut run)? else {
-        return Ok(None);
-    };
+    let reached = approach(alloc, plan, point, pieces, &mut run)?;
+    if !is_own(reached.stop) {
+        return Ok(Came::Missed(reached.stop));
+    }
     match settle(alloc, plan, servers, pieces.stops(), &mut run) {
-        Ok(settled) => Ok(Some(told_of(pieces, phases, settled, run))),
+        Ok(settled) => Ok(Came::Struck(told_of(pieces, reached.phases, settled, run))),
         Err(fault) => Err(fault),
     }
 }
 
 /// Runs the script of a point.
-pub(crate) fn run_point(
-    alloc: Global,
-    plan: &SweepPlan,
-    point: Point,
-) -> Result<Option<PointTold>, PointFault>
+pub(crate) fn run_point(alloc: Global, plan: &SweepPlan, point: Point) -> Result<Came, PointFault>
     requires { IsSome (script_of plan.now point) }
     ensures tells { IfOk result (Tells plan.now point) }
     ensures fails { IfErr result (FailsAt plan.now point) }
 {
     match pieces_at(alloc, plan, point)? {
         Some(pieces) => run_pieces(alloc, plan, point, &pieces),
+        None => Err(PointFault::NoMemory),
+    }
+}
+
+/// The first stop in a tried step, of what is told of the lines up to it.
+fn stop_of(reached: Reached) -> FirstStop
+    ensures { result ≡ reached.stop }
+{
+    reached.stop
+}
+
+/// Runs the lines before a point's disaster and the tried step whose texts these are, and gives the first stop in that step.
+fn stop_in_pieces(
+    alloc: Global,
+    plan: &SweepPlan,
+    point: Point,
+    pieces: &PieceTexts,
+) -> Result<FirstStop, PointFault>
+    requires cut { IsCutUp plan.now point (Some pieces.now) }
+    requires sweep { IsSweep plan.now }
+    ensures stops { IfOk result (Stops plan.now point) }
+    ensures fails { IfErr result (FailsAt plan.now point) }
+{
+    let mut run = PointRun::new(alloc);
+    let reached = approach(alloc, plan, point, pieces, &mut run)?;
+    Ok(stop_of(reached))
+}
+
+/// Runs the lines before a point's disaster and the tried step, and gives the first stop in that step.
+pub(crate) fn stop_at(
+    alloc: Global,
+    plan: &SweepPlan,
+    point: Point,
+) -> Result<FirstStop, PointFault>
+    requires script { IsSome (script_of plan.now point) }
+    requires sweep { IsSweep plan.now }
+    ensures stops { IfOk result (Stops plan.now point) }
+    ensures fails { IfErr result (FailsAt plan.now point) }
+{
+    match pieces_at(alloc, plan, point)? {
+        Some(pieces) => stop_in_pieces(alloc, plan, point, &pieces),
         None => Err(PointFault::NoMemory),
     }
 }

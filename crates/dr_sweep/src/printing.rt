@@ -1,17 +1,15 @@
 //! What is printed of a sweep.
 
 ghost use Rattle.std.specs.Prelude.{◌≡◌, ◌<◌, ◌+◌, ◌^◌, IfOk, IfSome, length};
-ghost use Rattle.std.specs.Option.{option_and_then};
-ghost use Rattle.dr_plan.specs.Points.{script_of};
 ghost use Rattle.dr_chart.specs.Picture.{picture_text};
 ghost use Rattle.dr_rows.specs.Findings.{asks_recovery};
 ghost use Rattle.dr_rows.specs.Places.{bars};
-ghost use Rattle.dr_sweep.specs.Printing.{rows_text, says, place_of, torn_of, server_of, is_at, tried_at, is_here, gap_at, cut_of, gap_of, asked_of};
+ghost use Rattle.dr_sweep.specs.Printing.{rows_text, says, place_of, torn_of, is_at, tried_at, is_here, gap_at, cut_of, gap_of, asked_of};
 
+use crate::reach::server_of;
 use dr_chart::picture;
 use dr_ids::Text;
-use dr_model::Name;
-use dr_plan::{Point, SweepPlan, Torn, Tried, name_bytes, script_at};
+use dr_plan::{SweepPlan, Torn, Tried};
 use dr_rows::{Calm, Row, asks_recovery, bars, heading, push_row, report};
 use dr_words::{PlanLine, SweepCommand, TornBytes};
 use std::alloc::{AllocError, Global};
@@ -48,13 +46,31 @@ pub(crate) enum View {
     Picture,
 }
 
+/// A point by the words that name it. All places are counted from 0.
+#[derive(Clone, Copy)]
+pub(crate) enum NamedPoint {
+    /// In a tried step, at the device write of a server that has that number.
+    Cut {
+        disaster: usize,
+        place: usize,
+        server: usize,
+        write: u32,
+        torn: Torn,
+    },
+    /// After that many tried steps.
+    Gap {
+        disaster: usize,
+        place: usize,
+    },
+}
+
 /// What is asked for.
 #[derive(Clone, Copy)]
 pub(crate) enum Asked {
     /// Something on all rows of the plan.
     Rows(View),
-    /// The script of a point; none if the words name a point that the plan doesn't have.
-    Script(Option<Point>),
+    /// The script of a point; none if the words name a line or a server that the plan doesn't have.
+    Script(Option<NamedPoint>),
 }
 
 /// What is printed of a plan's calm run and rows.
@@ -89,13 +105,6 @@ fn torn_of(torn: TornBytes) -> Torn
         TornBytes::Zeros => Torn::Zeros,
         TornBytes::Ones => Torn::Ones,
     }
-}
-
-/// The place of a server among those of a disaster.
-fn server_of(names: &[Name], server: &[u8]) -> Option<usize>
-    ensures { result ≡ server_of names.now server.now }
-{
-    names.iter().position(|name| name_bytes(name) == server)
 }
 
 /// Whether a tried step is the line of the plan that was named, or the part of it.
@@ -140,13 +149,13 @@ fn cut_of(
     server: &[u8],
     write: u32,
     torn: TornBytes,
-) -> Option<Point>
+) -> Option<NamedPoint>
     ensures { result ≡ cut_of plan.now disaster line server.now write torn }
 {
     let disaster = place_of(disaster)?;
     let place = tried_at(plan, line)?;
     let server = server_of(plan.disasters().get(disaster)?.servers(), server)?;
-    Some(Point::Cut {
+    Some(NamedPoint::Cut {
         disaster,
         place,
         server,
@@ -156,26 +165,12 @@ fn cut_of(
 }
 
 /// The point of the words `LINE gap DISASTER`.
-fn gap_of(plan: &SweepPlan, disaster: u32, line: PlanLine) -> Option<Point>
+fn gap_of(plan: &SweepPlan, disaster: u32, line: PlanLine) -> Option<NamedPoint>
     ensures { result ≡ gap_of plan.now disaster line }
 {
     let disaster = place_of(disaster)?;
     let place = gap_at(plan, line)?;
-    Some(Point::Gap { disaster, place })
-}
-
-/// The script of a point, if there is one and the plan has it.
-pub(crate) fn script_of(
-    alloc: Global,
-    plan: &SweepPlan,
-    point: Option<Point>,
-) -> Result<Option<Text>, AllocError>
-    ensures { IfOk result (λ script. script ≡ option_and_then (script_of plan.now) point) }
-{
-    match point {
-        Some(point) => script_at(alloc, plan, point),
-        None => Ok(None),
-    }
+    Some(NamedPoint::Gap { disaster, place })
 }
 
 /// What a command asks for.

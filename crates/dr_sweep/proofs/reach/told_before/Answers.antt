@@ -4,7 +4,7 @@ use Rattle.std.specs.Option.{option_map_or}
 use Rattle.dr_list.specs.Seen.{heard_seen}
 use Rattle.dr_model.specs.Text.{heard}
 use Rattle.dr_sweep.proofs.TellLemmas.{heard-more}
-use Rattle.dr_sweep.proofs.reach.heard_all.Goals as goal
+use Rattle.dr_sweep.proofs.reach.told_before.Goals as goal
 
 pub loop-i-preserved : goal.loop-i-preserved
 loop-i-preserved c =
@@ -13,4 +13,4 @@ loop-i-preserved c =
     c.hear_at.ensures
     ∙ ap (λ e. option_map_or (λ x. heard (heard_seen c.loop-i.told) x) e (heard_seen c.loop-i.told)) c.event.ensures
     ∙ ap (λ h. option_map_or (λ x. heard h x) (slice_get es i) h) c.loop-i.invariant
-    ∙ sym (heard-more es i (let lt = c.loop-i-test.true in let len = c.len-i-end.ensures in omega (arith, lt, len)))
+    ∙ sym (heard-more es i (let lt = c.loop-i-test.true in let few = c.requires in omega (arith, lt, few)))
