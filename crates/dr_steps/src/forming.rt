@@ -262,7 +262,8 @@ fn ask<P: Plant>(
     ask_alone(plant, config, tables, journal, s, server)
 }
 
-fn is_draining(phase: PhaseName) -> bool
+/// The phase is Draining.
+pub fn is_draining(phase: PhaseName) -> bool
     ensures { result ≡ plans.is_draining phase }
 {
     match phase {
@@ -300,14 +301,14 @@ pub fn is_idle(phase: PhaseName) -> bool
 }
 
 /// Whether the attempt that goes on went from Committing to Finishing in this line, after a turn from one phase to another.
-fn has_committed(committed: bool, before: PhaseName, after: PhaseName) -> bool
+pub fn has_committed(committed: bool, before: PhaseName, after: PhaseName) -> bool
     ensures { result ≡ plans.has_committed committed before after }
 {
     is_finishing(after) && (committed || is_committing(before))
 }
 
 /// How many attempts are still to count after a turn that ended in that phase.
-fn still_left(committed: bool, after: PhaseName, left: u32) -> u32
+pub fn still_left(committed: bool, after: PhaseName, left: u32) -> u32
     ensures { result ≡ plans.still_left committed after left }
 {
     if committed && is_idle(after) {
@@ -328,7 +329,7 @@ pub fn phase_in(sessions: &Sessions, s: SessionId) -> PhaseName
 }
 
 /// The server that is asked next: none without a master, or where a paused master is Idle.
-fn next_asked(sessions: &Sessions, s: SessionId) -> Option<ServerId>
+pub fn next_asked(sessions: &Sessions, s: SessionId) -> Option<ServerId>
     ensures next { option_map (λ x. x.0) result ≡ plans.next_asked (model.mirror_in (model.session_in sessions.now.sessions s.0)) }
     ensures low { IfSome result (λ x. x.0 < 8) }
 {

@@ -12,6 +12,9 @@
 //! `recover_session`, `commit_flash`, `revert_flash`, `list_pairs`, `list_flashes`, `list_session` and `show_mirror` are
 //! their steps, each with its answer (`step`); `show` gives the bytes that the host writes of the journal say. `fetch_tracks` and `restore_tracks` are the background copy and
 //! the restore of several tracks (`carried`), also where reads may fail.
+//!
+//! An `@run` can be taken apart from outside by the functions that it asks itself: `next_asked`, `is_draining`, `is_copying` and
+//! `has_room` say what comes next, `has_committed` and `still_left` how many attempts are still to count.
 #![tactic(auto)]
 
 mod answers;
@@ -42,6 +45,8 @@ mod stops;
 mod tables;
 mod task;
 
-pub use answers::refuse_syntax;
+pub use answers::{has_room, refuse_syntax};
+pub use forming::{has_committed, is_draining, next_asked, still_left};
+pub use pairs::is_copying;
 pub use tables::Tables;
 pub use task::carry_task;
