@@ -53,6 +53,12 @@ pub record IsPlantOf (r : RunProgress) (s : PlantState) : Type 0 where
   pub events : List Event
   pub is : IsOfRun s r events
 
+-- A run, whatever its plant and its journal are.
+pub record IsAnyRun (r : RunProgress) : Type 0 where
+  pub plant : PlantState
+  pub events : List Event
+  pub is : IsOfRun plant r events
+
 -- ---- which of the steps that are asked for were carried out
 
 module _ (asked : List Task) where

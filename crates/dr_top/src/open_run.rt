@@ -1,26 +1,28 @@
 //! A run that goes on: one text after another is carried out, and nobody hears the answers.
 
-ghost use Rattle.std.specs.Prelude.{◌≡◌, ◌≤◌, ◌+◌, ◌&&◌, ◌||◌, [], List, drop, length, nat_eq, nat_lt, slice_get, option_map};
+ghost use Rattle.std.specs.Prelude.{◌≡◌, ◌≤◌, ◌+◌, ◌<◌, ◌&&◌, ◌||◌, [], IfSome, List, Some, drop, length, nat_eq, nat_lt, slice_get, option_map};
 ghost use Rattle.dr_io.specs.Lines.{most_bytes, most_lines};
 ghost use Rattle.dr_plant.specs.State.{PlantState, IsFresh};
 ghost use Rattle.dr_config.specs.Table.{IsSoundConfig};
 ghost use Rattle.dr_model.specs.declared.event.Event.{Event};
-ghost use Rattle.dr_model.specs.Forming.{phase_in};
+ghost use Rattle.dr_model.specs.Forming.{master_in, next_asked, phase_in};
+ghost use Rattle.dr_model.specs.PairEntries.{is_copying};
+ghost use Rattle.dr_model.specs.PlanParts.{server_named};
 ghost use Rattle.dr_model.specs.Runs.{Task};
 ghost use Rattle.dr_model.specs.SessionEntries.{counts_at};
 ghost use Rattle.dr_model.specs.Sessions as model;
 ghost use Rattle.dr_top.specs.Outcome.{has_refusal};
 ghost use Rattle.dr_top.specs.Statuses.{text_status};
-ghost use Rattle.dr_top.specs.OpenRuns.{GoesOn, HasRun, IsOfRun, IsPlantOf, runs_named, shown};
+ghost use Rattle.dr_top.specs.OpenRuns.{GoesOn, HasRun, IsAnyRun, IsOfRun, IsPlantOf, runs_named, shown};
 
 use crate::carry::{Bar, carry_text};
 use crate::status::{Status, whole_status};
 use dr_config::Config;
-use dr_ids::{Member, PhaseName, SessionId};
+use dr_ids::{Member, PhaseName, ServerId, SessionId, VolumeId};
 use dr_io::{SCRIPT_LIMITS, line_count};
 use dr_model::Journal;
 use dr_plant::Plant;
-use dr_steps::Tables;
+use dr_steps::{Tables, is_copying, next_asked};
 use dr_volume::{Head, peek_head};
 use std::alloc::Global;
 use std::marker::Model;
@@ -153,6 +155,35 @@ impl OpenRun {
     {
         match self.config.server_named(name) {
             Some(server) => plant.is_on(server.0),
+            None => false,
+        }
+    }
+
+    /// The server that an `@run` of the session asks next: none without a master, or where a paused master is Idle.
+    pub fn asked_next(&self, s: SessionId) -> Option<ServerId>
+        requires { IsAnyRun self.now }
+        ensures next { (x : PlantState) (events : List Event) → option_map (λ a. a.0) result ≡ next_asked (master_in (shown x self.now events).control s.0) }
+        ensures known { IfSome result (λ a. a.0 < length self.now.config.names) }
+    {
+        next_asked(&self.tables.sessions, s)
+    }
+
+    /// The name of a server that is defined.
+    pub fn server_name(&self, server: ServerId) -> &[u8]
+        requires { server.0 < length self.now.config.names }
+        ensures { (x : PlantState) (events : List Event) → server_named (shown x self.now events).control result.now ≡ Some server.0 }
+    {
+        tell_sound(&self.config);
+        self.config.name(server)
+    }
+
+    /// Whether the volume is a primary in Copy Pending; not so if it isn't defined. It is looked at whether or not its server is on.
+    pub fn is_copying<P: Plant>(&self, plant: &P, v: VolumeId) -> bool
+        requires { IsPlantOf self.now (P.state plant.now) }
+        ensures { (events : List Event) → result ≡ is_copying v.0 (shown (P.state plant.now) self.now events).control }
+    {
+        match self.config.device_of(v) {
+            Some(_) => is_copying(&peek_head(plant, &self.config, v)),
             None => false,
         }
     }
