@@ -1,5 +1,5 @@
 -- The names that a journal gives servers are those of the tables.
-use Rattle.std.proofs.Common.{ℕ, ◌⊎◌, inl, inr, zero, suc, ◌≡◌, refl, ap, ◌∙◌, sym, subst, append_assoc, arith, Bool, true, false, cond, List, [], ◌∷◌, ◌++◌, length, get_or, Option, Some, None, Result, nat_eq}
+use Rattle.std.proofs.Common.{ℕ, ◌⊎◌, inl, inr, zero, suc, ◌≡◌, refl, ap, ◌∙◌, sym, subst, append_assoc, arith, Bool, true, false, cond, List, [], ◌∷◌, ◌++◌, length, get_or, Option, Some, None, Result, Ok, nat_eq}
 use Rattle.std.specs.Prelude.{slice_get}
 use Rattle.std.specs.List.{fold}
 use Rattle.std.specs.Option.{option_or, unwrap_or}
@@ -11,12 +11,14 @@ use Rattle.std.proofs.lemmas.Bool.Decides.{nat_tests}
 use Rattle.std.proofs.lemmas.List.{append-nil}
 use Rattle.dr_ids.specs.declared.names.Member.{Member}
 use Rattle.dr_ids.specs.declared.refusal.Refusal.{Refusal}
-use Rattle.dr_ids.specs.declared.refusal.Refusal.TheVariants.{Stopped as StoppedIn}
+use Rattle.dr_ids.specs.declared.refusal.Refusal.TheVariants.{Stopped as StoppedIn, JournalFull}
 use Rattle.dr_model.specs.declared.event.Event.{Event}
 use Rattle.dr_model.specs.declared.event.Event.TheVariants.{Server, Ack, Stopped, Frozen, Thawed, Recovered}
 use Rattle.dr_model.specs.declared.step.Name.{Name}
 use Rattle.dr_model.specs.declared.step.Step.{Step}
-use Rattle.dr_model.specs.Plans.{server_done}
+use Rattle.dr_model.specs.declared.step.Step.TheVariants.{Server as Defines}
+use Rattle.dr_model.specs.Plans.{server_done, has_room_for}
+use Rattle.dr_model.specs.Limits.{image_events}
 use Rattle.dr_model.specs.Answers.{answer}
 use Rattle.dr_model.specs.Control.{Control, Fuse, Volume, World, nothing}
 use Rattle.dr_model.specs.Moves.{Move, Hold, target, told, told_in_stop, landed}
@@ -25,18 +27,19 @@ use Rattle.dr_model.specs.Phases as phases
 use Rattle.dr_model.specs.SessionPlans.{exchanged, is_idle}
 use Rattle.dr_model.specs.SessionEntries.{members_on}
 use Rattle.dr_model.specs.MessagePlans.{told_begun}
-use Rattle.dr_model.specs.PlanParts.{Plan, name_bytes, server_named}
+use Rattle.dr_model.specs.PlantImage.{Volume as Image}
+use Rattle.dr_model.specs.PlanParts.{Plan, name_bytes, server_named, refuses}
 use Rattle.dr_model.proofs.CarryLemmas.{carry-none}
 use Rattle.dr_model.specs.Carried.{begun, finish, carried_out, answered, after_plan}
 use Rattle.dr_model.specs.Forming.{Part, after_part}
-use Rattle.dr_model.specs.Runs.{Task, course, after_task, after_tasks, run, answered_part, image_told}
+use Rattle.dr_model.specs.Runs.{Task, OwnCourse, Groups, Volumes, Devices, own_course, course_of, course, after_task, after_tasks, run, answered_part, image_plan, image_told, imaged}
 use Rattle.dr_model.specs.Text.{Heard, heard, untold, name_in, told_name}
 use Rattle.dr_facts.proofs.Emits.{Of, Lists, AllOf, of-append, by_moves, all-told, stop-onto, emitted}
 use Rattle.dr_laws_sound.proofs.Texts.{heard-append}
 use Rattle.dr_laws_sound.proofs.Turns.{act-cases, Counts, after_act, server_of}
 use Rattle.dr_laws_sound.proofs.Listed.{AllLines, IsLine, all-lines, image-lines}
-use Rattle.dr_laws_sound.proofs.Cases.{Case, DefinesServer, DefinesVolume, Issues, Writes, Lists as ListsOn, Shows, Stops, Starts, Exchanges, Sends}
-use Rattle.dr_laws_sound.proofs.Parts.{Comes, Ending, OnePlan, Imaged, course-case, course-goes, goes-keep}
+use Rattle.dr_laws_sound.proofs.Cases.{Case, DefinesServer, DefinesVolume, Issues, Writes, Lists as ListsOn, Shows, Stops, Starts, Exchanges, Sends, plan-case}
+use Rattle.dr_laws_sound.proofs.Parts.{Comes, compared-case, course-goes, goes-keep}
 
 -- none of these events names a server
 abbrev Nameless : Event → Type 0
@@ -69,8 +72,8 @@ lines-nameless : (es : List Event) → AllLines es → NoNames es
 lines-nameless = all-lines NoNames tt (λ e es line rest. (no-line e line, rest))
 
 -- the servers stay, and no event names one
-record Unnamed (w u : World) : Type 0 where
-  servers : u.control.servers ≡ w.control.servers
+pub record Unnamed (w u : World) : Type 0 where
+  pub servers : u.control.servers ≡ w.control.servers
   added : List Event
   told : u.events ≡ w.events ++ added
   nameless : NoNames added
@@ -147,7 +150,7 @@ get-more (y ∷ xs) x (suc s) = let h : nat_eq (length xs) s ≡ nat_eq (suc (le
 -- ---- plans
 
 -- a plan that names no server
-record PlanUnnamed (k : Control) (p : Plan) : Type 0 where
+pub record PlanUnnamed (k : Control) (p : Plan) : Type 0 where
   told : NoNames p.told
   first : (p.first k).servers ≡ k.servers
   last : (j : Control) → (p.last j).servers ≡ j.servers
@@ -156,7 +159,7 @@ finish-unnamed : (p : Plan) (w : World) (r : Option Refusal) → ((j : Control) 
 finish-unnamed p w None last = record { servers = last w.control; added = []; told = sym (append-nil w.events); nameless = tt }
 finish-unnamed p w (Some r) last = follow-unnamed w r p.follows
 
-plan-unnamed : (w : World) (p : Plan) → PlanUnnamed w.control p → Unnamed w (carried_out w p).0
+pub plan-unnamed : (w : World) (p : Plan) → PlanUnnamed w.control p → Unnamed w (carried_out w p).0
 plan-unnamed w p u =
     let b : World = begun w p in
     let o : Outcome = carry b p.entries in
@@ -171,9 +174,13 @@ begun-nameless : (b : Bool) (s n : ℕ) → NoNames (told_begun b s n)
 begun-nameless true s n = ((λ s. refl), tt)
 begun-nameless false s n = tt
 
--- each plan of the step table names none, but for the one that defines a server
-case-names : (k : Control) (events : List Event) (line : ℕ) (asked : Result Step ℕ) (p : Plan) → Case k events line asked p → PlanUnnamed k p ⊎ (name : Name) × (p ≡ server_done k name)
-case-names k events line _ _ (DefinesServer name free) = inr (name, refl)
+-- a plan names none, or what was asked for defines a server, and the plan is that step's
+abbrev pub NamesBy : Control → Result Step ℕ → Plan → Type 0
+NamesBy k asked p = PlanUnnamed k p ⊎ (name : Name) × (asked ≡ Ok (Defines name)) × (p ≡ server_done k name)
+
+-- so does each plan of the step table
+pub case-names : (k : Control) (events : List Event) (line : ℕ) (asked : Result Step ℕ) (p : Plan) → Case k events line asked p → NamesBy k asked p
+case-names k events line _ _ (DefinesServer name free) = inr (name, refl, refl)
 case-names k events line _ _ (DefinesVolume v s tracks here free) = inl (record { told = ((λ s. refl), tt); first = refl; last = λ j. refl })
 case-names k events line _ _ (Issues v t offset len bytes free) = inl (record { told = ((λ s. refl), tt); first = refl; last = λ j. refl })
 case-names k events line _ _ (Writes v t offset len bytes free) = inl (record { told = ((λ s. refl), tt); first = refl; last = λ j. refl })
@@ -194,14 +201,14 @@ defined-named w name named s =
     ∙ sym (get-more w.control.servers (name_bytes name) s)
     ∙ sym (ap (λ (o : Outcome). slice_get (finish p o.0 o.1).control.servers s) (carry-none (begun w p)))
 
-plan-named : (w : World) (p : Plan) → PlanUnnamed w.control p ⊎ (name : Name) × (p ≡ server_done w.control name) → Named w → Named (carried_out w p).0
-plan-named w p (inl u) named = named-on w _ (plan-unnamed w p u) named
-plan-named w p (inr (name, is)) named = subst (λ p. Named (carried_out w p).0) (sym is) (defined-named w name named)
+plan-named : (w : World) (asked : Result Step ℕ) (p : Plan) → NamesBy w.control asked p → Named w → Named (carried_out w p).0
+plan-named w asked p (inl u) named = named-on w _ (plan-unnamed w p u) named
+plan-named w asked p (inr (name, asks, is)) named = subst (λ p. Named (carried_out w p).0) (sym is) (defined-named w name named)
 
 -- ---- steps
 
 part-named : (w : World) (p : Plan) → Comes w p → Named w → Named (after_part w p)
-part-named w p c named = plan-named w p (case-names w.control w.events 0 c.asked p (c.case 0)) named
+part-named w p c named = plan-named w c.asked p (case-names w.control w.events 0 c.asked p (c.case 0)) named
 
 answered-named : (w : World) (p : Plan) (line : ℕ) → Named (carried_out w p).0 → Named (answered_part line (record { world = w; plan = p }))
 unfolding after_plan
@@ -209,14 +216,27 @@ answered-named w p line named =
     let u : World = (carried_out w p).0 in
     named-on u (answered_part line (record { world = w; plan = p })) (record { servers = refl; added = answer line (answered p u.control (carried_out w p).1) ∷ []; told = refl; nameless = ((λ s. refl), tt) }) named
 
-ending-names : (k : Control) (events : List Event) (line : ℕ) (p : Plan) → Ending k events line p → PlanUnnamed k p ⊎ (name : Name) × (p ≡ server_done k name)
-ending-names k events line _ (OnePlan asked p c) = case-names k events line asked p c
-ending-names k events line _ (Imaged vs) = inl (record { told = lines-nameless (image_told vs) (image-lines vs); first = refl; last = λ j. refl })
+imaged-unnamed : (w : World) (vs : List Image) → PlanUnnamed w.control (imaged w vs)
+imaged-unnamed w vs = by (has_room_for image_events w.events)
+  where
+    by : (room : Bool) → PlanUnnamed w.control (cond room (image_plan vs) (refuses JournalFull))
+    by true = record { told = lines-nameless (image_told vs) (image-lines vs); first = refl; last = λ j. refl }
+    by false = record { told = tt; first = refl; last = λ j. refl }
+
+-- so does the last plan of each step
+pub last-names : (w : World) (t : Task) → let x : Part = (course w t).last in NamesBy x.world.control t.asked x.plan
+last-names w t = by (own_course t.asked)
+  where
+    by : (o : Option OwnCourse) → let x : Part = (course_of w t o).last in NamesBy x.world.control t.asked x.plan
+    by None = case-names w.control w.events t.line t.asked _ (plan-case w.control w.events t.line t.asked)
+    by (Some (Groups s n)) = inl (record { told = tt; first = refl; last = λ j. refl })
+    by (Some (Volumes v u)) = case-names w.control w.events t.line t.asked _ (compared-case w t.line t.asked v u)
+    by (Some Devices) = inl (imaged-unnamed w t.listed)
 
 task-named : (w : World) (t : Task) → Named w → Named (after_task w t)
 task-named w t named =
     let x : Part = (course w t).last in
-    answered-named x.world x.plan t.line (plan-named x.world x.plan (ending-names x.world.control x.world.events t.line x.plan (course-case w t)) (goes-keep Named part-named w _ _ (course-goes w t) named))
+    answered-named x.world x.plan t.line (plan-named x.world t.asked x.plan (last-names w t) (goes-keep Named part-named w _ _ (course-goes w t) named))
 
 tasks-named : (w : World) (tasks : List Task) → Named w → Named (after_tasks w tasks)
 unfolding after_tasks
