@@ -1,6 +1,6 @@
 -- A run that goes on, one text after another.
-use Rattle.std.proofs.Common.{ℕ, suc, ◌≡◌, ◌≤◌, ◌<◌, ◌+◌, ◌⊎◌, Bool, true, false, ◌||◌, List, [], ◌++◌, take, drop, map, length, nat_lt, refl, ap, ◌∙◌, sym, subst, inl, inr, Some, Result, Ok, Err, arith}
-use Rattle.std.specs.Prelude.{slice_get, is_some}
+use Rattle.std.proofs.Common.{ℕ, suc, ◌≡◌, ◌≤◌, ◌<◌, ◌+◌, ◌⊎◌, Bool, true, false, ◌||◌, List, [], ◌++◌, take, drop, map, length, nat_lt, Option, refl, ap, ◌∙◌, sym, subst, inl, inr, Some, None, Result, Ok, Err, arith}
+use Rattle.std.specs.Prelude.{slice_get, is_some, option_map, IfSome}
 use Rattle.std.proofs.lemmas.Bool.Decides.{nat_tests, leb_tells}
 use Rattle.std.proofs.lemmas.List.{append-nil}
 use Rattle.std.proofs.Math.Seq.{take-length, drop-append_seam}
@@ -8,6 +8,7 @@ use Rattle.std.specs.Str.Lines.{lines}
 use Rattle.dr_logic.specs.Counts.{Counted}
 use Rattle.dr_plant.specs.State.{PlantState, IsFresh}
 use Rattle.dr_ids.specs.declared.names.Member.{Member}
+use Rattle.dr_ids.specs.declared.names.ServerId.{ServerId}
 use Rattle.dr_config.specs.Table.{ConfigTable, IsSoundConfig, place_of}
 use Rattle.dr_config.proofs.Sound.{sound-empty}
 use Rattle.dr_ctl.specs.Kept.{flight_in}
@@ -15,6 +16,7 @@ use Rattle.dr_host.specs.Writes.{Writes}
 use Rattle.dr_model.specs.Messages.{no_flight}
 use Rattle.dr_model.specs.declared.event.Event.{Event}
 use Rattle.dr_model.specs.Control.{World, nothing}
+use Rattle.dr_model.specs.Forming.{master_in, next_asked}
 use Rattle.dr_model.specs.Limits.{most_events}
 use Rattle.dr_model.specs.Lines.{tasks, tasks_from}
 use Rattle.dr_model.specs.Listed.{as_asked}
@@ -23,6 +25,7 @@ use Rattle.dr_model.specs.Sessions.{session_in, members_in}
 use Rattle.dr_io.specs.Lines.{most_bytes, most_lines}
 use Rattle.dr_io.specs.Pieces.{IsPast}
 use Rattle.dr_steps.proofs.ExchangeLemmas.{members-ready}
+use Rattle.dr_steps.proofs.FormingLemmas.{asked-known}
 use Rattle.dr_steps.specs.Faults.{told_stop}
 use Rattle.dr_steps.specs.Here.{IsReady, IsTold}
 use Rattle.dr_steps.specs.declared.tables.Tables.{Tables}
@@ -191,3 +194,8 @@ module _ (text : List ℕ) (r r' : RunProgress) (lines_none : r.lines ≡ 0) (by
 -- the target of a member is defined
 pub target-placed : (s : PlantState) (r : RunProgress) (events : List Event) → Reached (shown s r events) → (n i : ℕ) (m : Member) → slice_get (members_in (session_in r.tables.sessions.sessions n)) i ≡ Some m → is_some (place_of r.config m.c.0) ≡ true
 target-placed s r events reached n i m at = (members-ready s r.config r.tables events (reached-sound (shown s r events) reached) n i m at).target
+
+-- the server that an `@run` asks next is defined
+pub asked-placed : (s : PlantState) (r : RunProgress) (events : List Event) → Reached (shown s r events) → (n : ℕ) (o : Option ServerId) → option_map (λ a. a.0) o ≡ next_asked (master_in (shown s r events).control n) → IfSome o (λ a. a.0 < length r.config.names)
+asked-placed s r events reached n None is = tt
+asked-placed s r events reached n (Some a) is = asked-known s r.config r.tables events n (reached-sound (shown s r events) reached) a.0 (sym is)
