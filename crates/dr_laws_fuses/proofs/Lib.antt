@@ -10,3 +10,4 @@ pub mod Places
 pub mod LastWrite
 pub mod Names
 pub mod Armed
+pub mod Switches
