@@ -11,3 +11,4 @@ pub mod LastWrite
 pub mod Names
 pub mod Armed
 pub mod Switches
+pub mod LastAcks

@@ -47,7 +47,7 @@ pub fn the_first_stop_stays()
 {}
 
 /// A server whose fuse is at 0, and leaves what stood in the block, leaves its volumes and their tracks as they were in any step that doesn't start it; so
-/// does one that is off. No move counts as done in its first device write, which is never the gate's.
+/// does one that is off. No move counts as done in its first device write, which is never the gate's. No host write on one of its volumes is acknowledged.
 pub fn a_server_at_its_last_write_leaves_nothing()
     ensures { (s : ℕ) (w : World) (t : Task) → LastWriteLeavesNothing s w t }
 {}
