@@ -23,7 +23,7 @@ from pathlib import Path
 TOP = Path(__file__).resolve().parent.parent
 CRATES = (
     "dr_logic dr_ids dr_model dr_facts dr_laws_sessions dr_laws_attempts dr_laws_messages dr_laws_cuts dr_laws_closed "
-    "dr_laws_targets dr_laws_sound dr_laws_freezes dr_laws_flashes dr_laws_recovery dr_laws_orders dr_laws_commits dr_laws_return"
+    "dr_laws_targets dr_laws_sound dr_laws_fuses dr_laws_freezes dr_laws_flashes dr_laws_recovery dr_laws_orders dr_laws_commits dr_laws_return"
 ).split()
 # What counts events, lists what is told of which kind, or says how a definition is cut into parts: no law.
 TECHNICAL = re.compile(r"Costs|Spends|EntryLengths|Counting|Limits|Texts|Cases|Does|Journal|Emits")
@@ -427,6 +427,38 @@ ROWS = [
          "    flags = let g = old.flags v in record { persists = g.persists; records = g.records; unchanged = g.unchanged; some = g.some };\n"
          "    reverts = λ e. let r = old.reverts v e in record { records = r.records; forward = r.forward; apart = r.apart; noted_held = r.noted_held; rewritten_held = r.rewritten_held; unchanged = r.unchanged; kept = r.kept };\n"
          "    defined = old.defined v;\n    from = old.flash v;\n    loop = no_loop v;\n    onto = λ u. old.flash u v;\n    restores = stays-restores v;\n  })"),
+    ),
+    Row(
+        "torn_gate_is_read_by_its_last_bit",
+        "a gate that is cut short chooses its slot by the last bit of what is left there, which a fill with 00 or 01 leaves 0",
+        (spec("Carry"), "gate_turned (Some bytes) new = equal (bit (byte bytes 0) 0) new", "gate_turned (Some bytes) new = equal (bit (byte bytes (length bytes - 1)) 7) new"),
+        (spec("Carry"), "◌++◌, filter, Option", "◌++◌, filter, length, Option"),
+        ("dr_model/proofs/StagedChecks.antt", "new_gate : counts 7 7 (Some (1 ∷ [])) true ≡ true", "new_gate : counts 7 7 (Some (128 ∷ [])) true ≡ true"),
+        ("dr_model/proofs/StagedChecks.antt", "in_the_gate : left (goes (Some (after 7 (Some (1 ∷ [])))))", "in_the_gate : left (goes (Some (after 7 (Some (128 ∷ [])))))"),
+    ),
+    Row(
+        "fuse_at_1_stays",
+        "a fuse that lets one device write pass lets one more pass after it",
+        (spec("Carry"), "lowered n f = record f { after = f.after - n }", "lowered n f = record f { after = if nat_le f.after n then min f.after 1 else f.after - n }"),
+        (spec("Carry"), "List, [], ◌∷◌, ◌++◌, filter,", "List, [], ◌∷◌, ◌++◌, filter, min,"),
+    ),
+    Row(
+        "fuse_counts_its_partner",
+        "what a server writes is counted by the fuse of its partner's server, too, once for each update of a volume",
+        (spec("Carry"), "spent w s n = record w { control = record w.control { fuse = at w.control.fuse s (lower n (w.control.fuse s)) } }",
+         "spent w s n = record w { control = record w.control { fuse = at (beside w s) s (lower n (w.control.fuse s)) } }"),
+        (spec("Carry"), "-- n writes of server s were done\n",
+         "-- the server of the partner of a volume\nabbrev pub partner_server : Control → Option ℕ → ℕ\npartner_server k None = 0\npartner_server k (Some v) = (k.volume (k.volume v).fields.primary_partner).server\n\n"
+         "-- the fuses, with a write less for the partner of server s\nabbrev pub beside : World → ℕ → ℕ → Option Fuse\n"
+         "beside w s = let q : ℕ = partner_server w.control (find (λ v. nat_eq (w.control.volume v).server s) w.control.volumes) in at w.control.fuse q (lower 1 (w.control.fuse q))\n\n"
+         "-- n writes of server s were done\n"),
+        (spec("Carry"), "use Rattle.dr_logic.specs.Tables.{at}\n", "use Rattle.std.specs.List.{find}\nuse Rattle.dr_logic.specs.Tables.{at}\n"),
+        (sound("Turns"), "control = record (moved_in w m).control { fuse = at w.control.fuse u.server f; pending = settled m w.control.pending };",
+         "control = record (moved_in w m).control { fuse = at (beside (moved_in w m) u.server) u.server f; pending = settled m w.control.pending };"),
+        (sound("Turns"), "fused w s f = record w { control = record w.control { fuse = at w.control.fuse s f } }", "fused w s f = record w { control = record w.control { fuse = at (beside w s) s f } }"),
+        (sound("Turns"), "attempt_begun, opened_by}", "attempt_begun, beside, opened_by}"),
+        (sound("KeepsSound"), "w.control.on (at w.control.fuse x f) w.control.link w.control.paths s.groups;", "w.control.on (at (beside w x) x f) w.control.link w.control.paths s.groups;"),
+        (sound("KeepsSound"), "recovered, Entry, Next, check, now}", "recovered, Entry, Next, beside, check, now}"),
     ),
     Row(
         "numbers_anew_in_an_empty_flight",

@@ -27,7 +27,7 @@ use Rattle.dr_model.specs.declared.step.Step.TheVariants.{Start, StopAfter}
 use Rattle.dr_model.specs.declared.step.TornWord.{TornWord}
 use Rattle.dr_model.specs.PlantImage.{Volume as Listed}
 use Rattle.dr_model.specs.Limits.{image_events}
-use Rattle.dr_model.specs.Control.{Control, Volume, World, is_volume, new_volume}
+use Rattle.dr_model.specs.Control.{Control, Fuse, Volume, World, is_volume, new_volume}
 use Rattle.dr_model.specs.Moves.{Move, Hold, target}
 use Rattle.dr_model.specs.Carry.{Act, Make, OpenAttempt, Redo, Acknowledge, Drop, EndFreeze, EndThaw, EndRecovery, Turn, Next, Pass, Do, End, Entry, Outcome, act, turn, redo, redo_ended, attempt_begun, burnt, lower, pass, counts, counts_by, gate_at, continue, go, carry, follow, opened_by, equal, spent, off, acknowledged, dropped, frozen, thawed, recovered}
 use Rattle.dr_model.specs.PlanParts.{only_says}
@@ -39,7 +39,7 @@ use Rattle.dr_laws_sound.proofs.Turns.{turn-cases, done, done_in_stop, not_done}
 use Rattle.dr_laws_sound.proofs.Cases.{Case, DefinesServer, DefinesVolume, Stops, Arms, Starts, Exchanges, plan-case, one-passed}
 use Rattle.dr_laws_sound.proofs.Parts.{Comes, course-goes, goes-keep, compared-case}
 use Rattle.dr_laws_fuses.specs.Fuses.{fuse_changed}
-use Rattle.dr_laws_fuses.specs.Laws.{WritesNothing, LeavesVolumes, LastWriteLeavesNothing}
+use Rattle.dr_laws_fuses.specs.Laws.{WritesNothing, LeavesVolumes}
 use Rattle.dr_laws_fuses.proofs.Acts.{row, next, track, count, turned_by, turned-by, counted, redos, redone_by, redone-by}
 use Rattle.dr_laws_fuses.proofs.Steps.{changes-none}
 
@@ -57,19 +57,40 @@ exchanged-stays : (q server : ℕ) (reply : Bool) (work : phases.Work) (ms : Lis
 exchanged-stays q server true work ms j = (refl, (refl, (refl, refl)))
 exchanged-stays q server false work ms j = (refl, (refl, (refl, refl)))
 
+-- a move on a server that writes nothing: nothing is done, or the server stops in it, and it isn't done
+pub quiet-turn : (s : ℕ) (w : World) (m : Move) (P : Turn → Type 0) → WritesNothing w s → (w.control.volume (target m)).server ≡ s → P (w, None)
+    → ((f : Option Fuse) → P (not_done w (w.control.volume (target m)).server f, Some (w.control.volume (target m)).server)) → P (turn w m)
+quiet-turn s w m P quiet e nothing stops = subst P (sym (turned-by w m w.control.fuse)) (by _ _ _ (ends quiet))
+  where
+    stopped : (on : Bool) → P (turned_by w m w.control.fuse on false false)
+    stopped true = stops _
+    stopped false = nothing
+
+    by : (on passes counts : Bool) → (on ≡ false) ⊎ (passes ≡ false) × (counts ≡ false) → P (turned_by w m w.control.fuse on passes counts)
+    by on passes counts (inl off) = subst (λ b. P (turned_by w m w.control.fuse b passes counts)) (sym off) nothing
+    by on passes counts (inr (cut, undone)) = subst (λ b. P (turned_by w m w.control.fuse on b counts)) (sym cut) (subst (λ b. P (turned_by w m w.control.fuse on false b)) (sym undone) (stopped on))
+
+    ends : WritesNothing w s → (w.control.on (w.control.volume (target m)).server ≡ false) ⊎ (pass (w.control.fuse (w.control.volume (target m)).server) (count w m) ≡ false) × (counted w m w.control.fuse ≡ false)
+    ends (inl off) = inl (ap w.control.on e ∙ off)
+    ends (inr at) =
+        let fuse : w.control.fuse (w.control.volume (target m)).server ≡ Some (record { after = 0; torn = None }) = ap w.control.fuse e ∙ at in
+        let gate : ℕ = gate_at (row w m) (next w m) (track w m) in
+        let none : nat_le (gate + 1) 0 ≡ false = grind (arith, nat_tests) in
+        inr (ap (λ f. pass f (count w m)) fuse ∙ none, ap (λ f. counts_by gate f (not (row w m).slot)) fuse ∙ unturned gate 0 (not (row w m).slot))
+
 module _ (s : ℕ) (base : World) where
   -- the volumes of the server are as they were, and it still writes nothing
-  record Keeps (w : World) : Type 0 where
-    leaves : LeavesVolumes s base w
-    volumes : (v : ℕ) → is_volume base.control v ≡ true → is_volume w.control v ≡ true
-    quiet : WritesNothing w s
+  pub record Keeps (w : World) : Type 0 where
+    pub leaves : LeavesVolumes s base w
+    pub volumes : (v : ℕ) → is_volume base.control v ≡ true → is_volume w.control v ≡ true
+    pub quiet : WritesNothing w s
 
   -- one of its volumes
   abbrev Own : ℕ → Type 0
   Own v = (is_volume base.control v ≡ true) × ((base.control.volume v).server ≡ s)
 
   -- a world with the same volumes and tracks
-  untouched : (w v : World) → Keeps w → v.control.volumes ≡ w.control.volumes → v.control.volume ≡ w.control.volume → v.contents ≡ w.contents → WritesNothing v s → Keeps v
+  pub untouched : (w v : World) → Keeps w → v.control.volumes ≡ w.control.volumes → v.control.volume ≡ w.control.volume → v.contents ≡ w.contents → WritesNothing v s → Keeps v
   untouched w v k defined volumes contents quiet = record {
     volumes = λ x there. ap (list_any (nat_eq x)) defined ∙ k.volumes x there;
     leaves = record { volume = λ x there own. ap (λ f. f x) volumes ∙ k.leaves.volume x there own; contents = λ x t there own. ap (λ f. f x t) contents ∙ k.leaves.contents x t there own };
@@ -92,7 +113,7 @@ module _ (s : ℕ) (base : World) where
     }
 
   -- whether it writes nothing is a matter of two tables
-  still : (w v : World) → WritesNothing w s → v.control.on s ≡ w.control.on s → v.control.fuse s ≡ w.control.fuse s → WritesNothing v s
+  pub still : (w v : World) → WritesNothing w s → v.control.on s ≡ w.control.on s → v.control.fuse s ≡ w.control.fuse s → WritesNothing v s
   still w v (inl off) on fuse = inl (on ∙ off)
   still w v (inr at) on fuse = inr (fuse ∙ at)
 
@@ -100,7 +121,8 @@ module _ (s : ℕ) (base : World) where
 
   turn-keeps : (w : World) (m : Move) → Keeps w → Keeps (turn w m).0
   turn-keeps w m k = elim (cases_eq (w.control.volume (target m)).server s) [
-    | inl e ↦ own e
+    | inl e ↦ quiet-turn s w m (λ (t : Turn). Keeps t.0) k.quiet e k
+        (λ f. untouched w (not_done w (w.control.volume (target m)).server f) k refl refl refl (inl (ap (at w.control.on (w.control.volume (target m)).server false) (sym e) ∙ at_same w.control.on (w.control.volume (target m)).server false)))
     | inr ne ↦ turn-cases w m (λ (t : Turn). Keeps t.0) (λ off. k)
         (λ f. changed w k (target m) ne (done w m f) _ _ refl refl refl (still w (done w m f) k.quiet refl (at_other w.control.fuse _ f s (away ne))))
         (λ f. changed w k (target m) ne (done_in_stop w m f) _ _ refl refl refl (still w (done_in_stop w m f) k.quiet (at_other w.control.on _ false s (away ne)) (at_other w.control.fuse _ f s (away ne))))
@@ -109,27 +131,6 @@ module _ (s : ℕ) (base : World) where
     where
       away : (w.control.volume (target m)).server ≢ s → s ≢ (w.control.volume (target m)).server
       away ne e = ne (sym e)
-
-      -- by what decides it, on the server itself
-      stopped : (on : Bool) → (w.control.volume (target m)).server ≡ s → Keeps (turned_by w m w.control.fuse on false false).0
-      stopped true e = untouched w _ k refl refl refl (inl (ap (at w.control.on (w.control.volume (target m)).server false) (sym e) ∙ at_same w.control.on (w.control.volume (target m)).server false))
-      stopped false e = k
-
-      by : (on passes counts : Bool) → (w.control.volume (target m)).server ≡ s → (on ≡ false) ⊎ (passes ≡ false) × (counts ≡ false) → Keeps (turned_by w m w.control.fuse on passes counts).0
-      by on passes counts e (inl off) = subst (λ b. Keeps (turned_by w m w.control.fuse b passes counts).0) (sym off) k
-      by on passes counts e (inr (cut, undone)) = subst (λ b. Keeps (turned_by w m w.control.fuse on b counts).0) (sym cut) (subst (λ b. Keeps (turned_by w m w.control.fuse on false b).0) (sym undone) (stopped on e))
-
-      ends : (w.control.volume (target m)).server ≡ s → WritesNothing w s
-          → (w.control.on (w.control.volume (target m)).server ≡ false) ⊎ (pass (w.control.fuse (w.control.volume (target m)).server) (count w m) ≡ false) × (counted w m w.control.fuse ≡ false)
-      ends e (inl off) = inl (ap w.control.on e ∙ off)
-      ends e (inr at) =
-          let fuse : w.control.fuse (w.control.volume (target m)).server ≡ Some (record { after = 0; torn = None }) = ap w.control.fuse e ∙ at in
-          let gate : ℕ = gate_at (row w m) (next w m) (track w m) in
-          let none : nat_le (gate + 1) 0 ≡ false = grind (arith, nat_tests) in
-          inr (ap (λ f. pass f (count w m)) fuse ∙ none, ap (λ f. counts_by gate f (not (row w m).slot)) fuse ∙ unturned gate 0 (not (row w m).slot))
-
-      own : (w.control.volume (target m)).server ≡ s → Keeps (turn w m).0
-      own e = subst (λ (t : Turn). Keeps t.0) (sym (turned-by w m w.control.fuse)) (by _ _ _ e (ends e k.quiet))
 
   module _ (w : World) (v : ℕ) (k : Keeps w) where
     abbrev q : ℕ
@@ -155,7 +156,7 @@ module _ (s : ℕ) (base : World) where
       | inr ne ↦ redo-other (w.control.on q) (pass (w.control.fuse q) (redos w v)) (λ e. ne (sym e))
     ])
 
-  act-keeps : (w : World) (a : Act) → Keeps w → Keeps (act w a).0
+  pub act-keeps : (w : World) (a : Act) → Keeps w → Keeps (act w a).0
   unfolding act
   act-keeps w (Make m) k = turn-keeps w m k
   act-keeps w (OpenAttempt v q n) k = opens (turn w (Hold v q n true)) (turn-keeps w (Hold v q n true) k)
@@ -331,5 +332,9 @@ module _ (s : ℕ) (base : World) where
       by (Some (Volumes v u)) ends = by-tables w k (compared w v u) (case-tables w.control w.events t.line (Err 0) _ refl (compared-case w t.line (Err 0) v u))
       by (Some Devices) ends = image-leaves w k (has_room_for image_events w.events) t.listed
 
-pub last-write : (s : ℕ) (w : World) (t : Task) → LastWriteLeavesNothing s w t
-last-write s w t quiet other = task-leaves s w w (record { leaves = record { volume = λ v there own. refl; contents = λ v t there own. refl }; volumes = λ v there. there; quiet = quiet }) t other
+-- as a step begins
+pub begins-kept : (s : ℕ) (w : World) → WritesNothing w s → Keeps s w w
+begins-kept s w quiet = record { leaves = record { volume = λ v there own. refl; contents = λ v t there own. refl }; volumes = λ v there. there; quiet = quiet }
+
+pub leaves-volumes : (s : ℕ) (w : World) (t : Task) → WritesNothing w s → ((name : Name) → t.asked ≡ Ok (Start name) → server_named w.control (name_bytes name) ≡ Some s → ⊥) → LeavesVolumes s w (after_task w t)
+leaves-volumes s w t quiet other = task-leaves s w w (begins-kept s w quiet) t other

@@ -36,7 +36,7 @@ pub told-since : (w u : World) (es : List Event) → u.events ≡ w.events ++ es
 told-since w u es is = ap (drop (length w.events)) is ∙ drop-append_seam w.events es
 
 -- a stop that comes first is among events, and among those that others come before
-tells-first : (s : ℕ) (es : List Event) → first_stop es ≡ Some s → tells_stop s es ≡ true
+pub tells-first : (s : ℕ) (es : List Event) → first_stop es ≡ Some s → tells_stop s es ≡ true
 tells-first s [] first = let never : None ≡ Some s = first in absurd cc
 tells-first s (e ∷ es) first = by (stop_in e) (tells-first s es) first
   where
@@ -44,13 +44,21 @@ tells-first s (e ∷ es) first = by (stop_in e) (tells-first s es) first
     by None later first = later first
     by (Some q) later first = let is : q ≡ s = cc in let h : nat_eq q s ≡ true = grind (arith, nat_tests) in ap (λ b. b || tells_stop s es) h
 
-tells-later : (s : ℕ) (es fs : List Event) → tells_stop s fs ≡ true → tells_stop s (es ++ fs) ≡ true
+pub tells-later : (s : ℕ) (es fs : List Event) → tells_stop s fs ≡ true → tells_stop s (es ++ fs) ≡ true
 tells-later s [] fs tells = tells
 tells-later s (e ∷ es) fs tells = ap (λ b. is_at (stop_in e) s || b) (tells-later s es fs tells) ∙ or_true (is_at (stop_in e) s)
   where
     or_true : (b : Bool) → (b || true) ≡ true
     or_true true = refl
     or_true false = refl
+
+-- a start leaves a fuse that lets at least as many writes pass as one that it leaves
+pub left-later : (f g : Fuse) → f.after ≤ g.after → fuse_at_start (Some f) ≡ Some f → fuse_at_start (Some g) ≡ Some g
+left-later f g more kept = by (nat_eq f.after 0) refl
+  where
+    by : (b : Bool) → nat_eq f.after 0 ≡ b → fuse_at_start (Some g) ≡ Some g
+    by true at = let never : None ≡ Some f = ap (λ b. cond b None (Some f)) (sym at) ∙ kept in absurd cc
+    by false at = let some : 1 ≤ f.after = grind (arith, nat_tests) in let far : nat_eq g.after 0 ≡ false = grind (arith, nat_tests) in ap (λ b. cond b None (Some g)) far
 
 -- ---- a fuse that isn't reached
 
@@ -81,13 +89,7 @@ module _ (s d : ℕ) (Anew : Type 0) where
 
   -- a start leaves both, if it leaves the first
   pub started-later : (f g : Option Fuse) → Later d f g → fuse_at_start f ≡ f → Later d (fuse_at_start f) (fuse_at_start g)
-  started-later (Some f) (Some g) later kept = by (nat_eq f.after 0) refl
-    where
-      by : (b : Bool) → nat_eq f.after 0 ≡ b → Later d (fuse_at_start (Some f)) (fuse_at_start (Some g))
-      by true at = let never : None ≡ Some f = ap (λ b. cond b None (Some f)) (sym at) ∙ kept in absurd cc
-      by false at =
-          let far : nat_eq g.after 0 ≡ false = (let more : 1 ≤ f.after = grind (arith, nat_tests) in let most : 1 ≤ g.after = omega arith in grind (arith, nat_tests)) in
-          subst (λ x. Later d x (fuse_at_start (Some g))) (sym kept) (subst (λ x. Later d (Some f) x) (ap (λ b. cond b None (Some g)) (sym far)) later)
+  started-later (Some f) (Some g) later kept = let more : f.after ≤ g.after = omega arith in subst (λ x. Later d x (fuse_at_start (Some g))) (sym kept) (subst (Later d (Some f)) (sym (left-later f g more kept)) later)
   started-later None g later kept = absurd later
   started-later (Some f) None later kept = absurd later
 

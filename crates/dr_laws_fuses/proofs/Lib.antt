@@ -10,3 +10,5 @@ pub mod Places
 pub mod LastWrite
 pub mod Names
 pub mod Armed
+pub mod Switches
+pub mod LastAcks

@@ -3,19 +3,20 @@ use Rattle.std.specs.Prelude.{◌≡◌, ℕ, ◌+◌, ◌≤◌, ◌⊎◌, Boo
 use Rattle.std.specs.List.{list_any, filter_map}
 use Rattle.dr_logic.specs.Tables.{at}
 use Rattle.dr_model.specs.declared.event.Event.{Event}
-use Rattle.dr_model.specs.declared.event.Event.TheVariants.{Stopped}
+use Rattle.dr_model.specs.declared.event.Event.TheVariants.{Ack, Stopped}
 use Rattle.dr_model.specs.declared.step.Name.{Name}
 use Rattle.dr_model.specs.declared.step.Step.{Step}
-use Rattle.dr_model.specs.declared.step.Step.TheVariants.{Start, StopAfter}
+use Rattle.dr_model.specs.declared.step.Step.TheVariants.{Start, Stop, StopAfter, Write}
 use Rattle.dr_model.specs.declared.step.TornWord.{TornWord}
 use Rattle.dr_model.specs.declared.step.TornWord.TheVariants.{Fill, Bytes}
-use Rattle.dr_model.specs.Control.{Fuse, World, is_volume}
+use Rattle.dr_model.specs.Control.{Control, Fuse, Pending, World, is_volume}
 use Rattle.dr_model.specs.Carry.{gate_turned}
+use Rattle.dr_model.specs.Groups.{In}
 use Rattle.dr_model.specs.Entries.{is_at}
 use Rattle.dr_model.specs.Plans.{server_named, name_bytes, armed, fuse_at_start}
 use Rattle.dr_model.specs.Runs.{Task, after_task, after_tasks}
 use Rattle.dr_laws_sound.specs.Stops.{stop_in}
-use Rattle.dr_laws_fuses.specs.Fuses.{with_fuses}
+use Rattle.dr_laws_fuses.specs.Fuses.{with_fuse, with_fuses}
 
 -- what the journal was told between two worlds of a run
 abbrev pub told_since : World → World → List Event
@@ -55,6 +56,31 @@ abbrev pub UnreachedChangesNothing : ℕ → World → World → Task → Type 0
 UnreachedChangesNothing s w v t =
     (d : ℕ) → LaterBy s d w v → KeepsFuse w s t.asked → tells_stop s (told_since w (after_task w t)) ≡ false
     → LaterBy s d (after_task w t) (after_task v t) ⊎ (ArmsAnew w s t.asked × (after_task v t ≡ after_task w t))
+
+-- ---- steps that start or stop a server
+
+-- Server s makes no device write in a step: whatever fuse it has, the step leads to the same world, and leaves that fuse.
+abbrev pub MakesNoWrite : ℕ → World → Task → Type 0
+MakesNoWrite s w t = (fuse : Option Fuse) → after_task (with_fuse w s fuse) t ≡ with_fuse (after_task w t) s fuse
+
+-- So it is with any server in a step that stops one.
+abbrev pub StopMakesNoWrite : ℕ → World → Task → Type 0
+StopMakesNoWrite s w t = (name : Name) → t.asked ≡ Ok (Stop name) → MakesNoWrite s w t
+
+-- In a step that starts another server, server s makes no device write, and doesn't stop.
+abbrev pub StartMakesNoOtherWrite : ℕ → World → Task → Type 0
+StartMakesNoOtherWrite s w t =
+    (name : Name) → t.asked ≡ Ok (Start name) → (server_named w.control (name_bytes name) ≡ Some s → ⊥) → MakesNoWrite s w t × (tells_stop s (told_since w (after_task w t)) ≡ false)
+
+-- A fuse of server s stops nothing in a step: it leads to what it leads to without a fuse, but for the fuse of that server.
+pub record StopsNothing (s : ℕ) (fuse : Fuse) (w : World) (t : Task) : Type 0 where
+  pub left : Option Fuse
+  pub is : after_task (with_fuse w s (Some fuse)) t ≡ with_fuse (after_task (with_fuse w s None) t) s left
+
+-- So it is with a fuse at 0 in a step that starts that server.
+abbrev pub StartTakesFuseAway : ℕ → World → Task → Type 0
+StartTakesFuseAway s w t =
+    (name : Name) (torn : Option (List ℕ)) → t.asked ≡ Ok (Start name) → server_named w.control (name_bytes name) ≡ Some s → StopsNothing s (record { after = 0; torn = torn }) w t
 
 -- ---- torn bytes
 
@@ -118,7 +144,21 @@ pub record LeavesVolumes (s : ℕ) (w u : World) : Type 0 where
   pub volume : (v : ℕ) → is_volume w.control v ≡ true → (w.control.volume v).server ≡ s → u.control.volume v ≡ w.control.volume v
   pub contents : (v t : ℕ) → is_volume w.control v ≡ true → (w.control.volume v).server ≡ s → u.contents v t ≡ w.contents v t
 
--- so it is after any step that doesn't start that server
+-- a step issues host write n on volume v
+abbrev pub IssuesOn : Control → Result Step ℕ → ℕ → ℕ → Type 0
+IssuesOn k (Ok (Write u t offset len bytes)) n v = (n ≡ k.issued + 1) × (u ≡ v)
+IssuesOn k asked n v = ⊥
+
+-- host write n is one on volume v: it is pending there as a step begins, or the step issues it
+abbrev pub IsWriteOn : Control → Result Step ℕ → ℕ → ℕ → Type 0
+IsWriteOn k asked n v = ((p : Pending) × In p k.pending × (p.w ≡ n) × (p.volume ≡ v)) ⊎ IssuesOn k asked n v
+
+-- each host write that a step acknowledges is one on a volume that isn't one of server s
+abbrev pub AcknowledgesElsewhere : ℕ → World → Task → Type 0
+AcknowledgesElsewhere s w t =
+    (n : ℕ) → In (Ack n) (told_since w (after_task w t)) → (v : ℕ) × IsWriteOn w.control t.asked n v × (is_volume w.control v ≡ true → (w.control.volume v).server ≡ s → ⊥)
+
+-- In any step that doesn't start that server, its volumes stay, and no host write on one of them is acknowledged.
 abbrev pub LastWriteLeavesNothing : ℕ → World → Task → Type 0
 LastWriteLeavesNothing s w t =
-    WritesNothing w s → ((name : Name) → t.asked ≡ Ok (Start name) → server_named w.control (name_bytes name) ≡ Some s → ⊥) → LeavesVolumes s w (after_task w t)
+    WritesNothing w s → ((name : Name) → t.asked ≡ Ok (Start name) → server_named w.control (name_bytes name) ≡ Some s → ⊥) → LeavesVolumes s w (after_task w t) × AcknowledgesElsewhere s w t

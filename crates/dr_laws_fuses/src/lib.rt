@@ -5,13 +5,28 @@
 ghost use Rattle.std.specs.Prelude.{ℕ, List, Option};
 ghost use Rattle.dr_model.specs.Control.{Fuse, World};
 ghost use Rattle.dr_model.specs.Runs.{Task};
-ghost use Rattle.dr_laws_fuses.specs.Laws.{FirstPlaceStays, LastWriteLeavesNothing, TearsAsFill, TornBytesTellOneBit, UnreachedChangesNothing};
+ghost use Rattle.dr_laws_fuses.specs.Laws.{FirstPlaceStays, LastWriteLeavesNothing, StartMakesNoOtherWrite, StartTakesFuseAway, StopMakesNoWrite, TearsAsFill, TornBytesTellOneBit, UnreachedChangesNothing};
 
 /// Two worlds differ in the fuse of one server alone, which lets more writes pass in the second. If a step doesn't stop that server in the first, both
 /// come to worlds that differ in that fuse alone, and by as many writes; if the step arms it anew, to one and the same world. A start of that server takes
 /// a fuse away that is at 0, so with such a step the first fuse isn't there.
 pub fn a_fuse_that_is_not_reached_changes_nothing()
     ensures { (s : ℕ) (w v : World) (t : Task) → UnreachedChangesNothing s w v t }
+{}
+
+/// In a step that stops a server, none makes a device write: whatever fuses there are, it leads to the same world, and leaves them.
+pub fn a_stop_makes_no_device_write()
+    ensures { (s : ℕ) (w : World) (t : Task) → StopMakesNoWrite s w t }
+{}
+
+/// In a step that starts a server, no other one makes a device write or stops.
+pub fn a_start_makes_no_device_write_of_another_server()
+    ensures { (s : ℕ) (w : World) (t : Task) → StartMakesNoOtherWrite s w t }
+{}
+
+/// A fuse at 0 of a server that a step starts stops nothing in that step: it is taken away.
+pub fn a_start_takes_a_fuse_at_0_away()
+    ensures { (s : ℕ) (w : World) (t : Task) → StartTakesFuseAway s w t }
 {}
 
 /// Two worlds differ in the torn bytes of fuses alone, and a torn gate chooses the same slot with either. Whatever steps are carried out, they differ in
@@ -32,7 +47,7 @@ pub fn the_first_stop_stays()
 {}
 
 /// A server whose fuse is at 0, and leaves what stood in the block, leaves its volumes and their tracks as they were in any step that doesn't start it; so
-/// does one that is off. No move counts as done in its first device write, which is never the gate's.
+/// does one that is off. No move counts as done in its first device write, which is never the gate's. No host write on one of its volumes is acknowledged.
 pub fn a_server_at_its_last_write_leaves_nothing()
     ensures { (s : ℕ) (w : World) (t : Task) → LastWriteLeavesNothing s w t }
 {}
