@@ -12,6 +12,7 @@ ghost use Rattle.dr_model.specs.Runs.{Task, after_plan, run};
 ghost use Rattle.dr_model.specs.Laws.{Sound};
 ghost use Rattle.dr_laws_freezes.specs.Windows.{FreezeCut};
 ghost use Rattle.dr_laws_freezes.specs.InSync.{DuplexInSync};
+ghost use Rattle.dr_laws_freezes.specs.Secondaries.{NoneIsLacking};
 ghost use Rattle.dr_laws_freezes.specs.Frozen.{FreezesHold, lets_go};
 ghost use Rattle.dr_laws_freezes.specs.Example.{frozen_pair, no_names};
 
@@ -53,4 +54,11 @@ pub fn an_example_lets_a_primary_go()
     ensures ends { lets_go frozen_pair (Ok (step.RemovePair no_names 4096 8192 true)) 4096 ≡ true }
     ensures applies { lets_go frozen_pair (Ok (step.Apply 1)) 4096 ≡ false }
     ensures recovers { lets_go frozen_pair (Ok (step.Recover 1)) 4096 ≡ false }
+{}
+
+/// At each moment of a run, whether or not any server runs, the secondary of a Metro Mirror primary that is Full Duplex lacks no host write of
+/// its primary: each of its tracks contains what the writes make that the primary holds by the journal, in their order. On at most one track
+/// one write more comes after them, which is pending on the primary, and not acknowledged.
+pub fn secondaries_lack_no_write()
+    ensures { (tasks : List Task) → NoneIsLacking tasks }
 {}
