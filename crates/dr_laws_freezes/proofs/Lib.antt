@@ -50,4 +50,5 @@ pub mod LongBusySteps
 pub mod FreezesHold
 pub mod EndsInCut
 pub mod Secondaries
+pub mod LostSite
 pub mod Thaws

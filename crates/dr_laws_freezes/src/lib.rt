@@ -3,7 +3,7 @@
 //! names a law by its contract.
 #![tactic(auto)]
 
-ghost use Rattle.std.specs.Prelude.{◌≡◌, ℕ, List, true, false, Ok};
+ghost use Rattle.std.specs.Prelude.{◌≡◌, ℕ, List, [], ◌∷◌, true, false, Ok};
 ghost use Rattle.dr_model.specs.declared.step.Devs.{Devs};
 ghost use Rattle.dr_model.specs.declared.step.Step.TheVariants as step;
 ghost use Rattle.dr_model.specs.Control.{World};
@@ -14,7 +14,7 @@ ghost use Rattle.dr_laws_freezes.specs.Windows.{FreezeCut};
 ghost use Rattle.dr_laws_freezes.specs.InSync.{DuplexInSync};
 ghost use Rattle.dr_laws_freezes.specs.Secondaries.{NoneIsLacking};
 ghost use Rattle.dr_laws_freezes.specs.Frozen.{FreezesHold, lets_go};
-ghost use Rattle.dr_laws_freezes.specs.Example.{frozen_pair, no_names};
+ghost use Rattle.dr_laws_freezes.specs.Example.{frozen_pair, no_names, LacksNoneWith};
 
 /// At the end of a sound freeze window of a run, the secondaries of the set hold one moment of the host's writes: each track of
 /// each contains what the writes make that its primary holds then, and the last write that it stored where that wasn't
@@ -61,4 +61,15 @@ pub fn an_example_lets_a_primary_go()
 /// one write more comes after them, which is pending on the primary, and not acknowledged.
 pub fn secondaries_lack_no_write()
     ensures { (tasks : List Task) → NoneIsLacking tasks }
+{}
+
+/// An example of what a secondary may contain where its Full Duplex primary is lost, whose server is off: what was acknowledged; or that and one
+/// write in flight, on whichever track; but neither less, nor a write more that is pending no longer, nor two writes more on two tracks.
+pub fn an_example_of_a_lost_site()
+    ensures even { LacksNoneWith (1 ∷ []) [] }
+    ensures ahead { LacksNoneWith (1 ∷ 2 ∷ []) [] }
+    ensures on_another { LacksNoneWith (1 ∷ []) (3 ∷ []) }
+    ensures less { LacksNoneWith [] [] → ⊥ }
+    ensures dropped { LacksNoneWith (1 ∷ 4 ∷ []) [] → ⊥ }
+    ensures two { LacksNoneWith (1 ∷ 2 ∷ []) (3 ∷ []) → ⊥ }
 {}
