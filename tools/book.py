@@ -20,7 +20,7 @@ CHAPTERS = [
     ("The headline", "Headline NewestGroup ClosedCuts Cuts Dependence HeldWrites Groups Recovered Decided Decisions"
                      " Seals Windows Moments Table Laws Held TakenWrites Stored Formed"),
     ("Orders that travel", "Arrivals OldOrders OlderNumbers Commits Flashed Flights Attempts Calm"),
-    ("Pairs, freezes and answers", "Sites Compared Returned Frozen InSync Acknowledged RefusedSteps Showing Stops"),
+    ("Pairs, freezes and answers", "Sites Compared Returned Frozen InSync Secondaries Acknowledged RefusedSteps Showing Stops"),
     ("Listings and images", "Listings Listed PlantImage LineText Recovery Offline Found Pieces Imaged GivesBack"),
     ("Devices", "State Layout BigEndian Control Paths Links Views"),
     ("Journal and lists", "Histories Contents Tables Answers Refusals"),

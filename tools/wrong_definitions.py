@@ -133,6 +133,11 @@ ROWS = [
         (sound("DoesPlans"), "(Make (moves.Suspend v true)) (λ j is. does.Suspends v true)", "(Make (moves.Suspend v false)) (λ j is. does.Suspends v false)"),
     ),
     Row(
+        "suspension_keeps_the_state",
+        "a primary that is suspended keeps the state of its pair, as a Metro Mirror primary that can't reach its secondary",
+        (spec("Pairs"), "suspended busy f = record (voided f) { primary_state = Suspended; long_busy", "suspended busy f = record (voided f) { long_busy"),
+    ),
+    Row(
         "flash_hold_holds_nothing",
         "a host write on a volume that has a flash hold alone doesn't wait",
         (spec("Pairs"), "held f = f.coordination || f.long_busy || f.flash_hold", "held f = f.coordination || f.long_busy"),

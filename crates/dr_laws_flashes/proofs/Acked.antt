@@ -44,10 +44,10 @@ module _ (w : World) (v : ℕ) where
   stop-acks m u s k = unacked-stop _ (none-acked acks_none refl) m u (Stopped s k ∷ []) (of-all (Of acks_none) _ (none-acked acks_none refl) (Stopped s k ∷ []) (refl, tt))
 
   step-acks : (tag next : Option ℕ) (u : World) → Step tag w next u → Still w → Holds v w → (es : List Event) → u.events ≡ w.events ++ es → (n : ℕ) → In (Ack n) es → Elsewhere w v n
-  step-acks tag _ _ (Does m f may fair) still h es is n here =
+  step-acks tag _ _ (Does m f may fair asks) still h es is n here =
       let u : Volume = w.control.volume (target m) in
       told-else m u may (lands-else w v m may h) n (subst (In (Ack n)) (sym (append_cancel_left w.events (told m u) es is)) here)
-  step-acks tag _ _ (Stops m f may fair) still h es is n here =
+  step-acks tag _ _ (Stops m f may fair asks) still h es is n here =
       let u : Volume = w.control.volume (target m) in
       absurd (stop-acks m u u.server (landed m) n (subst (In (Ack n)) (sym (append_cancel_left w.events (told_in_stop m u ++ Stopped u.server (landed m) ∷ []) es is)) here))
   step-acks tag _ _ (Acks k a) still h es is n here = by (subst (In (Ack n)) (sym (append_cancel_left w.events (Ack k ∷ []) es is)) here)

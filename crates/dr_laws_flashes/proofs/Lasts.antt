@@ -44,10 +44,10 @@ acks-else w v n still h a e =
     let no : n ∷ [] ≡ [] = sym a.here ∙ none in absurd cc
 
 source-step : (v q : ℕ) (tag : Option ℕ) (w : World) (next : Option ℕ) (u : World) → (s : Step tag w next u) → Still w → Holds v w → NoneSince (changes v) w u → lists u.events v q ≡ lists w.events v q
-source-step v q tag w _ _ (Does m f may fair) still h none =
+source-step v q tag w _ _ (Does m f may fair asks) still h none =
     let u : Volume = w.control.volume (target m) in
     lists-after w (done w m f) (told m u) v q refl (told-stays w m u v q may (else-off v q m (lands-else w v m may h)) (none _ refl))
-source-step v q tag w _ _ (Stops m f may fair) still h none =
+source-step v q tag w _ _ (Stops m f may fair asks) still h none =
     let u : Volume = w.control.volume (target m) in
     lists-after w (done_in_stop w m f) (told_in_stop m u ++ Stopped u.server (landed m) ∷ []) v q refl (stop-stays w m u u.server (landed m) v q (none _ refl))
 source-step v q tag w _ _ (Acks n a) still h none = lists-after w (acknowledged w n) (Ack n ∷ []) v q refl (ack-stays w n v q (inl (λ e. acks-else w v n still h a (e ∙ a.on_volume))))
@@ -88,13 +88,13 @@ stopped-off w write v q m u s may same none = tt
 
 target-step : (v q : ℕ) (write : ℕ → Write) (tag : Option ℕ) (w : World) (next : Option ℕ) (u : World) → (s : Step tag w next u) → Alike write w
     → NoneSince (changes v) w u → NoneSince (reaches write v q) w u → Same v q w u
-target-step v q write tag w _ _ (Does m f may fair) same none untouched =
+target-step v q write tag w _ _ (Does m f may fair asks) same none untouched =
     let u : Volume = w.control.volume (target m) in
     record {
       lists = lists-after w (done w m f) (told m u) v q refl (told-stays w m u v q may (done-off w write v q m u may same (untouched _ refl)) (none _ refl));
       waits = settled-stays w m v q may;
     }
-target-step v q write tag w _ _ (Stops m f may fair) same none untouched =
+target-step v q write tag w _ _ (Stops m f may fair asks) same none untouched =
     let u : Volume = w.control.volume (target m) in
     record {
       lists = lists-after w (done_in_stop w m f) (told_in_stop m u ++ Stopped u.server (landed m) ∷ []) v q refl (stop-stays w m u u.server (landed m) v q (none _ refl));
@@ -114,16 +114,16 @@ target-step v q write tag w _ _ (Passes next u es x less) same none untouched =
 -- ---- the writes of a journal, from each moment to the last
 
 step-alike : (tag : Option ℕ) (w : World) (next : Option ℕ) (u : World) → Step tag w next u → (n : ℕ) → n < w.control.issued + 1 → ((histories u.events).write n ≡ (histories w.events).write n) × (n < u.control.issued + 1)
-step-alike tag w _ _ (Does m f may fair) n lt = (ap (λ (g : ℕ → Write). g n) (done-writes w (Make m) f), lt)
-step-alike tag w _ _ (Stops m f may fair) n lt = (ap (λ (g : ℕ → Write). g n) (stopped-writes w m), lt)
+step-alike tag w _ _ (Does m f may fair asks) n lt = (ap (λ (g : ℕ → Write). g n) (done-writes w (Make m) f), lt)
+step-alike tag w _ _ (Stops m f may fair asks) n lt = (ap (λ (g : ℕ → Write). g n) (stopped-writes w m), lt)
 step-alike tag w _ _ (Acks k a) n lt = (ap (λ (g : ℕ → Write). g n) (with-told w (Ack k ∷ []) refl), lt)
 step-alike tag w _ _ (Others next u ss step) n lt = step-alike tag w next u step n lt
 step-alike tag w _ _ (Passes next u es x less) n lt = (x.writes n lt, x.issued n lt)
 
 -- a volume that is defined stays so
 step-there : (tag : Option ℕ) (w : World) (next : Option ℕ) (u : World) → Step tag w next u → (v : ℕ) → is_volume w.control v ≡ true → is_volume u.control v ≡ true
-step-there tag w _ _ (Does m f may fair) v there = there
-step-there tag w _ _ (Stops m f may fair) v there = there
+step-there tag w _ _ (Does m f may fair asks) v there = there
+step-there tag w _ _ (Stops m f may fair asks) v there = there
 step-there tag w _ _ (Acks k a) v there = there
 step-there tag w _ _ (Others next u ss step) v there = step-there tag w next u step v there
 step-there tag w _ _ (Passes next u es x less) v there = x.there v there

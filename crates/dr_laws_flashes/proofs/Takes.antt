@@ -102,8 +102,8 @@ stops-takes w rows m f may s t behind is =
 
 -- the step that tells it
 pub step-takes : (tag : Option ℕ) (w : World) → SoundRows (table w) → (next : Option ℕ) (u : World) → Step tag w next u → (s t : ℕ) (behind : List Event) → u.events ≡ w.events ++ (Set t s ∷ behind) → Takes w u s t
-step-takes tag w rows _ _ (Does m f may fair) s t behind is = does-takes w rows m f may s t behind (append_cancel_left w.events (told m (w.control.volume (target m))) (Set t s ∷ behind) is)
-step-takes tag w rows _ _ (Stops m f may fair) s t behind is =
+step-takes tag w rows _ _ (Does m f may fair asks) s t behind is = does-takes w rows m f may s t behind (append_cancel_left w.events (told m (w.control.volume (target m))) (Set t s ∷ behind) is)
+step-takes tag w rows _ _ (Stops m f may fair asks) s t behind is =
     let u : Volume = w.control.volume (target m) in
     stops-takes w rows m f may s t behind (append_cancel_left w.events (told_in_stop m u ++ Stopped u.server (landed m) ∷ []) (Set t s ∷ behind) is)
 step-takes tag w rows _ _ (Acks n a) s t behind is = never t s (Ack n ∷ []) behind refl (append_cancel_left w.events (Ack n ∷ []) (Set t s ∷ behind) is)

@@ -122,8 +122,8 @@ had-none w m may still v q h =
     (λ j ne had. (still j q had, lands-else w j m may had)) v h
 
 pub step-still : (tag : Option ℕ) (w : World) (next : Option ℕ) (u : World) → Step tag w next u → Still w → Still u
-step-still tag w _ _ (Does m f may fair) still v q h = settled-none m w.control.pending v q (had-none w m may still v q h).0
-step-still tag w _ _ (Stops m f may fair) still v q h = let had = had-none w m may still v q h in stopped-none w m v q may had.1 had.0
+step-still tag w _ _ (Does m f may fair asks) still v q h = settled-none m w.control.pending v q (had-none w m may still v q h).0
+step-still tag w _ _ (Stops m f may fair asks) still v q h = let had = had-none w m may still v q h in stopped-none w m v q may had.1 had.0
 step-still tag w _ _ (Acks n a) still v q h = waiting-filter (is_other n) w.control.pending v q (still v q h)
 step-still tag w _ _ (Others next u ss step) still v q h = step-still tag w next u step still v q h
 step-still tag w _ _ (Passes next u es x less) still v q h = x.waits v q ∙ still v q (x.holds v h)

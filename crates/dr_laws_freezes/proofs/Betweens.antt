@@ -13,7 +13,7 @@ use Rattle.dr_laws_sound.proofs.Parts.{Comes, last-plan, course-case}
 use Rattle.dr_laws_freezes.specs.InSync.{DuplexInSync}
 use Rattle.dr_laws_freezes.proofs.Chains.{act_tag, CountsFin, window_next, WindowAlong, act-runs, EndFin, PlanFin}
 use Rattle.dr_laws_freezes.proofs.WindowActs.{Between}
-use Rattle.dr_laws_freezes.proofs.WindowPlans.{rows-between, answers-between, loses-between, PlanHolds}
+use Rattle.dr_laws_freezes.proofs.WindowPlans.{good-between, answers-between, loses-between, PlanHolds}
 use Rattle.dr_laws_freezes.proofs.WindowSteps.{between-nothing, window-case, window-ending}
 use Rattle.dr_logic.proofs.Truth.{false_true}
 
@@ -42,11 +42,11 @@ module _ (Fin : Option ℕ → World → Option Refusal → Type 0) where
 
 -- a plan that may come
 carried-between : (w : World) (p : Plan) → PlanHolds w p → Between (carried_out w p).0
-carried-between w p fair = by (carry (begun w p) p.entries) (window-came (PlanFin Between rows-between answers-between p) p.entries None (begun w p) fair.entries)
+carried-between w p fair = by (carry (begun w p) p.entries) (window-came (PlanFin Between good-between answers-between p) p.entries None (begun w p) fair.entries)
   where
-    by : (o : Outcome) → Came (PlanFin Between rows-between answers-between p) o → Between (finish p o.0 o.1)
+    by : (o : Outcome) → Came (PlanFin Between good-between answers-between p) o → Between (finish p o.0 o.1)
     by (u, None) c = c.fin
-    by (u, Some (StoppedIn s)) c = (window-came (EndFin Between rows-between answers-between) (p.follows s.0) c.tag u c.fin).fin
+    by (u, Some (StoppedIn s)) c = (window-came (EndFin Between good-between answers-between) (p.follows s.0) c.tag u c.fin).fin
     by (u, Some r) c = c.fin
 
 between-part : (w : World) (p : Plan) → Comes w p → Between w → Between (after_part w p)

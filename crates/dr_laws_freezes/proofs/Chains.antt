@@ -1,5 +1,5 @@
 -- The moments of a run come one after the other as they may, where its acts do what windows ask.
-use Rattle.std.proofs.Common.{ℕ, ◌≡◌, ◌<◌, ◌+◌, refl, ap, sym, ◌∙◌, subst, true, false, nat_eq, List, [], ◌∷◌, ◌++◌, append_assoc, filter, Option, Some, None}
+use Rattle.std.proofs.Common.{ℕ, ◌≡◌, ◌<◌, ◌+◌, inl, inr, refl, ap, sym, ◌∙◌, subst, true, false, not, nat_eq, List, [], ◌∷◌, ◌++◌, append_assoc, filter, Option, Some, None}
 use Rattle.std.proofs.lemmas.List.{append-nil}
 use Rattle.dr_ids.specs.declared.refusal.Refusal.{Refusal}
 use Rattle.dr_ids.specs.declared.refusal.Refusal.TheVariants.{Stopped as StoppedIn}
@@ -10,21 +10,26 @@ use Rattle.dr_model.specs.Answers.{answer}
 use Rattle.dr_model.specs.Histories.{Histories, histories, lists}
 use Rattle.dr_model.specs.Messages.{Flight}
 use Rattle.dr_model.specs.Sessions.{Session}
-use Rattle.dr_model.specs.Control.{Control, Fuse, World, Volume}
-use Rattle.dr_model.specs.Moves.{Move, Hold, is_write}
+use Rattle.dr_model.specs.Groups.{In}
+use Rattle.dr_model.specs.Control.{Control, Pending, Fuse, World, Volume}
+use Rattle.dr_model.specs.Moves.{Move, Hold, is_write, is_other}
 use Rattle.dr_model.specs.Carry.{Act, Make, OpenAttempt, Redo, Acknowledge, Drop, EndFreeze, EndThaw, EndRecovery, Turn, Next, Pass, Do, End, Entry, Outcome, continue, go, carry, dropped, frozen, thawed, recovered}
 use Rattle.dr_model.specs.Plans.{Plan, plan, only_says}
 use Rattle.dr_model.specs.Forming.{Part, Way, goes_on, after_part, part_refusal, form_said}
 use Rattle.dr_model.specs.Runs.{Task, Course, own_course, course_of, course, answered_part, masters_lost, begun, finish, answered, said, after_plan, after_task, OwnCourse, Groups, Volumes, compared, Devices, imaged}
 use Rattle.dr_model.specs.Table.{table, waiting}
-use Rattle.dr_model.specs.Laws.{SoundRows, AllPending}
+use Rattle.dr_model.specs.Laws.{SoundRows, AllPending, Lone, servers}
 use Rattle.dr_model.specs.Allowed.{May, MayOpen, Runs}
 use Rattle.dr_model.proofs.Images.{histories-append}
 use Rattle.dr_laws_freezes.specs.Moments.{on_from, on_next, worlds, worlds_after, plan_moments, part_moments, parts_moments, task_moments, moments_from}
 use Rattle.dr_laws_sound.proofs.Turns.{done, done_in_stop, opened_in_stop, not_done, fused, place, server_of, server_at, after_act, Writes, Counts, act-cases}
 use Rattle.dr_laws_sound.proofs.Due.{waiting-settled}
+use Rattle.dr_facts.proofs.Lists.{to-filter}
+use Rattle.std.proofs.lemmas.Bool.Decides.{eqb_tells}
+use Rattle.dr_model.specs.Entries.{fields_at}
 use Rattle.dr_laws_freezes.proofs.WindowMoves.{WindowMay, tag_after, come, come-open}
 use Rattle.dr_laws_freezes.proofs.KeepsWindow.{TakesNone}
+use Rattle.dr_laws_freezes.proofs.InSync.{Fresh, Clean, LeavesOneOut}
 use Rattle.dr_laws_freezes.proofs.KeepsStep.{Step, Does, Stops, Acks, Others, Passes, Acknowledges, Unchanged}
 use Rattle.dr_laws_freezes.proofs.Windows.{Good, Chain, Last, Then}
 use Rattle.dr_laws_sound.proofs.Cases.{Says, plan-case}
@@ -35,11 +40,11 @@ use Rattle.std.specs.List.{list_any}
 
 -- what an act asks where it comes
 abbrev pub WindowMayDo : Option ℕ → World → Act → Type 0
-WindowMayDo tag w (Make m) = May w m × WindowMay tag w m
+WindowMayDo tag w (Make m) = May w m × WindowMay tag w m × LeavesOneOut w m
 WindowMayDo tag w (OpenAttempt v s n) = MayOpen w v s n
 WindowMayDo tag w (Redo v) = Runs w v
 WindowMayDo tag w (Acknowledge n) = Acknowledges w n
-WindowMayDo tag w (Drop n) = AllPending (λ p. p.landed ≡ false) (filter (is_write n) w.control.pending)
+WindowMayDo tag w (Drop n) = AllPending (λ p. p.landed ≡ false) (filter (is_write n) w.control.pending) × AllPending (λ p. Clean (fields_at w.control p.volume)) (filter (is_write n) w.control.pending)
 WindowMayDo tag w (EndFreeze l m) = Unit {0}
 WindowMayDo tag w (EndThaw l m) = Unit {0}
 WindowMayDo tag w (EndRecovery s n) = Unit {0}
@@ -52,8 +57,8 @@ act_tag a tag = None
 
 -- events that no list hears of
 pub told-unchanged : (w u : World) (es : List Event) → u.events ≡ w.events ++ es → TakesNone es → histories (w.events ++ es) ≡ histories w.events → u.control.volume ≡ w.control.volume → u.contents ≡ w.contents → u.control.issued ≡ w.control.issued
-    → u.control.volumes ≡ w.control.volumes → ((v t : ℕ) → waiting u.control.pending v t ≡ waiting w.control.pending v t) → Unchanged w u es
-told-unchanged w u es events takes same volume contents issued volumes waits = record {
+    → u.control.volumes ≡ w.control.volumes → ((v t : ℕ) → waiting u.control.pending v t ≡ waiting w.control.pending v t) → ((p : Pending) → In p w.control.pending → (Clean (fields_at w.control p.volume) → ⊥) → In p u.control.pending) → Unchanged w u es
+told-unchanged w u es events takes same volume contents issued volumes waits pends = record {
   events = events;
   takes = takes;
   writes = λ n lt. ap (λ es. (histories es).write n) events ∙ ap (λ (h : Histories). h.write n) same;
@@ -64,23 +69,35 @@ told-unchanged w u es events takes same volume contents issued volumes waits = r
   holds = λ v h. ap (λ (g : ℕ → Volume). (g v).fields.flash_hold) (sym volume) ∙ h;
   contents = λ v there t. λ i. contents i v t;
   lists = λ v there t. ap (λ es. lists es v t) events ∙ ap (λ (h : Histories). h.now v t) same;
+  synced = λ v h. λ i. volume i v;
+  pends = pends;
   acked = λ n h. ap (λ es. (histories es).write n) events ∙ ap (λ (h : Histories). h.write n) same;
 }
 
 pub not-unchanged : (w : World) (s : ℕ) (f : Option Fuse) → Unchanged w (not_done w s f) (Stopped s 0 ∷ [])
-not-unchanged w s f = told-unchanged w (not_done w s f) (Stopped s 0 ∷ []) refl (refl, tt) (histories-append w.events (Stopped s 0 ∷ [])) refl refl refl refl (λ v t. refl)
+not-unchanged w s f = told-unchanged w (not_done w s f) (Stopped s 0 ∷ []) refl (refl, tt) (histories-append w.events (Stopped s 0 ∷ [])) refl refl refl refl (λ v t. refl) (λ p here torn. here)
+
+-- what holds of all pending writes holds of each
+pub all-in : (P : Pending → Type 0) (p : Pending) (ps : List Pending) → In p ps → AllPending P ps → P p
+all-in P p (x ∷ xs) (inl e) all = subst P (sym e) all.0
+all-in P p (x ∷ xs) (inr h) all = all-in P p xs h all.1
+all-in P p [] h all = absurd h
 
 -- an act that is done
 act-step : (tag : Option ℕ) (w : World) (a : Act) (f : Option Fuse) → WindowMayDo tag w a → Step tag w (act_tag a tag) (after_act w a f)
-act-step tag w (Make m) f fair = Does m f (come w m fair.0) fair.1
-act-step tag w (OpenAttempt v s n) f fair = let m : Move = Hold v s n true in Others tag (done w m f) _ (Does m f (come-open w v s n fair) tt)
-act-step tag w (Redo v) f fair = Passes None (fused w (server_at w v) f) [] (told-unchanged w (fused w (server_at w v) f) [] (sym (append-nil w.events)) tt (ap histories (append-nil w.events)) refl refl refl refl (λ v t. refl)) (λ n h. absurd cc)
+act-step tag w (Make m) f fair = Does m f (come w m fair.0) fair.1 fair.2
+act-step tag w (OpenAttempt v s n) f fair = let m : Move = Hold v s n true in Others tag (done w m f) _ (Does m f (come-open w v s n fair) tt tt)
+act-step tag w (Redo v) f fair = Passes None (fused w (server_at w v) f) [] (told-unchanged w (fused w (server_at w v) f) [] (sym (append-nil w.events)) tt (ap histories (append-nil w.events)) refl refl refl refl (λ v t. refl) (λ p here torn. here)) (λ n h. absurd cc)
 act-step tag w (Acknowledge n) f fair = Acks n fair
 act-step tag w (Drop n) f fair =
-    Passes None (dropped w n) [] (told-unchanged w (dropped w n) [] (sym (append-nil w.events)) tt (ap histories (append-nil w.events)) refl refl refl refl (λ v t. waiting-settled n v t w.control.pending fair)) (λ n h. absurd cc)
-act-step tag w (EndFreeze l m) f fair = Passes None (frozen w l m) (Frozen l m ∷ []) (told-unchanged w (frozen w l m) (Frozen l m ∷ []) refl (refl, tt) (histories-append w.events (Frozen l m ∷ [])) refl refl refl refl (λ v t. refl)) (λ n h. absurd cc)
-act-step tag w (EndThaw l m) f fair = Passes None (thawed w l m) (Thawed l m ∷ []) (told-unchanged w (thawed w l m) (Thawed l m ∷ []) refl (refl, tt) (histories-append w.events (Thawed l m ∷ [])) refl refl refl refl (λ v t. refl)) (λ n h. absurd cc)
-act-step tag w (EndRecovery s n) f fair = Passes None (recovered w s n) (Recovered s n ∷ []) (told-unchanged w (recovered w s n) (Recovered s n ∷ []) refl (refl, tt) (histories-append w.events (Recovered s n ∷ [])) refl refl refl refl (λ v t. refl)) (λ n h. absurd cc)
+    Passes None (dropped w n) [] (told-unchanged w (dropped w n) [] (sym (append-nil w.events)) tt (ap histories (append-nil w.events)) refl refl refl refl (λ v t. waiting-settled n v t w.control.pending fair.0)
+    (λ p here torn. elim (eqb_tells p.w n) [
+      | inl is ↦ absurd (torn (all-in _ p (filter (is_write n) w.control.pending) (to-filter (is_write n) w.control.pending p here is.0) fair.1))
+      | inr ne ↦ to-filter (is_other n) w.control.pending p here (ap not ne.0)
+    ])) (λ n h. absurd cc)
+act-step tag w (EndFreeze l m) f fair = Passes None (frozen w l m) (Frozen l m ∷ []) (told-unchanged w (frozen w l m) (Frozen l m ∷ []) refl (refl, tt) (histories-append w.events (Frozen l m ∷ [])) refl refl refl refl (λ v t. refl) (λ p here torn. here)) (λ n h. absurd cc)
+act-step tag w (EndThaw l m) f fair = Passes None (thawed w l m) (Thawed l m ∷ []) (told-unchanged w (thawed w l m) (Thawed l m ∷ []) refl (refl, tt) (histories-append w.events (Thawed l m ∷ [])) refl refl refl refl (λ v t. refl) (λ p here torn. here)) (λ n h. absurd cc)
+act-step tag w (EndRecovery s n) f fair = Passes None (recovered w s n) (Recovered s n ∷ []) (told-unchanged w (recovered w s n) (Recovered s n ∷ []) refl (refl, tt) (histories-append w.events (Recovered s n ∷ [])) refl refl refl refl (λ v t. refl) (λ p here torn. here)) (λ n h. absurd cc)
 
 pub act-runs : (tag : Option ℕ) (w : World) (a : Act) → Writes a → WindowMayDo tag w a → Runs w (place a)
 act-runs tag w (Make m) d fair = fair.0.runs
@@ -126,9 +143,9 @@ module _ (Fin : Option ℕ → World → Option Refusal → Type 0) where
 
     counts-chain : (tag : Option ℕ) (w : World) (a : Act) (more : World → List World) (go : World → Outcome) → Good tag w → WindowMayDo tag w a → CountsFin w a → Counts w a (Turned tag w more go)
     counts-chain tag w (Make m) more go good fair fin =
-        λ f. let c = fin f in Then tag None w (done_in_stop w m f) _ good (Stops m f (come w m fair.0) fair.1) (ends None _ _ (good_fin _ _ c) c)
+        λ f. let c = fin f in Then tag None w (done_in_stop w m f) _ good (Stops m f (come w m fair.0) fair.1 fair.2) (ends None _ _ (good_fin _ _ c) c)
     counts-chain tag w (OpenAttempt v s n) more go good fair fin =
-        λ f. let c = fin f in let m : Move = Hold v s n true in Then tag None w (opened_in_stop w v s n f) _ good (Others None (done_in_stop w m f) _ (Stops m f (come-open w v s n fair) tt)) (ends None _ _ (good_fin _ _ c) c)
+        λ f. let c = fin f in let m : Move = Hold v s n true in Then tag None w (opened_in_stop w v s n f) _ good (Others None (done_in_stop w m f) _ (Stops m f (come-open w v s n fair) tt tt)) (ends None _ _ (good_fin _ _ c) c)
     counts-chain tag w a more go good fair fin = tt
 
     next-chain : (tag : Option ℕ) (w : World) (x : Next) (more : World → List World) (go_on : World → Outcome) (then : Option ℕ → World → Type 0)
@@ -147,8 +164,8 @@ module _ (Fin : Option ℕ → World → Option Refusal → Type 0) where
     entries-chain [] tag w a = ends tag w None a.0 a.1
     entries-chain (d ∷ ds) tag w a = next-chain tag w (d w.control) (λ v. worlds v ds) (λ v. carry v ds) (λ tag v. WindowAlong tag v ds) (λ tag v b. entries-chain ds tag v b) a.0 a.1
 
-pub good-none : (w : World) → SoundRows (table w) → Good None w
-good-none w rows = record { rows = rows; low = λ n is. absurd cc; out = λ n is. absurd cc }
+pub good-none : (w : World) → SoundRows (table w) → Fresh w → Lone (servers w.control) w.control.pending → Good None w
+good-none w rows fresh lone = record { rows = rows; low = λ n is. absurd cc; out = λ n is. absurd cc; fresh = fresh; lone = lone }
 
 -- a control state that differs in the sessions and messages alone
 pub record Retabled (j k : Control) : Type 0 where
@@ -167,7 +184,7 @@ close : (w u : World) (k : Control) (told : List Event) → Retabled w.control k
     → u.events ≡ w.events ++ told → u.control.volume ≡ k.volume → u.contents ≡ w.contents → u.control.issued ≡ k.issued → u.control.volumes ≡ k.volumes → u.control.pending ≡ k.pending → Unchanged w u told
 close w u k told other takes lists events volume contents issued volumes pending =
     told-unchanged w u told events takes lists (volume ∙ ap (λ (k : Control). k.volume) other.is) contents (issued ∙ ap (λ (k : Control). k.issued) other.is) (volumes ∙ ap (λ (k : Control). k.volumes) other.is)
-    (λ v t. ap (λ ps. waiting ps v t) pending ∙ ap (λ (k : Control). waiting k.pending v t) other.is)
+    (λ v t. ap (λ ps. waiting ps v t) pending ∙ ap (λ (k : Control). waiting k.pending v t) other.is) (λ p here torn. subst (In p) (sym (pending ∙ ap (λ (k : Control). k.pending) other.is)) here)
 
 abbrev pub ended : World → World → ℕ → Said → World
 ended first w line a = masters_lost first (said w line a)
@@ -181,7 +198,7 @@ lost-closes : (first : World) → Closes first (λ w r. masters_lost first w)
 lost-closes first w k r other = ([], close w (masters_lost first (record w { control = k })) k [] other tt (ap histories (append-nil w.events)) (sym (append-nil w.events)) refl refl refl refl refl)
 
 -- K holds between steps
-module _ (K : World → Type 0) (rows : (w : World) → K w → SoundRows (table w)) (answers : (first w : World) (line : ℕ) (a : Said) → K w → K (ended first w line a)) where
+module _ (K : World → Type 0) (is_good : (w : World) → K w → Good None w) (answers : (first w : World) (line : ℕ) (a : Said) → K w → K (ended first w line a)) where
   -- how what follows a stop ends, and how a plan's entries end
   abbrev pub EndFin : Option ℕ → World → Option Refusal → Type 0
   EndFin tag w r = K w
@@ -203,7 +220,7 @@ module _ (K : World → Type 0) (rows : (w : World) → K w → SoundRows (table
     pub last : Leaves p
 
   good-end : (w : World) (r : Option Refusal) → EndFin None w r → Good None w
-  good-end w r k = good-none w (rows w k)
+  good-end w r k = is_good w k
 
   good-window : (Fin : Option ℕ → World → Option Refusal → Type 0) (tag : Option ℕ) (w : World) (ds : List Entry) → WindowAlong Fin tag w ds → Good tag w
   unfolding WindowAlong
@@ -212,10 +229,10 @@ module _ (K : World → Type 0) (rows : (w : World) → K w → SoundRows (table
 
   good-plan : (p : Plan) → Leaves p → (w : World) (r : Option Refusal) → PlanFin p None w r → Good None w
   good-plan p last w None k =
-      let same : table (record w { control = p.last w.control }) ≡ table w = ap (λ (k : Control). table (record w { control = k })) (last w.control).is in
-      good-none w (subst SoundRows same (rows (record w { control = p.last w.control }) k))
+      let g : Good None (record w { control = record w.control { sessions = (last w.control).sessions; flight = (last w.control).flight } }) = subst (λ k. Good None (record w { control = k })) (last w.control).is (is_good (record w { control = p.last w.control }) k) in
+      good-none w g.rows (record { unacked = g.fresh.unacked; later = g.fresh.later }) g.lone
   good-plan p last w (Some (StoppedIn s)) a = good-window EndFin None w (p.follows s.0) a
-  good-plan p last w (Some r) k = good-none w (rows w k)
+  good-plan p last w (Some r) k = is_good w k
 
   module _ (first : World) (p : Plan) (last : Leaves p) (over : World → Option Refusal → World) (closes : Closes first over) (kept : (w : World) (r : Option Refusal) → K w → K (over w r))
       (more : World → List World) (goes_on : (w : World) → K w → Chain None w (more w)) where
@@ -237,7 +254,7 @@ module _ (K : World → Type 0) (rows : (w : World) → K w → SoundRows (table
 
     pub plan-chain : K first → WindowHolds first p → Chain None first (begun first p ∷ (worlds (begun first p) p.entries ++ rest (carry (begun first p) p.entries)))
     plan-chain k fair =
-        Then None None first (begun first p) _ (good-none first (rows first k)) (Passes None (begun first p) fair.told fair.begins (λ n h. absurd cc)) (entries-chain (PlanFin p) rest ends (good-plan p last) p.entries None (begun first p) fair.entries)
+        Then None None first (begun first p) _ (is_good first k) (Passes None (begun first p) fair.told fair.begins (λ n h. absurd cc)) (entries-chain (PlanFin p) rest ends (good-plan p last) p.entries None (begun first p) fair.entries)
 
     -- the same as its moments are listed
     pub moments-chain : K first → WindowHolds first p → let o : Outcome = carry (begun first p) p.entries in
@@ -326,5 +343,5 @@ module _ (K : World → Type 0) (rows : (w : World) → K w → SoundRows (table
 
     pub run-chain : (tasks : List Task) (w : World) → K w → Chain None w (moments_from w tasks)
     unfolding moments_from
-    run-chain [] w k = Last None w (good-none w (rows w k))
+    run-chain [] w k = Last None w (is_good w k)
     run-chain (t ∷ ts) w k = task-chain w t k (λ v. moments_from v ts) (λ v k. run-chain ts v k)

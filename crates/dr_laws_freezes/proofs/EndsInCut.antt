@@ -32,6 +32,18 @@ last-from (t ∷ ts) w =
 pub last-moment : (tasks : List Task) (before later : List World) (first : World) → moments tasks ≡ before ++ (first ∷ later) → last_of first later ≡ run tasks
 last-moment tasks before later first is = sym (last-behind before nothing first later) ∙ ap (last_of nothing) (sym is) ∙ last-from tasks nothing
 
+-- and it stands behind the others
+pub record IsBehind (us : List World) (last : World) : Type 0 where
+  pub before : List World
+  pub is : us ≡ before ++ (last ∷ [])
+
+last-is : (w : World) (us : List World) → IsBehind (w ∷ us) (last_of w us)
+last-is w [] = record { before = []; is = refl }
+last-is w (u ∷ us) = let rest = last-is u us in record { before = w ∷ rest.before; is = ap (λ us. w ∷ us) rest.is }
+
+pub run-behind : (tasks : List Task) → IsBehind (moments tasks) (run tasks)
+run-behind tasks = subst (IsBehind (moments tasks)) (last-moment tasks [] (moments_from nothing tasks) nothing refl) (last-is nothing (moments_from nothing tasks))
+
 -- each volume of a run has its tracks on its device
 abbrev pub OnDevices : (ℕ → Blocks) → World → Type 0
 OnDevices device w = (v t : ℕ) → is_volume w.control v ≡ true → t < (w.control.volume v).tracks → on_device w.control device v t ≡ w.contents v t

@@ -12,9 +12,10 @@ use Rattle.dr_model.specs.declared.event.Event.{Event}
 use Rattle.dr_model.specs.declared.event.Event.TheVariants.{Stopped}
 use Rattle.dr_model.specs.Control.{Pending, Volume, Fuse, World, is_volume}
 use Rattle.dr_model.specs.Pairs.{is_metro, is_full_duplex, is_torn, is_engaged, first_state, next_state, with_more, state_with, is_last}
-use Rattle.dr_model.specs.Moves.{Move, Land, Overwrite, Restore, Strike, Suspend, MakePrimary, DropPrimary, Resume, TakeOver, FallBack, Yield, Unsync, LandBoth, Lift, Restart, Hold, Free as FreeMove, Finish, target, told, told_in_stop, settled, settled_in_stop, landed, is_write, is_other, marked, fields_left, keeps_staged, moved_keeping}
+use Rattle.dr_model.specs.Moves.{Move, Land, Overwrite, Restore, Strike, Suspend, MakePrimary, DropPrimary, Resume, TakeOver, FallBack, Yield, Unsync, Mirror, LandBoth, Lift, Restart, Hold, Free as FreeMove, Finish, target, told, told_in_stop, settled, settled_in_stop, landed, is_write, is_other, marked, fields_left, keeps_staged, moved_keeping}
 use Rattle.dr_model.specs.Entries.{fields_at}
-use Rattle.dr_model.specs.Allowed.{Runs}
+use Rattle.dr_model.specs.Groups.{In}
+use Rattle.dr_model.specs.Allowed.{Coming, Runs}
 use Rattle.dr_model.specs.Laws.{AllPending}
 use Rattle.dr_laws_closed.proofs.Pendings.{each-on}
 use Rattle.dr_laws_freezes.specs.Windows.{is_ack}
@@ -56,14 +57,30 @@ Gentle f (FallBack v more state) = state ≡ state_with more f
 Gentle f (Unsync v t) = ⊥
 Gentle f m = Unit {0}
 
+-- write n on track t of v is pending, and hasn't landed
+pub record Goes (w : World) (n v t : ℕ) : Type 0 where
+  pub p : Pending
+  pub number : p.w ≡ n
+  pub here : In p w.control.pending
+  pub coming : Coming v t p
+
+-- What a move asks so that of each Full Duplex primary at most one track is out of sync, and its secondary is ahead there by a pending
+-- write, or not at all: a track gets out of sync only where none is; what a secondary stores first is pending; and a primary gets a
+-- secondary that gives up its own part only where nothing is out of sync.
+abbrev pub LeavesOneOut : World → Move → Type 0
+LeavesOneOut w (Unsync v t) = Clean (fields_at w.control v)
+LeavesOneOut w (Mirror v t u n) = Goes w n u t
+LeavesOneOut w (Yield v u kind state) = Clean (fields_at w.control u)
+LeavesOneOut w m = Gentle (fields_at w.control (target m)) m
+
 -- which state is Full Duplex
-first-duplex : (kind : Part) (full : Bool) (n t : ℕ) → is_full_duplex (first_state kind full) ≡ true → contains (cond full (all_tracks n) empty) t ≡ false
+pub first-duplex : (kind : Part) (full : Bool) (n t : ℕ) → is_full_duplex (first_state kind full) ≡ true → contains (cond full (all_tracks n) empty) t ≡ false
 first-duplex Absent full n t h = absurd cc
 first-duplex Metro true n t h = absurd cc
 first-duplex Metro false n t h = empty_has t
 first-duplex Global full n t h = absurd cc
 
-next-duplex : (f : Fields) → is_full_duplex (next_state f) ≡ true → is_bare f.out_of_sync ≡ true
+pub next-duplex : (f : Fields) → is_full_duplex (next_state f) ≡ true → is_bare f.out_of_sync ≡ true
 next-duplex f h = by (is_metro f.primary) (is_bare f.out_of_sync) h
   where
     by : (a b : Bool) → is_full_duplex (cond (a && b) FullDuplex CopyPending) ≡ true → b ≡ true

@@ -17,6 +17,7 @@ use Rattle.dr_model.specs.Carry.{acknowledged}
 use Rattle.dr_model.specs.Sessions.{Session}
 use Rattle.dr_model.specs.Entries.{fields_at}
 use Rattle.dr_model.specs.Table.{table, waiting}
+use Rattle.dr_model.specs.Groups.{In}
 use Rattle.dr_model.specs.Laws.{SoundRows}
 use Rattle.dr_laws_freezes.specs.Windows.{later_mirrored, is_ack, is_back_to}
 use Rattle.dr_facts.proofs.Tables.{IsOrNot, at_part}
@@ -25,6 +26,7 @@ use Rattle.dr_laws_sound.proofs.RowsAfter.{calm}
 use Rattle.dr_laws_sound.proofs.Due.{waiting-marked_else, waiting-marked_here}
 use Rattle.dr_facts.proofs.Issued.{told-writes, with-told}
 use Rattle.dr_laws_sound.proofs.Unissued.{stopped-writes}
+use Rattle.dr_laws_freezes.proofs.InSync.{is_synced, Clean, LeavesOneOut}
 use Rattle.dr_laws_freezes.proofs.WindowTracks.{unacked, still-waits, Stays, Holds, Window, Quiet, window-quiet, unacked-told}
 use Rattle.dr_laws_freezes.proofs.WindowMoves.{MayCome, WindowMay, tag_after}
 use Rattle.dr_facts.proofs.Emits.{Of, of-all}
@@ -44,7 +46,7 @@ pub record Acknowledges (w : World) (n : ℕ) : Type 0 where
   pub gone : waiting (filter (is_other n) w.control.pending) volume track ≡ []
   pub else : (u q : ℕ) → (u ≢ volume) ⊎ (q ≢ track) → waiting (filter (is_other n) w.control.pending) u q ≡ waiting w.control.pending u q
 
--- from w to u no volume changes that is defined, and no write lands; these events are told
+-- from w to u no volume changes that is defined, and no write lands, nor goes that is on a volume with a track out of sync; these events are told
 pub record Unchanged (w u : World) (es : List Event) : Type 0 where
   pub events : u.events ≡ w.events ++ es
   pub takes : TakesNone es
@@ -56,6 +58,8 @@ pub record Unchanged (w u : World) (es : List Event) : Type 0 where
   pub holds : (v : ℕ) → (fields_at u.control v).flash_hold ≡ true → (fields_at w.control v).flash_hold ≡ true
   pub contents : (v : ℕ) → is_volume w.control v ≡ true → (t : ℕ) → u.contents v t ≡ w.contents v t
   pub lists : (v : ℕ) → is_volume w.control v ≡ true → (t : ℕ) → lists u.events v t ≡ lists w.events v t
+  pub synced : (v : ℕ) → is_synced (fields_at u.control v) ≡ true → u.control.volume v ≡ w.control.volume v
+  pub pends : (p : Pending) → In p w.control.pending → (Clean (fields_at w.control p.volume) → ⊥) → In p u.control.pending
   pub acked : (n : ℕ) → list_any (is_ack n) w.events ≡ true → (histories u.events).write n ≡ (histories w.events).write n
 
 -- a world with other sessions
@@ -64,8 +68,8 @@ others w ss = record w { control = record w.control { sessions = ss } }
 
 -- one moment of a run and the next, each with the write that goes on
 pub data Step (tag : Option ℕ) (w : World) : Option ℕ → World → Type 0 where
-  Does : (m : Move) → (f : Option Fuse) → MayCome w m → WindowMay tag w m → Step tag w (tag_after m tag) (done w m f)
-  Stops : (m : Move) → (f : Option Fuse) → MayCome w m → WindowMay tag w m → Step tag w None (done_in_stop w m f)
+  Does : (m : Move) → (f : Option Fuse) → MayCome w m → WindowMay tag w m → LeavesOneOut w m → Step tag w (tag_after m tag) (done w m f)
+  Stops : (m : Move) → (f : Option Fuse) → MayCome w m → WindowMay tag w m → LeavesOneOut w m → Step tag w None (done_in_stop w m f)
   Acks : (n : ℕ) → Acknowledges w n → Step tag w None (acknowledged w n)
   Others : (next : Option ℕ) → (u : World) → (ss : List Session) → Step tag w next u → Step tag w next (others u ss)
   Passes : (next : Option ℕ) → (u : World) → (es : List Event) → Unchanged w u es → ((n : ℕ) → next ≡ Some n → tag ≡ Some n) → Step tag w next u
@@ -282,7 +286,7 @@ module _ (v q : ℕ) where
     }
 
     pub window-step : (next : Option ℕ) (u : World) → Step tag w next u → Stays v q u → ((es : List Event) → u.events ≡ w.events ++ es → Backless es) → Next g next w u
-    window-step _ _ (Does m f may fair) st2 back =
+    window-step _ _ (Does m f may fair asks) st2 back =
         let u : Volume = w.control.volume (target m) in
         let off : Off m = off-done m u (back _ refl) in
         record {
@@ -292,7 +296,7 @@ module _ (v q : ℕ) where
           window = does-by m f may fair st2 (kind m may off);
           grows = grows-apart v w (done w m f) (told m u) refl (apart-told v q w rows st m may.allowed (no-restore m off) u);
         }
-    window-step _ _ (Stops m f may fair) st2 back =
+    window-step _ _ (Stops m f may fair asks) st2 back =
         let u : Volume = w.control.volume (target m) in
         let off : Off m = off-stop m u u.server (landed m) (back _ refl) in
         record {

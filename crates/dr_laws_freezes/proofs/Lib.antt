@@ -15,6 +15,10 @@
 -- - A law between steps that a step breaks and restores (`FullDuplexInSync`: nothing is out of sync on a Full Duplex primary whose
 --   server is on) has a form with a hole for the volume at work (`FullDuplexInSyncBut`, `WindowWithin.antt`), and one lemma that fills
 --   it again (`heal`).
+-- **A law on each moment** (`secondaries_lack_no_write`: `Secondaries.antt`). It goes along the same chain: `EachOneOut` is what each `Step` keeps,
+-- by the move's own volume (`first`), by its partner's (`second`), or by another's (`else-most`). What such a law asks of a move beside
+-- `WindowMay` is `LeavesOneOut` (`InSync.antt`), which `leaves-one` has of acts between which a primary that runs is in sync; what it asks of a
+-- moment is in `Good`.
 -- **A law over the steps behind one** (`no_write_lands_after_a_freeze`: `LongBusy.antt`, `LongBusySteps.antt`, `FreezesHold.antt`). What
 -- lasts is a record on a world (`Frozen`); `frozen-act` says which acts keep it, and `does-frozen` that a step which doesn't let the
 -- volume go does such acts alone. What a step has changed as its entries begin is `Begun.antt`. What holds between steps beside it,
@@ -34,6 +38,7 @@ pub mod WindowPlans
 pub mod WindowBegins
 pub mod WindowPairs
 pub mod WindowCopy
+pub mod WindowFailback
 pub mod WindowStart
 pub mod WindowWithin
 pub mod WindowDrain
@@ -44,4 +49,6 @@ pub mod LongBusy
 pub mod LongBusySteps
 pub mod FreezesHold
 pub mod EndsInCut
+pub mod Secondaries
+pub mod LostSite
 pub mod Thaws

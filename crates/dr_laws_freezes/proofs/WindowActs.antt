@@ -1,12 +1,12 @@
 -- Acts that do what windows ask, and keep what holds of pairs, and entries that come to them.
-use Rattle.std.proofs.Common.{ℕ, ◌≡◌, refl, sym, subst, Bool, true, false, cond, List, [], ◌∷◌, Option, Some, None}
+use Rattle.std.proofs.Common.{ℕ, ◌≡◌, refl, sym, subst, Bool, true, false, cond, List, [], ◌∷◌, filter, Option, Some, None}
 use Rattle.dr_ids.specs.declared.refusal.Refusal.{Refusal}
 use Rattle.dr_model.specs.declared.event.Event.TheVariants.{Frozen, Thawed, Recovered}
 use Rattle.dr_model.specs.Control.{Control, Fuse, World}
-use Rattle.dr_model.specs.Moves.{Move, Hold, target, is_other}
+use Rattle.dr_model.specs.Moves.{Move, Hold, Unsync, Mirror, Yield, target, is_write, is_other}
 use Rattle.dr_model.specs.Carry.{Act, Make, OpenAttempt, attempt_begun, Redo, Acknowledge, Drop, EndFreeze, EndThaw, EndRecovery, dropped, frozen, thawed, recovered, Next, Pass, Do, End, Entry, check}
 use Rattle.dr_model.specs.Entries.{fields_at}
-use Rattle.dr_model.specs.Laws.{Sound}
+use Rattle.dr_model.specs.Laws.{Sound, AllPending}
 use Rattle.dr_laws_closed.proofs.Pendings.{all-filter}
 use Rattle.dr_laws_sound.proofs.Turns.{done, done_in_stop, opened_in_stop, server_of, after_act, server_at, fused}
 use Rattle.dr_laws_sound.proofs.Along as along
@@ -15,7 +15,7 @@ use Rattle.dr_model.specs.Allowed.{May}
 use Rattle.dr_model.specs.PairEntries.{end_if, refuse_if}
 use Rattle.dr_facts.proofs.Entries.{any_reason, AllFine, FineFrom, FromThen, from-all}
 use Rattle.dr_laws_freezes.proofs.WindowMoves.{WindowMay, tag_after, come, come-open}
-use Rattle.dr_laws_freezes.proofs.InSync.{Gentle, FullDuplexInSync, in_sync-done, in_sync-stop, in_sync-not, in_sync-same, fresh-told}
+use Rattle.dr_laws_freezes.proofs.InSync.{Gentle, Clean, LeavesOneOut, FullDuplexInSync, in_sync-done, in_sync-stop, in_sync-not, in_sync-same, fresh-told}
 use Rattle.dr_laws_freezes.proofs.Chains.{WindowMayDo, act_tag, CountsFin, window_next, WindowAlong, window-entry, window-nil, good-none}
 use Rattle.std.proofs.lemmas.List.{append-nil}
 
@@ -28,6 +28,7 @@ pub record Between (w : World) : Type 0 where
 abbrev pub KeepsPairs : World → Act → Type 0
 KeepsPairs w (Make m) = WindowMay None w m × Gentle (fields_at w.control (target m)) m × (tag_after m None ≡ None)
 KeepsPairs w (Acknowledge n) = ⊥
+KeepsPairs w (Drop n) = AllPending (λ p. Clean (fields_at w.control p.volume)) (filter (is_write n) w.control.pending)
 KeepsPairs w a = Unit {0}
 
 module _ (w : World) (in_sync : FullDuplexInSync w) where
@@ -45,10 +46,17 @@ module _ (w : World) (in_sync : FullDuplexInSync w) where
   act-in_sync (EndThaw l m) f may keeps = in_sync-same w (thawed w l m) refl refl (λ j h. h) (fresh-told w (thawed w l m) (Thawed l m ∷ []) refl refl in_sync.fresh.unacked (λ n. refl) in_sync.fresh) in_sync
   act-in_sync (EndRecovery s n) f may keeps = in_sync-same w (recovered w s n) refl refl (λ j h. h) (fresh-told w (recovered w s n) (Recovered s n ∷ []) refl refl in_sync.fresh.unacked (λ n. refl) in_sync.fresh) in_sync
 
-act-may : (w : World) (a : Act) → MayDo w a → KeepsPairs w a → WindowMayDo None w a
-act-may w (Make m) may keeps = (may, keeps.0)
-act-may w (Acknowledge n) may keeps = absurd keeps
-act-may w a may keeps = may
+leaves-one : (w : World) → Between w → (m : Move) → May w m → KeepsPairs w (Make m) → LeavesOneOut w m
+leaves-one w k (Unsync v t) may keeps = absurd keeps.1
+leaves-one w k (Mirror v t u n) may keeps = let no : Some n ≡ None = keeps.2 in absurd cc
+leaves-one w k (Yield v u kind state) may keeps = k.in_sync.clean u (k.sound.rows.parts.secondary v u may.allowed.sends).defined keeps.0
+leaves-one w k m may keeps = keeps.1
+
+act-may : (w : World) → Between w → (a : Act) → MayDo w a → KeepsPairs w a → WindowMayDo None w a
+act-may w k (Make m) may keeps = (may, keeps.0, leaves-one w k m may keeps)
+act-may w k (Acknowledge n) may keeps = absurd keeps
+act-may w k (Drop n) may keeps = (may, keeps)
+act-may w k a may keeps = may
 
 act-none : (w : World) (a : Act) → KeepsPairs w a → act_tag a None ≡ None
 act-none w (Make m) keeps = keeps.2
@@ -69,7 +77,7 @@ module _ (Fin : Option ℕ → World → Option Refusal → Type 0) (fin : (w : 
 
   pub window-act : (w : World) (a : Act) (then : Option ℕ → World → Type 0) → Between w → MayDo w a → KeepsPairs w a → ((f : Option Fuse) → Between (after_act w a f) → then None (after_act w a f)) → window_next Fin None w (Do a) then
   window-act w a then k may keeps on = (
-    act-may w a may keeps,
+    act-may w k a may keeps,
     λ f. subst (λ tag. then tag (after_act w a f)) (sym (act-none w a keeps)) (on f (record { sound = keeps-sound.does w a f k.sound may; in_sync = act-in_sync w k.in_sync a f may keeps })),
     (counts-fin w a k may keeps, λ d f. fin _ _ (record { sound = keeps-sound.fails w a f d k.sound may; in_sync = in_sync-not w (server_of w a) f k.in_sync })),
   )
@@ -93,9 +101,9 @@ module _ (Fin : Option ℕ → World → Option Refusal → Type 0) (fin : (w : 
 
     pub window-entries : (ds : List Entry) (w : World) → Between w → J w → Comes w ds → Runs w ds → WindowAlong Fin None w ds
     unfolding FineFrom
-    window-entries [] w k j fine a = window-nil Fin None w (good-none w k.sound.rows) (ends w k (along.along-ends Sound Sound E MayDo w a))
+    window-entries [] w k j fine a = window-nil Fin None w (good-none w k.sound.rows k.in_sync.fresh k.sound.queue.lone) (ends w k (along.along-ends Sound Sound E MayDo w a))
     window-entries (d ∷ ds) w k j fine a =
-        window-entry Fin None w d ds (d w.control) refl (good-none w k.sound.rows) (window-decides w (d w.control) ds (window-entries ds) k j fine (along.along-comes Sound Sound E MayDo w d ds (d w.control) refl a))
+        window-entry Fin None w d ds (d w.control) refl (good-none w k.sound.rows k.in_sync.fresh k.sound.queue.lone) (window-decides w (d w.control) ds (window-entries ds) k j fine (along.along-comes Sound Sound E MayDo w d ds (d w.control) refl a))
 
 -- such an act that leaves what is known
 abbrev pub Leaves : (World → Type 0) → World → Act → Type 0
@@ -109,18 +117,18 @@ module _ (Fin : Option ℕ → World → Option Refusal → Type 0) (fin : (w : 
 
   pub window-move : (w : World) → Between w → (d : Entry) (m : Move) (ds : List Entry) → d w.control ≡ Do (Make m) → May w m → WindowMay None w m → Gentle (fields_at w.control (target m)) m → tag_after m None ≡ None
       → ((f : Option Fuse) → Between (done w m f) → WindowAlong Fin None (done w m f) ds) → WindowAlong Fin None w (d ∷ ds)
-  window-move w k d m ds is may fair gentle none go = window-entry Fin None w d ds (Do (Make m)) is (good-none w k.sound.rows) (window-act Fin (λ w r. fin w (Some r)) w (Make m) (λ tag v. WindowAlong Fin tag v ds) k may (fair, gentle, none) go)
+  window-move w k d m ds is may fair gentle none go = window-entry Fin None w d ds (Do (Make m)) is (good-none w k.sound.rows k.in_sync.fresh k.sound.queue.lone) (window-act Fin (λ w r. fin w (Some r)) w (Make m) (λ tag v. WindowAlong Fin tag v ds) k may (fair, gentle, none) go)
 
   -- what passed a check
   pub window-check : (w : World) → Between w → (ok : Control → Bool) (r : Refusal) (ds : List Entry) → Along w (check ok r ∷ ds) → (ok w.control ≡ true → Along w ds → WindowAlong Fin None w ds) → WindowAlong Fin None w (check ok r ∷ ds)
-  window-check w k ok r ds a go = window-entry Fin None w (check ok r) ds (cond (ok w.control) Pass (End r)) refl (good-none w k.sound.rows) (by (ok w.control) refl (comes w (check ok r) ds (cond (ok w.control) Pass (End r)) refl a))
+  window-check w k ok r ds a go = window-entry Fin None w (check ok r) ds (cond (ok w.control) Pass (End r)) refl (good-none w k.sound.rows k.in_sync.fresh k.sound.queue.lone) (by (ok w.control) refl (comes w (check ok r) ds (cond (ok w.control) Pass (End r)) refl a))
     where
       by : (b : Bool) → ok w.control ≡ b → Then w (cond b Pass (End r)) (λ v. Along v ds) → window_next Fin None w (cond b Pass (End r)) (λ tag v. WindowAlong Fin tag v ds)
       by true is a = go is a
       by false is a = fin w (Some r) k
 
   pub window-refuse : (w : World) → Between w → (why : Control → Option Refusal) (ds : List Entry) → Along w (refuse_if why ∷ ds) → (why w.control ≡ None → Along w ds → WindowAlong Fin None w ds) → WindowAlong Fin None w (refuse_if why ∷ ds)
-  window-refuse w k why ds a go = window-entry Fin None w (refuse_if why) ds (end_if (why w.control)) refl (good-none w k.sound.rows) (by (why w.control) refl (comes w (refuse_if why) ds (end_if (why w.control)) refl a))
+  window-refuse w k why ds a go = window-entry Fin None w (refuse_if why) ds (end_if (why w.control)) refl (good-none w k.sound.rows k.in_sync.fresh k.sound.queue.lone) (by (why w.control) refl (comes w (refuse_if why) ds (end_if (why w.control)) refl a))
     where
       by : (o : Option Refusal) → why w.control ≡ o → Then w (end_if o) (λ v. Along v ds) → window_next Fin None w (end_if o) (λ tag v. WindowAlong Fin tag v ds)
       by None is a = go is a

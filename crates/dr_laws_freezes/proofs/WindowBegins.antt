@@ -10,11 +10,13 @@ use Rattle.dr_model.specs.Control.{Control, Pending, Volume, World, is_volume, n
 use Rattle.dr_model.specs.Plans.{Plan, volume_done, volume_refusal, with_pending}
 use Rattle.dr_model.specs.Runs.{begun}
 use Rattle.dr_model.specs.Table.{waiting}
+use Rattle.dr_model.specs.Groups.{In}
 use Rattle.dr_model.specs.Laws.{AllPending}
 use Rattle.dr_model.proofs.Images.{histories-append}
 use Rattle.dr_laws_closed.proofs.Pendings.{each-on, all-more}
 use Rattle.dr_laws_freezes.specs.Windows.{is_ack}
 use Rattle.dr_facts.proofs.Tables.{at_cases}
+use Rattle.dr_facts.proofs.Lists.{in-first}
 use Rattle.dr_laws_sound.proofs.Cases.{Case, is-new}
 use Rattle.dr_laws_freezes.proofs.WindowMoves.{Unacked}
 use Rattle.dr_facts.proofs.Emits.{Of, of-all}
@@ -23,7 +25,7 @@ use Rattle.dr_laws_freezes.proofs.Begun as before
 use Rattle.dr_laws_freezes.proofs.Begun.{Beside}
 use Rattle.dr_laws_freezes.proofs.KeepsStep.{Unchanged}
 use Rattle.dr_laws_freezes.proofs.KeepsMirror.{still-unacked}
-use Rattle.dr_laws_freezes.proofs.InSync.{Clean, Free, Fresh, FullDuplexInSync, in_sync-same, fresh-told}
+use Rattle.dr_laws_freezes.proofs.InSync.{is_synced, Clean, Free, Fresh, FullDuplexInSync, in_sync-same, fresh-told}
 use Rattle.dr_laws_freezes.proofs.Chains.{told-unchanged}
 use Rattle.dr_logic.proofs.Truth.{false_true}
 use Rattle.dr_logic.proofs.Tables.{at_other}
@@ -74,6 +76,8 @@ module _ (w : World) (in_sync : FullDuplexInSync w) (v t offset len : ℕ) (byte
     holds = λ x h. h;
     contents = λ x there q. refl;
     lists = λ x there q. ap (λ (h : Histories). h.now x q) (histories-append w.events (e ∷ []));
+    synced = λ x h. refl;
+    pends = λ p here torn. in-first w.control.pending _ p here;
     acked = λ n h. ap (λ (h : Histories). h.write n) (histories-append w.events (e ∷ [])) ∙ at_other (histories w.events).write (w.control.issued + 1) _ n (λ is. false_true (in_sync.fresh.later n (let h : n ≡ w.control.issued + 1 = is in omega arith)) h);
   }
 
@@ -88,7 +92,7 @@ module _ (w : World) (h : FullDuplexInSync w) where
   beside-begins j told x =
       let u : World = record w { control = j; events = w.events ++ told } in
       record {
-        unchanged = told-unchanged w u told refl x.takes x.lists x.volume refl x.issued x.volumes (λ v t. ap (λ ps. waiting ps v t) x.pending);
+        unchanged = told-unchanged w u told refl x.takes x.lists x.volume refl x.issued x.volumes (λ v t. ap (λ ps. waiting ps v t) x.pending) (λ p here torn. subst (In p) (sym x.pending) here);
         in_sync = λ on. in_sync-same w u x.volume x.volumes on (fresh-told w u told refl x.issued (subst (AllPending (λ p. Unacked w p.w)) (sym x.pending) h.fresh.unacked) (λ n. of-all (Of takes_none) _ (unacked takes_none refl n) told x.takes) h.fresh) h;
       }
 
@@ -110,6 +114,8 @@ module _ (w : World) (h : FullDuplexInSync w) where
           holds = λ x. at_cases (λ x (y : Volume). y.fields.flash_hold ≡ true → (fields_at w.control x).flash_hold ≡ true) w.control.volume v (new_volume s tracks) (λ h. absurd cc) (λ x ne h. h) x;
           contents = λ x there t. refl;
           lists = λ x there t. ap (λ (h : Histories). h.now x t) (histories-append w.events (e ∷ [])) ∙ ap (λ (f : ℕ → List ℕ). f t) (at_other (lists w.events) v (λ t. []) x (other x there));
+          synced = λ x. at_cases (λ x (y : Volume). is_synced y.fields ≡ true → y ≡ w.control.volume x) w.control.volume v (new_volume s tracks) (λ h. absurd cc) (λ x ne h. refl) x;
+          pends = λ p here torn. here;
           acked = λ n h. ap (λ (h : Histories). h.write n) (histories-append w.events (e ∷ []));
         };
         in_sync = λ on. record {

@@ -21,7 +21,7 @@ use Rattle.dr_laws_sound.proofs.FitsCopy.{along-copy}
 use Rattle.dr_laws_freezes.proofs.InSync.{is_synced}
 use Rattle.dr_laws_freezes.proofs.Chains.{PlanFin}
 use Rattle.dr_laws_freezes.proofs.WindowActs.{Between, Leaves, window-leaves}
-use Rattle.dr_laws_freezes.proofs.WindowPlans.{rows-between, answers-between, begun-between, EntriesHold, fin}
+use Rattle.dr_laws_freezes.proofs.WindowPlans.{good-between, answers-between, begun-between, EntriesHold, fin}
 use Rattle.dr_model.specs.declared.said.Said.{Said}
 use Rattle.dr_facts.proofs.Entries.{any_reason, FineFrom, from-check, from-all, fine-times}
 use Rattle.dr_facts.proofs.SharedEntries.{copied-fine}
@@ -75,4 +75,4 @@ module _ (w : World) (k : Between w) (t : ℕ) (most : Option ℕ) where
   pub window-copy : EntriesHold w p
   window-copy =
       let said : Said = Done (Counted (at_most most (left_to_copy w.control t))) in
-      window-leaves (PlanFin Between rows-between answers-between p) (fin p.entries said) Stays p.entries start (begun-between w k) (λ quiet. quiet) copies (along-copy w k.sound t most)
+      window-leaves (PlanFin Between good-between answers-between p) (fin p.entries said) Stays p.entries start (begun-between w k) (λ quiet. quiet) copies (along-copy w k.sound t most)

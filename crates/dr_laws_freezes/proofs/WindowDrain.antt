@@ -29,7 +29,7 @@ use Rattle.dr_laws_freezes.proofs.InSync.{is_synced}
 use Rattle.dr_laws_freezes.proofs.Chains.{WindowAlong, window-entry, window-nil, good-none, PlanFin}
 use Rattle.dr_laws_freezes.proofs.WindowActs.{Between, window-move, window-check, window-refuse}
 use Rattle.dr_laws_freezes.proofs.WindowWithin.{Keeps, window-copies, within-between, window-after}
-use Rattle.dr_laws_freezes.proofs.WindowPlans.{rows-between, answers-between, begun-between, EntriesHold}
+use Rattle.dr_laws_freezes.proofs.WindowPlans.{good-between, answers-between, begun-between, EntriesHold}
 use Rattle.dr_logic.proofs.Choices.{chosen, choose_some}
 use Rattle.dr_facts.proofs.Tables.{at_part}
 use Rattle.dr_logic.proofs.Truth.{false_true}
@@ -120,7 +120,7 @@ module _ (Fin : Option ℕ → World → Option Refusal → Type 0) (fin : (w : 
       goes w k x al =
           window-refuse Fin fin w k (send_refusal a b) (refuse_if (flashed_refusal b) ∷ stored) al (λ none al.
           window-refuse Fin fin w k (flashed_refusal b) stored al (λ plain al.
-          window-copies Fin None Lasts (λ v y. y.0.sound) (λ v y. good-none v y.0.sound.rows) keeps-lasts b t volumes (store_on a b t ∷ strike_on a t ∷ more) w (k, x) al (λ v y. stores v y.0 y.1)))
+          window-copies Fin None Lasts (λ v y. y.0.sound) (λ v y. good-none v y.0.sound.rows y.0.in_sync.fresh y.0.sound.queue.lone) keeps-lasts b t volumes (store_on a b t ∷ strike_on a t ∷ more) w (k, x) al (λ v y. stores v y.0 y.1)))
 
       module _ (w : World) (f : Option Fuse) (k : Between w) (x : Sends w) where
         abbrev why : ℕ → Volume → Option Refusal
@@ -138,14 +138,14 @@ module _ (Fin : Option ℕ → World → Option Refusal → Type 0) (fin : (w : 
       suspends-by w None k x is al =
           let d : Entry = suspend_where (send_refusal a b) a in
           let passes : d w.control ≡ Pass = ap (λ o. cond (is_some o) (Do (Make (Suspend a false))) Pass) is in
-          window-entry Fin None w d refusals Pass passes (good-none w k.sound.rows) (goes w k x (comes w d refusals Pass passes al))
+          window-entry Fin None w d refusals Pass passes (good-none w k.sound.rows k.in_sync.fresh k.sound.queue.lone) (goes w k x (comes w d refusals Pass passes al))
       suspends-by w (Some r) k x is al =
           let d : Entry = suspend_where (send_refusal a b) a in
           let does : d w.control ≡ Do (Make (Suspend a false)) = ap (λ o. cond (is_some o) (Do (Make (Suspend a false))) Pass) is in
           let one = comes w d refusals (Do (Make (Suspend a false))) does al in
           window-move Fin fin w k d (Suspend a false) refusals does one.0 tt tt refl (λ f z.
           let u : World = done w (Suspend a false) f in
-          window-entry Fin None u (refuse_if (send_refusal a b)) (refuse_if (flashed_refusal b) ∷ stored) (End r) (ap end_if (still-refused w f k x ∙ is)) (good-none u z.sound.rows) (fin u (Some r) z))
+          window-entry Fin None u (refuse_if (send_refusal a b)) (refuse_if (flashed_refusal b) ∷ stored) (End r) (ap end_if (still-refused w f k x ∙ is)) (good-none u z.sound.rows z.in_sync.fresh z.sound.queue.lone) (fin u (Some r) z))
 
       sends-one : (w : World) → Between w → Sends w → Along w (send_entries volumes a b t ++ more) → WindowAlong Fin None w (send_entries volumes a b t ++ more)
       sends-one w k x al =
@@ -154,7 +154,7 @@ module _ (Fin : Option ℕ → World → Option Refusal → Type 0) (fin : (w : 
           subst (WindowAlong Fin None w) (sym assoc) (suspends-by w (send_refusal a b w.control) k x refl (subst (Along w) assoc al))
 
     pub sends-all : (ts : List ℕ) (w : World) → Between w → Sends w → Along w (sends volumes a b ts) → WindowAlong Fin None w (sends volumes a b ts)
-    sends-all [] w k x al = window-nil Fin None w (good-none w k.sound.rows) (fin w None k)
+    sends-all [] w k x al = window-nil Fin None w (good-none w k.sound.rows k.in_sync.fresh k.sound.queue.lone) (fin w None k)
     sends-all (t ∷ ts) w k x al = sends-one t (sends volumes a b ts) (λ v k x al. sends-all ts v k x al) w k x al
 
 -- a primary in Copy Pending is drained
@@ -163,7 +163,7 @@ module _ (w : World) (k : Between w) (a : ℕ) (most : Option ℕ) where
   p = drain_plan w.control a most
 
   abbrev Fins : Option ℕ → World → Option Refusal → Type 0
-  Fins = PlanFin Between rows-between answers-between p
+  Fins = PlanFin Between good-between answers-between p
 
   fins : (u : World) (r : Option Refusal) → Between u → Fins None u r
   fins u None b = b

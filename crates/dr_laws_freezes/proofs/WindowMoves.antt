@@ -5,11 +5,11 @@ use Rattle.std.specs.FinSet.{contains}
 use Rattle.dr_model.specs.Layout.{Fields, is_part}
 use Rattle.dr_model.specs.Control.{World}
 use Rattle.dr_model.specs.Pairs.{is_metro}
-use Rattle.dr_model.specs.Moves.{Move, Land, Store, Strike, MakePrimary, Mirror, LandBoth, Hold}
+use Rattle.dr_model.specs.Moves.{Move, Land, Store, Strike, MakePrimary, Yield, Mirror, LandBoth, Hold}
 use Rattle.dr_model.specs.Entries.{fields_at}
 use Rattle.dr_model.specs.Histories.{histories}
 use Rattle.dr_model.specs.Table.{table}
-use Rattle.dr_model.specs.Allowed.{Allowed, Ready, May, MayOpen}
+use Rattle.dr_model.specs.Allowed.{Allowed, Ready, Runs, May, MayOpen}
 use Rattle.dr_laws_freezes.specs.Windows.{is_ack}
 use Rattle.dr_laws_freezes.proofs.WindowTracks.{is_firm}
 
@@ -25,7 +25,8 @@ abbrev pub OnlyOut : World → ℕ → ℕ → Type 0
 OnlyOut w u t = (x : ℕ) → x ≢ t → contains (fields_at w.control u).out_of_sync x ≡ false
 
 -- No write lands on a locked primary alone; what is sent from one its secondary has already, and what it strikes off isn't out
--- of sync. From one a write is mirrored where no other track is out of sync, and it lands on both sides where it was mirrored last.
+-- of sync. From one a write is mirrored where no other track is out of sync, and it lands on both sides where it was mirrored last. A
+-- primary gets a secondary that gives up its own part only where its server is on.
 abbrev pub WindowMay : Option ℕ → World → Move → Type 0
 WindowMay tag w (Land n v t) = is_locked (fields_at w.control v) ≡ false
 WindowMay tag w (Store v t u last) = is_locked (fields_at w.control u) ≡ true → w.contents u t ≡ w.contents v t
@@ -33,6 +34,7 @@ WindowMay tag w (Strike v t last) = is_locked (fields_at w.control v) ≡ true �
 WindowMay tag w (MakePrimary v u kind state full) = is_part (fields_at w.control v).primary ≡ false
 WindowMay tag w (Mirror v t u n) = (is_locked (fields_at w.control u) ≡ true → OnlyOut w u t) × Unacked w n
 WindowMay tag w (LandBoth n v t) = (tag ≡ Some n) × Unacked w n
+WindowMay tag w (Yield v u kind state) = Runs w u
 WindowMay tag w m = Unit {0}
 
 -- the write that goes on after a move: its secondary has stored it, and it hasn't landed

@@ -21,7 +21,7 @@ use Rattle.dr_laws_sound.proofs.FitsFlash.{as_begun}
 use Rattle.dr_laws_sound.proofs.FitsPairs.{along-pair, row}
 use Rattle.dr_laws_freezes.proofs.Chains.{WindowAlong, window-nil, PlanFin, good-none}
 use Rattle.dr_laws_freezes.proofs.WindowActs.{Between, window-move, window-check, window-refuse}
-use Rattle.dr_laws_freezes.proofs.WindowPlans.{rows-between, answers-between, begun-between, EntriesHold, fin}
+use Rattle.dr_laws_freezes.proofs.WindowPlans.{good-between, answers-between, begun-between, EntriesHold, fin}
 use Rattle.dr_logic.proofs.Tables.{at_other}
 
 -- the two moves that make a pair
@@ -43,14 +43,14 @@ module _ (Fin : Option ℕ → World → Option Refusal → Type 0) (fin : (w : 
       let two = comes w2 (now first) [] (Do (Make first)) refl (one.1 f k2.sound) in
       let ne : a ≢ b = λ e. one.0.allowed.apart (ap (λ j. (w.control.volume j).server) (sym e)) in
       let none : is_part (fields_at w2.control a).primary ≡ false = ap (λ (y : Volume). is_part y.fields.primary) (at_other w.control.volume b (row w second f) a ne) ∙ one.0.allowed.from_first in
-      window-move Fin fin w2 k2 (now first) first [] refl two.0 none refl refl (λ g k3. window-nil Fin None (done w2 first g) (good-none (done w2 first g) k3.sound.rows) (fin (done w2 first g) None k3)))
+      window-move Fin fin w2 k2 (now first) first [] refl two.0 none refl refl (λ g k3. window-nil Fin None (done w2 first g) (good-none (done w2 first g) k3.sound.rows k3.in_sync.fresh k3.sound.queue.lone) (fin (done w2 first g) None k3)))
 
 module _ (w : World) (k : Between w) (devs : Devs) (a b : ℕ) (kind : Part) (choices : PairChoices) where
   abbrev entries : List Entry
   entries = (make_pair_plan w.control w.events devs a b kind choices).entries
 
   abbrev Fins : Option ℕ → World → Option Refusal → Type 0
-  Fins = PlanFin Between rows-between answers-between (make_pair_plan w.control w.events devs a b kind choices)
+  Fins = PlanFin Between good-between answers-between (make_pair_plan w.control w.events devs a b kind choices)
 
   abbrev start : World
   start = as_begun w

@@ -9,8 +9,7 @@ use Rattle.dr_model.specs.Control.{Control, World}
 use Rattle.dr_model.specs.Carry.{Act, Entry, carry}
 use Rattle.dr_model.specs.Plans.{Plan, same, none_follow, entries_plan}
 use Rattle.dr_model.specs.Runs.{begun, finish, masters_lost, said}
-use Rattle.dr_model.specs.Table.{table}
-use Rattle.dr_model.specs.Laws.{Sound, SoundRows, AllPending}
+use Rattle.dr_model.specs.Laws.{Sound, AllPending}
 use Rattle.dr_facts.proofs.Entries.{any_world, FineFrom}
 use Rattle.dr_laws_closed.proofs.Regroups.{regroups-same}
 use Rattle.dr_laws_sound.proofs.Along as along
@@ -22,12 +21,13 @@ use Rattle.dr_laws_sound.proofs.GoesOn.{goes-same}
 use Rattle.dr_laws_sound.proofs.Steps.{sound-said}
 use Rattle.dr_laws_freezes.proofs.WindowMoves.{Unacked}
 use Rattle.dr_laws_freezes.proofs.InSync.{in_sync-same, fresh-told}
+use Rattle.dr_laws_freezes.proofs.Windows.{Good}
 use Rattle.dr_laws_freezes.proofs.Chains.{ended, WindowAlong, window-nil, EndFin, PlanFin, WindowHolds, Leaves, good-none}
 use Rattle.dr_laws_freezes.proofs.WindowActs.{Between, KeepsPairs, window-entries}
 use Rattle.dr_laws_freezes.proofs.WindowBegins.{Begins}
 
-pub rows-between : (w : World) → Between w → SoundRows (table w)
-rows-between w k = k.sound.rows
+pub good-between : (w : World) → Between w → Good None w
+good-between w k = good-none w k.sound.rows k.in_sync.fresh k.sound.queue.lone
 
 pub answers-between : (first w : World) (line : ℕ) (a : Said) → Between w → Between (ended first w line a)
 answers-between first w line a k = record {
@@ -44,7 +44,7 @@ loses-between first w k = record {
 }
 
 abbrev pub PlanHolds : World → Plan → Type 0
-PlanHolds = WindowHolds Between rows-between answers-between
+PlanHolds = WindowHolds Between good-between answers-between
 
 pub begun-between : (w : World) → Between w → Between (as_begun w)
 begun-between w k = record {
@@ -54,17 +54,17 @@ begun-between w k = record {
 
 -- what is to be shown of a plan's entries
 abbrev pub EntriesHold : World → Plan → Type 0
-EntriesHold w p = WindowAlong (PlanFin Between rows-between answers-between p) None (begun w p) p.entries
+EntriesHold w p = WindowAlong (PlanFin Between good-between answers-between p) None (begun w p) p.entries
 
 -- how the entries of a plan end that is nothing but them
-pub fin : (entries : List Entry) (a : Said) (u : World) (r : Option Refusal) → Between u → PlanFin Between rows-between answers-between (entries_plan entries a) None u r
+pub fin : (entries : List Entry) (a : Said) (u : World) (r : Option Refusal) → Between u → PlanFin Between good-between answers-between (entries_plan entries a) None u r
 fin entries a u None b = b
-fin entries a u (Some (StoppedIn s)) b = window-nil (EndFin Between rows-between answers-between) None u (good-none u b.sound.rows) b
+fin entries a u (Some (StoppedIn s)) b = window-nil (EndFin Between good-between answers-between) None u (good-none u b.sound.rows b.in_sync.fresh b.sound.queue.lone) b
 fin entries a u (Some r) b = b
 
 -- ---- plans
 
-module _ (w : World) (k : Between w) (p : Plan) (begins : Begins w (begun w p) p.told) (leaves : Leaves Between rows-between answers-between p) where
+module _ (w : World) (k : Between w) (p : Plan) (begins : Begins w (begun w p) p.told) (leaves : Leaves Between good-between answers-between p) where
   abbrev u : World
   u = begun w p
 
@@ -72,7 +72,7 @@ module _ (w : World) (k : Between w) (p : Plan) (begins : Begins w (begun w p) p
   NoneOn = (j : ℕ) → u.control.on j ≡ true → w.control.on j ≡ true
 
   abbrev Fins : Option ℕ → World → Option Refusal → Type 0
-  Fins = PlanFin Between rows-between answers-between p
+  Fins = PlanFin Between good-between answers-between p
 
   -- without entries
   sound-tables : StepHolds w p → p.entries ≡ [] → ((j : Control) → p.last j ≡ j) → Sound u
@@ -87,10 +87,10 @@ module _ (w : World) (k : Between w) (p : Plan) (begins : Begins w (begun w p) p
   pub window-tables : StepHolds w p → NoneOn → p.entries ≡ [] → ((j : Control) → p.last j ≡ j) → PlanHolds w p
   window-tables holds on none last =
       let b : Between u = record { sound = sound-tables holds none last; in_sync = begins.in_sync on } in
-      window-by (subst (WindowAlong Fins None u) (sym none) (window-nil Fins None u (good-none u b.sound.rows) (subst (λ j. Between (record u { control = j })) (sym (last u.control)) b)))
+      window-by (subst (WindowAlong Fins None u) (sym none) (window-nil Fins None u (good-none u b.sound.rows b.in_sync.fresh b.sound.queue.lone) (subst (λ j. Between (record u { control = j })) (sym (last u.control)) b)))
 
   -- of entries that come where they may
-  module _ (on : NoneOn) (orders : Orders w p) (follow : (s : ℕ) (v : World) → Between v → WindowAlong (EndFin Between rows-between answers-between) None v (p.follows s)) where
+  module _ (on : NoneOn) (orders : Orders w p) (follow : (s : ℕ) (v : World) → Between v → WindowAlong (EndFin Between good-between answers-between) None v (p.follows s)) where
     first-between : Between u
     first-between = record { sound = orders.begins; in_sync = begins.in_sync on }
 

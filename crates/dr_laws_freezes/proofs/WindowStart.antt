@@ -31,7 +31,7 @@ use Rattle.dr_laws_freezes.proofs.WindowMoves.{Unacked, come}
 use Rattle.dr_laws_freezes.proofs.InSync.{Clean, Free, free-left, clean-left, Fresh, FullDuplexInSync, fresh-by, fresh-told, fresh-done, fresh-stop, all-other, above}
 use Rattle.dr_laws_freezes.proofs.Chains.{WindowAlong, window_next, window-entry, window-nil, PlanFin, EndFin, good-none}
 use Rattle.dr_laws_freezes.proofs.WindowActs.{Between}
-use Rattle.dr_laws_freezes.proofs.WindowPlans.{rows-between, answers-between, EntriesHold}
+use Rattle.dr_laws_freezes.proofs.WindowPlans.{good-between, answers-between, EntriesHold}
 use Rattle.dr_facts.proofs.Tracks.{bare-has}
 use Rattle.dr_logic.proofs.Tables.{at_same, at_other}
 
@@ -80,15 +80,15 @@ module _ (s : ℕ) where
     p = start_plan w0.control s
 
     abbrev Fin : Option ℕ → World → Option Refusal → Type 0
-    Fin = PlanFin Between rows-between answers-between p
+    Fin = PlanFin Between good-between answers-between p
 
     fin : (u : World) (r : Option Refusal) → Between u → Fin None u r
     fin u None b = b
-    fin u (Some (StoppedIn x)) b = window-nil (EndFin Between rows-between answers-between) None u (good-none u b.sound.rows) b
+    fin u (Some (StoppedIn x)) b = window-nil (EndFin Between good-between answers-between) None u (good-none u b.sound.rows b.in_sync.fresh b.sound.queue.lone) b
     fin u (Some r) b = b
 
     acknowledges : (w : World) → Going [] w → WindowAlong Fin None w (acknowledge_on s ∷ [])
-    acknowledges w g = window-entry Fin None w (acknowledge_on s) [] (acknowledge_if (option_map (λ (p : Pending). p.w) (starts.first_landed s w))) refl (good-none w g.inner.sound.rows) (by (starts.first_landed s w) refl)
+    acknowledges w g = window-entry Fin None w (acknowledge_on s) [] (acknowledge_if (option_map (λ (p : Pending). p.w) (starts.first_landed s w))) refl (good-none w g.inner.sound.rows g.fresh g.inner.sound.queue.lone) (by (starts.first_landed s w) refl)
       where
         by : (o : Option Pending) → starts.first_landed s w ≡ o → window_next Fin None w (acknowledge_if (option_map (λ (p : Pending). p.w) o)) (λ tag v. WindowAlong Fin tag v [])
         by None none =
@@ -96,7 +96,7 @@ module _ (s : ℕ) where
               sound = starts.sound-free s w g.inner.sound (starts.none-found (servers w.control) (is_volume w.control) s w.control.pending (starts.are-defined s w g.inner.sound) none);
               in_sync = record { clean = λ v there runs. g.clean v there runs (λ e. refl); free = g.free; fresh = g.fresh };
             } in
-            window-nil Fin None w (good-none w g.inner.sound.rows) b
+            window-nil Fin None w (good-none w g.inner.sound.rows g.fresh g.inner.sound.queue.lone) b
         by (Some x) first =
             let u : World = acknowledged w x.w in
             let gone = starts.gone s w g.inner.sound x first in
@@ -111,13 +111,13 @@ module _ (s : ℕ) where
               };
             } in (
               record { number = waits.number; volume = x.volume; track = x.track; on_volume = waits.volume; on_track = waits.track; here = gone.here; gone = gone.gone; else = gone.else },
-              λ f. window-nil Fin None u (good-none u b.sound.rows) b,
+              λ f. window-nil Fin None u (good-none u b.sound.rows b.in_sync.fresh b.sound.queue.lone) b,
               (tt, λ d f. absurd d),
             )
 
     -- a volume writes its staged track to its place
     redoes : (w : World) (v : ℕ) (left : List ℕ) (ds : List Entry) → Going left w → ((k : World) → Going left k → WindowAlong Fin None k ds) → WindowAlong Fin None w (redo_on s v ∷ ds)
-    redoes w v left ds g go = window-entry Fin None w (redo_on s v) ds (cond (belongs w.control s v) (Do (Redo v)) Pass) refl (good-none w g.inner.sound.rows) (by (belongs w.control s v) refl)
+    redoes w v left ds g go = window-entry Fin None w (redo_on s v) ds (cond (belongs w.control s v) (Do (Redo v)) Pass) refl (good-none w g.inner.sound.rows g.fresh g.inner.sound.queue.lone) (by (belongs w.control s v) refl)
       where
         by : (b : Bool) → belongs w.control s v ≡ b → window_next Fin None w (cond b (Do (Redo v)) Pass) (λ tag v. WindowAlong Fin tag v ds)
         by false is = go w g
@@ -139,7 +139,7 @@ module _ (s : ℕ) where
     -- and goes on
     restarts : (w : World) (v : ℕ) (left : List ℕ) (ds : List Entry) → Going (v ∷ left) w → ((k : World) → Going left k → WindowAlong Fin None k ds) → WindowAlong Fin None w (restart_on s v ∷ ds)
     restarts w v left ds g go =
-        window-entry Fin None w (restart_on s v) ds (cond (belongs w.control s v && must_restart (fields_at w.control v)) (Do (Make (Restart v))) Pass) refl (good-none w g.inner.sound.rows)
+        window-entry Fin None w (restart_on s v) ds (cond (belongs w.control s v && must_restart (fields_at w.control v)) (Do (Make (Restart v))) Pass) refl (good-none w g.inner.sound.rows g.fresh g.inner.sound.queue.lone)
         (by (belongs w.control s v && must_restart (fields_at w.control v)) refl)
       where
         -- the others are as they were
@@ -162,7 +162,7 @@ module _ (s : ℕ) where
             let may : starts.OnServer s w v = record { own = own; on = g.inner.on } in
             let frees : ((f : Option Fuse) (u : ℕ) → Free (at w.control.volume v (row w (Restart v) f) u).fields) = λ f u. at_cases (λ u (y : Volume). Free y.fields) w.control.volume v (row w (Restart v) f) (free-left (Restart v) (w.control.volume v) tt (g.free v)) (λ u ne. g.free u) u in
             let servers_are : ((f : Option Fuse) (u : ℕ) → (at w.control.volume v (row w (Restart v) f) u).server ≡ servers w.control u) = λ f u. at_part (λ (y : Volume). y.server) w.control.volume v (row w (Restart v) f) refl u in (
-              (starts.may-restart s w v may, tt),
+              (starts.may-restart s w v may, tt, tt),
               λ f. go (done w (Restart v) f) (record {
                 inner = (starts.keeps s).does w (Make (Restart v)) f g.inner may;
                 clean = λ u there runs none. at_cases (λ u (y : Volume). is_volume w.control u ≡ true → Runs w u → (servers w.control u ≡ s → list_any (nat_eq u) left ≡ false) → Clean y.fields) w.control.volume v (row w (Restart v) f)

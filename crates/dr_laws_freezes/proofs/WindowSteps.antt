@@ -1,7 +1,7 @@
 -- Each step's plan does what freeze windows ask, and so the law of freeze windows holds of every run.
 use Rattle.std.proofs.Common.{ℕ, ◌≡◌, refl, Bool, true, false, List, [], None, Result, Ok, Err}
 use Rattle.dr_model.specs.declared.step.Step.{Step}
-use Rattle.dr_model.specs.declared.step.Step.TheVariants.{Write, Apply, Drain, Start, Copy, MakePair}
+use Rattle.dr_model.specs.declared.step.Step.TheVariants.{Write, Apply, Drain, Start, Copy, MakePair, Failback}
 use Rattle.dr_model.specs.Control.{Control, World, nothing}
 use Rattle.dr_model.specs.Carry.{Act}
 use Rattle.dr_model.specs.Plans.{Plan}
@@ -12,7 +12,7 @@ use Rattle.dr_facts.proofs.Entries.{any_world, from-all}
 use Rattle.dr_facts.proofs.Reasons.{NoStop}
 use Rattle.dr_facts.proofs.Tables.{at_cases}
 use Rattle.dr_laws_sound.proofs.Cases.{Case, Writes, Applies, Stops, Starts, MakesFlash, RemovesFlash, ResyncsFlash, ReversesFlash, Copies, Destages as DestagesCase, MakesPair, RemovesPair, PausesPair, ResumesPair, FailsOver, FailsBack, Compares, Drains, Expires, Freezes, Unfreezes, AddsMember, RemovesMember, Exchanges, Delivers, Recovers, Settles, Commits, Reverts, Releases}
-use Rattle.dr_laws_sound.proofs.Does.{IsWrite, Issued, Found, IsSend, Drained, Collided, Does, Acts, Late, MakesPrimary, Resumes, FallsBack, GivesBack, Destages, Stores, Strikes, Lands, Unsyncs, Mirrors, LandsBoth, Drops, Redoes, Acknowledges, EndsFreeze, EndsThaw, EndsRecovery, OrdersAttempt}
+use Rattle.dr_laws_sound.proofs.Does.{IsWrite, Issued, Found, IsSend, Drained, Collided, Does, Acts, Late, MakesPrimary, Resumes, FallsBack, Yields, GivesBack, Destages, Stores, Strikes, Lands, Unsyncs, Mirrors, LandsBoth, Drops, Redoes, Acknowledges, EndsFreeze, EndsThaw, EndsRecovery, OrdersAttempt}
 use Rattle.dr_laws_sound.proofs.DoesPlans.{Entered, case-does}
 use Rattle.dr_laws_sound.proofs.Steps.{sound-nothing, case-holds, ending-holds}
 use Rattle.dr_laws_sound.proofs.FitsMembers.{orders-added, orders-expelled}
@@ -23,7 +23,7 @@ use Rattle.dr_laws_sound.proofs.FitsSessions.{Orders}
 use Rattle.dr_laws_sound.proofs.FitsDestage.{along-destage}
 use Rattle.dr_laws_sound.proofs.FitsFlash.{as_begun, sound-begun, along-flash, along-withdraw, along-resync, along-reverse}
 use Rattle.dr_laws_sound.proofs.FitsPairs.{along-remove, along-pause, along-resume}
-use Rattle.dr_laws_sound.proofs.FitsFailover.{along-failover, along-failback, along-compare}
+use Rattle.dr_laws_sound.proofs.FitsFailover.{along-failover, along-compare}
 use Rattle.dr_laws_sound.proofs.FitsHolds.{freezes, thaws, lifts, releases}
 use Rattle.dr_model.specs.Laws.{Sound}
 use Rattle.dr_laws_sound.proofs.Listed.{image-lines}
@@ -33,10 +33,11 @@ use Rattle.dr_laws_freezes.proofs.Windows.{Chain, freeze-cut}
 use Rattle.dr_laws_freezes.proofs.Chains.{run-chain, EndFin, retabled-none}
 use Rattle.dr_laws_freezes.proofs.WindowActs.{Between, KeepsPairs, window-entries}
 use Rattle.dr_laws_freezes.proofs.WindowBegins.{Begins, beside-begins, case-begins}
-use Rattle.dr_laws_freezes.proofs.WindowPlans.{rows-between, answers-between, loses-between, PlanHolds, EntriesHold, window-by, window-tables, window-plan, alone}
+use Rattle.dr_laws_freezes.proofs.WindowPlans.{good-between, answers-between, loses-between, PlanHolds, EntriesHold, window-by, window-tables, window-plan, alone}
 use Rattle.dr_laws_freezes.proofs.WindowPairs.{window-pair}
 use Rattle.dr_laws_freezes.proofs.WindowCopy.{window-copy}
 use Rattle.dr_laws_freezes.proofs.WindowDrain.{window-drain}
+use Rattle.dr_laws_freezes.proofs.WindowFailback.{window-failback}
 use Rattle.dr_laws_freezes.proofs.WindowStart.{window-start}
 use Rattle.dr_laws_freezes.proofs.WindowWrites.{window-writes, window-applies}
 
@@ -51,7 +52,7 @@ between-nothing = record {
   };
 }
 
--- steps that land a host write, send or restore tracks, or make a primary or start one again
+-- steps that land a host write, send or restore tracks, or make a primary or a secondary of one, or start one again
 abbrev lands_tracks : Result Step ℕ → Bool
 lands_tracks (Ok (Write v t offset len bytes)) = true
 lands_tracks (Ok (Apply n)) = true
@@ -59,6 +60,7 @@ lands_tracks (Ok (Drain a most)) = true
 lands_tracks (Ok (Start name)) = true
 lands_tracks (Ok (Copy t most)) = true
 lands_tracks (Ok (MakePair devs a b n choices)) = true
+lands_tracks (Ok (Failback devs x y n)) = true
 lands_tracks asked = false
 
 module _ (k : Control) where
@@ -78,13 +80,14 @@ module _ (k : Control) where
   keeps-pairs none w _ (Unsyncs n v t is) = absurd (no-write is none)
   keeps-pairs none w _ (Mirrors n v t is over) = absurd (no-write is none)
   keeps-pairs none w _ (LandsBoth n v t is free) = absurd (no-write is none)
-  keeps-pairs none w _ (Drops n v t is) = tt
+  keeps-pairs none w _ (Drops n v t is) = absurd (no-write is none)
   keeps-pairs none w _ (MakesPrimary a b kind state full free) = absurd cc
   keeps-pairs none w _ (GivesBack q t back) = absurd cc
   keeps-pairs none w _ (Redoes v) = tt
   keeps-pairs none w _ (Acknowledges s n is) = absurd cc
   keeps-pairs none w _ (Resumes a) = (tt, refl, refl)
-  keeps-pairs none w _ (FallsBack x y kind leads) = (tt, refl, refl)
+  keeps-pairs none w _ (FallsBack x y kind leads) = absurd cc
+  keeps-pairs none w _ (Yields x y kind state back) = absurd cc
   keeps-pairs none w _ (Destages v) = tt
   keeps-pairs none w _ (EndsFreeze l m) = tt
   keeps-pairs none w _ (EndsThaw l m) = tt
@@ -104,7 +107,7 @@ module _ (w : World) (k : Between w) (line : ℕ) where
       let does : Entered w asked p = case-does w line asked p c in
       let keeps = λ (v : World) (a : Act) (d : Acts w.control asked v a). keeps-pairs w.control none v a d in
       window-plan w k p (case-begins w k.in_sync line asked p c) (leaves w.control w.events line asked p c) (none-on asked p c none) orders
-      (λ s v b. window-entries (EndFin Between rows-between answers-between) (λ u r b. b) any_world any_world Sound (Acts w.control asked) (Late asked) (Late asked) (λ r why. why) (λ v any. tt) (λ v a d any. keeps v a d) (λ v a f d any. tt) (λ u b sound. b) (p.follows s) v b tt (from-all any_world (Acts w.control asked) (Late asked) (Late asked) (λ r why. why) v tt (p.follows s) (does.follows s)) (orders.follows s v b.sound))
+      (λ s v b. window-entries (EndFin Between good-between answers-between) (λ u r b. b) any_world any_world Sound (Acts w.control asked) (Late asked) (Late asked) (λ r why. why) (λ v any. tt) (λ v a d any. keeps v a d) (λ v a f d any. tt) (λ u b sound. b) (p.follows s) v b tt (from-all any_world (Acts w.control asked) (Late asked) (Late asked) (λ r why. why) v tt (p.follows s) (does.follows s)) (orders.follows s v b.sound))
       (Acts w.control asked) NoStop (Late asked) (λ r why. why.why) keeps does.entries
 
   pub window-case : (asked : Result Step ℕ) (p : Plan) → Case w.control w.events line asked p → PlanHolds w p
@@ -129,7 +132,7 @@ module _ (w : World) (k : Between w) (line : ℕ) where
       by _ _ (PausesPair devs a b) made acts tables = acts refl (alone w k.sound _ _ (along-pause w k.sound devs a b))
       by _ _ (ResumesPair devs a b kind) made acts tables = acts refl (alone w k.sound _ _ (along-resume w k.sound devs a b kind))
       by _ _ (FailsOver devs b a kind) made acts tables = acts refl (alone w k.sound _ _ (along-failover w k.sound devs b a kind))
-      by _ _ (FailsBack devs x y kind) made acts tables = acts refl (alone w k.sound _ _ (along-failback w k.sound devs x y kind))
+      by _ _ (FailsBack devs x y kind) made acts tables = made (window-failback w k devs x y kind)
       by _ _ (Compares contents v u) made acts tables = window-acts (Err 0) _ (Compares contents v u) refl (alone w k.sound _ _ (along-compare w k.sound contents v u))
       by _ _ (Expires x on) made acts tables = acts refl (alone w k.sound _ _ (lifts x w.control.volumes (as_begun w) (sound-begun w k.sound) on.1))
       by _ _ (Freezes l m) made acts tables = acts refl (alone w k.sound _ _ (freezes l m w.control.volumes (as_begun w) (sound-begun w k.sound)))
@@ -151,7 +154,7 @@ module _ (w : World) (k : Between w) (line : ℕ) where
 
 -- the moments of a run
 pub chain-of : (tasks : List Task) → Chain None nothing (moments_from nothing tasks)
-chain-of tasks = run-chain Between rows-between answers-between loses-between (λ w line p case k. window-ending w k line p case) tasks nothing between-nothing
+chain-of tasks = run-chain Between good-between answers-between loses-between (λ w line p case k. window-ending w k line p case) tasks nothing between-nothing
 
 pub cut-run : (tasks : List Task) → FreezeCut tasks
 cut-run tasks = freeze-cut tasks None (chain-of tasks)

@@ -1,5 +1,5 @@
 -- Within a host write one track of its volume may be out of sync; where a server stops then, that volume's server is off, or it is suspended.
-use Rattle.std.proofs.Common.{ℕ, ◌≡◌, inl, inr, refl, ap, sym, ◌∙◌, subst, Bool, true, false, cond, not, ◌&&◌, List, [], ◌∷◌, ◌++◌, map, Option, Some, None}
+use Rattle.std.proofs.Common.{ℕ, ◌≡◌, inl, inr, refl, ap, sym, ◌∙◌, subst, Bool, true, false, cond, not, ◌&&◌, List, [], ◌∷◌, ◌++◌, map, filter, Option, Some, None}
 use Rattle.std.proofs.lemmas.Bool.{and_parts, and_from}
 use Rattle.std.proofs.lemmas.Bool.Decides.{eqb_tells}
 use Rattle.std.specs.FinSet.{contains}
@@ -10,11 +10,11 @@ use Rattle.dr_model.specs.declared.event.Event.TheVariants.{Stopped}
 use Rattle.dr_model.specs.Layout.{Fields, is_part}
 use Rattle.dr_model.specs.Pairs.{is_metro}
 use Rattle.dr_model.specs.Control.{Control, Fuse, Pending, Volume, World, is_volume}
-use Rattle.dr_model.specs.Moves.{Move, Keep, Note, Suspend, target, settled, settled_in_stop, keeps_staged, moved_keeping}
+use Rattle.dr_model.specs.Moves.{Move, Keep, Note, Suspend, target, is_write, settled, settled_in_stop, keeps_staged, moved_keeping}
 use Rattle.dr_model.specs.Carry.{Make, Drop, Next, Pass, Do, Entry, check}
 use Rattle.dr_model.specs.Entries.{fields_at, is_running, keep_on, copies_from, drop_unless, check_or_drop}
 use Rattle.dr_model.specs.WriteEntries.{partner_of, is_grouped, part_running, part_after}
-use Rattle.dr_model.specs.Laws.{Sound}
+use Rattle.dr_model.specs.Laws.{Sound, AllPending}
 use Rattle.dr_model.specs.Allowed.{May, Runs}
 use Rattle.dr_facts.proofs.Tables.{IsOrNot, at_cases, at_part}
 use Rattle.dr_laws_sound.proofs.Turns.{next_of, carried_in, done, done_in_stop, not_done, server_at, after_act}
@@ -25,11 +25,11 @@ use Rattle.dr_model.specs.PairEntries.{suspend_running, suspend_after}
 use Rattle.dr_laws_sound.proofs.FitsDrain.{suspends-after}
 use Rattle.dr_laws_sound.proofs.FitsWrites.{parts-after}
 use Rattle.dr_laws_freezes.proofs.WindowMoves.{WindowMay, tag_after, come}
-use Rattle.dr_laws_freezes.proofs.InSync.{is_synced, Unheld, unheld, Clean, Free, Fresh, FullDuplexInSync, free-left, fresh-done, fresh-stop, fresh-told}
+use Rattle.dr_laws_freezes.proofs.InSync.{is_synced, LeavesOneOut, Unheld, unheld, Clean, Free, Fresh, FullDuplexInSync, free-left, fresh-done, fresh-stop, fresh-told}
 use Rattle.dr_laws_freezes.proofs.Windows.{Good}
 use Rattle.dr_laws_freezes.proofs.Chains.{WindowAlong, window_next, window-entry, window-nil, StopFin, EndFin, good-none}
 use Rattle.dr_laws_freezes.proofs.WindowActs.{Between, window-act, window-check}
-use Rattle.dr_laws_freezes.proofs.WindowPlans.{rows-between, answers-between}
+use Rattle.dr_laws_freezes.proofs.WindowPlans.{good-between, answers-between}
 use Rattle.dr_facts.proofs.Parts.{metro-part}
 use Rattle.dr_logic.proofs.Truth.{false_true}
 use Rattle.dr_logic.proofs.Tables.{at_same, off_later}
@@ -117,7 +117,7 @@ module _ (v t : ℕ) where
   -- where a server stopped, v is suspended, or its server is off
   module _ (w : World) (k : Within w) (busy : Bool) where
     abbrev End : Option ℕ → World → Option Refusal → Type 0
-    End = EndFin Between rows-between answers-between
+    End = EndFin Between good-between answers-between
 
     abbrev m : Move
     m = Suspend v busy
@@ -133,30 +133,30 @@ module _ (v t : ℕ) where
 
     parts-by : (c : Bool) → (is_part (fields_at w.control v).primary && is_running v w.control) ≡ c → Then w (cond c (Do (Make m)) Pass) (λ u. Along u []) → window_next End None w (cond c (Do (Make m)) Pass) (λ tag u. WindowAlong End tag u [])
     parts-by true is a = (
-      (a.0, tt),
-      λ f. let b : Between (done w m f) = heal (done w m f) (within-done w m f k a.0 here) (λ runs h. false_true (off f) h) in window-nil End None (done w m f) (good-none (done w m f) b.sound.rows) b,
+      (a.0, tt, tt),
+      λ f. let b : Between (done w m f) = heal (done w m f) (within-done w m f k a.0 here) (λ runs h. false_true (off f) h) in window-nil End None (done w m f) (good-none (done w m f) b.sound.rows b.in_sync.fresh b.sound.queue.lone) b,
       (
         λ f. heal (done_in_stop w m f) (within-stop w m f k a.0 here) (λ runs h. false_true (off f) h),
         λ d f. heal (not_done w (server_at w v) f) (within-not w m f k a.0) (λ runs h. false_true (at_same w.control.on (server_at w v) false) runs),
       ),
     )
-    parts-by false is a = window-nil End None w (good-none w k.sound.rows)
+    parts-by false is a = window-nil End None w (good-none w k.sound.rows k.in_sync.fresh k.sound.queue.lone)
         (heal w k (λ runs h. false_true is (and_from _ _ (metro-part (fields_at w.control v).primary (and_parts (is_metro (fields_at w.control v).primary) _ h).0) runs)))
 
     window-suspend : (d : Entry) → d w.control ≡ what → Along w (d ∷ []) → WindowAlong End None w (d ∷ [])
-    window-suspend d is al = window-entry End None w d [] what is (good-none w k.sound.rows) (parts-by _ refl (comes w d [] what is al))
+    window-suspend d is al = window-entry End None w d [] what is (good-none w k.sound.rows k.in_sync.fresh k.sound.queue.lone) (parts-by _ refl (comes w d [] what is al))
 
-  pub window-part : (w : World) (k : Within w) (s : ℕ) → WindowAlong (EndFin Between rows-between answers-between) None w (part_after v s)
+  pub window-part : (w : World) (k : Within w) (s : ℕ) → WindowAlong (EndFin Between good-between answers-between) None w (part_after v s)
   window-part w k s = window-suspend w k (is_grouped w.control v (partner_of w.control v)) (part_running v) refl (parts-after v s w k.sound)
 
-  pub window-after : (w : World) (k : Within w) (s : ℕ) → WindowAlong (EndFin Between rows-between answers-between) None w (suspend_after v s)
+  pub window-after : (w : World) (k : Within w) (s : ℕ) → WindowAlong (EndFin Between good-between answers-between) None w (suspend_after v s)
   window-after w k s = window-suspend w k false (suspend_running v) refl (suspends-after v s w k.sound)
 
   -- a move within the write
   pub window-within : (Fin : Option ℕ → World → Option Refusal → Type 0) → ((u : World) (s : ℕ) → Within u → StopFin Fin u s u) → (tag : Option ℕ) (w : World) → Within w → (d : Entry) (m : Move) (ds : List Entry) → d w.control ≡ Do (Make m) → Good tag w
-      → May w m → WindowMay tag w m → Here w m → ((f : Option Fuse) → Within (done w m f) → WindowAlong Fin (tag_after m tag) (done w m f) ds) → WindowAlong Fin tag w (d ∷ ds)
-  window-within Fin stops tag w k d m ds is good may fair here go = window-entry Fin tag w d ds (Do (Make m)) is good (
-    (may, fair),
+      → May w m → WindowMay tag w m → LeavesOneOut w m → Here w m → ((f : Option Fuse) → Within (done w m f) → WindowAlong Fin (tag_after m tag) (done w m f) ds) → WindowAlong Fin tag w (d ∷ ds)
+  window-within Fin stops tag w k d m ds is good may fair asks here go = window-entry Fin tag w d ds (Do (Make m)) is good (
+    (may, fair, asks),
     λ f. go f (within-done w m f k may here),
     (
       λ f. stops (done_in_stop w m f) _ (within-stop w m f k may here),
@@ -193,9 +193,9 @@ module _ (Fin : Option ℕ → World → Option Refusal → Type 0) (tag : Optio
 
 -- a check that drops the write where it doesn't pass: then the plan ends
 pub window-dropped : (Fin : Option ℕ → World → Option Refusal → Type 0) → ((w : World) (r : Option Refusal) → Between w → Fin None w r) → (w : World) → Between w → (n : ℕ) (ok : Control → Bool) (r : Refusal) (ds : List Entry)
-    → ((ps : List Pending) → ok (record w.control { pending = ps }) ≡ ok w.control) → Along w (check_or_drop n ok r ++ ds) → (ok w.control ≡ true → Along w ds → WindowAlong Fin None w ds) → WindowAlong Fin None w (check_or_drop n ok r ++ ds)
-window-dropped Fin fin w k n ok r ds same al go =
-    window-entry Fin None w (drop_unless n ok) more (cond (ok w.control) Pass (Do (Drop n))) refl (good-none w k.sound.rows) (by (ok w.control) refl (comes w (drop_unless n ok) more (cond (ok w.control) Pass (Do (Drop n))) refl al))
+    → ((ps : List Pending) → ok (record w.control { pending = ps }) ≡ ok w.control) → AllPending (λ p. Clean (fields_at w.control p.volume)) (filter (is_write n) w.control.pending) → Along w (check_or_drop n ok r ++ ds) → (ok w.control ≡ true → Along w ds → WindowAlong Fin None w ds) → WindowAlong Fin None w (check_or_drop n ok r ++ ds)
+window-dropped Fin fin w k n ok r ds same clean al go =
+    window-entry Fin None w (drop_unless n ok) more (cond (ok w.control) Pass (Do (Drop n))) refl (good-none w k.sound.rows k.in_sync.fresh k.sound.queue.lone) (by (ok w.control) refl (comes w (drop_unless n ok) more (cond (ok w.control) Pass (Do (Drop n))) refl al))
   where
     more : List Entry
     more = check ok r ∷ ds
@@ -203,4 +203,4 @@ window-dropped Fin fin w k n ok r ds same al go =
     by : (b : Bool) → ok w.control ≡ b → Then w (cond b Pass (Do (Drop n))) (λ v. Along v more) → window_next Fin None w (cond b Pass (Do (Drop n))) (λ tag v. WindowAlong Fin tag v more)
     by true is a = window-check Fin fin w k ok r ds a go
     by false is a =
-        window-act Fin (λ w r. fin w (Some r)) w (Drop n) (λ tag v. WindowAlong Fin tag v more) k a.0 tt (λ f b. window-check Fin fin (after_act w (Drop n) f) b ok r ds (a.1 f b.sound) (λ passed al. false_true (same _ ∙ is) passed))
+        window-act Fin (λ w r. fin w (Some r)) w (Drop n) (λ tag v. WindowAlong Fin tag v more) k a.0 clean (λ f b. window-check Fin fin (after_act w (Drop n) f) b ok r ds (a.1 f b.sound) (λ passed al. false_true (same _ ∙ is) passed))

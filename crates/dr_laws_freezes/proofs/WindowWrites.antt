@@ -18,15 +18,17 @@ use Rattle.dr_model.specs.Carry.{Act, Make, Pass, Do, Entry, now}
 use Rattle.dr_model.specs.Entries.{fields_at, is_running, is_no_secondary, is_open, is_settled, keep_on, copy_first, land_on, land_alone}
 use Rattle.dr_model.specs.WriteEntries.{sends_first, where_sent, send_first, land_collided, after_write, partner_of, is_grouped, land_mirrored, land_parted, is_parted, land_over, landing, part_after}
 use Rattle.dr_model.specs.Plans.{Plan, same, issue_refusal, write_done, apply_done}
+use Rattle.dr_model.specs.Groups.{In}
 use Rattle.dr_model.specs.Laws.{AllPending}
-use Rattle.dr_model.specs.Allowed.{May, Runs}
+use Rattle.dr_model.specs.Allowed.{Coming, May, Runs}
 use Rattle.dr_laws_closed.proofs.Pendings.{all-filter}
 use Rattle.dr_laws_sound.proofs.Cases.{may-issue}
 use Rattle.dr_facts.proofs.Sets.{insert_other, not_removed}
 use Rattle.dr_laws_sound.proofs.Turns.{done, next_of}
 use Rattle.dr_laws_sound.proofs.KeepsSound.{Along, comes}
 use Rattle.dr_laws_sound.proofs.Issues.{issued, sound-issued, one-new}
-use Rattle.dr_laws_sound.proofs.Lands.{found-alone, waits, not-busy}
+use Rattle.dr_facts.proofs.Lists.{from-filter}
+use Rattle.dr_laws_sound.proofs.Lands.{found-alone, waits, may-ack, not-busy}
 use Rattle.dr_laws_sound.proofs.FitsFlash.{as_begun}
 use Rattle.dr_laws_sound.proofs.FitsPairs.{row, runs-done, part-same}
 use Rattle.dr_laws_sound.proofs.FitsWrites.{lands}
@@ -37,7 +39,7 @@ use Rattle.dr_laws_freezes.proofs.Chains.{WindowAlong, window-nil, StopFin, EndF
 use Rattle.dr_laws_freezes.proofs.WindowActs.{Between, Leaves, window-leaves, window-move, window-check}
 use Rattle.dr_facts.proofs.Entries.{any_reason, Fine, AllFine, fine-then, fine-one, fine-append, fine-if, from-all}
 use Rattle.dr_facts.proofs.SharedEntries.{where-fine, keep-fine, copies-fine}
-use Rattle.dr_laws_freezes.proofs.WindowPlans.{rows-between, answers-between, begun-between, EntriesHold}
+use Rattle.dr_laws_freezes.proofs.WindowPlans.{good-between, answers-between, begun-between, EntriesHold}
 use Rattle.dr_laws_freezes.proofs.WindowBegins.{issued-in_sync}
 use Rattle.dr_laws_freezes.proofs.WindowDrain.{locked-synced}
 use Rattle.dr_model.specs.declared.state.Part.TheVariants.{Global}
@@ -80,7 +82,7 @@ module _ (p : Pending) (Fin : Option ℕ → World → Option Refusal → Type 0
   One w = filter (is_write n) w.control.pending ≡ p ∷ []
 
   ends : (w : World) (m : Move) (f : Option Fuse) → Between (done w m f) → WindowAlong Fin None (done w m f) []
-  ends w m f b = window-nil Fin None (done w m f) (good-none (done w m f) b.sound.rows) (fin (done w m f) None b)
+  ends w m f b = window-nil Fin None (done w m f) (good-none (done w m f) b.sound.rows b.in_sync.fresh b.sound.queue.lone) (fin (done w m f) None b)
 
   -- It isn't mirrored: its volume is no Metro Mirror primary that is Full Duplex or locked, or it is a Global Copy primary, from which its
   -- track may be sent first.
@@ -158,11 +160,16 @@ module _ (p : Pending) (Fin : Option ℕ → World → Option Refusal → Type 0
     one : One w
     out : (j : ℕ) → tag ≡ Some j → (j ≡ n) × (contains (fields_at w.control v).out_of_sync t ≡ true)
 
+  found-in : (p : Pending) (ps : List Pending) → filter (is_write p.w) ps ≡ p ∷ [] → In p ps
+  found-in p ps one = (from-filter (is_write p.w) ps p (subst (In p) (sym one) (inl refl))).0
+
   good-both : (tag : Option ℕ) (w : World) → Both tag w → Good tag w
   good-both tag w k =
       let held = waits w k.within.sound p k.one in
       record {
         rows = k.within.sound.rows;
+        fresh = k.within.in_sync.fresh;
+        lone = k.within.sound.queue.lone;
         low = λ j is. subst (λ j. j < w.control.issued + 1) (sym (k.out j is).0) held.number;
         out = λ j is. subst (λ j. contains (fields_at w.control ((histories w.events).write j).volume).out_of_sync ((histories w.events).write j).track ≡ true) (sym (k.out j is).0)
             ((λ i. contains (fields_at w.control (held.volume i)).out_of_sync (held.track i)) ∙ (k.out j is).1);
@@ -170,7 +177,7 @@ module _ (p : Pending) (Fin : Option ℕ → World → Option Refusal → Type 0
 
   both-keeps : (tag : Option ℕ) (w : World) → Both tag w → (d : Entry) (m : Move) (ds : List Entry) → Keeps m → d w.control ≡ Do (Make m) → May w m → ((f : Option Fuse) → Both tag (done w m f) → WindowAlong Fin tag (done w m f) ds) → WindowAlong Fin tag w (d ∷ ds)
   both-keeps tag w k d (Keep u q) ds tt is may go = let m : Move = Keep u q in
-      window-within v t Fin stops tag w k.within d m ds is (good-both tag w k) may tt (λ there runs. k.within.in_sync.clean u there runs) (λ f z. go f (record {
+      window-within v t Fin stops tag w k.within d m ds is (good-both tag w k) may tt tt (λ there runs. k.within.in_sync.clean u there runs) (λ f z. go f (record {
         within = z;
         on = runs-done w m f v k.on;
         going = part-same w m f (λ (g : Fields). is_suspended g.primary_state) refl v ∙ k.going;
@@ -178,7 +185,7 @@ module _ (p : Pending) (Fin : Option ℕ → World → Option Refusal → Type 0
         out = λ j is. ((k.out j is).0, part-same w m f (λ (g : Fields). contains g.out_of_sync t) refl v ∙ (k.out j is).1);
       }))
   both-keeps tag w k d (Note u q) ds tt is may go = let m : Move = Note u q in
-      window-within v t Fin stops tag w k.within d m ds is (good-both tag w k) may tt (λ there runs. k.within.in_sync.clean u there runs) (λ f z. go f (record {
+      window-within v t Fin stops tag w k.within d m ds is (good-both tag w k) may tt tt (λ there runs. k.within.in_sync.clean u there runs) (λ f z. go f (record {
         within = z;
         on = runs-done w m f v k.on;
         going = part-same w m f (λ (g : Fields). is_suspended g.primary_state) refl v ∙ k.going;
@@ -206,7 +213,7 @@ module _ (p : Pending) (Fin : Option ℕ → World → Option Refusal → Type 0
   lands-both w k al =
       let m : Move = LandBoth n v t in
       let one = comes w (now m) [] (Do (Make m)) refl al in
-      window-within v t Fin stops (Some n) w k.within (now m) m [] refl (good-both (Some n) w k) one.0 (refl, unacked w k.within k.one) (here-both w k.within)
+      window-within v t Fin stops (Some n) w k.within (now m) m [] refl (good-both (Some n) w k) one.0 (refl, unacked w k.within k.one) tt (here-both w k.within)
       (λ f z. ends w m f (heal v t (done w m f) z (λ runs. clean-both w f k.within k.on k.one)))
 
   module _ (volumes : List ℕ) (u : ℕ) where
@@ -221,6 +228,7 @@ module _ (p : Pending) (Fin : Option ℕ → World → Option Refusal → Type 0
         let there = (waits w k.within.sound p k.one).defined in
         window-within v t Fin stops None w k.within (now m) m behind refl (good-both None w k) one.0
         ((λ locked x ne. k.within.in_sync.clean v there k.on (locked-synced (fields_at w.control v) k.going locked) x (λ a e. absurd (ne e))), unacked w k.within k.one)
+        (record { p = p; number = refl; here = found-in p w.control.pending k.one; coming = (subst (AllPending (Coming v t)) k.one (may-ack w k.within.sound p k.one k.on).coming).0 })
         (λ d r. k.within.in_sync.clean u d r)
         (λ f z. window-copies Fin (Some n) (Both (Some n)) (λ w k. k.within.sound) (good-both (Some n)) (both-keeps (Some n)) v t volumes (now (LandBoth n v t) ∷ []) (done w m f) (record {
           within = z;
@@ -237,7 +245,7 @@ module _ (p : Pending) (Fin : Option ℕ → World → Option Refusal → Type 0
         let rest : List Entry = (copy_first volumes u t ++ (now (Mirror u t v n) ∷ copy_first volumes v t)) ++ (now (LandBoth n v t) ∷ []) in
         let joined : rest ≡ copy_first volumes u t ++ (now (Mirror u t v n) ∷ behind) = append_assoc (copy_first volumes u t) (now (Mirror u t v n) ∷ copy_first volumes v t) (now (LandBoth n v t) ∷ []) in
         let one = comes w (now m) rest (Do (Make m)) refl al in
-        window-within v t Fin stops None w (within-between v t w k) (now m) m rest refl (good-none w k.sound.rows) one.0 tt
+        window-within v t Fin stops None w (within-between v t w k) (now m) m rest refl (good-none w k.sound.rows k.in_sync.fresh k.sound.queue.lone) one.0 tt (k.in_sync.clean v (waits w k.sound p waiting).defined on)
         (λ there runs h q other. insert_other (fields_at w.control v).out_of_sync t q (λ e. absurd (other refl e)) ∙ k.in_sync.clean v there runs h q)
         (λ f z. subst (WindowAlong Fin None (done w m f)) (sym joined)
         (window-copies Fin None (Both None) (λ w k. k.within.sound) (good-both None) (both-keeps None) u t volumes (now (Mirror u t v n) ∷ behind) (done w m f) (record {
@@ -293,7 +301,7 @@ module _ (p : Pending) (Fin : Option ℕ → World → Option Refusal → Type 0
     ways h g c = cond h [] (cond g (land_over w.control n v t) (cond c (land_collided w.control n v t) (land_alone w.control.volumes n v t)))
 
     window-ways : (h g c : Bool) → held f ≡ h → goes_over f t ≡ g → collides f t ≡ c → Along w (ways h g c) → WindowAlong Fin None w (ways h g c)
-    window-ways true g c hs gs cs al = window-nil Fin None w (good-none w k.sound.rows) (fin w None k)
+    window-ways true g c hs gs cs al = window-nil Fin None w (good-none w k.sound.rows k.in_sync.fresh k.sound.queue.lone) (fin w None k)
     window-ways false true c hs gs cs al =
         let both = and_parts (is_metro f.primary) _ gs in
         over-by (not-busy f hs) (not-true (is_suspended f.primary_state) (and_parts (not (is_suspended f.primary_state)) _ both.1).0) (is_parted w.control v) al
@@ -303,20 +311,21 @@ module _ (p : Pending) (Fin : Option ℕ → World → Option Refusal → Type 0
   pub window-landing : (w : World) → Between w → One w → WindowAlong Fin None w (landing w.control n v t)
   window-landing w k one =
       window-check Fin fin w k (is_running v) _ _ (lands w k.sound p one) (λ on al.
-      window-dropped Fin fin w k n (is_no_secondary v) _ _ (λ ps. refl) al (λ free al.
-      window-dropped Fin fin w k n (is_open v) _ _ (λ ps. refl) al (λ open_to al.
-      window-dropped Fin fin w k n (is_settled v) _ _ (λ ps. refl) al (λ settled al.
+      let clean = subst (AllPending (λ q. Clean (fields_at w.control q.volume))) (sym one) (k.in_sync.clean v (waits w k.sound p one).defined on, tt) in
+      window-dropped Fin fin w k n (is_no_secondary v) _ _ (λ ps. refl) clean al (λ free al.
+      window-dropped Fin fin w k n (is_open v) _ _ (λ ps. refl) clean al (λ open_to al.
+      window-dropped Fin fin w k n (is_settled v) _ _ (λ ps. refl) clean al (λ settled al.
       window-ways w k one on (held (fields_at w.control v)) (goes_over (fields_at w.control v) t) (collides (fields_at w.control v) t) refl refl refl al))))
 
 -- a plan that carries one out
 module _ (q : Plan) (p : Pending) (k0 : Control) (follows : q.follows ≡ after_write k0 p.volume p.track) (last : q.last ≡ same) where
   abbrev Fins : Option ℕ → World → Option Refusal → Type 0
-  Fins = PlanFin Between rows-between answers-between q
+  Fins = PlanFin Between good-between answers-between q
 
   stops : (u : World) (s : ℕ) → Within p.volume p.track u → StopFin Fins u s u
-  stops u s k = subst (λ (g : ℕ → List Entry). WindowAlong (EndFin Between rows-between answers-between) None u (g s)) (sym follows) (by (collides (fields_at k0 p.volume) p.track))
+  stops u s k = subst (λ (g : ℕ → List Entry). WindowAlong (EndFin Between good-between answers-between) None u (g s)) (sym follows) (by (collides (fields_at k0 p.volume) p.track))
     where
-      by : (c : Bool) → WindowAlong (EndFin Between rows-between answers-between) None u (cond c (suspend_after p.volume s) (part_after p.volume s))
+      by : (c : Bool) → WindowAlong (EndFin Between good-between answers-between) None u (cond c (suspend_after p.volume s) (part_after p.volume s))
       by true = window-after p.volume p.track u k s
       by false = window-part p.volume p.track u k s
 

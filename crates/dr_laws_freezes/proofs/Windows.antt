@@ -21,23 +21,27 @@ use Rattle.dr_model.specs.Moves.{target, told, told_in_stop, landed}
 use Rattle.dr_model.specs.Entries.{fields_at}
 use Rattle.dr_model.specs.WriteEntries.{partner_of}
 use Rattle.dr_model.specs.Table.{table, waiting}
-use Rattle.dr_model.specs.Laws.{SoundRows}
+use Rattle.dr_model.specs.Laws.{SoundRows, Lone, servers}
 use Rattle.dr_model.specs.Runs.{Task}
 use Rattle.dr_laws_freezes.specs.Moments.{moments_from, moments}
 use Rattle.dr_laws_freezes.specs.Windows.{LssPairs, is_in, IsSoundWindow, is_clean, stays_with, is_back_to, later_mirrored, last_mirrored, unacked_on, last_of, told_since, frozen, acked_on, HoldsWhatCame, FreezeCut}
 use Rattle.dr_laws_freezes.proofs.WindowTracks.{Stays, stays, Window, window-image}
 use Rattle.dr_laws_freezes.proofs.KeepsWindow.{no_first}
+use Rattle.dr_laws_freezes.proofs.InSync.{Fresh}
 use Rattle.dr_laws_freezes.proofs.KeepsLists.{ListGrows, grows-none, grows-more}
 use Rattle.dr_laws_freezes.proofs.KeepsStep.{Step, Does, Stops, Acks, Others, Passes, Backless, Next, window-step}
 use Rattle.dr_logic.proofs.Choices.{chosen}
 use Rattle.dr_facts.proofs.Tracks.{bare-has}
 use Rattle.dr_logic.proofs.Truth.{false_true}
 
--- what holds of each moment: the write that goes on is on a track that is out of sync
+-- what holds of each moment: the write that goes on is on a track that is out of sync, no pending write is acknowledged, and no two have landed
+-- on one server
 pub record Good (tag : Option ℕ) (w : World) : Type 0 where
   pub rows : SoundRows (table w)
   pub low : (n : ℕ) → tag ≡ Some n → n < w.control.issued + 1
   pub out : (n : ℕ) → tag ≡ Some n → contains (fields_at w.control ((histories w.events).write n).volume).out_of_sync ((histories w.events).write n).track ≡ true
+  pub fresh : Fresh w
+  pub lone : Lone (servers w.control) w.control.pending
 
 -- moments that come one after the other
 pub data Chain : Option ℕ → World → List World → Type 0 where
@@ -67,8 +71,8 @@ pub record Grows (w u : World) : Type 0 where
   pub events : u.events ≡ w.events ++ told
 
 pub step-grows : (tag : Option ℕ) (w : World) (next : Option ℕ) (u : World) → Step tag w next u → Grows w u
-step-grows tag w _ _ (Does m f may fair) = record { told = told m (w.control.volume (target m)); events = refl }
-step-grows tag w _ _ (Stops m f may fair) = record { told = told_in_stop m (w.control.volume (target m)) ++ Stopped (w.control.volume (target m)).server (landed m) ∷ []; events = refl }
+step-grows tag w _ _ (Does m f may fair asks) = record { told = told m (w.control.volume (target m)); events = refl }
+step-grows tag w _ _ (Stops m f may fair asks) = record { told = told_in_stop m (w.control.volume (target m)) ++ Stopped (w.control.volume (target m)).server (landed m) ∷ []; events = refl }
 step-grows tag w _ _ (Acks n a) = record { told = Ack n ∷ []; events = refl }
 step-grows tag w _ _ (Others next u ss step) = let g = step-grows tag w next u step in record { told = g.told; events = g.events }
 step-grows tag w _ _ (Passes next u es x less) = record { told = es; events = x.events }

@@ -3,7 +3,7 @@
 //! names a law by its contract.
 #![tactic(auto)]
 
-ghost use Rattle.std.specs.Prelude.{◌≡◌, ℕ, List, true, false, Ok};
+ghost use Rattle.std.specs.Prelude.{◌≡◌, ℕ, List, [], ◌∷◌, true, false, Ok};
 ghost use Rattle.dr_model.specs.declared.step.Devs.{Devs};
 ghost use Rattle.dr_model.specs.declared.step.Step.TheVariants as step;
 ghost use Rattle.dr_model.specs.Control.{World};
@@ -12,8 +12,9 @@ ghost use Rattle.dr_model.specs.Runs.{Task, after_plan, run};
 ghost use Rattle.dr_model.specs.Laws.{Sound};
 ghost use Rattle.dr_laws_freezes.specs.Windows.{FreezeCut};
 ghost use Rattle.dr_laws_freezes.specs.InSync.{DuplexInSync};
+ghost use Rattle.dr_laws_freezes.specs.Secondaries.{NoneIsLacking};
 ghost use Rattle.dr_laws_freezes.specs.Frozen.{FreezesHold, lets_go};
-ghost use Rattle.dr_laws_freezes.specs.Example.{frozen_pair, no_names};
+ghost use Rattle.dr_laws_freezes.specs.Example.{frozen_pair, no_names, LacksNoneWith};
 
 /// At the end of a sound freeze window of a run, the secondaries of the set hold one moment of the host's writes: each track of
 /// each contains what the writes make that its primary holds then, and the last write that it stored where that wasn't
@@ -53,4 +54,22 @@ pub fn an_example_lets_a_primary_go()
     ensures ends { lets_go frozen_pair (Ok (step.RemovePair no_names 4096 8192 true)) 4096 ≡ true }
     ensures applies { lets_go frozen_pair (Ok (step.Apply 1)) 4096 ≡ false }
     ensures recovers { lets_go frozen_pair (Ok (step.Recover 1)) 4096 ≡ false }
+{}
+
+/// At each moment of a run, whether or not any server runs, the secondary of a Metro Mirror primary that is Full Duplex lacks no host write of
+/// its primary: each of its tracks contains what the writes make that the primary holds by the journal, in their order. On at most one track
+/// one write more comes after them, which is pending on the primary, and not acknowledged.
+pub fn secondaries_lack_no_write()
+    ensures { (tasks : List Task) → NoneIsLacking tasks }
+{}
+
+/// An example of what a secondary may contain where its Full Duplex primary is lost, whose server is off: what was acknowledged; or that and one
+/// write in flight, on whichever track; but neither less, nor a write more that is pending no longer, nor two writes more on two tracks.
+pub fn an_example_of_a_lost_site()
+    ensures even { LacksNoneWith (1 ∷ []) [] }
+    ensures ahead { LacksNoneWith (1 ∷ 2 ∷ []) [] }
+    ensures on_another { LacksNoneWith (1 ∷ []) (3 ∷ []) }
+    ensures less { LacksNoneWith [] [] → ⊥ }
+    ensures dropped { LacksNoneWith (1 ∷ 4 ∷ []) [] → ⊥ }
+    ensures two { LacksNoneWith (1 ∷ 2 ∷ []) (3 ∷ []) → ⊥ }
 {}

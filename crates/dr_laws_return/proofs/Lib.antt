@@ -11,3 +11,4 @@ pub mod Compared
 pub mod Faces
 pub mod Returned
 pub mod Drains
+pub mod Secondaries

@@ -5,8 +5,10 @@
 ghost use Rattle.std.specs.Prelude.{◌≡◌, ℕ, Bool, List, Option};
 ghost use Rattle.dr_model.specs.Layout.{Blocks};
 ghost use Rattle.dr_model.specs.Control.{World, Fuse};
-ghost use Rattle.dr_model.specs.Fits.{Fits};
+ghost use Rattle.dr_model.specs.Fits.{Fits, on_device};
 ghost use Rattle.dr_model.specs.Runs.{Task, run};
+ghost use Rattle.dr_laws_freezes.specs.Secondaries.{SecondariesLackNone};
+ghost use Rattle.dr_laws_recovery.specs.Decided.{record_on};
 ghost use Rattle.dr_laws_recovery.specs.Recovered.{HoldsTracks};
 ghost use Rattle.dr_laws_return.specs.Sites.{SitesAlike};
 ghost use Rattle.dr_laws_return.specs.Compared.{ComparesDevices};
@@ -18,6 +20,14 @@ ghost use Rattle.dr_laws_return.specs.Drains.{DrainsOrStops};
 /// has nothing out of sync, and nothing changed since, both devices contain the same.
 pub fn sites_are_equal_where_nothing_is_left()
     ensures { (tasks : List Task) (on : ℕ → Bool) (fuse : ℕ → Option Fuse) (device : ℕ → Blocks) → Fits (run tasks) on fuse device → SitesAlike (run tasks) device }
+{}
+
+/// Where by the records on both devices a volume is a Metro Mirror primary that is Full Duplex, and another one its secondary, whether or not any
+/// server runs, each track of the secondary's device contains what the host writes make that the primary holds by the journal, in their order. On
+/// at most one track one write more comes after them, which is pending on the primary, and not acknowledged.
+pub fn a_full_duplex_secondary_lacks_no_write()
+    ensures { (tasks : List Task) (on : ℕ → Bool) (fuse : ℕ → Option Fuse) (device : ℕ → Blocks) → Fits (run tasks) on fuse device → HoldsTracks (run tasks) device
+        → SecondariesLackNone (run tasks) (record_on (run tasks) device) (on_device (run tasks).control device) }
 {}
 
 /// Where the last step of a run compares two volumes, and is answered ok, each track of both devices contains the same. Where it is answered

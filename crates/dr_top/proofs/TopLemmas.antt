@@ -30,6 +30,8 @@ use Rattle.dr_laws_sound.specs.Showing.{ShowsDevices}
 use Rattle.dr_laws_sound.proofs.RefusedRuns.{refused-run}
 use Rattle.dr_laws_sound.proofs.Shows.{shown-run}
 use Rattle.dr_laws_freezes.specs.Windows.{EndsInCut}
+use Rattle.dr_laws_freezes.specs.Secondaries.{SecondariesLackNone}
+use Rattle.dr_laws_freezes.proofs.Secondaries.{lacking-run}
 use Rattle.dr_laws_freezes.proofs.WindowSteps.{cut-run}
 use Rattle.dr_laws_freezes.proofs.Betweens.{in-sync-run}
 use Rattle.dr_laws_freezes.proofs.FreezesHold.{freezes-hold}
@@ -53,6 +55,8 @@ use Rattle.dr_laws_orders.proofs.Older.{leaves-run}
 use Rattle.dr_laws_commits.proofs.Commits.{commits-run}
 use Rattle.dr_laws_images.proofs.Imaged.{all-read-back, last-gives-back}
 use Rattle.dr_laws_return.proofs.Sites.{alike-on}
+use Rattle.dr_laws_return.proofs.Secondaries.{secondaries-on}
+use Rattle.dr_laws_recovery.specs.Decided.{record_on}
 use Rattle.dr_laws_return.specs.Returned.{Returns}
 use Rattle.dr_laws_return.proofs.Compared.{compared-run}
 use Rattle.dr_laws_return.proofs.Returned.{returned-run}
@@ -226,6 +230,9 @@ stands-here s0 s t h ev sound ready room stops steps leads lists images =
       in_sync = λ tasks goes. in-sync-run tasks;
       shown = λ tasks goes. shown-here s t h ev sound is tasks goes;
       sites = alike-on w s.on fuse s.block is fits;
+      secondaries = subst (λ (x : World). SecondariesLackNone x (record_on x s.block) (on_device x.control s.block)) leads
+          (secondaries-on steps s.on fuse s.block (subst (λ (x : World). Fits x s.on fuse s.block) (sym leads) fits) (subst (λ (x : World). HoldsTracks x s.block) (sym leads) holds));
+      lack_none = λ tasks goes. lacking-run tasks;
       compared = λ tasks goes. compared-run tasks s.block (subst (λ (x : World). HoldsTracks x s.block) (sym goes) holds);
       returned = λ tasks goes. returned-here s t h ev sound is tasks goes;
       refused = λ tasks goes. refused-run tasks;

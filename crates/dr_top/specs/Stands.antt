@@ -6,7 +6,7 @@ use Rattle.dr_plant.specs.State.{PlantState}
 use Rattle.dr_model.specs.declared.event.Event.{Event}
 use Rattle.dr_model.specs.Control.{World, nothing}
 use Rattle.dr_model.specs.ClosedCuts.{ClosedCuts}
-use Rattle.dr_model.specs.Fits.{Fits}
+use Rattle.dr_model.specs.Fits.{Fits, on_device}
 use Rattle.dr_model.specs.Limits.{most_events}
 use Rattle.dr_model.specs.Listed.{ListsAlong, ImagesDevices}
 use Rattle.dr_model.specs.Runs.{Task, run}
@@ -18,9 +18,10 @@ use Rattle.dr_laws_sound.specs.Showing.{ShowsDevices}
 use Rattle.dr_laws_freezes.specs.Windows.{EndsInCut}
 use Rattle.dr_laws_freezes.specs.Frozen.{FreezesHold}
 use Rattle.dr_laws_freezes.specs.InSync.{DuplexInSync}
+use Rattle.dr_laws_freezes.specs.Secondaries.{SecondariesLackNone, NoneIsLacking}
 use Rattle.dr_laws_flashes.specs.Windows.{EndsInFlashCut}
 use Rattle.dr_laws_recovery.specs.Seals.{SealsOn}
-use Rattle.dr_laws_recovery.specs.Decided.{DecidesOn}
+use Rattle.dr_laws_recovery.specs.Decided.{DecidesOn, record_on}
 use Rattle.dr_laws_recovery.specs.Headline.{Headline}
 use Rattle.dr_laws_recovery.specs.Formed.{FormedIsFound, GroupsAreFound}
 use Rattle.dr_laws_recovery.specs.Held.{HoldsAll}
@@ -55,8 +56,10 @@ pub record HasDevices (w : World) (s : PlantState) : Type 0 where
 -- fence is carried out, nor one from before a loss once the master has gone on, whatever comes later; that one of an older attempt changes
 -- no view and no recording; and that a number is committed only where each member was flashed with it. What the last step showed is on the
 -- devices, and a write that a secondary stored was acknowledged, or a server stopped. Where a pair is in place by the records on both devices, these
--- contain the same on each track that isn't recorded; what a comparison answered as the last step is what the devices contain; and where a
--- failback and a drain behind it were answered ok, the pair is turned round, and both devices contain what the host writes make.
+-- contain the same on each track that isn't recorded. Where a Metro Mirror primary is Full Duplex by these records, whether or not any server
+-- runs, its secondary's device lacks no write of the primary, and has at most one more, which is pending; and so has each such secondary been
+-- at each moment of the steps. What a comparison answered as the last step is what the devices contain; and where a failback and a drain behind
+-- it were answered ok, the pair is turned round, and both devices contain what the host writes make.
 pub record Stands (steps : List Task) (world : World) (events : List Event) (s s' : PlantState) : Type 0 where
   pub leads : run steps ≡ world
   pub lists : ListsAlong nothing steps
@@ -88,6 +91,8 @@ pub record Stands (steps : List Task) (world : World) (events : List Event) (s s
   pub in_sync : (tasks : List Task) → run tasks ≡ world → DuplexInSync tasks
   pub shown : (tasks : List Task) → run tasks ≡ world → ShowsDevices tasks s'.block
   pub sites : SitesAlike world s'.block
+  pub secondaries : SecondariesLackNone world (record_on world s'.block) (on_device world.control s'.block)
+  pub lack_none : (tasks : List Task) → run tasks ≡ world → NoneIsLacking tasks
   pub compared : (tasks : List Task) → run tasks ≡ world → ComparesDevices tasks s'.block
   pub returned : (tasks : List Task) → run tasks ≡ world → Returns tasks s'.block
   pub refused : (tasks : List Task) → run tasks ≡ world → RefusedStay tasks
