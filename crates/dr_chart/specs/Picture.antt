@@ -22,10 +22,11 @@ numbered says i (x ∷ more) = says i x ++ numbered says (i + 1) more
 
 -- ---- texts and marks
 
--- A byte as XML takes it: `<` and `&` are escaped, a control byte is a space, and what is no ASCII is shown as U+FFFD.
+-- A byte as XML takes it: `<`, `>` and `&` are escaped, a control byte is a space, and what is no ASCII is shown as U+FFFD.
 abbrev pub shown : ℕ → List ℕ
 shown b =
     if nat_eq b 60 then codes "&lt;"
+    else if nat_eq b 62 then codes "&gt;"
     else if nat_eq b 38 then codes "&amp;"
     else if nat_lt b 32 then codes " "
     else if nat_lt 126 b then codes "&#xFFFD;"

@@ -14,6 +14,7 @@ fn push_shown(text: &mut Text, byte: u8) -> Result<(), AllocError>
 {
     match byte {
         b'<' => text.append(b"&lt;"),
+        b'>' => text.append(b"&gt;"),
         b'&' => text.append(b"&amp;"),
         0..32 => text.append(b" "),
         127.. => text.append(b"&#xFFFD;"),
