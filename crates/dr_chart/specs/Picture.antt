@@ -1,5 +1,5 @@
 -- The picture as a text. Lengths are units of the picture, and those of columns are hundredths of it.
-use Rattle.std.specs.Prelude.{ℕ, ◌+◌, ◌-◌, ◌*◌, ◌/◌, Bool, ◌&&◌, true, false, List, [], ◌∷◌, ◌++◌, length, count_by, max, nat_eq, nat_lt, Option, Some, None, is_none, codes, if◌then◌else◌}
+use Rattle.std.specs.Prelude.{ℕ, ◌+◌, ◌-◌, ◌*◌, ◌/◌, Bool, ◌&&◌, true, false, List, [], ◌∷◌, ◌++◌, length, count_by, max, min, nat_eq, nat_lt, Option, Some, None, codes, if◌then◌else◌}
 use Rattle.std.specs.Fmt.{decimal}
 use Rattle.std.specs.List.{flat_map, range_with_len, slice_get}
 use Rattle.std.specs.Option.{option_map_or}
@@ -86,13 +86,33 @@ width stretches = 80 + (1500 * stretches + spare stretches) / 100
 abbrev pub share : ℕ → ℕ → ℕ → ℕ
 share left i count = left * i / max 1 count
 
--- where a column begins: so many columns, and so many stretches, stand before it
+-- where the stretch with that number begins, if so many columns of all stand before it
 abbrev pub edge : Frame → ℕ → ℕ → ℕ → ℕ
 edge f count stretch i = 6000 + 1500 * stretch + share (spare f.stretches) i count
 
--- how wide it is; the gap of a stretch has its 15 units. A little of it lies below the next one
-abbrev pub breadth : Frame → ℕ → Column → ℕ
-breadth f count column = spare f.stretches / max 1 count + (if is_none column.place then 1540 else 40)
+-- how many columns stand before a stretch
+abbrev pub columns_before : List Column → ℕ → ℕ
+columns_before columns stretch = count_by (λ (c : Column). nat_lt c.stretch stretch) columns
+
+-- where a stretch begins
+abbrev pub border : Frame → List Column → ℕ → ℕ
+border f columns stretch = edge f (length columns) stretch (columns_before columns stretch)
+
+-- how many columns it has
+abbrev pub columns_within : List Column → ℕ → ℕ
+columns_within columns stretch = columns_before columns (stretch + 1) - columns_before columns stretch
+
+-- how wide it is
+abbrev pub span : Frame → List Column → ℕ → ℕ
+span f columns stretch = min (border f columns (stretch + 1) - border f columns stretch) 4294967295
+
+-- where the column with that number begins: the columns of a stretch share it alike
+abbrev pub column_begin : Frame → List Column → ℕ → Column → ℕ
+column_begin f columns i column = border f columns column.stretch + share (span f columns column.stretch) (i - columns_before columns column.stretch) (columns_within columns column.stretch)
+
+-- how wide it is; a little of it lies below the next one
+abbrev pub breadth : Frame → List Column → Column → ℕ
+breadth f columns column = span f columns column.stretch / max 1 (columns_within columns column.stretch) + 40
 
 -- how high so many lost writes are, up to 160 units
 abbrev pub rise : Frame → ℕ → ℕ
@@ -114,12 +134,12 @@ column_text f x breadth column =
     body_text x breadth (rise f column.lost) (paint column.mark) ++ bar_text x 16500 breadth column.broken Broken ++ bar_text x 17000 breadth column.short Short
 
 -- the column of that number
-abbrev pub column_at : Frame → ℕ → ℕ → Column → List ℕ
-column_at f count i column = column_text f (edge f count column.stretch i) (breadth f count column) column
+abbrev pub column_at : Frame → List Column → ℕ → Column → List ℕ
+column_at f columns i column = column_text f (column_begin f columns i column) (breadth f columns column) column
 
 -- all columns, in hundredths of a unit
 abbrev pub columns_text : Frame → List Column → List ℕ
-columns_text f columns = (codes "<g transform='translate(0 120) scale(.01)'>" ++ 10 ∷ []) ++ numbered (column_at f (length columns)) 0 columns ++ (codes "</g>" ++ 10 ∷ [])
+columns_text f columns = (codes "<g transform='translate(0 120) scale(.01)'>" ++ 10 ∷ []) ++ numbered (column_at f columns) 0 columns ++ (codes "</g>" ++ 10 ∷ [])
 
 -- ---- phases
 
@@ -145,21 +165,13 @@ phase_text x phase = turned x 114 ++ codes " fill='#666666'>" ++ phase_said phas
 -- the phase of the first session, if it isn't that of the column before
 abbrev pub phase_at : Frame → List Column → ℕ → Column → List ℕ
 phase_at f columns i column =
-    if is_same_phase (phase_before columns i) column.phase then [] else option_map_or (phase_text (edge f (length columns) column.stretch i / 100 + 10)) column.phase []
+    if is_same_phase (phase_before columns i) column.phase then [] else option_map_or (phase_text (column_begin f columns i column / 100 + 8)) column.phase []
 
 -- all changes of the phase
 abbrev pub phases_text : Frame → List Column → List ℕ
 phases_text f columns = numbered (phase_at f columns) 0 columns
 
 -- ---- stretches
-
--- how many columns stand before a stretch
-abbrev pub columns_before : List Column → ℕ → ℕ
-columns_before columns stretch = count_by (λ (c : Column). nat_lt c.stretch stretch) columns
-
--- where a stretch begins
-abbrev pub border : Frame → List Column → ℕ → ℕ
-border f columns stretch = edge f (length columns) stretch (columns_before columns stretch)
 
 -- a label that ends at that place
 unfoldable pub label_text : ℕ → List ℕ → List ℕ

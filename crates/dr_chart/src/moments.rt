@@ -1,13 +1,13 @@
 //! The columns of a panel, and the phases above them.
 
-ghost use Rattle.std.specs.Prelude.{◌≡◌, ◌++◌, ◌<◌, ◌^◌, length, OnOk};
+ghost use Rattle.std.specs.Prelude.{◌≡◌, ◌++◌, ◌<◌, ◌^◌, OnOk};
 ghost use Rattle.std.specs.List.{slice_get};
 ghost use Rattle.dr_chart.specs.Picture.{body_text, bar_text, column_text, column_at, columns_text, is_same_phase, phase_of, phase_before, phase_text, phase_at, phases_text, numbered};
 
 use crate::columns::{Column, Mark};
 use crate::panels::Frame;
 use crate::pieces::{paint, push_rect, push_text_end, push_turned};
-use crate::places::{breadth, edge, rise};
+use crate::places::{breadth, column_begin, rise};
 use dr_ids::Text;
 use dr_rows::{SessionPhase, push_phase};
 use std::alloc::AllocError;
@@ -67,22 +67,22 @@ fn push_column(
 fn push_column_at(
     text: &mut Text,
     frame: Frame,
-    count: usize,
+    columns: &[Column],
     i: usize,
     column: Column,
 ) -> Result<(), AllocError>
-    ensures { OnOk result (text.new ≡ text.old ++ column_at frame count i column) }
+    ensures { OnOk result (text.new ≡ text.old ++ column_at frame columns.now i column) }
 {
-    let x = edge(frame, count, column.stretch, i);
-    push_column(text, frame, x, breadth(frame, count, column), column)
+    let x = column_begin(frame, columns, i, column);
+    push_column(text, frame, x, breadth(frame, columns, column), column)
 }
 
 /// Adds all columns by their numbers.
 fn push_numbered(text: &mut Text, frame: Frame, columns: &[Column]) -> Result<(), AllocError>
-    ensures { OnOk result (text.new ≡ text.old ++ numbered (column_at frame (length columns.now)) 0 columns.now) }
+    ensures { OnOk result (text.new ≡ text.old ++ numbered (column_at frame columns.now) 0 columns.now) }
 {
     for (i, column) in columns.iter().enumerate() {
-        push_column_at(text, frame, columns.len(), i, *column)?;
+        push_column_at(text, frame, columns, i, *column)?;
     }
     Ok(())
 }
@@ -158,8 +158,8 @@ fn push_phase_at(
     match column.phase {
         None => Ok(()),
         Some(phase) => {
-            let x = edge(frame, columns.len(), column.stretch, i);
-            push_phase_text(text, x / 100 + 10, phase)
+            let x = column_begin(frame, columns, i, column);
+            push_phase_text(text, x / 100 + 8, phase)
         }
     }
 }

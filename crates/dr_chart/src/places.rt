@@ -1,7 +1,7 @@
 //! Where things stand.
 
 ghost use Rattle.std.specs.Prelude.{◌≡◌, ◌<◌, ◌≤◌, ◌^◌};
-ghost use Rattle.dr_chart.specs.Picture.{spare, width, share, edge, breadth, rise, height, top};
+ghost use Rattle.dr_chart.specs.Picture.{spare, width, share, edge, columns_before, border, columns_within, span, column_begin, breadth, rise, height, top};
 
 use crate::columns::Column;
 use crate::panels::Frame;
@@ -29,20 +29,73 @@ fn share(left: u32, i: usize, count: usize) -> u128
     u128::from(left) * i as u128 / count.max(1) as u128
 }
 
-/// Where a column begins, in hundredths: so many columns, and so many stretches, stand before it.
-pub(crate) fn edge(frame: Frame, count: usize, stretch: usize, i: usize) -> u128
+/// Where the stretch with that number begins, in hundredths, if so many columns of all stand before it.
+fn edge(frame: Frame, count: usize, stretch: u128, i: usize) -> u128
+    requires { stretch ≤ 2 ^ 64 }
     ensures is { result ≡ edge frame count stretch i }
     ensures few { result < 2 ^ 97 }
 {
-    6000 + 1500 * stretch as u128 + share(spare(frame.stretches), i, count)
+    6000 + 1500 * stretch + share(spare(frame.stretches), i, count)
 }
 
-/// How wide a column is, in hundredths: the gap of a stretch has its 15 units, and a little of each lies below the next one.
-pub(crate) fn breadth(frame: Frame, count: usize, column: Column) -> u128
-    ensures { result ≡ breadth frame count column }
+/// How many columns stand before a stretch.
+fn columns_before(columns: &[Column], stretch: u128) -> usize
+    ensures { result ≡ columns_before columns.now stretch }
 {
-    let own = if column.place.is_none() { 1540 } else { 40 };
-    u128::from(spare(frame.stretches)) / count.max(1) as u128 + own
+    columns
+        .iter()
+        .filter(|c| (c.stretch as u128) < stretch)
+        .count()
+}
+
+/// Where a stretch begins, in hundredths.
+pub(crate) fn border(frame: Frame, columns: &[Column], stretch: u128) -> u128
+    requires { stretch ≤ 2 ^ 64 }
+    ensures is { result ≡ border frame columns.now stretch }
+    ensures few { result < 2 ^ 97 }
+{
+    edge(
+        frame,
+        columns.len(),
+        stretch,
+        columns_before(columns, stretch),
+    )
+}
+
+/// How many columns a stretch has.
+fn columns_within(columns: &[Column], stretch: usize) -> usize
+    ensures { result ≡ columns_within columns.now stretch }
+{
+    let stretch = stretch as u128;
+    columns_before(columns, stretch + 1).saturating_sub(columns_before(columns, stretch))
+}
+
+/// How wide a stretch is, in hundredths.
+fn span(frame: Frame, columns: &[Column], stretch: usize) -> u32
+    ensures { result ≡ span frame columns.now stretch }
+{
+    let begin = border(frame, columns, stretch as u128);
+    let end = border(frame, columns, stretch as u128 + 1);
+    end.saturating_sub(begin).min(4_294_967_295) as u32
+}
+
+/// Where the column with that number begins, in hundredths: the columns of a stretch share it alike.
+pub(crate) fn column_begin(frame: Frame, columns: &[Column], i: usize, column: Column) -> u128
+    ensures is { result ≡ column_begin frame columns.now i column }
+    ensures few { result < 2 ^ 98 }
+{
+    let stretch = column.stretch;
+    let before = i.saturating_sub(columns_before(columns, stretch as u128));
+    let within = columns_within(columns, stretch);
+    border(frame, columns, stretch as u128) + share(span(frame, columns, stretch), before, within)
+}
+
+/// How wide it is, in hundredths; a little of it lies below the next one.
+pub(crate) fn breadth(frame: Frame, columns: &[Column], column: Column) -> u128
+    ensures { result ≡ breadth frame columns.now column }
+{
+    let within = columns_within(columns, column.stretch).max(1);
+    u128::from(span(frame, columns, column.stretch)) / within as u128 + 40
 }
 
 /// How high so many lost writes are, in hundredths.

@@ -1,36 +1,16 @@
 //! What stands below the columns: a label for each stretch, and dotted lines between them.
 
 ghost use Rattle.std.specs.Prelude.{◌≡◌, ◌++◌, ◌+◌, ◌<◌, ◌^◌, OnOk};
-ghost use Rattle.dr_chart.specs.Picture.{columns_before, border, label_text, dots_text, stretch_marks, stretch_at, stretches_text};
+ghost use Rattle.dr_chart.specs.Picture.{label_text, dots_text, stretch_marks, stretch_at, stretches_text};
 
 use crate::columns::Column;
 use crate::panels::{Frame, label};
 use crate::pieces::{push_escaped, push_text_end, push_turned};
-use crate::places::edge;
+use crate::places::border;
 use dr_ids::Text;
 use dr_plan::SweepPlan;
 use dr_rows::push_total;
 use std::alloc::{AllocError, Global};
-
-/// How many columns stand before a stretch.
-fn columns_before(columns: &[Column], stretch: usize) -> usize
-    ensures { result ≡ columns_before columns.now stretch }
-{
-    columns.iter().filter(|c| c.stretch < stretch).count()
-}
-
-/// Where a stretch begins, in hundredths.
-fn border(frame: Frame, columns: &[Column], stretch: usize) -> u128
-    ensures is { result ≡ border frame columns.now stretch }
-    ensures few { result < 2 ^ 97 }
-{
-    edge(
-        frame,
-        columns.len(),
-        stretch,
-        columns_before(columns, stretch),
-    )
-}
 
 /// Adds a label that ends at that place.
 #[tactic(auto, unfolding(crate::specs::Picture::label_text))]
@@ -78,11 +58,10 @@ fn push_stretch(
     columns: &[Column],
     stretch: usize,
 ) -> Result<(), AllocError>
-    requires { stretch + 1 < 2 ^ 64 }
     ensures { OnOk result (text.new ≡ text.old ++ stretch_at plan.now frame columns.now stretch) }
 {
-    let begin = border(frame, columns, stretch);
-    let end = border(frame, columns, stretch + 1);
+    let begin = border(frame, columns, stretch as u128);
+    let end = border(frame, columns, stretch as u128 + 1);
     push_marks(alloc, text, plan, stretch, begin, end)
 }
 
