@@ -102,7 +102,7 @@ border f columns stretch = edge f (length columns) stretch (columns_before colum
 abbrev pub columns_within : List Column → ℕ → ℕ
 columns_within columns stretch = columns_before columns (stretch + 1) - columns_before columns stretch
 
--- how wide it is
+-- how wide it is; a number past the largest of 32 bits is that one
 abbrev pub span : Frame → List Column → ℕ → ℕ
 span f columns stretch = min (border f columns (stretch + 1) - border f columns stretch) 4294967295
 
@@ -120,7 +120,7 @@ rise f lost = 16000 * lost / max 1 f.most
 
 -- ---- columns
 
--- what stands above: that high, and a little more, so that its colour is seen where nothing is lost
+-- what stands above: that high, and a little more, so that its colour is seen if nothing is lost
 unfoldable pub body_text : ℕ → ℕ → ℕ → List ℕ → List ℕ
 body_text x breadth high paint = rect_text x (16000 - high) breadth (high + 300) paint
 

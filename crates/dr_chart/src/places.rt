@@ -70,7 +70,7 @@ fn columns_within(columns: &[Column], stretch: usize) -> usize
     columns_before(columns, stretch + 1).saturating_sub(columns_before(columns, stretch))
 }
 
-/// How wide a stretch is, in hundredths.
+/// How wide a stretch is, in hundredths; a number past the largest is that one.
 fn span(frame: Frame, columns: &[Column], stretch: usize) -> u32
     ensures { result ≡ span frame columns.now stretch }
 {
