@@ -1,2 +1,3 @@
--- Read first: `BarLemmas.antt`: the text of the bars that are left.
-mod BarLemmas
+-- Read first: `NumberedLemmas.antt`: what is said of the things that are left; `OrderLemmas.antt`: the columns of a panel are in order.
+pub mod NumberedLemmas
+pub mod OrderLemmas

@@ -1,1 +1,3 @@
+pub mod Columns
+pub mod Panels
 pub mod Picture

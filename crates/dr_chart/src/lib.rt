@@ -1,11 +1,19 @@
-//! Draws bars as a picture: how many writes are lost at each place of a disaster, and which group comes back.
+//! Draws the rows of a plan as a chart: how many writes are lost at each moment of a disaster, and which group comes back.
 //!
-//! `picture` gives an SVG as a text, which is `picture_text` of the bars to the letter. A bar is one unit wide, and all numbers
-//! are integers: the `viewBox` of the inner picture is as wide as there are bars and as high as the highest asks, and so does
-//! all the scaling.
+//! `picture` gives an SVG as a text, with a panel for each disaster and use. `Columns.antt` says which moments there are and in which order
+//! they stand, `Panels.antt` what is drawn of them, and `Picture.antt` the text to the letter. All numbers are integers: columns are placed
+//! in hundredths of a unit, within a group that is scaled.
 #![tactic(auto)]
 
-mod bars;
-mod frame;
+mod axes;
+mod columns;
+mod drawing;
+mod heads;
+mod legend;
+mod moments;
+mod panels;
+mod pieces;
+mod places;
+mod stretches;
 
-pub use bars::picture;
+pub use drawing::picture;

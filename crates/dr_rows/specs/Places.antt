@@ -1,14 +1,11 @@
--- Rows by place, and what a picture shows of each place.
-use Rattle.std.specs.Prelude.{ℕ, Bool, ◌&&◌, ◌||◌, true, false, not, List, [], ◌∷◌, ◌++◌, length, map, fold, max, min, nat_eq, if◌then◌else◌}
-use Rattle.std.specs.List.{flat_map, list_any, range_with_len}
+-- Rows by place.
+use Rattle.std.specs.Prelude.{ℕ, Bool, ◌&&◌, ◌||◌, true, false, not, List, [], ◌∷◌, ◌++◌, fold, max, nat_eq, if◌then◌else◌}
+use Rattle.std.specs.List.{list_any}
 use Rattle.std.specs.Str.{bytes_eq}
 use Rattle.dr_plan.specs.Points.{count_at}
-use Rattle.dr_plan.specs.Sweep.{Sweep}
 use Rattle.dr_plan.specs.declared.points.Point.{Point}
 use Rattle.dr_plan.specs.declared.points.Point.TheVariants.{Cut, Gap}
-use Rattle.dr_rows.specs.declared.row.Answer.{Answer}
-use Rattle.dr_rows.specs.declared.picture.Bar.{Bar}
-use Rattle.dr_rows.specs.Outcome.{Outcome, groups_in, is_broken, lost_count}
+use Rattle.dr_rows.specs.Outcome.{Outcome, lost_count}
 use Rattle.dr_rows.specs.Cells.{kind}
 
 -- both stop the same servers after as many tried steps and writes, whatever is torn
@@ -44,26 +41,3 @@ differs asks which first row = not (bytes_eq (kind asks first) (kind asks row)) 
 abbrev pub decides : Bool → ℕ → List Outcome → Bool
 decides asks which [] = false
 decides asks which (first ∷ more) = list_any (differs asks which first) more
-
--- the first group of some, or 0
-abbrev pub first_group : List Answer → ℕ
-first_group [] = 0
-first_group (a ∷ more) = a.b
-
--- the first group that came back in the first row, or 0
-abbrev pub group_of : List Outcome → ℕ
-group_of [] = 0
-group_of (first ∷ more) = first_group (groups_in first)
-
--- what a picture shows of a place and a use; a count past the largest that it takes is that one
-abbrev pub bar_of : Bool → ℕ → List Outcome → Bar
-bar_of asks which rows =
-    record { lost = min (most_lost which rows) 4294967295; group = group_of rows; decides = decides asks which rows; broken = list_any (is_broken which) rows }
-
--- of each place, in order, for the use at a place
-abbrev pub use_bars : Bool → List Outcome → ℕ → List Bar
-use_bars asks rows which = map (bar_of asks which) (places rows)
-
--- those of all uses, one after another
-abbrev pub bars : Sweep → Bool → List Outcome → List Bar
-bars plan asks rows = flat_map (use_bars asks rows) (range_with_len 0 (length plan.uses))

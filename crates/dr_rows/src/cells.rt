@@ -17,7 +17,7 @@ use dr_plan::{SweepPlan, Torn, Use, name_bytes};
 use std::alloc::{AllocError, Global};
 
 /// The answers of a row that have a group.
-pub(crate) fn groups_in(alloc: Global, row: &Row) -> Result<Vec<Answer>, AllocError>
+pub fn groups_in(alloc: Global, row: &Row) -> Result<Vec<Answer>, AllocError>
     ensures { IfOk result (λ found. found.items ≡ groups_in row.now) }
 {
     row.answers()
@@ -285,7 +285,7 @@ fn push_session(text: &mut Text, session: u8) -> Result<(), AllocError>
 }
 
 /// Adds a session and the phase of its master.
-fn push_phase(text: &mut Text, p: SessionPhase) -> Result<(), AllocError>
+pub fn push_phase(text: &mut Text, p: SessionPhase) -> Result<(), AllocError>
     ensures { OnOk result (text.new ≡ text.old ++ phase_said p) }
 {
     push_session(text, p.session)?;
@@ -460,11 +460,7 @@ fn names_uses(plan: &SweepPlan) -> bool
 }
 
 /// Adds the line that stands before what is said of the use at a place, if the plan names uses.
-pub(crate) fn push_use_head(
-    text: &mut Text,
-    plan: &SweepPlan,
-    which: usize,
-) -> Result<(), AllocError>
+pub fn push_use_head(text: &mut Text, plan: &SweepPlan, which: usize) -> Result<(), AllocError>
     ensures { OnOk result (text.new ≡ text.old ++ use_head plan.now which) }
 {
     if !names_uses(plan) {

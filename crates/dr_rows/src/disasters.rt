@@ -21,7 +21,7 @@ use dr_plan::{SweepPlan, name_bytes};
 use std::alloc::{AllocError, Global};
 
 /// The rows of a disaster.
-fn rows_of(alloc: Global, rows: &[Row], disaster: usize) -> Result<Vec<&Row>, AllocError>
+pub fn rows_of(alloc: Global, rows: &[Row], disaster: usize) -> Result<Vec<&Row>, AllocError>
     ensures { IfOk result (λ found. map (λ row. row.now) found.items ≡ rows_of disaster rows.now) }
 {
     rows.iter()
@@ -92,7 +92,7 @@ fn rows_like<'a>(
 }
 
 /// The most writes that are lost to a use in one of some rows.
-fn most_of(which: usize, rows: &[&Row]) -> usize
+pub fn most_of(which: usize, rows: &[&Row]) -> usize
     ensures { result ≡ most_lost which (map (λ row. row.now) rows.now) }
 {
     let mut most = 0;
@@ -103,7 +103,7 @@ fn most_of(which: usize, rows: &[&Row]) -> usize
 }
 
 /// How many rows are broken.
-fn broken_count(which: usize, rows: &[&Row]) -> usize
+pub fn broken_count(which: usize, rows: &[&Row]) -> usize
     ensures { result ≡ count_by (is_broken which) (map (λ row. row.now) rows.now) }
 {
     rows.iter().filter(|row| row.is_broken(which)).count()
@@ -117,7 +117,7 @@ fn refusal_count(rows: &[&Row]) -> usize
 }
 
 /// How many rows there are.
-fn row_count(rows: &[&Row]) -> usize
+pub fn row_count(rows: &[&Row]) -> usize
     ensures { result ≡ length (map (λ row. row.now) rows.now) }
 {
     rows.len()
@@ -238,7 +238,7 @@ fn push_worst_said(
 }
 
 /// Adds the line of the worst point, where some writes are lost.
-fn push_worst(
+pub fn push_worst(
     text: &mut Text,
     plan: &SweepPlan,
     which: usize,
@@ -307,7 +307,7 @@ fn push_first_broken(
 }
 
 /// The servers of a disaster.
-pub(crate) fn servers_of(plan: &SweepPlan, disaster: usize) -> &[Name]
+pub fn servers_of(plan: &SweepPlan, disaster: usize) -> &[Name]
     ensures { result.now ≡ servers_of plan.now disaster }
 {
     match plan.disasters().get(disaster) {
@@ -328,7 +328,7 @@ fn push_names(text: &mut Text, servers: &[Name]) -> Result<(), AllocError>
 }
 
 /// Adds the names of servers that are lost at once.
-pub(crate) fn push_lost_at_once(text: &mut Text, servers: &[Name]) -> Result<(), AllocError>
+pub fn push_lost_at_once(text: &mut Text, servers: &[Name]) -> Result<(), AllocError>
     ensures { OnOk result (text.new ≡ text.old ++ lost_at_once servers.now) }
 {
     text.append(b"lost at once:")?;

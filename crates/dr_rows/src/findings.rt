@@ -68,7 +68,7 @@ pub fn asks_recovery(alloc: Global, plan: &SweepPlan) -> Result<bool, AllocError
 }
 
 /// No group came back, though one was asked for.
-pub(crate) fn has_no_group(asks: bool, row: &Row) -> bool
+pub fn has_no_group(asks: bool, row: &Row) -> bool
     ensures { result ≡ has_no_group asks row.now }
 {
     asks && !row.has_group()

@@ -1,6 +1,6 @@
 //! The lines that are printed of a row.
 
-ghost use Rattle.std.specs.Prelude.{◌≡◌, ◌++◌, OnOk};
+ghost use Rattle.std.specs.Prelude.{◌≡◌, ◌++◌, ◌<◌, ◌^◌, OnOk};
 ghost use Rattle.dr_rows.specs.Line.{heading, part_cell, place_cells, writes_before, write_cells, cut_cells, disaster_of, point_cells, phase_cells, answer_cells, member_cells, loss_cells, refusal_cells, loss_line, use_line, row_lines};
 
 use crate::cells::{
@@ -43,8 +43,9 @@ fn push_place(text: &mut Text, p: PlanPlace) -> Result<(), AllocError>
 }
 
 /// How many device writes the servers of a disaster make in a step before the one that is cut short.
-fn writes_before(writes: &[u32]) -> u128
-    ensures { result ≡ writes_before writes.now }
+pub fn writes_before(writes: &[u32]) -> u128
+    ensures is { result ≡ writes_before writes.now }
+    ensures few { result < 2 ^ 127 }
 {
     let mut sum = 0;
     for count in writes {
@@ -97,7 +98,7 @@ fn push_cut(text: &mut Text, plan: &SweepPlan, point: Point) -> Result<(), Alloc
 }
 
 /// The disaster of a point.
-pub(crate) fn disaster_of(point: Point) -> usize
+pub fn disaster_of(point: Point) -> usize
     ensures { result ≡ disaster_of point }
 {
     match point {

@@ -9,7 +9,7 @@ use itoa::Buffer;
 use std::alloc::AllocError;
 
 /// Adds a number in decimal digits.
-pub(crate) fn push_number(text: &mut Text, n: usize) -> Result<(), AllocError>
+pub fn push_number(text: &mut Text, n: usize) -> Result<(), AllocError>
     ensures { OnOk result (text.new ≡ text.old ++ decimal n) }
 {
     let mut buffer = Buffer::new();
@@ -17,7 +17,7 @@ pub(crate) fn push_number(text: &mut Text, n: usize) -> Result<(), AllocError>
 }
 
 /// Adds a sum in decimal digits.
-pub(crate) fn push_total(text: &mut Text, n: u128) -> Result<(), AllocError>
+pub fn push_total(text: &mut Text, n: u128) -> Result<(), AllocError>
     ensures { OnOk result (text.new ≡ text.old ++ decimal n) }
 {
     let mut buffer = Buffer::new();

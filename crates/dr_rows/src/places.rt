@@ -79,7 +79,7 @@ pub(crate) fn places(alloc: Global, rows: &[Row]) -> Result<Vec<&[Row]>, AllocEr
 }
 
 /// The most writes that are lost to a use in one of some rows.
-pub(crate) fn most_lost(which: usize, rows: &[Row]) -> usize
+pub fn most_lost(which: usize, rows: &[Row]) -> usize
     ensures { result ≡ most_lost which rows.now }
 {
     let mut most = 0;
@@ -97,7 +97,7 @@ pub(crate) fn any_broken(which: usize, rows: &[Row]) -> bool
 }
 
 /// Other groups came back, or with other decisions, or more or fewer writes are lost.
-fn differs(
+pub fn differs(
     alloc: Global,
     asks: bool,
     which: usize,

@@ -194,14 +194,14 @@ impl Row {
     }
 
     /// Fewer members count than the session has, after some `@recover`.
-    pub(crate) fn lacks_members(&self) -> bool
+    pub fn lacks_members(&self) -> bool
         ensures { result ≡ lacks_members self.now }
     {
         self.members().iter().any(|m| is_short(*m))
     }
 
     /// How many writes are lost to the use at a place.
-    pub(crate) fn lost_count(&self, which: usize) -> usize
+    pub fn lost_count(&self, which: usize) -> usize
         ensures { result ≡ lost_count which self.now }
     {
         match self.losses().get(which) {
@@ -221,7 +221,7 @@ impl Row {
     }
 
     /// There is such a write.
-    pub(crate) fn is_broken(&self, which: usize) -> bool
+    pub fn is_broken(&self, which: usize) -> bool
         ensures { result ≡ is_broken which self.now }
     {
         self.broken_at(which).is_some()

@@ -144,7 +144,7 @@ fn push_server_columns(
 }
 
 /// The tried step at a place.
-fn step_text(plan: &SweepPlan, place: usize) -> &[u8]
+pub fn step_text(plan: &SweepPlan, place: usize) -> &[u8]
     ensures { result.now ≡ step_text plan.now place }
 {
     match plan.tried().get(place) {

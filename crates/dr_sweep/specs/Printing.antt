@@ -2,15 +2,13 @@
 use Rattle.std.specs.Prelude.{ℕ, zero, suc, ◌+◌, Bool, ◌&&◌, List, ◌++◌, length, nat_eq, position, slice_get, Option, Some, None, option_map, if◌then◌else◌}
 use Rattle.std.specs.List.{flat_map}
 use Rattle.dr_model.specs.LineWords.{◌>>=◌}
-use Rattle.dr_chart.specs.Picture.{picture_text}
+use Rattle.dr_chart.specs.Picture.{picture}
 use Rattle.dr_plan.specs.declared.points.Torn.{Torn}
 use Rattle.dr_plan.specs.declared.points.Torn.TheVariants.{Unchanged, Zeros, Ones}
 use Rattle.dr_plan.specs.Sweep.{Sweep, Tried}
 use Rattle.dr_rows.specs.Calm.{Calm}
-use Rattle.dr_rows.specs.Findings.{asks_recovery}
 use Rattle.dr_rows.specs.Line.{heading, row_lines}
 use Rattle.dr_rows.specs.Outcome.{Outcome}
-use Rattle.dr_rows.specs.Places.{bars}
 use Rattle.dr_rows.specs.Report.{report}
 use Rattle.dr_sweep.specs.Parts.{IsOf}
 use Rattle.dr_sweep.specs.Reach.{server_of}
@@ -35,7 +33,7 @@ rows_text plan rows = heading ++ flat_map (row_lines plan) rows
 abbrev pub says : View → Sweep → Calm → List Outcome → List ℕ
 says Report plan calm rows = report plan calm rows
 says Table plan calm rows = rows_text plan rows
-says Picture plan calm rows = picture_text (asks_recovery plan) (bars plan (asks_recovery plan) rows)
+says Picture plan calm rows = picture plan rows
 
 -- the place of what is counted from 1
 abbrev pub place_of : ℕ → Option ℕ

@@ -1,16 +1,13 @@
 //! What is printed of a sweep.
 
 ghost use Rattle.std.specs.Prelude.{◌≡◌, ◌<◌, ◌+◌, ◌^◌, IfOk, IfSome, length};
-ghost use Rattle.dr_chart.specs.Picture.{picture_text};
-ghost use Rattle.dr_rows.specs.Findings.{asks_recovery};
-ghost use Rattle.dr_rows.specs.Places.{bars};
 ghost use Rattle.dr_sweep.specs.Printing.{rows_text, says, place_of, torn_of, is_at, tried_at, is_here, gap_at, cut_of, gap_of, asked_of};
 
 use crate::reach::server_of;
 use dr_chart::picture;
 use dr_ids::Text;
 use dr_plan::{SweepPlan, Torn, Tried};
-use dr_rows::{Calm, Row, asks_recovery, bars, heading, push_row, report};
+use dr_rows::{Calm, Row, heading, push_row, report};
 use dr_words::{PlanLine, SweepCommand, TornBytes};
 use std::alloc::{AllocError, Global};
 
@@ -24,15 +21,6 @@ fn rows_text(alloc: Global, plan: &SweepPlan, rows: &[Row]) -> Result<Text, Allo
         push_row(alloc, &mut text, plan, row)?;
     }
     Ok(text)
-}
-
-/// The picture of all rows.
-fn picture_text(alloc: Global, plan: &SweepPlan, rows: &[Row]) -> Result<Text, AllocError>
-    ensures { IfOk result (λ text. text ≡ picture_text (asks_recovery plan.now) (bars plan.now (asks_recovery plan.now) rows.now)) }
-{
-    let asks = asks_recovery(alloc, plan)?;
-    let bars = bars(alloc, plan, asks, rows)?;
-    picture(alloc, asks, &bars)
 }
 
 /// What is printed of all rows of a plan.
@@ -86,7 +74,7 @@ pub(crate) fn says(
     match view {
         View::Report => report(alloc, plan, calm, rows),
         View::Table => rows_text(alloc, plan, rows),
-        View::Picture => picture_text(alloc, plan, rows),
+        View::Picture => picture(alloc, plan, rows),
     }
 }
 
