@@ -16,10 +16,7 @@ use Rattle.dr_model.specs.Carry.{Act, Make, OpenAttempt, Redo, Acknowledge, Drop
 use Rattle.dr_model.specs.PlanParts.{Plan}
 use Rattle.dr_model.specs.Carried.{begun, finish, carried_out}
 use Rattle.dr_model.proofs.Images.{histories-append}
-
--- a world with another journal
-abbrev pub with_events : World → List Event → World
-with_events w es = record w { events = es }
+use Rattle.dr_laws_runs.specs.Walks.{with_events}
 
 -- what the journal was told between two worlds of a run
 abbrev pub told_since : World → World → List Event

@@ -23,12 +23,12 @@ pub record Stand (line : List ℕ) (tried : List Tried) : Type 0 where
   pub unbroken : is_unbroken line ≡ true → All (λ (t : Tried). is_unbroken t.text ≡ true) tried
 
 -- the steps of a line of several
-record Printed (tried : List Tried) (steps : List Step) : Type 0 where
-  one : All (λ (t : Tried). IsOneStep t.text) tried
-  same : steps_of (texts tried) ≡ steps
-  unbroken : All (λ (t : Tried). is_unbroken t.text ≡ true) tried
+pub record Printed (tried : List Tried) (steps : List Step) : Type 0 where
+  pub one : All (λ (t : Tried). IsOneStep t.text) tried
+  pub same : steps_of (texts tried) ≡ steps
+  pub unbroken : All (λ (t : Tried). is_unbroken t.text ≡ true) tried
 
-printed : (number part : ℕ) (steps : List Step) → All IsWritten steps → Printed (parts_from number part steps) steps
+pub printed : (number part : ℕ) (steps : List Step) → All IsWritten steps → Printed (parts_from number part steps) steps
 unfolding parts_from
 printed number part [] all = record { one = All-nil (λ (t : Tried). IsOneStep t.text); same = refl; unbroken = All-nil (λ (t : Tried). is_unbroken t.text ≡ true) }
 printed number part (step ∷ steps) all =

@@ -9,11 +9,14 @@
 //! point (`lines`), and its steps are those of these lines and the stops of the disaster's servers, with their numbers
 //! (`steps`). `pieces_at` gives the same script in pieces, each a text of its lines: those before the disaster, the tried
 //! step that is cut short, and the stops after it. With the recovery after them these are the script. `script_line` gives a
-//! line as a text that reads as it, and `setup_steps` the steps of the set-up, each with its place in the plan. `calm_script`
-//! gives the script without a disaster. The script of a plan within the limits of a script may have more lines than these.
+//! line as a text that reads as it, and `setup_steps` the steps of the set-up, each with its place in the plan. `setup_text` gives its
+//! lines as a text, and `calm_script`
+//! gives the script without a disaster. `with_tried` gives the plan with other tried steps, which `push_step` and `push_step_parts` add one by one.
+//! The script of a plan within the limits of a script may have more lines than these.
 #![tactic(auto)]
 
 mod above;
+mod apart;
 mod fault;
 mod lines;
 mod marks;
@@ -28,11 +31,12 @@ mod stages;
 mod uses;
 mod words;
 
+pub use apart::{push_step, push_step_parts, with_tried};
 pub use fault::PlanFault;
 pub use names::{Disaster, is_same_name, name_bytes};
 pub use pieces::{PieceTexts, pieces_at, script_at, script_line, setup_steps};
 pub use plan::{SweepPlan, Tried, Use};
-pub use points::{PlanPlace, Point, Torn, WriteCounts, calm_script, count_at};
+pub use points::{PlanPlace, Point, Torn, WriteCounts, calm_script, count_at, setup_text};
 pub use reading::read_plan;
 pub use reason::{Lack, Reason, push_reason, push_volume};
 pub use stages::Stage;

@@ -1,11 +1,12 @@
 //! The lines of a part of a plan, and the steps that are tried of a line.
 
 ghost use Rattle.std.specs.Prelude.{◌≡◌, ◌∷◌, ◌++◌, [], All, OnOk};
-ghost use Rattle.dr_model.specs.LineText.{IsWritten};
+ghost use Rattle.dr_model.specs.LineText.{IsWritten, step_text};
 ghost use Rattle.dr_plan.specs.Reading.{parts_from, tried_steps};
 
 use crate::plan::Tried;
 use dr_ids::Text;
+use dr_model::Step;
 use dr_script::{Line, print_step};
 use std::alloc::{AllocError, Global};
 
@@ -56,6 +57,26 @@ fn push_whole(
     Ok(())
 }
 
+/// Adds a step as the part of a line.
+pub(crate) fn push_part(
+    alloc: Global,
+    all: &mut Vec<Tried>,
+    number: usize,
+    part: usize,
+    step: &Step,
+) -> Result<(), AllocError>
+    requires { IsWritten step.now }
+    ensures { OnOk result (all.new.items ≡ all.old.items ++ record { line = number; part = part; text = step_text step.now } ∷ []) }
+{
+    let text = print_step(alloc, step)?;
+    all.push(Tried {
+        line: number,
+        part,
+        text,
+    })?;
+    Ok(())
+}
+
 /// Adds each step of a line as a part of it.
 fn push_parts(
     alloc: Global,
@@ -68,12 +89,7 @@ fn push_parts(
 {
     for i in 0..steps.len() {
         let step = steps.step(i).unwrap();
-        let text = print_step(alloc, step)?;
-        all.push(Tried {
-            line: number,
-            part: i + 1,
-            text,
-        })?;
+        push_part(alloc, all, number, i + 1, step)?;
     }
     Ok(())
 }

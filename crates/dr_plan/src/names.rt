@@ -17,7 +17,7 @@ use std::marker::Model;
 /// The servers that a disaster takes.
 #[derive(Drop)]
 pub struct Disaster {
-    servers: Vec<Name>,
+    pub(crate) servers: Vec<Name>,
 }
 
 impl Model for Disaster {

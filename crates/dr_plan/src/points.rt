@@ -6,6 +6,7 @@ ghost use Rattle.std.specs.Option.{option_copied};
 ghost use Rattle.std.specs.Str.Lines.{lines};
 ghost use Rattle.dr_model.specs.declared.step.Step.TheVariants.{StopAfter};
 ghost use Rattle.dr_model.specs.LineText.{name_fits, step_text};
+ghost use Rattle.dr_plan.specs.Pieces.{IsTextOf};
 ghost use Rattle.dr_plan.specs.Points.{count_at, torn_at, torn_word, stop_line, fuses, fuse_lines, others, lines_before, calm_lines, with_end, text_of, calm_script};
 ghost use Rattle.dr_plan.specs.Sweep.{texts};
 
@@ -248,4 +249,20 @@ pub fn calm_script(alloc: Global, plan: &SweepPlan) -> Result<Text, AllocError>
     ensures lines { IfOk result (λ script. lines script ≡ calm_lines plan.now) }
 {
     calm_text(alloc, plan.draft())
+}
+
+/// The lines of the set-up.
+fn setup_of(alloc: Global, plan: &Draft) -> Result<Text, AllocError>
+    ensures { IfOk result (λ text. text ≡ text_of plan.now.setup) }
+{
+    let mut text = Text::new(alloc);
+    push_lines(&mut text, &plan.setup)?;
+    Ok(text)
+}
+
+/// The lines of the set-up as a text, which reads as them. Fails where there is no memory.
+pub fn setup_text(alloc: Global, plan: &SweepPlan) -> Result<Text, AllocError>
+    ensures { IfOk result (IsTextOf plan.now.setup) }
+{
+    setup_of(alloc, plan.draft())
 }

@@ -8,6 +8,6 @@ use Rattle.dr_rows.specs.Kinds.{disasters_told}
 use Rattle.dr_rows.specs.Refusals.{recovery_told}
 use Rattle.dr_rows.specs.Strip.{strip_told}
 
--- the calm run, the disasters, the recovery and the strip
-abbrev pub report : Sweep → Calm → List Outcome → List ℕ
-report plan calm rows = calm_told plan calm ++ disasters_told plan (asks_recovery plan) rows ++ recovery_told plan rows ++ strip_told plan (asks_recovery plan) rows
+-- the calm run of a plan, and the disasters, the recovery and the strip of the one that is tried
+abbrev pub report : Sweep → Sweep → Calm → List Outcome → List ℕ
+report plan tried calm rows = calm_told plan calm ++ disasters_told tried (asks_recovery tried) rows ++ recovery_told tried rows ++ strip_told tried (asks_recovery tried) rows

@@ -13,20 +13,22 @@ use dr_ids::Text;
 use dr_plan::SweepPlan;
 use std::alloc::{AllocError, Global};
 
-/// The report on a sweep: the calm run, the disasters, the recovery and the strip.
+/// The report on a sweep: the calm run of the plan, and the disasters, the recovery and the strip of the plan that is tried, in which lines of
+/// several steps are taken apart.
 pub fn report(
     alloc: Global,
     plan: &SweepPlan,
+    tried: &SweepPlan,
     calm: &Calm,
     rows: &[Row],
 ) -> Result<Text, AllocError>
-    ensures { IfOk result (λ text. text ≡ report plan.now calm.now rows.now) }
+    ensures { IfOk result (λ text. text ≡ report plan.now tried.now calm.now rows.now) }
 {
-    let asks = asks_recovery(alloc, plan)?;
+    let asks = asks_recovery(alloc, tried)?;
     let mut text = Text::new(alloc);
     push_calm(&mut text, plan, calm)?;
-    push_disasters(alloc, &mut text, plan, asks, rows)?;
-    push_recovery_told(&mut text, plan, rows)?;
-    push_strip_told(alloc, &mut text, plan, asks, rows)?;
+    push_disasters(alloc, &mut text, tried, asks, rows)?;
+    push_recovery_told(&mut text, tried, rows)?;
+    push_strip_told(alloc, &mut text, tried, asks, rows)?;
     Ok(text)
 }

@@ -31,7 +31,7 @@ rows_text plan rows = heading ++ flat_map (row_lines plan) rows
 
 -- what is printed of a plan's calm run and rows
 abbrev pub says : View → Sweep → Calm → List Outcome → List ℕ
-says Report plan calm rows = report plan calm rows
+says Report plan calm rows = report plan plan calm rows
 says Table plan calm rows = rows_text plan rows
 says Picture plan calm rows = picture plan rows
 

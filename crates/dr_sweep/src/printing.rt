@@ -72,7 +72,7 @@ pub(crate) fn says(
     ensures { IfOk result (λ text. text ≡ says view plan.now calm.now rows.now) }
 {
     match view {
-        View::Report => report(alloc, plan, calm, rows),
+        View::Report => report(alloc, plan, plan, calm, rows),
         View::Table => rows_text(alloc, plan, rows),
         View::Picture => picture(alloc, plan, rows),
     }
