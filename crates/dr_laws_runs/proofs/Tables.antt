@@ -1,18 +1,18 @@
 -- Drains leave the servers, and which sessions are defined.
-use Rattle.std.proofs.Common.{ℕ, ◌≡◌, refl, ap, ◌∙◌, sym, subst, Bool, true, false, cond, List, [], ◌∷◌, Option, Some, None, nat_eq}
+use Rattle.std.proofs.Common.{ℕ, ◌≡◌, refl, ap, ◌∙◌, Bool, true, false, cond, List, [], ◌∷◌, Option, Some, None, nat_eq}
 use Rattle.std.specs.Prelude.{is_some}
 use Rattle.dr_ids.specs.declared.names.Member.{Member}
 use Rattle.dr_ids.specs.declared.refusal.Refusal.{Refusal}
 use Rattle.dr_ids.specs.declared.refusal.Refusal.TheVariants.{Stopped as StoppedIn, JournalFull}
-use Rattle.dr_model.specs.Control.{Control, Fuse, World}
+use Rattle.dr_model.specs.Control.{Fuse, World}
 use Rattle.dr_model.specs.Carry.{Act, Make, OpenAttempt, Redo, Acknowledge, Drop, EndFreeze, EndThaw, EndRecovery, Turn, Next, Pass, Do, End, Entry, Outcome, act, continue, go, carry, follow}
-use Rattle.dr_model.specs.Carried.{begun, finish, carried_out, masters_lost}
+use Rattle.dr_model.specs.Carried.{begun, finish, carried_out}
 use Rattle.dr_model.specs.PairEntries.{is_copying}
 use Rattle.dr_model.specs.PlanParts.{Plan}
 use Rattle.dr_model.specs.Plans.{drain_plan, has_room}
 use Rattle.dr_model.specs.Sessions.{Session, session_in, changed, lost_since, with_mirror, mirror_lost_since, begun as begun_in}
-use Rattle.dr_model.specs.Forming.{Part, Way, stays, ends, goes_on, and_then, after_part, part_refusal, part, drains}
-use Rattle.dr_laws_sound.proofs.Turns.{act-cases, Counts, after_act, server_of}
+use Rattle.dr_model.specs.Forming.{Part, Way, ends, goes_on, and_then, after_part, part_refusal, part, drains}
+use Rattle.dr_laws_sound.proofs.Turns.{act-cases, Counts, after_act}
 
 -- the servers are the same, and so is which sessions are defined
 pub record SameTables (w u : World) : Type 0 where

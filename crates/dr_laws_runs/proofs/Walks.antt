@@ -1,40 +1,33 @@
 -- Lines on the way of an `@run`: one after another, for drains, exchanges and turns.
-use Rattle.std.proofs.Common.{ℕ, zero, suc, ◌≡◌, ◌+◌, ◌≤◌, refl, ap, ◌∙◌, sym, subst, arith, append_assoc, Bool, true, false, cond, ◌||◌, List, [], ◌∷◌, ◌++◌, length, Option, Some, None, Ok, nat_eq, nat_le, nat_lt}
+use Rattle.std.proofs.Common.{ℕ, zero, suc, ◌≡◌, ◌≤◌, refl, ap, ◌∙◌, sym, subst, arith, append_assoc, Bool, true, false, cond, ◌||◌, List, [], ◌∷◌, ◌++◌, length, Option, Some, None, Ok, nat_eq, nat_lt}
 use Rattle.std.specs.Prelude.{is_some}
 use Rattle.std.proofs.lemmas.Bool.Decides.{nat_tests}
 use Rattle.std.proofs.lemmas.List.{append-nil}
 use Rattle.std.proofs.lemmas.List.Sums.{fold-append}
 use Rattle.dr_ids.specs.declared.names.Member.{Member}
-use Rattle.dr_ids.specs.declared.refusal.PhaseName.{PhaseName}
 use Rattle.dr_ids.specs.declared.refusal.Refusal.{Refusal}
 use Rattle.dr_ids.specs.declared.refusal.Refusal.TheVariants.{OutOfOrder, JournalFull}
 use Rattle.dr_ids.specs.declared.refusal.Which.TheVariants.{Groups}
-use Rattle.dr_ids.specs.declared.refusal.Kind.TheVariants.{Session as OfSession}
 use Rattle.dr_model.specs.declared.event.Event.{Event}
 use Rattle.dr_model.specs.declared.step.Name.{Name}
 use Rattle.dr_model.specs.declared.step.Step.{Step}
 use Rattle.dr_model.specs.declared.step.Step.TheVariants.{Drain, Exchange}
 use Rattle.dr_model.specs.Answers.{answer}
 use Rattle.dr_model.specs.Control.{Control, World}
-use Rattle.dr_model.specs.Limits.{most_events, most_groups}
+use Rattle.dr_model.specs.Limits.{most_groups}
 use Rattle.dr_model.specs.PairEntries.{is_copying}
 use Rattle.dr_model.specs.PlanParts.{Plan, server_named, name_bytes, on_named, on_session, refuses}
 use Rattle.dr_model.specs.Plans.{drain_plan, has_room, plan_of}
-use Rattle.dr_model.specs.SessionEntries.{members_on}
 use Rattle.dr_model.specs.SessionPlans.{asking, exchange_on}
 use Rattle.dr_model.specs.Sessions.{Session, Mirror, session_in, mirror_in, members_in, no_master}
-use Rattle.dr_model.specs.Refusals.{unknown, over}
-use Rattle.dr_model.specs.Forming.{Part, Way, stays, ends, goes_on, and_then, unless_refused, after_part, part_refusal, part, drains, is_draining, ask, next_asked, master_in, phase_in, has_committed, still_left, turn_by, turn_in, turns, most_turns, form_refusal, form_in, formed}
+use Rattle.dr_model.specs.Refusals.{over}
+use Rattle.dr_model.specs.Forming.{Part, Way, stays, ends, goes_on, and_then, unless_refused, after_part, part_refusal, part, drains, ask, next_asked, master_in, phase_in, has_committed, still_left, turn_by, turn_in, turns, most_turns, form_in, formed}
 use Rattle.dr_model.specs.Runs.{Task, after_task, after_tasks}
 use Rattle.dr_laws_runs.specs.Parts.{AsksFor, AskForAll, HasRoomFor, told_by, said_by, AreTheRun}
 use Rattle.dr_laws_runs.specs.Walks.{TellsMore, AskForFirst, GoThrough, StopWithin, Walk}
 use Rattle.dr_laws_runs.proofs.Lines.{beside-on, events, run-is-its-parts}
 
 -- ---- lists of lines
-
-tasks-both : (u : World) (a b : List Task) → after_tasks u (a ++ b) ≡ after_tasks (after_tasks u a) b
-unfolding after_tasks
-tasks-both u a b = fold-append after_task u a b
 
 asks-both : (a b : List Task) (xs ys : List Part) → AskForAll a xs → AskForAll b ys → AskForAll (a ++ b) (xs ++ ys)
 asks-both [] b [] ys p q = q
@@ -61,7 +54,8 @@ module _ (u u1 : World) (a b : List Task) (x : Way) (more : World → Way) (lead
   y = more x.world
 
   both-lead : after_tasks u (a ++ b) ≡ after_tasks u1 b
-  both-lead = tasks-both u a b ∙ ap (λ w. after_tasks w b) leads
+  unfolding after_tasks
+  both-lead = fold-append after_task u a b ∙ ap (λ w. after_tasks w b) leads
 
   room-on : HasRoomFor u1 b → HasRoomFor u (a ++ b)
   room-on room = room-both u a b goes.room (subst (λ w. HasRoomFor w b) (sym leads) room)
