@@ -12,14 +12,14 @@ use Rattle.dr_model.specs.declared.step.Step.{Step}
 use Rattle.dr_model.specs.declared.step.Step.TheVariants.{Start, StopAfter}
 use Rattle.dr_model.specs.Control.{Fuse, World}
 use Rattle.dr_model.specs.Carry.{lower}
-use Rattle.dr_model.specs.Plans.{server_named, name_bytes, armed}
+use Rattle.dr_model.specs.Plans.{server_named, name_bytes, armed, fuse_at_start}
 use Rattle.dr_model.specs.Runs.{Task, after_task}
 use Rattle.dr_laws_sound.specs.Stops.{first_stop}
 use Rattle.dr_laws_fuses.specs.Fuses.{with_fuses, fuse_changed, changed_fuse}
-use Rattle.dr_laws_fuses.specs.Laws.{told_since, Outlasts, Lasts, stop_at, FirstPlaceStays}
+use Rattle.dr_laws_fuses.specs.Laws.{told_since, Outlasts, Lasts, stop_at, StartsAlike, FirstPlaceStays}
 use Rattle.dr_laws_fuses.proofs.Acts.{Goes, Passes, Meets}
 use Rattle.dr_laws_fuses.proofs.Steps.{Alike, task-alike}
-use Rattle.dr_laws_fuses.proofs.Later.{same-goes, told-since}
+use Rattle.dr_laws_fuses.proofs.Later.{left-later, same-goes, told-since}
 
 -- a place is the one that is given, or it isn't
 same-place : (p : ℕ) (own : Option ℕ) → (Some p ≡ own) ⊎ (Some p ≢ own)
@@ -28,6 +28,13 @@ same-place p (Some q) = elim (cases_eq p q) [
   | inl e ↦ inl (ap Some e)
   | inr ne ↦ inr (λ e. ne (let is : p ≡ q = cc in is))
 ]
+
+-- a start that leaves the first of two fuses leaves the later one
+started-outlasts : (f g : Option Fuse) → fuse_at_start f ≡ f → Outlasts f g → Outlasts (fuse_at_start f) (fuse_at_start g)
+started-outlasts None None left more = tt
+started-outlasts None (Some g) left more = absurd more
+started-outlasts (Some f) None left more = tt
+started-outlasts (Some f) (Some g) left more = subst (λ x. Outlasts x (fuse_at_start (Some g))) (sym left) (subst (Outlasts (Some f)) (sym (left-later f g more left)) more)
 
 module _ (place : ℕ → Option ℕ) (own : Option ℕ) where
   -- the fuse of server q, by its place
@@ -109,12 +116,21 @@ module _ (place : ℕ → Option ℕ) (own : Option ℕ) where
   first-stop (Stopped s w ∷ es) q p there stops = let is : s ≡ q = cc in ap (λ o. slice_get (cons_option o (filter_map (stop_at place) es)) 0) (ap place is ∙ there)
   first-stop (e ∷ es) q p there stops = first-stop es q p there stops
 
-  module _ (w : World) (t : Task) (h : ℕ → Option Fuse) (more : Lasts place own w.control.fuse h) (starts : (name : Name) → t.asked ≡ Ok (Start name) → ⊥) where
+  module _ (w : World) (t : Task) (h : ℕ → Option Fuse) (more : Lasts place own w.control.fuse h) (starts : StartsAlike w h t.asked) where
     all-stand : (q : ℕ) → Stands q (w.control.fuse q) (h q)
     all-stand q = record { kept = more.kept q; same = more.same q; others = more.others q }
 
     place-changes : (asked : Result Step ℕ) → asked ≡ t.asked → (name : Name) (q : ℕ) → fuse_changed asked ≡ Some name → server_named w.control (name_bytes name) ≡ Some q → Stands q (changed_fuse asked (w.control.fuse q)) (changed_fuse asked (h q))
-    place-changes (Ok (Start start)) is name q set named = absurd (starts start (sym is))
+    place-changes (Ok (Start start)) is name q set named =
+        let here : server_named w.control (name_bytes start) ≡ Some q = ap (λ n. server_named w.control (name_bytes n)) (let same : start ≡ name = cc in same) ∙ named in
+        elim (starts start q (sym is) here) [
+          | inl same ↦ equal-stands q (fuse_at_start (w.control.fuse q)) (fuse_at_start (h q)) (ap fuse_at_start (sym same))
+          | inr left ↦ record {
+            kept = λ none. ap fuse_at_start (more.kept q none);
+            same = λ here. ap fuse_at_start (more.same q here);
+            others = started-outlasts (w.control.fuse q) (h q) left (more.others q);
+          }
+        ]
     place-changes (Ok (StopAfter armed_on writes torn)) is name q set named = equal-stands q (Some (armed writes torn)) (Some (armed writes torn)) refl
     place-changes asked is name q set named = let never : None ≡ Some name = set in absurd cc
 

@@ -128,10 +128,15 @@ stop_at place _ = None
 abbrev pub first_place : (ℕ → Option ℕ) → World → Task → Option ℕ
 first_place place w t = slice_get (filter_map (stop_at place) (told_since w (after_task w t))) 0
 
--- The step starts no server. If the first of these servers that stops in it is that of one place in the one world, or none of them stops, so it is in the other.
+-- a server that a step starts has the same fuse in both worlds, or one that its start leaves
+abbrev pub StartsAlike : World → (ℕ → Option Fuse) → Result Step ℕ → Type 0
+StartsAlike w g asked =
+    (name : Name) (q : ℕ) → asked ≡ Ok (Start name) → server_named w.control (name_bytes name) ≡ Some q → (g q ≡ w.control.fuse q) ⊎ (fuse_at_start (w.control.fuse q) ≡ w.control.fuse q)
+
+-- If the first of these servers that stops in a step is that of one place in the one world, or none of them stops, so it is in the other.
 abbrev pub FirstPlaceStays : (ℕ → Option ℕ) → Option ℕ → World → (ℕ → Option Fuse) → Task → Type 0
 FirstPlaceStays place own w g t =
-    Lasts place own w.control.fuse g → ((name : Name) → t.asked ≡ Ok (Start name) → ⊥) → first_place place w t ≡ own → first_place place (with_fuses w g) t ≡ own
+    Lasts place own w.control.fuse g → StartsAlike w g t.asked → first_place place w t ≡ own → first_place place (with_fuses w g) t ≡ own
 
 -- ---- a server at its last device write
 

@@ -41,7 +41,8 @@ pub fn any_bytes_tear_as_a_fill()
 {}
 
 /// Two worlds differ in the fuses of some servers alone, each with its place among them: that at one place is the same, all others let at least as many
-/// writes pass in the second. If of these servers that one stops first in a step, which starts none, or if none of them stops, it is so in the other world.
+/// writes pass in the second. If of these servers that one stops first in a step, or if none of them stops, it is so in the other world. A start takes a
+/// fuse at 0 away: so where the step starts a server with such a fuse, that one is the same in both.
 pub fn the_first_stop_stays()
     ensures { (place : ℕ → Option ℕ) (own : Option ℕ) (w : World) (g : ℕ → Option Fuse) (t : Task) → FirstPlaceStays place own w g t }
 {}

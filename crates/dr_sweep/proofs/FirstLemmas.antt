@@ -1,5 +1,5 @@
 -- Which server of a disaster stops first.
-use Rattle.std.proofs.Common.{ℕ, ◌≡◌, ◌≢◌, ◌<◌, ◌≤◌, ◌+◌, ◌⊎◌, inl, inr, Bool, true, false, cond, List, [], ◌∷◌, ◌++◌, drop, length, get_or, refl, ap, ◌∙◌, sym, subst, arith, nat_eq, Option, Some, None}
+use Rattle.std.proofs.Common.{ℕ, ◌≡◌, ◌≢◌, ◌<◌, ◌≤◌, ◌+◌, Bool, true, false, cond, List, [], ◌∷◌, drop, length, refl, ap, ◌∙◌, sym, arith, nat_eq, Option, Some, None}
 use Rattle.std.specs.Prelude.{slice_get}
 use Rattle.std.specs.List.{filter_map, cons_option}
 use Rattle.std.specs.Option.{option_and_then}
@@ -8,7 +8,7 @@ use Rattle.std.proofs.Math.ListN.{drop_of_length-le}
 use Rattle.std.proofs.lemmas.Bool.Decides.{nat_tests}
 use Rattle.std.proofs.lemmas.List.{drop_more}
 use Rattle.std.proofs.lemmas.List.Quantifiers.{position-Some}
-use Rattle.std.proofs.lemmas.Option.{same_Some, slice_get-get_or}
+use Rattle.std.proofs.lemmas.Option.{slice_get-get_or}
 use Rattle.dr_model.specs.declared.event.Event.{Event}
 use Rattle.dr_model.specs.declared.event.Event.TheVariants.{ImageEnd, Stopped}
 use Rattle.dr_model.specs.declared.step.Name.{Name}
@@ -19,7 +19,6 @@ use Rattle.dr_plan.specs.declared.points.Torn.{Torn}
 use Rattle.dr_plan.specs.Sweep.{Sweep}
 use Rattle.dr_sweep.specs.Comes.{first_stop, servers_at}
 use Rattle.dr_sweep.specs.Reach.{told_before, stopped_by, stopped_since, stop_by}
-use Rattle.dr_sweep.specs.declared.reach.FirstStop.{FirstStop}
 use Rattle.dr_sweep.specs.declared.reach.FirstStop.TheVariants.{Own, Other, Nobody}
 
 -- ---- one event after another

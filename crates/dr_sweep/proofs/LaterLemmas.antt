@@ -1,8 +1,8 @@
 -- Fuses that come later: a stop that is the first stays so.
-use Rattle.std.proofs.Common.{ℕ, ◌≡◌, ◌≢◌, ◌<◌, ◌≤◌, ◌+◌, ◌^◌, ◌⊎◌, inl, inr, Bool, true, false, cond, List, [], ◌∷◌, ◌++◌, drop, take, get_or, length, map, refl, ap, ◌∙◌, sym, subst, arith, nat_eq, nat_lt, Option, Some, None, Result, Ok}
+use Rattle.std.proofs.Common.{ℕ, ◌≡◌, ◌≢◌, ◌<◌, ◌≤◌, ◌+◌, ◌-◌, ◌^◌, ◌⊎◌, inl, inr, Bool, true, false, cond, List, [], ◌∷◌, ◌++◌, drop, take, get_or, length, map, refl, ap, ◌∙◌, sym, subst, arith, nat_eq, nat_lt, Option, Some, None, Ok}
 use Rattle.std.specs.Prelude.{All, slice_get}
 use Rattle.std.specs.List.{filter_map, fold, cons_option, position, position_or_len}
-use Rattle.std.specs.Option.{option_map_or, unwrap_or}
+use Rattle.std.specs.Option.{option_and_then, option_map_or, unwrap_or}
 use Rattle.std.specs.Str.{bytes_eq}
 use Rattle.std.proofs.Math.Seq.{take-append_seam}
 use Rattle.std.proofs.lemmas.Bool.{cases_eq, cases_lt}
@@ -23,7 +23,6 @@ use Rattle.dr_model.specs.declared.event.Event.TheVariants.{Stopped}
 use Rattle.dr_model.specs.declared.step.Name.{Name}
 use Rattle.dr_model.specs.declared.step.Step.TheVariants.{Start}
 use Rattle.dr_model.specs.Control.{Fuse, World, nothing}
-use Rattle.dr_model.specs.Grammar.{line_of}
 use Rattle.dr_model.specs.Groups.{In}
 use Rattle.dr_model.specs.LineText.{name_fits, name_text}
 use Rattle.dr_model.specs.LineWords.{◌>>=◌}
@@ -43,16 +42,16 @@ use Rattle.dr_plan.specs.Pieces.{Pieces, cut_pieces, pieces_of}
 use Rattle.dr_plan.specs.Points.{count_at, fuses, fuse_lines, lines_before, others, steps_from, stop_line, torn_at, torn_word}
 use Rattle.dr_plan.specs.Sweep.{Sweep, Tried}
 use Rattle.dr_sweep.specs.Comes.{first_stop, servers_at}
-use Rattle.dr_sweep.specs.Counts.{switches, switches_by}
+use Rattle.dr_sweep.specs.Counts.{first_by, first_in as first_in_line, first_write}
 use Rattle.dr_sweep.specs.Parts.{TellsFirst}
 use Rattle.dr_sweep.specs.Reach.{server_of, stop_by, stopped_by, stopped_since, told_before}
 use Rattle.dr_sweep.specs.declared.reach.FirstStop.TheVariants.{Other, Nobody}
-use Rattle.dr_sweep.proofs.ArmLemmas.{Ends, AreFine, arm-all, fuse_of}
+use Rattle.dr_sweep.proofs.ArmLemmas.{Ends, AreFine, AreLeft, arm-all, fuse_of}
 use Rattle.dr_top.proofs.LeadLemmas.{lists-then}
 use Rattle.dr_sweep.proofs.AskedLemmas.{TwoParts, in-two, lists-parts, bare-fuses, asked-fuses, lists-fuses, lists-by, one-task}
 use Rattle.dr_sweep.proofs.FirstLemmas.{stop-is, stop-same}
 use Rattle.dr_laws_fuses.specs.Fuses.{with_fuses}
-use Rattle.dr_laws_fuses.specs.Laws.{Outlasts, stop_at, first_place}
+use Rattle.dr_laws_fuses.specs.Laws.{Outlasts, StartsAlike, stop_at, first_place}
 use Rattle.dr_laws_fuses.proofs.Places.{first-place-stays}
 use Rattle.dr_laws_fuses.proofs.Names.{run-named}
 use Rattle.dr_sweep.proofs.RunLemmas.{steps-append}
@@ -134,10 +133,18 @@ module _ (names : List Name) (once : ComeOnce names) (bytes : List ℕ) where
           let twice : is_among name (take i names) ≡ true = any-some (λ (other : Name). bytes_eq (name_text other) (name_text name)) (take i names) other among matches in
           absurd (let no : true ≡ false = sym twice ∙ once (take i names) (drop (i + 1) names) name cut in cc)
 
+  -- it stands at one place
+  same_place : (i j : ℕ) (a b : Name) → slice_get names i ≡ Some a → slice_get names j ≡ Some b → is_it a ≡ true → is_it b ≡ true → i ≡ j
+  same_place i j a b at_i at_j is_a is_b = by (position is_it names) refl
+    where
+      by : (o : Option ℕ) → position is_it names ≡ o → i ≡ j
+      by None none = absurd (found_there i a at_i is_a none)
+      by (Some p) first = sym (place_is i p a at_i is_a first) ∙ place_is j p b at_j is_b first
+
 -- ---- the step
 
 module _ (plan : Sweep) (sweep : IsSweep plan) (disaster place server : ℕ) (found : Option ℕ) (tear : Torn) (earlier later : List ℕ) (same : (k : ℕ) → found ≡ Some k → (k ≢ server) × (count_at earlier k ≡ count_at later k)) (none : (z : ℕ) → count_at earlier z ≤ count_at later z)
-    (few : (z : ℕ) → count_at later z < 2 ^ 32) (moves : switches plan place ≡ false) where
+    (few : (z : ℕ) → count_at later z < 2 ^ 32) (from : first_write plan disaster place server ≤ count_at earlier server) (short : count_at earlier server < 2 ^ 32 - 1) where
   module _ (names : List Name) (lost : slice_get plan.loses disaster ≡ Some names) (own : Name) (named : slice_get names server ≡ Some own) (tried : Tried) (here : slice_get plan.tried place ≡ Some tried) where
     abbrev before : List (List ℕ)
     before = lines_before plan place
@@ -186,13 +193,11 @@ module _ (plan : Sweep) (sweep : IsSweep plan) (disaster place server : ℕ) (fo
     step : IsOneStep tried.text
     step = subst (λ (t : Tried). IsOneStep t.text) (get_or_from_slice_get plan.tried place tried tried here) (sweep.one place tried (slice_get_within plan.tried place tried here))
 
-    not_start : (t : Task) → t.asked ≡ Ok step.0 → (name : Name) → t.asked ≡ Ok (Start name) → ⊥
-    not_start t is name starts =
-        let same_step : Ok step.0 ≡ Ok (Start name) = sym is ∙ starts in
-        let it : step.0 ≡ Start name = cc in
-        let does : switches plan place ≡ true = ap (λ (o : Option Tried). option_map_or (λ (t : Tried). switches_by (line_of t.text)) o false) here ∙ ap switches_by (step.1 ∙ ap (λ s. Ok (s ∷ [])) it) in
-        let no : true ≡ false = sym does ∙ moves in
-        cc
+    first_is : (name : Name) → step.0 ≡ Start name → first_write plan disaster place server ≡ first_by own (Ok (Start name ∷ []))
+    first_is name is =
+        ap (λ (o : Option Name). option_map_or (λ name. option_map_or (λ (t : Tried). first_in_line name t.text) (slice_get plan.tried place) 0) o 0) (ap (option_and_then (λ (ns : List Name). slice_get ns server)) lost ∙ named)
+        ∙ ap (λ (o : Option Tried). option_map_or (λ (t : Tried). first_in_line own t.text) o 0) here
+        ∙ ap (first_by own) (step.1 ∙ ap (λ s. Ok (s ∷ [])) is)
 
     -- ---- the two runs
 
@@ -247,17 +252,33 @@ module _ (plan : Sweep) (sweep : IsSweep plan) (disaster place server : ℕ) (fo
 
       servers_stay : w1.control.servers ≡ w0.control.servers
       servers_stay =
-          (arm-all (λ q. Some 0) (Some 1) server Unchanged earlier earlier w0.control.servers (λ z. omega arith) names 0 number w0 w0.control.fuse refl
-          (record { kept = λ q e. refl; same = λ q e. refl; others = λ q. as-long (w0.control.fuse q) })
-          (λ i name at k k_is q found. ((λ e. cc), λ e. cc))).stay
+          (arm-all (λ q. Some 0) (Some 1) (λ q. ⊥) server Unchanged earlier earlier w0.control.servers (λ z. omega arith) names 0 number w0 w0.control.fuse refl
+          (record { kept = λ q e. refl; same = λ q e. refl; others = λ q. as-long (w0.control.fuse q) }) (λ q never. absurd never)
+          (λ i name at k k_is q found. ((λ e. cc), (λ e. cc), λ never. absurd never))).stay
 
       name_told : (q : ℕ) (bytes : List ℕ) → slice_get w0.control.servers q ≡ Some bytes → told_name told q ≡ bytes
       name_told q bytes at =
           ap (λ o. unwrap_or o []) (subst (λ (w : World). (fold heard untold w.events).names q ≡ slice_get w.control.servers q) runs_front (run-named front q) ∙ ap (λ xs. slice_get xs q) servers_stay ∙ at)
 
+      -- the server that is to be cut short, if its count isn't 0
+      abbrev Started : ℕ → Type 0
+      Started q = (1 ≤ count_at earlier server) × (position (bytes_eq (name_bytes own)) w0.control.servers ≡ Some q)
+
+      left_then : (i q : ℕ) (name : Name) → slice_get names i ≡ Some name → (bytes : List ℕ) → slice_get w0.control.servers q ≡ Some bytes → name_text name ≡ bytes → Started q
+          → AreLeft (Some (fuse_of at_place found Started server tear earlier later w0.control.servers none Unchanged earlier (0 + i))) (Some (fuse_of at_place found Started server tear earlier later w0.control.servers none tear later (0 + i)))
+      left_then i q name at bytes there equal started =
+          let mine = position-Some (bytes_eq (name_bytes own)) w0.control.servers q [] started.1 in
+          let is_own : bytes_eq (name_text own) bytes ≡ true = sym (ap (bytes_eq (name_text own)) (get_or_from_slice_get w0.control.servers q bytes [] there)) ∙ mine.1 in
+          let is_it : bytes_eq (name_text name) bytes ≡ true = (bytes_eq-Decides (name_text name) bytes).1 equal in
+          let same : i ≡ server = same_place names once bytes i server name own at named is_it is_own in
+          let count : count_at earlier (0 + i) ≡ count_at earlier server = ap (count_at earlier) (omega (arith, same)) in
+          let some = started.0 in
+          let far : nat_eq (count_at earlier (0 + i)) 0 ≡ false = (let more : 1 ≤ count_at earlier (0 + i) = omega (arith, count, some) in grind (arith, nat_tests, more)) in
+          inr (ap (λ b. cond b None (Some (fuse_of at_place found Started server tear earlier later w0.control.servers none Unchanged earlier (0 + i)))) far)
+
       -- the server that stops first has one fuse
       alike : (i : ℕ) (name : Name) → slice_get names i ≡ Some name → (bytes : List ℕ) → bytes_eq (name_text name) bytes ≡ true → (o : Option ℕ) → ((k : ℕ) → o ≡ Some k → (k ≢ server) × (count_at earlier k ≡ count_at later k)) → server_of names bytes ≡ o
-          → fuse_of at_place found server tear earlier later w0.control.servers none tear later (0 + i) ≡ fuse_of at_place found server tear earlier later w0.control.servers none Unchanged earlier (0 + i)
+          → fuse_of at_place found Started server tear earlier later w0.control.servers none tear later (0 + i) ≡ fuse_of at_place found Started server tear earlier later w0.control.servers none Unchanged earlier (0 + i)
       alike i name at bytes matches None same e = absurd (found_there names once bytes i name at matches e)
       alike i name at bytes matches (Some k) same e =
           let own : k ≡ i = place_is names once bytes i k name at matches e in
@@ -267,7 +288,7 @@ module _ (plan : Sweep) (sweep : IsSweep plan) (disaster place server : ℕ) (fo
           ap (λ c. armed c (torn_word (torn_at server tear (0 + i)))) (ap (count_at later) from_start ∙ sym both.1 ∙ sym (ap (count_at earlier) from_start))
           ∙ ap (λ b. armed (count_at earlier (0 + i)) (torn_word (cond b tear Unchanged))) kept ∙ sym (ap (λ b. armed (count_at earlier (0 + i)) (torn_word (cond b Unchanged Unchanged))) kept)
 
-      fine : AreFine at_place found server tear earlier later w0.control.servers none 0 names
+      fine : AreFine at_place found Started server tear earlier later w0.control.servers none 0 names
       fine i name at k k_is q is_named =
           let in_list = position-Some (bytes_eq (name_bytes name)) k.servers q [] is_named in
           let bytes = get_or k.servers q [] in
@@ -277,10 +298,26 @@ module _ (plan : Sweep) (sweep : IsSweep plan) (disaster place server : ℕ) (fo
           let matches : bytes_eq (name_text name) (told_name told q) ≡ true = (bytes_eq-Decides (name_text name) (told_name told q)).1 (equal ∙ sym told_so) in (
             λ e. found_there names once (told_name told q) i name at matches e,
             λ e. alike i name at (told_name told q) matches found same e,
+            λ started. left_then i q name at bytes there equal started,
           )
 
-      ends : Ends at_place found w0.control.servers w1 v1
-      ends = arm-all at_place found server tear earlier later w0.control.servers none names 0 number w0 w0.control.fuse refl (record { kept = λ q e. refl; same = λ q e. refl; others = λ q. as-long (w0.control.fuse q) }) fine
+      ends : Ends at_place found Started w0.control.servers w1 v1
+      ends = arm-all at_place found Started server tear earlier later w0.control.servers none names 0 number w0 w0.control.fuse refl (record { kept = λ q e. refl; same = λ q e. refl; others = λ q. as-long (w0.control.fuse q) }) (λ q started. inl refl) fine
+
+      -- if the step starts a server, it is that one, and its fuse isn't at 0
+      starts_alike : StartsAlike w1 ends.fuse t.asked
+      starts_alike name q starts is_named = by (bytes_eq (name_text name) (name_text own)) refl
+        where
+          it : step.0 ≡ Start name
+          it = let both : Ok step.0 ≡ Ok (Start name) = sym the_task.2 ∙ starts in cc
+
+          by : (b : Bool) → bytes_eq (name_text name) (name_text own) ≡ b → AreLeft (w1.control.fuse q) (ends.fuse q)
+          by true same =
+              let equal : name_text name ≡ name_text own = same_bytes (name_text name) (name_text own) same in
+              let first : first_write plan disaster place server ≡ 1 = first_is name it ∙ ap (λ b. cond b 1 (2 ^ 32 - 1)) same in
+              ends.left q
+              (omega (arith, first, from), ap (position (bytes_eq (name_bytes own))) (sym servers_stay) ∙ ap (λ bytes. position (bytes_eq bytes) w1.control.servers) (sym equal) ∙ is_named)
+          by false apart = absurd (let first : first_write plan disaster place server ≡ 2 ^ 32 - 1 = first_is name it ∙ ap (λ b. cond b 1 (2 ^ 32 - 1)) apart in omega (arith, first, from, short))
 
       -- ---- the first stop
 
@@ -300,7 +337,7 @@ module _ (plan : Sweep) (sweep : IsSweep plan) (disaster place server : ℕ) (fo
           sym (ap (λ xs. slice_get xs 0) (first_in w1 Unchanged earlier refl)) ∙ stop-same server (slice_get (stopped_since (servers_at plan (Cut disaster place server Unchanged earlier)) (length w1.events) (after_task w1 t).events) 0) found at_w1
 
       is_first : first_place at_place v1 t ≡ found
-      is_first = subst (λ w. first_place at_place w t ≡ found) (sym ends.is) (first-place-stays at_place found w1 ends.fuse t ends.lasts (not_start t the_task.2) was_first)
+      is_first = subst (λ w. first_place at_place w t ≡ found) (sym ends.is) (first-place-stays at_place found w1 ends.fuse t ends.lasts starts_alike was_first)
 
       tells_later : TellsFirst plan (Cut disaster place server tear later) (stop_by server found)
       tells_later = record {
@@ -324,29 +361,29 @@ module _ (plan : Sweep) (sweep : IsSweep plan) (disaster place server : ℕ) (fo
               let one : ListsBy w1 t.listed (own_course t.asked) = (subst (ListsAlong w1) the_task.1 there).0 in
               subst (λ w. ListsAlong w strike) (sym (runs_later ∙ ends.is)) (subst (ListsAlong (with_fuses w1 ends.fuse)) (sym the_task.1) (lists-by w1 ends.fuse t.listed (own_course t.asked) one, tt))
 
--- In a step that starts or stops no server itself, a stop that is the first of a disaster's stays so if no fuse of it comes earlier, and that server's
--- is the same; and if none of them stops, none does.
+-- From the first device write of the server on that a fuse can cut short, a stop that is the first of a disaster's stays so if no fuse of it comes earlier,
+-- and that server's is the same; and if none of them stops, none does.
 later-so : (plan : Sweep) → IsSweep plan → (disaster place server : ℕ) (found : Option ℕ) (tear : Torn) (earlier later : List ℕ) → ((k : ℕ) → found ≡ Some k → (k ≢ server) × (count_at earlier k ≡ count_at later k)) → ((z : ℕ) → count_at earlier z ≤ count_at later z)
-    → ((z : ℕ) → count_at later z < 2 ^ 32) → switches plan place ≡ false → TellsFirst plan (Cut disaster place server Unchanged earlier) (stop_by server found) → TellsFirst plan (Cut disaster place server tear later) (stop_by server found)
+    → ((z : ℕ) → count_at later z < 2 ^ 32) → first_write plan disaster place server ≤ count_at earlier server → count_at earlier server < 2 ^ 32 - 1 → TellsFirst plan (Cut disaster place server Unchanged earlier) (stop_by server found) → TellsFirst plan (Cut disaster place server tear later) (stop_by server found)
 unfolding pieces_of
-later-so plan sweep disaster place server found tear earlier later same none few moves tells =
+later-so plan sweep disaster place server found tear earlier later same none few from short tells =
     let lost = bound (slice_get plan.loses disaster) (λ names. cut_pieces plan names place server Unchanged earlier) tells.pieces tells.are in
     let piece : Tried → Pieces = λ tried. record { front = lines_before plan place ++ fuse_lines lost.0 server Unchanged earlier; strike = tried.text ∷ []; stops = map stop_line (others server lost.0) } in
     let named = bound (slice_get lost.0 server) (λ name. slice_get plan.tried place >>= λ tried. Some (piece tried)) tells.pieces lost.2 in
     let here = bound (slice_get plan.tried place) (λ tried. Some (piece tried)) tells.pieces named.2 in
     let is : piece here.0 ≡ tells.pieces = same_Some (piece here.0) tells.pieces here.2 in
-    tells_later plan sweep disaster place server found tear earlier later same none few moves lost.0 lost.1 named.0 named.1 here.0 here.1 tells.front tells.strike
+    tells_later plan sweep disaster place server found tear earlier later same none few from short lost.0 lost.1 named.0 named.1 here.0 here.1 tells.front tells.strike
     (tells.asks_front ∙ ap (λ (p : Pieces). tasks_from 1 p.front) (sym is))
     (tells.asks_strike ∙ ap (λ (p : Pieces). tasks_from (length p.front + 1) p.strike) (sym is))
     tells.lists tells.is
 
 pub later-first : (plan : Sweep) → IsSweep plan → (disaster place server other : ℕ) (earlier later : List ℕ) → other ≢ server → count_at earlier other ≡ count_at later other → ((z : ℕ) → count_at earlier z ≤ count_at later z) → ((z : ℕ) → count_at later z < 2 ^ 32)
-    → switches plan place ≡ false → TellsFirst plan (Cut disaster place server Unchanged earlier) (Other other) → TellsFirst plan (Cut disaster place server Unchanged later) (Other other)
-later-first plan sweep disaster place server other earlier later apart same none few moves tells =
+    → first_write plan disaster place server ≤ count_at earlier server → count_at earlier server < 2 ^ 32 - 1 → TellsFirst plan (Cut disaster place server Unchanged earlier) (Other other) → TellsFirst plan (Cut disaster place server Unchanged later) (Other other)
+later-first plan sweep disaster place server other earlier later apart same none few from short tells =
     let is : stop_by server (Some other) ≡ Other other = stop-is server other (Some other) refl apart in
     subst (TellsFirst plan (Cut disaster place server Unchanged later)) is
-    (later-so plan sweep disaster place server (Some other) Unchanged earlier later (λ k e. let at : other ≡ k = cc in (λ h. apart (at ∙ h), sym (ap (count_at earlier) at) ∙ same ∙ ap (count_at later) at)) none few moves (subst (TellsFirst plan (Cut disaster place server Unchanged earlier)) (sym is) tells))
+    (later-so plan sweep disaster place server (Some other) Unchanged earlier later (λ k e. let at : other ≡ k = cc in (λ h. apart (at ∙ h), sym (ap (count_at earlier) at) ∙ same ∙ ap (count_at later) at)) none few from short (subst (TellsFirst plan (Cut disaster place server Unchanged earlier)) (sym is) tells))
 
 pub later-none : (plan : Sweep) → IsSweep plan → (disaster place server : ℕ) (tear : Torn) (earlier later : List ℕ) → ((z : ℕ) → count_at earlier z ≤ count_at later z) → ((z : ℕ) → count_at later z < 2 ^ 32)
-    → switches plan place ≡ false → TellsFirst plan (Cut disaster place server Unchanged earlier) Nobody → TellsFirst plan (Cut disaster place server tear later) Nobody
-later-none plan sweep disaster place server tear earlier later none few moves tells = later-so plan sweep disaster place server None tear earlier later (λ k e. absurd (let never : None ≡ Some k = e in cc)) none few moves tells
+    → first_write plan disaster place server ≤ count_at earlier server → count_at earlier server < 2 ^ 32 - 1 → TellsFirst plan (Cut disaster place server Unchanged earlier) Nobody → TellsFirst plan (Cut disaster place server tear later) Nobody
+later-none plan sweep disaster place server tear earlier later none few from short tells = later-so plan sweep disaster place server None tear earlier later (λ k e. absurd (let never : None ≡ Some k = e in cc)) none few from short tells

@@ -1,5 +1,6 @@
 -- Read first: `RunLemmas.antt`: the pieces of a script are carried out one after another; `TellLemmas.antt`: names, answers and acknowledgements,
--- event by event; `RowLemmas.antt`: rows that are added one after another; `WithinLemmas.antt`: the device writes of a server in a step, each with its counts.
+-- event by event; `RowLemmas.antt`: rows that are added one after another; `WithinLemmas.antt`: the device writes of a server in a step, each with its counts;
+-- `EarlyLemmas.antt`, `LaterLemmas.antt`: fuses that stop nothing, and fuses that come later; `KnownLemmas.antt`: what is lost is known.
 pub mod TellLemmas
 pub mod MemberLemmas
 pub mod ReadLemmas
@@ -12,6 +13,8 @@ pub mod FirstLemmas
 pub mod ArmLemmas
 pub mod AskedLemmas
 pub mod LaterLemmas
+pub mod EarlyLemmas
+pub mod KnownLemmas
 pub mod RowLemmas
 pub mod WithinLemmas
 pub mod NamedLemmas

@@ -12,7 +12,7 @@ use Rattle.dr_plan.specs.Sweep.{Sweep}
 use Rattle.dr_rows.specs.Outcome.{Outcome}
 use Rattle.dr_model.specs.Groups.{In}
 use Rattle.dr_sweep.specs.declared.parts.Part.{Part}
-use Rattle.dr_sweep.specs.declared.parts.Part.TheVariants.{Between, Within}
+use Rattle.dr_sweep.specs.declared.parts.Part.TheVariants.{Between}
 use Rattle.dr_sweep.specs.declared.fault.PointFault.{PointFault}
 use Rattle.dr_sweep.specs.declared.fault.PointFault.TheVariants.{NoMemory, TooLong}
 use Rattle.dr_sweep.specs.Comes.{PointTold, ComesTo, Stops, FailsAt}
@@ -20,6 +20,7 @@ use Rattle.dr_sweep.specs.Parts.{IsRowOf, AreRowsOf, AreRows, AreSwept, IsTriedT
 use Rattle.dr_sweep.specs.Reach.{is_own}
 use Rattle.dr_sweep.specs.declared.reach.FirstStop.{FirstStop}
 use Rattle.dr_sweep.specs.Rows.{IsRow}
+use Rattle.dr_sweep.proofs.KnownLemmas.{known-so}
 
 -- rows that are such, and then rows that are such, where both together are so
 pub adds-then : (p q r : List Outcome → Type 0) (a b c : List Outcome) → ((xs ys : List Outcome) → p xs → q ys → r (xs ++ ys)) → Adds p a b → Adds q b c → Adds r a c
@@ -59,7 +60,8 @@ module _ (plan : Sweep) where
   -- the row of a point of whose run this was told was added
   pub told-adds : (p : Point) (told : PointTold) (row : Outcome) (a b : List Outcome) → ComesTo plan p told → IsRow plan p told row → b ≡ a ++ row ∷ [] → Adds (AreRowsOf plan (p ∷ [])) a b
   told-adds p told row a b comes is cut =
-      let of : IsRowOf plan row = record { told = told; comes = subst (λ (q : Point). ComesTo plan q told) (sym is.point_is) comes; is = subst (λ (q : Point). IsRow plan q told row) (sym is.point_is) is } in
+      let there : ComesTo plan row.point told = subst (λ (q : Point). ComesTo plan q told) (sym is.point_is) comes in
+      let of : IsRowOf plan row = record { told = told; comes = there; is = subst (λ (q : Point). IsRow plan q told row) (sym is.point_is) is; known = known-so plan row.point told there plan.uses row.losses is.losses } in
       record { more = row ∷ []; cut = cut; are = inl (record { first = row; rest = []; cut = refl; point_is = is.point_is; is = of; others = refl }) }
 
   -- so it is if its server is the first to stop, and else none was

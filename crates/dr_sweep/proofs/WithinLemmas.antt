@@ -1,11 +1,11 @@
 -- The device writes of a server in a tried step, one after another: each has its counts, and the counts of the next one are known.
-use Rattle.std.proofs.Common.{ℕ, zero, suc, ◌≡◌, ◌≢◌, ◌<◌, ◌≤◌, ◌+◌, ◌-◌, ◌^◌, ◌⊎◌, inl, inr, Bool, true, false, cond, List, [], ◌∷◌, ◌++◌, length, get_or, map, refl, ap, ◌∙◌, sym, subst, arith, nat_eq, ◌&&◌, Option, Some, None}
+use Rattle.std.proofs.Common.{ℕ, zero, suc, ◌≡◌, ◌≢◌, ◌<◌, ◌≤◌, ◌+◌, ◌-◌, ◌^◌, ◌⊎◌, inl, inr, Bool, true, false, cond, List, [], ◌∷◌, ◌++◌, length, get_or, map, refl, ap, ◌∙◌, sym, subst, arith, nat_eq, ◌&&◌, Some, None}
 use Rattle.std.specs.Prelude.{All}
 use Rattle.std.specs.List.{range_with_len, sum}
-use Rattle.std.proofs.lemmas.Bool.{and_parts, cases_Bool, cases_eq, cases_lt}
+use Rattle.std.proofs.lemmas.Bool.{and_parts, cases_eq, cases_lt}
 use Rattle.std.proofs.lemmas.Bool.Decides.{nat_tests}
 use Rattle.std.proofs.lemmas.Grind.{common_steps, flat_map-append}
-use Rattle.std.proofs.lemmas.List.{append-nil, map-append, get_or-map}
+use Rattle.std.proofs.lemmas.List.{append-nil, get_or-map, get_or-set_other, map-append}
 use Rattle.std.proofs.lemmas.List.Concat.{flat_map-cons}
 use Rattle.std.proofs.lemmas.List.FromFn.{get_or-range_with_len}
 use Rattle.std.proofs.lemmas.List.Elements.{All-nil, All-push}
@@ -25,12 +25,13 @@ use Rattle.dr_sweep.specs.declared.parts.Part.TheVariants.{Within}
 use Rattle.dr_sweep.specs.declared.reach.FirstStop.{FirstStop}
 use Rattle.dr_sweep.specs.declared.reach.FirstStop.TheVariants.{Own, Other, Nobody}
 use Rattle.dr_sweep.specs.Comes.{Stops, first_stop, servers_at, servers_lost}
-use Rattle.dr_sweep.specs.Counts.{first_write, with_count, one_more, first_counts, switches, raised}
+use Rattle.dr_sweep.specs.Counts.{first_write, with_count, one_more, first_counts, raised}
 use Rattle.dr_sweep.specs.Parts.{AreRowsOf, AreWithin, AtOnce, AreLeast, TellsFirst, IsLast, FindsCounts, FailsWrite, FailsIn, Adds, AddsIf, AddsWrite, write_points, points_of}
 use Rattle.dr_sweep.specs.Reach.{is_own}
 use Rattle.dr_sweep.proofs.CountLemmas.{counted-within, count-within-sum, with-few, with-more, with-most, more-same, more-other, more-length, more-sum, more-back, with-same, raised-later, first-same, first-other, first-sum, first-length}
 use Rattle.dr_sweep.proofs.FirstLemmas.{other-apart, other-within}
 use Rattle.dr_laws_fuses.proofs.Armed.{any-torn}
+use Rattle.dr_sweep.proofs.EarlyLemmas.{early-so}
 use Rattle.dr_sweep.proofs.LaterLemmas.{later-first, later-none}
 use Rattle.dr_sweep.proofs.PointLemmas.{own-is}
 use Rattle.dr_sweep.proofs.RowLemmas.{adds-then, adds-as, adds-none, rows-append, was-missed}
@@ -60,7 +61,6 @@ module _ (plan : Sweep) (disaster place server : ℕ) where
     pub least : AreLeast plan disaster place server writes
     pub all : sum writes ≡ total
     pub size : length writes ≡ 8
-    pub alone : switches plan place ≡ true → (other : ℕ) → other ≢ server → count_at writes other ≡ 0
 
   -- before the first one
   pub begins-up : (writes : List ℕ) (write total : ℕ) → server < 8 → write ≡ first → writes ≡ first_counts server write → total ≡ write → UpTo [] writes total
@@ -71,7 +71,6 @@ module _ (plan : Sweep) (disaster place server : ℕ) where
     least = λ other n apart some. absurd (let none = ap (λ ws. count_at ws other) are ∙ first-other server write other apart in omega (arith, none, some));
     all = ap sum are ∙ first-sum server write low ∙ sym same;
     size = ap length are ∙ first-length server write;
-    alone = λ itself other apart. ap (λ ws. count_at ws other) are ∙ first-other server write other apart;
   }
 
   -- ---- one raise
@@ -86,35 +85,40 @@ module _ (plan : Sweep) (disaster place server : ℕ) where
     summed : (next : ℕ) → next < 8 → sum (one_more next writes) ≡ total + 1
     summed next low = let size = up.size in let all = up.all in let more = more-sum writes next (omega (arith, size, low)) in omega (arith, all, more)
 
-    -- the others' counts are still the least if one is raised
-    still_least : (next : ℕ) → next < 8 → (other n : ℕ) → other ≢ server → other ≢ next → count_at (one_more next writes) other ≡ n + 1 → TellsFirst plan (Cut disaster place server Unchanged (with_count other n (one_more next writes))) (Other other)
-    still_least next low other n apart away some = by (cases_Bool (switches plan place))
-      where
-        before : count_at writes other ≡ n + 1
-        before = sym (more-other writes next other away) ∙ some
+    -- the count of the server can be cut short, and is less than the greatest
+    own_low : server < 8 → (first ≤ count_at writes server) × (count_at writes server < 2 ^ 32 - 1)
+    own_low low =
+        let next = up.next in
+        let size = up.size in
+        let all = up.all in
+        let within = count-within-sum writes server (omega (arith, size, low)) in
+        (omega (arith, next), omega (arith, within, all, room))
 
-        by : (switches plan place ≡ true) ⊎ (switches plan place ≡ false) → TellsFirst plan (Cut disaster place server Unchanged (with_count other n (one_more next writes))) (Other other)
-        by (inl itself) = absurd (let none = up.alone itself other apart in let some = before in omega (arith, none, some))
-        by (inr moves) =
-            let lt = counted-within writes other n before in
-            let size = up.size in
-            let within : next < length writes = omega (arith, size, low) in
-            let longer = more-length writes next in
-            let all = summed next low in
-            later-first plan sweep disaster place server other (with_count other n writes) (with_count other n (one_more next writes)) apart
-            (with-same writes other n lt ∙ sym (with-same (one_more next writes) other n (omega (arith, longer, lt))))
-            (raised-later writes next other n away lt within)
-            (λ z. let most = with-few (one_more next writes) other n (2 ^ 32 - 1) (omega (arith, longer, lt)) (omega (arith, some)) (omega (arith, all, room)) z in omega (arith, most))
-            moves (up.least other n apart before)
+    -- the others' counts are still the least if one is raised
+    still_least : server < 8 → (next : ℕ) → next < 8 → (other n : ℕ) → other ≢ server → other ≢ next → count_at (one_more next writes) other ≡ n + 1 → TellsFirst plan (Cut disaster place server Unchanged (with_count other n (one_more next writes))) (Other other)
+    still_least few next low other n apart away some =
+        let before : count_at writes other ≡ n + 1 = sym (more-other writes next other away) ∙ some in
+        let lt = counted-within writes other n before in
+        let size = up.size in
+        let within : next < length writes = omega (arith, size, low) in
+        let longer = more-length writes next in
+        let all = summed next low in
+        let own = get_or-set_other writes other server n 0 (λ e. apart (sym e)) in
+        let counts = own_low few in
+        later-first plan sweep disaster place server other (with_count other n writes) (with_count other n (one_more next writes)) apart
+        (with-same writes other n lt ∙ sym (with-same (one_more next writes) other n (omega (arith, longer, lt))))
+        (raised-later writes next other n away lt within)
+        (λ z. let most = with-few (one_more next writes) other n (2 ^ 32 - 1) (omega (arith, longer, lt)) (omega (arith, some)) (omega (arith, all, room)) z in omega (arith, most))
+        (let low = counts.0 in omega (arith, own, low)) (let high = counts.1 in omega (arith, own, high)) (up.least other n apart before)
 
     own_least : server < 8 → AreLeast plan disaster place server (one_more server writes)
-    own_least low other n apart some = still_least server low other n apart apart some
+    own_least low other n apart some = still_least low server low other n apart apart some
 
-    other_least : (next : ℕ) → next < 8 → Stops plan (Cut disaster place server Unchanged writes) (Other next) → AreLeast plan disaster place server (one_more next writes)
-    other_least next low stops other n apart some = by (cases_eq other next)
+    other_least : server < 8 → (next : ℕ) → next < 8 → Stops plan (Cut disaster place server Unchanged writes) (Other next) → AreLeast plan disaster place server (one_more next writes)
+    other_least few next low stops other n apart some = by (cases_eq other next)
       where
         by : (other ≡ next) ⊎ (other ≢ next) → TellsFirst plan (Cut disaster place server Unchanged (with_count other n (one_more next writes))) (Other other)
-        by (inr away) = still_least next low other n apart away some
+        by (inr away) = still_least few next low other n apart away some
         by (inl is) =
             let size = up.size in
             let within : next < length writes = omega (arith, size, low) in
@@ -141,40 +145,38 @@ module _ (plan : Sweep) (disaster place server : ℕ) where
       least = own_least low;
       all = summed server low;
       size = sized server;
-      alone = λ itself other apart. more-other writes server other apart ∙ up.alone itself other apart;
     }
 
     -- another server's count is one too few
-    pub other-up : (next : ℕ) → next < 8 → next ≢ server → switches plan place ≡ false → Stops plan (Cut disaster place server Unchanged writes) (Other next) → UpTo counts (one_more next writes) (total + 1)
-    other-up next low apart moves stops = record {
+    pub other-up : server < 8 → (next : ℕ) → next < 8 → next ≢ server → Stops plan (Cut disaster place server Unchanged writes) (Other next) → UpTo counts (one_more next writes) (total + 1)
+    other-up few next low apart stops = record {
       numbers = up.numbers;
       at_once = up.at_once;
       next = more-other writes next server (λ e. apart (sym e)) ∙ up.next;
-      least = other_least next low stops;
+      least = other_least few next low stops;
       all = summed next low;
       size = sized next;
-      alone = λ itself other far. absurd (let no : true ≡ false = sym itself ∙ moves in cc);
     }
 
   -- ---- what comes of a stop
 
   module _ (counts : List (List ℕ)) (writes : List ℕ) (total : ℕ) (up : UpTo counts writes total) where
     -- none is too few, and these are those of the last one
-    module _ (sweep : IsSweep plan) (low : server < 8) (room : total ≤ 2 ^ 32 - 1) where
-      beyond : (stop : FirstStop) → Stops plan (Cut disaster place server Unchanged writes) stop → raised plan place server stop ≡ None → switches plan place ≡ false → (later : ℕ) (torn : Torn) → count_at writes server ≤ later → later < 2 ^ 32
-          → TellsFirst plan (Cut disaster place server torn (with_count server later writes)) Nobody
-      beyond Own stops none moves later torn more few = absurd cc
-      beyond (Other other) stops none moves later torn more few = absurd (let some : Some other ≡ None = sym (ap (λ b. cond b None (Some other)) moves) ∙ none in cc)
-      beyond Nobody stops none moves later torn more few =
+    module _ (sweep : IsSweep plan) (low : server < 8) (room : total < 2 ^ 32 - 1) where
+      beyond : Stops plan (Cut disaster place server Unchanged writes) Nobody → (later : ℕ) (torn : Torn) → count_at writes server ≤ later → later < 2 ^ 32 → TellsFirst plan (Cut disaster place server torn (with_count server later writes)) Nobody
+      beyond stops later torn more few =
           let size = up.size in
           let within : server < length writes = omega (arith, size, low) in
           let all = up.all in
+          let counts = own_low sweep counts writes total up room low in
           later-none plan sweep disaster place server torn writes (with_count server later writes) (with-more writes server later within more)
-          (λ z. let most = with-most writes server later (2 ^ 32 - 1) within (omega (arith, few)) (omega (arith, all, room)) z in omega (arith, most)) moves
+          (λ z. let most = with-most writes server later (2 ^ 32 - 1) within (omega (arith, few)) (omega (arith, all, room)) z in omega (arith, most)) counts.0 counts.1
           (tells-so plan (Cut disaster place server Unchanged writes) Nobody stops)
 
-      pub last-so : (stop : FirstStop) → Stops plan (Cut disaster place server Unchanged writes) stop → raised plan place server stop ≡ None → IsLast plan disaster place server writes
-      last-so stop stops none = record { least = up.least; end = inl (record { stop = stop; here = stops; none = none; beyond = beyond stop stops none }) }
+      pub last-so : (stop : FirstStop) → Stops plan (Cut disaster place server Unchanged writes) stop → raised server stop ≡ None → IsLast plan disaster place server writes
+      last-so Own stops none = absurd cc
+      last-so (Other other) stops none = absurd cc
+      last-so Nobody stops none = record { least = up.least; end = inl (record { here = stops; beyond = beyond stops }) }
 
     pub last-out : total ≡ 2 ^ 32 - 1 → IsLast plan disaster place server writes
     last-out out = record { least = up.least; end = inr (up.all ∙ out) }
@@ -182,42 +184,38 @@ module _ (plan : Sweep) (disaster place server : ℕ) where
   -- by what is raised, whose stop it is
   pub data Raises (next : ℕ) : FirstStop → Type 0 where
     ByOwn : next ≡ server → Raises next Own
-    ByOther : {other : ℕ} → next ≡ other → switches plan place ≡ false → Raises next (Other other)
+    ByOther : {other : ℕ} → next ≡ other → Raises next (Other other)
 
-  pub raises : (next : ℕ) (stop : FirstStop) → Some next ≡ raised plan place server stop → Raises next stop
+  pub raises : (next : ℕ) (stop : FirstStop) → Some next ≡ raised server stop → Raises next stop
   raises next Own is = let same : next ≡ server = cc in ByOwn same
   raises next Nobody is = absurd cc
-  raises next (Other other) is = by (switches plan place) refl is
-    where
-      by : (b : Bool) → switches plan place ≡ b → Some next ≡ cond b None (Some other) → Raises next (Other other)
-      by true itself h = absurd cc
-      by false moves h = let same : next ≡ other = cc in ByOther same moves
+  raises next (Other other) is = let same : next ≡ other = cc in ByOther same
 
   module _ (sweep : IsSweep plan) (few : servers_lost plan disaster ≤ 8) (low : server < 8) (lost : (writes : List ℕ) → length (servers_at plan (Cut disaster place server Unchanged writes)) ≡ servers_lost plan disaster) where
     other_low : (writes : List ℕ) (other : ℕ) → Stops plan (Cut disaster place server Unchanged writes) (Other other) → other < 8
     other_low writes other s = let here = other-within plan disaster place server Unchanged writes (length (run s.front).events) s.events other s.is in let count = lost writes in omega (arith, here, count, few)
 
     -- the server whose count is raised has one
-    pub next-low : (writes : List ℕ) (stop : FirstStop) (next : ℕ) → Stops plan (Cut disaster place server Unchanged writes) stop → Some next ≡ raised plan place server stop → next < 8
+    pub next-low : (writes : List ℕ) (stop : FirstStop) (next : ℕ) → Stops plan (Cut disaster place server Unchanged writes) stop → Some next ≡ raised server stop → next < 8
     next-low writes stop next stops is = by stop stops (raises next stop is)
       where
         by : (stop : FirstStop) → Stops plan (Cut disaster place server Unchanged writes) stop → Raises next stop → next < 8
         by Own s (ByOwn same) = omega (arith, same, low)
         by Nobody s never = elim never [ ]
-        by (Other other) s (ByOther same moves) = let lt = other_low writes other s in omega (arith, same, lt)
+        by (Other other) s (ByOther same) = let lt = other_low writes other s in omega (arith, same, lt)
 
     -- one of the counts is raised: there is one device write more, or none
-    pub up-more : (counts : List (List ℕ)) (writes : List ℕ) (total : ℕ) (stop : FirstStop) (next : ℕ) → UpTo counts writes total → total < 2 ^ 32 - 1 → Stops plan (Cut disaster place server Unchanged writes) stop → Some next ≡ raised plan place server stop
+    pub up-more : (counts : List (List ℕ)) (writes : List ℕ) (total : ℕ) (stop : FirstStop) (next : ℕ) → UpTo counts writes total → total < 2 ^ 32 - 1 → Stops plan (Cut disaster place server Unchanged writes) stop → Some next ≡ raised server stop
         → UpTo (counts ++ cond (is_own stop) (writes ∷ []) []) (one_more next writes) (total + 1)
     up-more counts writes total stop next up room stops is = by stop stops (raises next stop is)
       where
         by : (stop : FirstStop) → Stops plan (Cut disaster place server Unchanged writes) stop → Raises next stop → UpTo (counts ++ cond (is_own stop) (writes ∷ []) []) (one_more next writes) (total + 1)
         by Nobody s never = elim never [ ]
         by Own s (ByOwn same) = subst (λ n. UpTo (counts ++ writes ∷ []) (one_more n writes) (total + 1)) (sym same) (own-up sweep counts writes total up room low s)
-        by (Other other) s (ByOther same moves) =
+        by (Other other) s (ByOther same) =
             subst (λ n. UpTo (counts ++ []) (one_more n writes) (total + 1)) (sym same)
             (subst (λ (cs : List (List ℕ)). UpTo cs (one_more other writes) (total + 1)) (sym (append-nil counts))
-            (other-up sweep counts writes total up room other (other_low writes other s) (other-apart plan disaster place server Unchanged writes (length (run s.front).events) s.events other s.is) moves s))
+            (other-up sweep counts writes total up room low other (other_low writes other s) (other-apart plan disaster place server Unchanged writes (length (run s.front).events) s.events other s.is) s))
 
   -- a count that is raised stays within a fuse's
   pub few-so-far : (counts : List (List ℕ)) (writes : List ℕ) (total next : ℕ) → UpTo counts writes total → next < 8 → total < 2 ^ 32 - 1 → count_at writes next < 2 ^ 32 - 1
@@ -235,7 +233,7 @@ module _ (plan : Sweep) (disaster place server : ℕ) where
   begins-within writes write total a b low is are same none = adds-none (AreUpTo writes total) a b none (record { counts = []; up = begins-up writes write total low is are same; are = refl })
 
   module _ (sweep : IsSweep plan) (few : servers_lost plan disaster ≤ 8) (low : server < 8) (lost : (writes : List ℕ) → length (servers_at plan (Cut disaster place server Unchanged writes)) ≡ servers_lost plan disaster) where
-    rows_more : (writes : List ℕ) (total : ℕ) (stop : FirstStop) (next : ℕ) → total < 2 ^ 32 - 1 → Stops plan (Cut disaster place server Unchanged writes) stop → Some next ≡ raised plan place server stop → (rows more : List Outcome) → AreUpTo writes total rows
+    rows_more : (writes : List ℕ) (total : ℕ) (stop : FirstStop) (next : ℕ) → total < 2 ^ 32 - 1 → Stops plan (Cut disaster place server Unchanged writes) stop → Some next ≡ raised server stop → (rows more : List Outcome) → AreUpTo writes total rows
         → AreRowsOf plan (points_of disaster place server (cond (is_own stop) (writes ∷ []) [])) more → AreUpTo (one_more next writes) (total + 1) (rows ++ more)
     rows_more writes total stop next room stops is rows more so_far are =
         let new = cond (is_own stop) (writes ∷ []) [] in
@@ -258,12 +256,12 @@ module _ (plan : Sweep) (disaster place server : ℕ) where
         by false h = adds-none (AreRowsOf plan []) b c h refl
 
     -- one device write more, or one more of another server before it
-    pub write-more : (writes : List ℕ) (total : ℕ) (stop : FirstStop) (next : ℕ) (a b c : List Outcome) → total < 2 ^ 32 - 1 → Adds (AreUpTo writes total) a b → AddsWrite plan disaster place server writes b c stop → Some next ≡ raised plan place server stop → Adds (AreUpTo (one_more next writes) (total + 1)) a c
+    pub write-more : (writes : List ℕ) (total : ℕ) (stop : FirstStop) (next : ℕ) (a b c : List Outcome) → total < 2 ^ 32 - 1 → Adds (AreUpTo writes total) a b → AddsWrite plan disaster place server writes b c stop → Some next ≡ raised server stop → Adds (AreUpTo (one_more next writes) (total + 1)) a c
     write-more writes total stop next a b c room so_far adds is =
         adds-then (AreUpTo writes total) (AreRowsOf plan (points_of disaster place server (cond (is_own stop) (writes ∷ []) []))) (AreUpTo (one_more next writes) (total + 1)) a b c (rows_more writes total stop next room adds.0 is) so_far (added writes stop b c adds)
 
-  within_so : (writes : List ℕ) (total : ℕ) → ((counts : List (List ℕ)) → UpTo counts writes total → IsLast plan disaster place server writes) → (rows : List Outcome) → AreUpTo writes total rows → AreWithin plan disaster place server rows
-  within_so writes total last rows so_far = record {
+  within_so : IsSweep plan → (writes : List ℕ) (total : ℕ) → ((counts : List (List ℕ)) → UpTo counts writes total → IsLast plan disaster place server writes) → (rows : List Outcome) → AreUpTo writes total rows → AreWithin plan disaster place server rows
+  within_so sweep writes total last rows so_far = record {
     counts = so_far.counts;
     numbers = so_far.up.numbers;
     are = so_far.are;
@@ -271,23 +269,24 @@ module _ (plan : Sweep) (disaster place server : ℕ) where
     further = writes;
     next = so_far.up.next;
     last = last so_far.counts so_far.up;
+    early = λ write torn low. early-so plan sweep disaster place server write torn low;
     torn = λ name write bytes named before rest line. any-torn before rest line name write bytes;
   }
 
-  not_own : (stop : FirstStop) → None ≡ raised plan place server stop → is_own stop ≡ false
+  not_own : (stop : FirstStop) → None ≡ raised server stop → is_own stop ≡ false
   not_own Own is = absurd cc
   not_own Nobody is = refl
   not_own (Other other) is = refl
 
   -- none is too few: they end here
-  pub write-ends : IsSweep plan → server < 8 → (writes : List ℕ) (total : ℕ) → total ≤ 2 ^ 32 - 1 → (stop : FirstStop) (a b c : List Outcome) → Adds (AreUpTo writes total) a b → AddsWrite plan disaster place server writes b c stop → None ≡ raised plan place server stop → Adds (AreWithin plan disaster place server) a c
+  pub write-ends : IsSweep plan → server < 8 → (writes : List ℕ) (total : ℕ) → total < 2 ^ 32 - 1 → (stop : FirstStop) (a b c : List Outcome) → Adds (AreUpTo writes total) a b → AddsWrite plan disaster place server writes b c stop → None ≡ raised server stop → Adds (AreWithin plan disaster place server) a c
   write-ends sweep low writes total room stop a b c so_far adds is =
       subst (λ (rows : List Outcome). Adds (AreWithin plan disaster place server) a rows) (sym (was-missed plan (Cut disaster place server Unchanged writes) (write_points disaster place server writes) stop b c adds (not_own stop is)))
-      (adds-as (AreUpTo writes total) (AreWithin plan disaster place server) a b (within_so writes total (λ counts up. last-so counts writes total up sweep low room stop adds.0 (sym is))) so_far)
+      (adds-as (AreUpTo writes total) (AreWithin plan disaster place server) a b (within_so sweep writes total (λ counts up. last-so counts writes total up sweep low room stop adds.0 (sym is))) so_far)
 
   -- no fuse counts more
-  pub writes-out : (writes : List ℕ) (total : ℕ) (a b : List Outcome) → Adds (AreUpTo writes total) a b → total ≡ 2 ^ 32 - 1 → Adds (AreWithin plan disaster place server) a b
-  writes-out writes total a b so_far out = adds-as (AreUpTo writes total) (AreWithin plan disaster place server) a b (within_so writes total (λ counts up. last-out counts writes total up out)) so_far
+  pub writes-out : IsSweep plan → (writes : List ℕ) (total : ℕ) (a b : List Outcome) → Adds (AreUpTo writes total) a b → total ≡ 2 ^ 32 - 1 → Adds (AreWithin plan disaster place server) a b
+  writes-out sweep writes total a b so_far out = adds-as (AreUpTo writes total) (AreWithin plan disaster place server) a b (within_so sweep writes total (λ counts up. last-out counts writes total up out)) so_far
 
   -- ---- what fails
 
@@ -351,7 +350,7 @@ module _ (plan : Sweep) (disaster place server : ℕ) where
   pub found-so : (write : ℕ) (writes : List ℕ) (total : ℕ) → Seeks write writes total → Stops plan (Cut disaster place server Unchanged writes) Own → count_at writes server ≡ write → FindsCounts plan disaster place server write (Some writes)
   found-so write writes total seeks stops is = (is, record { first = stops; least = seeks.up.least })
 
-  pub none-so : IsSweep plan → server < 8 → (write : ℕ) (writes : List ℕ) (total : ℕ) → total ≤ 2 ^ 32 - 1 → (stop : FirstStop) → Seeks write writes total → Stops plan (Cut disaster place server Unchanged writes) stop → None ≡ raised plan place server stop → FindsCounts plan disaster place server write None
+  pub none-so : IsSweep plan → server < 8 → (write : ℕ) (writes : List ℕ) (total : ℕ) → total < 2 ^ 32 - 1 → (stop : FirstStop) → Seeks write writes total → Stops plan (Cut disaster place server Unchanged writes) stop → None ≡ raised server stop → FindsCounts plan disaster place server write None
   none-so sweep low write writes total room stop seeks stops is = record { further = writes; last = last-so seeks.counts writes total seeks.up sweep low room stop stops (sym is); past = seeks.short }
 
   pub out-so : (write : ℕ) (writes : List ℕ) (total : ℕ) → Seeks write writes total → total ≡ 2 ^ 32 - 1 → FindsCounts plan disaster place server write None
@@ -359,7 +358,7 @@ module _ (plan : Sweep) (disaster place server : ℕ) where
 
   module _ (sweep : IsSweep plan) (few : servers_lost plan disaster ≤ 8) (low : server < 8) (lost : (writes : List ℕ) → length (servers_at plan (Cut disaster place server Unchanged writes)) ≡ servers_lost plan disaster) where
     -- that one isn't it
-    pub seeks-on : (write : ℕ) (writes : List ℕ) (total : ℕ) (stop : FirstStop) (next : ℕ) → total < 2 ^ 32 - 1 → Seeks write writes total → Stops plan (Cut disaster place server Unchanged writes) stop → Some next ≡ raised plan place server stop
+    pub seeks-on : (write : ℕ) (writes : List ℕ) (total : ℕ) (stop : FirstStop) (next : ℕ) → total < 2 ^ 32 - 1 → Seeks write writes total → Stops plan (Cut disaster place server Unchanged writes) stop → Some next ≡ raised server stop
         → (is_own stop ≡ false) ⊎ (count_at writes server ≢ write) → Seeks write (one_more next writes) (total + 1)
     seeks-on write writes total stop next room seeks stops is other =
         record { counts = seeks.counts ++ cond (is_own stop) (writes ∷ []) []; up = up-more sweep few low lost seeks.counts writes total stop next seeks.up room stops is; short = by stop (raises next stop is) stops other seeks.short }
@@ -372,8 +371,8 @@ module _ (plan : Sweep) (disaster place server : ℕ) where
             let size = seeks.up.size in
             let more = ap (λ n. count_at (one_more n writes) server) same ∙ more-same writes server (omega (arith, size, low)) in
             inl (grind (arith, more, away, short))
-        by (Other other) (ByOther same moves) s o (inr before) = inr before
-        by (Other other) (ByOther same moves) s o (inl short) =
+        by (Other other) (ByOther same) s o (inr before) = inr before
+        by (Other other) (ByOther same) s o (inl short) =
             let apart = other-apart plan disaster place server Unchanged writes (length (run s.front).events) s.events other s.is in
             let kept = ap (λ n. count_at (one_more n writes) server) same ∙ more-other writes other server (λ e. apart (sym e)) in
             inl (omega (arith, kept, short))

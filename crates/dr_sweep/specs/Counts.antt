@@ -1,5 +1,5 @@
 -- How many device writes each server of a disaster makes in a tried step before the disaster.
-use Rattle.std.specs.Prelude.{ℕ, ◌+◌, ◌-◌, ◌^◌, Bool, true, false, List, [], ◌∷◌, slice_get, slice_set, Option, Some, None, Result, Ok, replicate, if◌then◌else◌}
+use Rattle.std.specs.Prelude.{ℕ, ◌+◌, ◌-◌, ◌^◌, List, [], ◌∷◌, slice_get, slice_set, Option, Some, None, Result, Ok, replicate, if◌then◌else◌}
 use Rattle.std.specs.Option.{option_map_or}
 use Rattle.std.specs.Str.{bytes_eq}
 use Rattle.dr_model.specs.declared.step.Name.{Name}
@@ -13,11 +13,11 @@ use Rattle.dr_sweep.specs.Comes.{name_at}
 use Rattle.dr_sweep.specs.declared.reach.FirstStop.{FirstStop}
 use Rattle.dr_sweep.specs.declared.reach.FirstStop.TheVariants.{Own, Other, Nobody}
 
--- By the steps of a line: the count of the first device write of that server that a fuse can cut short. A start takes away a fuse that is at 0. A line
--- that stops the server itself has no such write, so the count is one that no fuse has.
+-- By the steps of a line: the count of the first device write of that server that a fuse can cut short. A start takes away a fuse that is at 0, and no
+-- other server makes a device write in it; in a line that stops a server none does. Where there is no such write, the count is the greatest of a fuse.
 abbrev pub first_by : Name → Result (List Step) ℕ → ℕ
-first_by name (Ok (Start server ∷ [])) = if bytes_eq (name_text server) (name_text name) then 1 else 0
-first_by name (Ok (Stop server ∷ [])) = if bytes_eq (name_text server) (name_text name) then 2 ^ 32 - 1 else 0
+first_by name (Ok (Start server ∷ [])) = if bytes_eq (name_text server) (name_text name) then 1 else 2 ^ 32 - 1
+first_by name (Ok (Stop server ∷ [])) = 2 ^ 32 - 1
 first_by name _ = 0
 
 -- of a line
@@ -40,18 +40,8 @@ one_more place writes = with_count place (count_at writes place + 1) writes
 abbrev pub first_counts : ℕ → ℕ → List ℕ
 first_counts server write = with_count server write (replicate most_servers 0)
 
--- by the steps of a line: it starts or stops a server by itself
-abbrev pub switches_by : Result (List Step) ℕ → Bool
-switches_by (Ok (Start server ∷ [])) = true
-switches_by (Ok (Stop server ∷ [])) = true
-switches_by _ = false
-
--- the tried step at a place does; no other server makes a device write in it then
-abbrev pub switches : Sweep → ℕ → Bool
-switches plan place = option_map_or (λ (t : Tried). switches_by (line_of t.text)) (slice_get plan.tried place) false
-
--- By a first stop in a tried step, the server whose count is one too few. There is none if no server stops, nor in a step that starts or stops one itself.
-abbrev pub raised : Sweep → ℕ → ℕ → FirstStop → Option ℕ
-raised plan place server Own = Some server
-raised plan place server Nobody = None
-raised plan place server (Other other) = if switches plan place then None else Some other
+-- by a first stop in a tried step, the server whose count is one too few; there is none if no server stops
+abbrev pub raised : ℕ → FirstStop → Option ℕ
+raised server Own = Some server
+raised server Nobody = None
+raised server (Other other) = Some other

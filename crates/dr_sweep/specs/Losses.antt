@@ -1,7 +1,9 @@
 -- What is lost to each use of volumes: what its second volumes held as the recovery began, and its first ones don't hold at the end.
-use Rattle.std.specs.Prelude.{◌≡◌, ℕ, IsTrue, List, [], ◌∷◌, length, take, map, filter, Option, Some, None}
+use Rattle.std.specs.Prelude.{◌≡◌, ◌↔◌, ℕ, true, IsTrue, List, [], ◌∷◌, ◌++◌, length, take, map, filter, slice_get, Option, Some, None}
 use Rattle.std.specs.List.Sorted.{IsPermutation, IsSorted}
 use Rattle.std.specs.Ordering.{nat_cmp}
+use Rattle.dr_ids.specs.declared.names.Member.{Member}
+use Rattle.dr_laws_losses.specs.Losses.{IsUncut, LossIsKnown, PrimariesKeep, RecoversTargets, recovered_world}
 use Rattle.dr_lost.specs.declared.broken.Broken.{Broken}
 use Rattle.dr_lost.specs.declared.lost.Pair.{Pair}
 use Rattle.dr_lost.specs.Broken.{IsFirstBroken}
@@ -10,6 +12,7 @@ use Rattle.dr_model.specs.declared.event.Event.{Event}
 use Rattle.dr_model.specs.declared.grammar.Item.{Item}
 use Rattle.dr_model.specs.Dependence.{DependsOn}
 use Rattle.dr_model.specs.Histories.{Lists, histories}
+use Rattle.dr_model.specs.Runs.{Task, run}
 use Rattle.dr_plan.specs.Sweep.{Use as HostUse}
 use Rattle.dr_rows.specs.Outcome.{Loss}
 use Rattle.dr_sweep.specs.Acks.{among, age_of}
@@ -82,3 +85,19 @@ IsLoss events begin pairs loss = SaysLoss events begin pairs (lost_of begin even
 abbrev pub AreLosses : List Event → ℕ → List HostUse → List Loss → Type 0
 AreLosses events begin [] losses = losses ≡ []
 AreLosses events begin (u ∷ uses) losses = (loss : Loss) × (rest : List Loss) × (losses ≡ loss ∷ rest) × IsLoss events begin u.pairs loss × AreLosses events begin uses rest
+
+-- ---- what is known of it
+
+-- What a row says of a use, of a run and its recovery: with group n a step of that recovers session s, whose members ms count then, and the pairs are
+-- their targets. The law on such a recovery holds; a write is lost exactly if a primary held it as the recovery began, and its cut for the group hasn't it;
+-- and if no step after the first host write may take writes from a primary, none is broken.
+pub record SaysKnown (events : List Event) (begin : ℕ) (before recovery : List Task) (pairs : List Item) (loss : Loss) (s n : ℕ) (ms : List Member) (r : RecoversTargets before recovery s n ms (pairs_of pairs)) : Type 0 where
+  pub law : LossIsKnown before recovery s n ms (pairs_of pairs) r
+  pub lost : (w : ℕ) → (among (lost_of begin events pairs) w ≡ true) ↔ IsUncut ms (run before).events (recovered_world before r.first r.step).events s n w
+  pub whole : PrimariesKeep (before ++ r.first ++ r.step ∷ []) ms → loss.broken ≡ None
+
+-- of each use, in order
+abbrev pub AreKnown : List Event → ℕ → List Task → List Task → List HostUse → List Loss → Type 0
+AreKnown events begin before recovery uses losses =
+    (i : ℕ) (used : HostUse) (loss : Loss) → slice_get uses i ≡ Some used → slice_get losses i ≡ Some loss
+    → (s n : ℕ) (ms : List Member) (r : RecoversTargets before recovery s n ms (pairs_of used.pairs)) → SaysKnown events begin before recovery used.pairs loss s n ms r

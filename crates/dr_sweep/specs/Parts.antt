@@ -1,5 +1,5 @@
 -- The parts of a sweep, and their rows.
-use Rattle.std.specs.Prelude.{◌≡◌, ℕ, ◌+◌, ◌-◌, ◌^◌, ◌<◌, ◌≤◌, ◌⊎◌, List, [], ◌∷◌, ◌++◌, length, map, Option, Some, None, Ok, All, Bool, true, false}
+use Rattle.std.specs.Prelude.{◌≡◌, ℕ, ◌+◌, ◌-◌, ◌^◌, ◌<◌, ◌≤◌, ◌⊎◌, List, [], ◌∷◌, ◌++◌, length, map, slice_get, Option, Some, None, Ok, All, Bool, true, false}
 use Rattle.std.specs.List.{flat_map, range_with_len, sum}
 use Rattle.dr_model.specs.Groups.{In}
 use Rattle.dr_model.specs.declared.step.Name.{Name}
@@ -9,7 +9,9 @@ use Rattle.dr_model.specs.declared.step.TornWord.TheVariants.{Fill, Bytes}
 use Rattle.dr_model.specs.Lines.{task, tasks_from}
 use Rattle.dr_model.specs.Listed.{as_asked, ListsAlong}
 use Rattle.dr_model.specs.Control.{World, nothing}
-use Rattle.dr_laws_fuses.specs.Laws.{TornAlike}
+use Rattle.dr_model.specs.PlanParts.{name_bytes, server_named}
+use Rattle.dr_model.specs.Plans.{armed}
+use Rattle.dr_laws_fuses.specs.Laws.{StopsNothing, TornAlike}
 use Rattle.dr_model.specs.Runs.{Task, run}
 use Rattle.dr_plan.specs.declared.points.Point.{Point}
 use Rattle.dr_plan.specs.declared.points.Point.TheVariants.{Cut, Gap}
@@ -17,7 +19,7 @@ use Rattle.dr_plan.specs.declared.points.Torn.{Torn}
 use Rattle.dr_plan.specs.declared.points.Torn.TheVariants.{Unchanged, Zeros, Ones}
 use Rattle.dr_plan.specs.Pieces.{Pieces, pieces_of}
 use Rattle.dr_plan.specs.Points.{calm_script, count_at}
-use Rattle.dr_plan.specs.Sweep.{Sweep}
+use Rattle.dr_plan.specs.Sweep.{Sweep, Tried}
 use Rattle.dr_rows.specs.Outcome.{Outcome}
 use Rattle.dr_sweep.specs.declared.parts.Part.{Part}
 use Rattle.dr_sweep.specs.declared.point.Came.{Came}
@@ -26,7 +28,8 @@ use Rattle.dr_sweep.specs.declared.parts.Part.TheVariants.{Between, Within}
 use Rattle.dr_sweep.specs.declared.fault.PointFault.{PointFault}
 use Rattle.dr_sweep.specs.declared.fault.PointFault.TheVariants.{NoMemory, TooLong}
 use Rattle.dr_sweep.specs.Comes.{PointTold, ComesTo, Stops, Misses, FailsAt, RunsTooLong, first_stop, name_at, servers_lost}
-use Rattle.dr_sweep.specs.Counts.{first_write, with_count, raised, switches}
+use Rattle.dr_sweep.specs.Counts.{first_write, with_count}
+use Rattle.dr_sweep.specs.Losses.{AreKnown}
 use Rattle.dr_sweep.specs.Reach.{is_own}
 use Rattle.dr_sweep.specs.declared.reach.FirstStop.{FirstStop}
 use Rattle.dr_sweep.specs.declared.reach.FirstStop.TheVariants.{Own, Other, Nobody}
@@ -62,11 +65,12 @@ points_of disaster place server counts = flat_map (write_points disaster place s
 
 -- ---- rows
 
--- a row is that of its point
+-- A row is that of its point. What it says of the targets of a session that is recovered is known.
 pub record IsRowOf (plan : Sweep) (row : Outcome) : Type 0 where
   pub told : PointTold
   pub comes : ComesTo plan row.point told
   pub is : IsRow plan row.point told row
+  pub known : AreKnown told.events told.begin (comes.front ++ comes.strike ++ comes.stops) comes.recovery plan.uses row.losses
 
 -- the first rows are that of a point, the others those after it
 pub record BeginsWith (plan : Sweep) (point : Point) (after : List Outcome → Type 0) (rows : List Outcome) : Type 0 where
@@ -105,17 +109,20 @@ pub record AtOnce (plan : Sweep) (disaster place server : ℕ) (writes : List �
   pub least : AreLeast plan disaster place server writes
 
 -- With these counts no server of the disaster stops in the step; nor does one with any greater count of the server, whatever that leaves in its block.
--- In a step that starts or stops a server itself, no other one's count is one too few.
 pub record StopsNobody (plan : Sweep) (disaster place server : ℕ) (writes : List ℕ) : Type 0 where
-  pub stop : FirstStop
-  pub here : Stops plan (Cut disaster place server Unchanged writes) stop
-  pub none : raised plan place server stop ≡ None
-  pub beyond : switches plan place ≡ false → (later : ℕ) (torn : Torn) → count_at writes server ≤ later → later < 2 ^ 32 → TellsFirst plan (Cut disaster place server torn (with_count server later writes)) Nobody
+  pub here : Stops plan (Cut disaster place server Unchanged writes) Nobody
+  pub beyond : (later : ℕ) (torn : Torn) → count_at writes server ≤ later → later < 2 ^ 32 → TellsFirst plan (Cut disaster place server torn (with_count server later writes)) Nobody
 
 -- The server has no more device writes, or no fuse counts as many as they are in all.
 pub record IsLast (plan : Sweep) (disaster place server : ℕ) (writes : List ℕ) : Type 0 where
   pub least : AreLeast plan disaster place server writes
   pub end : StopsNobody plan disaster place server writes ⊎ (sum writes ≡ 2 ^ 32 - 1)
+
+-- In whichever world the tried step begins, a fuse of the server with this count stops nothing in it, whatever it leaves in a block.
+abbrev pub CutsNothing : Sweep → ℕ → ℕ → ℕ → ℕ → TornWord → Type 0
+CutsNothing plan disaster place server write torn =
+    (name : Name) (tried : Tried) (line s : ℕ) (t : Task) (w : World) → name_at plan disaster server ≡ Some name → slice_get plan.tried place ≡ Some tried
+    → map as_asked (t ∷ []) ≡ tasks_from line (tried.text ∷ []) → server_named w.control (name_bytes name) ≡ Some s → StopsNothing s (armed write torn) w t
 
 -- With any torn bytes a run comes to what it comes to where the block is filled with 00, or with 01, but for that fuse: whatever steps stand before and
 -- after the line that arms it, with what they list.
@@ -124,8 +131,8 @@ TearsAsFilled name write bytes =
     (before rest : List Task) (line : ℕ) → let leads : TornWord → World = λ torn. run (before ++ task line (Ok (StopAfter name write torn)) ∷ rest) in
     TornAlike (leads (Bytes bytes)) (leads (Fill 0)) ⊎ TornAlike (leads (Bytes bytes)) (leads (Fill 1))
 
--- The rows of a server's device writes in a tried step: from the first that can be cut short on, each with its counts, to its last one; and the fills
--- stand for all torn bytes.
+-- The rows of a server's device writes in a tried step: from the first that can be cut short on, each with its counts, to its last one. With a lower
+-- count a fuse stops nothing, and the fills stand for all torn bytes.
 pub record AreWithin (plan : Sweep) (disaster place server : ℕ) (rows : List Outcome) : Type 0 where
   pub counts : List (List ℕ)
   pub numbers : map (λ writes. count_at writes server) counts ≡ range_with_len (first_write plan disaster place server) (length counts)
@@ -134,6 +141,7 @@ pub record AreWithin (plan : Sweep) (disaster place server : ℕ) (rows : List O
   pub further : List ℕ
   pub next : count_at further server ≡ first_write plan disaster place server + length counts
   pub last : IsLast plan disaster place server further
+  pub early : (write : ℕ) (torn : TornWord) → write < first_write plan disaster place server → CutsNothing plan disaster place server write torn
   pub torn : (name : Name) (write : ℕ) (bytes : List ℕ) → name_at plan disaster server ≡ Some name → TearsAsFilled name write bytes
 
 -- The server has no row of that number in the step: its last one has a lower number, or its first one a higher.

@@ -2,11 +2,10 @@
 
 ghost use Rattle.std.specs.Prelude.{◌≡◌, ◌<◌, ◌-◌, ◌^◌, IfOk, IfErr, Ok, length, if◌then◌else◌};
 ghost use Rattle.std.specs.Str.{bytes_eq};
-ghost use Rattle.dr_model.specs.Grammar.{line_of};
 ghost use Rattle.dr_model.specs.LineText.{name_text};
 ghost use Rattle.dr_plan.specs.Parts.{IsSweep};
 ghost use Rattle.dr_plan.specs.Points.{count_at};
-ghost use Rattle.dr_sweep.specs.Counts.{first_by, first_in, first_write, first_counts, one_more, switches_by, switches, raised};
+ghost use Rattle.dr_sweep.specs.Counts.{first_by, first_in, first_write, first_counts, one_more, raised};
 
 use crate::point::name_at;
 use crate::reach::FirstStop;
@@ -16,15 +15,19 @@ use dr_plan::{SweepPlan, WriteCounts, is_same_name};
 use dr_script::{Line, read_line};
 use std::alloc::{AllocError, Global};
 
-/// That count where the step is about that server, and else 0.
-fn count_if(server: &Name, name: &Name, count: u32) -> u32
-    ensures { result ≡ (if bytes_eq (name_text server.now) (name_text name.now) then count else 0) }
+/// In a start of a server, the count of the first device write of the one of that name that a fuse can cut short.
+fn first_in_start(server: &Name, name: &Name) -> u32
+    ensures { result ≡ (if bytes_eq (name_text server.now) (name_text name.now) then 1 else 2 ^ 32 - 1) }
 {
-    if is_same_name(server, name) { count } else { 0 }
+    if is_same_name(server, name) {
+        1
+    } else {
+        u32::MAX
+    }
 }
 
-/// By the steps of a line: the count of the first device write of that server that a fuse can cut short; of a line that stops the server
-/// itself, which has none, one that no fuse has.
+/// By the steps of a line: the count of the first device write of that server that a fuse can cut short; where there is none, the greatest
+/// that a fuse has.
 fn first_by(steps: &Line, name: &Name) -> u32
     ensures { result ≡ first_by name.now (Ok steps.now) }
 {
@@ -32,8 +35,8 @@ fn first_by(steps: &Line, name: &Name) -> u32
         return 0;
     }
     match steps.step(0) {
-        Some(Step::Start { server }) => count_if(server, name, 1),
-        Some(Step::Stop { server }) => count_if(server, name, u32::MAX),
+        Some(Step::Start { server }) => first_in_start(server, name),
+        Some(Step::Stop { .. }) => u32::MAX,
         _ => 0,
     }
 }
@@ -89,62 +92,13 @@ pub(crate) fn raise(writes: &mut WriteCounts, place: usize)
     writes[place] += 1;
 }
 
-/// By the steps of a line: whether it starts or stops a server by itself.
-fn switches_by(steps: &Line) -> bool
-    ensures { result ≡ switches_by (Ok steps.now) }
-{
-    if steps.len() != 1 {
-        return false;
-    }
-    match steps.step(0) {
-        Some(Step::Start { .. }) => true,
-        Some(Step::Stop { .. }) => true,
-        _ => false,
-    }
-}
-
-/// Whether a line starts or stops a server by itself.
-fn switches_in(alloc: Global, line: &[u8]) -> Result<bool, AllocError>
-    ensures { IfOk result (λ does. does ≡ switches_by (line_of line.now)) }
-{
-    let mut steps = Line::new(alloc);
-    match read_line(alloc, line, &mut steps) {
-        Ok(()) => Ok(switches_by(&steps)),
-        Err(Fault::NoMemory) => Err(AllocError),
-        Err(Fault::Refused(_)) => Ok(false),
-    }
-}
-
-/// Whether the tried step at a place starts or stops a server by itself; no other server makes a device write in it then.
-fn switches(alloc: Global, plan: &SweepPlan, place: usize) -> Result<bool, AllocError>
-    ensures { IfOk result (λ does. does ≡ switches plan.now place) }
-{
-    match plan.tried().get(place) {
-        Some(tried) => switches_in(alloc, tried.text()),
-        None => Ok(false),
-    }
-}
-
-/// By a first stop in a tried step, the server whose count is one too few. There is none if no server stops, nor in a step that starts or
-/// stops one itself.
-pub(crate) fn raised(
-    alloc: Global,
-    plan: &SweepPlan,
-    place: usize,
-    server: usize,
-    stop: FirstStop,
-) -> Result<Option<usize>, AllocError>
-    ensures { IfOk result (λ next. next ≡ raised plan.now place server stop) }
+/// By a first stop in a tried step, the server whose count is one too few; none if no server stops.
+pub(crate) fn raised(server: usize, stop: FirstStop) -> Option<usize>
+    ensures { result ≡ raised server stop }
 {
     match stop {
-        FirstStop::Own => Ok(Some(server)),
-        FirstStop::Nobody => Ok(None),
-        FirstStop::Other(other) => {
-            if switches(alloc, plan, place)? {
-                Ok(None)
-            } else {
-                Ok(Some(other))
-            }
-        }
+        FirstStop::Own => Some(server),
+        FirstStop::Nobody => None,
+        FirstStop::Other(other) => Some(other),
     }
 }

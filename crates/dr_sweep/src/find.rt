@@ -68,7 +68,7 @@ pub(crate) fn counts_of(
         if is_sought(stop, &writes, server, write) {
             return Ok(Some(writes));
         }
-        let Some(next) = raised(alloc, plan, place, server, stop)? else {
+        let Some(next) = raised(server, stop) else {
             return Ok(None);
         };
         raise(&mut writes, next);

@@ -116,7 +116,7 @@ fn add_within(
     let mut writes = first_counts(server, first);
     for _total in first..u32::MAX {
         let stop = add_write(alloc, plan, disaster, place, server, &writes, rows)?;
-        let Some(next) = raised(alloc, plan, place, server, stop)? else {
+        let Some(next) = raised(server, stop) else {
             return Ok(());
         };
         raise(&mut writes, next);

@@ -32,7 +32,7 @@ returns-in_default-clause-finds c =
     let low = of.2 in
     let lt = c.loop-total-test.true in
     none-so plan c.args.disaster c.args.place c.args.server sweep (omega (arith, few, low)) c.args.write c.loop-total.writes c.loop-total._total (omega (arith, lt)) c.in_ok-stop.stop c.loop-total.invariant c.in_ok-stop.ensures.stops
-    (sym c.in_default.is ∙ c.in_ok-next.ensures)
+    (sym c.in_default.is ∙ c.raised.ensures)
 
 pub raise-requires-clause-place : goal.raise-requires-clause-place
 raise-requires-clause-place c =
@@ -42,7 +42,7 @@ raise-requires-clause-place c =
     let few = few-servers plan sweep c.args.disaster c.args.place c.args.server of in
     let low = of.2 in
     let lt = next-low plan c.args.disaster c.args.place c.args.server sweep few (omega (arith, few, low)) (λ ws. lost-there plan c.args.disaster c.args.place c.args.server Unchanged ws of) c.loop-total.writes c.in_ok-stop.stop c.in-Some.next c.in_ok-stop.ensures.stops
-    (sym c.in-Some.is ∙ c.in_ok-next.ensures) in
+    (sym c.in-Some.is ∙ c.raised.ensures) in
     let size = c.loop-total.invariant.up.size in
     omega (arith, lt, size)
 
@@ -55,5 +55,5 @@ loop-total-preserved c =
     let low = of.2 in
     subst (λ ws. Seeks plan c.args.disaster c.args.place c.args.server c.args.write ws (c.loop-total._total + 1)) (sym c.raise.ensures)
     (seeks-on plan c.args.disaster c.args.place c.args.server sweep few (omega (arith, few, low)) (λ ws. lost-there plan c.args.disaster c.args.place c.args.server Unchanged ws of) c.args.write c.loop-total.writes c.loop-total._total c.in_ok-stop.stop c.in-Some.next
-    (let lt = c.loop-total-test.true in omega (arith, lt)) c.loop-total.invariant c.in_ok-stop.ensures.stops (sym c.in-Some.is ∙ c.in_ok-next.ensures)
+    (let lt = c.loop-total-test.true in omega (arith, lt)) c.loop-total.invariant c.in_ok-stop.ensures.stops (sym c.in-Some.is ∙ c.raised.ensures)
     (not-sought plan c.args.disaster c.args.place c.args.server c.in_ok-stop.stop _ c.args.write (sym c.is_sought.ensures ∙ c.if-is_sought.false)))

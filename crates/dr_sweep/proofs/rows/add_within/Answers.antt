@@ -34,13 +34,13 @@ returns-in_default-clause-adds c =
     let low = of.2 in
     let lt = c.loop-total-test.true in
     write-ends plan c.args.disaster c.args.place c.args.server sweep (omega (arith, few, low)) c.loop-total.writes c.loop-total._total (omega (arith, lt)) c.in_ok-stop.stop c.args.rows.now.items c.loop-total.rows.items c.add_write.new.rows.items c.loop-total.invariant c.in_ok-stop.ensures.adds
-    (sym c.in_default.is ∙ c.in_ok-next.ensures)
+    (sym c.in_default.is ∙ c.raised.ensures)
 
 pub returns-clause-adds : goal.returns-clause-adds
 returns-clause-adds c =
     let end = c.loop-total.auto._total-end in
     let out = c.loop-total-test.false in
-    writes-out c.args.plan.now c.args.disaster c.args.place c.args.server c.loop-total.writes c.loop-total._total c.args.rows.now.items c.loop-total.rows.items c.loop-total.invariant (omega (arith, end, out))
+    writes-out c.args.plan.now c.args.disaster c.args.place c.args.server c.first_write.ensures.sweep c.loop-total.writes c.loop-total._total c.args.rows.now.items c.loop-total.rows.items c.loop-total.invariant (omega (arith, end, out))
 
 pub raise-requires-clause-place : goal.raise-requires-clause-place
 raise-requires-clause-place c =
@@ -50,7 +50,7 @@ raise-requires-clause-place c =
     let few = few-servers plan sweep c.args.disaster c.args.place c.args.server of in
     let low = of.2 in
     let lt = next-low plan c.args.disaster c.args.place c.args.server sweep few (omega (arith, few, low)) (λ ws. lost-there plan c.args.disaster c.args.place c.args.server Unchanged ws of) c.loop-total.writes c.in_ok-stop.stop c.in-Some.next c.in_ok-stop.ensures.adds.0
-    (sym c.in-Some.is ∙ c.in_ok-next.ensures) in
+    (sym c.in-Some.is ∙ c.raised.ensures) in
     let size = c.loop-total.invariant.are.up.size in
     omega (arith, lt, size)
 
@@ -63,4 +63,4 @@ loop-total-preserved c =
     let low = of.2 in
     subst (λ ws. Adds (AreUpTo plan c.args.disaster c.args.place c.args.server ws (c.loop-total._total + 1)) c.args.rows.now.items c.add_write.new.rows.items) (sym c.raise.ensures)
     (write-more plan c.args.disaster c.args.place c.args.server sweep few (omega (arith, few, low)) (λ ws. lost-there plan c.args.disaster c.args.place c.args.server Unchanged ws of) c.loop-total.writes c.loop-total._total c.in_ok-stop.stop c.in-Some.next
-    c.args.rows.now.items c.loop-total.rows.items c.add_write.new.rows.items (let lt = c.loop-total-test.true in omega (arith, lt)) c.loop-total.invariant c.in_ok-stop.ensures.adds (sym c.in-Some.is ∙ c.in_ok-next.ensures))
+    c.args.rows.now.items c.loop-total.rows.items c.add_write.new.rows.items (let lt = c.loop-total-test.true in omega (arith, lt)) c.loop-total.invariant c.in_ok-stop.ensures.adds (sym c.in-Some.is ∙ c.raised.ensures))
