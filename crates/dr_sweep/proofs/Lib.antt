@@ -19,4 +19,8 @@ pub mod RowLemmas
 pub mod WithinLemmas
 pub mod NamedLemmas
 pub mod LossLemmas
+pub mod AskedNames
+pub mod TurnLemmas
+pub mod WayLemmas
+pub mod ApartLemmas
 pub mod CallLemmas

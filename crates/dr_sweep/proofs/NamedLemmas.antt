@@ -1,7 +1,6 @@
 -- What the words of a command name is one of the plan's parts.
-use Rattle.std.proofs.Common.{ℕ, ◌≡◌, ◌<◌, ◌≤◌, ◌+◌, Bool, true, false, cond, List, [], length, refl, ap, ◌∙◌, sym, subst, arith, slice_get, inl, inr, Option, Some, None}
-use Rattle.std.specs.Option.{option_map, option_map_or}
-use Rattle.std.specs.List.{position}
+use Rattle.std.proofs.Common.{ℕ, ◌≡◌, ◌<◌, List, [], length, refl, ap, subst, arith, slice_get, Option, Some, None}
+use Rattle.std.specs.Option.{option_map_or}
 use Rattle.std.specs.Str.{bytes_eq}
 use Rattle.std.proofs.lemmas.List.Quantifiers.{position-Some}
 use Rattle.std.proofs.lemmas.Option.{same_Some, slice_get_within}
@@ -17,8 +16,8 @@ use Rattle.dr_sweep.specs.declared.printing.NamedPoint.{NamedPoint}
 use Rattle.dr_sweep.specs.declared.printing.NamedPoint.TheVariants.{Cut, Gap}
 use Rattle.dr_sweep.specs.declared.printing.Asked.TheVariants.{Script}
 use Rattle.dr_sweep.specs.Comes.{servers_lost}
-use Rattle.dr_sweep.specs.Parts.{FailsIn, FailsSweep, IsOf}
-use Rattle.dr_sweep.specs.Printing.{place_of, torn_of, tried_at, is_at, is_here, gap_at, cut_of, gap_of, asked_of, AsksOf}
+use Rattle.dr_sweep.specs.Parts.{FailsIn, FailsAtPart, IsOf}
+use Rattle.dr_sweep.specs.Printing.{place_of, torn_of, tried_at, is_at, gap_at, cut_of, gap_of, asked_of, AsksOf}
 use Rattle.dr_sweep.specs.Reach.{server_of}
 use Rattle.dr_sweep.proofs.FirstLemmas.{nobody}
 use Rattle.dr_sweep.proofs.PartLemmas.{of-parts}
@@ -65,6 +64,6 @@ asked-in plan (CutScript disaster line server write torn) = by (cut_of plan disa
 asked-in plan (GapScript disaster line) = gap_in plan disaster line (gap_of plan disaster line) refl
 
 -- where a part has no rows, there is nothing to print
-pub part-fails : (plan : Sweep) (part : Part) (fault : PointFault) → IsOf plan part → FailsIn plan part fault → FailsSweep plan fault
+pub part-fails : (plan : Sweep) (part : Part) (fault : PointFault) → IsOf plan part → FailsIn plan part fault → FailsAtPart plan fault
 part-fails plan part NoMemory is fails = tt
-part-fails plan part TooLong is fails = inr (record { part = part; among = of-parts plan part is; fails = fails })
+part-fails plan part TooLong is fails = record { part = part; among = of-parts plan part is; fails = fails }

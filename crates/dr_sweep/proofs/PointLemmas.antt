@@ -1,5 +1,5 @@
 -- The calls that run a point's script come to what their callers ask.
-use Rattle.std.proofs.Common.{ℕ, ◌≡◌, ◌+◌, ◌⊎◌, inl, inr, Bool, true, false, List, [], ◌++◌, length, refl, ap, ◌∙◌, sym, subst, arith, append_assoc, Some}
+use Rattle.std.proofs.Common.{ℕ, ◌≡◌, ◌+◌, ◌⊎◌, inl, inr, true, false, List, [], ◌++◌, length, refl, ap, ◌∙◌, sym, subst, arith, append_assoc, Some}
 use Rattle.std.specs.Str.Lines.{lines}
 use Rattle.std.proofs.lemmas.Grind.{common_steps}
 use Rattle.std.proofs.lemmas.List.{append-nil}

@@ -20,7 +20,7 @@ use Rattle.dr_rows.specs.Findings.{has_finding}
 use Rattle.dr_rows.specs.Outcome.{Outcome}
 use Rattle.dr_sweep.specs.declared.call.Reply.{Reply}
 use Rattle.dr_sweep.specs.Calm.{calm_of}
-use Rattle.dr_sweep.specs.Comes.{RunsWhole}
+use Rattle.dr_sweep.specs.Comes.{RunsTooLong, RunsWhole}
 use Rattle.dr_sweep.specs.declared.ending.Ending.{Ending}
 use Rattle.dr_sweep.specs.declared.ending.Ending.TheVariants.{Done, Finding, Usage, ReadFault, WriteFault, NoMemory, TooLong, BadPlan}
 use Rattle.dr_sweep.specs.declared.printing.Asked.{Asked}
@@ -29,7 +29,8 @@ use Rattle.dr_sweep.specs.declared.printing.NamedPoint.{NamedPoint}
 use Rattle.dr_sweep.specs.declared.printing.NamedPoint.TheVariants.{Cut as NamedCut, Gap as NamedGap}
 use Rattle.dr_sweep.specs.declared.printing.View.{View}
 use Rattle.dr_sweep.specs.Ending.{is_read_fault, is_write_fault, finding_ending}
-use Rattle.dr_sweep.specs.Parts.{AreSwept, FailsLong, FindsCounts, parts_of}
+use Rattle.dr_sweep.specs.Apart.{HaltsApart, IsTakenApart}
+use Rattle.dr_sweep.specs.Parts.{AreSwept, FailsPart, FindsCounts, parts_of}
 use Rattle.dr_sweep.specs.Printing.{says, asked_of}
 use Rattle.dr_top.specs.Offline.{IsTaken, HasTakenSome, HasTakenTooMuch}
 use Rattle.dr_words.specs.declared.sweep.SweepCommand.{SweepCommand}
@@ -48,18 +49,18 @@ pub record IsCalm (plan : Sweep) (calm : Calm) : Type 0 where
   pub runs : RunsWhole (calm_script plan) events
   pub is : calm ≡ calm_of plan events
 
--- the text on the calm run and all rows of a plan; a sweep ends as its findings say
-pub record IsShown (plan : Sweep) (view : View) (text : List ℕ) (ending : Ending) : Type 0 where
+-- the text on the calm run of a plan, and on all rows of the one that is tried; a sweep ends as its findings say
+pub record IsShown (plan tried : Sweep) (view : View) (text : List ℕ) (ending : Ending) : Type 0 where
   pub calm : Calm
   pub before : IsCalm plan calm
   pub rows : List Outcome
-  pub are : AreSwept plan (parts_of plan) rows
-  pub says_so : text ≡ says view plan calm rows
-  pub ends : ending ≡ finding_ending (has_finding plan calm rows)
+  pub are : AreSwept tried (parts_of tried) rows
+  pub says_so : text ≡ says view plan tried calm rows
+  pub ends : ending ≡ finding_ending (has_finding tried calm rows)
 
 -- a text to be put of the calm run and rows, and how a call ends that has put it
-abbrev pub IsReply : Sweep → View → Calm → List Outcome → Reply → Type 0
-IsReply plan view calm rows reply = (reply.text ≡ says view plan calm rows) × (reply.ending ≡ finding_ending (has_finding plan calm rows))
+abbrev pub IsReply : Sweep → Sweep → View → Calm → List Outcome → Reply → Type 0
+IsReply plan tried view calm rows reply = (reply.text ≡ says view plan tried calm rows) × (reply.ending ≡ finding_ending (has_finding tried calm rows))
 
 -- the script of a point, or the usage line
 abbrev pub IsScript : Option (List ℕ) → List ℕ → Ending → Type 0
@@ -77,35 +78,45 @@ IsScriptOf plan None script = script ≡ None
 IsScriptOf plan (Some (NamedGap disaster place)) script = script ≡ script_of plan (Gap disaster place)
 IsScriptOf plan (Some (NamedCut disaster place server write torn)) script = IsCutScript plan disaster place server write torn script
 
--- what is to be put of a plan for what is asked, and how a call ends that has put it
-abbrev pub IsAnswer : Sweep → Asked → List ℕ → Ending → Type 0
-IsAnswer plan (Rows view) text ending = IsShown plan view text ending
-IsAnswer plan (Script named) text ending = (script : Option (List ℕ)) × IsScriptOf plan named script × IsScript script text ending
+-- what is to be put of a plan, and of the one that is tried, for what is asked, and how a call ends that has put it
+abbrev pub IsAnswer : Sweep → Sweep → Asked → List ℕ → Ending → Type 0
+IsAnswer plan tried (Rows view) text ending = IsShown plan tried view text ending
+IsAnswer plan tried (Script named) text ending = (script : Option (List ℕ)) × IsScriptOf tried named script × IsScript script text ending
+
+-- why there is nothing to print: the calm run of a plan, or a point of the one that is tried
+abbrev pub FailsLong : Sweep → Sweep → Type 0
+FailsLong plan tried = RunsTooLong (calm_script plan) ⊎ FailsPart tried
 
 module _ {K : Type 0} (written : K → Option (List ℕ)) (sink sink' : K) where
   -- an answer was put
-  pub record HasPut (plan : Sweep) (asked : Asked) (ending : Ending) : Type 0 where
+  pub record HasPut (plan tried : Sweep) (asked : Asked) (ending : Ending) : Type 0 where
     pub text : List ℕ
-    pub is : IsAnswer plan asked text ending
+    pub is : IsAnswer plan tried asked text ending
     pub gave : Gave written sink sink' text
 
   -- a front of one was put
-  pub record HasPutPart (plan : Sweep) (asked : Asked) : Type 0 where
+  pub record HasPutPart (plan tried : Sweep) (asked : Asked) : Type 0 where
     pub text : List ℕ
     pub ending : Ending
-    pub is : IsAnswer plan asked text ending
+    pub is : IsAnswer plan tried asked text ending
     pub gave : GavePart written sink sink' text
 
-  -- by the ending, what was put of a plan
-  abbrev pub AnswersBy : Sweep → Asked → Ending → Type 0
-  AnswersBy plan asked Done = HasPut plan asked Done
-  AnswersBy plan asked Finding = HasPut plan asked Finding
-  AnswersBy plan asked Usage = HasPut plan asked Usage
-  AnswersBy plan asked ReadFault = ⊥
-  AnswersBy plan asked WriteFault = HasPutPart plan asked
-  AnswersBy plan asked NoMemory = sink' ≡ sink
-  AnswersBy plan asked TooLong = FailsLong plan × (sink' ≡ sink)
-  AnswersBy plan asked BadPlan = ⊥
+  -- by the ending, what was put of a plan and the one that is tried
+  abbrev pub AnswersBy : Sweep → Sweep → Asked → Ending → Type 0
+  AnswersBy plan tried asked Done = HasPut plan tried asked Done
+  AnswersBy plan tried asked Finding = HasPut plan tried asked Finding
+  AnswersBy plan tried asked Usage = HasPut plan tried asked Usage
+  AnswersBy plan tried asked ReadFault = ⊥
+  AnswersBy plan tried asked WriteFault = HasPutPart plan tried asked
+  AnswersBy plan tried asked NoMemory = sink' ≡ sink
+  AnswersBy plan tried asked TooLong = FailsLong plan tried × (sink' ≡ sink)
+  AnswersBy plan tried asked BadPlan = ⊥
+
+  -- nothing is put if the tried steps of a plan couldn't be taken apart
+  abbrev pub LeavesBy : Sweep → Ending → Type 0
+  LeavesBy plan NoMemory = sink' ≡ sink
+  LeavesBy plan TooLong = HaltsApart plan × (sink' ≡ sink)
+  LeavesBy plan _ = ⊥
 
   -- of a text that is no plan the line was put that says so, or a front of it
   abbrev pub BadBy : ℕ → Reason → Ending → Type 0
@@ -129,9 +140,13 @@ module _ {K : Type 0} (written : K → Option (List ℕ)) (sink sink' : K) where
     abbrev pub CountsSink : Ending → Type 0
     CountsSink result = Counted (is_write_fault result) (faults sink) (faults sink')
 
-    -- how a call ends that has read a plan
-    abbrev pub EndsOn : Sweep → Asked → Ending → Type 0
-    EndsOn plan asked result = AnswersBy plan asked result × CountsSink result
+    -- how a call ends that has read a plan, with the one that is tried
+    abbrev pub EndsOn : Sweep → Sweep → Asked → Ending → Type 0
+    EndsOn plan tried asked result = AnswersBy plan tried asked result × CountsSink result
+
+    -- each `@run` that is tried was taken apart, and that was answered; or it couldn't be
+    abbrev pub EndsApart : Sweep → SweepCommand → Ending → Type 0
+    EndsApart plan command result = ((tried : Sweep) × IsTakenApart plan tried × EndsOn plan tried (asked_of tried command) result) ⊎ (LeavesBy plan result × CountsSink result)
 
     -- how one ends that has read a text whose first bad line that is, for this reason
     abbrev pub EndsBad : ℕ → Reason → Ending → Type 0
@@ -141,7 +156,7 @@ module _ {K : Type 0} (written : K → Option (List ℕ)) (sink sink' : K) where
     pub record OfPlan (lines : List (List ℕ)) (command : SweepCommand) (result : Ending) : Type 0 where
       pub plan : Sweep
       pub is : IsPlan lines plan
-      pub ends : EndsOn plan (asked_of plan command) result
+      pub ends : EndsApart plan command result
 
     -- lines are none: with this line the lines so far begin no plan, and the reason is that of the lines up to it
     pub record OfBadLine (lines : List (List ℕ)) (result : Ending) : Type 0 where

@@ -1,5 +1,5 @@
 -- What the script of a point comes to.
-use Rattle.std.specs.Prelude.{◌≡◌, ℕ, ◌+◌, ◌<◌, ◌⊎◌, Bool, true, false, List, [], ◌++◌, length, map, slice_get, Option, Some, None, All}
+use Rattle.std.specs.Prelude.{◌≡◌, ℕ, ◌+◌, ◌<◌, ◌⊎◌, true, false, List, [], ◌++◌, length, map, slice_get, Option, Some, All}
 use Rattle.std.specs.Option.{option_and_then, option_map_or, unwrap_or}
 use Rattle.dr_plant.specs.State.{PlantState, IsFresh}
 use Rattle.dr_io.specs.Lines.{most_bytes, most_lines}

@@ -11,4 +11,5 @@ pub mod Calm
 pub mod Seen
 pub mod Ending
 pub mod Printing
+pub mod Apart
 pub mod Calls

@@ -18,7 +18,7 @@ use Rattle.dr_plan.specs.declared.points.Point.TheVariants.{Cut, Gap}
 use Rattle.dr_plan.specs.declared.points.Torn.{Torn}
 use Rattle.dr_plan.specs.declared.points.Torn.TheVariants.{Unchanged, Zeros, Ones}
 use Rattle.dr_plan.specs.Pieces.{Pieces, pieces_of}
-use Rattle.dr_plan.specs.Points.{calm_script, count_at}
+use Rattle.dr_plan.specs.Points.{count_at}
 use Rattle.dr_plan.specs.Sweep.{Sweep, Tried}
 use Rattle.dr_rows.specs.Outcome.{Outcome}
 use Rattle.dr_sweep.specs.declared.parts.Part.{Part}
@@ -27,7 +27,7 @@ use Rattle.dr_sweep.specs.declared.point.Came.TheVariants.{Struck, Missed}
 use Rattle.dr_sweep.specs.declared.parts.Part.TheVariants.{Between, Within}
 use Rattle.dr_sweep.specs.declared.fault.PointFault.{PointFault}
 use Rattle.dr_sweep.specs.declared.fault.PointFault.TheVariants.{NoMemory, TooLong}
-use Rattle.dr_sweep.specs.Comes.{PointTold, ComesTo, Stops, Misses, FailsAt, RunsTooLong, first_stop, name_at, servers_lost}
+use Rattle.dr_sweep.specs.Comes.{PointTold, ComesTo, Stops, Misses, FailsAt, first_stop, name_at, servers_lost}
 use Rattle.dr_sweep.specs.Counts.{first_write, with_count}
 use Rattle.dr_sweep.specs.Losses.{AreKnown}
 use Rattle.dr_sweep.specs.Reach.{is_own}
@@ -221,15 +221,6 @@ pub record FailsPart (plan : Sweep) : Type 0 where
 abbrev pub FailsAtPart : Sweep → PointFault → Type 0
 FailsAtPart plan NoMemory = Unit {0}
 FailsAtPart plan TooLong = FailsPart plan
-
--- why there is nothing to print of a plan: the calm run, or a point that is tried
-abbrev pub FailsLong : Sweep → Type 0
-FailsLong plan = RunsTooLong (calm_script plan) ⊎ FailsPart plan
-
--- by the fault
-abbrev pub FailsSweep : Sweep → PointFault → Type 0
-FailsSweep plan NoMemory = Unit {0}
-FailsSweep plan TooLong = FailsLong plan
 
 -- the part is one of the plan's
 abbrev pub IsOf : Sweep → Part → Type 0

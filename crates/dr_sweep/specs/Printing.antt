@@ -29,11 +29,11 @@ use Rattle.dr_words.specs.declared.sweep.TornBytes.TheVariants.{Unchanged as Sta
 abbrev pub rows_text : Sweep → List Outcome → List ℕ
 rows_text plan rows = heading ++ flat_map (row_lines plan) rows
 
--- what is printed of a plan's calm run and rows
-abbrev pub says : View → Sweep → Calm → List Outcome → List ℕ
-says Report plan calm rows = report plan plan calm rows
-says Table plan calm rows = rows_text plan rows
-says Picture plan calm rows = picture plan rows
+-- what is printed of a plan's calm run, and of the rows of the plan that is tried
+abbrev pub says : View → Sweep → Sweep → Calm → List Outcome → List ℕ
+says Report plan tried calm rows = report plan tried calm rows
+says Table plan tried calm rows = rows_text tried rows
+says Picture plan tried calm rows = picture tried rows
 
 -- the place of what is counted from 1
 abbrev pub place_of : ℕ → Option ℕ

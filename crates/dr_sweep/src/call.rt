@@ -2,15 +2,18 @@
 
 ghost use Rattle.std.specs.Prelude.{◌≡◌, Some, None, IfOk, IfErr, false};
 ghost use Rattle.std.specs.Str.Lines.{lines};
-ghost use Rattle.dr_sweep.specs.Calls.{bad_line_text, usage_line, IsCalm, IsReply, Puts, EndsOn, EndsBad, EndsText, IsSweep, EndsUsage};
+ghost use Rattle.dr_sweep.specs.Calls.{bad_line_text, usage_line, IsCalm, IsReply, Puts, EndsApart, EndsOn, EndsBad, EndsText, IsSweep, EndsUsage};
 ghost use Rattle.dr_sweep.specs.Ending.{is_write_fault};
-ghost use Rattle.dr_sweep.specs.Parts.{AreSwept, FailsSweep, parts_of};
+ghost use Rattle.dr_plan.specs.Points.{calm_script};
+ghost use Rattle.dr_sweep.specs.Comes.{FailsOn};
+ghost use Rattle.dr_sweep.specs.Parts.{AreSwept, parts_of};
 ghost use Rattle.dr_sweep.specs.Printing.{AsksOf};
 ghost use Rattle.dr_sweep.specs.declared.ending.Ending.TheVariants.{Usage};
 ghost use Rattle.dr_sweep.specs.declared.printing.Asked.TheVariants.{Rows, Script};
 ghost use Rattle.dr_words.specs.Sweep.{sweep_command_of};
 ghost use Rattle.dr_words.specs.declared.sweep.SweepCommand.{SweepCommand};
 
+use crate::apart::take_apart;
 use crate::calm::calm_of;
 use crate::ending::{Ending, ending_of, fault_ending, finding_ending};
 use crate::fault::PointFault;
@@ -47,38 +50,40 @@ struct Reply {
     ending: Ending,
 }
 
-/// What is put of the calm run and the rows of a plan.
+/// What is put of the calm run of a plan, and of the rows of the one that is tried.
 fn reply_of(
     alloc: Global,
     plan: &SweepPlan,
+    tried: &SweepPlan,
     view: View,
     calm: &Calm,
     rows: &[Row],
 ) -> Result<Reply, AllocError>
-    ensures { IfOk result (IsReply plan.now view calm.now rows.now) }
+    ensures { IfOk result (IsReply plan.now tried.now view calm.now rows.now) }
 {
-    let text = says(alloc, view, plan, calm, rows)?;
-    let found = has_finding(alloc, plan, calm, rows)?;
+    let text = says(alloc, view, plan, tried, calm, rows)?;
+    let found = has_finding(alloc, tried, calm, rows)?;
     Ok(Reply {
         text,
         ending: finding_ending(found),
     })
 }
 
-/// Puts what is asked for of the calm run and the rows of a plan.
+/// Puts what is asked for of the calm run of a plan, and of the rows of the one that is tried.
 fn put_rows<K: Sink>(
     alloc: Global,
     plan: &SweepPlan,
+    tried: &SweepPlan,
     view: View,
     calm: &Calm,
     rows: &[Row],
     sink: &mut K,
 ) -> Ending
     requires calm { IsCalm plan.now calm.now }
-    requires swept { AreSwept plan.now (parts_of plan.now) rows.now }
-    ensures { EndsOn K.written sink.old sink.new K.faults plan.now (Rows view) result }
+    requires swept { AreSwept tried.now (parts_of tried.now) rows.now }
+    ensures { EndsOn K.written sink.old sink.new K.faults plan.now tried.now (Rows view) result }
 {
-    match reply_of(alloc, plan, view, calm, rows) {
+    match reply_of(alloc, plan, tried, view, calm, rows) {
         Ok(reply) => put_text(sink, reply.text.bytes(), reply.ending),
         Err(_) => Ending::NoMemory,
     }
@@ -87,7 +92,7 @@ fn put_rows<K: Sink>(
 /// What the calm run of a plan comes to.
 fn calm_run(alloc: Global, plan: &SweepPlan) -> Result<Calm, PointFault>
     ensures calm { IfOk result (IsCalm plan.now) }
-    ensures fails { IfErr result (FailsSweep plan.now) }
+    ensures fails { IfErr result (FailsOn (calm_script plan.now)) }
 {
     let journal = run_calm(alloc, plan)?;
     match calm_of(alloc, plan, &journal) {
@@ -96,22 +101,23 @@ fn calm_run(alloc: Global, plan: &SweepPlan) -> Result<Calm, PointFault>
     }
 }
 
-/// Sweeps over a plan, and puts what is asked for of its calm run and its rows.
+/// Sweeps over the plan that is tried of a plan, and puts what is asked for of the calm run and the rows.
 fn show<K: Sink, Q: Sink>(
     alloc: Global,
     plan: &SweepPlan,
+    tried: &SweepPlan,
     view: View,
     sink: &mut K,
     progress: &mut Q,
 ) -> Ending
-    ensures { EndsOn K.written sink.old sink.new K.faults plan.now (Rows view) result }
+    ensures { EndsOn K.written sink.old sink.new K.faults plan.now tried.now (Rows view) result }
 {
     let calm = match calm_run(alloc, plan) {
         Ok(calm) => calm,
         Err(fault) => return fault_ending(fault),
     };
-    match all_rows(alloc, plan, progress) {
-        Ok(rows) => put_rows(alloc, plan, view, &calm, &rows, sink),
+    match all_rows(alloc, tried, progress) {
+        Ok(rows) => put_rows(alloc, plan, tried, view, &calm, &rows, sink),
         Err(fault) => fault_ending(fault),
     }
 }
@@ -120,33 +126,58 @@ fn show<K: Sink, Q: Sink>(
 fn put_script<K: Sink>(
     alloc: Global,
     plan: &SweepPlan,
+    tried: &SweepPlan,
     named: Option<NamedPoint>,
     sink: &mut K,
 ) -> Ending
-    requires { AsksOf plan.now (Script named) }
-    ensures { EndsOn K.written sink.old sink.new K.faults plan.now (Script named) result }
+    requires { AsksOf tried.now (Script named) }
+    ensures { EndsOn K.written sink.old sink.new K.faults plan.now tried.now (Script named) result }
 {
-    match script_of(alloc, plan, named) {
+    match script_of(alloc, tried, named) {
         Ok(Some(script)) => put_text(sink, script.bytes(), Ending::Done),
         Ok(None) => put_text(sink, USAGE, Ending::Usage),
         Err(fault) => fault_ending(fault),
     }
 }
 
-/// Puts what is asked for of a plan.
+/// Puts what is asked for of a plan and of the one that is tried.
 fn answer<K: Sink, Q: Sink>(
     alloc: Global,
     plan: &SweepPlan,
+    tried: &SweepPlan,
     asked: Asked,
     sink: &mut K,
     progress: &mut Q,
 ) -> Ending
-    requires { AsksOf plan.now asked }
-    ensures { EndsOn K.written sink.old sink.new K.faults plan.now asked result }
+    requires { AsksOf tried.now asked }
+    ensures { EndsOn K.written sink.old sink.new K.faults plan.now tried.now asked result }
 {
     match asked {
-        Asked::Rows(view) => show(alloc, plan, view, sink, progress),
-        Asked::Script(point) => put_script(alloc, plan, point, sink),
+        Asked::Rows(view) => show(alloc, plan, tried, view, sink, progress),
+        Asked::Script(point) => put_script(alloc, plan, tried, point, sink),
+    }
+}
+
+/// Answers a command on a plan: each `@run` that is tried is taken apart first.
+fn answer_plan<K: Sink, Q: Sink>(
+    alloc: Global,
+    plan: &SweepPlan,
+    command: &SweepCommand,
+    sink: &mut K,
+    progress: &mut Q,
+) -> Ending
+    ensures { EndsApart K.written sink.old sink.new K.faults plan.now command.now result }
+{
+    match take_apart(alloc, plan) {
+        Ok(tried) => answer(
+            alloc,
+            plan,
+            &tried,
+            asked_of(&tried, command),
+            sink,
+            progress,
+        ),
+        Err(fault) => fault_ending(fault),
     }
 }
 
@@ -183,7 +214,7 @@ fn answer_text<K: Sink, Q: Sink>(
     ensures { EndsText K.written sink.old sink.new K.faults (lines text.now) command.now result }
 {
     match read_plan(alloc, text) {
-        Ok(plan) => answer(alloc, &plan, asked_of(&plan, command), sink, progress),
+        Ok(plan) => answer_plan(alloc, &plan, command, sink, progress),
         Err(PlanFault::BadLine { line, reason }) => put_bad_line(alloc, sink, line, &reason),
         Err(PlanFault::NoMemory) => Ending::NoMemory,
     }

@@ -2,7 +2,7 @@
 
 ghost use Rattle.std.specs.Prelude.{◌≡◌, ◌&&◌, nat_eq, IfOk, IfErr};
 ghost use Rattle.dr_sweep.specs.Calls.{IsCutScript, IsScriptOf};
-ghost use Rattle.dr_sweep.specs.Parts.{FailsIn, FailsSweep, FindsCounts, IsOf, FailsWrite};
+ghost use Rattle.dr_sweep.specs.Parts.{FailsAtPart, FailsIn, FindsCounts, IsOf, FailsWrite};
 ghost use Rattle.dr_sweep.specs.Printing.{AsksOf};
 ghost use Rattle.dr_sweep.specs.Reach.{is_own};
 ghost use Rattle.dr_sweep.specs.declared.printing.Asked.TheVariants.{Script};
@@ -88,7 +88,7 @@ fn cut_script(
 ) -> Result<Option<Text>, PointFault>
     requires is_of { IsOf plan.now (Within disaster place server) }
     ensures is { IfOk result (IsCutScript plan.now disaster place server write torn) }
-    ensures fails { IfErr result (FailsSweep plan.now) }
+    ensures fails { IfErr result (FailsAtPart plan.now) }
 {
     let Some(writes) = counts_of(alloc, plan, disaster, place, server, write)? else {
         return Ok(None);
@@ -105,7 +105,7 @@ pub(crate) fn script_of(
 ) -> Result<Option<Text>, PointFault>
     requires { AsksOf plan.now (Script named) }
     ensures is { IfOk result (IsScriptOf plan.now named) }
-    ensures fails { IfErr result (FailsSweep plan.now) }
+    ensures fails { IfErr result (FailsAtPart plan.now) }
 {
     match named {
         None => Ok(None),

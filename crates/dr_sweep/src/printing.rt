@@ -61,20 +61,21 @@ pub(crate) enum Asked {
     Script(Option<NamedPoint>),
 }
 
-/// What is printed of a plan's calm run and rows.
+/// What is printed of a plan's calm run, and of the rows of the plan that is tried.
 pub(crate) fn says(
     alloc: Global,
     view: View,
     plan: &SweepPlan,
+    tried: &SweepPlan,
     calm: &Calm,
     rows: &[Row],
 ) -> Result<Text, AllocError>
-    ensures { IfOk result (λ text. text ≡ says view plan.now calm.now rows.now) }
+    ensures { IfOk result (λ text. text ≡ says view plan.now tried.now calm.now rows.now) }
 {
     match view {
-        View::Report => report(alloc, plan, plan, calm, rows),
-        View::Table => rows_text(alloc, plan, rows),
-        View::Picture => picture(alloc, plan, rows),
+        View::Report => report(alloc, plan, tried, calm, rows),
+        View::Table => rows_text(alloc, tried, rows),
+        View::Picture => picture(alloc, tried, rows),
     }
 }
 

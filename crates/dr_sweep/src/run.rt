@@ -1,6 +1,6 @@
 //! A run on a plant of its own, piece by piece, and what is read of it between two pieces.
 
-ghost use Rattle.std.specs.Prelude.{ℕ, false, ◌≡◌, ◌<◌, ◌≤◌, ◌++◌, ◌+◌, ◌^◌, [], ◌∷◌, List, Option, Ok, IfOk, IfErr, OnOk, length, count_by, map, if◌then◌else◌, slice_get, option_map, All, true};
+ghost use Rattle.std.specs.Prelude.{ℕ, None, false, ◌≡◌, ◌<◌, ◌≤◌, ◌++◌, ◌+◌, ◌^◌, [], ◌∷◌, List, Option, Ok, IfOk, IfErr, IfSome, OnOk, length, count_by, map, if◌then◌else◌, slice_get, option_map, All, true};
 ghost use Rattle.std.specs.List.{cons_option};
 ghost use Rattle.std.specs.Option.{option_copied, option_map_or};
 ghost use Rattle.dr_plant.specs.State.{PlantState, IsFresh};
@@ -15,15 +15,18 @@ ghost use Rattle.dr_plan.specs.Sweep.{is_unbroken};
 ghost use Rattle.dr_rows.specs.Outcome.{gives_group};
 ghost use Rattle.dr_sweep.specs.Comes.{IsRun, Ran, Carries, CarriesOn, Fails, HaltsBy, Recovers, seen};
 ghost use Rattle.dr_sweep.specs.Seen.{run_seen};
+ghost use Rattle.dr_sweep.specs.Apart.{HasLines, IsNextAsked, is_well};
+ghost use Rattle.dr_model.specs.Forming.{master_in, next_asked, phase_in};
+ghost use Rattle.dr_model.specs.PairEntries.{is_copying};
 ghost use Rattle.dr_sweep.specs.Moments.{phase_at, phases_of, runs_so, any_runs, recovered_in, answers_group, last_of, members_at, members_after, members_of};
 
 use crate::fault::PointFault;
-use dr_ids::{Fault, PhaseName, SessionId};
+use dr_ids::{Fault, Member, PhaseName, ServerId, SessionId, VolumeId};
 use dr_model::{Event, Journal, Name, Step};
 use dr_plan::{SweepPlan, name_bytes, script_line};
 use dr_plant::ModelPlant;
 use dr_rows::{Members, SessionPhase};
-use dr_script::{Line, read_line};
+use dr_script::{Line, read_line, read_name};
 use dr_top::{OpenRun, Status};
 use std::alloc::{AllocError, Global};
 
@@ -57,6 +60,23 @@ fn answers_group(event: Option<&Event>) -> bool
         Some(Event::Answer { code, a, .. }) => *code == 0 && *a % 256 == 5,
         _ => false,
     }
+}
+
+/// Whether an event is no refusal.
+fn is_well(event: Option<&Event>) -> bool
+    ensures { result ≡ is_well (option_copied event.entry) }
+{
+    match event {
+        Some(Event::Answer { code, .. }) => *code == 0 || *code == 100,
+        _ => true,
+    }
+}
+
+/// A server that an `@run` asks next, and its name.
+#[derive(Clone, Copy)]
+pub(crate) struct NextAsked {
+    pub(crate) server: ServerId,
+    pub(crate) name: Name,
 }
 
 /// The session that the one step of a line recovers.
@@ -237,6 +257,63 @@ impl PointRun {
         Members { counted, all }
     }
 
+    /// Whether the last event is no refusal.
+    #[tactic(auto, unfolding(crate::specs::Seen::run_seen))]
+    pub(crate) fn is_well(&self) -> bool
+        ensures { result ≡ is_well (last_of (run_seen self.now).events) }
+    {
+        match self.journal.len().checked_sub(1) {
+            Some(last) => is_well(self.journal.event(last)),
+            None => true,
+        }
+    }
+
+    /// The phase of a session's master; none without a master.
+    #[tactic(auto, unfolding(crate::specs::Seen::run_seen))]
+    pub(crate) fn phase_of(&self, s: SessionId) -> PhaseName
+        ensures { result ≡ phase_in (seen (run_seen self.now)).control s.0 }
+    {
+        self.run.phase_in(s)
+    }
+
+    /// How many members the session has, none if it isn't defined.
+    #[tactic(auto, unfolding(crate::specs::Seen::run_seen))]
+    pub(crate) fn member_count(&self, s: SessionId) -> usize
+        ensures { result ≡ length (members_of (seen (run_seen self.now)).control s.0) }
+    {
+        self.run.member_count(s)
+    }
+
+    /// The member that was added to the session after `i` others of today's, if there are that many.
+    #[tactic(auto, unfolding(crate::specs::Seen::run_seen))]
+    pub(crate) fn member_at(&self, s: SessionId, i: usize) -> Option<Member>
+        ensures { result ≡ slice_get (members_of (seen (run_seen self.now)).control s.0) i }
+    {
+        self.run.member_at(s, i)
+    }
+
+    /// Whether the volume is a primary in Copy Pending.
+    #[tactic(auto, unfolding(crate::specs::Seen::run_seen))]
+    pub(crate) fn is_copying(&self, v: VolumeId) -> bool
+        requires { IsRun (run_seen self.now) }
+        ensures { result ≡ is_copying v.0 (seen (run_seen self.now)).control }
+    {
+        self.run.is_copying(&self.plant, v)
+    }
+
+    /// The server that an `@run` of the session asks next, and its name.
+    #[tactic(auto, unfolding(crate::specs::Seen::run_seen))]
+    pub(crate) fn asked_next(&self, s: SessionId) -> Option<NextAsked>
+        requires run { IsRun (run_seen self.now) }
+        requires lines { HasLines (run_seen self.now) }
+        ensures none { result ≡ None → next_asked (master_in (seen (run_seen self.now)).control s.0) ≡ None }
+        ensures next { IfSome result (λ a. IsNextAsked (seen (run_seen self.now)).control s.0 a.server.0 a.name) }
+    {
+        let server = self.run.asked_next(s)?;
+        let name = read_name(self.run.server_name(server))?;
+        Some(NextAsked { server, name })
+    }
+
     /// Whether the last event is an answer with a group.
     #[tactic(auto, unfolding(crate::specs::Seen::run_seen))]
     fn gave_group(&self) -> bool
@@ -260,6 +337,19 @@ impl PointRun {
         Some(self.members(session))
     }
 
+    /// Carries out a line more.
+    pub(crate) fn carry_line(&mut self, alloc: Global, line: &[u8]) -> Result<(), PointFault>
+        requires run { IsRun (run_seen self.old) }
+        requires line { is_unbroken line.now ≡ true }
+        ensures longer { length (run_seen self.old).events ≤ length (run_seen self.new).events }
+        ensures stays { IsRun (run_seen self.new) }
+        ensures goes { OnOk result ((began : PlantState) (ls : List (List ℕ)) (steps : List Task) → Ran began ls (run_seen self.old) steps → CarriesOn began ls (line.now ∷ []) (run_seen self.new) steps) }
+        ensures fails { IfErr result (λ fault. (began : PlantState) (ls : List (List ℕ)) (steps : List Task) → Ran began ls (run_seen self.old) steps → HaltsBy began (ls ++ line.now ∷ []) (run_seen self.new) fault) }
+    {
+        let text = script_line(alloc, line)?;
+        self.carry(alloc, text.bytes())
+    }
+
     /// Carries out a line of the recovery, and adds the members after it.
     fn recover_line(
         &mut self,
@@ -275,8 +365,7 @@ impl PointRun {
         ensures adds { OnOk result (members.new.items ≡ members.old.items ++ members_after (recovered_in (line_of line.now)) (seen (run_seen self.new))) }
         ensures fails { IfErr result (λ fault. (began : PlantState) (ls : List (List ℕ)) (steps : List Task) → Ran began ls (run_seen self.old) steps → HaltsBy began (ls ++ line.now ∷ []) (run_seen self.new) fault) }
     {
-        let text = script_line(alloc, line)?;
-        self.carry(alloc, text.bytes())?;
+        self.carry_line(alloc, line)?;
         let session = recovered_in(alloc, line)?;
         push_members(members, self.members_after(session))?;
         Ok(())

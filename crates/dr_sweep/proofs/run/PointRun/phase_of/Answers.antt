@@ -1,0 +1,6 @@
+use Rattle.dr_sweep.specs.Seen.{run_seen}
+use Rattle.dr_sweep.proofs.run.PointRun.phase_of.Goals as goal
+
+pub returns : goal.returns
+unfolding run_seen
+returns c = let r = run_seen c.args.self.now in c.phase_in.ensures r.plant r.events
