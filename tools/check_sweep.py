@@ -6,8 +6,8 @@
 
 The first form compares the report, the rows, the exit status, and the script of each row with what `SWEEP` says. Of a text that is no plan
 it works out the first bad line and the reason. The second form prints the report or the rows that it has made, and ends with their status.
-How a row is made is told in `sweep_rows.py`, what is read of a plan in `plan_text.py`. Exit status 1 where something differs, 2 where a plan
-can't be taken: a track has more than 64 writes, or a run depends on what the hosts write.
+How a row is made is told in `sweep_rows.py`, what is read of a plan in `plan_text.py`, and what an `@run` comes to in `sweep_parts.py`. Exit status
+1 where something differs, 2 where a plan can't be taken: a track has more than 64 writes, or a run depends on what the hosts write.
 """
 import os
 import subprocess
@@ -18,6 +18,7 @@ from itertools import zip_longest
 
 sys.dont_write_bytecode = True
 from plan_text import BadPlan, lines_of, read_plan, text_of
+from sweep_parts import taken_apart
 from sweep_report import Calm, Report
 from sweep_rows import HEADING, Rows
 from sweep_runs import Drsim, Fault
@@ -37,9 +38,10 @@ class Made:
             self.report = self.rows = f"{bad}\n"
             self.status = NO_PLAN
             return
-        self.by_plan = Rows(plan, drsim)
+        tried = taken_apart(plan, drsim)
+        self.by_plan = Rows(tried, drsim)
         self.found = self.by_plan.all(os.cpu_count())
-        report = Report(plan, self.by_plan, self.found, Calm(plan, drsim))
+        report = Report(tried, self.by_plan, self.found, Calm(plan, drsim))
         self.report, self.status = report.text(), int(report.has_finding())
         self.rows = "".join(line + "\n" for line in [HEADING, *(line for row in self.found for line in self.by_plan.lines(row))])
 

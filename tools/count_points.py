@@ -12,6 +12,7 @@ import sys
 
 sys.dont_write_bytecode = True
 from plan_text import BadPlan, lines_of, read_plan, words_of
+from sweep_parts import taken_apart
 from sweep_runs import Drsim, Fault, Script
 
 MOST_WRITES = 100_000
@@ -57,7 +58,7 @@ def main(path, program):
     drsim = Drsim(program)
     with open(path, "rb") as file:
         text = file.read()
-    plan = read_plan(lines_of(text), drsim.steps(text))
+    plan = taken_apart(read_plan(lines_of(text), drsim.steps(text)), drsim)
     points = len(plan.loses) * (len(plan.tried) + 1)
     print("disaster line server count")
     for disaster, servers in enumerate(plan.loses, 1):

@@ -1,14 +1,15 @@
 """The rows of a plan of a sweep, made by runs of `drsim`.
 
-A point is reached if the tried line is answered that its server was stopped. How many device writes each other server of the disaster makes
-before is asked pair by pair (`Counts`): which of the two does the tried line say was stopped, if no other server's fuse is ever reached? Groups, refusals and acknowledgements are answers. What the
-second volumes of a use hold as the recovery begins, and what the first ones hold at the end, is seen on their tracks (`Holdings`). The phases
-of masters are those of `showgmir` before the tried line; which members count after an `@recover` says `drsim recover` of an `@image`
-there, and how many there are `lssession`.
+A point is reached if the tried line is answered that its server was stopped, or that one outside the disaster was and this one is off after it. How
+many device writes each other server of the disaster makes before is asked pair by pair (`Counts`): which of the two was stopped first, if no
+other server's fuse is ever reached? Groups, refusals and acknowledgements are answers. What the second volumes of a use hold as the recovery
+begins, and what the first ones hold at the end, is seen on their tracks (`Holdings`). The phases of masters are those of `showgmir` before the
+tried line; which members count after an `@recover` says `drsim recover` of an `@image` there, and how many there are `lssession`.
 """
 import re
 from concurrent.futures import ThreadPoolExecutor
 from dataclasses import dataclass
+from functools import cached_property
 
 from plan_text import span, words_of
 from sweep_runs import Fault, Holdings, Script, Writes, member_asks, members_in, phase_asks, phase_in, sessions_of
@@ -83,15 +84,33 @@ def quoted(cell):
 class Counts:
     """How many device writes the other servers of a disaster make in a tried line before a device write of one of them."""
 
-    def __init__(self, drsim, before, line, server, others):
-        self.drsim, self.before, self.line, self.server = drsim, before, line, server
+    def __init__(self, drsim, before, line, server, others, shows):
+        """`shows` has of each server of the disaster a line that shows a track of it."""
+        self.drsim, self.before, self.line, self.server, self.shows = drsim, before, line, server, shows
         self.known, self.never = dict.fromkeys(others, 0), dict.fromkeys(others, NEVER)
 
     def stopped(self, fuses):
-        """Which server the tried line says was stopped; none if it says no such thing."""
-        lines = self.before + [fuse_of(name, count, "none") for name, count in {**self.never, **fuses}.items()] + [self.line]
-        found = re.fullmatch(r"E21 stopped (\S+)", self.drsim.run(lines).answers.get(len(lines), [""])[-1])
-        return found[1] if found else None
+        """Which server of the disaster stopped first in the tried line, if one did. The line says which server was stopped first of all; if that is
+        another one, by a fuse of the plan, those are asked that went off in the line."""
+        armed = {**self.never, **fuses}
+        lines = self.before + [fuse_of(name, count, "none") for name, count in armed.items()] + [self.line]
+        run = self.drsim.run(lines + list(self.shows.values()))
+        found = re.fullmatch(r"E21 stopped (\S+)", run.answers.get(len(lines), [""])[-1])
+        if not found or found[1] in armed:
+            return found and found[1]
+        gone = [name for at, name in enumerate(self.shows, len(lines) + 1) if self.is_off(run, at) and name not in self.off_before]
+        if len(gone) > 1:
+            raise Fault(f"`{self.line}` stops {found[1]}, and then {' and '.join(gone)}: nothing says in which order")
+        return gone[0] if gone else None
+
+    @cached_property
+    def off_before(self):
+        run = self.drsim.run(self.before + list(self.shows.values()))
+        return [name for at, name in enumerate(self.shows, len(self.before) + 1) if self.is_off(run, at)]
+
+    @staticmethod
+    def is_off(run, at):
+        return run.of(at)[-1].startswith("E05")
 
     def at(self, write):
         """The counts of the device write of that number: the least with which its server is the one that is stopped. They never fall from one
@@ -142,7 +161,7 @@ class Rows:
         """The points of a server in a tried step: as long as the server is stopped there."""
         found, line, before, servers = [], self.plan.tried[place].text, self.before(place), self.plan.loses[disaster]
         others = [name for name in servers if name != server]
-        counts = Counts(self.drsim, before, line, server, others)
+        counts = Counts(self.drsim, before, line, server, others, self.shows_of(disaster))
         for write in range(1 if words_of(line) == ["@start", server] else 0, MOST_WRITES):
             if words_of(line)[0] == "@stop" or counts.stopped({server: write}) != server:
                 return found
@@ -157,10 +176,10 @@ class Rows:
         """The row of a point by the lines before the recovery. The fuses or the stops begin after that many; the tried line answers `stops`."""
         plan, script = self.plan, front + self.plan.recovery
         run = self.drsim.run(script).answers
-        if stops and run[began + len(point.counts) + 1][-1] != stops:
+        if stops and not self.is_told(run[began + len(point.counts) + 1][-1], stops, point):
             raise Fault(f"`{front[began + len(point.counts)]}` isn't answered `{stops}` with {point.counts}")
         phases = self.phases(script[:began], run, point.place)
-        off = [f"@show {self.volume_on(name)} 0 " for name in plan.loses[point.disaster] if self.volume_on(name)]
+        off = list(self.shows_of(point.disaster).values())
         stop = Holdings(self.drsim, front, run, self.seconds, self.servers, {len(front): off})
         if not all(stop.script.answer(len(front), ask).startswith("E05") for ask in off):
             raise Fault(f"not all servers are off as the recovery begins: {point}")
@@ -171,6 +190,15 @@ class Rows:
         answers = [(at - len(front), answer) for at in sorted(run) if at > len(front) for answer in run[at]]
         newest = writes.acknowledged[-1][0] if writes.acknowledged else None
         return Row(point, script, phases, answers, members, newest, [self.loss(use, writes, stop, end) for use in plan.uses])
+
+    @staticmethod
+    def is_told(answer, stops, point):
+        """The tried line says that the server was stopped, or that one outside the disaster was before it."""
+        return answer == stops or answer.startswith("E21 ") and answer.split(" ")[-1] not in point.counts
+
+    def shows_of(self, disaster):
+        """Of each server of the disaster a line that shows a track of it; one without a volume has no device writes."""
+        return {name: f"@show {self.volume_on(name)} 0 " for name in self.plan.loses[disaster] if self.volume_on(name)}
 
     def volume_on(self, server):
         return next((volume for volume, name in self.servers.items() if name == server), None)
