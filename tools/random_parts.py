@@ -7,7 +7,7 @@
     tools/random_parts.py --plan NAME|NUMBER          prints a plan
 
 Of each plan all is compared that `check_sweep.py` compares. Then the same plan is tried with the parts of each `@run` written out as lines: it has
-to have the same rows but for the names of lines. Of plans that are files only this is asked (`--written`). Of a small plan it is also said what its
+to have the same rows except for the names of lines. Of plans that are files only this is asked (`--written`). Of a small plan it is also said what its
 first tried `@run` is answered, and how many parts it has. Outside the gate. Exit status 1 where something differs, or a small plan's `@run` comes to
 something else than is said here.
 """
