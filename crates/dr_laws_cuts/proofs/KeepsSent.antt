@@ -77,8 +77,8 @@ module _ (write : ℕ → Write) (T : Table) (rows : SoundRows T) (c : Cuts) (no
   kept-sent (Flash v u p s n) a calm = sent (Flash v u p s n) a (old.sent v) (λ u h rec k. target-second T rows v a.resync.from u a.resync.related k)
   kept-sent (Revert v p s n) a calm = sent (Revert v p s n) a (old.sent v) (λ u h rec k. target-second T rows v a.from u a.related k)
   kept-sent (Restore v t u) a calm = sent (Restore v t u) a (λ x h rec. false_true a.idle rec) (λ x h rec k. false_true (rows.parts.free u v a.related a.reversing) (chosen _ _ x k).0)
-  kept-sent (Store v t u last) a calm = sent (Store v t u last) a (old.sent v) (λ x h rec k. stored-there v t u _ a.takes a.out x h rec k)
-  kept-sent (Mirror v t u w) a calm = sent (Mirror v t u w) a (old.sent v) (λ x h rec k. stored-there v t u _ a.takes a.out x h rec k)
+  kept-sent (Store v t u last) a calm = let f = fields T v in sent (Store v t u last) a (λ x h rec k q lt i. old.sent v x h rec k q lt (ap (λ x. contains x q) (sym (landed_out (is_part f.primary) f.recording (insert f.out_of_sync t) f.out_of_sync rec)) ∙ i)) (λ x h rec k. stored-there v t u _ a.takes a.out x h rec k)
+  kept-sent (Mirror v t u w) a calm = let f = fields T v in sent (Mirror v t u w) a (λ x h rec k q lt i. old.sent v x h rec k q lt (ap (λ x. contains x q) (sym (landed_out (is_part f.primary) f.recording (insert f.out_of_sync t) f.out_of_sync rec)) ∙ i)) (λ x h rec k. stored-there v t u _ a.takes a.out x h rec k)
   kept-sent (Strike v t last) a calm = sent (Strike v t last) a
       (λ u h rec k q lt i. elim (eqb_tells q t) [
         | inl is ↦ subst (λ j. (T u).due j ≡ at_cut write c (fields T v).attempt v j) (sym is.1) (struck-there v t a.to a.sends a.equal u h rec k (subst (λ j. j < (T v).volume.tracks) is.1 lt))

@@ -8,7 +8,7 @@ use Rattle.dr_model.specs.Moves.{Move, MakeSecondary, MakePrimary, DropPrimary, 
 use Rattle.dr_model.specs.Table.{Table}
 use Rattle.dr_model.specs.Rows.{next_row}
 use Rattle.dr_model.specs.Laws.{SoundRows, source, its_primary, its_secondary, fields}
-use Rattle.dr_model.specs.Allowed.{Allowed}
+use Rattle.dr_model.specs.Allowed.{Allowed, Kept, MayReceive}
 use Rattle.dr_logic.proofs.Choices.{chosen, choose_none}
 use Rattle.dr_facts.proofs.Parts.{global-part, global_metro}
 use Rattle.dr_logic.proofs.Truth.{false_true}
@@ -23,6 +23,14 @@ module _ (T : Table) (rows : SoundRows T) where
 
   pub second-still : {P : Type 0} (v u : ℕ) → its_primary (T v) ≡ Some u → (fields T v).recording ≡ true → P
   second-still v u is rec = false_true ((rows.parts.one v).one (first v rec)) (chosen _ _ u is).0
+
+  -- a secondary takes what comes to it, since it records nothing and isn't held
+  pub second-receives : (v u t : ℕ) → its_primary (T v) ≡ Some u → t < (T v).volume.tracks → Kept T v t → MayReceive T v t
+  second-receives v u t is low kept = record { low = low; kept = kept; free = free (fields T v).coordination refl; sent = second-still v u is }
+    where
+      free : (held : Bool) → (fields T v).coordination ≡ held → held ≡ false
+      free true e = second-still v u is ((rows.recorders v).holds e)
+      free false e = refl
 
   pub metro-still : {P : Type 0} (v : ℕ) → is_metro (fields T v).primary ≡ true → (fields T v).recording ≡ true → P
   metro-still v is rec = global_metro _ ((rows.recorders v).global rec) is

@@ -154,6 +154,8 @@ module _ (v q : ℕ) (w : World) (rows : SoundRows (table w)) (st : Stays v q w)
     own-out : (m : Move) → Allowed write T m → WindowMay tag w m → Else m → secondary_of (next_of w m) ≡ Some q → target m ≡ v → (t : ℕ) → contains (fields_at w.control (target m)).out_of_sync t ≡ true → contains (next_of w m).out_of_sync t ≡ true
     own-out (Land n x t) a fair else to e j h = not-locked x e fair
     own-out (Restore x t u) a fair else to e j h = absurd (else.0 e)
+    own-out (Store x t u last) a fair else to e j h = is-second x e (chosen _ _ u a.takes).0
+    own-out (Mirror x t u n) a fair else to e j h = is-second x e (chosen _ _ u a.takes).0
     own-out (Strike x t last) a fair else to e j h =
         still-removed _ t j (λ is. false_true (fair (ap (λ j. is_locked (fields_at w.control j)) e ∙ locked)) (ap (contains (fields_at w.control x).out_of_sync) (sym is) ∙ h)) h
     own-out (Suspend x busy) a fair else to e j h = let f : Fields = fields_at w.control x in still-out (is_engaged f) f.out_of_sync f.change_recording j h

@@ -104,7 +104,7 @@ module _ (Fin : Option ℕ → World → Option Refusal → Type 0) (fin : (w : 
           (λ locked.
           let synced = locked-synced (fields_at w.control a) x.going locked in
           let metro = (and_parts (is_metro (fields_at w.control a).primary) _ synced).0 in
-          rows.pairs a b x.to (inl one.0.allowed.takes) t (subst (λ n. t < n) (sym (rows.parts.secondary a b x.to).same_tracks) one.0.allowed.low)
+          rows.pairs a b x.to (inl one.0.allowed.takes) t (subst (λ n. t < n) (sym (rows.parts.secondary a b x.to).same_tracks) one.0.allowed.receives.low)
           (λ i. clean w k x locked t i || (k.in_sync.free a).changes metro t i)
           (λ back. false_true ((rows.parts.one b).one (chosen _ _ a back).0) (chosen _ _ a one.0.allowed.takes).0))
           tt refl (λ f z. strikes (done w m f) z (sends-done w m f refl refl x) (one.1 f z.sound))

@@ -110,13 +110,21 @@ module _ (write : ℕ → Write) (T : Table) (structure : Structure T) (parts : 
   less-altered v t q is h = let f : Fields = fields T v in more-unsent (is_part f.primary) f.out_of_sync f.change_recording t q is h
 
   -- a secondary stores a track, which its primary has too, or has out of sync
+  stored-from : (v t x : ℕ) (b : List ℕ) → its_secondary (T v) ≡ Some x → (its_primary (T x) ≡ Some v) ⊎ (its_secondary (T x) ≡ Some v) → (q : ℕ) → q < (T v).volume.tracks → unsent_written v t q ≡ false
+      → (its_secondary (T x) ≡ Some v → unsent (T x) q ≡ false) → at (T v).bytes t b q ≡ (T x).bytes q
+  stored-from v t x b h link q lt sent back =
+      let less = less-written v t q (chosen _ _ x h).0 sent in
+      at_other (T v).bytes t b q less.1 ∙ old v x h link q lt less.0 back
+
   stored-onto : (v t u : ℕ) (b : List ℕ) → its_primary (T v) ≡ Some u → (unsent (T u) t ≡ false → (T u).bytes t ≡ b) → (x : ℕ) → its_secondary (T x) ≡ Some v → (its_primary (T v) ≡ Some x) ⊎ (its_secondary (T v) ≡ Some x) → (q : ℕ) → q < (T x).volume.tracks → unsent (T x) q ≡ false
-      → (its_secondary (T v) ≡ Some x → unsent (T v) q ≡ false) → (T x).bytes q ≡ at (T v).bytes t b q
+      → (its_secondary (T v) ≡ Some x → unsent_written v t q ≡ false) → (T x).bytes q ≡ at (T v).bytes t b q
   stored-onto v t u b takes here x h (inl k) q =
       let same : u ≡ x = sym (chosen _ _ u takes).1 ∙ (chosen _ _ x k).1 in
-      at_cases (λ q c. q < (T x).volume.tracks → unsent (T x) q ≡ false → (its_secondary (T v) ≡ Some x → unsent (T v) q ≡ false) → (T x).bytes q ≡ c) (T v).bytes t b
-      (λ lt sent back. subst (λ j. unsent (T j) t ≡ false → (T j).bytes t ≡ b) same here sent) (λ q ne lt sent back. old x v h (inl k) q lt sent back) q
-  stored-onto v t u b takes here x h (inr k) q = no_first v (chosen _ _ u takes).0 k
+      at_cases (λ q c. q < (T x).volume.tracks → unsent (T x) q ≡ false → (its_secondary (T v) ≡ Some x → unsent_written v t q ≡ false) → (T x).bytes q ≡ c) (T v).bytes t b
+      (λ lt sent back. subst (λ j. unsent (T j) t ≡ false → (T j).bytes t ≡ b) same here sent) (λ q ne lt sent back. old x v h (inl k) q lt sent (λ l. (less-written v t q (chosen _ _ x l).0 (back l)).0)) q
+  stored-onto v t u b takes here x h (inr k) q = λ lt sent back.
+      let less = less-written v t q (chosen _ _ x k).0 (back k) in
+      old x v h (inr k) q lt sent (λ l. less.0) ∙ sym (at_other (T v).bytes t b q less.1)
 
   -- and the primary strikes it off, or comes to contain it
   module _ (v t to : ℕ) (sends : its_secondary (T v) ≡ Some to) (B : ℕ → List ℕ) (here : (T to).bytes t ≡ B t) (there : (q : ℕ) → q ≢ t → B q ≡ (T v).bytes q) where
@@ -165,8 +173,8 @@ module _ (write : ℕ → Write) (T : Table) (structure : Structure T) (parts : 
   kept-pairs (Withdraw v) a = changed (Withdraw v) a (λ u h. target_first v a.related h) (λ u h k. target_part v a.related k)
   kept-pairs (Reverse v left) a = changed (Reverse v left) a (λ u h. target_first v a.resync.related h) (λ u h k. target_part v a.resync.related k)
   kept-pairs (Release v t) a = changed (Release v t) a (λ u h. target_first v a.related h) (λ u h k. target_part v a.related k)
-  kept-pairs (Store v t u last) a = changed (Store v t u last) a (λ x h. no_first v (chosen _ _ u a.takes).0 h) (stored-onto v t u _ a.takes (λ sent. refl))
-  kept-pairs (Mirror v t u w) a = changed (Mirror v t u w) a (λ x h. no_first v (chosen _ _ u a.takes).0 h) (stored-onto v t u _ a.takes (λ sent. false_true (or_parts _ _ sent).0 a.out))
+  kept-pairs (Store v t u last) a = changed (Store v t u last) a (λ x h. stored-from v t x _ h) (stored-onto v t u _ a.takes (λ sent. refl))
+  kept-pairs (Mirror v t u w) a = changed (Mirror v t u w) a (λ x h. stored-from v t x _ h) (stored-onto v t u _ a.takes (λ sent. false_true (or_parts _ _ sent).0 a.out))
   kept-pairs (Strike v t last) a =
       changed (Strike v t last) a (λ u h k q. struck-from v t a.to a.sends (T v).bytes a.equal (λ q ne. refl) u h k q (eqb_tells q t)) (λ u h k q. struck-onto v t a.to a.sends (T v).bytes a.equal (λ q ne. refl) u h k q (eqb_tells q t))
   kept-pairs (LandBoth w v t) a =

@@ -6,7 +6,7 @@ use Rattle.dr_model.specs.Histories.{Write}
 use Rattle.dr_model.specs.Pairs.{is_kind, is_metro}
 use Rattle.dr_model.specs.Relations.{is_bare, is_whole, turned, given_up}
 use Rattle.dr_model.specs.declared.state.Part.TheVariants.{Global}
-use Rattle.dr_model.specs.Moves.{Move, Land, Overwrite, Keep, Relate, Withdraw, Fetch, Reverse, Restore, Release, Store, Strike, Suspend, MakeSecondary, MakePrimary, DropPrimary, DropSecondary, TakeOver, FallBack, Yield, Unsync, LandBoth, Lift, Restart, Hold, Seal, Finish, RaiseAttempt, Flash, Commit, Revert, target}
+use Rattle.dr_model.specs.Moves.{Move, Land, Overwrite, Keep, Relate, Withdraw, Fetch, Reverse, Restore, Release, Store, Strike, Suspend, MakeSecondary, MakePrimary, DropPrimary, DropSecondary, TakeOver, FallBack, Yield, Unsync, LandBoth, Lift, Restart, Hold, Seal, Finish, RaiseAttempt, Flash, Commit, Revert, target, Mirror}
 use Rattle.dr_model.specs.Table.{Row, Table}
 use Rattle.dr_model.specs.Rows.{after, next_row}
 use Rattle.dr_model.specs.Laws.{Each, Linked, Structure, Parts, RowParts, Recorders, Seals, OneKind, SealedGlobal, AllSent, NoMetro, NoneRestored, NothingLeft, source, its_primary, its_secondary, fields}
@@ -86,7 +86,8 @@ module _ (write : ℕ → Write) (T : Table) (structure : Structure T) (parts : 
   kept-sent (Land w v t) a = let f = fields T v in sent (Land w v t) a
       (λ u h k rec nz is q. ap (λ s. contains s q) (landed_out (is_part f.primary) f.recording (insert f.out_of_sync t) f.out_of_sync rec) ∙ old.sent v u h k rec nz is q) (λ u. old.sent u v)
   kept-sent (Restore v t u) a = sent (Restore v t u) a (λ x h k rec. false_true a.idle rec) (λ x. old.sent x v)
-  kept-sent (Store v t u last) a = sent (Store v t u last) a (old.sent v) (λ x h k rec nz. absurd (nz refl))
+  kept-sent (Store v t u last) a = let f = fields T v in sent (Store v t u last) a (λ x h k rec nz is q. ap (λ s. contains s q) (landed_out (is_part f.primary) f.recording (insert f.out_of_sync t) f.out_of_sync rec) ∙ old.sent v x h k rec nz is q) (λ x h k rec nz. absurd (nz refl))
+  kept-sent (Mirror v t u w) a = let f = fields T v in sent (Mirror v t u w) a (λ x h k rec nz is q. ap (λ s. contains s q) (landed_out (is_part f.primary) f.recording (insert f.out_of_sync t) f.out_of_sync rec) ∙ old.sent v x h k rec nz is q) (λ x. old.sent x v)
   kept-sent (Strike v t last) a = sent (Strike v t last) a (λ u h k rec nz is q. contrary _ _ (removed (fields T v).out_of_sync t q) (old.sent v u h k rec nz is q)) (λ u. old.sent u v)
   kept-sent (Suspend v busy) a = sent (Suspend v busy) a (λ u h k rec. absurd cc) (λ u. old.sent u v)
   kept-sent (MakeSecondary v u kind state) a = sent (MakeSecondary v u kind state) a (old.sent v) (λ x h k rec nz. absurd (nz refl))
@@ -216,6 +217,10 @@ module _ (write : ℕ → Write) (T : Table) (structure : Structure T) (parts : 
   kept-flashed : (m : Move) → Allowed write T m → NothingLeft (after write T m)
   kept-flashed (Land w v t) a = let f = fields T v in sends-flashed (Land w v t) a
       (λ u x h p s rec e q. ap (λ s. contains s q) (landed_out (is_part f.primary) f.recording (insert f.out_of_sync t) f.out_of_sync rec) ∙ old.flashed v u x h p s rec e q) refl refl refl
+  kept-flashed (Mirror v t u w) a = let f = fields T v in sends-flashed (Mirror v t u w) a
+      (λ y x h p s rec e q. ap (λ s. contains s q) (landed_out (is_part f.primary) f.recording (insert f.out_of_sync t) f.out_of_sync rec) ∙ old.flashed v y x h p s rec e q) refl refl refl
+  kept-flashed (Store v t u last) a = let f = fields T v in sends-flashed (Store v t u last) a
+      (λ y x h p s rec e q. ap (λ s. contains s q) (landed_out (is_part f.primary) f.recording (insert f.out_of_sync t) f.out_of_sync rec) ∙ old.flashed v y x h p s rec e q) refl refl refl
   kept-flashed (Overwrite w v t) a = target-flashed (Overwrite w v t) a a.from a.related refl refl refl refl (ended-loop write T structure v _) (λ x u h p s r e. not_turned (is_whole (T v).volume.tracks (insert (fields T v).own t) && not (fields T v).persistent) (fields T v).revertible a.settled e)
   kept-flashed (Keep v t) a = target-flashed (Keep v t) a a.from a.related refl refl refl refl (ended-loop write T structure v _) (λ x u h p s r e. not_turned (is_whole (T v).volume.tracks (insert (fields T v).own t) && not (fields T v).persistent) (fields T v).revertible a.settled e)
   kept-flashed (Fetch v t) a = target-flashed (Fetch v t) a a.from a.related refl refl refl refl (ended-loop write T structure v _) (λ x u h p s r e. not_turned (is_whole (T v).volume.tracks (insert (fields T v).own t) && not (fields T v).persistent) (fields T v).revertible a.settled e)

@@ -23,17 +23,21 @@ pub record Kept (T : Table) (v t : ℕ) : Type 0 where
   pub noted : (u : ℕ) → source (T u) ≡ Some v → (fields T u).recorded ≡ true → (fields T u).reversing ≡ false → contains (fields T u).source_changes t ≡ true
   pub settled : (u : ℕ) → source (T u) ≡ Some v → (fields T u).revertible ≡ false
 
--- a host write lands on a track of a volume that is no target and no secondary, and that neither coordination nor a flash hold
--- holds; where it records, the track has been sent
-pub record MayLand (T : Table) (v t : ℕ) : Type 0 where
+-- Track t comes to volume v, from the host or from the primary of v: each target of v keeps its own, coordination doesn't hold v, and if v records, the
+-- track has been sent.
+pub record MayReceive (T : Table) (v t : ℕ) : Type 0 where
   pub low : t < (T v).volume.tracks
+  pub kept : Kept T v t
+  pub free : (fields T v).coordination ≡ false
+  pub sent : (fields T v).recording ≡ true → contains (fields T v).out_of_sync t ≡ false
+
+-- a host write lands on a track of a volume that is no target and no secondary, and has no flash hold
+pub record MayLand (T : Table) (v t : ℕ) : Type 0 where
+  pub receives : MayReceive T v t
   pub defined : (T v).defined ≡ true
   pub plain : source (T v) ≡ None
   pub first : is_part (fields T v).secondary ≡ false
-  pub kept : Kept T v t
-  pub free : (fields T v).coordination ≡ false
   pub let_go : (fields T v).flash_hold ≡ false
-  pub sent : (fields T v).recording ≡ true → contains (fields T v).out_of_sync t ≡ false
 
 -- or of a target that is neither revertible nor restored onto its source, and has no flash hold
 pub record MayOverwrite (T : Table) (v t : ℕ) : Type 0 where
@@ -114,13 +118,12 @@ pub record MayRelease (T : Table) (v t : ℕ) : Type 0 where
   pub holds : contains (fields T v).own t ≡ true
   pub equal : (T from).bytes t ≡ (T v).bytes t
 
--- secondary v stores a track of its primary u, which u has out of sync, and each target of v holds
+-- secondary v stores a track of its primary u, which u has out of sync
 pub record MayStore (T : Table) (v t u : ℕ) : Type 0 where
-  pub low : t < (T v).volume.tracks
+  pub receives : MayReceive T v t
   pub sends : its_secondary (T u) ≡ Some v
   pub takes : its_primary (T v) ≡ Some u
   pub out : contains (fields T u).out_of_sync t ≡ true
-  pub kept : Kept T v t
 
 -- the secondary of v has what v strikes off; the last track is one of a Metro Mirror pair
 pub record MayStrike (T : Table) (v t : ℕ) (last : Bool) : Type 0 where
@@ -158,14 +161,13 @@ pub record MayUnsync (T : Table) (v t : ℕ) : Type 0 where
   pub low : t < (T v).volume.tracks
   pub metro : is_metro (fields T v).primary ≡ true
 
--- secondary v stores a host write on a track of its Metro Mirror primary u, which u has out of sync, and each target of v holds
+-- secondary v stores a host write on a track of its Metro Mirror primary u, which u has out of sync
 pub record MayMirror (T : Table) (v t u : ℕ) : Type 0 where
-  pub low : t < (T v).volume.tracks
+  pub receives : MayReceive T v t
   pub metro : is_metro (fields T u).primary ≡ true
   pub sends : its_secondary (T u) ≡ Some v
   pub takes : its_primary (T v) ≡ Some u
   pub out : contains (fields T u).out_of_sync t ≡ true
-  pub kept : Kept T v t
 
 -- a host write lands on a track of a Metro Mirror primary v whose secondary has stored it
 pub record MayLandBoth (write : ℕ → Write) (T : Table) (n v t : ℕ) : Type 0 where

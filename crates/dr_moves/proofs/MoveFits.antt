@@ -132,7 +132,7 @@ module _ (s : PlantState) (c : ConfigTable) (fit : RelationsFit s c) where
   fits (Reverse v left) write lawful asks = restored-fits v (turned (volume_seen s c v).fields) (lawful-turned (volume_seen s c v).tracks (volume_seen s c v).fields lawful asks.0) refl refl refl asks.0 asks.1
   fits (Restore v t u) write lawful asks = kept-fits v (altered (volume_seen s c v).fields t) (Some (t, track_seen s c u t)) (lawful-altered (volume_seen s c v).tracks (volume_seen s c v).fields lawful t asks) (covers-carried (volume_seen s c v).fields.blank t (track_seen s c u t)) refl refl (apart-less (volume_seen s c v).fields.own (volume_seen s c v).fields.blank t (fit.apart v))
   fits (Release v t) write lawful asks = restored-fits v (given_up (volume_seen s c v).fields t) (lawful-given_up (volume_seen s c v).tracks (volume_seen s c v).fields lawful t asks) refl refl refl asks (λ k h. fit.apart v k (removed _ t k h))
-  fits (Store v t u last) write lawful asks = kept-fits v (received last (volume_seen s c v).fields t) (Some (t, track_seen s c u t)) (lawful-received (volume_seen s c v).tracks (volume_seen s c v).fields lawful last t asks.1) (covers-carried (volume_seen s c v).fields.blank t (track_seen s c u t)) refl refl (apart-less (volume_seen s c v).fields.own (volume_seen s c v).fields.blank t (fit.apart v))
+  fits (Store v t u last) write lawful asks = kept-fits v (received last (volume_seen s c v).fields t) (Some (t, track_seen s c u t)) (lawful-received (volume_seen s c v).tracks (volume_seen s c v).fields lawful last t asks.0 asks.1) (covers-carried (volume_seen s c v).fields.blank t (track_seen s c u t)) refl refl (apart-less (volume_seen s c v).fields.own (volume_seen s c v).fields.blank t (fit.apart v))
   fits (Strike v t last) write lawful asks = kept-fits v (struck last (volume_seen s c v).fields t) None (lawful-struck (volume_seen s c v).tracks (volume_seen s c v).fields lawful last t asks) (covers-all (volume_seen s c v).fields.blank None) refl refl (fit.apart v)
   fits (Suspend v busy) write lawful asks = kept-fits v (suspended busy (volume_seen s c v).fields) None (lawful-suspended (volume_seen s c v).tracks (volume_seen s c v).fields lawful busy asks) (covers-all (volume_seen s c v).fields.blank None) refl refl (fit.apart v)
   fits (Unstage v) write lawful asks = kept-fits v (volume_seen s c v).fields None lawful (covers-all (volume_seen s c v).fields.blank None) refl refl (fit.apart v)
@@ -146,7 +146,7 @@ module _ (s : PlantState) (c : ConfigTable) (fit : RelationsFit s c) where
   fits (FallBack v more state) write lawful asks = kept-fits v (fallen_back more state (volume_seen s c v).fields) None (lawful-fallen_back (volume_seen s c v).tracks (volume_seen s c v).fields lawful more state asks.0 asks.1) (covers-all (volume_seen s c v).fields.blank None) refl refl (fit.apart v)
   fits (Yield v u kind state) write lawful asks = kept-fits v (yielded u kind state (volume_seen s c v).fields) None (lawful-yielded (volume_seen s c v).tracks (volume_seen s c v).fields lawful u kind state asks) (covers-all (volume_seen s c v).fields.blank None) refl refl (fit.apart v)
   fits (Unsync v t) write lawful asks = kept-fits v (unsynced (volume_seen s c v).fields t) None (lawful-unsynced (volume_seen s c v).tracks (volume_seen s c v).fields lawful t asks.0 asks.1) (covers-all (volume_seen s c v).fields.blank None) refl refl (fit.apart v)
-  fits (Mirror v t u w) write lawful asks = kept-fits v (mirrored (volume_seen s c v).fields t) (Some (t, with_write write (track_seen s c u t) w)) (lawful-mirrored (volume_seen s c v).tracks (volume_seen s c v).fields lawful t) (covers-carried (volume_seen s c v).fields.blank t (with_write write (track_seen s c u t) w)) refl refl (apart-less (volume_seen s c v).fields.own (volume_seen s c v).fields.blank t (fit.apart v))
+  fits (Mirror v t u w) write lawful asks = kept-fits v (mirrored (volume_seen s c v).fields t) (Some (t, with_write write (track_seen s c u t) w)) (lawful-mirrored (volume_seen s c v).tracks (volume_seen s c v).fields lawful t asks) (covers-carried (volume_seen s c v).fields.blank t (with_write write (track_seen s c u t) w)) refl refl (apart-less (volume_seen s c v).fields.own (volume_seen s c v).fields.blank t (fit.apart v))
   fits (LandBoth w v t) write lawful asks = kept-fits v (synced (volume_seen s c v).fields t) (Some (t, with_write write (track_seen s c v t) w)) (lawful-synced (volume_seen s c v).tracks (volume_seen s c v).fields lawful t asks.1) (covers-carried (volume_seen s c v).fields.blank t (with_write write (track_seen s c v t) w)) refl refl (apart-less (volume_seen s c v).fields.own (volume_seen s c v).fields.blank t (fit.apart v))
   fits (Thaw v) write lawful asks = kept-fits v (thawed (volume_seen s c v).fields) None (lawful-thawed (volume_seen s c v).tracks (volume_seen s c v).fields lawful) (covers-all (volume_seen s c v).fields.blank None) refl refl (fit.apart v)
   fits (FlashHold v) write lawful asks = kept-fits v (flash_held (volume_seen s c v).fields) None (lawful-flash_held (volume_seen s c v).tracks (volume_seen s c v).fields lawful) (covers-all (volume_seen s c v).fields.blank None) refl refl (fit.apart v)
