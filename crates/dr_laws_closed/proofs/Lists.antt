@@ -7,7 +7,7 @@ use Rattle.dr_model.specs.Moves.{Move, Land, Overwrite, Relate, Withdraw, Resync
 use Rattle.dr_model.specs.Table.{Table, table}
 use Rattle.dr_model.specs.Laws.{SoundRows, source, fields}
 use Rattle.dr_model.specs.Allowed.{Allowed, Ready}
-use Rattle.dr_laws_cuts.proofs.Still.{first, target-still, second-still}
+use Rattle.dr_laws_cuts.proofs.Still.{first, target-still}
 use Rattle.dr_laws_closed.specs.Next.{Untouched}
 use Rattle.dr_logic.proofs.Truth.{false_true}
 

@@ -14,7 +14,7 @@ use Rattle.dr_model.specs.Allowed.{Allowed, MayHold}
 use Rattle.dr_model.specs.Cuts.{Cuts, CutsFit, RowCuts, UnsentAsAtCut, IsCalm, next_cuts, at_cut}
 use Rattle.dr_facts.proofs.Tables.{at_cases, each-but, at2_cases, at2_other}
 use Rattle.dr_laws_cuts.proofs.Sets.{none_by}
-use Rattle.dr_laws_cuts.proofs.Still.{first, target-still, second-still, metro-still}
+use Rattle.dr_laws_cuts.proofs.Still.{first, target-still, metro-still}
 use Rattle.dr_model.proofs.LawfulLemmas.{removed}
 use Rattle.dr_facts.proofs.Tracks.{landed_out, lifted_out}
 use Rattle.dr_logic.proofs.Truth.{false_true}

@@ -30,7 +30,7 @@ use Rattle.dr_laws_freezes.proofs.KeepsMirror.{still-unacked}
 use Rattle.dr_laws_sound.proofs.KeepsRecorders.{none-written}
 use Rattle.std.specs.List.{list_any}
 use Rattle.dr_facts.proofs.Tracks.{empty_has, bare-has, not_removed_from}
-use Rattle.dr_facts.proofs.Parts.{no-metro, metro-part}
+use Rattle.dr_facts.proofs.Parts.{no-metro, metro-second}
 use Rattle.dr_logic.proofs.Truth.{false_true}
 use Rattle.dr_logic.proofs.Choices.{chosen}
 use Rattle.dr_logic.proofs.Tables.{off_later}
@@ -105,9 +105,9 @@ Unheld f (Store v t u last) = is_metro f.primary ≡ false
 Unheld f (Mirror v t u n) = is_metro f.primary ≡ false
 Unheld f m = Unit {0}
 
--- since a secondary is no primary
+-- since a secondary is no primary of Metro Mirror
 second-plain : (w : World) → SoundRows (table w) → (v u : ℕ) → its_primary (table w v) ≡ Some u → is_metro (fields_at w.control v).primary ≡ false
-second-plain w rows v u takes = false_from_ne_true (is_metro (fields_at w.control v).primary) (λ m. false_true ((rows.parts.one v).one (metro-part (fields_at w.control v).primary m)) (chosen _ _ u takes).0)
+second-plain w rows v u takes = false_from_ne_true (is_metro (fields_at w.control v).primary) (λ m. false_true (metro-second (table w v) (rows.parts.fit v) m) (chosen _ _ u takes).0)
 
 pub unheld : (w : World) → SoundRows (table w) → (m : Move) → MayCome w m → Unheld (fields_at w.control (target m)) m
 unheld w rows (Hold v s n first) may = no-metro (fields_at w.control v).primary may.allowed.global

@@ -130,7 +130,7 @@ sent-into vs a b (t ∷ ts) w u s on leads =
     let one : Split w u (send_entries vs a b t) (sends vs a b ts) = carry-split w u (send_entries vs a b t) (sends vs a b ts) leads in
     let parts = none-both (reach_refusal a b w.control) _ (can-send a b w one.middle _ on one.first).free in
     let second = (and_parts (is_part (fields_at w.control b).secondary) _ (met (belongs_to a b w.control) (pair_state w.control b) parts.1)).0 in
-    inr (false_from_ne_true (is_part (fields_at w.control b).primary) (λ h. false_true ((s.rows.parts.one b).one h) second))
+    inr (false_from_ne_true (is_part (fields_at w.control b).primary) (λ h. false_true (s.uncascaded b h) second))
 
 module _ (w : World) (s : Sound w) (m : Member) where
   -- one of them

@@ -22,10 +22,10 @@ use Rattle.dr_model.specs.Table.{table}
 use Rattle.dr_model.specs.Laws.{Sound}
 use Rattle.dr_model.specs.Allowed.{Runs}
 use Rattle.dr_facts.proofs.Sets.{if_true, not_removed}
-use Rattle.dr_laws_cuts.proofs.Still.{second-receives}
+use Rattle.dr_laws_cuts.proofs.Still.{plain-receives}
 use Rattle.dr_laws_sound.proofs.Turns.{done, next_of, carried_in}
 use Rattle.dr_laws_sound.proofs.RowsAfter.{idle}
-use Rattle.dr_laws_sound.proofs.KeepsStructure.{kind_part}
+use Rattle.dr_laws_sound.proofs.KeepsStructure.{revertible-not as other-none, kind_part}
 use Rattle.dr_laws_sound.proofs.KeepsParts.{unrelated, unrelated_primary}
 use Rattle.dr_laws_sound.proofs.KeepsSound.{Along, Then, decides}
 use Rattle.dr_laws_sound.proofs.Cases.{one-passed}
@@ -52,7 +52,7 @@ pub plain-primary : (w : World) → Sound w → (v : ℕ) → is_part (fields_at
 plain-primary w s v first = by (fields_at w.control v).related refl
   where
     by : (b : Bool) → (fields_at w.control v).related ≡ b → b ≡ false
-    by true is = false_true ((s.rows.parts.one v).no_primary is) first
+    by true is = false_true ((s.rows.parts.fit v).no_primary is) first
     by false is = refl
 
 -- of the targets of a volume none is so
@@ -254,7 +254,7 @@ module _ (w : World) (s : Sound w) (p : Pending) (one : filter (is_write p.w) w.
           record {
             runs = sent.on_u;
             allowed = record {
-              receives = second-receives (table k) sk.rows u v t takes_k (subst (λ (z : Volume). t < z.tracks) (sym here_u) low_u) kept;
+              receives = plain-receives (table k) sk.rows u t (other-none _ (sk.uncascaded u) (chosen _ _ v takes_k).0) (subst (λ (z : Volume). t < z.tracks) (sym here_u) low_u) kept;
               sends = leads;
               takes = takes_k;
               out = (and_parts g.recording _ (and_parts (is_kind Global g.primary) _ sent.hits).1).1;

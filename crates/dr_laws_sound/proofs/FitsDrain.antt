@@ -18,7 +18,8 @@ use Rattle.dr_model.specs.Table.{table}
 use Rattle.dr_model.specs.Laws.{Sound, Once}
 use Rattle.dr_model.specs.Allowed.{Runs}
 use Rattle.dr_facts.proofs.Sets.{if_true, remove_other}
-use Rattle.dr_laws_cuts.proofs.Still.{second-receives}
+use Rattle.dr_laws_cuts.proofs.Still.{plain-receives}
+use Rattle.dr_laws_sound.proofs.KeepsStructure.{revertible-not as other-none}
 use Rattle.dr_laws_sound.proofs.Turns.{done, next_of, carried_in}
 use Rattle.dr_laws_sound.proofs.RowsAfter.{idle}
 use Rattle.dr_laws_sound.proofs.KeepsParts.{unrelated, unrelated_primary}
@@ -27,7 +28,7 @@ use Rattle.dr_laws_sound.proofs.CopyFirst.{from, copy-first}
 use Rattle.dr_laws_sound.proofs.Lands.{Unflashed, unflashed-by}
 use Rattle.dr_laws_sound.proofs.FitsFlash.{as_begun, sound-begun}
 use Rattle.std.specs.Cmp.{nat_cmp_total}
-use Rattle.dr_laws_sound.proofs.FitsPairs.{refused, reached, its-first, row, runs-done, part-same}
+use Rattle.dr_laws_sound.proofs.FitsPairs.{refused, reached, its-first, row, runs-done}
 use Rattle.dr_logic.proofs.Choices.{chosen, choose_some, not_chosen}
 use Rattle.dr_facts.proofs.Refusals.{none-both, met}
 use Rattle.dr_facts.proofs.Tables.{at_part}
@@ -183,7 +184,7 @@ module _ (volumes : List ℕ) (a b n : ℕ) where
         decides k (store_on a b t) _ (Do (Make (Store b t a last))) refl (
           record {
             runs = on_k;
-            allowed = record { receives = second-receives (table k) sk.rows b a t takes_k (subst (λ (u : Volume). t < u.tracks) (sym here_b) low_b) kept; sends = lasts.to; takes = takes_k; out = outs.0 };
+            allowed = record { receives = plain-receives (table k) sk.rows b t (other-none _ (sk.uncascaded b) (chosen _ _ a takes_k).0) (subst (λ (u : Volume). t < u.tracks) (sym here_b) low_b) kept; sends = lasts.to; takes = takes_k; out = outs.0 };
             fits = tt;
             group = tt;
             ready = (idle k b sk.queue on_k, idle k a sk.queue lasts.on);

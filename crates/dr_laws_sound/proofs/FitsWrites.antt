@@ -19,7 +19,8 @@ use Rattle.dr_model.specs.Laws.{Sound}
 use Rattle.dr_model.specs.Allowed.{Kept, Runs}
 use Rattle.dr_model.proofs.Images.{histories-append}
 use Rattle.dr_facts.proofs.Sets.{if_true}
-use Rattle.dr_laws_cuts.proofs.Still.{second-receives}
+use Rattle.dr_laws_cuts.proofs.Still.{plain-receives}
+use Rattle.dr_laws_sound.proofs.KeepsStructure.{revertible-not as other-none}
 use Rattle.dr_laws_sound.proofs.Turns.{done, next_of, carried_in}
 use Rattle.dr_laws_sound.proofs.RowsAfter.{idle}
 use Rattle.dr_laws_sound.proofs.KeepsParts.{unrelated, unrelated_primary}
@@ -34,7 +35,7 @@ use Rattle.dr_logic.proofs.Choices.{chosen, choose_some}
 use Rattle.dr_logic.proofs.Options.{none_there}
 use Rattle.dr_logic.proofs.Truth.{and-second-false, false_true}
 use Rattle.dr_logic.proofs.Sets.{in_insert}
-use Rattle.dr_facts.proofs.Parts.{metro-part}
+use Rattle.dr_facts.proofs.Parts.{metro-part, metro-second}
 use Rattle.dr_facts.proofs.Refusals.{none-both, met}
 use Rattle.dr_logic.proofs.Tables.{at_same, at_other}
 
@@ -133,7 +134,7 @@ module _ (w : World) (s : Sound w) (p : Pending) (one : filter (is_write p.w) w.
               receives = record { low = held.low; kept = kept; free = back.0; sent = λ r. false_true (metro-idle (table k v) (y.rows.recorders v) b.metro) r };
               defined = held.defined;
               plain = plain_v k y b;
-              first = (y.rows.parts.one v).one (chosen (is_part (fields_at k.control v).primary) _ u b.to).0;
+              first = metro-second (table k v) (y.rows.parts.fit v) b.metro;
               let_go = back.1;
             };
             metro = b.metro;
@@ -160,7 +161,7 @@ module _ (w : World) (s : Sound w) (p : Pending) (one : filter (is_write p.w) w.
         let held = waits k y p b.one_is in
         moves k m _ (record {
           runs = b.on_u;
-          allowed = record { receives = second-receives (table k) y.rows u v t b.takes (low_u k y b) kept; metro = b.metro; sends = b.to; takes = b.takes; out = b.out };
+          allowed = record { receives = plain-receives (table k) y.rows u t (other-none _ (y.uncascaded u) (chosen _ _ v b.takes).0) (low_u k y b) kept; metro = b.metro; sends = b.to; takes = b.takes; out = b.out };
           fits = tt;
           group = tt;
           ready = record { number = held.number; volume = held.volume; track = held.track; idle = idle k u y.queue b.on_u; from_idle = idle k v y.queue b.on_v };
