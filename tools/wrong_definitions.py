@@ -479,6 +479,81 @@ ROWS = [
          "counted-dropped n c [] f h = record { made = omega arith; starts = h.starts; epochs = h.epochs; numbers = λ m here. absurd here; once = h.once; homes = h.homes }\n"
          "counted-dropped n c (m ∷ ms) f h = h\n\ncounted-left : (n c s l : ℕ)"),
     ),
+    Row(
+        "received_track_joins_out_of_sync",
+        "a track that comes to a recording volume is out of sync, and isn't noted as changed since",
+        (spec("Pairs"), "out_of_sync = if is_part f.primary && not f.recording then insert f.out_of_sync t else f.out_of_sync;\n  change_recording = if is_part f.primary && f.recording then insert f.change_recording t else f.change_recording;",
+         "out_of_sync = if is_part f.primary then insert f.out_of_sync t else f.out_of_sync;"),
+        (facts("Lawful"), "(low-more (is_part f.primary && not f.recording) f.out_of_sync t lt old.out_of_sync_low) (low-more (is_part f.primary && f.recording) f.change_recording t lt old.change_recording_low)",
+         "(low-more (is_part f.primary) f.out_of_sync t lt old.out_of_sync_low) old.change_recording_low"),
+        (facts("Lawful"), "if_false _ _ (ap (λ b. b && not f.recording) h) ∙ o.5, if_false _ _ (ap (λ b. b && f.recording) h) ∙ o.6))", "if_false _ _ h ∙ o.5, o.6))"),
+    ),
+    Row(
+        "received_track_joins_no_set",
+        "a track that a secondary receives is stored, and neither out of sync nor noted as changed where the secondary is a primary too",
+        (spec("Pairs"), "received last f t = record (written f t) { seal = 0;", "received last f t = record f { blank = remove f.blank t; seal = 0;"),
+        (facts("Lawful"), "lawful-received last t lt is = let w = lawful-written t lt in lawful-paired (received last f t) w.sets.out_of_sync_low w.sets.change_recording_low (blank-less t) w.primary (λ h. false_true h is)",
+         "lawful-received last t lt is = lawful-paired (received last f t) old.out_of_sync_low old.change_recording_low (blank-less t) law.primary (λ h. false_true h is)"),
+        ("dr_laws_cuts/proofs/KeepsCut.antt", "unsent (Store v t u last) (λ rec. landed-there v t _ _ rec (landed_out (is_part f.primary) f.recording (insert f.out_of_sync t) f.out_of_sync rec)", "unsent (Store v t u last) (λ rec. landed-there v t _ _ rec refl"),
+        ("dr_laws_cuts/proofs/KeepsSent.antt", "sent (Store v t u last) a (λ x h rec k q lt i. old.sent v x h rec k q lt (ap (λ x. contains x q) (sym (landed_out (is_part f.primary) f.recording (insert f.out_of_sync t) f.out_of_sync rec)) ∙ i))", "sent (Store v t u last) a (old.sent v)"),
+        (sound("KeepsSeals"), "sent (Store v t u last) a (λ x h k rec nz is q. ap (λ s. contains s q) (landed_out (is_part f.primary) f.recording (insert f.out_of_sync t) f.out_of_sync rec) ∙ old.sent v x h k rec nz is q)", "sent (Store v t u last) a (old.sent v)"),
+        (sound("KeepsRecorders"), "changed (Store v t u last) (record { holds = o.holds; global = o.global; pending = o.pending; none = λ h. none-written (is_part f.primary) f.recording f.change_recording t h (o.none h) })", "changed (Store v t u last) (record { holds = o.holds; global = o.global; pending = o.pending; none = o.none })"),
+    ),
+    Row(
+        "received_beside_a_hold",
+        "a track comes to a volume that coordination holds",
+        (spec("Allowed"), "  pub free : (fields T v).coordination ≡ false\n  pub sent", "  pub sent"),
+        ("dr_laws_cuts/proofs/Still.antt", "kept = kept; free = free (fields T v).coordination refl; sent", "kept = kept; sent"),
+    ),
+    Row(
+        "received_before_it_is_sent",
+        "a track comes to a recording volume that still has to send what the track was",
+        (spec("Allowed"), "\n  pub sent : (fields T v).recording ≡ true → contains (fields T v).out_of_sync t ≡ false", ""),
+        ("dr_laws_cuts/proofs/Still.antt", "; sent = λ rec. false_true plain (first v rec) }", " }"),
+    ),
+    Row(
+        "leaving_drops_what_is_unsent",
+        "a volume that leaves its primary has nothing out of sync from then on",
+        (spec("Moves"), "fields_left (LeavePrimary v) u = no_secondary u.fields", "fields_left (LeavePrimary v) u = record (no_secondary u.fields) { out_of_sync = empty }"),
+        (spec("Moves"), "FinSet.{contains}", "FinSet.{contains, empty}"),
+        (facts("Lawful"), "  pub lawful-taken_over :",
+         "  pub lawful-emptied : IsLawful n (record (no_secondary f) { out_of_sync = empty })\n"
+         "  lawful-emptied = lawful-paired (record (no_secondary f) { out_of_sync = empty }) (in_none _) old.change_recording_low old.blank_low (λ h. let o = law.primary h in (o.0, o.1, o.2, o.3, o.4, refl, o.6)) (λ h. (refl, refl, refl))\n\n"
+         "  pub lawful-taken_over :"),
+        (sound("KeepsStructure"), "(LeavePrimary v) (lawful-no_secondary _ _ (old.lawful v))", "(LeavePrimary v) (lawful-emptied _ _ (old.lawful v))"),
+        (sound("KeepsStructure"), "lawful-no_secondary, ", "lawful-no_secondary, lawful-emptied, "),
+    ),
+    Row(
+        "leaving_is_not_told",
+        "a volume leaves its primary, and the journal isn't told that it was taken over",
+        (spec("Moves"), "told (LeavePrimary v) u = TakenOver v ∷ []\n", ""),
+        (facts("Emits"), "emits (LeavePrimary v) = Takes ∷ []\n", ""),
+        (facts("Emits"), "TakeOver, LeavePrimary, ", "TakeOver, "),
+        seen=False,
+    ),
+    Row(
+        "any_secondary_becomes_a_primary",
+        "a secondary of Global Copy becomes a primary, and so does one of its own new partner",
+        (spec("Allowed"), "pub second : is_part (fields T v).secondary ≡ true → Cascaded kind u (fields T v).secondary (fields T v).secondary_partner", "pub second : is_part (fields T v).secondary ≡ true → kind ≡ Global"),
+        (spec("Allowed"), "Laws.{Cascaded, source", "Laws.{source"),
+        (spec("Allowed"), "pub from_free : is_part (fields T u).secondary ≡ true → Cascaded kind v (fields T u).secondary (fields T u).secondary_partner", "pub from_free : is_part (fields T u).secondary ≡ true → v ≢ (fields T u).secondary_partner"),
+    ),
+    Row(
+        "primaries_of_each_other",
+        "the new primary of a volume may be its secondary",
+        (spec("Allowed"), "pub from_free : is_part (fields T u).secondary ≡ true → Cascaded kind v (fields T u).secondary (fields T u).secondary_partner", "pub from_free : is_part (fields T u).secondary ≡ true → is_metro (fields T u).secondary ≡ true"),
+    ),
+    Row(
+        "secondary_of_a_member_is_cascaded",
+        "the secondary of a member becomes a primary, and stays a secondary",
+        (spec("Attempts"), "InAttempt k (MakePrimary v u kind state full) = is_part (fields_at k v).secondary ≡ true → SecondaryOfNone k v\n", ""),
+        (spec("Attempts"), "MakeSecondary, MakePrimary, Yield, Hold,", "MakeSecondary, Yield, Hold,"),
+    ),
+    Row(
+        "pair_excused_by_what_its_secondary_has_not_sent",
+        "both volumes of a pair contain the same outside what either has unsent, also where the secondary has it unsent to a third",
+        (spec("Laws"), "unsent r t ≡ false → (its_secondary s ≡ Some v → unsent s t ≡ false) → r.bytes t ≡ s.bytes t", "unsent r t ≡ false → unsent s t ≡ false → r.bytes t ≡ s.bytes t"),
+    ),
 ]
 
 

@@ -9,7 +9,7 @@ use Rattle.dr_model.specs.Control.{Volume}
 use Rattle.dr_model.specs.Layout.{Tracks}
 use Rattle.dr_model.specs.Relations.{rest, in_order, is_bare, turned, given_up}
 use Rattle.dr_model.specs.Pairs.{is_suspended}
-use Rattle.dr_model.specs.Moves.{Move, Land, Overwrite, Keep, Relate, Withdraw, Fetch, Resync, Reverse, Restore, Release, Store, Suspend, TakeOver, Mirror, LandBoth, FlashHold, FlashFree, Lift, Hold, Seal, Leave, Flash, Commit, Revert, told, told_in_stop, told_blank, told_restored}
+use Rattle.dr_model.specs.Moves.{Move, Land, Overwrite, Keep, Relate, Withdraw, Fetch, Resync, Reverse, Restore, Release, Store, Suspend, TakeOver, LeavePrimary, Mirror, LandBoth, FlashHold, FlashFree, Lift, Hold, Seal, Leave, Flash, Commit, Revert, told, told_in_stop, told_blank, told_restored}
 use Rattle.dr_model.specs.Carry.{Act, Make, OpenAttempt, Redo, Acknowledge, Drop, EndFreeze, EndThaw, EndRecovery}
 
 -- kinds of events
@@ -95,6 +95,7 @@ emits (Release v t) = Blanks ∷ Restores ∷ []
 emits (Store v t u last) = Sends ∷ []
 emits (Suspend v busy) = Suspends ∷ []
 emits (TakeOver v) = Takes ∷ []
+emits (LeavePrimary v) = Takes ∷ []
 emits (Mirror v t u n) = Mirrors ∷ []
 emits (LandBoth n v t) = Acks ∷ []
 emits (FlashHold v) = Holds ∷ []

@@ -200,8 +200,8 @@ module _ (n : ℕ) (f : Fields) (law : IsLawful n f) where
       (blank-less t) (λ h. let o = law.primary h in (o.0, o.1, o.2, o.3, o.4, if_false _ _ (ap (λ b. b && not f.recording) h) ∙ o.5, if_false _ _ (ap (λ b. b && f.recording) h) ∙ o.6)) law.secondary
 
   -- a secondary stores a track, its primary strikes it off
-  pub lawful-received : (last : Bool) (t : ℕ) → is_part f.secondary ≡ true → IsLawful n (received last f t)
-  lawful-received last t is = lawful-paired (received last f t) old.out_of_sync_low old.change_recording_low (blank-less t) law.primary (λ h. false_true h is)
+  pub lawful-received : (last : Bool) (t : ℕ) → t < n → is_part f.secondary ≡ true → IsLawful n (received last f t)
+  lawful-received last t lt is = let w = lawful-written t lt in lawful-paired (received last f t) w.sets.out_of_sync_low w.sets.change_recording_low (blank-less t) w.primary (λ h. false_true h is)
 
   pub lawful-struck : (last : Bool) (t : ℕ) → is_part f.primary ≡ true → IsLawful n (struck last f t)
   lawful-struck last t is = lawful-paired (struck last f t) (λ q h. old.out_of_sync_low q (removed f.out_of_sync t q h)) old.change_recording_low old.blank_low (λ h. false_true h is) law.secondary
@@ -248,8 +248,8 @@ module _ (n : ℕ) (f : Fields) (law : IsLawful n f) where
   pub lawful-unsynced : (t : ℕ) → t < n → is_part f.primary ≡ true → IsLawful n (unsynced f t)
   lawful-unsynced t lt is = lawful-paired (unsynced f t) (in_more f.out_of_sync t (λ q. q < n) lt old.out_of_sync_low) old.change_recording_low old.blank_low (λ h. false_true h is) law.secondary
 
-  pub lawful-mirrored : (t : ℕ) → IsLawful n (mirrored f t)
-  lawful-mirrored t = lawful-paired (mirrored f t) old.out_of_sync_low old.change_recording_low (blank-less t) law.primary law.secondary
+  pub lawful-mirrored : (t : ℕ) → t < n → IsLawful n (mirrored f t)
+  lawful-mirrored t lt = lawful-written t lt
 
   pub lawful-synced : (t : ℕ) → is_part f.primary ≡ true → IsLawful n (synced f t)
   lawful-synced t is = lawful-paired (synced f t) (λ q h. old.out_of_sync_low q (removed f.out_of_sync t q h)) old.change_recording_low (blank-less t) (λ h. false_true h is) law.secondary

@@ -11,7 +11,7 @@ use Rattle.dr_model.specs.Views.{source_of}
 use Rattle.dr_model.specs.Relations.{is_whole, is_bare, parted_if, turned, given_up, fetched, noted, rewritten}
 use Rattle.dr_model.specs.Pairs.{primary_of, is_secondary_of}
 use Rattle.dr_model.specs.Phases as phases
-use Rattle.dr_model.specs.Moves.{Move, Overwrite, Keep, Relate, Withdraw, Fetch, Resync, Reverse, Release, Store, Suspend, MakeSecondary, MakePrimary, DropPrimary, Yield, DropSecondary, TakeOver, FallBack, Lift, Restart, Hold, Free, Seal, Finish, RaiseAttempt, RaiseFloor, Leave, Flash, Commit, Revert, Carried, moved_keeping, target, next_fields}
+use Rattle.dr_model.specs.Moves.{Move, Overwrite, Keep, Relate, Withdraw, Fetch, Resync, Reverse, Release, Store, Suspend, MakeSecondary, MakePrimary, DropPrimary, Yield, DropSecondary, TakeOver, LeavePrimary, FallBack, Lift, Restart, Hold, Free, Seal, Finish, RaiseAttempt, RaiseFloor, Leave, Flash, Commit, Revert, Carried, moved_keeping, target, next_fields}
 use Rattle.dr_model.specs.Entries.{fields_at, is_at, copies_from}
 use Rattle.dr_model.specs.SessionEntries.{may_flash}
 use Rattle.dr_model.specs.Sessions.{Session}
@@ -364,6 +364,7 @@ module _ (k : Control) (groups : Groups k) (law : Attempts k) where
   keeps flights (Restart v) a = silenced v
   keeps flights (DropSecondary v) a = freed v
   keeps flights (TakeOver v) a = taken v
+  keeps flights (LeavePrimary v) a = freed v
   keeps flights (Hold v s n first) a = let p : IsMember k v s = a.0.place in
       tried v n true true (λ z m i here e. at-place (λ z m. m.a.0 ≡ v → MayTry k.flight z.number (phase_of z.mirror) z.last (all_seen T z.members) (seen T m) n true true) v p.session p.member p.listed p.here (inl (sym p.is))
       (λ e. record {

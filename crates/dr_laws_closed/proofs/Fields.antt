@@ -3,7 +3,7 @@ use Rattle.std.proofs.Common.{ℕ, ◌≡◌, ◌≢◌, refl, sym, true, false,
 use Rattle.dr_model.specs.Layout.{Fields}
 use Rattle.dr_model.specs.Control.{Volume}
 use Rattle.dr_model.specs.Pairs.{primary_of}
-use Rattle.dr_model.specs.Moves.{Move, Overwrite, Keep, Relate, Withdraw, Fetch, Reverse, Release, Flash, Commit, Revert, Store, Suspend, MakeSecondary, MakePrimary, DropPrimary, DropSecondary, TakeOver, FallBack, Yield, Lift, Restart, Hold, Free, Seal, Finish, RaiseAttempt, fields_left}
+use Rattle.dr_model.specs.Moves.{Move, Overwrite, Keep, Relate, Withdraw, Fetch, Reverse, Release, Flash, Commit, Revert, Store, Suspend, MakeSecondary, MakePrimary, DropPrimary, DropSecondary, TakeOver, LeavePrimary, FallBack, Yield, Lift, Restart, Hold, Free, Seal, Finish, RaiseAttempt, fields_left}
 use Rattle.dr_laws_cuts.proofs.Told.{TellsNoCut}
 use Rattle.dr_laws_attempts.proofs.Facts.{stood}
 use Rattle.dr_logic.proofs.Truth.{false_true}
@@ -62,5 +62,6 @@ was-sealed (Store v t p last) u other a k some to is = absurd (some (sym is))
 was-sealed (MakeSecondary v p kind state) u other a k some to is = absurd (some (sym is))
 was-sealed (Yield v p kind state) u other a k some to is = absurd (some (sym is))
 was-sealed (DropSecondary v) u other a k some to is = absurd (some (sym is))
+was-sealed (LeavePrimary v) u other a k some to is = absurd (some (sym is))
 was-sealed (TakeOver v) u other a k some to is = absurd (some (sym is))
 was-sealed m u other a k some to is = (to, is)

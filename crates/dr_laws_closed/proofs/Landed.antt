@@ -52,7 +52,7 @@ module _ (w : World) (free : LandedFree (fields_at w.control) w.control.pending)
   marks n v t off coming = free-marked (fields_at w.control) n w.control.pending free (each-on (λ p c. subst (λ j. (fields_at w.control j).coordination ≡ false) (sym c.volume) off) _ coming)
 
   pub stopped-free : SoundRows (table w) → (m : Move) → Allowed (histories w.events).write (table w) m → Ready w m → LandedFree (fields_at w.control) (settled_in_stop m w.control.pending)
-  stopped-free rows (Land n v t) a ready = marks n v t a.free ready.coming
+  stopped-free rows (Land n v t) a ready = marks n v t a.receives.free ready.coming
   stopped-free rows (Overwrite n v t) a ready = marks n v t (target-free (table w) rows v a.from a.related) ready.coming
-  stopped-free rows (LandBoth n v t) a ready = marks n v t a.land.free ready.coming
+  stopped-free rows (LandBoth n v t) a ready = marks n v t a.land.receives.free ready.coming
   stopped-free rows m a ready = free

@@ -14,7 +14,7 @@ use Rattle.dr_model.specs.Allowed.{Allowed, MayHold}
 use Rattle.dr_model.specs.Cuts.{Cuts, CutsFit, RowCuts, UnsentAsAtCut, IsCalm, next_cuts, at_cut}
 use Rattle.dr_facts.proofs.Tables.{at_cases, each-but, at2_cases, at2_other}
 use Rattle.dr_laws_cuts.proofs.Sets.{none_by}
-use Rattle.dr_laws_cuts.proofs.Still.{first, target-still, second-still, metro-still}
+use Rattle.dr_laws_cuts.proofs.Still.{first, target-still, metro-still}
 use Rattle.dr_model.proofs.LawfulLemmas.{removed}
 use Rattle.dr_facts.proofs.Tracks.{landed_out, lifted_out}
 use Rattle.dr_logic.proofs.Truth.{false_true}
@@ -93,7 +93,7 @@ module _ (write : ℕ → Write) (T : Table) (rows : SoundRows T) (c : Cuts) (no
         (λ rec t lt i. calm t lt ∙ sym (held-here c now v s n write t))
         (λ u ne rec t lt i. old u rec t lt i ∙ sym (held-other c now v s n write (fields T u).attempt u t ne))
     kept-unsent (Land w v t) a calm = let f = fields T v in
-        unsent (Land w v t) (λ rec. landed-there v t _ _ rec (landed_out (is_part f.primary) f.recording (insert f.out_of_sync t) f.out_of_sync rec) (a.sent rec))
+        unsent (Land w v t) (λ rec. landed-there v t _ _ rec (landed_out (is_part f.primary) f.recording (insert f.out_of_sync t) f.out_of_sync rec) (a.receives.sent rec))
     kept-unsent (Overwrite w v t) a calm = unsent (Overwrite w v t) (λ rec. target-still T rows v a.from a.related rec)
     kept-unsent (Relate v s choices) a calm = unsent (Relate v s choices) (λ rec. false_true a.no_primary (first T rows v rec))
     kept-unsent (Withdraw v) a calm = unsent (Withdraw v) (λ rec. target-still T rows v a.from a.related rec)
@@ -101,8 +101,8 @@ module _ (write : ℕ → Write) (T : Table) (rows : SoundRows T) (c : Cuts) (no
     kept-unsent (Reverse v left) a calm = unsent (Reverse v left) (λ rec. target-still T rows v a.resync.from a.resync.related rec)
     kept-unsent (Release v t) a calm = unsent (Release v t) (λ rec. target-still T rows v a.from a.related rec)
     kept-unsent (Restore v t u) a calm = unsent (Restore v t u) (λ rec. false_true a.idle rec)
-    kept-unsent (Store v t u last) a calm = unsent (Store v t u last) (λ rec. second-still T rows v u a.takes rec)
-    kept-unsent (Mirror v t u w) a calm = unsent (Mirror v t u w) (λ rec. second-still T rows v u a.takes rec)
+    kept-unsent (Store v t u last) a calm = let f = fields T v in unsent (Store v t u last) (λ rec. landed-there v t _ _ rec (landed_out (is_part f.primary) f.recording (insert f.out_of_sync t) f.out_of_sync rec) (a.receives.sent rec))
+    kept-unsent (Mirror v t u w) a calm = let f = fields T v in unsent (Mirror v t u w) (λ rec. landed-there v t _ _ rec (landed_out (is_part f.primary) f.recording (insert f.out_of_sync t) f.out_of_sync rec) (a.receives.sent rec))
     kept-unsent (Flash v u p s n) a calm = unsent (Flash v u p s n) (λ rec. target-still T rows v a.resync.from a.resync.related rec)
     kept-unsent (Revert v p s n) a calm = unsent (Revert v p s n) (λ rec. target-still T rows v a.from a.related rec)
     kept-unsent (Strike v t last) a calm = unsent (Strike v t last) (λ rec q lt i. old v rec q lt (removed _ t q i))

@@ -11,19 +11,19 @@ use Rattle.dr_model.specs.Histories.{Lists, Write}
 use Rattle.dr_model.specs.Contents.{image}
 use Rattle.dr_model.specs.Pairs.{is_kind}
 use Rattle.dr_model.specs.declared.state.Part.TheVariants.{Global}
-use Rattle.dr_model.specs.Moves.{Move, Land, Overwrite, Relate, Withdraw, Resync, Reverse, Restore, Release, Flash, Revert, Store, Strike, Suspend, MakeSecondary, MakePrimary, DropPrimary, DropSecondary, TakeOver, FallBack, Yield, Unsync, Mirror, LandBoth, Lift, Restart, Hold, Seal, Finish, RaiseAttempt, target}
+use Rattle.dr_model.specs.Moves.{Move, Land, Overwrite, Relate, Withdraw, Resync, Reverse, Restore, Release, Flash, Revert, Store, Strike, Suspend, MakeSecondary, MakePrimary, DropPrimary, DropSecondary, TakeOver, LeavePrimary, FallBack, Yield, Unsync, Mirror, LandBoth, Lift, Restart, Hold, Seal, Finish, RaiseAttempt, target}
 use Rattle.dr_model.specs.Table.{Row, Table}
 use Rattle.dr_model.specs.Rows.{after, next_row}
 use Rattle.dr_model.specs.Laws.{Linked, SoundRows, its_primary, its_secondary, fields}
 use Rattle.dr_model.specs.Allowed.{Allowed}
 use Rattle.dr_model.specs.Cuts.{Cuts, CutLaws, SentAsAtCut, SealedAsAtCut, HoldsCut, IsCalm, next_cuts, at_cut}
 use Rattle.dr_facts.proofs.Tables.{at_cases, linked-but, at2_other}
-use Rattle.dr_laws_cuts.proofs.Still.{metro-still, target-second, second-first, due-equal, no-first-then, no-second-then, recorded}
+use Rattle.dr_laws_cuts.proofs.Still.{metro-still, target-second, due-equal, no-first-then, no-second-then, recorded}
 use Rattle.dr_laws_cuts.proofs.KeepsCut.{held-other, held-here, fresh}
 use Rattle.dr_logic.proofs.Choices.{chosen}
 use Rattle.dr_facts.proofs.Tracks.{not_after, landed_out, lifted_out}
 use Rattle.dr_logic.proofs.Truth.{false_true}
-use Rattle.dr_facts.proofs.Parts.{global_metro}
+use Rattle.dr_facts.proofs.Parts.{global_metro, two-partners}
 
 module _ (write : ℕ → Write) (T : Table) (rows : SoundRows T) (c : Cuts) (now : Lists) (old : CutLaws write c T) where
   abbrev row : Move → Row
@@ -57,7 +57,7 @@ module _ (write : ℕ → Write) (T : Table) (rows : SoundRows T) (c : Cuts) (no
 
   was-equal : (v u t : ℕ) → (fields T v).recording ≡ false → its_secondary (T v) ≡ Some u → its_primary (T u) ≡ Some v → t < (T v).volume.tracks → contains (fields T v).out_of_sync t ≡ false → (T u).due t ≡ (T v).due t
   was-equal v u t idle h k lt i = due-equal T rows v u t h k lt
-      (sym (rows.pairs v u h (inl k) t lt (or_from _ _ i ((rows.recorders v).none idle t)) (λ l. second-first T rows u v v k l)))
+      (sym (rows.pairs v u h (inl k) t lt (or_from _ _ i ((rows.recorders v).none idle t)) (two-partners (T u) v (rows.parts.fit u) k)))
 
   pub kept-sent : (m : Move) → Allowed write T m → IsCalm write now T m → Linked its_secondary (SentAsAtCut write (next_cuts now m c)) (after write T m)
   kept-sent (Hold v s n one) a calm = linked-but T v (row (Hold v s n one)) its_secondary (SentAsAtCut write (next_cuts now (Hold v s n one) c))
@@ -77,8 +77,8 @@ module _ (write : ℕ → Write) (T : Table) (rows : SoundRows T) (c : Cuts) (no
   kept-sent (Flash v u p s n) a calm = sent (Flash v u p s n) a (old.sent v) (λ u h rec k. target-second T rows v a.resync.from u a.resync.related k)
   kept-sent (Revert v p s n) a calm = sent (Revert v p s n) a (old.sent v) (λ u h rec k. target-second T rows v a.from u a.related k)
   kept-sent (Restore v t u) a calm = sent (Restore v t u) a (λ x h rec. false_true a.idle rec) (λ x h rec k. false_true (rows.parts.free u v a.related a.reversing) (chosen _ _ x k).0)
-  kept-sent (Store v t u last) a calm = sent (Store v t u last) a (old.sent v) (λ x h rec k. stored-there v t u _ a.takes a.out x h rec k)
-  kept-sent (Mirror v t u w) a calm = sent (Mirror v t u w) a (old.sent v) (λ x h rec k. stored-there v t u _ a.takes a.out x h rec k)
+  kept-sent (Store v t u last) a calm = let f = fields T v in sent (Store v t u last) a (λ x h rec k q lt i. old.sent v x h rec k q lt (ap (λ x. contains x q) (sym (landed_out (is_part f.primary) f.recording (insert f.out_of_sync t) f.out_of_sync rec)) ∙ i)) (λ x h rec k. stored-there v t u _ a.takes a.out x h rec k)
+  kept-sent (Mirror v t u w) a calm = let f = fields T v in sent (Mirror v t u w) a (λ x h rec k q lt i. old.sent v x h rec k q lt (ap (λ x. contains x q) (sym (landed_out (is_part f.primary) f.recording (insert f.out_of_sync t) f.out_of_sync rec)) ∙ i)) (λ x h rec k. stored-there v t u _ a.takes a.out x h rec k)
   kept-sent (Strike v t last) a calm = sent (Strike v t last) a
       (λ u h rec k q lt i. elim (eqb_tells q t) [
         | inl is ↦ subst (λ j. (T u).due j ≡ at_cut write c (fields T v).attempt v j) (sym is.1) (struck-there v t a.to a.sends a.equal u h rec k (subst (λ j. j < (T v).volume.tracks) is.1 lt))
@@ -91,6 +91,7 @@ module _ (write : ℕ → Write) (T : Table) (rows : SoundRows T) (c : Cuts) (no
   kept-sent (MakePrimary v u kind state full) a calm = sent (MakePrimary v u kind state full) a (λ x h rec. absurd cc) (λ x. old.sent x v)
   kept-sent (DropPrimary v) a calm = sent (DropPrimary v) a (λ u h. absurd cc) (λ u. old.sent u v)
   kept-sent (DropSecondary v) a calm = sent (DropSecondary v) a (old.sent v) (λ u h rec k. absurd cc)
+  kept-sent (LeavePrimary v) a calm = sent (LeavePrimary v) a (old.sent v) (λ u h rec k. absurd cc)
   kept-sent (TakeOver v) a calm = sent (TakeOver v) a (λ u h rec. absurd cc) (λ u h rec k. absurd cc)
   kept-sent (FallBack v more state) a calm = sent (FallBack v more state) a (λ u h rec. absurd cc) (λ u. old.sent u v)
   kept-sent (Yield v u kind state) a calm = sent (Yield v u kind state) a (λ x h rec. absurd cc)
@@ -152,6 +153,7 @@ module _ (write : ℕ → Write) (T : Table) (rows : SoundRows T) (c : Cuts) (no
   kept-sealed (Mirror v t u w) a = sealed (Mirror v t u w) a (λ x h nz. global_metro _ (ap (λ k. is_kind Global k) (sym (rows.seals.kinds v u a.takes a.sends)) ∙ rows.seals.global v nz) a.metro)
   kept-sealed (MakeSecondary v u kind state) a = sealed (MakeSecondary v u kind state) a (λ x h nz. absurd (nz refl))
   kept-sealed (DropSecondary v) a = sealed (DropSecondary v) a (λ x h. absurd cc)
+  kept-sealed (LeavePrimary v) a = sealed (LeavePrimary v) a (λ x h. absurd cc)
   kept-sealed (TakeOver v) a = sealed (TakeOver v) a (λ x h. absurd cc)
   kept-sealed (Yield v u kind state) a = sealed (Yield v u kind state) a (λ x h nz. absurd (nz refl))
   kept-sealed (LandBoth w v t) a = sealed (LandBoth w v t) a (λ u h nz. false_true a.land.first (chosen _ _ u h).0)

@@ -2,7 +2,6 @@
 use Rattle.std.proofs.Common.{ℕ, ◌≡◌, ◌≢◌, inl, inr, refl, ap, sym, ◌∙◌, Bool, true, false, cond, not, ◌&&◌, nat_eq, List, [], ◌∷◌, ◌++◌, Option, Some, None, subst}
 use Rattle.std.proofs.lemmas.Bool.{and_parts, eqb-true}
 use Rattle.std.specs.FinSet.{contains}
-use Rattle.std.specs.Option.{option_or}
 use Rattle.dr_logic.specs.Bytes.{zeros}
 use Rattle.dr_logic.specs.Tables.{at}
 use Rattle.dr_ids.specs.declared.refusal.Refusal.{Refusal}

@@ -4,11 +4,11 @@ use Rattle.std.proofs.lemmas.Bool.{and_parts, eqb-true}
 use Rattle.dr_model.specs.Layout.{is_part}
 use Rattle.dr_model.specs.Histories.{Write}
 use Rattle.dr_model.specs.Pairs.{is_metro}
-use Rattle.dr_model.specs.Moves.{Move, MakeSecondary, MakePrimary, DropPrimary, DropSecondary, TakeOver, Yield, target}
+use Rattle.dr_model.specs.Moves.{Move, MakeSecondary, MakePrimary, DropPrimary, DropSecondary, TakeOver, LeavePrimary, Yield, target}
 use Rattle.dr_model.specs.Table.{Table}
 use Rattle.dr_model.specs.Rows.{next_row}
 use Rattle.dr_model.specs.Laws.{SoundRows, source, its_primary, its_secondary, fields}
-use Rattle.dr_model.specs.Allowed.{Allowed}
+use Rattle.dr_model.specs.Allowed.{Allowed, Kept, MayReceive}
 use Rattle.dr_logic.proofs.Choices.{chosen, choose_none}
 use Rattle.dr_facts.proofs.Parts.{global-part, global_metro}
 use Rattle.dr_logic.proofs.Truth.{false_true}
@@ -19,20 +19,22 @@ module _ (T : Table) (rows : SoundRows T) where
   first v rec = global-part _ ((rows.recorders v).global rec)
 
   pub target-still : {P : Type 0} (v s : ℕ) → source (T v) ≡ Some s → (fields T v).recording ≡ true → P
-  target-still v s is rec = false_true ((rows.parts.one v).no_primary (chosen _ _ s is).0) (first v rec)
+  target-still v s is rec = false_true ((rows.parts.fit v).no_primary (chosen _ _ s is).0) (first v rec)
 
-  pub second-still : {P : Type 0} (v u : ℕ) → its_primary (T v) ≡ Some u → (fields T v).recording ≡ true → P
-  second-still v u is rec = false_true ((rows.parts.one v).one (first v rec)) (chosen _ _ u is).0
+  -- a volume that is no primary takes what comes to it, since it records nothing and isn't held
+  pub plain-receives : (v t : ℕ) → is_part (fields T v).primary ≡ false → t < (T v).volume.tracks → Kept T v t → MayReceive T v t
+  plain-receives v t plain low kept = record { low = low; kept = kept; free = free (fields T v).coordination refl; sent = λ rec. false_true plain (first v rec) }
+    where
+      free : (held : Bool) → (fields T v).coordination ≡ held → held ≡ false
+      free true e = false_true plain (first v ((rows.recorders v).holds e))
+      free false e = refl
 
   pub metro-still : {P : Type 0} (v : ℕ) → is_metro (fields T v).primary ≡ true → (fields T v).recording ≡ true → P
   metro-still v is rec = global_metro _ ((rows.recorders v).global rec) is
 
-  -- a target is no secondary, and a secondary is no primary
+  -- a target is no secondary
   pub target-second : {P : Type 0} (v s u : ℕ) → source (T v) ≡ Some s → its_primary (T v) ≡ Some u → P
-  target-second v s u is h = false_true ((rows.parts.one v).no_secondary (chosen _ _ s is).0) (chosen _ _ u h).0
-
-  pub second-first : {P : Type 0} (v u x : ℕ) → its_primary (T v) ≡ Some u → its_secondary (T v) ≡ Some x → P
-  second-first v u x is h = false_true ((rows.parts.one v).one (chosen _ _ x h).0) (chosen _ _ u is).0
+  target-second v s u is h = false_true ((rows.parts.fit v).no_secondary (chosen _ _ s is).0) (chosen _ _ u h).0
 
   -- so neither of a pair is a target: what both contain is due on both
   unrelated : (v : ℕ) (r : Bool) → (fields T v).related ≡ r → (r ≡ true → ⊥) → source (T v) ≡ None
@@ -40,10 +42,10 @@ module _ (T : Table) (rows : SoundRows T) where
   unrelated v false is not = choose_none _ _ is
 
   pub plain-second : (v u : ℕ) → its_primary (T v) ≡ Some u → source (T v) ≡ None
-  plain-second v u h = unrelated v (fields T v).related refl (λ r. false_true ((rows.parts.one v).no_secondary r) (chosen _ _ u h).0)
+  plain-second v u h = unrelated v (fields T v).related refl (λ r. false_true ((rows.parts.fit v).no_secondary r) (chosen _ _ u h).0)
 
   pub plain-first : (v u : ℕ) → its_secondary (T v) ≡ Some u → source (T v) ≡ None
-  plain-first v u h = unrelated v (fields T v).related refl (λ r. false_true ((rows.parts.one v).no_primary r) (chosen _ _ u h).0)
+  plain-first v u h = unrelated v (fields T v).related refl (λ r. false_true ((rows.parts.fit v).no_primary r) (chosen _ _ u h).0)
 
   pub due-equal : (v u t : ℕ) → its_secondary (T v) ≡ Some u → its_primary (T u) ≡ Some v → t < (T v).volume.tracks → (T u).bytes t ≡ (T v).bytes t → (T u).due t ≡ (T v).due t
   due-equal v u t sends takes lt same =
@@ -63,6 +65,7 @@ module _ (T : Table) (rows : SoundRows T) where
     no-first-then (MakeSecondary v u kind state) a h = absurd (a.apart (ap (λ j. (T j).volume.server) (sym (chosen (is_part kind) u v h).1)))
     no-first-then (DropSecondary v) a h = absurd cc
     no-first-then (TakeOver v) a h = absurd cc
+    no-first-then (LeavePrimary v) a h = absurd cc
     no-first-then (Yield v u kind state) a h = no-second v (a.sends ∙ ap (λ j. Some j) (chosen (is_part kind) u v h).1)
     no-first-then m a h = no-first (target m) h
 

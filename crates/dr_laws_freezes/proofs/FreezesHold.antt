@@ -147,7 +147,7 @@ pending-in P (q ∷ qs) all p (inr there) = pending-in P qs all.1 p there
 -- where v is frozen, what lasts begins
 begins : (u : World) (l m v : ℕ) → Between u → Held l m v u.control → Frozen v (fields_at u.control v).primary_partner (u.control.volume v).server none u.events u
 begins u l m v k held = record {
-  rooted = record { there = held.stands.there; busy = record { primary = primary; second = (k.sound.rows.parts.one v).one primary; busy = held.busy; partner = refl }; server = refl };
+  rooted = record { there = held.stands.there; busy = record { primary = primary; second = k.sound.uncascaded v primary; busy = held.busy; partner = refl }; server = refl };
   silent = record {
     waits = each-on (λ p a on. by p a on p.landed refl) u.control.pending k.sound.queue.each;
     issued = each-on (λ p a. (a.number, a.volume)) u.control.pending k.sound.queue.each;

@@ -1,6 +1,6 @@
 -- Between steps a Metro Mirror primary that is Full Duplex has no track out of sync where its server runs.
-use Rattle.std.proofs.Common.{ℕ, ◌≡◌, ◌≢◌, ◌<◌, ◌+◌, inl, inr, refl, ap, sym, ◌∙◌, subst, Bool, true, false, cond, not, ◌&&◌, ◌||◌, nat_eq, List, [], ◌∷◌, ◌++◌, filter, Option, arith}
-use Rattle.std.proofs.lemmas.Bool.{and_parts, and_from, ne_eqb}
+use Rattle.std.proofs.Common.{Some, ℕ, ◌≡◌, ◌≢◌, ◌<◌, ◌+◌, inl, inr, refl, ap, sym, ◌∙◌, subst, Bool, true, false, cond, not, ◌&&◌, ◌||◌, nat_eq, List, [], ◌∷◌, ◌++◌, filter, Option, arith}
+use Rattle.std.proofs.lemmas.Bool.{and_parts, and_from, ne_eqb, false_from_ne_true}
 use Rattle.std.proofs.lemmas.Bool.Decides.{eqb_tells}
 use Rattle.std.specs.FinSet.{contains, remove, union, empty}
 use Rattle.dr_model.specs.declared.state.Part.{Part}
@@ -12,11 +12,12 @@ use Rattle.dr_model.specs.declared.event.Event.{Event}
 use Rattle.dr_model.specs.declared.event.Event.TheVariants.{Stopped}
 use Rattle.dr_model.specs.Control.{Pending, Volume, Fuse, World, is_volume}
 use Rattle.dr_model.specs.Pairs.{is_metro, is_full_duplex, is_torn, is_engaged, first_state, next_state, with_more, state_with, is_last}
-use Rattle.dr_model.specs.Moves.{Move, Land, Overwrite, Restore, Strike, Suspend, MakePrimary, DropPrimary, Resume, TakeOver, FallBack, Yield, Unsync, Mirror, LandBoth, Lift, Restart, Hold, Free as FreeMove, Finish, target, told, told_in_stop, settled, settled_in_stop, landed, is_write, is_other, marked, fields_left, keeps_staged, moved_keeping}
+use Rattle.dr_model.specs.Moves.{Move, Land, Overwrite, Restore, Store, Strike, Suspend, MakePrimary, DropPrimary, Resume, TakeOver, FallBack, Yield, Unsync, Mirror, LandBoth, Lift, Restart, Hold, Free as FreeMove, Finish, target, told, told_in_stop, settled, settled_in_stop, landed, is_write, is_other, marked, fields_left, keeps_staged, moved_keeping}
 use Rattle.dr_model.specs.Entries.{fields_at}
 use Rattle.dr_model.specs.Groups.{In}
 use Rattle.dr_model.specs.Allowed.{Coming, Runs}
-use Rattle.dr_model.specs.Laws.{AllPending}
+use Rattle.dr_model.specs.Laws.{AllPending, SoundRows, its_primary}
+use Rattle.dr_model.specs.Table.{table}
 use Rattle.dr_laws_closed.proofs.Pendings.{each-on}
 use Rattle.dr_laws_freezes.specs.Windows.{is_ack}
 use Rattle.dr_facts.proofs.Tables.{IsOrNot, at_cases, at_part}
@@ -29,8 +30,9 @@ use Rattle.dr_laws_freezes.proofs.KeepsMirror.{still-unacked}
 use Rattle.dr_laws_sound.proofs.KeepsRecorders.{none-written}
 use Rattle.std.specs.List.{list_any}
 use Rattle.dr_facts.proofs.Tracks.{empty_has, bare-has, not_removed_from}
-use Rattle.dr_facts.proofs.Parts.{no-metro}
+use Rattle.dr_facts.proofs.Parts.{no-metro, metro-second}
 use Rattle.dr_logic.proofs.Truth.{false_true}
+use Rattle.dr_logic.proofs.Choices.{chosen}
 use Rattle.dr_logic.proofs.Tables.{off_later}
 
 abbrev pub is_synced : Fields → Bool
@@ -96,14 +98,22 @@ none-changed : (b : Bool) (s : Tracks) → ((t : ℕ) → contains s t ≡ false
 none-changed true s none t = empty_has t
 none-changed false s none t = none t
 
--- one that is held isn't of Metro Mirror
+-- one that is held, or receives a track of its primary, isn't of Metro Mirror
 abbrev pub Unheld : Fields → Move → Type 0
 Unheld f (Hold v s n first) = is_metro f.primary ≡ false
+Unheld f (Store v t u last) = is_metro f.primary ≡ false
+Unheld f (Mirror v t u n) = is_metro f.primary ≡ false
 Unheld f m = Unit {0}
 
-pub unheld : (w : World) (m : Move) → MayCome w m → Unheld (fields_at w.control (target m)) m
-unheld w (Hold v s n first) may = no-metro (fields_at w.control v).primary may.allowed.global
-unheld w m may = tt
+-- since a secondary is no primary of Metro Mirror
+second-plain : (w : World) → SoundRows (table w) → (v u : ℕ) → its_primary (table w v) ≡ Some u → is_metro (fields_at w.control v).primary ≡ false
+second-plain w rows v u takes = false_from_ne_true (is_metro (fields_at w.control v).primary) (λ m. false_true (metro-second (table w v) (rows.parts.fit v) m) (chosen _ _ u takes).0)
+
+pub unheld : (w : World) → SoundRows (table w) → (m : Move) → MayCome w m → Unheld (fields_at w.control (target m)) m
+unheld w rows (Hold v s n first) may = no-metro (fields_at w.control v).primary may.allowed.global
+unheld w rows (Store v t u last) may = second-plain w rows v u may.allowed.takes
+unheld w rows (Mirror v t u n) may = second-plain w rows v u may.allowed.takes
+unheld w rows m may = tt
 
 -- a volume stays free and clean
 pub free-left : (m : Move) (u : Volume) → Unheld u.fields m → Free u.fields → Free (fields_left m u)
@@ -124,34 +134,46 @@ free-left (Land n v t) u none free = record {
   recording = free.recording;
   changes = λ h. none-written (is_part u.fields.primary) u.fields.recording u.fields.change_recording t (free.recording h) (free.changes h);
 }
+free-left (Store v t a last) u none free = record {
+  coordination = free.coordination;
+  recording = free.recording;
+  changes = λ h. none-written (is_part u.fields.primary) u.fields.recording u.fields.change_recording t (free.recording h) (free.changes h);
+}
+free-left (Mirror v t a n) u none free = record {
+  coordination = free.coordination;
+  recording = free.recording;
+  changes = λ h. none-written (is_part u.fields.primary) u.fields.recording u.fields.change_recording t (free.recording h) (free.changes h);
+}
 free-left (Finish v n) u none free = record { coordination = λ h. refl; recording = λ h. refl; changes = λ h. none-changed (is_engaged u.fields) u.fields.change_recording (free.changes h) }
 free-left (FreeMove v) u none free = record { coordination = λ h. refl; recording = free.recording; changes = free.changes }
 free-left (Hold v s n first) u none free = record { coordination = λ h. false_true none h; recording = λ h. false_true none h; changes = λ h. false_true none h }
 free-left m u none free = record { coordination = free.coordination; recording = free.recording; changes = free.changes }
 
-pub clean-left : (m : Move) (u : Volume) → Gentle u.fields m → Free u.fields → Clean u.fields → Clean (fields_left m u)
-clean-left (Land n v t) u gentle free clean h q = false_true gentle h
-clean-left (Restore v t x) u gentle free clean h q = false_true gentle h
-clean-left (Strike v t last) u gentle free clean h q = by last gentle h
+pub clean-left : (m : Move) (u : Volume) → Gentle u.fields m → Unheld u.fields m → Free u.fields → Clean u.fields → Clean (fields_left m u)
+clean-left (Land n v t) u gentle none free clean h q = false_true gentle h
+clean-left (Restore v t x) u gentle none free clean h q = false_true gentle h
+clean-left (Store v t x last) u gentle none free clean h q = false_true none (and_parts (is_metro u.fields.primary) _ h).0
+clean-left (Mirror v t x n) u gentle none free clean h q = false_true none (and_parts (is_metro u.fields.primary) _ h).0
+clean-left (Strike v t last) u gentle none free clean h q = by last gentle h
   where
     by : (last : Bool) → last ≡ is_last u.fields t → (is_metro u.fields.primary && is_full_duplex (cond last FullDuplex u.fields.primary_state)) ≡ true → contains (remove u.fields.out_of_sync t) q ≡ false
     by true is h = bare-has (remove u.fields.out_of_sync t) q (and_parts (is_metro u.fields.primary) _ (sym is)).1
     by false is h = not_removed_from u.fields.out_of_sync t q (clean h q)
-clean-left (Suspend v busy) u gentle free clean h q = let no : false ≡ true = (and_parts (is_metro u.fields.primary) false h).1 in absurd cc
-clean-left (MakePrimary v b kind state full) u gentle free clean h q = first-duplex kind full u.tracks q (ap is_full_duplex (sym gentle) ∙ (and_parts (is_metro kind) (is_full_duplex state) h).1)
-clean-left (DropPrimary v) u gentle free clean h q = absurd cc
-clean-left (Resume v state) u gentle free clean h q = bare-has u.fields.out_of_sync q (next-duplex u.fields (ap is_full_duplex (sym gentle) ∙ (and_parts (is_metro u.fields.primary) (is_full_duplex state) h).1))
-clean-left (TakeOver v) u gentle free clean h q = let no : false ≡ true = (and_parts (is_metro u.fields.secondary) false h).1 in absurd cc
-clean-left (FallBack v more state) u gentle free clean h q =
+clean-left (Suspend v busy) u gentle none free clean h q = let no : false ≡ true = (and_parts (is_metro u.fields.primary) false h).1 in absurd cc
+clean-left (MakePrimary v b kind state full) u gentle none free clean h q = first-duplex kind full u.tracks q (ap is_full_duplex (sym gentle) ∙ (and_parts (is_metro kind) (is_full_duplex state) h).1)
+clean-left (DropPrimary v) u gentle none free clean h q = absurd cc
+clean-left (Resume v state) u gentle none free clean h q = bare-has u.fields.out_of_sync q (next-duplex u.fields (ap is_full_duplex (sym gentle) ∙ (and_parts (is_metro u.fields.primary) (is_full_duplex state) h).1))
+clean-left (TakeOver v) u gentle none free clean h q = let no : false ≡ true = (and_parts (is_metro u.fields.secondary) false h).1 in absurd cc
+clean-left (FallBack v more state) u gentle none free clean h q =
     let g : Fields = with_more more u.fields in
     bare-has g.out_of_sync q (next-duplex g (ap is_full_duplex (sym gentle) ∙ (and_parts (is_metro u.fields.primary) (is_full_duplex state) h).1))
-clean-left (Yield v a kind state) u gentle free clean h q = absurd cc
-clean-left (Unsync v t) u gentle free clean h q = absurd gentle
-clean-left (LandBoth n v t) u gentle free clean h q = not_removed_from u.fields.out_of_sync t q (clean h q)
-clean-left (Lift v) u gentle free clean h q =
+clean-left (Yield v a kind state) u gentle none free clean h q = absurd cc
+clean-left (Unsync v t) u gentle none free clean h q = absurd gentle
+clean-left (LandBoth n v t) u gentle none free clean h q = not_removed_from u.fields.out_of_sync t q (clean h q)
+clean-left (Lift v) u gentle none free clean h q =
     let f : Fields = u.fields in
     ap (λ b. contains (cond b (union f.out_of_sync f.change_recording) f.out_of_sync) q) (free.coordination (and_parts (is_metro f.primary) (is_full_duplex f.primary_state) h).0) ∙ clean h q
-clean-left (Restart v) u gentle free clean h q =
+clean-left (Restart v) u gentle none free clean h q =
     let f : Fields = u.fields in
     let both = and_parts (is_metro f.primary) (is_full_duplex (cond (is_torn f) CopyPending f.primary_state)) h in
     ap (λ b. contains (cond b (union f.out_of_sync f.change_recording) f.out_of_sync) q) (none-engaged f free both.0) ∙ clean (and_from _ _ both.0 (by (is_torn f) both.1)) q
@@ -159,10 +181,10 @@ clean-left (Restart v) u gentle free clean h q =
     by : (b : Bool) → is_full_duplex (cond b CopyPending u.fields.primary_state) ≡ true → is_full_duplex u.fields.primary_state ≡ true
     by true h = absurd cc
     by false h = h
-clean-left (Finish v n) u gentle free clean h q =
+clean-left (Finish v n) u gentle none free clean h q =
     let f : Fields = u.fields in
     ap (λ b. contains (cond b (union f.out_of_sync f.change_recording) f.out_of_sync) q) (none-engaged f free (and_parts (is_metro f.primary) (is_full_duplex f.primary_state) h).0) ∙ clean h q
-clean-left m u gentle free clean h q = clean h q
+clean-left m u gentle none free clean h q = clean h q
 
 -- no pending write is acknowledged, and none that wasn't issued
 pub record Fresh (w : World) : Type 0 where
@@ -265,7 +287,7 @@ module _ (w : World) (m : Move) (gentle : Gentle (fields_at w.control (target m)
   pub in_sync-changed : Fresh W → FullDuplexInSync W
   in_sync-changed fresh = record {
     clean = λ v there runs. at_cases (λ j (y : Volume). is_volume w.control j ≡ true → Runs w j → Clean y.fields) w.control.volume x row
-        (λ d r. clean-left m (w.control.volume x) gentle (in_sync.free x) (in_sync.clean x d r)) (λ j ne d r. in_sync.clean j d r) v there
+        (λ d r. clean-left m (w.control.volume x) gentle none (in_sync.free x) (in_sync.clean x d r)) (λ j ne d r. in_sync.clean j d r) v there
         (sym (ap w.control.on (at_part (λ (y : Volume). y.server) w.control.volume x row refl v)) ∙ less _ runs);
     free = λ v. at_cases (λ j (y : Volume). Free y.fields) w.control.volume x row (free-left m (w.control.volume x) none (in_sync.free x)) (λ j ne. in_sync.free j) v;
     fresh = fresh;
@@ -279,12 +301,12 @@ in_sync-same w u volume volumes less fresh in_sync = record {
   fresh = fresh;
 }
 
-pub in_sync-done : (w : World) (m : Move) (f : Option Fuse) → MayCome w m → Gentle (fields_at w.control (target m)) m → FullDuplexInSync w → FullDuplexInSync (done w m f)
-in_sync-done w m f may gentle in_sync = in_sync-changed w m gentle (unheld w m may) in_sync (done w m f).control.on (done w m f).control.fuse (settled m w.control.pending) (done w m f).events (λ j h. h) (fresh-done w m f may in_sync.fresh)
+pub in_sync-done : (w : World) → SoundRows (table w) → (m : Move) (f : Option Fuse) → MayCome w m → Gentle (fields_at w.control (target m)) m → FullDuplexInSync w → FullDuplexInSync (done w m f)
+in_sync-done w rows m f may gentle in_sync = in_sync-changed w m gentle (unheld w rows m may) in_sync (done w m f).control.on (done w m f).control.fuse (settled m w.control.pending) (done w m f).events (λ j h. h) (fresh-done w m f may in_sync.fresh)
 
-pub in_sync-stop : (w : World) (m : Move) (f : Option Fuse) → MayCome w m → Gentle (fields_at w.control (target m)) m → FullDuplexInSync w → FullDuplexInSync (done_in_stop w m f)
-in_sync-stop w m f may gentle in_sync =
-    in_sync-changed w m gentle (unheld w m may) in_sync (done_in_stop w m f).control.on (done_in_stop w m f).control.fuse (settled_in_stop m w.control.pending) (done_in_stop w m f).events (off_later w.control.on (w.control.volume (target m)).server) (fresh-stop w m f in_sync.fresh)
+pub in_sync-stop : (w : World) → SoundRows (table w) → (m : Move) (f : Option Fuse) → MayCome w m → Gentle (fields_at w.control (target m)) m → FullDuplexInSync w → FullDuplexInSync (done_in_stop w m f)
+in_sync-stop w rows m f may gentle in_sync =
+    in_sync-changed w m gentle (unheld w rows m may) in_sync (done_in_stop w m f).control.on (done_in_stop w m f).control.fuse (settled_in_stop m w.control.pending) (done_in_stop w m f).events (off_later w.control.on (w.control.volume (target m)).server) (fresh-stop w m f in_sync.fresh)
 
 pub in_sync-not : (w : World) (s : ℕ) (f : Option Fuse) → FullDuplexInSync w → FullDuplexInSync (not_done w s f)
 in_sync-not w s f in_sync = in_sync-same w (not_done w s f) refl refl (off_later w.control.on s) (fresh-told w (not_done w s f) (Stopped s 0 ∷ []) refl refl in_sync.fresh.unacked (λ n. refl) in_sync.fresh) in_sync

@@ -5,6 +5,8 @@ use Rattle.std.proofs.lemmas.List.Folds.{list_any-append}
 use Rattle.std.proofs.lemmas.Bool.{eq-eqb, or_left, or_right}
 use Rattle.std.proofs.lemmas.Bool.Decides.{eqb_tells}
 use Rattle.std.specs.List.{list_any, fold}
+use Rattle.dr_model.specs.Pairs.{is_metro}
+use Rattle.dr_facts.proofs.Parts.{metro-second}
 use Rattle.dr_model.specs.declared.event.Event.{Event}
 use Rattle.dr_model.specs.declared.event.Event.TheVariants.{Ack, Stopped}
 use Rattle.dr_model.specs.Histories.{Write, Histories, histories, lists, joined, after_event}
@@ -22,7 +24,7 @@ use Rattle.dr_facts.proofs.Tables.{IsOrNot}
 use Rattle.dr_facts.proofs.Heard.{unheard-event, unheard-write, unheard-writes, unheard-append, unheard-blanked, unheard-restored, unheard-told}
 use Rattle.dr_facts.proofs.Emits.{Of}
 use Rattle.dr_laws_freezes.proofs.WindowTracks.{Stays}
-use Rattle.dr_laws_freezes.proofs.KeepsWindow.{first, no_second, no-target, takes_none, TakesNone}
+use Rattle.dr_laws_freezes.proofs.KeepsWindow.{first, no-target, takes_none, TakesNone}
 use Rattle.dr_logic.proofs.Choices.{chosen}
 use Rattle.dr_logic.proofs.Truth.{false_true}
 
@@ -124,12 +126,12 @@ abbrev pub NoRestore : ℕ → Move → Type 0
 NoRestore v (Restore x t u) = v ≢ x
 NoRestore v m = Unit {0}
 
-module _ (v q : ℕ) (w : World) (rows : SoundRows (table w)) (st : Stays v q w) where
+module _ (v q : ℕ) (w : World) (rows : SoundRows (table w)) (st : Stays v q w) (metro : is_metro (fields_at w.control v).primary ≡ true) where
   not-target : (x s : ℕ) → source (table w x) ≡ Some s → v ≢ x
   not-target x s h e = no-target v q w rows st x s (inl (sym e)) h
 
   not-second : (x : ℕ) → is_part (fields_at w.control x).secondary ≡ true → v ≢ x
-  not-second x h e = false_true (no_second v q w rows st) (ap (λ j. is_part (fields_at w.control j).secondary) e ∙ h)
+  not-second x h e = false_true (metro-second (table w v) (rows.parts.fit v) metro) (ap (λ j. is_part (fields_at w.control j).secondary) e ∙ h)
 
   not-single : (x : ℕ) → is_part (fields_at w.control x).primary ≡ false → v ≢ x
   not-single x h e = false_true h (ap (λ j. is_part (fields_at w.control j).primary) (sym e) ∙ first v q w rows st)

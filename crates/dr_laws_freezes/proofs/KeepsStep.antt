@@ -294,7 +294,7 @@ module _ (v q : ℕ) where
           events = refl;
           size = at_part (λ (y : Volume). y.tracks) w.control.volume (target m) _ refl v;
           window = does-by m f may fair st2 (kind m may off);
-          grows = grows-apart v w (done w m f) (told m u) refl (apart-told v q w rows st m may.allowed (no-restore m off) u);
+          grows = grows-apart v w (done w m f) (told m u) refl (apart-told v q w rows st win.metro m may.allowed (no-restore m off) u);
         }
     window-step _ _ (Stops m f may fair asks) st2 back =
         let u : Volume = w.control.volume (target m) in
@@ -304,7 +304,7 @@ module _ (v q : ℕ) where
           events = refl;
           size = at_part (λ (y : Volume). y.tracks) w.control.volume (target m) _ refl v;
           window = stops-by m f may fair st2 (kind m may off);
-          grows = grows-apart v w (done_in_stop w m f) (stop-told m) refl (apart-stop v q w rows st m may.allowed (no-restore m off) u u.server (landed m));
+          grows = grows-apart v w (done_in_stop w m f) (stop-told m) refl (apart-stop v q w rows st win.metro m may.allowed (no-restore m off) u u.server (landed m));
         }
     window-step _ _ (Acks n a) st2 back =
         record { told = Ack n ∷ []; events = refl; size = refl; window = window-acked n a; grows = grows-apart v w (acknowledged w n) (Ack n ∷ []) refl (tt, tt) }

@@ -5,6 +5,7 @@ use Rattle.std.proofs.lemmas.Bool.Decides.{nat_tests}
 use Rattle.std.specs.List.{list_any, fold}
 use Rattle.std.specs.Cmp.{unsigned_tied, nat_cmp_total}
 use Rattle.std.specs.FinSet.{contains, contains-union, remove, members}
+use Rattle.dr_facts.proofs.Parts.{metro-second}
 use Rattle.dr_model.specs.declared.event.Event.{Event}
 use Rattle.dr_model.specs.declared.event.Event.TheVariants.{Ack, Mirrored, Stopped}
 use Rattle.dr_model.specs.Histories.{Write, histories}
@@ -91,14 +92,8 @@ module _ (v q : ℕ) (w : World) (rows : SoundRows (table w)) (st : Stays v q w)
   second : is_part (fields_at w.control q).secondary ≡ true
   second = (chosen _ _ v st.takes).0
 
-  pub no_second : is_part (fields_at w.control v).secondary ≡ false
-  no_second = (rows.parts.one v).one first
-
-  pub no_first : {P : Type 0} → is_part (fields_at w.control q).primary ≡ true → P
-  no_first h = false_true ((rows.parts.one q).one h) second
-
   pub two : v ≢ q
-  two e = no_first (ap (λ j. is_part (fields_at w.control j).primary) (sym e) ∙ first)
+  two e = (rows.parts.secondary v q st.to).apart (ap (λ j. (w.control.volume j).server) e)
 
   abbrev Ours : ℕ → Type 0
   Ours x = (x ≡ v) ⊎ (x ≡ q)
@@ -123,10 +118,7 @@ module _ (v q : ℕ) (w : World) (rows : SoundRows (table w)) (st : Stays v q w)
     not-locked x e h = false_true (ap (λ j. is_locked (fields_at w.control j)) (sym e) ∙ h) locked
 
     is-second : {P : Type 0} (x : ℕ) → x ≡ v → is_part (fields_at w.control x).secondary ≡ true → P
-    is-second x e h = false_true no_second (ap (λ j. is_part (fields_at w.control j).secondary) (sym e) ∙ h)
-
-    is-first : {P : Type 0} (x : ℕ) → x ≡ q → is_part (fields_at w.control x).primary ≡ true → P
-    is-first x e h = no_first (ap (λ j. is_part (fields_at w.control j).primary) (sym e) ∙ h)
+    is-second x e h = false_true (metro-second (T v) (rows.parts.fit v) win.metro) (ap (λ j. is_part (fields_at w.control j).secondary) (sym e) ∙ h)
 
     -- its own tracks stay
     own-bytes : (m : Move) → Allowed write T m → WindowMay tag w m → Else m → Ours (target m) → (t : ℕ) → next_bytes write m T t ≡ w.contents (target m) t
@@ -147,13 +139,15 @@ module _ (v q : ℕ) (w : World) (rows : SoundRows (table w)) (st : Stays v q w)
     own-bytes (Mirror x t u n) a fair else (inl e) j = is-second x e (chosen _ _ u a.takes).0
     own-bytes (Mirror x t u n) a fair else (inr e) j = absurd (else e)
     own-bytes (LandBoth n x t) a fair else (inl e) j = absurd (else e)
-    own-bytes (LandBoth n x t) a fair else (inr e) j = is-first x e (chosen _ _ a.to a.sends).0
+    own-bytes (LandBoth n x t) a fair else (inr e) j = false_true a.land.first (ap (λ j. is_part (fields_at w.control j).secondary) e ∙ second)
     own-bytes m a fair else ours j = refl
 
     -- no track of the primary comes in sync
     own-out : (m : Move) → Allowed write T m → WindowMay tag w m → Else m → secondary_of (next_of w m) ≡ Some q → target m ≡ v → (t : ℕ) → contains (fields_at w.control (target m)).out_of_sync t ≡ true → contains (next_of w m).out_of_sync t ≡ true
     own-out (Land n x t) a fair else to e j h = not-locked x e fair
     own-out (Restore x t u) a fair else to e j h = absurd (else.0 e)
+    own-out (Store x t u last) a fair else to e j h = is-second x e (chosen _ _ u a.takes).0
+    own-out (Mirror x t u n) a fair else to e j h = is-second x e (chosen _ _ u a.takes).0
     own-out (Strike x t last) a fair else to e j h =
         still-removed _ t j (λ is. false_true (fair (ap (λ j. is_locked (fields_at w.control j)) e ∙ locked)) (ap (contains (fields_at w.control x).out_of_sync) (sym is) ∙ h)) h
     own-out (Suspend x busy) a fair else to e j h = let f : Fields = fields_at w.control x in still-out (is_engaged f) f.out_of_sync f.change_recording j h

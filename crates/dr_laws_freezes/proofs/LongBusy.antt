@@ -10,7 +10,7 @@ use Rattle.dr_model.specs.Layout.{Fields, is_part}
 use Rattle.dr_model.specs.Control.{Control, Fuse, Pending, Volume, World, is_volume}
 use Rattle.dr_model.specs.Groups.{In}
 use Rattle.dr_model.specs.Laws.{AllPending}
-use Rattle.dr_model.specs.Moves.{Move, Land, Overwrite, MakeSecondary, MakePrimary, DropPrimary, DropSecondary, Resume, TakeOver, Yield, Mirror, LandBoth, Thaw, Lift, Suspend, Hold, target, told, told_in_stop, landed, settled, settled_in_stop, fields_left, is_write, is_other, marked, keeps_staged, moved_keeping}
+use Rattle.dr_model.specs.Moves.{Move, Land, Overwrite, MakeSecondary, MakePrimary, DropPrimary, DropSecondary, Resume, TakeOver, Yield, Mirror, LandBoth, Thaw, Lift, Suspend, Hold, target, told, told_in_stop, landed, settled, settled_in_stop, fields_left, is_write, is_other, marked, keeps_staged, moved_keeping, LeavePrimary}
 use Rattle.dr_model.specs.Carry.{Act, Make, OpenAttempt, Acknowledge, Drop, Turn, act, dropped, acknowledged}
 use Rattle.dr_model.specs.Entries.{fields_at}
 use Rattle.dr_facts.proofs.Issued.{Alike, with-told, act-writes}
@@ -81,6 +81,7 @@ module _ (v b s : ℕ) (N : ℕ → Type 0) where
   busy-left (Thaw x) u ok is k = absurd (ok is)
   busy-left (Lift x) u ok is k = absurd (ok is)
   busy-left (DropSecondary x) u ok is k = record { primary = k.primary; second = refl; busy = k.busy; partner = k.partner }
+  busy-left (LeavePrimary x) u ok is k = record { primary = k.primary; second = refl; busy = k.busy; partner = k.partner }
   busy-left (Suspend x more) u ok is k = record { primary = k.primary; second = k.second; busy = ap (λ c. c || more) k.busy; partner = k.partner }
   busy-left m u ok is k = record { primary = k.primary; second = k.second; busy = k.busy; partner = k.partner }
 

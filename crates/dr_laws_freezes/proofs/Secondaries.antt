@@ -16,7 +16,7 @@ use Rattle.dr_model.specs.Layout.{Fields, is_part}
 use Rattle.dr_model.specs.Control.{Pending, Volume, Fuse, World, is_volume, nothing}
 use Rattle.dr_model.specs.Groups.{In}
 use Rattle.dr_model.specs.Pairs.{secondary_of, primary_of, is_metro, is_full_duplex, is_torn, is_engaged, with_more}
-use Rattle.dr_model.specs.Moves.{Move, Land, Overwrite, Keep, Withdraw, Fetch, Reverse, Restore, Release, Store, Strike, Suspend, MakeSecondary, MakePrimary, DropPrimary, DropSecondary, Resume, TakeOver, FallBack, Yield, Unsync, Mirror, LandBoth, Lift, Restart, Hold, Finish, target, told, told_in_stop, landed, is_write, is_other, marked, settled, settled_in_stop, keeps_staged, tracks_after, moved_keeping}
+use Rattle.dr_model.specs.Moves.{Move, Land, Overwrite, Keep, Withdraw, Fetch, Reverse, Restore, Release, Store, Strike, Suspend, MakeSecondary, MakePrimary, DropPrimary, DropSecondary, Resume, TakeOver, FallBack, Yield, Unsync, Mirror, LandBoth, Lift, Restart, Hold, Finish, target, told, told_in_stop, landed, is_write, is_other, marked, settled, settled_in_stop, keeps_staged, tracks_after, moved_keeping, LeavePrimary}
 use Rattle.dr_model.specs.Carry.{acknowledged}
 use Rattle.dr_model.specs.Sessions.{Session}
 use Rattle.dr_model.specs.Entries.{fields_at}
@@ -29,7 +29,7 @@ use Rattle.dr_model.proofs.Images.{image-push}
 use Rattle.dr_model.proofs.LawfulLemmas.{removed}
 use Rattle.dr_facts.proofs.Issued.{told-writes, with-told}
 use Rattle.dr_facts.proofs.Lists.{to-filter}
-use Rattle.dr_facts.proofs.Parts.{metro-part, global_metro}
+use Rattle.dr_facts.proofs.Parts.{metro-part, global_metro, metro-second, two-partners}
 use Rattle.dr_facts.proofs.Sets.{insert_other, not_removed}
 use Rattle.dr_facts.proofs.Tracks.{bare-has, not_removed_from}
 use Rattle.dr_laws_closed.proofs.Pendings.{each-on}
@@ -126,7 +126,7 @@ module _ (w : World) (rows : SoundRows (table w)) (each : EachOneOut w) where
   no-target x s synced h = none_some (unrelated_primary T rows.parts x (its-partner (of x) synced)) h
 
   no-second : {P : Type 0} (x u : ℕ) → is_synced (of x) ≡ true → primary_of (of x) ≡ Some u → P
-  no-second x u synced h = false_true ((rows.parts.one x).one (metro-part (of x).primary (and_parts (is_metro (of x).primary) _ synced).0)) (chosen _ _ u h).0
+  no-second x u synced h = false_true (metro-second (T x) (rows.parts.fit x) (and_parts (is_metro (of x).primary) _ synced).0) (chosen _ _ u h).0
 
   idle : (x : ℕ) → is_metro (of x).primary ≡ true → (of x).recording ≡ false
   idle x metro = metro-idle (T x) (rows.recorders x) metro
@@ -139,7 +139,7 @@ module _ (w : World) (rows : SoundRows (table w)) (each : EachOneOut w) where
   alike v q t synced to back lt out =
       rows.pairs v q to (inl back) t lt
       (λ i. out i || (rows.recorders v).none (idle v (and_parts (is_metro (of v).primary) _ synced).0) t i)
-      (λ other. false_true ((rows.parts.one q).one (chosen _ _ v other).0) (chosen _ _ v back).0)
+      (two-partners (T q) v (rows.parts.fit q) back)
 
   -- what a move makes of its volume, where that is a secondary of v with track t out of sync: it stays, or it gets that track of v, or a
   -- pending write more
@@ -192,6 +192,7 @@ module _ (w : World) (rows : SoundRows (table w)) (each : EachOneOut w) where
   second (Release x j) v t a ready may synced only out back = none_some (unrelated T rows.parts x back) a.related
   second (Restore x j u) v t a ready may synced only out back = false_true (rows.parts.free u x a.related a.reversing) (chosen _ _ v back).0
   second (DropSecondary x) v t a ready may synced only out back = none_some refl back
+  second (LeavePrimary x) v t a ready may synced only out back = none_some refl back
   second (TakeOver x) v t a ready may synced only out back = none_some refl back
   second m v t a ready may synced only out back = inl (record { back = back; bytes = refl })
 

@@ -6,7 +6,8 @@ use Rattle.dr_model.specs.Control.{Control, Fuse, World}
 use Rattle.dr_model.specs.Moves.{Move, Hold, Unsync, Mirror, Yield, target, is_write, is_other}
 use Rattle.dr_model.specs.Carry.{Act, Make, OpenAttempt, attempt_begun, Redo, Acknowledge, Drop, EndFreeze, EndThaw, EndRecovery, dropped, frozen, thawed, recovered, Next, Pass, Do, End, Entry, check}
 use Rattle.dr_model.specs.Entries.{fields_at}
-use Rattle.dr_model.specs.Laws.{Sound, AllPending}
+use Rattle.dr_model.specs.Laws.{Sound, AllPending, SoundRows}
+use Rattle.dr_model.specs.Table.{table}
 use Rattle.dr_laws_closed.proofs.Pendings.{all-filter}
 use Rattle.dr_laws_sound.proofs.Turns.{done, done_in_stop, opened_in_stop, server_of, after_act, server_at, fused}
 use Rattle.dr_laws_sound.proofs.Along as along
@@ -31,12 +32,12 @@ KeepsPairs w (Acknowledge n) = ⊥
 KeepsPairs w (Drop n) = AllPending (λ p. Clean (fields_at w.control p.volume)) (filter (is_write n) w.control.pending)
 KeepsPairs w a = Unit {0}
 
-module _ (w : World) (in_sync : FullDuplexInSync w) where
+module _ (w : World) (rows : SoundRows (table w)) (in_sync : FullDuplexInSync w) where
   act-in_sync : (a : Act) (f : Option Fuse) → MayDo w a → KeepsPairs w a → FullDuplexInSync (after_act w a f)
-  act-in_sync (Make m) f may keeps = in_sync-done w m f (come w m may) keeps.1 in_sync
+  act-in_sync (Make m) f may keeps = in_sync-done w rows m f (come w m may) keeps.1 in_sync
   act-in_sync (OpenAttempt v s n) f may keeps =
       let m : Move = Hold v s n true in
-      let y : FullDuplexInSync (done w m f) = in_sync-done w m f (come-open w v s n may) tt in_sync in
+      let y : FullDuplexInSync (done w m f) = in_sync-done w rows m f (come-open w v s n may) tt in_sync in
       in_sync-same (done w m f) (attempt_begun (done w m f) s) refl refl (λ j h. h) (record { unacked = y.fresh.unacked; later = y.fresh.later }) y
   act-in_sync (Redo v) f may keeps = in_sync-same w (fused w (server_at w v) f) refl refl (λ j h. h) (record { unacked = in_sync.fresh.unacked; later = in_sync.fresh.later }) in_sync
   act-in_sync (Acknowledge n) f may keeps = absurd keeps
@@ -65,10 +66,10 @@ act-none w a keeps = refl
 
 module _ (Fin : Option ℕ → World → Option Refusal → Type 0) (fin : (w : World) (r : Refusal) → Between w → Fin None w (Some r)) where
   counts-fin : (w : World) (a : Act) → Between w → MayDo w a → KeepsPairs w a → CountsFin Fin w a
-  counts-fin w (Make m) k may keeps = λ f. fin (done_in_stop w m f) _ (record { sound = keeps-sound.counts w m f k.sound may; in_sync = in_sync-stop w m f (come w m may) keeps.1 k.in_sync })
+  counts-fin w (Make m) k may keeps = λ f. fin (done_in_stop w m f) _ (record { sound = keeps-sound.counts w m f k.sound may; in_sync = in_sync-stop w k.sound.rows m f (come w m may) keeps.1 k.in_sync })
   counts-fin w (OpenAttempt v s n) k may keeps = λ f.
       let m : Move = Hold v s n true in
-      let y : FullDuplexInSync (done_in_stop w m f) = in_sync-stop w m f (come-open w v s n may) tt k.in_sync in
+      let y : FullDuplexInSync (done_in_stop w m f) = in_sync-stop w k.sound.rows m f (come-open w v s n may) tt k.in_sync in
       fin (opened_in_stop w v s n f) _ (record {
         sound = keeps-sound.opens w v s n f k.sound may;
         in_sync = in_sync-same (done_in_stop w m f) (opened_in_stop w v s n f) refl refl (λ j h. h) (record { unacked = y.fresh.unacked; later = y.fresh.later }) y;
@@ -78,7 +79,7 @@ module _ (Fin : Option ℕ → World → Option Refusal → Type 0) (fin : (w : 
   pub window-act : (w : World) (a : Act) (then : Option ℕ → World → Type 0) → Between w → MayDo w a → KeepsPairs w a → ((f : Option Fuse) → Between (after_act w a f) → then None (after_act w a f)) → window_next Fin None w (Do a) then
   window-act w a then k may keeps on = (
     act-may w k a may keeps,
-    λ f. subst (λ tag. then tag (after_act w a f)) (sym (act-none w a keeps)) (on f (record { sound = keeps-sound.does w a f k.sound may; in_sync = act-in_sync w k.in_sync a f may keeps })),
+    λ f. subst (λ tag. then tag (after_act w a f)) (sym (act-none w a keeps)) (on f (record { sound = keeps-sound.does w a f k.sound may; in_sync = act-in_sync w k.sound.rows k.in_sync a f may keeps })),
     (counts-fin w a k may keeps, λ d f. fin _ _ (record { sound = keeps-sound.fails w a f d k.sound may; in_sync = in_sync-not w (server_of w a) f k.in_sync })),
   )
 

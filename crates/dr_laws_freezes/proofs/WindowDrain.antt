@@ -4,6 +4,8 @@ use Rattle.std.specs.Prelude.{is_some}
 use Rattle.std.specs.Option.{option_or}
 use Rattle.std.specs.FinSet.{contains}
 use Rattle.std.proofs.lemmas.Bool.{and_parts, and_from}
+use Rattle.dr_model.specs.Table.{table}
+use Rattle.dr_facts.proofs.Parts.{two-partners}
 use Rattle.dr_ids.specs.declared.refusal.Refusal.{Refusal}
 use Rattle.dr_ids.specs.declared.refusal.Refusal.TheVariants.{Stopped as StoppedIn, PairState as InState}
 use Rattle.dr_ids.specs.declared.refusal.Kind.TheVariants.{Path as OfPath}
@@ -30,9 +32,8 @@ use Rattle.dr_laws_freezes.proofs.Chains.{WindowAlong, window-entry, window-nil,
 use Rattle.dr_laws_freezes.proofs.WindowActs.{Between, window-move, window-check, window-refuse}
 use Rattle.dr_laws_freezes.proofs.WindowWithin.{Keeps, window-copies, within-between, window-after}
 use Rattle.dr_laws_freezes.proofs.WindowPlans.{good-between, answers-between, begun-between, EntriesHold}
-use Rattle.dr_logic.proofs.Choices.{chosen, choose_some}
+use Rattle.dr_logic.proofs.Choices.{choose_some}
 use Rattle.dr_facts.proofs.Tables.{at_part}
-use Rattle.dr_logic.proofs.Truth.{false_true}
 use Rattle.dr_logic.proofs.Tables.{at_same, at_other}
 
 -- a locked primary that isn't Suspended is Full Duplex
@@ -104,9 +105,9 @@ module _ (Fin : Option ℕ → World → Option Refusal → Type 0) (fin : (w : 
           (λ locked.
           let synced = locked-synced (fields_at w.control a) x.going locked in
           let metro = (and_parts (is_metro (fields_at w.control a).primary) _ synced).0 in
-          rows.pairs a b x.to (inl one.0.allowed.takes) t (subst (λ n. t < n) (sym (rows.parts.secondary a b x.to).same_tracks) one.0.allowed.low)
+          rows.pairs a b x.to (inl one.0.allowed.takes) t (subst (λ n. t < n) (sym (rows.parts.secondary a b x.to).same_tracks) one.0.allowed.receives.low)
           (λ i. clean w k x locked t i || (k.in_sync.free a).changes metro t i)
-          (λ back. false_true ((rows.parts.one b).one (chosen _ _ a back).0) (chosen _ _ a one.0.allowed.takes).0))
+          (two-partners (table w b) a (rows.parts.fit b) one.0.allowed.takes))
           tt refl (λ f z. strikes (done w m f) z (sends-done w m f refl refl x) (one.1 f z.sound))
 
       -- b is reached, or a is suspended and the plan ends

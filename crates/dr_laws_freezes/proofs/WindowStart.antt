@@ -53,7 +53,7 @@ goes-on v u free h t =
   where
     by : (b : Bool) → is_torn u.fields ≡ b → is_metro u.fields.primary ≡ true → is_full_duplex (cond b CopyPending u.fields.primary_state) ≡ true → contains (fields_left (Restart v) u).out_of_sync t ≡ false
     by true is metro duplex = absurd cc
-    by false is metro duplex = clean-left (Restart v) u tt free (not-torn u.fields is) h t
+    by false is metro duplex = clean-left (Restart v) u tt tt free (not-torn u.fields is) h t
 
 module _ (s : ℕ) where
   -- what holds while these volumes are left to go on

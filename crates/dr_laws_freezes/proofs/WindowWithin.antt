@@ -95,13 +95,13 @@ module _ (v t : ℕ) where
     pub within-done : Here w m → Within (done w m f)
     within-done here = record {
       sound = keeps-sound.does w (Make m) f k.sound may;
-      in_sync = but-changed w m here (unheld w m (come w m may)) k.in_sync (done w m f).control.on (done w m f).control.fuse (settled m w.control.pending) (done w m f).events (λ j h. h) (fresh-done w m f (come w m may) k.in_sync.fresh);
+      in_sync = but-changed w m here (unheld w k.sound.rows m (come w m may)) k.in_sync (done w m f).control.on (done w m f).control.fuse (settled m w.control.pending) (done w m f).events (λ j h. h) (fresh-done w m f (come w m may) k.in_sync.fresh);
     }
 
     pub within-stop : Here w m → Within (done_in_stop w m f)
     within-stop here = record {
       sound = keeps-sound.counts w m f k.sound may;
-      in_sync = but-changed w m here (unheld w m (come w m may)) k.in_sync (done_in_stop w m f).control.on (done_in_stop w m f).control.fuse (settled_in_stop m w.control.pending) (done_in_stop w m f).events (off_later w.control.on (w.control.volume (target m)).server) (fresh-stop w m f k.in_sync.fresh);
+      in_sync = but-changed w m here (unheld w k.sound.rows m (come w m may)) k.in_sync (done_in_stop w m f).control.on (done_in_stop w m f).control.fuse (settled_in_stop m w.control.pending) (done_in_stop w m f).events (off_later w.control.on (w.control.volume (target m)).server) (fresh-stop w m f k.in_sync.fresh);
     }
 
     pub within-not : Within (not_done w (server_at w (target m)) f)

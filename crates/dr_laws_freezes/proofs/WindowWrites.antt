@@ -32,8 +32,8 @@ use Rattle.dr_laws_sound.proofs.Lands.{found-alone, waits, may-ack, not-busy}
 use Rattle.dr_laws_sound.proofs.FitsFlash.{as_begun}
 use Rattle.dr_laws_sound.proofs.FitsPairs.{row, runs-done, part-same}
 use Rattle.dr_laws_sound.proofs.FitsWrites.{lands}
-use Rattle.dr_laws_freezes.proofs.WindowMoves.{is_locked, Unacked}
-use Rattle.dr_laws_freezes.proofs.InSync.{is_synced, Clean}
+use Rattle.dr_laws_freezes.proofs.WindowMoves.{is_locked, come, Unacked}
+use Rattle.dr_laws_freezes.proofs.InSync.{is_synced, Clean, unheld}
 use Rattle.dr_laws_freezes.proofs.Windows.{Good}
 use Rattle.dr_laws_freezes.proofs.Chains.{WindowAlong, window-nil, StopFin, EndFin, PlanFin, good-none}
 use Rattle.dr_laws_freezes.proofs.WindowActs.{Between, Leaves, window-leaves, window-move, window-check}
@@ -51,7 +51,7 @@ use Rattle.dr_laws_sound.proofs.KeepsRecorders.{not-metro}
 use Rattle.dr_laws_freezes.proofs.WindowWithin.{window-after, Within, within-between, heal, Here, window-part, window-within, Keeps, window-copies, window-dropped}
 use Rattle.dr_facts.proofs.Tracks.{not_removed_from}
 use Rattle.dr_logic.proofs.Truth.{false_true}
-use Rattle.dr_logic.proofs.Tables.{at_same}
+use Rattle.dr_logic.proofs.Tables.{at_same, at_other}
 
 not-suspended : (s : PairState) → is_full_duplex s ≡ true → is_suspended s ≡ false
 not-suspended CopyPending h = absurd cc
@@ -229,13 +229,13 @@ module _ (p : Pending) (Fin : Option ℕ → World → Option Refusal → Type 0
         window-within v t Fin stops None w k.within (now m) m behind refl (good-both None w k) one.0
         ((λ locked x ne. k.within.in_sync.clean v there k.on (locked-synced (fields_at w.control v) k.going locked) x (λ a e. absurd (ne e))), unacked w k.within k.one)
         (record { p = p; number = refl; here = found-in p w.control.pending k.one; coming = (subst (AllPending (Coming v t)) k.one (may-ack w k.within.sound p k.one k.on).coming).0 })
-        (λ d r. k.within.in_sync.clean u d r)
+        (λ d r h. false_true (unheld w k.within.sound.rows m (come w m one.0)) (and_parts (is_metro (fields_at w.control u).primary) _ h).0)
         (λ f z. window-copies Fin (Some n) (Both (Some n)) (λ w k. k.within.sound) (good-both (Some n)) (both-keeps (Some n)) v t volumes (now (LandBoth n v t) ∷ []) (done w m f) (record {
           within = z;
           on = runs-done w m f v k.on;
           going = part-same w m f (λ (g : Fields). is_suspended g.primary_state) refl v ∙ k.going;
           one = k.one;
-          out = λ j is. let e : n ≡ j = cc in (sym e, part-same w m f (λ (g : Fields). contains g.out_of_sync t) refl v ∙ one.0.allowed.out);
+          out = λ j is. let e : n ≡ j = cc in (sym e, ap (λ (y : Volume). contains y.fields.out_of_sync t) (at_other w.control.volume u (row w m f) v (λ e. (k.within.sound.rows.parts.secondary v u one.0.allowed.sends).apart (ap (λ j. (w.control.volume j).server) e))) ∙ one.0.allowed.out);
         }) (one.1 f z.sound) lands-both)
 
     -- the track is out of sync, and the targets of u keep it first

@@ -11,12 +11,12 @@ use Rattle.std.specs.List.{list_any, fold}
 use Rattle.std.specs.FinSet.{contains}
 use Rattle.dr_model.specs.declared.event.Event.{Event}
 use Rattle.dr_model.specs.declared.event.Event.TheVariants.{Ack, Stopped}
-use Rattle.dr_model.specs.Layout.{Fields, is_part}
+use Rattle.dr_model.specs.Layout.{Fields}
 use Rattle.dr_model.specs.Relations.{is_bare}
 use Rattle.dr_model.specs.Contents.{image}
 use Rattle.dr_model.specs.Histories.{histories, lists}
 use Rattle.dr_model.specs.Control.{World, nothing}
-use Rattle.dr_model.specs.Pairs.{secondary_of, is_metro, is_full_duplex}
+use Rattle.dr_model.specs.Pairs.{is_metro, is_full_duplex}
 use Rattle.dr_model.specs.Moves.{target, told, told_in_stop, landed}
 use Rattle.dr_model.specs.Entries.{fields_at}
 use Rattle.dr_model.specs.WriteEntries.{partner_of}
@@ -26,11 +26,10 @@ use Rattle.dr_model.specs.Runs.{Task}
 use Rattle.dr_laws_freezes.specs.Moments.{moments_from, moments}
 use Rattle.dr_laws_freezes.specs.Windows.{LssPairs, is_in, IsSoundWindow, is_clean, stays_with, is_back_to, later_mirrored, last_mirrored, unacked_on, last_of, told_since, frozen, acked_on, HoldsWhatCame, FreezeCut}
 use Rattle.dr_laws_freezes.proofs.WindowTracks.{Stays, stays, Window, window-image}
-use Rattle.dr_laws_freezes.proofs.KeepsWindow.{no_first}
+use Rattle.dr_facts.proofs.Parts.{two-partners}
 use Rattle.dr_laws_freezes.proofs.InSync.{Fresh}
 use Rattle.dr_laws_freezes.proofs.KeepsLists.{ListGrows, grows-none, grows-more}
 use Rattle.dr_laws_freezes.proofs.KeepsStep.{Step, Does, Stops, Acks, Others, Passes, Backless, Next, window-step}
-use Rattle.dr_logic.proofs.Choices.{chosen}
 use Rattle.dr_facts.proofs.Tracks.{bare-has}
 use Rattle.dr_logic.proofs.Truth.{false_true}
 
@@ -175,12 +174,9 @@ module _ (v q : ℕ) where
             false_true (bare-has f.out_of_sync x.track bare.0) (ap (λ j. contains (fields_at w.control j).out_of_sync x.track) (sym on) ∙ k.out n is);
         tracks = λ t lt. inl (record {
           settled = refl;
-          bytes = sym (k.rows.pairs v q st.to (inl st.takes) t lt (λ i. bare-has f.out_of_sync t bare.0 i || bare-has f.change_recording t bare.1 i) (λ back. no_first v q w k.rows st (from-second back)));
+          bytes = sym (k.rows.pairs v q st.to (inl st.takes) t lt (λ i. bare-has f.out_of_sync t bare.0 i || bare-has f.change_recording t bare.1 i) (two-partners (table w q) v (k.rows.parts.fit q) st.takes));
         });
       }
-    where
-      from-second : secondary_of (fields_at w.control q) ≡ Some v → is_part (fields_at w.control q).primary ≡ true
-      from-second back = (chosen _ _ v back).0
 
 -- a sound window of a run whose moments are such a chain
 module _ (tasks : List Task) (tag : Option ℕ) (chain : Chain tag nothing (moments_from nothing tasks)) (set : LssPairs) (before later after : List World) (first : World) (is : moments tasks ≡ before ++ (first ∷ later ++ after))

@@ -72,7 +72,7 @@ abbrev pub StartMakesNoOtherWrite : ℕ → World → Task → Type 0
 StartMakesNoOtherWrite s w t =
     (name : Name) → t.asked ≡ Ok (Start name) → (server_named w.control (name_bytes name) ≡ Some s → ⊥) → MakesNoWrite s w t × (tells_stop s (told_since w (after_task w t)) ≡ false)
 
--- A fuse of server s stops nothing in a step: it leads to what it leads to without a fuse, but for the fuse of that server.
+-- A fuse of server s stops nothing in a step: it leads to what it leads to without a fuse, except for the fuse of that server.
 pub record StopsNothing (s : ℕ) (fuse : Fuse) (w : World) (t : Task) : Type 0 where
   pub left : Option Fuse
   pub is : after_task (with_fuse w s (Some fuse)) t ≡ with_fuse (after_task (with_fuse w s None) t) s left

@@ -159,11 +159,11 @@ related-source w v from is = by (w.control.volume v).fields.related is
     by false is = absurd cc
 
 told-heard : (starts : Option ℕ) (w : World) (s : SoundBut starts w) (m : Move) → Allowed (writes w) (table w) m → Ready w m → AllOf (Heard w) (told m (w.control.volume (target m)))
-told-heard starts w s (Land n v t) allowed ready = (acked-low w n v t ready.volume ready.track allowed.low, tt)
+told-heard starts w s (Land n v t) allowed ready = (acked-low w n v t ready.volume ready.track allowed.receives.low, tt)
 told-heard starts w s (Overwrite n v t) allowed ready = (acked-low w n v t ready.volume ready.track allowed.low, tt)
-told-heard starts w s (LandBoth n v t) allowed ready = (acked-low w n v t ready.volume ready.track allowed.land.low, tt)
-told-heard starts w s (Mirror v t u n) allowed ready = (subst (λ q. q < sizes w v) (sym ready.track) allowed.low, tt)
-told-heard starts w s (Store v t u last) allowed ready = (allowed.low, tt)
+told-heard starts w s (LandBoth n v t) allowed ready = (acked-low w n v t ready.volume ready.track allowed.land.receives.low, tt)
+told-heard starts w s (Mirror v t u n) allowed ready = (subst (λ q. q < sizes w v) (sym ready.track) allowed.receives.low, tt)
+told-heard starts w s (Store v t u last) allowed ready = (allowed.receives.low, tt)
 told-heard starts w s (Flash v u a i n) allowed ready = (target-sizes starts w s v u (allowed.resync.related ∙ ap Some allowed.from), tt)
 told-heard starts w s (Relate v x choices) allowed ready = (allowed.tracks, tt)
 told-heard starts w s (Resync v sequence) allowed ready = (target-sizes starts w s v allowed.from allowed.related ∙ ap (sizes w) (sym (related-source w v allowed.from allowed.related)), tt)

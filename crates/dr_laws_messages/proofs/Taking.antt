@@ -1,5 +1,5 @@
 -- A master takes replies, one after another: who is owed then, and what was reported; and what the messages in flight say stays.
-use Rattle.std.proofs.Common.{ℕ, ◌≡◌, ◌≢◌, ◌≤◌, ◌+◌, ◌⊎◌, inl, inr, refl, ap, sym, ◌∙◌, true, false, not, arith, List, [], ◌∷◌, ◌++◌, length, subst, ◌==◌}
+use Rattle.std.proofs.Common.{ℕ, ◌≡◌, ◌≢◌, ◌≤◌, ◌+◌, ◌⊎◌, inl, inr, refl, sym, ◌∙◌, true, false, arith, List, [], ◌∷◌, ◌++◌, length, subst}
 use Rattle.std.proofs.lemmas.Bool.{cases_Bool}
 use Rattle.std.proofs.lemmas.Bool.Decides.{eqb_tells}
 use Rattle.dr_ids.specs.declared.refusal.PhaseName.{PhaseName}
@@ -11,7 +11,7 @@ use Rattle.dr_model.specs.Groups.{In, IsOrder}
 use Rattle.dr_model.specs.Attempts.{Seen, All, Barred, Blocked, is_owed, Answered, IsReported, AgreesOnLast, AgreesOnOther, Known, InPhase}
 use Rattle.dr_model.specs.Flights.{IsKnown, IsSentSoFar, IsThreat, IsAwaited, MayTake, owed_after, reports_after, shown_by, shown_in, members_at, FlightFits}
 use Rattle.dr_facts.proofs.Tables.{IsOrNot}
-use Rattle.dr_facts.proofs.Lists.{in-first, in-second, in-joined, from-filter, some-any}
+use Rattle.dr_facts.proofs.Lists.{in-first, in-second, in-joined}
 use Rattle.dr_laws_sessions.proofs.Reports.{out-without}
 use Rattle.dr_laws_sessions.proofs.Sound.{among-without}
 use Rattle.dr_laws_sessions.proofs.Owed.{among-fewer}

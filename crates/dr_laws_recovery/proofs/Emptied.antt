@@ -4,11 +4,12 @@ use Rattle.std.specs.Prelude.{is_some}
 use Rattle.std.specs.Option.{option_or}
 use Rattle.std.specs.FinSet.{contains, remove}
 use Rattle.std.specs.List.{range_with_len}
+use Rattle.std.proofs.lemmas.Bool.{and_parts}
 use Rattle.std.proofs.lemmas.Bool.Decides.{eqb_tells}
 use Rattle.dr_ids.specs.declared.refusal.Refusal.{Refusal}
 use Rattle.dr_ids.specs.declared.refusal.Kind.TheVariants.{Path as OfPath}
 use Rattle.dr_model.specs.Refusals.{unknown, server_off}
-use Rattle.dr_model.specs.Layout.{Tracks, Fields}
+use Rattle.dr_model.specs.Layout.{Tracks, Fields, is_part}
 use Rattle.dr_model.specs.Relations.{in_order}
 use Rattle.dr_model.specs.Pairs.{is_secondary_of, is_last}
 use Rattle.dr_model.specs.Control.{Control, Fuse, Volume, World}
@@ -19,6 +20,7 @@ use Rattle.dr_model.specs.PairEntries.{link_down, has_path, reach_refusal, belon
 use Rattle.dr_model.specs.Plans.{drain_plan, is_defined}
 use Rattle.dr_model.specs.Groups.{In}
 use Rattle.dr_model.specs.Laws.{Sound}
+use Rattle.dr_model.specs.Table.{table}
 use Rattle.dr_model.specs.Allowed.{Runs}
 use Rattle.dr_model.proofs.CarryLemmas.{carry-skips}
 use Rattle.dr_facts.proofs.Refusals.{none-both, met}
@@ -39,7 +41,9 @@ use Rattle.dr_laws_recovery.proofs.Went.{carry-keeps, Split, carry-split}
 use Rattle.dr_laws_recovery.specs.Emptied.{IsEmptied, EqualAfter}
 use Rattle.dr_logic.proofs.Truth.{false_true}
 use Rattle.dr_logic.proofs.Options.{none_some}
-use Rattle.dr_logic.proofs.Tables.{at_same}
+use Rattle.dr_logic.proofs.Tables.{at_same, at_other}
+use Rattle.dr_logic.proofs.Choices.{choose_some}
+use Rattle.dr_laws_cuts.proofs.Still.{no-second}
 
 -- the tracks of a set are in it in order
 in-range : (n b q : ℕ) → b < q + 1 → q < b + n → In q (range_with_len b n)
@@ -54,16 +58,16 @@ in-in_order : (n : ℕ) (s : Tracks) (q : ℕ) → q < n → contains s q ≡ tr
 unfolding in_order
 in-in_order n s q low here = to-filter (contains s) (range_with_len 0 n) q (in-range n 0 q (omega arith) (omega (arith, low))) here
 
--- moves that leave what is out of sync
-abbrev Stays : Move → Type 0
-Stays (Keep v t) = Unit {0}
-Stays (Note v t) = Unit {0}
-Stays (Store v t u last) = Unit {0}
-Stays m = ⊥
+-- moves that leave what is out of sync on a
+abbrev Stays : ℕ → Move → Type 0
+Stays a (Keep v t) = Unit {0}
+Stays a (Note v t) = Unit {0}
+Stays a (Store v t u last) = a ≢ v
+Stays a m = ⊥
 
-abbrev Ok : World → Act → Type 0
-Ok w (Make m) = Stays m
-Ok w a = ⊥
+abbrev Ok : ℕ → World → Act → Type 0
+Ok a w (Make m) = Stays a m
+Ok a w x = ⊥
 
 module _ (a b : ℕ) where
   -- the server of a is on, and what is out of sync there is one of these tracks
@@ -71,13 +75,13 @@ module _ (a b : ℕ) where
     runs : Runs w a
     rest : (q : ℕ) → contains (fields_at w.control a).out_of_sync q ≡ true → In q ts
 
-  same-out : (w : World) (m : Move) (f : Option Fuse) → Stays m → (fields_at (done w m f).control a).out_of_sync ≡ (fields_at w.control a).out_of_sync
+  same-out : (w : World) (m : Move) (f : Option Fuse) → Stays a m → (fields_at (done w m f).control a).out_of_sync ≡ (fields_at w.control a).out_of_sync
   same-out w (Keep v t) f is = part-same w (Keep v t) f (λ (g : Fields). g.out_of_sync) refl a
   same-out w (Note v t) f is = part-same w (Note v t) f (λ (g : Fields). g.out_of_sync) refl a
-  same-out w (Store v t u last) f is = part-same w (Store v t u last) f (λ (g : Fields). g.out_of_sync) refl a
+  same-out w (Store v t u last) f is = ap (λ (y : Volume). y.fields.out_of_sync) (at_other w.control.volume v (row w (Store v t u last) f) a is)
   same-out w m f is = absurd is
 
-  leaving-act : (ts : List ℕ) (w : World) (x : Act) (f : Option Fuse) → Ok w x → Leaving ts w → Leaving ts (after_act w x f)
+  leaving-act : (ts : List ℕ) (w : World) (x : Act) (f : Option Fuse) → Ok a w x → Leaving ts w → Leaving ts (after_act w x f)
   leaving-act ts w (Make m) f is old = record { runs = runs-done w m f a old.runs; rest = λ q h. old.rest q (sym (ap (λ s. contains s q) (same-out w m f is)) ∙ h) }
   leaving-act ts w x f is old = absurd is
 
@@ -138,16 +142,16 @@ module _ (a b : ℕ) where
           one (inl is) = false_true (ap (contains (remove (fields_at w.control a).out_of_sync t)) is ∙ not_removed (fields_at w.control a).out_of_sync t) h
           one (inr there) = there
 
-  sent-left : (volumes : List ℕ) (ts : List ℕ) (w v : World) → carry w (sends volumes a b ts) ≡ (v, None) → Leaving ts w → Leaving [] v
-  sent-left volumes [] w v leads old = subst (Leaving []) (nothing-left w v leads) old
-  sent-left volumes (t ∷ ts) w v leads old =
+  sent-left : a ≢ b → (volumes : List ℕ) (ts : List ℕ) (w v : World) → carry w (sends volumes a b ts) ≡ (v, None) → Leaving ts w → Leaving [] v
+  sent-left ne volumes [] w v leads old = subst (Leaving []) (nothing-left w v leads) old
+  sent-left ne volumes (t ∷ ts) w v leads old =
       let one : Split w v (send_entries volumes a b t) (sends volumes a b ts) = carry-split w v (send_entries volumes a b t) (sends volumes a b ts) leads in
       let free = (passed-refuse w one.middle (flashed_refusal b) _ (can-send w one.middle _ old.runs one.first).leads).1 in
       let two : Split w one.middle (copy_first volumes b t) (store_on a b t ∷ strike_on a t ∷ []) = carry-split w one.middle (copy_first volumes b t) (store_on a b t ∷ strike_on a t ∷ []) free in
       let three : Split two.middle one.middle (store_on a b t ∷ []) (strike_on a t ∷ []) = carry-split two.middle one.middle (store_on a b t ∷ []) (strike_on a t ∷ []) two.rest in
-      let kept = carry-keeps Ok (Leaving (t ∷ ts)) (leaving-act (t ∷ ts)) w two.middle (copy_first volumes b t) (copies-fine any_world Ok any_reason (λ u t w any. tt) (λ u t w any. tt) volumes b t) two.first old in
-      let stored = carry-keeps Ok (Leaving (t ∷ ts)) (leaving-act (t ∷ ts)) two.middle three.middle (store_on a b t ∷ []) (fine-one any_world Ok any_reason (store_on a b t) (λ w any. tt)) three.first kept in
-      sent-left volumes ts one.middle v one.rest (struck-left t ts three.middle one.middle three.rest stored)
+      let kept = carry-keeps (Ok a) (Leaving (t ∷ ts)) (leaving-act (t ∷ ts)) w two.middle (copy_first volumes b t) (copies-fine any_world (Ok a) any_reason (λ u t w any. tt) (λ u t w any. tt) volumes b t) two.first old in
+      let stored = carry-keeps (Ok a) (Leaving (t ∷ ts)) (leaving-act (t ∷ ts)) two.middle three.middle (store_on a b t ∷ []) (fine-one any_world (Ok a) any_reason (store_on a b t) (λ w any. ne)) three.first kept in
+      sent-left ne volumes ts one.middle v one.rest (struck-left t ts three.middle one.middle three.rest stored)
 
 module _ (w : World) (s : Sound w) (a : ℕ) where
   pub drain-empties : Leaves (λ u. IsEmptied u a) w (drain_plan w.control a None)
@@ -157,7 +161,10 @@ module _ (w : World) (s : Sound w) (a : ℕ) where
       let on = passed-check first u (is_running a) _ _ there.1 in
       let copying = passed-check first u (is_copying a) _ _ on.1 in
       let ts : List ℕ = in_order (w.control.volume a).tracks (fields_at w.control a).out_of_sync in
-      let left = sent-left a (fields_at w.control a).primary_partner w.control.volumes ts first u copying.1
+      let b : ℕ = (fields_at w.control a).primary_partner in
+      let first_part : is_part (fields_at w.control a).primary ≡ true = (and_parts (is_part (fields_at w.control a).primary) _ copying.0).0 in
+      let ne : a ≢ b = λ e. no-second (table w) s.rows a (choose_some _ b first_part ∙ ap (λ j. Some j) (sym e)) in
+      let left = sent-left a b ne w.control.volumes ts first u copying.1
       (record { runs = on.0; rest = λ q h. in-in_order (w.control.volume a).tracks (fields_at w.control a).out_of_sync q ((s.rows.structure.lawful a).sets.out_of_sync_low q h) h }) in
       unturned (contains (fields_at u.control a).out_of_sync t) (λ h. left.rest t h)
 

@@ -27,7 +27,7 @@ module _ (w : World) (s : Sound w) (on : ℕ → Bool) (fuse : ℕ → Option Fu
       f = fields_at w.control v
 
       by : (r : Bool) → f.related ≡ r → cond (f.related && not (contains f.own t)) (on_device w.control device f.source t) (on_device w.control device v t) ≡ on_device w.control device v t
-      by true is = false_true ((s.rows.parts.one v).no_secondary is) (chosen (is_part f.secondary) f.secondary_partner u of).0
+      by true is = false_true ((s.rows.parts.fit v).no_secondary is) (chosen (is_part f.secondary) f.secondary_partner u of).0
       by false is = ap (λ b. cond (b && not (contains f.own t)) (on_device w.control device f.source t) (on_device w.control device v t)) is
 
   contains-own : (v u t : ℕ) → is_volume w.control v ≡ true → primary_of (fields_at w.control v) ≡ Some u → t < (w.control.volume v).tracks → on_device w.control device v t ≡ w.contents v t

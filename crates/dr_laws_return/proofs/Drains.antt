@@ -212,7 +212,7 @@ module _ (w : World) (s : Sound w) (x y : ℕ) (can : CanDrain w.control x y) wh
     other = can.other;
     linked = can.linked;
     follows = can.follows;
-    plain = false_from_ne_true (fields_at w.control y).related (λ h. false_true ((s.rows.parts.one y).no_secondary h) (and_parts (is_part (fields_at w.control y).secondary) _ can.follows).0);
+    plain = false_from_ne_true (fields_at w.control y).related (λ h. false_true ((s.rows.parts.fit y).no_secondary h) (and_parts (is_part (fields_at w.control y).secondary) _ can.follows).0);
     free = can.free;
     armed = λ q h. h;
   }

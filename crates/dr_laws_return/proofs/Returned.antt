@@ -160,7 +160,7 @@ module _ (x y : ℕ) (kind : Part) where
     at_y = (fits.volumes y too).fields
 
     plain : f.related ≡ false
-    plain = false_from_ne_true f.related (λ h. false_true ((s.rows.parts.one x).no_primary h) (and_parts (is_part f.primary) _ home.faces.leads).0)
+    plain = false_from_ne_true f.related (λ h. false_true ((s.rows.parts.fit x).no_primary h) (and_parts (is_part f.primary) _ home.faces.leads).0)
 
     bare : is_bare f.out_of_sync ≡ true
     bare = bare-none f.out_of_sync home.sent

@@ -9,7 +9,7 @@ use Rattle.dr_model.specs.Entries.{fields_at}
 use Rattle.dr_model.specs.Table.{table}
 use Rattle.dr_model.specs.Laws.{Sound}
 use Rattle.dr_model.specs.Fits.{Fits}
-use Rattle.dr_laws_cuts.proofs.Still.{second-first}
+use Rattle.dr_facts.proofs.Parts.{two-partners}
 use Rattle.dr_laws_sound.proofs.FitsPairs.{its-first, its-second}
 use Rattle.dr_laws_recovery.specs.Decided.{record_on}
 use Rattle.dr_laws_return.specs.Sites.{SitesAlike}
@@ -25,5 +25,5 @@ alike-on w on fuse device s fits x y there too leads follows =
       size = (s.rows.parts.secondary x y (its-second y (fields_at k x) leads_to)).same_tracks;
       tracks = λ t lt none still. fits.pairs x y (its-second y (fields_at k x) leads_to) (inl (its-first x (fields_at k y) second)) t lt
           (or_from _ _ (ap (λ (f : Fields). contains f.out_of_sync t) (sym at_x) ∙ none) (ap (λ (f : Fields). contains f.change_recording t) (sym at_x) ∙ still))
-          (λ back. second-first (table w) s.rows y x x (its-first x (fields_at k y) second) back);
+          (λ back. two-partners (table w y) x (s.rows.parts.fit y) (its-first x (fields_at k y) second) back);
     }

@@ -1,4 +1,4 @@
--- What a failback and a drain behind it leave: the way home.
+-- What a failback and a drain after it leave: the way home.
 use Rattle.std.specs.Prelude.{◌≡◌, ◌<◌, ℕ, true, false, List, [], ◌∷◌, ◌++◌, None, Ok}
 use Rattle.std.specs.FinSet.{contains}
 use Rattle.dr_model.specs.declared.said.Addition.{Addition}
@@ -32,8 +32,8 @@ pub record IsReturned (w : World) (device : ℕ → Blocks) (x y : ℕ) (kind : 
   pub equal : (t : ℕ) → t < (w.control.volume x).tracks → on_device w.control device x t ≡ on_device w.control device y t
   pub writes : (t : ℕ) → t < (w.control.volume x).tracks → on_device w.control device x t ≡ image_at w.events x t
 
--- Where a run's last two steps are a failback of x to y and a drain of all tracks of x, and both are answered ok, whatever came before. So the
--- pair was in Copy Pending behind the failback: a drain of one that is Full Duplex is refused.
+-- If a run's last two steps are a failback of x to y and a drain of all tracks of x, and both are answered ok, whatever came before. So the
+-- pair was in Copy Pending after the failback: a drain of one that is Full Duplex is refused.
 abbrev pub Returns : List Task → (ℕ → Blocks) → Type 0
 Returns tasks device =
     (before : List Task) (t s : Task) (devs : Devs) (x y kind : ℕ) (a b : Addition) → tasks ≡ before ++ t ∷ s ∷ [] → t.asked ≡ Ok (Failback devs x y kind) → s.asked ≡ Ok (Drain x None)

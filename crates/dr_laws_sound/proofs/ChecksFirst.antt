@@ -1,6 +1,6 @@
 -- Entries of which checks come first: a refusal comes before anything was done. So a plan of such entries that is refused, but by the stop
 -- of a server, leaves the world as it was.
-use Rattle.std.proofs.Common.{ℕ, suc, ◌≡◌, ◌⊎◌, refl, ap, sym, ◌∙◌, take, drop, Bool, true, false, cond, List, [], ◌∷◌, Option, Some, None}
+use Rattle.std.proofs.Common.{ℕ, suc, ◌≡◌, refl, ap, sym, ◌∙◌, take, drop, List, [], ◌∷◌, Option, Some, None}
 use Rattle.std.specs.List.{flat_map}
 use Rattle.dr_ids.specs.declared.refusal.Refusal.{Refusal}
 use Rattle.dr_ids.specs.declared.refusal.Refusal.TheVariants.{Stopped as StoppedIn}

@@ -7,11 +7,12 @@ use Rattle.dr_model.specs.declared.event.Event.TheVariants.{Volume as VolumeDefi
 use Rattle.std.specs.FinSet.{contains}
 use Rattle.dr_logic.specs.Bytes.{zeros}
 use Rattle.dr_logic.specs.Tables.{at}
+use Rattle.dr_model.specs.Layout.{is_part}
 use Rattle.dr_model.specs.Contents.{image}
 use Rattle.dr_model.specs.Histories.{Write, Histories, histories, after_event}
 use Rattle.dr_model.specs.Control.{Pending, Volume, World, is_volume, new_volume}
 use Rattle.dr_model.specs.Table.{Row, table, waiting, due_by, aside, aside_by}
-use Rattle.dr_model.specs.Laws.{Seals, OneKind, SealedGlobal, AllSent, NoMetro, fields, ShowsAside, SoundRows, HoldsOld, RowParts, RowRecords, Partnered, OneWay, FreeSource, Alike, source, its_primary, its_secondary, Numbered, Waits, AllPending, Lone, Together, servers, sizes, Sound}
+use Rattle.dr_model.specs.Laws.{NoneCascaded, Seals, OneKind, SealedGlobal, AllSent, NoMetro, fields, ShowsAside, SoundRows, HoldsOld, RowParts, RowRecords, Partnered, OneWay, FreeSource, Alike, source, its_primary, its_secondary, Numbered, Waits, AllPending, Lone, Together, servers, sizes, Sound}
 use Rattle.dr_model.proofs.Images.{histories-append}
 use Rattle.dr_laws_attempts.proofs.Volumes.{attempts-defined}
 use Rattle.dr_laws_messages.proofs.Moves.{flights-defined}
@@ -167,7 +168,7 @@ module _ (w : World) (s : Sound w) (v server tracks : ℕ) (here : server < leng
       restores = λ u e. absurd cc;
     });
     parts = record {
-      one = each-at (table w) v row (λ v r. RowParts r) (record { one = λ e. absurd cc; no_primary = λ e. refl; no_secondary = λ e. refl }) s.rows.parts.one;
+      fit = each-at (table w) v row (λ v r. RowParts r) (record { both = λ e. absurd cc; no_primary = λ e. refl; no_secondary = λ e. refl }) s.rows.parts.fit;
       secondary = linked-at (table w) v row its_secondary Partnered (λ u ne e. absurd cc) (λ e. absurd cc) (λ u ne e. no-primary-yet u e) s.rows.parts.secondary;
       primary = linked-at (table w) v row its_primary Partnered (λ u ne e. absurd cc) (λ e. absurd cc) (λ u ne e. no-secondary-yet u e) s.rows.parts.primary;
       one_way = linked-at (table w) v row its_primary OneWay (λ u ne e. absurd cc) (λ e. absurd cc) (λ u ne e. no-secondary-yet u e) s.rows.parts.one_way;
@@ -207,10 +208,16 @@ module _ (w : World) (s : Sound w) (v server tracks : ℕ) (here : server < leng
         calm = λ l f. ap w.control.on (same-server p waits) ∙ waits.calm l f;
       }
 
+  uncascaded-defined : NoneCascaded with_volume.control
+  uncascaded-defined =
+      at_cases (λ u (x : Volume). is_part x.fields.primary ≡ true → is_part x.fields.secondary ≡ false) w.control.volume v (new_volume server tracks) (λ h. absurd cc) (λ u ne. s.uncascaded u)
+
   pub sound-defined : Sound with_volume
   sound-defined = record {
     rows = subst SoundRows (sym table-defined) rows-defined;
     targets = few-defined w.control s.targets v server tracks undefined;
+    uncascaded = uncascaded-defined;
+    secondaries = λ x q i here. uncascaded-defined q.b.0;
     groups = groups-defined w.control v server tracks undefined s.groups;
     housed = housed-volume w.control v server tracks here s.housed;
     attempts = attempts-defined w.control v server tracks undefined s.groups s.attempts;

@@ -1,5 +1,5 @@
 -- Each step's entries, and those that follow a stop in it, come to the acts that it does; and they refuse for no reason that names a stop.
-use Rattle.std.proofs.Common.{ℕ, ◌≡◌, ◌+◌, ◌&&◌, refl, sym, subst, Bool, true, false, cond, not, List, [], ◌∷◌, ◌++◌, map, Option, Some, None, Result, Ok, Err}
+use Rattle.std.proofs.Common.{ℕ, ◌≡◌, ◌+◌, ◌&&◌, refl, sym, subst, Bool, true, false, cond, not, List, [], ◌∷◌, ◌++◌, map, Option, Result, Ok}
 use Rattle.std.proofs.lemmas.Bool.{and_parts}
 use Rattle.std.specs.Prelude.{is_some}
 use Rattle.dr_ids.specs.declared.names.Member.{Member}

@@ -22,9 +22,10 @@ use Rattle.dr_model.specs.Table.{table}
 use Rattle.dr_model.specs.Laws.{Sound}
 use Rattle.dr_model.specs.Allowed.{Runs}
 use Rattle.dr_facts.proofs.Sets.{if_true, not_removed}
+use Rattle.dr_laws_cuts.proofs.Still.{plain-receives}
 use Rattle.dr_laws_sound.proofs.Turns.{done, next_of, carried_in}
 use Rattle.dr_laws_sound.proofs.RowsAfter.{idle}
-use Rattle.dr_laws_sound.proofs.KeepsStructure.{kind_part}
+use Rattle.dr_laws_sound.proofs.KeepsStructure.{revertible-not as other-none, kind_part}
 use Rattle.dr_laws_sound.proofs.KeepsParts.{unrelated, unrelated_primary}
 use Rattle.dr_laws_sound.proofs.KeepsSound.{Along, Then, decides}
 use Rattle.dr_laws_sound.proofs.Cases.{one-passed}
@@ -51,7 +52,7 @@ pub plain-primary : (w : World) → Sound w → (v : ℕ) → is_part (fields_at
 plain-primary w s v first = by (fields_at w.control v).related refl
   where
     by : (b : Bool) → (fields_at w.control v).related ≡ b → b ≡ false
-    by true is = false_true ((s.rows.parts.one v).no_primary is) first
+    by true is = false_true ((s.rows.parts.fit v).no_primary is) first
     by false is = refl
 
 -- of the targets of a volume none is so
@@ -192,7 +193,7 @@ module _ (w : World) (s : Sound w) (p : Pending) (one : filter (is_write p.w) w.
           linked = (λ i. k.control.link (server v i) (server u i)) ∙ send.linked;
           on_u = runs-done k store h u send.on_u;
           belongs = part-same k store h (is_secondary_of v) refl u ∙ send.belongs;
-          hits = part-same k store h (λ (g : Fields). collides g t) refl v ∙ send.hits;
+          hits = ap (λ (z : Volume). collides z.fields t) (at_other k.control.volume u (row k store h) v ne) ∙ send.hits;
           to = part-same k store h secondary_of refl v ∙ send.to;
         } in
         let strike : Move = Strike v t (is_last (fields_at m.control v) t) in
@@ -246,17 +247,17 @@ module _ (w : World) (s : Sound w) (p : Pending) (one : filter (is_write p.w) w.
         let here_u : k.control.volume u ≡ w.control.volume u = st.volume u plain_u in
         let lasts : Lasts k = lasts-still w k plain_v st x in
         let leads : secondary_of (fields_at k.control v) ≡ Some u = ap (λ (z : Volume). secondary_of z.fields) here_v ∙ to in
+        let takes_k : primary_of (fields_at k.control u) ≡ Some v = ap (λ (z : Volume). primary_of z.fields) here_u ∙ takes in
         let last : Bool = is_last (fields_at k.control v) t in
         let g : Fields = fields_at k.control v in
         decides k (where_sent v u t (store_on v u t)) _ (Do (Make (Store u t v last))) (ap (λ b. cond b (store_on v u t k.control) Pass) (sends-now v u t k sk sent)) (
           record {
             runs = sent.on_u;
             allowed = record {
-              low = subst (λ (z : Volume). t < z.tracks) (sym here_u) low_u;
+              receives = plain-receives (table k) sk.rows u t (other-none _ (sk.uncascaded u) (chosen _ _ v takes_k).0) (subst (λ (z : Volume). t < z.tracks) (sym here_u) low_u) kept;
               sends = leads;
-              takes = ap (λ (z : Volume). primary_of z.fields) here_u ∙ takes;
+              takes = takes_k;
               out = (and_parts g.recording _ (and_parts (is_kind Global g.primary) _ sent.hits).1).1;
-              kept = kept;
             };
             fits = tt;
             group = tt;

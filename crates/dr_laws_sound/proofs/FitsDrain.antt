@@ -18,6 +18,8 @@ use Rattle.dr_model.specs.Table.{table}
 use Rattle.dr_model.specs.Laws.{Sound, Once}
 use Rattle.dr_model.specs.Allowed.{Runs}
 use Rattle.dr_facts.proofs.Sets.{if_true, remove_other}
+use Rattle.dr_laws_cuts.proofs.Still.{plain-receives}
+use Rattle.dr_laws_sound.proofs.KeepsStructure.{revertible-not as other-none}
 use Rattle.dr_laws_sound.proofs.Turns.{done, next_of, carried_in}
 use Rattle.dr_laws_sound.proofs.RowsAfter.{idle}
 use Rattle.dr_laws_sound.proofs.KeepsParts.{unrelated, unrelated_primary}
@@ -26,7 +28,7 @@ use Rattle.dr_laws_sound.proofs.CopyFirst.{from, copy-first}
 use Rattle.dr_laws_sound.proofs.Lands.{Unflashed, unflashed-by}
 use Rattle.dr_laws_sound.proofs.FitsFlash.{as_begun, sound-begun}
 use Rattle.std.specs.Cmp.{nat_cmp_total}
-use Rattle.dr_laws_sound.proofs.FitsPairs.{refused, reached, its-first, row, runs-done, part-same}
+use Rattle.dr_laws_sound.proofs.FitsPairs.{refused, reached, its-first, row, runs-done}
 use Rattle.dr_logic.proofs.Choices.{chosen, choose_some, not_chosen}
 use Rattle.dr_facts.proofs.Refusals.{none-both, met}
 use Rattle.dr_facts.proofs.Tables.{at_part}
@@ -147,7 +149,7 @@ module _ (volumes : List ℕ) (a b n : ℕ) where
     strikes k last f x out ne y =
         let m : World = done k (Store b t a last) f in
         let lasts : Sending m = sending-done k (Store b t a last) f refl x in
-        let outs : Out m ts = subst (λ s. AllOf (λ q. contains s q ≡ true) ts) (sym (part-same k (Store b t a last) f (λ (g : Fields). g.out_of_sync) refl a)) out in
+        let outs : Out m ts = subst (λ s. AllOf (λ q. contains s q ≡ true) ts) (sym (ap (λ (u : Volume). u.fields.out_of_sync) (at_other k.control.volume b (row k (Store b t a last) f) a ne))) out in
         let strike : Move = Strike a t (is_last (fields_at m.control a) t) in
         let bytes_b : m.contents b t ≡ k.contents a t = ap (λ (g : ℕ → List ℕ). g t) (at_same k.contents b (tracks_after (next_of k (Store b t a last)) (carried_in k (Store b t a last)) (k.contents b))) ∙ if_true _ _ (eq-eqb t t refl) in
         let bytes_a : m.contents a t ≡ k.contents a t = ap (λ (g : ℕ → List ℕ). g t) (at_other k.contents b _ a ne) in
@@ -177,11 +179,12 @@ module _ (volumes : List ℕ) (a b n : ℕ) where
           volumes_are = st.volumes ∙ x.volumes_are;
         } in
         let outs : Out k (t ∷ ts) = subst (λ (u : Volume). AllOf (λ q. contains u.fields.out_of_sync q ≡ true) (t ∷ ts)) (sym here_a) out in
+        let takes_k : primary_of (fields_at k.control b) ≡ Some a = ap (λ (u : Volume). primary_of u.fields) here_b ∙ takes in
         let last : Bool = is_last (fields_at k.control a) t in
         decides k (store_on a b t) _ (Do (Make (Store b t a last))) refl (
           record {
             runs = on_k;
-            allowed = record { low = subst (λ (u : Volume). t < u.tracks) (sym here_b) low_b; sends = lasts.to; takes = ap (λ (u : Volume). primary_of u.fields) here_b ∙ takes; out = outs.0; kept = kept };
+            allowed = record { receives = plain-receives (table k) sk.rows b t (other-none _ (sk.uncascaded b) (chosen _ _ a takes_k).0) (subst (λ (u : Volume). t < u.tracks) (sym here_b) low_b) kept; sends = lasts.to; takes = takes_k; out = outs.0 };
             fits = tt;
             group = tt;
             ready = (idle k b sk.queue on_k, idle k a sk.queue lasts.on);

@@ -44,7 +44,7 @@ module _ (w : World) (s : Sound w) where
       checked first (may_take_over a b kind) _ _ (sound-begun w s) (λ may.
       moves first (TakeOver b) [] (record {
         runs = on;
-        allowed = record { second = is-second b a kind may; free = other-none _ ((sound-begun w s).rows.parts.one b).one (is-second b a kind may) };
+        allowed = record { second = is-second b a kind may; free = other-none _ ((sound-begun w s).uncascaded b) (is-second b a kind may) };
         fits = tt;
         group = tt;
         ready = idle first b (sound-begun w s).queue on;
@@ -106,8 +106,8 @@ module _ (w : World) (s : Sound w) where
         let back = still-second f x ∙ its-second y (fields_at w.control x) p.leads in record {
           sends = sends;
           back = back;
-          free = (z.rows.parts.one y).one (part-same first falls f (λ (g : Fields). is_part g.primary) refl y ∙ (and_parts (is_part (fields_at w.control y).primary) _ p.back).0);
-          from_free = (z.rows.parts.one x).one (part-same first falls f (λ (g : Fields). is_part g.primary) refl x ∙ (and_parts (is_part (fields_at w.control x).primary) _ p.leads).0);
+          free = z.uncascaded y (part-same first falls f (λ (g : Fields). is_part g.primary) refl y ∙ (and_parts (is_part (fields_at w.control y).primary) _ p.back).0);
+          from_free = z.uncascaded x (part-same first falls f (λ (g : Fields). is_part g.primary) refl x ∙ (and_parts (is_part (fields_at w.control x).primary) _ p.leads).0);
           alike = refl;
           idle = ap (λ (v : Volume). v.fields.recording) (at_same w.control.volume x (row first falls f));
           out = taken f;

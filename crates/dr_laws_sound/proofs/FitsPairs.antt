@@ -126,12 +126,13 @@ module _ (w : World) (s : Sound w) where
         let on_b : Runs k b = runs-done first (MakeSecondary b a kind state) f b p.on_b in
         let plain_a : (fields_at k.control a).related ≡ false = ap (λ (x : Volume). x.fields.related) same ∙ p.plain_a in
         let plain_b : (fields_at k.control b).related ≡ false = ap (λ (x : Volume). x.fields.related) here ∙ p.plain_b in
+        let free : is_part (fields_at k.control a).secondary ≡ false = ap (λ (x : Volume). is_part x.fields.secondary) same ∙ p.unpaired.1 in
         moves k (MakePrimary a b kind state full) [] (record {
           runs = on_a;
           allowed = record {
             is_kind = p.part;
             plain = plain_a;
-            second = ap (λ (x : Volume). is_part x.fields.secondary) same ∙ p.unpaired.1;
+            second = λ h. false_true free h;
             defined = p.there_b;
             takes = ap (λ (x : Volume). primary_of x.fields) here ∙ choose_some (is_part kind) a p.part;
             alike = ap (λ (x : Volume). x.fields.secondary) here;
@@ -140,8 +141,8 @@ module _ (w : World) (s : Sound w) where
                 let lt_b : t < (k.control.volume b).tracks = subst (λ n. t < n) (p.tracks ∙ sym (ap (λ (x : Volume). x.tracks) here)) lt_a in
                 contents-image k x a t lt on_a plain_a ∙ told-nothing f a t ∙ p.equal no t lt_a ∙ sym (told-nothing f b t) ∙ sym (contents-image k x b t lt_b on_b plain_b);
           };
-          fits = tt;
-          group = tt;
+          fits = free;
+          group = λ h. false_true free h;
           ready = idle k a x.queue on_a;
         }) (λ g y. over _ y)
 
@@ -154,7 +155,7 @@ module _ (w : World) (s : Sound w) where
         tracks = sym p.tracks;
         from_defined = p.there_a;
         from_first = p.unpaired.0;
-        from_free = p.unpaired.1;
+        from_free = λ h. false_true p.unpaired.1 h;
         plain = p.plain_b;
         first = p.first_b;
         still = λ x h r. unrestored first begins b p.settled x h r;

@@ -120,7 +120,7 @@ module _ (w : World) (s : Sound w) (i : ℕ) (x : Session) (found : session_in w
           let on : Runs v m.b.0 = st.stays.on m here in (
             record {
               runs = on;
-              allowed = record { second = is; free = other-none _ (st.stays.sound.rows.parts.one m.b.0).one is };
+              allowed = record { second = is; free = other-none _ (st.stays.sound.secondaries x m (listed-in v st.stays) here) is };
               fits = tt;
               group = tt;
               ready = idle v m.b.0 st.stays.sound.queue on;

@@ -36,6 +36,8 @@ pub sound-tables : (w : World) (ss : List Session) (f : Flight) → Groups (reco
 sound-tables w ss f groups attempts flights s = record {
   rows = s.rows;
   targets = record { once = s.targets.once; few = s.targets.few };
+  uncascaded = s.uncascaded;
+  secondaries = λ x q i here. s.uncascaded q.b.0;
   queue = record { each = s.queue.each; apart = s.queue.apart; lone = s.queue.lone; numbers = s.queue.numbers };
   groups = groups-flight (record w.control { sessions = ss }) f groups;
   housed = s.housed;

@@ -19,6 +19,8 @@ use Rattle.dr_model.specs.Laws.{Sound}
 use Rattle.dr_model.specs.Allowed.{Kept, Runs}
 use Rattle.dr_model.proofs.Images.{histories-append}
 use Rattle.dr_facts.proofs.Sets.{if_true}
+use Rattle.dr_laws_cuts.proofs.Still.{plain-receives}
+use Rattle.dr_laws_sound.proofs.KeepsStructure.{revertible-not as other-none}
 use Rattle.dr_laws_sound.proofs.Turns.{done, next_of, carried_in}
 use Rattle.dr_laws_sound.proofs.RowsAfter.{idle}
 use Rattle.dr_laws_sound.proofs.KeepsParts.{unrelated, unrelated_primary}
@@ -33,7 +35,7 @@ use Rattle.dr_logic.proofs.Choices.{chosen, choose_some}
 use Rattle.dr_logic.proofs.Options.{none_there}
 use Rattle.dr_logic.proofs.Truth.{and-second-false, false_true}
 use Rattle.dr_logic.proofs.Sets.{in_insert}
-use Rattle.dr_facts.proofs.Parts.{metro-part}
+use Rattle.dr_facts.proofs.Parts.{metro-part, metro-second}
 use Rattle.dr_facts.proofs.Refusals.{none-both, met}
 use Rattle.dr_logic.proofs.Tables.{at_same, at_other}
 
@@ -128,7 +130,13 @@ module _ (w : World) (s : Sound w) (p : Pending) (one : filter (is_write p.w) w.
         moves k (LandBoth n v t) [] (record {
           runs = b.on_v;
           allowed = record {
-            land = record { low = held.low; defined = held.defined; plain = plain_v k y b; first = (y.rows.parts.one v).one (chosen (is_part (fields_at k.control v).primary) _ u b.to).0; kept = kept; free = back.0; let_go = back.1; sent = λ r. false_true (metro-idle (table k v) (y.rows.recorders v) b.metro) r };
+            land = record {
+              receives = record { low = held.low; kept = kept; free = back.0; sent = λ r. false_true (metro-idle (table k v) (y.rows.recorders v) b.metro) r };
+              defined = held.defined;
+              plain = plain_v k y b;
+              first = metro-second (table k v) (y.rows.parts.fit v) b.metro;
+              let_go = back.1;
+            };
             metro = b.metro;
             to = u;
             sends = b.to;
@@ -153,7 +161,7 @@ module _ (w : World) (s : Sound w) (p : Pending) (one : filter (is_write p.w) w.
         let held = waits k y p b.one_is in
         moves k m _ (record {
           runs = b.on_u;
-          allowed = record { low = low_u k y b; metro = b.metro; sends = b.to; takes = b.takes; out = b.out; kept = kept };
+          allowed = record { receives = plain-receives (table k) y.rows u t (other-none _ (y.uncascaded u) (chosen _ _ v b.takes).0) (low_u k y b) kept; metro = b.metro; sends = b.to; takes = b.takes; out = b.out };
           fits = tt;
           group = tt;
           ready = record { number = held.number; volume = held.volume; track = held.track; idle = idle k u y.queue b.on_u; from_idle = idle k v y.queue b.on_v };
@@ -169,7 +177,7 @@ module _ (w : World) (s : Sound w) (p : Pending) (one : filter (is_write p.w) w.
           open_to = part-same k m h held_back refl v ∙ b.open_to;
           to = part-same k m h secondary_of refl v ∙ b.to;
           takes = part-same k m h primary_of refl u ∙ b.takes;
-          out = part-same k m h (λ (g : Fields). contains g.out_of_sync t) refl v ∙ b.out;
+          out = ap (λ (x : Volume). contains x.fields.out_of_sync t) (at_other k.control.volume u (row k m h) v (apart k y b)) ∙ b.out;
           still = unrestored-done v k m h refl refl b.still;
           calm = unflashed-done v k m h refl refl b.calm;
           one_is = b.one_is;

@@ -23,7 +23,7 @@ module _ (write : ℕ → Write) (T : Table) (structure : Structure T) (parts : 
   changed x y from loop onto = linked-at T x y source ShowsAside (λ u ne. from u) (λ h. absurd (loop h)) (λ v ne. onto v) old
 
   pub kept-asides : (m : Move) → Allowed write T m → Asides (after write T m)
-  kept-asides (Land w v t) a = changed v _ (λ u h. none_some a.plain h) (λ h. none_some a.plain h) (λ u h e. false_true (a.kept.settled u h) e)
+  kept-asides (Land w v t) a = changed v _ (λ u h. none_some a.plain h) (λ h. none_some a.plain h) (λ u h e. false_true (a.receives.kept.settled u h) e)
   kept-asides (Restore v t u) a = let none = (structure.flash u v a.related).plain in changed v _ (λ u h. none_some none h) (λ h. none_some none h) (λ u h e. false_true (a.kept.settled u h) e)
   kept-asides (Overwrite w v t) a = let e : Bool = is_whole (T v).volume.tracks (insert (fields T v).own t) && not (fields T v).persistent in
       changed v _ (λ u h r. not_turned e (fields T v).revertible a.settled r) (ended-loop write T structure v e) (λ u. no_targets write T structure v a.from u a.related)
@@ -39,9 +39,9 @@ module _ (write : ℕ → Write) (T : Table) (structure : Structure T) (parts : 
       changed v _ (λ u h r. not_turned e (fields T v).revertible a.settled r) (ended-loop write T structure v e) (λ u. no_targets write T structure v a.from u a.related)
   kept-asides (Release v t) a = let e : Bool = is_bare (given_up (fields T v) t).own in
       changed v _ (λ u h r. not_turned e (fields T v).revertible (revertible-not (fields T v).revertible (λ i. (structure.reverts v i).forward) a.reversing) r) (ended-loop write T structure v e) (λ u. no_targets write T structure v a.from u a.related)
-  kept-asides (Store v t u last) a = let none = unrelated T parts v a.takes in changed v _ (λ u h. none_some none h) (λ h. none_some none h) (λ u h e. false_true (a.kept.settled u h) e)
-  kept-asides (Mirror v t u w) a = let none = unrelated T parts v a.takes in changed v _ (λ u h. none_some none h) (λ h. none_some none h) (λ u h e. false_true (a.kept.settled u h) e)
-  kept-asides (LandBoth w v t) a = let m = a.land in changed v _ (λ u h. none_some m.plain h) (λ h. none_some m.plain h) (λ u h e. false_true (m.kept.settled u h) e)
+  kept-asides (Store v t u last) a = let none = unrelated T parts v a.takes in changed v _ (λ u h. none_some none h) (λ h. none_some none h) (λ u h e. false_true (a.receives.kept.settled u h) e)
+  kept-asides (Mirror v t u w) a = let none = unrelated T parts v a.takes in changed v _ (λ u h. none_some none h) (λ h. none_some none h) (λ u h e. false_true (a.receives.kept.settled u h) e)
+  kept-asides (LandBoth w v t) a = let m = a.land in changed v _ (λ u h. none_some m.plain h) (λ h. none_some m.plain h) (λ u h e. false_true (m.receives.kept.settled u h) e)
   kept-asides (Flash v u a s n) b = changed v _ (λ x h r q lt. images.seen v x h q lt) (no_loop write T structure v) (λ x. no_targets write T structure v b.resync.from x b.resync.related)
   kept-asides (Commit v a s n) b = changed v _ (λ u h r. absurd cc) (no_loop write T structure v) (λ u. no_targets write T structure v b.from u b.related)
   kept-asides (Revert v a s n) b = changed v _ (λ u h r. absurd cc) (no_loop write T structure v) (λ u. no_targets write T structure v b.from u b.related)

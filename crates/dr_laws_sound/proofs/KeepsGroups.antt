@@ -1,15 +1,19 @@
 -- Each kind of move keeps what sessions and records say together, whether or not the server stopped in it.
-use Rattle.std.proofs.Common.{ℕ, ◌≡◌, ◌⊎◌, inl, inr, refl, Bool, true, false, cond, List, Option}
+use Rattle.std.proofs.Common.{ℕ, ◌≡◌, ◌⊎◌, inl, inr, refl, subst, Bool, true, false, cond, List, Option}
+use Rattle.std.proofs.lemmas.Bool.{false_from_ne_true}
 use Rattle.dr_logic.specs.Tables.{at}
-use Rattle.dr_model.specs.Sessions.{changed, begun}
+use Rattle.dr_ids.specs.declared.names.Member.{Member}
+use Rattle.dr_model.specs.Layout.{Fields, is_part}
+use Rattle.dr_model.specs.Sessions.{Session, changed, begun}
 use Rattle.dr_model.specs.Histories.{Write}
 use Rattle.dr_model.specs.Control.{Control, Fuse, Pending, Volume, World}
-use Rattle.dr_model.specs.Moves.{Move, Suspend, MakePrimary, DropPrimary, TakeOver, FallBack, Yield, Lift, Restart, Hold, Finish, RaiseAttempt, target, keeps_staged, moved_keeping}
+use Rattle.dr_model.specs.Moves.{Move, Suspend, MakeSecondary, MakePrimary, DropPrimary, DropSecondary, TakeOver, LeavePrimary, FallBack, Yield, Lift, Restart, Hold, Finish, RaiseAttempt, target, keeps_staged, moved_keeping}
 use Rattle.dr_model.specs.Entries.{fields_at}
-use Rattle.dr_model.specs.Groups.{Groups, Housed, OpensAttempt}
+use Rattle.dr_model.specs.Groups.{In, Groups, SecondariesUncascaded, Housed, OpensAttempt}
 use Rattle.dr_model.specs.Table.{table}
-use Rattle.dr_model.specs.Allowed.{Allowed}
-use Rattle.dr_model.specs.Attempts.{Attempts, InAttempt}
+use Rattle.dr_model.specs.Laws.{NoneCascaded}
+use Rattle.dr_model.specs.Allowed.{Allowed, Fits}
+use Rattle.dr_model.specs.Attempts.{Attempts, InAttempt, SecondaryOfNone}
 use Rattle.dr_model.specs.Flights.{Flights}
 use Rattle.dr_facts.proofs.Tables.{at_cases, at_part}
 use Rattle.dr_laws_sound.proofs.Turns.{next_of, carried_in}
@@ -20,6 +24,31 @@ use Rattle.dr_laws_attempts.proofs.Moves.{attempts-move}
 use Rattle.dr_laws_attempts.proofs.Tables.{attempts-opened}
 use Rattle.dr_laws_messages.proofs.Moves.{flights-move, flights-opened}
 use Rattle.dr_logic.proofs.Truth.{false_true}
+
+-- a volume hasn't both parts
+abbrev IsUncascaded : Fields → Type 0
+IsUncascaded f = is_part f.primary ≡ true → is_part f.secondary ≡ false
+
+-- a volume that becomes a primary is no secondary, or the secondary of no member
+abbrev BecomesFree : Control → Move → Type 0
+BecomesFree k (MakePrimary v u kind state full) = is_part (fields_at k v).secondary ≡ false
+BecomesFree k m = Unit {0}
+
+abbrev pub MakesNoneCascaded : Control → Move → Type 0
+MakesNoneCascaded k (MakePrimary v u kind state full) = is_part (fields_at k v).secondary ≡ true → SecondaryOfNone k v
+MakesNoneCascaded k m = Unit {0}
+
+fits-free : (k : Control) (m : Move) → Fits k m → BecomesFree k m
+fits-free k (MakePrimary v u kind state full) fits = fits
+fits-free k m fits = tt
+
+pub makes-none : (k : Control) (m : Move) → InAttempt k m → MakesNoneCascaded k m
+makes-none k (MakePrimary v u kind state full) g = g
+makes-none k m g = tt
+
+second-free : (k : Control) (m : Move) → MakesNoneCascaded k m → (x : Session) (q : Member) → In x k.sessions → In q x.members → q.b.0 ≡ target m → BecomesFree k m
+second-free k (MakePrimary v u kind state full) g x q i here is = false_from_ne_true _ (λ two. absurd (g two x q i here is))
+second-free k m g x q i here is = tt
 
 module _ (w : World) (write : ℕ → Write) (on : ℕ → Bool) (fuse : ℕ → Option Fuse) (ps : List Pending) where
   abbrev next : Move → Volume
@@ -65,6 +94,27 @@ module _ (w : World) (write : ℕ → Write) (on : ℕ → Bool) (fuse : ℕ →
   groups-after (Lift v) a g old = by (Lift v) (λ h. (lifted (fields_at w.control v).coordination (fields_at w.control v).recording h, (refl, refl))) old
   groups-after (RaiseAttempt v n) a g old = by (RaiseAttempt v n) (λ h. false_true a.idle h) old
   groups-after m a g old = by m (λ h. (h, (refl, refl))) old
+
+  -- only what makes a primary gives a volume both parts
+  stays-uncascaded : (m : Move) → Allowed write (table w) m → BecomesFree w.control m → IsUncascaded (fields_at w.control (target m)) → IsUncascaded (next_of w m)
+  stays-uncascaded (MakeSecondary v u kind state) a free old h = false_true a.first h
+  stays-uncascaded (MakePrimary v u kind state full) a free old h = free
+  stays-uncascaded (DropPrimary v) a free old h = absurd cc
+  stays-uncascaded (DropSecondary v) a free old h = refl
+  stays-uncascaded (TakeOver v) a free old h = refl
+  stays-uncascaded (LeavePrimary v) a free old h = refl
+  stays-uncascaded (Yield v u kind state) a free old h = absurd cc
+  stays-uncascaded m a free old h = old h
+
+  pub uncascaded-after : (m : Move) → Allowed write (table w) m → Fits w.control m → NoneCascaded w.control → NoneCascaded (after m)
+  uncascaded-after m a fits old =
+      at_cases (λ u (x : Volume). IsUncascaded x.fields) w.control.volume (target m) (next m) (stays-uncascaded m a (fits-free w.control m fits) (old (target m))) (λ u ne. old u)
+
+  pub secondaries-after : (m : Move) → Allowed write (table w) m → MakesNoneCascaded w.control m → SecondariesUncascaded w.control → SecondariesUncascaded (after m)
+  secondaries-after m a g old = λ x q i here.
+      let was : (u : ℕ) → q.b.0 ≡ u → IsUncascaded (fields_at w.control u) = λ u is. subst (λ j. IsUncascaded (fields_at w.control j)) is (old x q i here) in
+      at_cases (λ u (y : Volume). q.b.0 ≡ u → IsUncascaded y.fields) w.control.volume (target m) (next m)
+      (λ is. stays-uncascaded m a (second-free w.control m g x q i here is) (was (target m) is)) (λ u ne is. was u is) q.b.0 refl
 
   -- the first hold of an attempt, with which it begins
   pub groups-begun : (v s n : ℕ) → OpensAttempt w.control v s n → Groups w.control → Groups (record (after (Hold v s n true)) { sessions = changed s begun w.control.sessions })

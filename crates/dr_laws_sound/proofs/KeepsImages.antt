@@ -199,7 +199,7 @@ module _ (write : ℕ → Write) (T : Table) (structure : Structure T) (parts : 
   with m = carried_on write m T
 
   pub kept-images : Asides T → (m : Move) → Allowed write T m → Images (after write T m)
-  kept-images asides (Land w v t) a = images-at T v _ images (stored v t (written (fields T v) t) (with (Land w v t)) _ _ refl a.plain a.defined a.plain a.kept (λ lt. ap (λ b. with_write write b w) (images.plain v a.plain t lt)))
+  kept-images asides (Land w v t) a = images-at T v _ images (stored v t (written (fields T v) t) (with (Land w v t)) _ _ refl a.plain a.defined a.plain a.receives.kept (λ lt. ap (λ b. with_write write b w) (images.plain v a.plain t lt)))
   kept-images asides (Overwrite w v t) a = images-at T v _ images (taken-owes v t a.from a.related _ (at (T v).due t (with_write write ((T v).due t) w))
       (λ lt. ap (λ b. with_write write b w) (shows v t a.from a.related lt) ∙ sym (at_same (T v).due t _)) (λ q ne. at_other (T v).due t _ q ne) _ _ (with (Overwrite w v t)))
   kept-images asides (Keep v t) a = images-at T v _ images (taken-owes v t a.from a.related _ (T v).due (old-track v t a) (λ q ne. refl) _ _ (with (Keep v t)))
@@ -230,13 +230,13 @@ module _ (write : ℕ → Write) (T : Table) (structure : Structure T) (parts : 
       let out = parts.secondary u v a.sends in
       let none = unrelated T parts v a.takes in
       let first = unrelated_primary T parts u a.sends in
-      images-at T v _ images (stored v t (received last (fields T v) t) (with (Store v t u last)) _ _ refl none out.defined none a.kept (λ lt. images.plain u first t (subst (λ n. t < n) (sym out.same_tracks) lt)))
+      images-at T v _ images (stored v t (received last (fields T v) t) (with (Store v t u last)) _ _ refl none out.defined none a.receives.kept (λ lt. images.plain u first t (subst (λ n. t < n) (sym out.same_tracks) lt)))
   kept-images asides (Mirror v t u w) a =
       let out = parts.secondary u v a.sends in
       let none = unrelated T parts v a.takes in
       let first = unrelated_primary T parts u a.sends in
-      images-at T v _ images (stored v t (mirrored (fields T v) t) (with (Mirror v t u w)) _ _ refl none out.defined none a.kept (λ lt. ap (λ b. with_write write b w) (images.plain u first t (subst (λ n. t < n) (sym out.same_tracks) lt))))
-  kept-images asides (LandBoth w v t) a = let m = a.land in images-at T v _ images (stored v t (synced (fields T v) t) (with (LandBoth w v t)) _ _ refl m.plain m.defined m.plain m.kept (λ lt. ap (λ b. with_write write b w) (images.plain v m.plain t lt)))
+      images-at T v _ images (stored v t (mirrored (fields T v) t) (with (Mirror v t u w)) _ _ refl none out.defined none a.receives.kept (λ lt. ap (λ b. with_write write b w) (images.plain u first t (subst (λ n. t < n) (sym out.same_tracks) lt))))
+  kept-images asides (LandBoth w v t) a = let m = a.land in images-at T v _ images (stored v t (synced (fields T v) t) (with (LandBoth w v t)) _ _ refl m.plain m.defined m.plain m.receives.kept (λ lt. ap (λ b. with_write write b w) (images.plain v m.plain t lt)))
   kept-images asides (Flash v u a s n) b = let r = b.resync in images-at T v _ images (record {
     blank = images.blank v;
     fresh = images.fresh v;

@@ -10,13 +10,14 @@ use Rattle.dr_model.specs.Histories.{Write}
 use Rattle.dr_model.specs.Contents.{with_write}
 use Rattle.dr_model.specs.Pairs.{is_engaged}
 use Rattle.dr_model.specs.Relations.{all_tracks}
-use Rattle.dr_model.specs.Moves.{Move, Land, Overwrite, Keep, Withdraw, Fetch, Reverse, Restore, Release, Store, Strike, Suspend, MakeSecondary, MakePrimary, DropPrimary, DropSecondary, TakeOver, FallBack, Yield, Unsync, Mirror, LandBoth, Lift, Restart, Hold, Finish, target}
+use Rattle.dr_model.specs.Moves.{Move, Land, Overwrite, Keep, Withdraw, Fetch, Reverse, Restore, Release, Store, Strike, Suspend, MakeSecondary, MakePrimary, DropPrimary, DropSecondary, TakeOver, LeavePrimary, FallBack, Yield, Unsync, Mirror, LandBoth, Lift, Restart, Hold, Finish, target}
 use Rattle.dr_model.specs.Table.{Row, Table}
 use Rattle.dr_model.specs.Rows.{after, next_row}
 use Rattle.dr_model.specs.Laws.{Structure, Parts, Recorders, PairLaw, Alike, unsent, source, its_primary, its_secondary, fields}
 use Rattle.dr_model.specs.Allowed.{Allowed}
 use Rattle.dr_facts.proofs.Tables.{IsOrNot, at_cases, linked-at}
-use Rattle.dr_laws_sound.proofs.KeepsParts.{not_both, no_partner, part-shape}
+use Rattle.dr_laws_sound.proofs.KeepsParts.{no_partner, part-shape}
+use Rattle.dr_facts.proofs.Parts.{two-partners}
 use Rattle.dr_facts.proofs.Sets.{not_inserted, remove_other, not_in_union, in_all}
 use Rattle.dr_logic.proofs.Choices.{chosen}
 use Rattle.dr_logic.proofs.Truth.{contrary, false_true}
@@ -63,18 +64,16 @@ module _ (write : ℕ → Write) (T : Table) (structure : Structure T) (parts : 
   changed m a from onto =
       linked-at T (target m) (row m) its_secondary Alike (λ u ne. from u) (λ h. no_partner T parts (target m) ((part-shape T parts write structure m a).second (target m) h)) (λ u ne. onto u) old
 
-  -- a primary is no secondary, and a target is neither
-  no_second : {P : Type 0} (v : ℕ) {u : ℕ} → is_part (fields T v).primary ≡ true → its_primary (T v) ≡ Some u → P
-  no_second v {u} is h = not_both _ _ (parts.one v).one is (chosen _ _ u h).0
+  -- what the primary of a secondary has sent is on both, whatever the secondary hasn't sent as a primary
+  from-first : (u v : ℕ) → its_secondary (T u) ≡ Some v → its_primary (T v) ≡ Some u → (q : ℕ) → q < (T u).volume.tracks → unsent (T u) q ≡ false → (T u).bytes q ≡ (T v).bytes q
+  from-first u v h k q lt sent = old u v h (inl k) q lt sent (two-partners (T v) u (parts.fit v) k)
 
-  no_first : {P : Type 0} (v : ℕ) {u : ℕ} → is_part (fields T v).secondary ≡ true → its_secondary (T v) ≡ Some u → P
-  no_first v {u} is h = not_both _ _ (parts.one v).one (chosen _ _ u h).0 is
-
+  -- a target has no part
   target_first : {P : Type 0} (v : ℕ) {s u : ℕ} → source (T v) ≡ Some s → its_secondary (T v) ≡ Some u → P
-  target_first v {s} {u} is h = false_true ((parts.one v).no_primary (chosen _ _ s is).0) (chosen _ _ u h).0
+  target_first v {s} {u} is h = false_true ((parts.fit v).no_primary (chosen _ _ s is).0) (chosen _ _ u h).0
 
   target_part : {P : Type 0} (v : ℕ) {s u : ℕ} → source (T v) ≡ Some s → (its_primary (T v) ≡ Some u) ⊎ (its_secondary (T v) ≡ Some u) → P
-  target_part v {s} {u} is (inl h) = false_true ((parts.one v).no_secondary (chosen _ _ s is).0) (chosen _ _ u h).0
+  target_part v {s} {u} is (inl h) = false_true ((parts.fit v).no_secondary (chosen _ _ s is).0) (chosen _ _ u h).0
   target_part v is (inr h) = target_first v is h
 
   -- a track is stored at v, which is no secondary: of a primary it is unsent from then on
@@ -110,16 +109,25 @@ module _ (write : ℕ → Write) (T : Table) (structure : Structure T) (parts : 
   less-altered v t q is h = let f : Fields = fields T v in more-unsent (is_part f.primary) f.out_of_sync f.change_recording t q is h
 
   -- a secondary stores a track, which its primary has too, or has out of sync
+  stored-from : (v t x : ℕ) (b : List ℕ) → its_secondary (T v) ≡ Some x → (its_primary (T x) ≡ Some v) ⊎ (its_secondary (T x) ≡ Some v) → (q : ℕ) → q < (T v).volume.tracks → unsent_written v t q ≡ false
+      → (its_secondary (T x) ≡ Some v → unsent (T x) q ≡ false) → at (T v).bytes t b q ≡ (T x).bytes q
+  stored-from v t x b h link q lt sent back =
+      let less = less-written v t q (chosen _ _ x h).0 sent in
+      at_other (T v).bytes t b q less.1 ∙ old v x h link q lt less.0 back
+
   stored-onto : (v t u : ℕ) (b : List ℕ) → its_primary (T v) ≡ Some u → (unsent (T u) t ≡ false → (T u).bytes t ≡ b) → (x : ℕ) → its_secondary (T x) ≡ Some v → (its_primary (T v) ≡ Some x) ⊎ (its_secondary (T v) ≡ Some x) → (q : ℕ) → q < (T x).volume.tracks → unsent (T x) q ≡ false
-      → (its_secondary (T v) ≡ Some x → unsent (T v) q ≡ false) → (T x).bytes q ≡ at (T v).bytes t b q
+      → (its_secondary (T v) ≡ Some x → unsent_written v t q ≡ false) → (T x).bytes q ≡ at (T v).bytes t b q
   stored-onto v t u b takes here x h (inl k) q =
       let same : u ≡ x = sym (chosen _ _ u takes).1 ∙ (chosen _ _ x k).1 in
-      at_cases (λ q c. q < (T x).volume.tracks → unsent (T x) q ≡ false → (its_secondary (T v) ≡ Some x → unsent (T v) q ≡ false) → (T x).bytes q ≡ c) (T v).bytes t b
-      (λ lt sent back. subst (λ j. unsent (T j) t ≡ false → (T j).bytes t ≡ b) same here sent) (λ q ne lt sent back. old x v h (inl k) q lt sent back) q
-  stored-onto v t u b takes here x h (inr k) q = no_first v (chosen _ _ u takes).0 k
+      at_cases (λ q c. q < (T x).volume.tracks → unsent (T x) q ≡ false → (its_secondary (T v) ≡ Some x → unsent_written v t q ≡ false) → (T x).bytes q ≡ c) (T v).bytes t b
+      (λ lt sent back. subst (λ j. unsent (T j) t ≡ false → (T j).bytes t ≡ b) same here sent) (λ q ne lt sent back. old x v h (inl k) q lt sent (λ l. (less-written v t q (chosen _ _ x l).0 (back l)).0)) q
+  stored-onto v t u b takes here x h (inr k) q = λ lt sent back.
+      let less = less-written v t q (chosen _ _ x k).0 (back k) in
+      old x v h (inr k) q lt sent (λ l. less.0) ∙ sym (at_other (T v).bytes t b q less.1)
 
   -- and the primary strikes it off, or comes to contain it
-  module _ (v t to : ℕ) (sends : its_secondary (T v) ≡ Some to) (B : ℕ → List ℕ) (here : (T to).bytes t ≡ B t) (there : (q : ℕ) → q ≢ t → B q ≡ (T v).bytes q) where
+  module _ (v t to : ℕ) (sends : its_secondary (T v) ≡ Some to) (B : ℕ → List ℕ) (here : (T to).bytes t ≡ B t) (there : (q : ℕ) → q ≢ t → B q ≡ (T v).bytes q)
+      (second : is_part (fields T v).secondary ≡ true → (q : ℕ) → (T v).bytes q ≡ B q) where
     abbrev unsent_else : ℕ → Bool
     unsent_else q = contains (remove (fields T v).out_of_sync t) q || contains (fields T v).change_recording q
 
@@ -132,7 +140,7 @@ module _ (write : ℕ → Write) (T : Table) (structure : Structure T) (parts : 
 
     struck-onto : (u : ℕ) → its_secondary (T u) ≡ Some v → (its_primary (T v) ≡ Some u) ⊎ (its_secondary (T v) ≡ Some u) → (q : ℕ) → IsOrNot q t → q < (T u).volume.tracks → unsent (T u) q ≡ false
         → (its_secondary (T v) ≡ Some u → unsent_else q ≡ false) → (T u).bytes q ≡ B q
-    struck-onto u h (inl k) q told lt sent back = no_second v (chosen _ _ to sends).0 k
+    struck-onto u h (inl k) q told lt sent back = from-first u v h k q lt sent ∙ second (chosen _ _ u k).0 q
     struck-onto u h (inr k) q (inl is) lt sent back =
         let same : to ≡ u = sym (chosen _ _ to sends).1 ∙ (chosen _ _ u k).1 in
         subst (λ j. (T u).bytes j ≡ B j) (sym is.1) (ap (λ j. (T j).bytes t) (sym same) ∙ here)
@@ -140,7 +148,7 @@ module _ (write : ℕ → Write) (T : Table) (structure : Structure T) (parts : 
 
   -- a secondary becomes a primary of its primary
   taken_over : (v u q : ℕ) → its_primary (T v) ≡ Some u → its_secondary (T u) ≡ Some v → q < (T u).volume.tracks → unsent (T u) q ≡ false → (T u).bytes q ≡ (T v).bytes q
-  taken_over v u q h k lt sent = old u v k (inl h) q lt sent (λ l. no_first v (chosen _ _ u h).0 l)
+  taken_over v u q h k lt sent = from-first u v k h q lt sent
 
   over-from : (v u : ℕ) → its_primary (T v) ≡ Some u → (its_primary (T u) ≡ Some v) ⊎ (its_secondary (T u) ≡ Some v) → (q : ℕ) → q < (T v).volume.tracks → (its_secondary (T u) ≡ Some v → unsent (T u) q ≡ false) → (T v).bytes q ≡ (T u).bytes q
   over-from v u h (inl k) q lt back = absurd (parts.one_way v u h k)
@@ -149,6 +157,11 @@ module _ (write : ℕ → Write) (T : Table) (structure : Structure T) (parts : 
   over-onto : (v u : ℕ) → its_secondary (T u) ≡ Some v → (None ≡ Some u) ⊎ (its_primary (T v) ≡ Some u) → (q : ℕ) → q < (T u).volume.tracks → unsent (T u) q ≡ false → (T u).bytes q ≡ (T v).bytes q
   over-onto v u h (inl k) q lt sent = absurd cc
   over-onto v u h (inr k) q lt sent = taken_over v u q k h lt sent
+
+  -- a volume is a secondary no more
+  gone-onto : (v x : ℕ) → its_secondary (T x) ≡ Some v → (None ≡ Some x) ⊎ (its_secondary (T v) ≡ Some x) → (q : ℕ) → q < (T x).volume.tracks → unsent (T x) q ≡ false → (its_secondary (T v) ≡ Some x → unsent (T v) q ≡ false) → (T x).bytes q ≡ (T v).bytes q
+  gone-onto v x h (inl k) = absurd cc
+  gone-onto v x h (inr k) = old x v h (inr k)
 
   -- a pair is made
   made-from : (v u : ℕ) (full part : Bool) → (full ≡ false → (q : ℕ) → q < (T v).volume.tracks → (T v).bytes q ≡ (T u).bytes q) → (x : ℕ) → cond part (Some u) None ≡ Some x → (q : ℕ) → q < (T v).volume.tracks
@@ -165,16 +178,17 @@ module _ (write : ℕ → Write) (T : Table) (structure : Structure T) (parts : 
   kept-pairs (Withdraw v) a = changed (Withdraw v) a (λ u h. target_first v a.related h) (λ u h k. target_part v a.related k)
   kept-pairs (Reverse v left) a = changed (Reverse v left) a (λ u h. target_first v a.resync.related h) (λ u h k. target_part v a.resync.related k)
   kept-pairs (Release v t) a = changed (Release v t) a (λ u h. target_first v a.related h) (λ u h k. target_part v a.related k)
-  kept-pairs (Store v t u last) a = changed (Store v t u last) a (λ x h. no_first v (chosen _ _ u a.takes).0 h) (stored-onto v t u _ a.takes (λ sent. refl))
-  kept-pairs (Mirror v t u w) a = changed (Mirror v t u w) a (λ x h. no_first v (chosen _ _ u a.takes).0 h) (stored-onto v t u _ a.takes (λ sent. false_true (or_parts _ _ sent).0 a.out))
+  kept-pairs (Store v t u last) a = changed (Store v t u last) a (λ x h. stored-from v t x _ h) (stored-onto v t u _ a.takes (λ sent. refl))
+  kept-pairs (Mirror v t u w) a = changed (Mirror v t u w) a (λ x h. stored-from v t x _ h) (stored-onto v t u _ a.takes (λ sent. false_true (or_parts _ _ sent).0 a.out))
   kept-pairs (Strike v t last) a =
-      changed (Strike v t last) a (λ u h k q. struck-from v t a.to a.sends (T v).bytes a.equal (λ q ne. refl) u h k q (eqb_tells q t)) (λ u h k q. struck-onto v t a.to a.sends (T v).bytes a.equal (λ q ne. refl) u h k q (eqb_tells q t))
+      changed (Strike v t last) a (λ u h k q. struck-from v t a.to a.sends (T v).bytes a.equal (λ q ne. refl) (λ is q. refl) u h k q (eqb_tells q t)) (λ u h k q. struck-onto v t a.to a.sends (T v).bytes a.equal (λ q ne. refl) (λ is q. refl) u h k q (eqb_tells q t))
   kept-pairs (LandBoth w v t) a =
       let b : List ℕ = with_write write ((T v).bytes t) w in
       let B : (ℕ → List ℕ) = at (T v).bytes t b in
       let here : (T a.to).bytes t ≡ B t = a.equal ∙ sym (at_same (T v).bytes t b) in
-      changed (LandBoth w v t) a (λ u h k q. struck-from v t a.to a.sends B here (at_other (T v).bytes t b) u h k q (eqb_tells q t))
-      (λ u h k q. struck-onto v t a.to a.sends B here (at_other (T v).bytes t b) u h k q (eqb_tells q t))
+      let second : (is_part (fields T v).secondary ≡ true → (q : ℕ) → (T v).bytes q ≡ B q) = λ is. false_true a.land.first is in
+      changed (LandBoth w v t) a (λ u h k q. struck-from v t a.to a.sends B here (at_other (T v).bytes t b) second u h k q (eqb_tells q t))
+      (λ u h k q. struck-onto v t a.to a.sends B here (at_other (T v).bytes t b) second u h k q (eqb_tells q t))
   kept-pairs (Unsync v t) a = let f : Fields = fields T v in
       changed (Unsync v t) a (λ u h k q lt sent. old v u h k q lt (more-unsent true f.out_of_sync f.change_recording t q refl sent).0)
       (λ u h k q lt sent back. old u v h k q lt sent (λ l. (more-unsent true f.out_of_sync f.change_recording t q refl (back l)).0))
@@ -198,21 +212,18 @@ module _ (write : ℕ → Write) (T : Table) (structure : Structure T) (parts : 
       either : {P : Type 0} (x : ℕ) → its_secondary (T x) ≡ Some v → (cond (is_part kind) (Some u) None ≡ Some x) ⊎ (its_secondary (T v) ≡ Some x) → P
       either x h (inl k) = false_true (subst (λ j. is_part (fields T j).primary ≡ false) (chosen (is_part kind) u x k).1 a.from_first) (chosen _ _ v h).0
       either x h (inr k) = false_true a.first (chosen _ _ x k).0
-  kept-pairs (MakePrimary v u kind state full) a = changed (MakePrimary v u kind state full) a (λ x h k q lt sent back. made-from v u full (is_part kind) a.equal x h q lt sent) (λ x h k. either x h k)
+  kept-pairs (MakePrimary v u kind state full) a = changed (MakePrimary v u kind state full) a (λ x h k q lt sent back. made-from v u full (is_part kind) a.equal x h q lt sent) (λ x h k q lt sent back. either x h k q lt sent)
     where
-      either : {P : Type 0} (x : ℕ) → its_secondary (T x) ≡ Some v → (its_primary (T v) ≡ Some x) ⊎ (cond (is_part kind) (Some u) None ≡ Some x) → P
-      either x h (inl k) = false_true a.second (chosen _ _ x k).0
-      either x h (inr k) = no_second u (chosen _ _ v (subst (λ j. its_secondary (T j) ≡ Some v) (sym (chosen (is_part kind) u x k).1) h)).0 a.takes
-  kept-pairs (DropPrimary v) a = changed (DropPrimary v) a (λ u h. absurd cc) (λ u h k. either u k)
+      either : (x : ℕ) → its_secondary (T x) ≡ Some v → (its_primary (T v) ≡ Some x) ⊎ (cond (is_part kind) (Some u) None ≡ Some x) → (q : ℕ) → q < (T x).volume.tracks → unsent (T x) q ≡ false → (T x).bytes q ≡ (T v).bytes q
+      either x h (inl k) = from-first x v h k
+      either x h (inr k) = λ q lt sent. two-partners (T u) v (parts.fit u) a.takes (subst (λ j. its_secondary (T j) ≡ Some v) (sym (chosen (is_part kind) u x k).1) h)
+  kept-pairs (DropPrimary v) a = changed (DropPrimary v) a (λ u h. absurd cc) (λ u h k q lt sent back. either u h k q lt sent)
     where
-      either : {P : Type 0} (x : ℕ) → (its_primary (T v) ≡ Some x) ⊎ (None ≡ Some x) → P
-      either x (inl k) = no_second v a k
-      either x (inr k) = absurd cc
-  kept-pairs (DropSecondary v) a = changed (DropSecondary v) a (λ u h. no_first v a h) (λ u h k. either u k)
-    where
-      either : {P : Type 0} (x : ℕ) → (None ≡ Some x) ⊎ (its_secondary (T v) ≡ Some x) → P
-      either x (inl k) = absurd cc
-      either x (inr k) = no_first v a k
+      either : (x : ℕ) → its_secondary (T x) ≡ Some v → (its_primary (T v) ≡ Some x) ⊎ (None ≡ Some x) → (q : ℕ) → q < (T x).volume.tracks → unsent (T x) q ≡ false → (T x).bytes q ≡ (T v).bytes q
+      either x h (inl k) = from-first x v h k
+      either x h (inr k) = absurd cc
+  kept-pairs (DropSecondary v) a = changed (DropSecondary v) a (old v) (λ u h. gone-onto v u h)
+  kept-pairs (LeavePrimary v) a = changed (LeavePrimary v) a (old v) (λ u h. gone-onto v u h)
   kept-pairs (TakeOver v) a = changed (TakeOver v) a (λ u h k q lt sent back. over-from v u h k q lt back) (λ u h k q lt sent back. over-onto v u h k q lt sent)
   kept-pairs (FallBack v more state) a = let f : Fields = fields T v in
       changed (FallBack v more state) a (λ u h k q lt sent. old v u h k q lt (more-void-unsent (is_engaged f) f.out_of_sync f.change_recording more q sent))

@@ -65,7 +65,7 @@ module _ (write : ℕ → Write) (T : Table) (structure : Structure T) (parts : 
   reversed false related r o u is h rev = false_true rev is
 
   pub kept-recorded : (m : Move) → Allowed write T m → Recorded (after write T m)
-  kept-recorded (Land w v t) a = changed v _ (λ u h. none_some a.plain h) (λ h. none_some a.plain h) (λ u h. onto-stored v t _ a.kept u h)
+  kept-recorded (Land w v t) a = changed v _ (λ u h. none_some a.plain h) (λ h. none_some a.plain h) (λ u h. onto-stored v t _ a.receives.kept u h)
   kept-recorded (Restore v t u) a = let none = (structure.flash u v a.related).plain in changed v _ (λ u h. none_some none h) (λ h. none_some none h) (λ u h. onto-stored v t _ a.kept u h)
   kept-recorded (Overwrite w v t) a = let e : Bool = is_whole (T v).volume.tracks (insert (fields T v).own t) && not (fields T v).persistent in
       changed v _ (λ u. taken v t _ _ _ (λ q h. h) (λ q h. not_in_more (fields T v).recorded _ t q h) (λ u h rec n. written (fields T v).recorded _ t rec n) e u) (ended-loop write T structure v e) (λ u. no_targets write T structure v a.from u a.related)
@@ -81,9 +81,9 @@ module _ (write : ℕ → Write) (T : Table) (structure : Structure T) (parts : 
       changed v _ (λ u h rec rev. reversed e f.related true f.source u refl h rev) (ended-loop write T structure v e) (λ u. no_targets write T structure v a.resync.from u a.resync.related)
   kept-recorded (Release v t) a = let f : Fields = fields T v in let e : Bool = is_bare (given_up f t).own in
       changed v _ (λ u h rec rev. reversed e f.related f.reversing f.source u a.reversing h rev) (ended-loop write T structure v e) (λ u. no_targets write T structure v a.from u a.related)
-  kept-recorded (Store v t u last) a = let none = unrelated T parts v a.takes in changed v _ (λ u h. none_some none h) (λ h. none_some none h) (λ u h. onto-stored v t _ a.kept u h)
-  kept-recorded (Mirror v t u w) a = let none = unrelated T parts v a.takes in changed v _ (λ u h. none_some none h) (λ h. none_some none h) (λ u h. onto-stored v t _ a.kept u h)
-  kept-recorded (LandBoth w v t) a = let m = a.land in changed v _ (λ u h. none_some m.plain h) (λ h. none_some m.plain h) (λ u h. onto-stored v t _ m.kept u h)
+  kept-recorded (Store v t u last) a = let none = unrelated T parts v a.takes in changed v _ (λ u h. none_some none h) (λ h. none_some none h) (λ u h. onto-stored v t _ a.receives.kept u h)
+  kept-recorded (Mirror v t u w) a = let none = unrelated T parts v a.takes in changed v _ (λ u h. none_some none h) (λ h. none_some none h) (λ u h. onto-stored v t _ a.receives.kept u h)
+  kept-recorded (LandBoth w v t) a = let m = a.land in changed v _ (λ u h. none_some m.plain h) (λ h. none_some m.plain h) (λ u h. onto-stored v t _ m.receives.kept u h)
   kept-recorded (Flash v u a s n) b = changed v _ (λ x h rec rev q o n z. let both = from_difference _ _ q o in old v x h rec rev q (from_difference _ _ q both.0).0 n z) (no_loop write T structure v) (λ x. old x v)
   kept-recorded (Commit v a s n) b = changed v _ (λ u h rec rev q o n z. let r = (structure.reverts v b.revertible).unchanged q o in old v u h rec rev q o r.0 r.1) (no_loop write T structure v) (λ u. old u v)
   kept-recorded (Revert v a s n) b = changed v _ (λ u h rec rev q o n z. old v u h rec rev q ((structure.reverts v b.revertible).kept q o n z) n z) (no_loop write T structure v) (λ u. old u v)

@@ -9,7 +9,7 @@ use Rattle.dr_model.specs.declared.state.PairState.TheVariants.{CopyPending, Ful
 use Rattle.dr_model.specs.Layout.{Tracks, Fields, is_part}
 use Rattle.dr_model.specs.Histories.{Write}
 use Rattle.dr_model.specs.Pairs.{is_metro, is_kind, is_pending, is_suspended, is_quiet, is_engaged}
-use Rattle.dr_model.specs.Moves.{Move, Land, Strike, Suspend, MakePrimary, DropPrimary, Resume, TakeOver, FallBack, Yield, Lift, Restart, Hold, Free, Finish, target}
+use Rattle.dr_model.specs.Moves.{Move, Land, Strike, Suspend, MakePrimary, DropPrimary, Resume, TakeOver, FallBack, Yield, Lift, Restart, Hold, Free, Finish, target, Store, Mirror}
 use Rattle.dr_model.specs.Table.{Row, Table}
 use Rattle.dr_model.specs.Rows.{after, next_row}
 use Rattle.dr_model.specs.Laws.{Records, RowRecords, Recorders, fields}
@@ -85,6 +85,10 @@ module _ (T : Table) (old : Recorders T) where
     pub kept-recorders : (m : Move) → Allowed write T m → Recorders (after write T m)
     kept-recorders (Land w v t) a = let f : Fields = fields T v in let o = old v in
         changed (Land w v t) (record { holds = o.holds; global = o.global; pending = o.pending; none = λ h. none-written (is_part f.primary) f.recording f.change_recording t h (o.none h) })
+    kept-recorders (Store v t u last) a = let f : Fields = fields T v in let o = old v in
+        changed (Store v t u last) (record { holds = o.holds; global = o.global; pending = o.pending; none = λ h. none-written (is_part f.primary) f.recording f.change_recording t h (o.none h) })
+    kept-recorders (Mirror v t u w) a = let f : Fields = fields T v in let o = old v in
+        changed (Mirror v t u w) (record { holds = o.holds; global = o.global; pending = o.pending; none = λ h. none-written (is_part f.primary) f.recording f.change_recording t h (o.none h) })
     kept-recorders (Strike v t last) a = let f : Fields = fields T v in let o = old v in
         changed (Strike v t last) (record {
           holds = o.holds;

@@ -6,7 +6,7 @@ use Rattle.dr_model.specs.Histories.{Write}
 use Rattle.dr_model.specs.Pairs.{is_kind, is_metro}
 use Rattle.dr_model.specs.Relations.{is_bare, is_whole, turned, given_up}
 use Rattle.dr_model.specs.declared.state.Part.TheVariants.{Global}
-use Rattle.dr_model.specs.Moves.{Move, Land, Overwrite, Keep, Relate, Withdraw, Fetch, Reverse, Restore, Release, Store, Strike, Suspend, MakeSecondary, MakePrimary, DropPrimary, DropSecondary, TakeOver, FallBack, Yield, Unsync, LandBoth, Lift, Restart, Hold, Seal, Finish, RaiseAttempt, Flash, Commit, Revert, target}
+use Rattle.dr_model.specs.Moves.{Move, Land, Overwrite, Keep, Relate, Withdraw, Fetch, Reverse, Restore, Release, Store, Strike, Suspend, MakeSecondary, MakePrimary, DropPrimary, DropSecondary, TakeOver, LeavePrimary, FallBack, Yield, Unsync, LandBoth, Lift, Restart, Hold, Seal, Finish, RaiseAttempt, Flash, Commit, Revert, target, Mirror}
 use Rattle.dr_model.specs.Table.{Row, Table}
 use Rattle.dr_model.specs.Rows.{after, next_row}
 use Rattle.dr_model.specs.Laws.{Each, Linked, Structure, Parts, RowParts, Recorders, Seals, OneKind, SealedGlobal, AllSent, NoMetro, NoneRestored, NothingLeft, source, its_primary, its_secondary, fields}
@@ -52,10 +52,11 @@ module _ (write : ℕ → Write) (T : Table) (structure : Structure T) (parts : 
       (λ x h k. false_true (subst (λ j. is_part (fields T j).primary ≡ false) (chosen (is_part kind) u x h).1 a.from_first) (chosen _ _ v k).0)
       (λ x h k. false_true a.first (chosen _ _ x k).0)
   kept-kinds (MakePrimary v u kind state full) a = kinds (MakePrimary v u kind state full) a
-      (λ x h k. false_true a.second (chosen _ _ x h).0)
+      (old.kinds v)
       (λ x h k. subst (λ j. (fields T j).secondary ≡ kind) (chosen (is_part kind) u x k).1 a.alike)
   kept-kinds (DropPrimary v) a = kinds (DropPrimary v) a (old.kinds v) (λ x h k. absurd cc)
   kept-kinds (DropSecondary v) a = kinds (DropSecondary v) a (λ x h. absurd cc) (λ x. old.kinds x v)
+  kept-kinds (LeavePrimary v) a = kinds (LeavePrimary v) a (λ x h. absurd cc) (λ x. old.kinds x v)
   kept-kinds (TakeOver v) a = kinds (TakeOver v) a (λ x h. absurd cc) (λ x h k. absurd (parts.one_way v x k h))
   kept-kinds (Yield v u kind state) a = kinds (Yield v u kind state) a
       (λ x h k. subst (λ j. kind ≡ (fields T j).primary) (chosen (is_part kind) u x h).1 (sym a.alike)) (λ x h k. absurd cc)
@@ -73,6 +74,7 @@ module _ (write : ℕ → Write) (T : Table) (structure : Structure T) (parts : 
   kept-global (MakeSecondary v u kind state) a = sealed (MakeSecondary v u kind state) (λ nz. absurd (nz refl))
   kept-global (Store v t u last) a = sealed (Store v t u last) (λ nz. absurd (nz refl))
   kept-global (DropSecondary v) a = sealed (DropSecondary v) (λ nz. absurd (nz refl))
+  kept-global (LeavePrimary v) a = sealed (LeavePrimary v) (λ nz. absurd (nz refl))
   kept-global (TakeOver v) a = sealed (TakeOver v) (λ nz. absurd (nz refl))
   kept-global (Yield v u kind state) a = sealed (Yield v u kind state) (λ nz. absurd (nz refl))
   kept-global m a = sealed m (old.global (target m))
@@ -86,13 +88,15 @@ module _ (write : ℕ → Write) (T : Table) (structure : Structure T) (parts : 
   kept-sent (Land w v t) a = let f = fields T v in sent (Land w v t) a
       (λ u h k rec nz is q. ap (λ s. contains s q) (landed_out (is_part f.primary) f.recording (insert f.out_of_sync t) f.out_of_sync rec) ∙ old.sent v u h k rec nz is q) (λ u. old.sent u v)
   kept-sent (Restore v t u) a = sent (Restore v t u) a (λ x h k rec. false_true a.idle rec) (λ x. old.sent x v)
-  kept-sent (Store v t u last) a = sent (Store v t u last) a (old.sent v) (λ x h k rec nz. absurd (nz refl))
+  kept-sent (Store v t u last) a = let f = fields T v in sent (Store v t u last) a (λ x h k rec nz is q. ap (λ s. contains s q) (landed_out (is_part f.primary) f.recording (insert f.out_of_sync t) f.out_of_sync rec) ∙ old.sent v x h k rec nz is q) (λ x h k rec nz. absurd (nz refl))
+  kept-sent (Mirror v t u w) a = let f = fields T v in sent (Mirror v t u w) a (λ x h k rec nz is q. ap (λ s. contains s q) (landed_out (is_part f.primary) f.recording (insert f.out_of_sync t) f.out_of_sync rec) ∙ old.sent v x h k rec nz is q) (λ x. old.sent x v)
   kept-sent (Strike v t last) a = sent (Strike v t last) a (λ u h k rec nz is q. contrary _ _ (removed (fields T v).out_of_sync t q) (old.sent v u h k rec nz is q)) (λ u. old.sent u v)
   kept-sent (Suspend v busy) a = sent (Suspend v busy) a (λ u h k rec. absurd cc) (λ u. old.sent u v)
   kept-sent (MakeSecondary v u kind state) a = sent (MakeSecondary v u kind state) a (old.sent v) (λ x h k rec nz. absurd (nz refl))
   kept-sent (MakePrimary v u kind state full) a = sent (MakePrimary v u kind state full) a (λ x h k rec. absurd cc) (λ x. old.sent x v)
   kept-sent (DropPrimary v) a = sent (DropPrimary v) a (λ u h. absurd cc) (λ u. old.sent u v)
   kept-sent (DropSecondary v) a = sent (DropSecondary v) a (old.sent v) (λ u h k. absurd cc)
+  kept-sent (LeavePrimary v) a = sent (LeavePrimary v) a (old.sent v) (λ u h k. absurd cc)
   kept-sent (TakeOver v) a = sent (TakeOver v) a (λ u h k rec. absurd cc) (λ u h k. absurd cc)
   kept-sent (FallBack v more state) a = sent (FallBack v more state) a (λ u h k rec. absurd cc) (λ u. old.sent u v)
   kept-sent (Yield v u kind state) a = sent (Yield v u kind state) a (λ x h. absurd cc) (λ x h k rec nz. absurd (nz refl))
@@ -126,6 +130,7 @@ module _ (write : ℕ → Write) (T : Table) (structure : Structure T) (parts : 
   kept-metro (Release v t) a = metro (Release v t) (λ u h r. not_turned (is_bare (given_up (fields T v) t).own) (fields T v).revertible (revertible-not (fields T v).revertible (λ i. (structure.reverts v i).forward) a.reversing) r) (ended-loop write T structure v _) (λ u. no_targets write T structure v a.from u a.related)
   kept-metro (MakeSecondary v u kind state) a = metro (MakeSecondary v u kind state) (λ x. old.no_metro v x) (no_loop write T structure v) (λ x h r. false_true (a.settled x h) r)
   kept-metro (DropSecondary v) a = metro (DropSecondary v) (λ x. old.no_metro v x) (no_loop write T structure v) (λ x h r. refl)
+  kept-metro (LeavePrimary v) a = metro (LeavePrimary v) (λ x. old.no_metro v x) (no_loop write T structure v) (λ x h r. refl)
   kept-metro (TakeOver v) a = metro (TakeOver v) (λ x. old.no_metro v x) (no_loop write T structure v) (λ x h r. refl)
   kept-metro (Yield v u kind state) a = metro (Yield v u kind state) (λ x. old.no_metro v x) (no_loop write T structure v) (λ x h r. false_true (a.settled x h) r)
   kept-metro (Flash v u p s n) b = metro (Flash v u p s n)
@@ -178,7 +183,7 @@ module _ (write : ℕ → Write) (T : Table) (structure : Structure T) (parts : 
     -- the row that the move leaves is no target with a part in a pair
     left-parts : (is_part (row m).volume.fields.primary ≡ true → (row m).volume.fields.related ≡ true → ⊥) × (is_part (row m).volume.fields.secondary ≡ true → (row m).volume.fields.related ≡ true → ⊥)
     left-parts =
-        let one : RowParts (row m) = subst (λ (r : Row). RowParts r) (at_same T (target m) (row m)) ((kept-parts T parts write structure m a).one (target m)) in
+        let one : RowParts (row m) = subst (λ (r : Row). RowParts r) (at_same T (target m) (row m)) ((kept-parts T parts write structure m a).fit (target m)) in
         ((λ p r. false_true (one.no_primary r) p), (λ p r. false_true (one.no_secondary r) p))
 
     flashed-at : ((u x : ℕ) → its_secondary (row m) ≡ Some u → its_primary (T u) ≡ Some (target m) → source (T x) ≡ Some u → (row m).volume.fields.recording ≡ true → (fields T x).revertible ≡ true → (t : ℕ) → contains (row m).volume.fields.out_of_sync t ≡ false)
@@ -216,6 +221,10 @@ module _ (write : ℕ → Write) (T : Table) (structure : Structure T) (parts : 
   kept-flashed : (m : Move) → Allowed write T m → NothingLeft (after write T m)
   kept-flashed (Land w v t) a = let f = fields T v in sends-flashed (Land w v t) a
       (λ u x h p s rec e q. ap (λ s. contains s q) (landed_out (is_part f.primary) f.recording (insert f.out_of_sync t) f.out_of_sync rec) ∙ old.flashed v u x h p s rec e q) refl refl refl
+  kept-flashed (Mirror v t u w) a = let f = fields T v in sends-flashed (Mirror v t u w) a
+      (λ y x h p s rec e q. ap (λ s. contains s q) (landed_out (is_part f.primary) f.recording (insert f.out_of_sync t) f.out_of_sync rec) ∙ old.flashed v y x h p s rec e q) refl refl refl
+  kept-flashed (Store v t u last) a = let f = fields T v in sends-flashed (Store v t u last) a
+      (λ y x h p s rec e q. ap (λ s. contains s q) (landed_out (is_part f.primary) f.recording (insert f.out_of_sync t) f.out_of_sync rec) ∙ old.flashed v y x h p s rec e q) refl refl refl
   kept-flashed (Overwrite w v t) a = target-flashed (Overwrite w v t) a a.from a.related refl refl refl refl (ended-loop write T structure v _) (λ x u h p s r e. not_turned (is_whole (T v).volume.tracks (insert (fields T v).own t) && not (fields T v).persistent) (fields T v).revertible a.settled e)
   kept-flashed (Keep v t) a = target-flashed (Keep v t) a a.from a.related refl refl refl refl (ended-loop write T structure v _) (λ x u h p s r e. not_turned (is_whole (T v).volume.tracks (insert (fields T v).own t) && not (fields T v).persistent) (fields T v).revertible a.settled e)
   kept-flashed (Fetch v t) a = target-flashed (Fetch v t) a a.from a.related refl refl refl refl (ended-loop write T structure v _) (λ x u h p s r e. not_turned (is_whole (T v).volume.tracks (insert (fields T v).own t) && not (fields T v).persistent) (fields T v).revertible a.settled e)
@@ -231,6 +240,7 @@ module _ (write : ℕ → Write) (T : Table) (structure : Structure T) (parts : 
   kept-flashed (MakePrimary v u kind state full) a = flashed-at (MakePrimary v u kind state full) a (λ x y h p s rec. absurd cc) (λ x y h p s. old.flashed x v y h p s) (λ x y h p s. old.flashed x y v h p s) (no_loop write T structure v)
   kept-flashed (DropPrimary v) a = flashed-at (DropPrimary v) a (λ u x h. absurd cc) (λ x y h p s. old.flashed x v y h p s) (λ x y h p s. old.flashed x y v h p s) (no_loop write T structure v)
   kept-flashed (DropSecondary v) a = flashed-at (DropSecondary v) a (λ u x. old.flashed v u x) (λ x y h p. absurd cc) (λ x y h p s. old.flashed x y v h p s) (no_loop write T structure v)
+  kept-flashed (LeavePrimary v) a = flashed-at (LeavePrimary v) a (λ u x. old.flashed v u x) (λ x y h p. absurd cc) (λ x y h p s. old.flashed x y v h p s) (no_loop write T structure v)
   kept-flashed (TakeOver v) a = flashed-at (TakeOver v) a (λ u x h p s rec. absurd cc) (λ x y h p. absurd cc) (λ x y h p s. old.flashed x y v h p s) (no_loop write T structure v)
   kept-flashed (FallBack v more state) a = sends-flashed (FallBack v more state) a (λ u x h p s rec. absurd cc) refl refl refl
   kept-flashed (Yield v u kind state) a = flashed-at (Yield v u kind state) a (λ x y h. absurd cc) (λ x y h p s r e. false_true (a.settled y s) e) (λ x y h p s r e. old.flashed x y v h p s r e) (no_loop write T structure v)

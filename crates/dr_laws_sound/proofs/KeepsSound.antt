@@ -30,7 +30,7 @@ use Rattle.dr_laws_sound.proofs.KeepsRecorders.{kept-recorders}
 use Rattle.dr_laws_sound.proofs.KeepsSeals.{kept-seals}
 use Rattle.dr_laws_sound.proofs.KeepsAsides.{kept-asides}
 use Rattle.dr_laws_sound.proofs.KeepsPairs.{kept-pairs}
-use Rattle.dr_laws_sound.proofs.KeepsGroups.{groups-after, groups-begun, housed-after, attempts-after, attempts-begun, flights-after, flights-begun}
+use Rattle.dr_laws_sound.proofs.KeepsGroups.{makes-none, uncascaded-after, secondaries-after, groups-after, groups-begun, housed-after, attempts-after, attempts-begun, flights-after, flights-begun}
 use Rattle.dr_laws_sessions.proofs.Volumes.{groups-same}
 use Rattle.dr_laws_sound.proofs.KeepsTargets.{few-after}
 use Rattle.dr_laws_sound.proofs.KeepsQueue.{AllQuiet, queue-done, queue-stop, queue-same, goes-off, apart-filter, lone-filter}
@@ -58,6 +58,8 @@ module _ (starts : Option ℕ) where
   sound-done w m f s may = record {
     rows = subst SoundRows (sym (table-done w s.rows.structure m f s.rows.images.blank may.allowed may.ready)) (rows-after (histories w.events).write (table w) m s.rows may.allowed);
     targets = record { once = s.targets.once; few = few-after w.control s.targets m (carried_in w m) may.fits };
+    uncascaded = uncascaded-after w (histories w.events).write (done w m f).control.on (done w m f).control.fuse (done w m f).control.pending m may.allowed may.fits s.uncascaded;
+    secondaries = secondaries-after w (histories w.events).write (done w m f).control.on (done w m f).control.fuse (done w m f).control.pending m may.allowed (makes-none w.control m may.group) s.secondaries;
     queue = queue-done starts w s.queue m f may.ready;
     groups = groups-after w (histories w.events).write (done w m f).control.on (done w m f).control.fuse (done w m f).control.pending m may.allowed may.group s.groups;
     housed = housed-after w (histories w.events).write (done w m f).control.on (done w m f).control.fuse (done w m f).control.pending m s.housed;
@@ -69,6 +71,8 @@ module _ (starts : Option ℕ) where
   sound-stop w m f s may = record {
     rows = subst SoundRows (sym (table-stop w s.rows.structure m f s.rows.images.blank may.allowed may.ready)) (rows-after (histories w.events).write (table w) m s.rows may.allowed);
     targets = record { once = s.targets.once; few = few-after w.control s.targets m (carried_in w m) may.fits };
+    uncascaded = uncascaded-after w (histories w.events).write (done_in_stop w m f).control.on (done_in_stop w m f).control.fuse (done_in_stop w m f).control.pending m may.allowed may.fits s.uncascaded;
+    secondaries = secondaries-after w (histories w.events).write (done_in_stop w m f).control.on (done_in_stop w m f).control.fuse (done_in_stop w m f).control.pending m may.allowed (makes-none w.control m may.group) s.secondaries;
     queue = queue-stop starts w s.queue m f may.ready;
     groups = groups-after w (histories w.events).write (done_in_stop w m f).control.on (done_in_stop w m f).control.fuse (done_in_stop w m f).control.pending m may.allowed may.group s.groups;
     housed = housed-after w (histories w.events).write (done_in_stop w m f).control.on (done_in_stop w m f).control.fuse (done_in_stop w m f).control.pending m s.housed;
@@ -85,6 +89,8 @@ module _ (starts : Option ℕ) where
       record {
         rows = subst SoundRows (sym (table-done w s.rows.structure m f s.rows.images.blank may.allowed may.ready)) (rows-after (histories w.events).write (table w) m s.rows may.allowed);
         targets = record { once = s.targets.once; few = few-after w.control s.targets m (carried_in w m) tt };
+        uncascaded = uncascaded-after w (histories w.events).write k.on k.fuse k.pending m may.allowed tt s.uncascaded;
+        secondaries = λ x q i here. uncascaded-after w (histories w.events).write k.on k.fuse k.pending m may.allowed tt s.uncascaded q.b.0;
         queue = record { each = q.each; apart = q.apart; lone = q.lone; numbers = q.numbers };
         groups = groups-begun w (histories w.events).write k.on k.fuse k.pending v i n may.opens s.groups;
         housed = housed-after w (histories w.events).write k.on k.fuse k.pending m s.housed;
@@ -100,6 +106,8 @@ module _ (starts : Option ℕ) where
       record {
         rows = subst SoundRows (sym (table-stop w s.rows.structure m f s.rows.images.blank may.allowed may.ready)) (rows-after (histories w.events).write (table w) m s.rows may.allowed);
         targets = record { once = s.targets.once; few = few-after w.control s.targets m (carried_in w m) tt };
+        uncascaded = uncascaded-after w (histories w.events).write k.on k.fuse k.pending m may.allowed tt s.uncascaded;
+        secondaries = λ x q i here. uncascaded-after w (histories w.events).write k.on k.fuse k.pending m may.allowed tt s.uncascaded q.b.0;
         queue = record { each = q.each; apart = q.apart; lone = q.lone; numbers = q.numbers };
         groups = groups-begun w (histories w.events).write k.on k.fuse k.pending v i n may.opens s.groups;
         housed = housed-after w (histories w.events).write k.on k.fuse k.pending m s.housed;
@@ -117,6 +125,8 @@ module _ (starts : Option ℕ) where
   sound-told w servers on fuse link paths es same quiet off housed s = record {
     rows = rows-told w es same s.rows;
     targets = record { once = s.targets.once; few = s.targets.few };
+    uncascaded = s.uncascaded;
+    secondaries = s.secondaries;
     groups = told-groups w servers on fuse link paths s.groups;
     housed = housed;
     attempts = s.attempts;
@@ -137,6 +147,8 @@ module _ (starts : Option ℕ) where
   sound-fused w x f s = record {
     rows = s.rows;
     targets = record { once = s.targets.once; few = s.targets.few };
+    uncascaded = s.uncascaded;
+    secondaries = s.secondaries;
     groups = told-groups w w.control.servers w.control.on (at w.control.fuse x f) w.control.link w.control.paths s.groups;
     housed = s.housed;
     attempts = s.attempts;
@@ -168,6 +180,8 @@ module _ (starts : Option ℕ) where
       record {
         rows = subst SoundRows (λ i u. record (table w u) { due = λ q. image h.write (h.now u q ++ sym (waiting-settled n u q ps unlanded) i) }) s.rows;
         targets = record { once = s.targets.once; few = s.targets.few };
+        uncascaded = s.uncascaded;
+        secondaries = s.secondaries;
         groups = groups-same w.control _ (record { sessions = refl; volumes = refl; server = λ v. refl; tracks = λ v. refl }) (λ v h. (h, (refl, refl))) s.groups;
         housed = s.housed;
         attempts = s.attempts;

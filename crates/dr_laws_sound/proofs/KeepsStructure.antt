@@ -8,7 +8,7 @@ use Rattle.dr_model.specs.Pairs.{is_kind}
 use Rattle.dr_model.specs.Layout.{Tracks, Fields, is_part}
 use Rattle.dr_model.specs.Histories.{Write}
 use Rattle.dr_model.specs.Relations.{rest, is_bare, is_whole, turned, given_up}
-use Rattle.dr_model.specs.Moves.{Move, Land, Overwrite, Keep, Note, Relate, Withdraw, Fetch, Resync, Reverse, Restore, Release, Store, Strike, Suspend, MakeSecondary, MakePrimary, DropPrimary, DropSecondary, Follow, Resume, TakeOver, FallBack, Yield, Unsync, Mirror, LandBoth, Thaw, Lift, Restart, Hold, Free, Seal, Finish, RaiseAttempt, RaiseFloor, Leave, Flash, Commit, Revert, target, next_fields, FlashHold, FlashFree, Unstage, keeps_staged, moved_keeping}
+use Rattle.dr_model.specs.Moves.{Move, Land, Overwrite, Keep, Note, Relate, Withdraw, Fetch, Resync, Reverse, Restore, Release, Store, Strike, Suspend, MakeSecondary, MakePrimary, DropPrimary, DropSecondary, Follow, Resume, TakeOver, LeavePrimary, FallBack, Yield, Unsync, Mirror, LandBoth, Thaw, Lift, Restart, Hold, Free, Seal, Finish, RaiseAttempt, RaiseFloor, Leave, Flash, Commit, Revert, target, next_fields, FlashHold, FlashFree, Unstage, keeps_staged, moved_keeping}
 use Rattle.dr_model.specs.Table.{Row, Table}
 use Rattle.dr_model.specs.Rows.{after, next_row, next_bytes, next_due, next_aside, volumes_of, carried_on}
 use Rattle.dr_model.specs.Laws.{Structure, Lawful, RowSets, RowFlags, RowDefined, SetsFit, FlagsFit, Flashed, OneRestore, RowReverts, source, fields}
@@ -194,9 +194,9 @@ module _ (write : ℕ → Write) (T : Table) (old : Structure T) where
   })
 
   pub kept-structure : (m : Move) → Allowed write T m → Structure (after write T m)
-  kept-structure (Land w v t) a = paired (Land w v t) (lawful-written _ _ (old.lawful v) t a.low) (λ q h. removed (fields T v).blank t q h)
+  kept-structure (Land w v t) a = paired (Land w v t) (lawful-written _ _ (old.lawful v) t a.receives.low) (λ q h. removed (fields T v).blank t q h)
   kept-structure (Restore v t u) a = paired (Restore v t u) (lawful-altered _ _ (old.lawful v) t a.low) (λ q h. removed (fields T v).blank t q h)
-  kept-structure (Store v t u last) a = paired (Store v t u last) (lawful-received _ _ (old.lawful v) last t (chosen _ _ u a.takes).0) (λ q h. removed (fields T v).blank t q h)
+  kept-structure (Store v t u last) a = paired (Store v t u last) (lawful-received _ _ (old.lawful v) last t a.receives.low (chosen _ _ u a.takes).0) (λ q h. removed (fields T v).blank t q h)
   kept-structure (Strike v t last) a = paired (Strike v t last) (lawful-struck _ _ (old.lawful v) last t (chosen _ _ a.to a.sends).0) (λ q h. h)
   kept-structure (Suspend v busy) a = paired (Suspend v busy) (lawful-suspended _ _ (old.lawful v) busy a) (λ q h. h)
   kept-structure (MakeSecondary v u kind state) a = paired (MakeSecondary v u kind state) (lawful-made_secondary _ _ (old.lawful v) u kind state a.is_kind) (λ q h. h)
@@ -206,10 +206,11 @@ module _ (write : ℕ → Write) (T : Table) (old : Structure T) where
   kept-structure (Follow v state) a = paired (Follow v state) (lawful-followed _ _ (old.lawful v) state a) (λ q h. h)
   kept-structure (Resume v state) a = paired (Resume v state) (lawful-resumed _ _ (old.lawful v) state a.first) (λ q h. h)
   kept-structure (TakeOver v) a = paired (TakeOver v) (lawful-taken_over _ _ (old.lawful v) a.second) (λ q h. h)
+  kept-structure (LeavePrimary v) a = paired (LeavePrimary v) (lawful-no_secondary _ _ (old.lawful v)) (λ q h. h)
   kept-structure (FallBack v more state) a = paired (FallBack v more state) (lawful-fallen_back _ _ (old.lawful v) more state a.first a.low) (λ q h. h)
   kept-structure (Yield v u kind state) a = paired (Yield v u kind state) (lawful-yielded _ _ (old.lawful v) u kind state (ap (λ p. is_part p) (sym a.alike) ∙ (chosen _ _ v a.back).0)) (λ q h. h)
   kept-structure (Unsync v t) a = paired (Unsync v t) (lawful-unsynced _ _ (old.lawful v) t a.low (metro-part (fields T v).primary a.metro)) (λ q h. h)
-  kept-structure (Mirror v t u w) a = paired (Mirror v t u w) (lawful-mirrored _ _ (old.lawful v) t) (λ q h. removed (fields T v).blank t q h)
+  kept-structure (Mirror v t u w) a = paired (Mirror v t u w) (lawful-mirrored _ _ (old.lawful v) t a.receives.low) (λ q h. removed (fields T v).blank t q h)
   kept-structure (LandBoth w v t) a = paired (LandBoth w v t) (lawful-synced _ _ (old.lawful v) t (chosen _ _ a.to a.sends).0) (λ q h. removed (fields T v).blank t q h)
   kept-structure (Thaw v) a = paired (Thaw v) (lawful-thawed _ _ (old.lawful v)) (λ q h. h)
   kept-structure (FlashHold v) a = paired (FlashHold v) (lawful-flash_held _ _ (old.lawful v)) (λ q h. h)

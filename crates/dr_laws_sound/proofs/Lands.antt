@@ -144,7 +144,19 @@ module _ (w : World) (s : Sound w) (p : Pending) (one : filter (is_write p.w) w.
       let is_k : (fields_at k.control v).related ≡ false = ap (λ (x : Volume). x.fields.related) here ∙ is in
       let back = back-parts (fields_at k.control v) (ap (λ (x : Volume). held_back x.fields) here ∙ open_to) in
       decides k (land_on p.w v p.track) [] (Do (Make (Land p.w v p.track))) (ap (λ b. Do (Make (cond b (Overwrite p.w v p.track) (Land p.w v p.track)))) is_k) (
-        record { runs = on_k; allowed = record { low = waits_k.low; defined = waits_k.defined; plain = choose_none _ _ is_k; first = ap (λ (x : Volume). is_part x.fields.secondary) here ∙ free; kept = kept; free = back.0; let_go = back.1; sent = λ r. ap (λ (x : Volume). contains x.fields.out_of_sync p.track) here ∙ sent (ap (λ (x : Volume). x.fields.recording) (sym here) ∙ r) }; fits = tt; group = tt; ready = may-ack k sk p one_k on_k },
+        record {
+          runs = on_k;
+          allowed = record {
+            receives = record { low = waits_k.low; kept = kept; free = back.0; sent = λ r. ap (λ (x : Volume). contains x.fields.out_of_sync p.track) here ∙ sent (ap (λ (x : Volume). x.fields.recording) (sym here) ∙ r) };
+            defined = waits_k.defined;
+            plain = choose_none _ _ is_k;
+            first = ap (λ (x : Volume). is_part x.fields.secondary) here ∙ free;
+            let_go = back.1;
+          };
+          fits = tt;
+          group = tt;
+          ready = may-ack k sk p one_k on_k;
+        },
         λ f j. over _ j,
       ))
       (λ u h r. absurd (still u h r)) settled s

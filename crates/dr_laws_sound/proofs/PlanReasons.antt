@@ -1,5 +1,5 @@
 -- Why the plans of steps refuse before their entries: for no reason that names a stop, or says that a step isn't built.
-use Rattle.std.proofs.Common.{ℕ, ◌≡◌, refl, Bool, true, false, cond, not, ◌&&◌, ◌||◌, nat_eq, nat_lt, nat_le, List, [], Option, Some, None, Result, Ok, Err}
+use Rattle.std.proofs.Common.{ℕ, ◌≡◌, refl, Bool, true, false, cond, not, ◌&&◌, ◌||◌, nat_eq, nat_lt, nat_le, List, Option, Some, None}
 use Rattle.std.specs.Prelude.{length, is_some, option_map, ◌+◌, ◌==◌}
 use Rattle.std.specs.List.{find, list_any}
 use Rattle.dr_ids.specs.Paths.{path_in}
@@ -23,7 +23,7 @@ use Rattle.dr_model.specs.Entries.{first_of, subsystem, fields_at, is_running, p
 use Rattle.dr_model.specs.PairEntries.{link_down, first_active}
 use Rattle.dr_model.specs.Pairs.{is_kind}
 use Rattle.dr_model.specs.Phases as phases
-use Rattle.dr_model.specs.Sessions.{Session, Mirror, paused, in_session, is_member, has_subsystem, has_member_in, is_only, formation, unless_idle, busy, join_refusal, leave_refusal, last_refusal, make_refusal, drop_refusal, abort_refusal}
+use Rattle.dr_model.specs.Sessions.{Session, Mirror, in_session, is_member, has_subsystem, has_member_in, is_only, formation, unless_idle, busy, join_refusal, leave_refusal, last_refusal, make_refusal, drop_refusal, abort_refusal}
 use Rattle.dr_model.specs.Messages.{Message, is_full}
 use Rattle.dr_model.specs.MessagePlans.{full_refusal, old_refusal}
 use Rattle.dr_model.specs.SessionPlans.{name_refusal, off_refusal, outside_refusal, master_refusal, place_refusal, taken_refusal, copy_refusal, exchange_refusal, phase_refusal, apart_refusal, is_idle}

@@ -1,6 +1,6 @@
 -- What a plan leaves that is refused, but by the stop of a server: the world as it was, for the plans of most steps. Those of host writes,
 -- drains, exchanges and recoveries stand in `RefusedSteps.antt`.
-use Rattle.std.proofs.Common.{ℕ, ◌≡◌, refl, ap, sym, ◌∙◌, Bool, true, false, List, [], ◌∷◌, ◌++◌, Option, Some, None, Result, Ok, Err}
+use Rattle.std.proofs.Common.{ℕ, ◌≡◌, refl, ap, sym, ◌∙◌, Bool, true, false, [], ◌++◌, Option, Some, None, Result, Ok}
 use Rattle.dr_model.specs.Plans.{start_plan, landed_on, says_acked}
 use Rattle.dr_model.specs.Sessions.{session_in}
 use Rattle.std.proofs.lemmas.List.{append-nil}

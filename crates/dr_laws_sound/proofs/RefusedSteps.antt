@@ -1,6 +1,5 @@
 -- A step that is refused, but by the stop of a server, changes nothing but what `Leaves` names: by the plan of each step.
-use Rattle.std.proofs.Common.{ℕ, ◌+◌, ◌≡◌, inl, inr, refl, ap, sym, ◌∙◌, subst, ◌||◌, Bool, true, false, cond, List, [], Option, Some, None, Result, Ok}
-use Rattle.std.specs.Prelude.{◌==◌}
+use Rattle.std.proofs.Common.{ℕ, ◌+◌, ◌≡◌, inl, inr, refl, ap, sym, ◌∙◌, subst, ◌||◌, Bool, true, false, cond, Some, None, Result, Ok}
 use Rattle.dr_ids.specs.declared.refusal.Refusal.{Refusal}
 use Rattle.dr_ids.specs.declared.refusal.Refusal.TheVariants.{JournalFull, NoGroup}
 use Rattle.dr_model.specs.declared.said.Said.{Said}
@@ -9,7 +8,6 @@ use Rattle.dr_model.specs.Carried.{losing}
 use Rattle.dr_model.specs.declared.step.Step.{Step}
 use Rattle.dr_model.specs.declared.step.Step.TheVariants.{Write, Apply, Drain, Exchange, Deliver, Recover, Run}
 use Rattle.dr_model.specs.Control.{World}
-use Rattle.dr_model.specs.Phases as phases
 use Rattle.dr_model.specs.Carry.{dropped}
 use Rattle.dr_model.specs.PlanParts.{Plan, refuses}
 use Rattle.dr_model.specs.Plans.{plan_of, step_plan, has_room}

@@ -190,6 +190,8 @@ module _ (s : ℕ) where
   sound-off w j off = record {
     rows = j.rows;
     targets = j.targets;
+    uncascaded = j.uncascaded;
+    secondaries = j.secondaries;
     groups = j.groups;
     housed = j.housed;
     attempts = j.attempts;
@@ -201,6 +203,8 @@ module _ (s : ℕ) where
   sound-free w j free = record {
     rows = j.rows;
     targets = j.targets;
+    uncascaded = j.uncascaded;
+    secondaries = j.secondaries;
     groups = j.groups;
     housed = j.housed;
     attempts = j.attempts;
@@ -244,6 +248,8 @@ module _ (s : ℕ) where
     acknowledges = record {
       rows = subst SoundRows (λ i u. record (table w u) { due = λ q. sym (same-due u q) i; aside = λ q. sym (same-aside u q) i }) j.rows;
       targets = record { once = j.targets.once; few = j.targets.few };
+      uncascaded = j.uncascaded;
+      secondaries = j.secondaries;
       groups = same-groups w.control (acknowledged w p.w).control refl refl refl j.groups;
       housed = j.housed;
       attempts = j.attempts;
@@ -345,6 +351,8 @@ module _ (s : ℕ) where
         sound = record {
           rows = rows-told w (Started s ∷ []) same x.rows;
           targets = record { once = x.targets.once; few = x.targets.few };
+          uncascaded = x.uncascaded;
+          secondaries = x.secondaries;
           groups = same-groups w.control (starting s w.control) refl refl refl x.groups;
           housed = x.housed;
           attempts = x.attempts;

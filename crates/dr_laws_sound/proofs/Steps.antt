@@ -217,7 +217,7 @@ sound-nothing = record {
       one_restore = λ v a b h. absurd cc;
     };
     parts = record {
-      one = λ v. record { one = λ h. absurd cc; no_primary = λ h. absurd cc; no_secondary = λ h. absurd cc };
+      fit = λ v. record { both = λ h. absurd cc; no_primary = λ h. absurd cc; no_secondary = λ h. absurd cc };
       secondary = λ v u h. absurd cc;
       primary = λ v u h. absurd cc;
       one_way = λ v u h. absurd cc;
@@ -236,10 +236,12 @@ sound-nothing = record {
     lone = record { differ = λ x m h. absurd h; one = λ v x y m q h. absurd h };
     recorders = λ v h. absurd cc;
   };
+  secondaries = λ x m h. absurd h;
   housed = housed-none;
   attempts = attempts-none;
   flights = flights-none;
   targets = record { once = tt; few = λ v. omega arith };
+  uncascaded = λ v h. absurd cc;
   queue = record { each = tt; apart = tt; lone = tt; numbers = record { now = λ v t. tt; aside = λ v t. tt } };
 }
 

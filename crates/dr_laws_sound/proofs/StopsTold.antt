@@ -1,6 +1,6 @@
 -- Where a step is refused because a server stopped, its acts told that stop, and the other way round. That is so where no entry
 -- ends a plan with such a refusal.
-use Rattle.std.proofs.Common.{ℕ, ◌≡◌, List, [], ◌∷◌, ◌++◌, refl, ap, ◌∙◌, sym, append_assoc, Bool, true, false, Option, Some, None}
+use Rattle.std.proofs.Common.{ℕ, ◌≡◌, List, [], ◌∷◌, ◌++◌, refl, ap, ◌∙◌, sym, append_assoc, true, Option, Some, None}
 use Rattle.std.proofs.lemmas.List.{append-nil}
 use Rattle.std.specs.Option.{option_or}
 use Rattle.dr_ids.specs.declared.refusal.Refusal.{Refusal}

@@ -20,7 +20,7 @@ use Rattle.dr_model.specs.Rows.{next_row}
 use Rattle.dr_model.specs.Laws.{Sound}
 use Rattle.dr_model.specs.Allowed.{Runs}
 use Rattle.dr_laws_sound.specs.Turning.{TakesOver, IsTurned, Leaves, AreEqual}
-use Rattle.dr_laws_cuts.proofs.Still.{second-first}
+use Rattle.dr_facts.proofs.Parts.{two-partners}
 use Rattle.dr_model.proofs.CarryLemmas.{carry-first}
 use Rattle.dr_laws_sound.proofs.Turns.{done, act-cases}
 use Rattle.dr_laws_sound.proofs.RowsAfter.{idle, table-done}
@@ -42,7 +42,7 @@ use Rattle.dr_logic.proofs.Truth.{false_true}
 pub pair-equal : (w : World) → Sound w → (x y : ℕ) → is_primary_of y (fields_at w.control x) ≡ true → is_secondary_of x (fields_at w.control y) ≡ true → AreEqual w x y
 pair-equal w s x y leads follows t lt none still =
     s.rows.pairs x y (its-second y (fields_at w.control x) leads) (inl (its-first x (fields_at w.control y) follows)) t lt (or_from _ _ none still)
-    (λ back. second-first (table w) s.rows y x x (its-first x (fields_at w.control y) follows) back)
+    (λ back. two-partners (table w y) x (s.rows.parts.fit y) (its-first x (fields_at w.control y) follows) back)
 
 -- ---- entries that led on
 
@@ -107,7 +107,7 @@ module _ (w : World) (s : Sound w) where
     same-bytes v t =
         let z = sound-begun w s in
         let is = (and_parts (is_part (fields_at w.control b).secondary) _ belongs).0 in
-        ap (λ (T : ℕ → Row). (T v).bytes t) (table-done first z.rows.structure (TakeOver b) f z.rows.images.blank (record { second = is; free = other-none _ (z.rows.parts.one b).one is }) (idle first b z.queue on))
+        ap (λ (T : ℕ → Row). (T v).bytes t) (table-done first z.rows.structure (TakeOver b) f z.rows.images.blank (record { second = is; free = other-none _ (z.uncascaded b) is }) (idle first b z.queue on))
         ∙ at_cases (λ v (r : Row). r.bytes t ≡ w.contents v t) (table first) b (next_row (histories first.events).write (TakeOver b) (table first)) refl (λ v ne. refl) v
 
     taken : TakesOver w over b a kind

@@ -8,13 +8,13 @@ use Rattle.dr_model.specs.Control.{Pending, Control, World}
 use Rattle.dr_model.specs.declared.state.Part.{Part}
 use Rattle.dr_model.specs.declared.state.Part.TheVariants.{Global}
 use Rattle.dr_model.specs.Layout.{Tracks, is_part}
-use Rattle.dr_model.specs.Moves.{Move, Land, Overwrite, Keep, Note, Relate, Withdraw, Fetch, Resync, Reverse, Restore, Release, Store, Strike, Suspend, MakeSecondary, MakePrimary, DropPrimary, DropSecondary, Follow, Resume, TakeOver, FallBack, Yield, Unsync, Mirror, LandBoth, Thaw, FlashHold, FlashFree, Lift, Restart, Hold, Free, Seal, Finish, RaiseAttempt, RaiseFloor, Leave, Flash, Commit, Revert, Unstage, target, is_write}
+use Rattle.dr_model.specs.Moves.{Move, Land, Overwrite, Keep, Note, Relate, Withdraw, Fetch, Resync, Reverse, Restore, Release, Store, Strike, Suspend, MakeSecondary, MakePrimary, DropPrimary, DropSecondary, Follow, Resume, TakeOver, LeavePrimary, FallBack, Yield, Unsync, Mirror, LandBoth, Thaw, FlashHold, FlashFree, Lift, Restart, Hold, Free, Seal, Finish, RaiseAttempt, RaiseFloor, Leave, Flash, Commit, Revert, Unstage, target, is_write}
 use Rattle.dr_model.specs.Pairs.{is_metro, is_kind, is_pending, is_suspended, records}
-use Rattle.dr_model.specs.Entries.{targets_of}
+use Rattle.dr_model.specs.Entries.{targets_of, fields_at}
 use Rattle.dr_model.specs.Table.{Table, table}
 use Rattle.dr_model.specs.Groups.{OpensAttempt}
 use Rattle.dr_model.specs.Attempts.{InAttempt}
-use Rattle.dr_model.specs.Laws.{source, its_primary, its_secondary, fields, servers, unsent, AllPending}
+use Rattle.dr_model.specs.Laws.{Cascaded, source, its_primary, its_secondary, fields, servers, unsent, AllPending}
 
 -- each target of v holds track t, but one that is restored onto v, which holds it too where it gives it back; and it
 -- notes that the track changes, where that is recorded; none is revertible
@@ -23,17 +23,21 @@ pub record Kept (T : Table) (v t : ℕ) : Type 0 where
   pub noted : (u : ℕ) → source (T u) ≡ Some v → (fields T u).recorded ≡ true → (fields T u).reversing ≡ false → contains (fields T u).source_changes t ≡ true
   pub settled : (u : ℕ) → source (T u) ≡ Some v → (fields T u).revertible ≡ false
 
--- a host write lands on a track of a volume that is no target and no secondary, and that neither coordination nor a flash hold
--- holds; where it records, the track has been sent
-pub record MayLand (T : Table) (v t : ℕ) : Type 0 where
+-- Track t comes to volume v, from the host or from the primary of v: each target of v keeps its own, coordination doesn't hold v, and if v records, the
+-- track has been sent.
+pub record MayReceive (T : Table) (v t : ℕ) : Type 0 where
   pub low : t < (T v).volume.tracks
+  pub kept : Kept T v t
+  pub free : (fields T v).coordination ≡ false
+  pub sent : (fields T v).recording ≡ true → contains (fields T v).out_of_sync t ≡ false
+
+-- a host write lands on a track of a volume that is no target and no secondary, and has no flash hold
+pub record MayLand (T : Table) (v t : ℕ) : Type 0 where
+  pub receives : MayReceive T v t
   pub defined : (T v).defined ≡ true
   pub plain : source (T v) ≡ None
   pub first : is_part (fields T v).secondary ≡ false
-  pub kept : Kept T v t
-  pub free : (fields T v).coordination ≡ false
   pub let_go : (fields T v).flash_hold ≡ false
-  pub sent : (fields T v).recording ≡ true → contains (fields T v).out_of_sync t ≡ false
 
 -- or of a target that is neither revertible nor restored onto its source, and has no flash hold
 pub record MayOverwrite (T : Table) (v t : ℕ) : Type 0 where
@@ -114,13 +118,12 @@ pub record MayRelease (T : Table) (v t : ℕ) : Type 0 where
   pub holds : contains (fields T v).own t ≡ true
   pub equal : (T from).bytes t ≡ (T v).bytes t
 
--- secondary v stores a track of its primary u, which u has out of sync, and each target of v holds
+-- secondary v stores a track of its primary u, which u has out of sync
 pub record MayStore (T : Table) (v t u : ℕ) : Type 0 where
-  pub low : t < (T v).volume.tracks
+  pub receives : MayReceive T v t
   pub sends : its_secondary (T u) ≡ Some v
   pub takes : its_primary (T v) ≡ Some u
   pub out : contains (fields T u).out_of_sync t ≡ true
-  pub kept : Kept T v t
 
 -- the secondary of v has what v strikes off; the last track is one of a Metro Mirror pair
 pub record MayStrike (T : Table) (v t : ℕ) (last : Bool) : Type 0 where
@@ -129,25 +132,26 @@ pub record MayStrike (T : Table) (v t : ℕ) (last : Bool) : Type 0 where
   pub sends : its_secondary (T v) ≡ Some to
   pub equal : (T to).bytes t ≡ (T v).bytes t
 
--- v becomes the secondary of u: two volumes of one size on two servers, u in no pair, v no primary and no target, and
--- no target of v is restored onto it or revertible
+-- v becomes the secondary of u: two volumes of one size on two servers, u no primary, and a secondary only if it is cascaded from then on,
+-- v no primary and no target, and no target of v is restored onto it or revertible
 pub record MayMakeSecondary (T : Table) (v u : ℕ) (kind : Part) : Type 0 where
   pub is_kind : is_part kind ≡ true
   pub apart : (T v).volume.server ≡ (T u).volume.server → ⊥
   pub tracks : (T v).volume.tracks ≡ (T u).volume.tracks
   pub from_defined : (T u).defined ≡ true
   pub from_first : is_part (fields T u).primary ≡ false
-  pub from_free : is_part (fields T u).secondary ≡ false
+  pub from_free : is_part (fields T u).secondary ≡ true → Cascaded kind v (fields T u).secondary (fields T u).secondary_partner
   pub plain : (fields T v).related ≡ false
   pub first : is_part (fields T v).primary ≡ false
   pub still : (x : ℕ) → source (T x) ≡ Some v → (fields T x).reversing ≡ true → ⊥
   pub settled : (x : ℕ) → source (T x) ≡ Some v → (fields T x).revertible ≡ false
 
--- v becomes the primary of its secondary u, which has the same bytes, where not all tracks are out of sync
+-- v becomes the primary of its secondary u, which has the same bytes, where not all tracks are out of sync; if it is a secondary, it is
+-- cascaded from then on
 pub record MayMakePrimary (T : Table) (v u : ℕ) (kind : Part) (full : Bool) : Type 0 where
   pub is_kind : is_part kind ≡ true
   pub plain : (fields T v).related ≡ false
-  pub second : is_part (fields T v).secondary ≡ false
+  pub second : is_part (fields T v).secondary ≡ true → Cascaded kind u (fields T v).secondary (fields T v).secondary_partner
   pub defined : (T u).defined ≡ true
   pub takes : its_primary (T u) ≡ Some v
   pub alike : (fields T u).secondary ≡ kind
@@ -158,14 +162,13 @@ pub record MayUnsync (T : Table) (v t : ℕ) : Type 0 where
   pub low : t < (T v).volume.tracks
   pub metro : is_metro (fields T v).primary ≡ true
 
--- secondary v stores a host write on a track of its Metro Mirror primary u, which u has out of sync, and each target of v holds
+-- secondary v stores a host write on a track of its Metro Mirror primary u, which u has out of sync
 pub record MayMirror (T : Table) (v t u : ℕ) : Type 0 where
-  pub low : t < (T v).volume.tracks
+  pub receives : MayReceive T v t
   pub metro : is_metro (fields T u).primary ≡ true
   pub sends : its_secondary (T u) ≡ Some v
   pub takes : its_primary (T v) ≡ Some u
   pub out : contains (fields T u).out_of_sync t ≡ true
-  pub kept : Kept T v t
 
 -- a host write lands on a track of a Metro Mirror primary v whose secondary has stored it
 pub record MayLandBoth (write : ℕ → Write) (T : Table) (n v t : ℕ) : Type 0 where
@@ -192,6 +195,11 @@ pub record MayResume (T : Table) (v : ℕ) : Type 0 where
 pub record MayTakeOver (T : Table) (v : ℕ) : Type 0 where
   pub second : is_part (fields T v).secondary ≡ true
   pub free : is_part (fields T v).primary ≡ false
+
+-- a volume with both parts leaves its primary
+pub record MayLeavePrimary (T : Table) (v : ℕ) : Type 0 where
+  pub first : is_part (fields T v).primary ≡ true
+  pub second : is_part (fields T v).secondary ≡ true
 
 -- a primary is voided, and more of its own tracks are out of sync
 pub record MayFallBack (T : Table) (v : ℕ) (more : Tracks) : Type 0 where
@@ -273,6 +281,7 @@ Allowed write T (DropSecondary v) = IsSecondary T v
 Allowed write T (Follow v state) = IsSecondary T v
 Allowed write T (Resume v state) = MayResume T v
 Allowed write T (TakeOver v) = MayTakeOver T v
+Allowed write T (LeavePrimary v) = MayLeavePrimary T v
 Allowed write T (FallBack v more state) = MayFallBack T v more
 Allowed write T (Yield v u kind state) = MayYield T v u kind
 Allowed write T (Unsync v t) = MayUnsync T v t
@@ -333,9 +342,10 @@ Ready w (Mirror v t u n) = MayTell w n v t u
 Ready w (Restart v) = Unit {0}
 Ready w m = Idle w (target m)
 
--- the source of a new target has a place for it
+-- the source of a new target has a place for it, and no command makes a cascaded volume
 abbrev pub Fits : Control → Move → Type 0
 Fits k (Relate v s choices) = length (targets_of k s) < most_targets
+Fits k (MakePrimary v u kind state full) = is_part (fields_at k v).secondary ≡ false
 Fits k m = Unit {0}
 
 -- the server of a volume is on

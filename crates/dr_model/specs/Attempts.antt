@@ -7,11 +7,11 @@ use Rattle.dr_ids.specs.declared.refusal.PhaseName.TheVariants as phase
 use Rattle.dr_model.specs.Decisions.{Shown}
 use Rattle.dr_model.specs.Phases.{is_among}
 use Rattle.dr_model.specs.Phases as phases
-use Rattle.dr_model.specs.Layout.{Fields}
+use Rattle.dr_model.specs.Layout.{Fields, is_part}
 use Rattle.dr_model.specs.Control.{Control}
 use Rattle.dr_model.specs.Views.{source_of}
 use Rattle.dr_model.specs.Pairs.{primary_of, is_secondary_of, records}
-use Rattle.dr_model.specs.Moves.{Move, Overwrite, Keep, Relate, Withdraw, Fetch, Resync, Reverse, Release, MakeSecondary, Yield, Hold, Free, Seal, Finish, RaiseAttempt, RaiseFloor, Leave, Flash, Commit, Revert}
+use Rattle.dr_model.specs.Moves.{Move, Overwrite, Keep, Relate, Withdraw, Fetch, Resync, Reverse, Release, MakeSecondary, MakePrimary, Yield, Hold, Free, Seal, Finish, RaiseAttempt, RaiseFloor, Leave, Flash, Commit, Revert}
 use Rattle.dr_model.specs.Entries.{fields_at, is_at}
 use Rattle.dr_model.specs.Sessions.{Session, Mirror, has_subsystem, subsystem_of}
 use Rattle.dr_model.specs.SessionEntries.{may_flash}
@@ -432,6 +432,10 @@ pub record GoesAs (k : Control) (v : ℕ) (a : Option ℕ) (s : ℕ) : Type 0 wh
 abbrev pub MayFollow : Control → ℕ → Type 0
 MayFollow k v = (x : Session) (m : Member) → In x k.sessions → In m x.members → m.b.0 ≡ v → (fields_at k m.c.0).revertible ≡ false
 
+-- a volume is the secondary of no member
+abbrev pub SecondaryOfNone : Control → ℕ → Type 0
+SecondaryOfNone k v = (x : Session) (m : Member) → In x k.sessions → In m x.members → m.b.0 ≢ v
+
 -- a primary doesn't record
 abbrev pub IsSilent : Control → ℕ → Type 0
 IsSilent k v = (fields_at k v).recording ≡ false
@@ -504,6 +508,7 @@ InAttempt k (Resync v sequence) = DoesNotCount (fields_at k v)
 InAttempt k (Reverse v left) = MayGo k v × GoesAs k v left (fields_at k v).session
 InAttempt k (Release v t) = (fields_at k v).reversing ≡ true
 InAttempt k (MakeSecondary v u kind state) = MayFollow k v × IsSilent k u
+InAttempt k (MakePrimary v u kind state full) = is_part (fields_at k v).secondary ≡ true → SecondaryOfNone k v
 InAttempt k (Yield v u kind state) = MayFollow k v × IsSilent k u
 InAttempt k (Hold v s n first) = HoldsMember k v s n × (((fields_at k v).attempt < n) × (first ≡ false))
 InAttempt k (Free v) = MayFree k v

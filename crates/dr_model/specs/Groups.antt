@@ -5,6 +5,7 @@ use Rattle.dr_ids.specs.declared.refusal.PhaseName.TheVariants as phase
 use Rattle.dr_model.specs.Phases as phases
 use Rattle.dr_model.specs.Sessions.{Session, Mirror, IsSoundSession}
 use Rattle.dr_model.specs.Messages.{Flight, Message, Asks}
+use Rattle.dr_model.specs.Layout.{is_part}
 use Rattle.dr_model.specs.Control.{Control, is_volume}
 use Rattle.dr_model.specs.Entries.{fields_at}
 use Rattle.dr_model.specs.Tables.{Once}
@@ -94,6 +95,11 @@ pub record Groups (k : Control) : Type 0 where
   pub each : (x : Session) → In x k.sessions → SessionFits k x
   pub lone : Lone k.sessions
   pub recorders : (v : ℕ) → (fields_at k v).recording ≡ true → IsRecorder k.sessions v (fields_at k v).attempt (fields_at k v).primary_partner
+
+-- the secondary of a member isn't cascaded
+abbrev pub SecondariesUncascaded : Control → Type 0
+SecondariesUncascaded k =
+    (x : Session) (m : Member) → In x k.sessions → In m x.members → is_part (fields_at k m.b.0).primary ≡ true → is_part (fields_at k m.b.0).secondary ≡ false
 
 -- v is the primary of a member of the session of that number, whose master is in that phase
 pub record IsMember (k : Control) (v s : ℕ) : Type 0 where

@@ -13,11 +13,11 @@ use Rattle.dr_model.specs.declared.state.Part.{Part}
 use Rattle.dr_model.specs.declared.state.Part.TheVariants.{Global}
 use Rattle.dr_model.specs.declared.state.PairState.{PairState}
 use Rattle.dr_model.specs.Pairs.{primary_of, secondary_of, is_metro, is_kind, is_pending}
-use Rattle.dr_model.specs.Entries.{is_at, targets_of}
+use Rattle.dr_model.specs.Entries.{is_at, targets_of, fields_at}
 use Rattle.dr_model.specs.Table.{Row, Table, table}
 pub use Rattle.dr_model.specs.Tables.{Once}
 use Rattle.dr_model.specs.Messages.{Flight, Message}
-use Rattle.dr_model.specs.Groups.{In, Groups, Housed}
+use Rattle.dr_model.specs.Groups.{In, Groups, SecondariesUncascaded, Housed}
 use Rattle.dr_model.specs.Attempts.{Attempts}
 use Rattle.dr_model.specs.Flights.{Flights}
 
@@ -123,15 +123,21 @@ its_secondary r = secondary_of r.volume.fields
 abbrev pub its_primary : Row → Option ℕ
 its_primary r = primary_of r.volume.fields
 
--- a volume has at most one part in a pair, and a target has none
-pub record OnePart (primary secondary related : Bool) : Type 0 where
-  pub one : primary ≡ true → secondary ≡ false
-  pub no_primary : related ≡ true → primary ≡ false
-  pub no_secondary : related ≡ true → secondary ≡ false
+-- a cascaded volume: the primary of a Global Copy pair, and the secondary of a Metro Mirror pair with another partner
+pub record Cascaded (primary : Part) (to : ℕ) (secondary : Part) (from : ℕ) : Type 0 where
+  pub sends : is_kind Global primary ≡ true
+  pub takes : is_metro secondary ≡ true
+  pub apart : to ≢ from
 
--- a volume has at most one part in a pair
+-- a volume with both parts is cascaded, and a target has none
+pub record PartsFit (primary : Part) (to : ℕ) (secondary : Part) (from : ℕ) (related : Bool) : Type 0 where
+  pub both : is_part primary ≡ true → is_part secondary ≡ true → Cascaded primary to secondary from
+  pub no_primary : related ≡ true → is_part primary ≡ false
+  pub no_secondary : related ≡ true → is_part secondary ≡ false
+
+-- the parts of a volume fit each other
 abbrev pub RowParts : Row → Type 0
-RowParts r = OnePart (is_part r.volume.fields.primary) (is_part r.volume.fields.secondary) r.volume.fields.related
+RowParts r = PartsFit r.volume.fields.primary r.volume.fields.primary_partner r.volume.fields.secondary r.volume.fields.secondary_partner r.volume.fields.related
 
 -- a partner is a volume that is defined, on another server, and of the same size
 pub record PartnerFits (is_defined : Bool) (server partner_server tracks partner_tracks : ℕ) : Type 0 where
@@ -153,7 +159,7 @@ FreeSource v r u s = r.volume.fields.reversing ≡ true → is_part s.volume.fie
 
 -- all laws on partners
 pub record Parts (T : Table) : Type 0 where
-  pub one : Each (λ v r. RowParts r) T
+  pub fit : Each (λ v r. RowParts r) T
   pub secondary : Linked its_secondary Partnered T
   pub primary : Linked its_primary Partnered T
   pub one_way : Linked its_primary OneWay T
@@ -358,12 +364,18 @@ pub record FewTargets (k : Control) : Type 0 where
   pub once : Once k.volumes
   pub few : (v : ℕ) → length (targets_of k v) ≤ most_targets
 
+-- No volume is cascaded: no command makes one.
+abbrev pub NoneCascaded : Control → Type 0
+NoneCascaded k = (v : ℕ) → is_part (fields_at k v).primary ≡ true → is_part (fields_at k v).secondary ≡ false
+
 -- while a server starts, or none
 pub record SoundBut (starts : Option ℕ) (w : World) : Type 0 where
   pub rows : SoundRows (table w)
   pub targets : FewTargets w.control
+  pub uncascaded : NoneCascaded w.control
   pub queue : Queue starts w
   pub groups : Groups w.control
+  pub secondaries : SecondariesUncascaded w.control
   pub housed : Housed w.control
   pub attempts : Attempts w.control
   pub flights : Flights w.control

@@ -17,7 +17,7 @@ use Rattle.dr_model.specs.Refusals.{unknown, over}
 use Rattle.dr_model.specs.Control.{Control}
 use Rattle.dr_model.specs.Phases as phases
 use Rattle.dr_model.specs.Messages.{Message, Asks, Replies, Body, Flight, message_in, is_full, is_current, sent, answered, lost, heard}
-use Rattle.dr_model.specs.Sessions.{Session, Mirror, session_in, changed, begun, with_master, no_master}
+use Rattle.dr_model.specs.Sessions.{Session, Mirror, session_in, changed, begun, with_master}
 use Rattle.dr_model.specs.PlanParts.{Plan, same, none_follow, tables_plan, refuses, unless, on_server, on_session}
 use Rattle.dr_model.specs.SessionEntries.{order_entries, members_on, reply_after}
 use Rattle.dr_model.specs.SessionPlans.{with_sessions, off_refusal, apart_refusal, phase_refusal, is_idle, order_of, says_phase}

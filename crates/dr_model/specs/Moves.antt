@@ -58,6 +58,8 @@ pub data Move : Type 0 where
   Resume : (v : ℕ) (state : PairState) → Move
   -- secondary v becomes a Suspended primary of its primary
   TakeOver : (v : ℕ) → Move
+  -- v, which is a primary too, leaves its primary: it is a secondary no more
+  LeavePrimary : (v : ℕ) → Move
   -- primary v is voided, these tracks are out of sync too, and it has this state
   FallBack : (v : ℕ) (more : Tracks) (state : PairState) → Move
   -- primary v of u, which is a primary of v, becomes its secondary
@@ -120,6 +122,7 @@ target (DropSecondary v) = v
 target (Follow v state) = v
 target (Resume v state) = v
 target (TakeOver v) = v
+target (LeavePrimary v) = v
 target (FallBack v more state) = v
 target (Yield v u kind state) = v
 target (Unsync v t) = v
@@ -165,6 +168,7 @@ fields_left (DropSecondary v) u = no_secondary u.fields
 fields_left (Follow v state) u = record u.fields { secondary_state = state }
 fields_left (Resume v state) u = resumed state u.fields
 fields_left (TakeOver v) u = taken_over u.fields
+fields_left (LeavePrimary v) u = no_secondary u.fields
 fields_left (FallBack v more state) u = fallen_back more state u.fields
 fields_left (Yield v a kind state) u = yielded a kind state u.fields
 fields_left (Unsync v t) u = unsynced u.fields t
@@ -239,6 +243,7 @@ told (Release v t) u = told_restored v u.fields.source u.tracks (given_up u.fiel
 told (Store v t from last) u = Sent from t v ∷ []
 told (Suspend v busy) u = if is_suspended u.fields.primary_state then [] else Suspended v ∷ []
 told (TakeOver v) u = TakenOver v ∷ []
+told (LeavePrimary v) u = TakenOver v ∷ []
 told (Mirror v t from n) u = Mirrored n v ∷ []
 told (LandBoth n v t) u = Ack n ∷ []
 told (FlashHold v) u = FlashHeld v ∷ []

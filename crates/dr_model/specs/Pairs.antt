@@ -162,7 +162,7 @@ is_last f t = is_metro f.primary && is_bare (remove f.out_of_sync t)
 -- a secondary has stored track t, and its primary strikes the track off; with the last one of a Metro Mirror pair both
 -- are Full Duplex
 abbrev pub received : Bool → Fields → ℕ → Fields
-received last f t = record f { blank = remove f.blank t; seal = 0; secondary_state = if last then FullDuplex else f.secondary_state }
+received last f t = record (written f t) { seal = 0; secondary_state = if last then FullDuplex else f.secondary_state }
 
 -- the secondary has stored track t; with the last one of a Metro Mirror pair the primary is Full Duplex
 abbrev pub struck : Bool → Fields → ℕ → Fields
@@ -182,7 +182,7 @@ unsynced f t = record f { out_of_sync = insert f.out_of_sync t }
 
 -- the secondary has stored what the host write makes of it
 abbrev pub mirrored : Fields → ℕ → Fields
-mirrored f t = record f { blank = remove f.blank t }
+mirrored f t = written f t
 
 -- the primary has it too: the track is in sync again
 abbrev pub synced : Fields → ℕ → Fields

@@ -1,24 +1,24 @@
 -- A volume's staged track is written to its place, and then a move leaves none staged: as entries, and as what it leaves.
-use Rattle.std.proofs.Common.{ℕ, ◌≡◌, ◌<◌, ◌⊎◌, inl, inr, List, [], ◌∷◌, ◌++◌, refl, ap, ◌∙◌, sym, subst, Bool, true, false, not, cond, Option, Some, None}
+use Rattle.std.proofs.Common.{ℕ, ◌≡◌, ◌<◌, inl, inr, List, [], ◌∷◌, ◌++◌, refl, ap, ◌∙◌, sym, subst, Bool, true, false, not, cond, Option, Some, None}
 use Rattle.std.specs.Prelude.{if◌then◌else◌}
 use Rattle.std.proofs.Math.Dec.{leb-zero}
 use Rattle.std.proofs.lemmas.Bool.{false≢true}
 use Rattle.std.proofs.lemmas.List.{append-nil}
 use Rattle.dr_plant.specs.State.{PlantState, can_read, after_read}
 use Rattle.dr_record.specs.Writes.{after_writes}
-use Rattle.dr_config.specs.Table.{ConfigTable, StandsFor}
+use Rattle.dr_config.specs.Table.{ConfigTable}
 use Rattle.dr_model.specs.declared.event.Event.{Event}
 use Rattle.dr_model.specs.declared.event.Event.TheVariants.{Stopped}
 use Rattle.dr_model.specs.Refusals.{stopped}
 use Rattle.dr_model.specs.Control.{Fuse, World}
 use Rattle.dr_model.specs.Layout.{chosen}
-use Rattle.dr_model.specs.Moves.{Unstage, Carried}
+use Rattle.dr_model.specs.Moves.{Unstage}
 use Rattle.dr_model.specs.ReadStops.{Ends}
 use Rattle.dr_model.specs.Carry.{Ended, ended, Redo, act, redo, redo_ended, redo_writes, pass, spent, off, turn, turn_ended, update_keeping, cut_short, finished, now}
 use Rattle.dr_model.specs.Plans.{redo_now, destage_entries}
 use Rattle.dr_model.proofs.CarryLemmas.{act-redo}
 use Rattle.dr_volume.specs.View.{Rest, volume_seen, device_of}
-use Rattle.dr_volume.specs.Update.{EndsAs, IsAsBefore, IsMovedKeeping, OthersStay, after_reading, destaged, destage_writes, read_and_write, staged_seen, track_with, unstaged}
+use Rattle.dr_volume.specs.Update.{EndsAs, after_reading, destage_writes, read_and_write, staged_seen, track_with, unstaged}
 use Rattle.dr_volume.specs.declared.fields.Fields.{Fields}
 use Rattle.dr_moves.specs.Fit.{LeavesFit, RelationsFit}
 use Rattle.dr_moves.specs.Here.{world_seen, armed_in}
@@ -26,7 +26,7 @@ use Rattle.dr_moves.specs.Turns.{Advances, Halts, Leads, Fails}
 use Rattle.dr_facts.proofs.Ends.{ends-off, ends-goes, ends-stops}
 use Rattle.dr_moves.proofs.EntryLemmas.{move-advances, move-halts}
 use Rattle.dr_moves.proofs.FitLemmas.{fit-kept}
-use Rattle.dr_moves.proofs.PlacingLemmas.{Shuts, split, shut-off}
+use Rattle.dr_moves.proofs.PlacingLemmas.{split, shut-off}
 use Rattle.dr_moves.proofs.ReadLemmas.{on-running}
 
 -- how it ends that a staged track goes to its place: by what decides it

@@ -12,7 +12,7 @@ use Rattle.dr_model.specs.Histories.{Write}
 use Rattle.dr_model.specs.Contents.{with_write}
 use Rattle.dr_model.specs.Layout.{Tracks, Fields}
 use Rattle.dr_model.specs.Lawful.{Low, NoRelation, IsLawful}
-use Rattle.dr_model.specs.Moves.{Move, Land, Overwrite, Keep, Note, Relate, Withdraw, Fetch, Resync, Reverse, Restore, Release, Store, Strike, Suspend, MakeSecondary, MakePrimary, DropPrimary, DropSecondary, Follow, Resume, TakeOver, FallBack, Yield, Unsync, Mirror, LandBoth, Thaw, FlashHold, FlashFree, Lift, Restart, Hold, Free, Seal, Finish, RaiseAttempt, RaiseFloor, Leave, Flash, Commit, Revert, Carried, is_carried, target, fields_left, carried, Unstage}
+use Rattle.dr_model.specs.Moves.{Move, Land, Overwrite, Keep, Note, Relate, Withdraw, Fetch, Resync, Reverse, Restore, Release, Store, Strike, Suspend, MakeSecondary, MakePrimary, DropPrimary, DropSecondary, Follow, Resume, TakeOver, LeavePrimary, FallBack, Yield, Unsync, Mirror, LandBoth, Thaw, FlashHold, FlashFree, Lift, Restart, Hold, Free, Seal, Finish, RaiseAttempt, RaiseFloor, Leave, Flash, Commit, Revert, Carried, is_carried, target, fields_left, carried, Unstage}
 use Rattle.dr_model.specs.Relations.{rest, is_whole, is_bare, parted_if, closed, fetched, noted, rewritten, withdrawn_if, resynced, turned, given_up, restored, flashed, committed, reverted}
 use Rattle.dr_model.specs.Pairs.{altered, written, held_for, freed, sealed, past_attempt, with_attempt, with_floor, no_member, suspended, made_secondary, made_primary, no_primary, no_secondary, received, struck, resumed, taken_over, fallen_back, yielded, unsynced, mirrored, synced, thawed, flash_held, flash_freed, lifted, restarted}
 use Rattle.dr_volume.specs.Update.{Covers}
@@ -132,7 +132,7 @@ module _ (s : PlantState) (c : ConfigTable) (fit : RelationsFit s c) where
   fits (Reverse v left) write lawful asks = restored-fits v (turned (volume_seen s c v).fields) (lawful-turned (volume_seen s c v).tracks (volume_seen s c v).fields lawful asks.0) refl refl refl asks.0 asks.1
   fits (Restore v t u) write lawful asks = kept-fits v (altered (volume_seen s c v).fields t) (Some (t, track_seen s c u t)) (lawful-altered (volume_seen s c v).tracks (volume_seen s c v).fields lawful t asks) (covers-carried (volume_seen s c v).fields.blank t (track_seen s c u t)) refl refl (apart-less (volume_seen s c v).fields.own (volume_seen s c v).fields.blank t (fit.apart v))
   fits (Release v t) write lawful asks = restored-fits v (given_up (volume_seen s c v).fields t) (lawful-given_up (volume_seen s c v).tracks (volume_seen s c v).fields lawful t asks) refl refl refl asks (λ k h. fit.apart v k (removed _ t k h))
-  fits (Store v t u last) write lawful asks = kept-fits v (received last (volume_seen s c v).fields t) (Some (t, track_seen s c u t)) (lawful-received (volume_seen s c v).tracks (volume_seen s c v).fields lawful last t asks.1) (covers-carried (volume_seen s c v).fields.blank t (track_seen s c u t)) refl refl (apart-less (volume_seen s c v).fields.own (volume_seen s c v).fields.blank t (fit.apart v))
+  fits (Store v t u last) write lawful asks = kept-fits v (received last (volume_seen s c v).fields t) (Some (t, track_seen s c u t)) (lawful-received (volume_seen s c v).tracks (volume_seen s c v).fields lawful last t asks.0 asks.1) (covers-carried (volume_seen s c v).fields.blank t (track_seen s c u t)) refl refl (apart-less (volume_seen s c v).fields.own (volume_seen s c v).fields.blank t (fit.apart v))
   fits (Strike v t last) write lawful asks = kept-fits v (struck last (volume_seen s c v).fields t) None (lawful-struck (volume_seen s c v).tracks (volume_seen s c v).fields lawful last t asks) (covers-all (volume_seen s c v).fields.blank None) refl refl (fit.apart v)
   fits (Suspend v busy) write lawful asks = kept-fits v (suspended busy (volume_seen s c v).fields) None (lawful-suspended (volume_seen s c v).tracks (volume_seen s c v).fields lawful busy asks) (covers-all (volume_seen s c v).fields.blank None) refl refl (fit.apart v)
   fits (Unstage v) write lawful asks = kept-fits v (volume_seen s c v).fields None lawful (covers-all (volume_seen s c v).fields.blank None) refl refl (fit.apart v)
@@ -143,10 +143,11 @@ module _ (s : PlantState) (c : ConfigTable) (fit : RelationsFit s c) where
   fits (Follow v state) write lawful asks = kept-fits v (record (volume_seen s c v).fields { secondary_state = state }) None (lawful-followed (volume_seen s c v).tracks (volume_seen s c v).fields lawful state asks) (covers-all (volume_seen s c v).fields.blank None) refl refl (fit.apart v)
   fits (Resume v state) write lawful asks = kept-fits v (resumed state (volume_seen s c v).fields) None (lawful-resumed (volume_seen s c v).tracks (volume_seen s c v).fields lawful state asks) (covers-all (volume_seen s c v).fields.blank None) refl refl (fit.apart v)
   fits (TakeOver v) write lawful asks = kept-fits v (taken_over (volume_seen s c v).fields) None (lawful-taken_over (volume_seen s c v).tracks (volume_seen s c v).fields lawful asks) (covers-all (volume_seen s c v).fields.blank None) refl refl (fit.apart v)
+  fits (LeavePrimary v) write lawful asks = kept-fits v (no_secondary (volume_seen s c v).fields) None (lawful-no_secondary (volume_seen s c v).tracks (volume_seen s c v).fields lawful) (covers-all (volume_seen s c v).fields.blank None) refl refl (fit.apart v)
   fits (FallBack v more state) write lawful asks = kept-fits v (fallen_back more state (volume_seen s c v).fields) None (lawful-fallen_back (volume_seen s c v).tracks (volume_seen s c v).fields lawful more state asks.0 asks.1) (covers-all (volume_seen s c v).fields.blank None) refl refl (fit.apart v)
   fits (Yield v u kind state) write lawful asks = kept-fits v (yielded u kind state (volume_seen s c v).fields) None (lawful-yielded (volume_seen s c v).tracks (volume_seen s c v).fields lawful u kind state asks) (covers-all (volume_seen s c v).fields.blank None) refl refl (fit.apart v)
   fits (Unsync v t) write lawful asks = kept-fits v (unsynced (volume_seen s c v).fields t) None (lawful-unsynced (volume_seen s c v).tracks (volume_seen s c v).fields lawful t asks.0 asks.1) (covers-all (volume_seen s c v).fields.blank None) refl refl (fit.apart v)
-  fits (Mirror v t u w) write lawful asks = kept-fits v (mirrored (volume_seen s c v).fields t) (Some (t, with_write write (track_seen s c u t) w)) (lawful-mirrored (volume_seen s c v).tracks (volume_seen s c v).fields lawful t) (covers-carried (volume_seen s c v).fields.blank t (with_write write (track_seen s c u t) w)) refl refl (apart-less (volume_seen s c v).fields.own (volume_seen s c v).fields.blank t (fit.apart v))
+  fits (Mirror v t u w) write lawful asks = kept-fits v (mirrored (volume_seen s c v).fields t) (Some (t, with_write write (track_seen s c u t) w)) (lawful-mirrored (volume_seen s c v).tracks (volume_seen s c v).fields lawful t asks) (covers-carried (volume_seen s c v).fields.blank t (with_write write (track_seen s c u t) w)) refl refl (apart-less (volume_seen s c v).fields.own (volume_seen s c v).fields.blank t (fit.apart v))
   fits (LandBoth w v t) write lawful asks = kept-fits v (synced (volume_seen s c v).fields t) (Some (t, with_write write (track_seen s c v t) w)) (lawful-synced (volume_seen s c v).tracks (volume_seen s c v).fields lawful t asks.1) (covers-carried (volume_seen s c v).fields.blank t (with_write write (track_seen s c v t) w)) refl refl (apart-less (volume_seen s c v).fields.own (volume_seen s c v).fields.blank t (fit.apart v))
   fits (Thaw v) write lawful asks = kept-fits v (thawed (volume_seen s c v).fields) None (lawful-thawed (volume_seen s c v).tracks (volume_seen s c v).fields lawful) (covers-all (volume_seen s c v).fields.blank None) refl refl (fit.apart v)
   fits (FlashHold v) write lawful asks = kept-fits v (flash_held (volume_seen s c v).fields) None (lawful-flash_held (volume_seen s c v).tracks (volume_seen s c v).fields lawful) (covers-all (volume_seen s c v).fields.blank None) refl refl (fit.apart v)

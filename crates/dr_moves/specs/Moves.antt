@@ -4,7 +4,7 @@ use Rattle.dr_ids.specs.declared.names.VolumeId.{VolumeId}
 use Rattle.dr_model.specs.Layout.{Fields}
 use Rattle.dr_model.specs.Control.{Volume}
 use Rattle.dr_model.specs.Moves as machine
-use Rattle.dr_model.specs.Moves.{Land, Overwrite, Keep, Note, Relate, Withdraw, Fetch, Resync, Reverse, Restore, Release, Store, Strike, Suspend, MakeSecondary, MakePrimary, DropPrimary, DropSecondary, Follow, Resume, TakeOver, FallBack, Yield, Unsync, Mirror, LandBoth, Thaw, FlashHold, FlashFree, Lift, Restart, Hold, Free, Seal, Finish, RaiseAttempt, RaiseFloor, Leave, Flash, Commit, Revert}
+use Rattle.dr_model.specs.Moves.{Land, Overwrite, Keep, Note, Relate, Withdraw, Fetch, Resync, Reverse, Restore, Release, Store, Strike, Suspend, MakeSecondary, MakePrimary, DropPrimary, DropSecondary, Follow, Resume, TakeOver, LeavePrimary, FallBack, Yield, Unsync, Mirror, LandBoth, Thaw, FlashHold, FlashFree, Lift, Restart, Hold, Free, Seal, Finish, RaiseAttempt, RaiseFloor, Leave, Flash, Commit, Revert}
 use Rattle.dr_moves.specs.Options.{choices}
 use Rattle.dr_moves.specs.declared.moves.Move.{Move}
 use Rattle.dr_moves.specs.declared.moves.Move.TheVariants as move
@@ -36,6 +36,7 @@ move_of (move.DropSecondary v) = DropSecondary v.0
 move_of (move.Follow v state) = Follow v.0 state
 move_of (move.Resume v state) = Resume v.0 state
 move_of (move.TakeOver v) = TakeOver v.0
+move_of (move.LeavePrimary v) = LeavePrimary v.0
 move_of (move.FallBack v more state) = FallBack v.0 more state
 move_of (move.Yield v u kind state) = Yield v.0 u.0 kind state
 move_of (move.Unsync v t) = Unsync v.0 t

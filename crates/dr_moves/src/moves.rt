@@ -148,6 +148,10 @@ pub enum Move {
     TakeOver {
         v: VolumeId,
     },
+    /// `v`, which is a primary too, leaves its primary: it is a secondary no more.
+    LeavePrimary {
+        v: VolumeId,
+    },
     /// Primary `v` is voided, these tracks are out of sync too, and it has this state.
     FallBack {
         v: VolumeId,
@@ -287,6 +291,7 @@ pub fn target_of(m: &Move) -> VolumeId
         Move::Follow { v, .. } => *v,
         Move::Resume { v, .. } => *v,
         Move::TakeOver { v } => *v,
+        Move::LeavePrimary { v } => *v,
         Move::FallBack { v, .. } => *v,
         Move::Yield { v, .. } => *v,
         Move::Unsync { v, .. } => *v,
@@ -341,7 +346,7 @@ pub fn next_fields(m: &Move, size: u16, f: &mut Fields)
             ..
         } => made_primary(size, *u, *kind, *state, *full, f),
         Move::DropPrimary { .. } => no_primary(f),
-        Move::DropSecondary { .. } => no_secondary(f),
+        Move::DropSecondary { .. } | Move::LeavePrimary { .. } => no_secondary(f),
         Move::Follow { state, .. } => followed(*state, f),
         Move::Resume { state, .. } => resumed(*state, f),
         Move::TakeOver { .. } => taken_over(f),
@@ -489,7 +494,9 @@ pub(crate) fn tell_done(journal: &mut Journal, m: &Move, size: u16, sight: &Sigh
             to: v.0,
         }),
         Move::Suspend { v, .. } => tell_suspended(journal, *v, sight.state),
-        Move::TakeOver { v } => journal.push(Event::TakenOver { volume: v.0 }),
+        Move::TakeOver { v } | Move::LeavePrimary { v } => journal.push(Event::TakenOver {
+            volume: v.0,
+        }),
         Move::Mirror { v, w, .. } => journal.push(Event::Mirrored {
             w: w.0,
             volume: v.0,

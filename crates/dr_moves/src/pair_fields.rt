@@ -9,6 +9,7 @@ ghost use Rattle.dr_model.specs.Relations.{all_tracks};
 ghost use Rattle.dr_volume.specs.Plain.{plain};
 ghost use Rattle.dr_volume.specs.Update.{stages};
 
+use crate::flash_fields::written;
 use dr_bits::TrackSet;
 use dr_ids::VolumeId;
 use dr_model::{PairState, Part};
@@ -195,12 +196,13 @@ fn state_after(last: bool, state: PairState) -> PairState
     if last { PairState::FullDuplex } else { state }
 }
 
-/// A secondary that has stored track t, maybe the last one.
+/// A secondary that has stored track t, maybe the last one: the track came to it as a host write would.
 pub fn received(last: bool, f: &mut Fields, t: u16)
+    requires { t < most_tracks }
     ensures fields { plain f.new ≡ pairs.received last (plain f.old) t }
     ensures stages { stages f.new ≡ stages f.old }
 {
-    f.blank.remove(t);
+    written(f, t);
     f.seal = 0;
     f.secondary_state = state_after(last, f.secondary_state);
 }
@@ -214,12 +216,13 @@ pub fn struck(last: bool, f: &mut Fields, t: u16)
     f.primary_state = state_after(last, f.primary_state);
 }
 
-/// A secondary that has stored new bytes of track t.
+/// A secondary that has stored new bytes of track t, which came to it as a host write would.
 pub fn mirrored(f: &mut Fields, t: u16)
+    requires { t < most_tracks }
     ensures fields { plain f.new ≡ pairs.mirrored (plain f.old) t }
     ensures stages { stages f.new ≡ stages f.old }
 {
-    f.blank.remove(t);
+    written(f, t);
 }
 
 /// A primary whose track t has new bytes, which its secondary has too.

@@ -58,7 +58,7 @@ pub record HasDevices (w : World) (s : PlantState) : Type 0 where
 -- devices, and a write that a secondary stored was acknowledged, or a server stopped. Where a pair is in place by the records on both devices, these
 -- contain the same on each track that isn't recorded. Where a Metro Mirror primary is Full Duplex by these records, whether or not any server
 -- runs, its secondary's device lacks no write of the primary, and has at most one more, which is pending; and so has each such secondary been
--- at each moment of the steps. What a comparison answered as the last step is what the devices contain; and where a failback and a drain behind
+-- at each moment of the steps. What a comparison answered as the last step is what the devices contain; and if a failback and a drain after
 -- it were answered ok, the pair is turned round, and both devices contain what the host writes make.
 pub record Stands (steps : List Task) (world : World) (events : List Event) (s s' : PlantState) : Type 0 where
   pub leads : run steps ≡ world

@@ -1,4 +1,4 @@
-use Rattle.std.proofs.Common.{inl, inr, arith, refl, sym, subst, ap, ◌∙◌, Bool, true, false, Option, None, Some}
+use Rattle.std.proofs.Common.{arith, refl, sym, subst, None, Some}
 use Rattle.dr_ids.specs.declared.refusal.Refusal.{Refusal}
 use Rattle.dr_model.specs.Plans.{destage_entries}
 use Rattle.dr_volume.specs.View.{volume_seen}
