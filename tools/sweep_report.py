@@ -5,8 +5,8 @@ from dataclasses import dataclass
 from plan_text import steps_of, words_of
 from sweep_runs import Writes
 
-LEGEND = ("strip: a character for each device write that is cut short; between bars, the loss behind the line\n"
-          "0 to 9 or + writes are lost at most; ! one that is held depends on a lost one; * torn bytes decide; - ")
+LEGEND = ("strip: of each line the writes lost in the gap after it, and the most lost at one of its points; then the gap's character, and one for each device write\n"
+          "! a kept write depends on a lost one; * torn bytes decide; m fewer members count; . nothing is lost; o writes are lost; - ")
 
 # The columns of the table, and whether they have numbers.
 COLUMNS = [("lost at once", False), ("use", False), ("points", True), ("most lost", True), ("age", True), ("line", False), ("phases", False),
@@ -167,12 +167,23 @@ class Report:
 
     def strips(self):
         for disaster, which, head in self.each():
-            signs = self.signs(disaster, which)
+            signs, lost = self.signs(disaster, which), self.most_lost(disaster, which)
+            gaps = [lost[place, None] for place in range(len(self.plan.tried) + 1)]
+            worst = [max(gap, *(lost.get((place - 1, name), 0) for name in self.plan.loses[disaster])) for place, gap in enumerate(gaps)]
+            wide = len(str(max(worst)))
             yield from head
-            yield f"{self.plan.place(0):>6} |{signs[0, None]}|"
-            for place, tried in enumerate(self.plan.tried):
-                servers = "".join(f" {name} {signs.get((place, name), '')}" for name in self.plan.loses[disaster])
-                yield f"{self.plan.place(place + 1):>6} |{signs[place + 1, None]}|{servers}  {tried.text}"
+            for place, (gap, most) in enumerate(zip(gaps, worst)):
+                servers = "".join(f" {name} {signs.get((place - 1, name), '')}" for name in self.plan.loses[disaster])
+                step = f"{servers}  {self.plan.tried[place - 1].text}" if place else ""
+                yield f"{self.plan.place(place):>6} | {gap:>{wide}} lost, worst {most:>{wide}} |{signs[place, None]}|{step}"
+
+    def most_lost(self, disaster, which):
+        """The most writes that are lost at each server in a tried step, and in each gap."""
+        most = {}
+        for row in self.of(disaster):
+            at = row.point.place, row.point.server
+            most[at] = max(most.get(at, 0), len(row.losses[which].lost))
+        return most
 
     def signs(self, disaster, which):
         """The characters of each server in a tried step, and of each gap."""
@@ -191,7 +202,9 @@ class Report:
             return "*"
         if any(self.recovers) and not all(row.groups for row in rows):
             return "-"
-        return str(max(lost)) if max(lost) < 10 else "+"
+        if any(map(self.is_short, rows)):
+            return "m"
+        return "o" if max(lost) else "."
 
     # ---- findings
 

@@ -29,7 +29,7 @@ fn width(rows: &[Cells], column: usize) -> usize
 }
 
 /// Adds the blanks that a cell lacks.
-fn push_blanks(text: &mut Text, wide: usize, cell: &[u8]) -> Result<(), AllocError>
+pub(crate) fn push_blanks(text: &mut Text, wide: usize, cell: &[u8]) -> Result<(), AllocError>
     ensures { OnOk result (text.new ≡ text.old ++ blanks wide cell.now) }
 {
     for _ in 0..wide.saturating_sub(cell.len()) {
