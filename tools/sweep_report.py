@@ -5,8 +5,12 @@ from dataclasses import dataclass
 from plan_text import steps_of, words_of
 from sweep_runs import Writes
 
-LEGEND = ("strip: a character for each device write that is cut short; between bars, the loss behind the line\n"
-          "0 to 9 or + writes are lost at most; ! one that is held depends on a lost one; * torn bytes decide; - ")
+LEGEND = ("strip: of each line the writes lost in the gap after it, and the most lost at one of its points; then the gap's character, and one for each device write\n"
+          "! a kept write depends on a lost one; * torn bytes decide; m fewer members count; . nothing is lost; o writes are lost; - ")
+
+# The columns of the table, and whether they have numbers.
+COLUMNS = [("lost at once", False), ("use", False), ("points", True), ("most lost", True), ("age", True), ("line", False), ("phases", False),
+           ("group", False), ("decision", False), ("shown by", False), ("broken", True), ("no group", True), ("fewer members", True), ("first finding", False)]
 
 
 @dataclass
@@ -81,7 +85,7 @@ class Report:
         self.names_uses = len(plan.uses) > 1 or plan.uses[0].name is not None
 
     def text(self):
-        lines = [*self.calm.told(), *self.disasters(), "recovery", *self.recovery(), LEGEND + self.no_group, *self.strips()]
+        lines = [*self.calm.told(), *self.table(), *self.disasters(), "recovery", *self.recovery(), LEGEND + self.no_group, *self.strips()]
         return "".join(line + "\n" for line in lines)
 
     def of(self, disaster):
@@ -93,6 +97,33 @@ class Report:
             for which, use in enumerate(self.plan.uses):
                 head = ["lost at once: " + " ".join(servers)] if which == 0 else []
                 yield disaster, which, head + ([f"use {use.name or '-'}"] if self.names_uses else [])
+
+    # ---- the table
+
+    def table(self):
+        """A row for each disaster and use; numbers stand at the right of their column, and text at the left."""
+        cells = [[name for name, _ in COLUMNS], *(self.cells(disaster, which) for disaster, which, _ in self.each())]
+        widths = [max(map(len, column)) for column in zip(*cells)]
+        for row in cells:
+            aligned = [cell.rjust(wide) if number else cell.ljust(wide) for cell, wide, (_, number) in zip(row, widths, COLUMNS)]
+            yield "  ".join(aligned).rstrip(" ")
+
+    def cells(self, disaster, which):
+        rows, use = self.of(disaster), self.plan.uses[which]
+        most = max(len(row.losses[which].lost) for row in rows)
+        worst = next(row for row in rows if len(row.losses[which].lost) == most)
+        at = self.worst_cells(worst, which) if most else ["-"] * 6
+        finding = next((f"{kind}: {self.words(row)}" for row in rows if (kind := self.finding_kind(row, which))), "no finding")
+        broken = sum(row.losses[which].broken is not None for row in rows)
+        none = sum(any(self.recovers) and not row.groups for row in rows)
+        short = sum(self.is_short(row) for row in rows)
+        return [" ".join(self.plan.loses[disaster]), use.name or "-", str(len(rows)), str(most), *at, str(broken), str(none), str(short), finding]
+
+    def worst_cells(self, row, which):
+        return [str(row.losses[which].age), self.rows.place(row.point), *row.came, self.words(row)]
+
+    def words(self, row):
+        return " ".join(self.rows.words(row.point))
 
     # ---- disasters
 
@@ -110,16 +141,6 @@ class Report:
                 most = max(len(row.losses[which].lost) for row in like)
                 broken = sum(row.losses[which].broken is not None for row in like)
                 yield f"  {kind}: {len(like)} points, at most {most} lost, {broken} broken, {sum(bool(row.refused) for row in like)} with refusals"
-            worst = max(rows, key=lambda row: len(row.losses[which].lost))
-            if worst.losses[which].lost:
-                yield f"  worst: {len(worst.losses[which].lost)} lost, {self.shown_by(worst)}"
-            broken = next((row for row in rows if row.losses[which].broken), None)
-            if broken:
-                held, lost = broken.losses[which].broken
-                yield f"  broken: w{held} is held and depends on w{lost}, which is lost, {self.shown_by(broken)}"
-
-    def shown_by(self, row):
-        return "shown by: " + " ".join(self.rows.words(row.point))
 
     # ---- the recovery
 
@@ -146,12 +167,23 @@ class Report:
 
     def strips(self):
         for disaster, which, head in self.each():
-            signs = self.signs(disaster, which)
+            signs, lost = self.signs(disaster, which), self.most_lost(disaster, which)
+            gaps = [lost[place, None] for place in range(len(self.plan.tried) + 1)]
+            worst = [max(gap, *(lost.get((place - 1, name), 0) for name in self.plan.loses[disaster])) for place, gap in enumerate(gaps)]
+            wide = len(str(max(worst)))
             yield from head
-            yield f"{self.plan.place(0):>6} |{signs[0, None]}|"
-            for place, tried in enumerate(self.plan.tried):
-                servers = "".join(f" {name} {signs.get((place, name), '')}" for name in self.plan.loses[disaster])
-                yield f"{self.plan.place(place + 1):>6} |{signs[place + 1, None]}|{servers}  {tried.text}"
+            for place, (gap, most) in enumerate(zip(gaps, worst)):
+                servers = "".join(f" {name} {signs.get((place - 1, name), '')}" for name in self.plan.loses[disaster])
+                step = f"{servers}  {self.plan.tried[place - 1].text}" if place else ""
+                yield f"{self.plan.place(place):>6} | {gap:>{wide}} lost, worst {most:>{wide}} |{signs[place, None]}|{step}"
+
+    def most_lost(self, disaster, which):
+        """The most writes that are lost at each server in a tried step, and in each gap."""
+        most = {}
+        for row in self.of(disaster):
+            at = row.point.place, row.point.server
+            most[at] = max(most.get(at, 0), len(row.losses[which].lost))
+        return most
 
     def signs(self, disaster, which):
         """The characters of each server in a tried step, and of each gap."""
@@ -170,18 +202,35 @@ class Report:
             return "*"
         if any(self.recovers) and not all(row.groups for row in rows):
             return "-"
-        return str(max(lost)) if max(lost) < 10 else "+"
+        if any(map(self.is_short, rows)):
+            return "m"
+        return "o" if max(lost) else "."
 
     # ---- findings
 
     def is_announced(self, place):
         return self.plan.then_line + place in self.plan.announced
 
-    def is_finding(self, row):
+    def lacks_group(self, row):
         wanted = {place for place, recovers in enumerate(self.recovers, 1) if recovers and not self.is_announced(place)}
-        return (any(loss.broken or self.plan.bound is not None and len(loss.lost) > self.plan.bound for loss in row.losses)
-                or any(line in wanted and not re.match("ok group ", answer) for line, answer in row.answers)
-                or any(counted < every for counted, every in row.members))
+        return any(line in wanted and not re.match("ok group ", answer) for line, answer in row.answers)
+
+    @staticmethod
+    def is_short(row):
+        return any(counted < every for counted, every in row.members)
+
+    def finding_kind(self, row, which):
+        """What makes a row a finding for a use; none if it isn't one."""
+        loss = row.losses[which]
+        if loss.broken:
+            held, lost = loss.broken
+            return f"broken w{held} on w{lost}"
+        if self.plan.bound is not None and len(loss.lost) > self.plan.bound:
+            return "too many lost"
+        return "group missing" if self.lacks_group(row) else "fewer members" if self.is_short(row) else None
+
+    def is_finding(self, row):
+        return any(self.finding_kind(row, which) for which in range(len(self.plan.uses)))
 
     def has_finding(self):
         never = any(self.is_answered(place) and not self.kept_at(place) and not self.is_announced(place) for place in range(1, len(self.plan.recovery) + 1))

@@ -61,6 +61,11 @@ class Row:
         return [found.groups() for _, answer in self.answers if (found := re.fullmatch(r"ok group (\d+) (.*)", answer))]
 
     @property
+    def came(self):
+        """The phases, the groups that came back and their decisions, as text."""
+        return [or_dash([f"{session}:{phase}" for session, phase in self.phases]), or_dash([n for n, _ in self.groups]), or_dash([decision for _, decision in self.groups])]
+
+    @property
     def refused(self):
         return [line for line, answer in self.answers if answer.startswith("E")]
 
@@ -241,24 +246,24 @@ class Rows:
     def lines(self, row):
         """The lines of a row, one for each use."""
         point, plan = row.point, self.plan
-        at = plan.place(point.place) if point.server is None else plan.tried[point.place].place
-        line, _, part = at.partition(".")
+        line, _, part = self.place(point).partition(".")
         where = ["gap", "-", "-", "-"] if point.server is None else [point.server, str(point.write), point.torn, str(sum(point.counts.values()))]
-        phases = or_dash([f"{session}:{phase}" for session, phase in row.phases])
-        came = [or_dash([n for n, _ in row.groups]), quoted(or_dash([decision for _, decision in row.groups])),
-                or_dash([f"{counted}/{every}" for counted, every in row.members]), dashed(row.newest)]
+        phases, groups, decisions = row.came
+        came = [phases, groups, quoted(decisions), or_dash([f"{counted}/{every}" for counted, every in row.members]), dashed(row.newest)]
         refused = [str(len(row.refused)), str(plan.then_line + row.refused[0]) if row.refused else "-"]
         for use, loss in zip(plan.uses, row.losses):
             least = or_dash([f"w{w}" for w in loss.lost[:MOST_LISTED]]) + (" .." if len(loss.lost) > MOST_LISTED else "")
             lost = [str(len(loss.lost)), least, str(loss.age), "-" if loss.broken is None else "w%d on w%d" % loss.broken]
-            yield ",".join([str(point.disaster + 1), use.name or "-", line, part or "-", *where, phases, *came, *lost, *refused])
+            yield ",".join([str(point.disaster + 1), use.name or "-", line, part or "-", *where, *came, *lost, *refused])
+
+    def place(self, point):
+        """The name of the point's line or part; a gap has that of the one before it."""
+        return self.plan.place(point.place) if point.server is None else self.plan.tried[point.place].place
 
     def words(self, point):
         """The words of `sweep` that show the script of a point."""
-        disaster = [str(point.disaster + 1)] if point.disaster else []
-        if point.server is None:
-            return ["script", self.plan.place(point.place), "gap", *disaster]
-        return ["script", self.plan.tried[point.place].place, point.server, str(point.write), point.torn, *disaster]
+        at = ["gap"] if point.server is None else [point.server, str(point.write), point.torn]
+        return ["script", self.place(point), *at, *([str(point.disaster + 1)] if point.disaster else [])]
 
 
 def age_of(writes, lost, seconds):

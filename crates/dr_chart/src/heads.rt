@@ -1,16 +1,14 @@
 //! The head of a panel.
 
-ghost use Rattle.std.specs.Prelude.{◌≡◌, ◌++◌, length, map, count_by, OnOk};
-ghost use Rattle.dr_rows.specs.Findings.{has_no_group};
-ghost use Rattle.dr_rows.specs.Outcome.{lacks_members};
+ghost use Rattle.std.specs.Prelude.{◌≡◌, ◌++◌, map, OnOk};
 ghost use Rattle.dr_chart.specs.Picture.{bold_text, servers_text, counts_text, counts_of, plain_text, worst_text, head_text};
 
 use crate::pieces::{push_escaped, push_text_end};
 use dr_ids::Text;
 use dr_plan::SweepPlan;
 use dr_rows::{
-    Row, broken_count, has_no_group, push_lost_at_once, push_number, push_use_head, push_worst,
-    row_count, servers_of,
+    Row, broken_count, no_group_count, push_lost_at_once, push_number, push_use_head, push_worst,
+    row_count, servers_of, short_count,
 };
 use std::alloc::{AllocError, Global};
 
@@ -40,20 +38,6 @@ fn push_servers(
     let mut named = Text::new(alloc);
     push_use_head(&mut named, plan, which)?;
     push_bold(text, servers.bytes(), named.bytes())
-}
-
-/// How many rows have no group, though one was asked for.
-fn none_count(asks: bool, rows: &[&Row]) -> usize
-    ensures { result ≡ count_by (has_no_group asks) (map (λ row. row.now) rows.now) }
-{
-    rows.iter().filter(|row| has_no_group(asks, row)).count()
-}
-
-/// How many rows have fewer members that count than there are.
-fn short_count(rows: &[&Row]) -> usize
-    ensures { result ≡ count_by lacks_members (map (λ row. row.now) rows.now) }
-{
-    rows.iter().filter(|row| row.lacks_members()).count()
 }
 
 /// Adds how many rows there are, and how many of them are broken, have no group, and have members that don't count.
@@ -91,7 +75,7 @@ fn push_counts_of(
         text,
         row_count(rows),
         broken_count(which, rows),
-        none_count(asks, rows),
+        no_group_count(asks, rows),
         short_count(rows),
     )
 }

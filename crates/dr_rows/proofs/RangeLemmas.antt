@@ -16,3 +16,7 @@ said-more {X} f text a n k is =
     ∙ (flat_map-append f (map id (range_with_len a n)) (k ∷ [])
     ∙ (ap (λ xs. xs ++ (f k ++ [])) (flat_map-map f id (range_with_len a n)) ∙ ap (λ xs. before ++ xs) (append-nil (f k))))) in
     append_assoc text before (f k) ∙ ap (λ ys. text ++ ys) (sym more)
+
+-- values of numbers in a row, with that of one number more, which is k
+pub each-more : {X : Type 0} (f : ℕ → X) (before : List X) (a n k : ℕ) → a + n ≡ k → (before ++ map f (range_with_len a n)) ++ f k ∷ [] ≡ before ++ map f (range_with_len a (n + 1))
+each-more f before a n k is = append_assoc before (map f (range_with_len a n)) (f k ∷ []) ∙ ap (λ ys. before ++ ys) (sym (map-range_with_len_more f a n k is))

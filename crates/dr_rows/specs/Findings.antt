@@ -1,6 +1,7 @@
 -- Which rows are findings, and what else is one.
 use Rattle.std.specs.Prelude.{ℕ, Bool, ◌+◌, ◌&&◌, ◌||◌, true, false, not, List, [], ◌∷◌, length, nat_eq, nat_lt, Option, Some, None, is_some, Result, Ok, Err, if◌then◌else◌}
-use Rattle.std.specs.List.{flat_map, list_any, range_with_len, slice_index_or}
+use Rattle.std.specs.List.{flat_map, list_any, range_with_len, slice_get, slice_index_or}
+use Rattle.std.specs.Option.{option_map_or}
 use Rattle.dr_model.specs.declared.step.Step.{Step}
 use Rattle.dr_model.specs.declared.step.Step.TheVariants.{Recover}
 use Rattle.dr_model.specs.Grammar.{line_of}
@@ -74,6 +75,14 @@ lacks_group numbers row = list_any (is_ungrouped numbers) row.answers
 -- one of its losses is bad, or it lacks a group, or fewer members count than the session has
 abbrev pub is_finding : Sweep → List ℕ → Outcome → Bool
 is_finding plan numbers row = list_any (is_bad plan.bound) row.losses || lacks_group numbers row || lacks_members row
+
+-- the loss to the use at a place is bad
+abbrev pub is_bad_at : Sweep → ℕ → Outcome → Bool
+is_bad_at plan which row = option_map_or (is_bad plan.bound) (slice_get row.losses which) false
+
+-- the row is a finding for the use at a place
+abbrev pub is_finding_for : Sweep → List ℕ → ℕ → Outcome → Bool
+is_finding_for plan numbers which row = is_bad_at plan which row || lacks_group numbers row || lacks_members row
 
 -- ---- lines of the recovery
 

@@ -4,12 +4,11 @@ use Rattle.std.specs.Fmt.{decimal}
 use Rattle.std.specs.List.{flat_map, list_any, range_with_len, slice_index_or}
 use Rattle.std.specs.Option.{option_map_or}
 use Rattle.std.specs.Str.{bytes_eq}
-use Rattle.dr_lost.specs.declared.broken.Broken.{Broken}
 use Rattle.dr_model.specs.declared.step.Name.{Name}
 use Rattle.dr_model.specs.LineText.{name_text}
 use Rattle.dr_plan.specs.Sweep.{Sweep}
-use Rattle.dr_rows.specs.Outcome.{Outcome, broken_at, has_refusal, is_broken, lost_count}
-use Rattle.dr_rows.specs.Cells.{kind, use_head, write_said}
+use Rattle.dr_rows.specs.Outcome.{Outcome, has_refusal, is_broken, lost_count}
+use Rattle.dr_rows.specs.Cells.{kind, use_head}
 use Rattle.dr_rows.specs.Line.{disaster_of}
 use Rattle.dr_rows.specs.Places.{most_lost}
 use Rattle.dr_rows.specs.Words.{point_words}
@@ -68,18 +67,6 @@ worst_said plan which row = codes "  worst: " ++ decimal (lost_count which row) 
 abbrev pub worst_line : Sweep → ℕ → List Outcome → List ℕ
 worst_line plan which rows = option_map_or (worst_said plan which) (find (loses_most which (most_lost which rows)) rows) []
 
--- the line of a broken point
-abbrev pub break_said : Sweep → Outcome → Broken → List ℕ
-break_said plan row b = codes "  broken: " ++ write_said b.held ++ codes " is held and depends on " ++ write_said b.lost ++ codes ", which is lost" ++ shown_by plan row
-
--- the same of a row
-abbrev pub broken_said_of : Sweep → ℕ → Outcome → List ℕ
-broken_said_of plan which row = option_map_or (break_said plan row) (broken_at which row) []
-
--- the first broken row, where there is one
-abbrev pub broken_line : Sweep → ℕ → List Outcome → List ℕ
-broken_line plan which rows = option_map_or (broken_said_of plan which) (find (is_broken which) rows) []
-
 -- the servers of a disaster
 abbrev pub servers_of : Sweep → ℕ → List Name
 servers_of plan disaster = slice_index_or plan.loses disaster []
@@ -90,7 +77,7 @@ lost_at_once servers = codes "lost at once:" ++ flat_map (λ name. 32 ∷ name_t
 
 -- what is said of the rows of one disaster, for the use at a place
 abbrev pub told : Sweep → Bool → List Outcome → ℕ → List ℕ
-told plan asks rows which = use_head plan which ++ flat_map (kind_line asks which rows) (kinds asks rows) ++ worst_line plan which rows ++ broken_line plan which rows
+told plan asks rows which = use_head plan which ++ flat_map (kind_line asks which rows) (kinds asks rows)
 
 -- the same for each use
 abbrev pub uses_told : Sweep → Bool → List Outcome → List ℕ

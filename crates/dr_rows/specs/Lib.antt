@@ -7,5 +7,6 @@ pub mod Refusals
 pub mod Findings
 pub mod Places
 pub mod Kinds
+pub mod Table
 pub mod Strip
 pub mod Report

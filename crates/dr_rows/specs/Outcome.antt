@@ -61,6 +61,10 @@ lacks_members row = list_any is_short row.members
 abbrev pub lost_count : ℕ → Outcome → ℕ
 lost_count which row = option_map_or (λ (l : Loss). l.count) (slice_get row.losses which) 0
 
+-- how many writes were acknowledged on its second volumes, from the first lost one on
+abbrev pub lost_age : ℕ → Outcome → ℕ
+lost_age which row = option_map_or (λ (l : Loss). l.age) (slice_get row.losses which) 0
+
 -- a write that is held and depends on one that is lost to the use at a place
 abbrev pub broken_at : ℕ → Outcome → Option Broken
 broken_at which row = slice_get row.losses which >>= λ (l : Loss). l.broken

@@ -5,17 +5,18 @@ ghost use Rattle.std.specs.List.{flat_map, list_any};
 ghost use Rattle.std.specs.Option.{option_copied};
 ghost use Rattle.std.specs.Str.{bytes_eq};
 ghost use Rattle.dr_model.specs.LineText.{name_text};
-ghost use Rattle.dr_rows.specs.Outcome.{has_refusal, is_broken};
+ghost use Rattle.dr_rows.specs.Findings.{has_no_group};
+ghost use Rattle.dr_rows.specs.Outcome.{has_refusal, is_broken, lacks_members};
 ghost use Rattle.dr_rows.specs.Places.{most_lost};
-ghost use Rattle.dr_rows.specs.Kinds.{rows_of, with_kind, kinds, is_like, rows_like, counted, counts, tally, kind_line, shown_by, loses_most, worst_said, worst_line, break_said, broken_said_of, broken_line, servers_of, lost_at_once, told, uses_told, disaster_told, disasters_told};
+ghost use Rattle.dr_rows.specs.Kinds.{rows_of, with_kind, kinds, is_like, rows_like, counted, counts, tally, kind_line, shown_by, loses_most, worst_said, worst_line, servers_of, lost_at_once, told, uses_told, disaster_told, disasters_told};
 
 use crate::cells::{kind, push_use_head};
+use crate::findings::has_no_group;
 use crate::line::disaster_of;
-use crate::pieces::{push_number, push_write};
+use crate::pieces::push_number;
 use crate::row::Row;
 use crate::words::push_words;
 use dr_ids::Text;
-use dr_lost::Broken;
 use dr_model::Name;
 use dr_plan::{SweepPlan, name_bytes};
 use std::alloc::{AllocError, Global};
@@ -107,6 +108,20 @@ pub fn broken_count(which: usize, rows: &[&Row]) -> usize
     ensures { result ≡ count_by (is_broken which) (map (λ row. row.now) rows.now) }
 {
     rows.iter().filter(|row| row.is_broken(which)).count()
+}
+
+/// How many rows have no group, though one was asked for.
+pub fn no_group_count(asks: bool, rows: &[&Row]) -> usize
+    ensures { result ≡ count_by (has_no_group asks) (map (λ row. row.now) rows.now) }
+{
+    rows.iter().filter(|row| has_no_group(asks, row)).count()
+}
+
+/// How many rows have fewer members that count than there are.
+pub fn short_count(rows: &[&Row]) -> usize
+    ensures { result ≡ count_by lacks_members (map (λ row. row.now) rows.now) }
+{
+    rows.iter().filter(|row| row.lacks_members()).count()
 }
 
 /// How many rows have a refusal.
@@ -211,7 +226,7 @@ fn loses_most(which: usize, most: usize, row: &Row) -> bool
 }
 
 /// The first row that loses that many writes.
-fn first_worst<'a>(rows: &[&'a Row], which: usize, most: usize) -> Option<&'a Row>
+pub(crate) fn first_worst<'a>(rows: &[&'a Row], which: usize, most: usize) -> Option<&'a Row>
     ensures { option_copied result ≡ find (loses_most which most) (map (λ row. row.now) rows.now) }
 {
     for row in rows {
@@ -252,60 +267,6 @@ pub fn push_worst(
     }
 }
 
-/// The first broken row.
-fn first_broken<'a>(rows: &[&'a Row], which: usize) -> Option<&'a Row>
-    ensures { option_copied result ≡ find (is_broken which) (map (λ row. row.now) rows.now) }
-{
-    for row in rows {
-        if row.is_broken(which) {
-            return Some(*row);
-        }
-    }
-    None
-}
-
-/// Adds the line of a broken point.
-fn push_break(text: &mut Text, plan: &SweepPlan, row: &Row, b: Broken) -> Result<(), AllocError>
-    ensures { OnOk result (text.new ≡ text.old ++ break_said plan.now row.now b) }
-{
-    text.append(b"  broken: ")?;
-    push_write(text, b.held)?;
-    text.append(b" is held and depends on ")?;
-    push_write(text, b.lost)?;
-    text.append(b", which is lost")?;
-    push_shown_by(text, plan, row)
-}
-
-/// Adds the line of a row, where it is broken.
-fn push_break_of(
-    text: &mut Text,
-    plan: &SweepPlan,
-    which: usize,
-    row: &Row,
-) -> Result<(), AllocError>
-    ensures { OnOk result (text.new ≡ text.old ++ broken_said_of plan.now which row.now) }
-{
-    match row.broken_at(which) {
-        None => Ok(()),
-        Some(b) => push_break(text, plan, row, b),
-    }
-}
-
-/// Adds the line of the first broken point, where there is one.
-fn push_first_broken(
-    text: &mut Text,
-    plan: &SweepPlan,
-    which: usize,
-    rows: &[&Row],
-) -> Result<(), AllocError>
-    ensures { OnOk result (text.new ≡ text.old ++ broken_line plan.now which (map (λ row. row.now) rows.now)) }
-{
-    match first_broken(rows, which) {
-        None => Ok(()),
-        Some(row) => push_break_of(text, plan, which, row),
-    }
-}
-
 /// The servers of a disaster.
 pub fn servers_of(plan: &SweepPlan, disaster: usize) -> &[Name]
     ensures { result.now ≡ servers_of plan.now disaster }
@@ -317,7 +278,7 @@ pub fn servers_of(plan: &SweepPlan, disaster: usize) -> &[Name]
 }
 
 /// Adds names, each after a space.
-fn push_names(text: &mut Text, servers: &[Name]) -> Result<(), AllocError>
+pub(crate) fn push_names(text: &mut Text, servers: &[Name]) -> Result<(), AllocError>
     ensures { OnOk result (text.new ≡ text.old ++ flat_map (λ name. 32 ∷ name_text name) servers.now) }
 {
     for name in servers {
@@ -348,9 +309,7 @@ fn push_told(
     ensures { OnOk result (text.new ≡ text.old ++ told plan.now asks (map (λ row. row.now) rows.now) which) }
 {
     push_use_head(text, plan, which)?;
-    push_kind_lines(alloc, text, asks, which, rows, &kinds(alloc, asks, rows)?)?;
-    push_worst(text, plan, which, rows)?;
-    push_first_broken(text, plan, which, rows)
+    push_kind_lines(alloc, text, asks, which, rows, &kinds(alloc, asks, rows)?)
 }
 
 /// Adds the same for each use.

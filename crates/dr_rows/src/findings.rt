@@ -2,7 +2,7 @@
 
 ghost use Rattle.std.specs.Prelude.{◌≡◌, ◌++◌, ◌<◌, length, nat_eq, IfOk, OnOk};
 ghost use Rattle.std.specs.List.{list_any};
-ghost use Rattle.dr_rows.specs.Findings.{is_recovery, recovers, asks_recovery, has_no_group, is_above, is_bad, is_announced_at, wants_group, wanted_at, wanted, is_of_one, is_ungrouped, lacks_group, is_finding, is_never_kept, has_never_kept, has_finding};
+ghost use Rattle.dr_rows.specs.Findings.{is_recovery, recovers, asks_recovery, has_no_group, is_above, is_bad, is_announced_at, wants_group, wanted_at, wanted, is_of_one, is_ungrouped, lacks_group, is_finding, is_bad_at, is_finding_for, is_never_kept, has_never_kept, has_finding};
 ghost use Rattle.dr_rows.specs.Refusals.{keeps_line};
 
 use crate::calm::{Calm, is_announced, is_calm_finding};
@@ -68,14 +68,14 @@ pub fn asks_recovery(alloc: Global, plan: &SweepPlan) -> Result<bool, AllocError
 }
 
 /// No group came back, though one was asked for.
-pub fn has_no_group(asks: bool, row: &Row) -> bool
+pub(crate) fn has_no_group(asks: bool, row: &Row) -> bool
     ensures { result ≡ has_no_group asks row.now }
 {
     asks && !row.has_group()
 }
 
 /// That many lost writes are more than the bound, where there is one.
-fn is_above(bound: Option<u32>, n: usize) -> bool
+pub(crate) fn is_above(bound: Option<u32>, n: usize) -> bool
     ensures { result ≡ is_above bound n }
 {
     match bound {
@@ -130,7 +130,7 @@ fn add_wanted(
 }
 
 /// The lines of the recovery, counted from 1, whose `@recover` is to be answered with a group.
-fn wanted(alloc: Global, plan: &SweepPlan) -> Result<Vec<u128>, AllocError>
+pub(crate) fn wanted(alloc: Global, plan: &SweepPlan) -> Result<Vec<u128>, AllocError>
     ensures { IfOk result (λ found. found.items ≡ wanted plan.now) }
 {
     let mut found = Vec::new(alloc);
@@ -155,7 +155,7 @@ fn is_ungrouped(numbers: &[u128], a: Answer) -> bool
 }
 
 /// Some `@recover` of these lines wasn't answered with a group.
-fn lacks_group(numbers: &[u128], row: &Row) -> bool
+pub(crate) fn lacks_group(numbers: &[u128], row: &Row) -> bool
     ensures { result ≡ lacks_group numbers.now row.now }
 {
     row.answers().iter().any(|a| is_ungrouped(numbers, *a))
@@ -166,6 +166,23 @@ fn is_finding(plan: &SweepPlan, numbers: &[u128], row: &Row) -> bool
     ensures { result ≡ is_finding plan.now numbers.now row.now }
 {
     any_bad(plan.bound(), row.losses()) || lacks_group(numbers, row) || row.lacks_members()
+}
+
+/// The loss of a row to the use at a place is bad.
+fn is_bad_at(plan: &SweepPlan, which: usize, row: &Row) -> bool
+    ensures { result ≡ is_bad_at plan.now which row.now }
+{
+    match row.losses().get(which) {
+        None => false,
+        Some(loss) => is_bad(plan.bound(), loss),
+    }
+}
+
+/// The row is a finding for the use at a place.
+pub(crate) fn is_finding_for(plan: &SweepPlan, numbers: &[u128], which: usize, row: &Row) -> bool
+    ensures { result ≡ is_finding_for plan.now numbers.now which row.now }
+{
+    is_bad_at(plan, which, row) || lacks_group(numbers, row) || row.lacks_members()
 }
 
 fn any_finding(plan: &SweepPlan, numbers: &[u128], rows: &[Row]) -> bool

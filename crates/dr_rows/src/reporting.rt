@@ -9,12 +9,13 @@ use crate::findings::asks_recovery;
 use crate::recovery::push_recovery_told;
 use crate::row::Row;
 use crate::strip::push_strip_told;
+use crate::table::push_table_told;
 use dr_ids::Text;
 use dr_plan::SweepPlan;
 use std::alloc::{AllocError, Global};
 
-/// The report on a sweep: the calm run of the plan, and the disasters, the recovery and the strip of the plan that is tried, in which lines of
-/// several steps are taken apart.
+/// The report on a sweep: the calm run of the plan, and the table, the disasters, the recovery and the strip of the plan that is tried, in which
+/// lines of several steps are taken apart.
 pub fn report(
     alloc: Global,
     plan: &SweepPlan,
@@ -27,6 +28,7 @@ pub fn report(
     let asks = asks_recovery(alloc, tried)?;
     let mut text = Text::new(alloc);
     push_calm(&mut text, plan, calm)?;
+    push_table_told(alloc, &mut text, tried, asks, rows)?;
     push_disasters(alloc, &mut text, tried, asks, rows)?;
     push_recovery_told(&mut text, tried, rows)?;
     push_strip_told(alloc, &mut text, tried, asks, rows)?;

@@ -1,7 +1,7 @@
 //! What a point of a sweep comes to.
 
 ghost use Rattle.std.specs.Prelude.{◌≡◌};
-ghost use Rattle.dr_rows.specs.Outcome.{gives_group, is_kept, is_refused, is_short, has_group, has_refusal, lacks_members, lost_count, broken_at, is_broken};
+ghost use Rattle.dr_rows.specs.Outcome.{gives_group, is_kept, is_refused, is_short, has_group, has_refusal, lacks_members, lost_count, lost_age, broken_at, is_broken};
 
 use dr_lost::Broken;
 use dr_plan::Point;
@@ -207,6 +207,16 @@ impl Row {
         match self.losses().get(which) {
             None => 0,
             Some(loss) => loss.count(),
+        }
+    }
+
+    /// How many writes were acknowledged on the second volumes of the use at a place, from the first lost one on.
+    pub(crate) fn age(&self, which: usize) -> usize
+        ensures { result ≡ lost_age which self.now }
+    {
+        match self.losses().get(which) {
+            None => 0,
+            Some(loss) => loss.age(),
         }
     }
 

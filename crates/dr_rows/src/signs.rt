@@ -3,7 +3,8 @@
 ghost use Rattle.std.specs.Prelude.{◌≡◌, map, IfOk};
 ghost use Rattle.std.specs.List.{list_any};
 ghost use Rattle.dr_rows.specs.Findings.{has_no_group};
-ghost use Rattle.dr_rows.specs.Strip.{digit, character, point_of, sign_of, signs};
+ghost use Rattle.dr_rows.specs.Outcome.{lacks_members};
+ghost use Rattle.dr_rows.specs.Strip.{loss_character, character, point_of, sign_of, signs};
 
 use crate::findings::has_no_group;
 use crate::places::{any_broken, decides, most_lost, places};
@@ -11,18 +12,12 @@ use crate::row::Row;
 use dr_plan::Point;
 use std::alloc::{AllocError, Global};
 
-/// A place with its character.
+/// A place with its character, and the most writes that are lost there.
 #[derive(Clone, Copy)]
 pub(crate) struct Sign {
     pub(crate) point: Point,
     pub(crate) shown: u8,
-}
-
-/// A digit, or `+` above nine.
-fn digit(n: usize) -> u8
-    ensures { result ≡ digit n }
-{
-    if 9 < n { b'+' } else { 48 + n as u8 }
+    pub(crate) lost: usize,
 }
 
 /// No group came back at some point, though it was asked for.
@@ -30,6 +25,26 @@ fn any_lacks(asks: bool, rows: &[Row]) -> bool
     ensures { result ≡ list_any (has_no_group asks) rows.now }
 {
     rows.iter().any(|row| has_no_group(asks, row))
+}
+
+/// Fewer members count than the session has, at some point.
+fn any_short(rows: &[Row]) -> bool
+    ensures { result ≡ list_any lacks_members rows.now }
+{
+    rows.iter().any(|row| row.lacks_members())
+}
+
+/// The character of members and losses, for a use.
+fn loss_character(which: usize, rows: &[Row]) -> u8
+    ensures { result ≡ loss_character which rows.now }
+{
+    if any_short(rows) {
+        b'm'
+    } else if most_lost(which, rows) == 0 {
+        b'.'
+    } else {
+        b'o'
+    }
 }
 
 /// The character of a place, for a use.
@@ -43,7 +58,7 @@ fn character(alloc: Global, asks: bool, which: usize, rows: &[Row]) -> Result<u8
     } else if any_lacks(asks, rows) {
         Ok(b'-')
     } else {
-        Ok(digit(most_lost(which, rows)))
+        Ok(loss_character(which, rows))
     }
 }
 
@@ -67,6 +82,7 @@ fn sign_of(alloc: Global, asks: bool, which: usize, rows: &[Row]) -> Result<Sign
     Ok(Sign {
         point: point_of(rows),
         shown: character(alloc, asks, which, rows)?,
+        lost: most_lost(which, rows),
     })
 }
 

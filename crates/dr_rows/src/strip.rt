@@ -1,16 +1,19 @@
 //! The strip: a character for each place of a sweep.
 
 ghost use Rattle.std.specs.Prelude.{◌≡◌, ◌++◌, ◌+◌, ◌<◌, ◌^◌, IfOk, OnOk};
-ghost use Rattle.dr_rows.specs.Strip.{is_cut_at, is_gap_at, cut_signs, gap_signs, wide, gap_column, server_column, server_columns, step_text, line_strip, line_strips, signs_told, use_strip, use_strips, disaster_strip, disaster_strips, strip_head, characters_told, legend, strip_told};
+ghost use Rattle.dr_rows.specs.Strip.{is_cut_at, is_gap_at, is_in_disaster, is_in_line, lost_if, gap_lost, line_lost, disaster_lost, cut_signs, gap_signs, wide, wide_number, lost_said, lost_column, gap_column, server_column, server_columns, step_text, line_strip, line_strips, signs_told, use_strip, use_strips, disaster_strip, disaster_strips, strip_head, characters_told, legend, strip_told};
 ghost use Rattle.dr_rows.specs.Words.{place_name};
 
 use crate::cells::{no_group, push_use_head, server_name};
 use crate::disasters::{push_lost_at_once, servers_of};
+use crate::line::disaster_of;
 use crate::row::Row;
 use crate::signs::{Sign, signs};
+use crate::table::push_blanks;
 use crate::words::{gap_place, push_place_name};
 use dr_ids::Text;
 use dr_plan::{PlanPlace, Point, SweepPlan};
+use itoa::Buffer;
 use std::alloc::{AllocError, Global};
 
 /// The place is in that tried step, at that server.
@@ -39,6 +42,70 @@ fn is_gap_at(point: Point, disaster: usize, place: usize) -> bool
         } => d == disaster && p == place,
         _ => false,
     }
+}
+
+/// The place is of the disaster.
+fn is_in_disaster(point: Point, disaster: usize) -> bool
+    ensures { result ≡ is_in_disaster disaster point }
+{
+    disaster_of(point) == disaster
+}
+
+/// The place is in the tried step with that number, counted from 1, or in the gap after it.
+fn is_in_line(point: Point, disaster: usize, number: usize) -> bool
+    ensures { result ≡ is_in_line disaster number point }
+{
+    match point {
+        Point::Cut {
+            disaster: d,
+            place: p,
+            ..
+        } => d == disaster && p as u128 + 1 == number as u128,
+        Point::Gap {
+            disaster: d,
+            place: p,
+        } => d == disaster && p == number,
+    }
+}
+
+/// The writes that are lost at a place, if it is one of those that are asked for.
+fn lost_if(asked: bool, lost: usize) -> usize
+    ensures { result ≡ lost_if asked lost }
+{
+    if asked { lost } else { 0 }
+}
+
+/// The most writes that are lost in the gap after that many tried steps.
+fn gap_lost(signs: &[Sign], disaster: usize, place: usize) -> usize
+    ensures { result ≡ gap_lost signs.now disaster place }
+{
+    let mut most = 0;
+    for sign in signs {
+        most = most.max(lost_if(is_gap_at(sign.point, disaster, place), sign.lost));
+    }
+    most
+}
+
+/// The most writes that are lost in the tried step before it or in the gap.
+fn line_lost(signs: &[Sign], disaster: usize, place: usize) -> usize
+    ensures { result ≡ line_lost signs.now disaster place }
+{
+    let mut most = 0;
+    for sign in signs {
+        most = most.max(lost_if(is_in_line(sign.point, disaster, place), sign.lost));
+    }
+    most
+}
+
+/// The most writes that are lost in the disaster.
+fn disaster_lost(signs: &[Sign], disaster: usize) -> usize
+    ensures { result ≡ disaster_lost signs.now disaster }
+{
+    let mut most = 0;
+    for sign in signs {
+        most = most.max(lost_if(is_in_disaster(sign.point, disaster), sign.lost));
+    }
+    most
 }
 
 /// Adds the characters of a server in a tried step.
@@ -93,7 +160,51 @@ fn push_wide(text: &mut Text, name: &[u8]) -> Result<(), AllocError>
     text.append(name)
 }
 
-/// Adds the name of a gap, and what comes of a loss there.
+/// Adds a number, as wide as the greatest of its column.
+fn push_wide_number(text: &mut Text, greatest: usize, n: usize) -> Result<(), AllocError>
+    ensures { OnOk result (text.new ≡ text.old ++ wide_number greatest n) }
+{
+    let mut widest = Buffer::new();
+    let mut digits = Buffer::new();
+    let said = digits.format(n).as_bytes();
+    push_blanks(text, widest.format(greatest).as_bytes().len(), said)?;
+    text.append(said)
+}
+
+/// Adds how many writes are lost in a gap, and at most in its line.
+fn push_lost_said(
+    text: &mut Text,
+    greatest: usize,
+    gap: usize,
+    most: usize,
+) -> Result<(), AllocError>
+    ensures { OnOk result (text.new ≡ text.old ++ lost_said greatest gap most) }
+{
+    text.append(b" | ")?;
+    push_wide_number(text, greatest, gap)?;
+    text.append(b" lost, worst ")?;
+    push_wide_number(text, greatest, most)?;
+    text.append(b" |")
+}
+
+/// Adds the same of the gap after that many tried steps.
+fn push_lost_column(
+    text: &mut Text,
+    signs: &[Sign],
+    disaster: usize,
+    place: usize,
+) -> Result<(), AllocError>
+    ensures { OnOk result (text.new ≡ text.old ++ lost_column signs.now disaster place) }
+{
+    push_lost_said(
+        text,
+        disaster_lost(signs, disaster),
+        gap_lost(signs, disaster, place),
+        line_lost(signs, disaster, place),
+    )
+}
+
+/// Adds the name of a gap, how many writes are lost there and in its line, and its character.
 fn push_gap_column(
     alloc: Global,
     text: &mut Text,
@@ -105,7 +216,7 @@ fn push_gap_column(
     ensures { OnOk result (text.new ≡ text.old ++ gap_column plan.now signs.now disaster place) }
 {
     push_wide(text, name_of(alloc, gap_place(plan, place))?.bytes())?;
-    text.append(b" |")?;
+    push_lost_column(text, signs, disaster, place)?;
     push_gap_signs(text, signs, disaster, place)?;
     text.append(b"|")
 }
@@ -260,7 +371,7 @@ fn push_disaster_strip(
 fn strip_head() -> &'static [u8]
     ensures { result.now ≡ strip_head }
 {
-    b"strip: a character for each device write that is cut short; between bars, the loss behind the line\n"
+    b"strip: of each line the writes lost in the gap after it, and the most lost at one of its points; then the gap's character, and one for each device write\n"
 }
 
 /// What the characters say.
@@ -268,7 +379,7 @@ fn strip_head() -> &'static [u8]
 fn characters_told() -> &'static [u8]
     ensures { result.now ≡ characters_told }
 {
-    b"0 to 9 or + writes are lost at most; ! one that is held depends on a lost one; * torn bytes decide; - "
+    b"! a kept write depends on a lost one; * torn bytes decide; m fewer members count; . nothing is lost; o writes are lost; - "
 }
 
 /// Adds both.

@@ -1,0 +1,6 @@
+use Rattle.std.proofs.Common.{◌≡◌, take}
+use Rattle.dr_rows.specs.Strip.{disaster_lost}
+use Rattle.dr_rows.proofs.strip.disaster_lost.Given as goal
+
+abbrev pub invariant-loop-sign : goal.invariant-loop-sign
+invariant-loop-sign l = l.most ≡ disaster_lost (take l.sign-index l.signs) l.disaster

@@ -1,0 +1,6 @@
+use Rattle.std.proofs.Common.{◌≡◌, take}
+use Rattle.dr_rows.specs.Strip.{line_lost}
+use Rattle.dr_rows.proofs.strip.line_lost.Given as goal
+
+abbrev pub invariant-loop-sign : goal.invariant-loop-sign
+invariant-loop-sign l = l.most ≡ line_lost (take l.sign-index l.signs) l.disaster l.place
