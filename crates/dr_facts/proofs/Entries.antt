@@ -12,7 +12,7 @@ use Rattle.dr_model.specs.Carry.{Act, Make, Drop, Turn, Next, Pass, Do, End, Ent
 use Rattle.dr_model.specs.Entries.{times, on_found, drop_unless, check_or_drop}
 use Rattle.dr_model.specs.PairEntries.{end_if, refuse_if}
 use Rattle.dr_model.specs.PlanParts.{Plan}
-use Rattle.dr_model.specs.Carried.{finish, begun, carried_out}
+use Rattle.dr_model.specs.Carried.{finish, stop_place, begun, carried_out}
 
 -- in any world, and for any reason
 abbrev pub any_world : World → Type 0
@@ -167,13 +167,13 @@ module _ (K : World → Type 0) (Ok : World → Act → Type 0) (Why : Refusal �
     carry-kept [] fine w j = j
     carry-kept (d ∷ ds) fine w j = next-kept w (d w.control) (λ v. carry v ds) (AllFine ds) (fine w (known w j)) j (λ rest v i. carry-kept ds rest v i)
 
-    pub finish-kept : (p : Plan) (w : World) (r : Option Refusal) → ((s : ℕ) → AllFine (p.follows s)) → ((v : World) → J v → J (record v { control = p.last v.control })) → J w → J (finish p w r)
-    finish-kept p w None follows last j = last w j
-    finish-kept p w (Some (StoppedIn s)) follows last j = carry-kept (p.follows s.0) (follows s.0) w j
-    finish-kept p w (Some r) follows last j = j
+    pub finish-kept : (p : Plan) (n : ℕ) (w : World) (r : Option Refusal) → ((s : ℕ) → AllFine (p.follows s)) → ((v : World) → J v → J (record v { control = p.last v.control })) → J w → J (finish p n w r)
+    finish-kept p n w None follows last j = last w j
+    finish-kept p n w (Some (StoppedIn s)) follows last j = carry-kept (p.follows n) (follows n) w j
+    finish-kept p n w (Some r) follows last j = j
 
     pub plan-kept : (w : World) (p : Plan) → J (begun w p) → AllFine p.entries → ((s : ℕ) → AllFine (p.follows s)) → ((v : World) → J v → J (record v { control = p.last v.control })) → J (carried_out w p).0
-    plan-kept w p j entries follows last = finish-kept p (carry (begun w p) p.entries).0 (carry (begun w p) p.entries).1 follows last (carry-kept p.entries entries (begun w p) j)
+    plan-kept w p j entries follows last = finish-kept p (stop_place w p) (carry (begun w p) p.entries).0 (carry (begun w p) p.entries).1 follows last (carry-kept p.entries entries (begun w p) j)
 
   -- how such entries are refused, where nothing needs to be known of worlds: for no reason, by a stop, or for such a reason
   module _ (known : (w : World) → K w) (P : Option Refusal → Type 0) (well : P None) (stops : (s : ℕ) → P (Some (stopped s))) (ends : (r : Refusal) → Why r → P (Some r)) where
@@ -259,7 +259,7 @@ module _ (K : World → Type 0) (Ok : World → Act → Type 0) (First Why : Ref
 
     pub plan-from : (w : World) (p : Plan) → J (begun w p) → FineFrom (begun w p) p.entries → ((s : ℕ) → AllFine K Ok Why (p.follows s)) → ((v : World) → J v → J (record v { control = p.last v.control })) → J (carried_out w p).0
     plan-from w p j entries follows last =
-        finish-kept K Ok Why J known keeps p (carry (begun w p) p.entries).0 (carry (begun w p) p.entries).1 follows last (from-kept p.entries (begun w p) entries j)
+        finish-kept K Ok Why J known keeps p (stop_place w p) (carry (begun w p) p.entries).0 (carry (begun w p) p.entries).1 follows last (from-kept p.entries (begun w p) entries j)
 
   -- how they are refused
   module _ (known : (w : World) → K w) (P : Option Refusal → Type 0) (well : P None) (stops : (s : ℕ) → P (Some (stopped s))) (early : (r : Refusal) → First r → P (Some r)) (ends : (r : Refusal) → Why r → P (Some r)) where

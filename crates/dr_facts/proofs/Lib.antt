@@ -27,4 +27,6 @@ pub mod Heard
 pub mod Emits
 pub mod Entries
 pub mod SharedEntries
+pub mod WriteStops
+pub mod Stretches
 pub mod Reasons

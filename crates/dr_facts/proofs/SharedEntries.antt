@@ -2,6 +2,7 @@
 -- writes, starts, orders, recoveries. Acts and reasons are as in Entries.
 use Rattle.std.proofs.Common.{ℕ, ◌≡◌, refl, Bool, true, false, cond, not, ◌&&◌, List, [], ◌∷◌, ◌++◌, map, Option, Some, None, is_some, nat_lt}
 use Rattle.std.specs.FinSet.{contains}
+use Rattle.dr_facts.proofs.WriteStops.{after-any}
 use Rattle.dr_ids.specs.declared.refusal.Refusal.{Refusal}
 use Rattle.dr_ids.specs.declared.refusal.Decision.{Decision}
 use Rattle.dr_ids.specs.declared.refusal.Decision.TheVariants.{NoMember, Nothing, RevertAll, CommitRest, RevertSome, Impossible}
@@ -42,12 +43,12 @@ module _ (K : World → Type 0) (Ok : World → Act → Type 0) (Why : Refusal �
   last-move m may = fine-now K Ok Why m [] may (fine-none K Ok Why)
 
   -- what follows the stop of a server
-  pub after-fine : (a s : ℕ) → May (Make (Suspend a false)) → All (suspend_after a s)
+  pub after-fine : (a s : ℕ) → May (Make (Suspend a false)) → All (suspend_after a)
   after-fine a s may = fine-one K Ok Why (suspend_running a) (where-fine (λ k. is_part (fields_at k a).primary && is_running a k) (Make (Suspend a false)) (λ w h so. may w h))
 
-  pub after_write-fine : (k : Control) (v t s : ℕ) → ((busy : Bool) → May (Make (Suspend v busy))) → All (after_write k v t s)
-  after_write-fine k v t s may = fine-choice K Ok Why (collides (fields_at k v) t) (suspend_after v s) (part_after v s) (λ c. after-fine v s (may false))
-      (λ c. fine-one K Ok Why (part_running v) (λ w h. fine-if K Ok Why w (is_part (fields_at w.control v).primary && is_running v w.control) _ Pass (may (is_grouped w.control v (partner_of w.control v)) w h) tt))
+  pub after_write-fine : (k : Control) (n v t s : ℕ) → ((busy : Bool) → May (Make (Suspend v busy))) → All (after_write k n v t s)
+  after_write-fine k n v t s may = after-any All k n v t s (after-fine v s (may false))
+      (fine-one K Ok Why (part_running v) (λ w h. fine-if K Ok Why w (is_part (fields_at w.control v).primary && is_running v w.control) _ Pass (may (is_grouped w.control v (partner_of w.control v)) w h) tt))
 
   -- a flash hold before a move, where a line asks for it
   pub hold-fine : (freeze : Bool) (s : ℕ) (ds : List Entry) → (freeze ≡ true → May (Make (FlashHold s))) → All ds → All (hold_first freeze s ++ ds)

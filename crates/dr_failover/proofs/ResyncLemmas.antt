@@ -72,12 +72,8 @@ module _ (w : World) (x : ℕ) where
   never-duplex none is = absurd (let e = none ∙ duplex-refused is in cc)
 
 -- what is no stop is followed by nothing
-pub calm-follows : (armed : ℕ → Bool) (w : World) (r : Option Refusal) (follows : ℕ → List Entry) → is_stop r ≡ false → Follows armed w r follows w
-calm-follows armed w (Some (Stopped s)) follows calm = absurd (let e : true ≡ false = calm in cc)
-calm-follows armed w r follows calm = refl
-
 -- behind checks that pass
-pub followed-behind : (armed : ℕ → Bool) (w u : World) (cs es : List Entry) (follows : ℕ → List Entry) (r : Option Refusal) → Checked w cs None → EndsFollowed armed w es follows u r → EndsFollowed armed w (cs ++ es) follows u r
+pub followed-behind : (armed : ℕ → Bool) (w u : World) (cs es : List Entry) (follows : List Entry) (r : Option Refusal) → Checked w cs None → EndsFollowed armed w es follows u r → EndsFollowed armed w (cs ++ es) follows u r
 followed-behind armed w u cs es follows r checked e = record { middle = e.middle; ends = checked armed e.middle r es e.ends; followed = e.followed }
 
 -- one track is sent, or none
@@ -87,5 +83,5 @@ one-sent ids a b n t s is = ap (λ xs. sends ids a b (take 1 xs)) (first-some (i
 pub none-sent : (ids : List ℕ) (a b n : ℕ) (s : Tracks) → None ≡ lowest n s → sends ids a b (tracks_to_send (Some 1) n s) ≡ []
 none-sent ids a b n s is = ap (λ xs. sends ids a b (take 1 xs)) (first-none (in_order n s) is)
 
-pub nothing-sent : (armed : ℕ → Bool) (w : World) (follows : ℕ → List Entry) → EndsFollowed armed w [] follows w None
+pub nothing-sent : (armed : ℕ → Bool) (w : World) (follows : List Entry) → EndsFollowed armed w [] follows w None
 nothing-sent armed w follows = record { middle = w; ends = ends-none armed w None w (record { world = refl; refusal = refl }); followed = refl }

@@ -32,7 +32,7 @@ sent-next ids a b t xs w v u first more =
     (then-leads w v u (sends ids a b xs) (send_entries ids a b t) first more)
 
 -- the next one failed
-pub sent-failed : (armed : ℕ → Bool) (ids : List ℕ) (a b t : ℕ) (xs more : List ℕ) (w v u : World) (follows : ℕ → List Entry) (r : Option Refusal) → Leads w (sends ids a b xs) v → FailsFollowed armed v (send_entries ids a b t) follows u r
+pub sent-failed : (armed : ℕ → Bool) (ids : List ℕ) (a b t : ℕ) (xs more : List ℕ) (w v u : World) (follows : List Entry) (r : Option Refusal) → Leads w (sends ids a b xs) v → FailsFollowed armed v (send_entries ids a b t) follows u r
     → FailsFollowed armed w (sends ids a b (xs ++ t ∷ more)) follows u r
 sent-failed armed ids a b t xs more w v u follows r first fails = record {
   middle = fails.middle;

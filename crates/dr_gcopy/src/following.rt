@@ -26,7 +26,7 @@ fn suspend_running<P: Plant>(plant: &mut P, config: &Config, journal: &mut Journ
     requires at { IsAt (P.state plant.old) config.now }
     requires defined { IsSome (place_of config.now a.0) }
     requires room { 3 ≤ journal.old.spare }
-    ensures ends { (r : Rest) (s : ℕ) → EndsSo (armed_in (P.state plant.old)) (world_seen (P.state plant.old) config.now r journal.old.events) (suspend_after a.0 s) (world_seen (P.state plant.new) config.now r journal.new.events) }
+    ensures ends { (r : Rest) → EndsSo (armed_in (P.state plant.old)) (world_seen (P.state plant.old) config.now r journal.old.events) (suspend_after a.0) (world_seen (P.state plant.new) config.now r journal.new.events) }
     ensures others { OthersStay (P.state plant.old) (P.state plant.new) config.now a.0 }
     ensures kept { KeptBehind (P.state plant.old) (P.state plant.new) config.now journal.old journal.new 3 true }
 {
@@ -44,7 +44,7 @@ fn suspend_running<P: Plant>(plant: &mut P, config: &Config, journal: &mut Journ
 struct Suspended(VolumeId);
 
 impl<P: Plant> Behind<P> for Suspended {
-    ghost entries = { λ x c s. suspend_after x.0.0 s };
+    ghost entries = { λ x c. suspend_after x.0.0 };
 
     ghost stands = { λ x c. IsSome (place_of c x.0.0) };
 

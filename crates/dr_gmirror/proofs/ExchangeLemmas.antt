@@ -57,7 +57,7 @@ refused-plan armed w why = record {
 pub silent-ends : (armed : ℕ → Bool) (u w : World) (r : Option Refusal) (es : List Entry) → Ends armed u r w es → Ends armed u r (record w { events = w.events ++ [] }) es
 silent-ends armed u w r es ends = subst (λ z. Ends armed u r z es) (sym (same-begun w)) ends
 
-pub follow-nothing : (w : World) (r : Refusal) → w ≡ follow w r none_follow
+pub follow-nothing : (w : World) (r : Refusal) → w ≡ follow w r []
 follow-nothing w (StoppedIn s) = sym (ap (λ (o : Outcome). o.0) (carry-none w))
 follow-nothing w _ = refl
 
@@ -150,4 +150,4 @@ leaves-delivered armed w u refusal j s server o ms x m sound delivers listed her
 -- and where it is one that an exchange is about
 pub leaves-by : (armed : ℕ → Bool) (w u : World) (s server : ℕ) (reply : Bool) (a : Said) (x : Session) (m : Member) → Sound w → In x w.control.sessions → In m x.members → is_secondary_of m.a.0 (fields_at w.control m.b.0) ≡ false
     → PlanEnds armed w (exchange_on w.control s (mirror_in (session_in w.control.sessions s)) server reply (members_in (session_in w.control.sessions s))) u a → IsLeft w u m
-leaves-by armed w u s server reply a x m sound listed here apart e = subst (λ v. IsLeft w v m) (sym e.world) (leaves-carried w sound x m listed here apart s server reply armed e.middle e.refusal e.ends)
+leaves-by armed w u s server reply a x m sound listed here apart e = subst (λ v. IsLeft w v m) (sym e.world) (leaves-carried w sound x m listed here apart s server reply armed e.middle e.refusal e.ends _)

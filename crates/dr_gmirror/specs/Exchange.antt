@@ -16,7 +16,7 @@ use Rattle.dr_model.specs.Phases as phases
 use Rattle.dr_model.specs.Sessions.{Mirror, Session, session_in, mirror_in, members_in}
 use Rattle.dr_model.specs.Control.{Control, World}
 use Rattle.dr_model.specs.PlanParts.{Plan}
-use Rattle.dr_model.specs.Runs.{begun, finish, answered}
+use Rattle.dr_model.specs.Runs.{begun, finish, stop_place, answered}
 use Rattle.dr_model.specs.ReadStops.{Ends}
 use Rattle.dr_model.specs.SessionEntries.{order_entries, members_on, reply_after}
 use Rattle.dr_model.specs.SessionPlans.{exchange_refusal, off_refusal, phase_refusal, order_of, says_phase}
@@ -30,7 +30,7 @@ pub record PlanEnds (armed : ℕ → Bool) (w : World) (p : Plan) (u : World) (a
   pub middle : World
   pub refusal : Option Refusal
   pub ends : Ends armed middle refusal (begun w p) p.entries
-  pub world : u ≡ finish p middle refusal
+  pub world : u ≡ finish p (stop_place w p) middle refusal
   pub answers : answer ≡ answered p u.control refusal
 
 -- what an exchange answers: its session's phase after it, or why it failed

@@ -7,7 +7,7 @@ use Rattle.dr_model.specs.Control.{World, nothing}
 use Rattle.dr_model.specs.Carry.{Act, Make, OpenAttempt, Next, Pass, Do, End, Entry, Outcome, continue, go, carry}
 use Rattle.dr_model.specs.Plans.{Plan}
 use Rattle.dr_model.specs.Forming.{Part, after_part}
-use Rattle.dr_model.specs.Runs.{Task, course, begun, finish, carried_out, answered, after_plan, after_task, after_tasks, run}
+use Rattle.dr_model.specs.Runs.{Task, course, begun, finish, carried_out, answered, after_plan, after_task, after_tasks, run, stop_place}
 use Rattle.dr_laws_sound.proofs.Turns.{Counts, after_act, act-cases}
 use Rattle.dr_laws_sound.proofs.Parts.{Comes, last-plan, course-case}
 use Rattle.dr_laws_freezes.specs.InSync.{DuplexInSync}
@@ -44,9 +44,9 @@ module _ (Fin : Option ℕ → World → Option Refusal → Type 0) where
 carried-between : (w : World) (p : Plan) → PlanHolds w p → Between (carried_out w p).0
 carried-between w p fair = by (carry (begun w p) p.entries) (window-came (PlanFin Between good-between answers-between p) p.entries None (begun w p) fair.entries)
   where
-    by : (o : Outcome) → Came (PlanFin Between good-between answers-between p) o → Between (finish p o.0 o.1)
+    by : (o : Outcome) → Came (PlanFin Between good-between answers-between p) o → Between (finish p (stop_place w p) o.0 o.1)
     by (u, None) c = c.fin
-    by (u, Some (StoppedIn s)) c = (window-came (EndFin Between good-between answers-between) (p.follows s.0) c.tag u c.fin).fin
+    by (u, Some (StoppedIn s)) c = (window-came (EndFin Between good-between answers-between) (p.follows (stop_place w p)) c.tag u (c.fin (stop_place w p))).fin
     by (u, Some r) c = c.fin
 
 between-part : (w : World) (p : Plan) → Comes w p → Between w → Between (after_part w p)

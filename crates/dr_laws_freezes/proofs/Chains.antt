@@ -16,7 +16,7 @@ use Rattle.dr_model.specs.Moves.{Move, Hold, is_write, is_other}
 use Rattle.dr_model.specs.Carry.{Act, Make, OpenAttempt, Redo, Acknowledge, Drop, EndFreeze, EndThaw, EndRecovery, Turn, Next, Pass, Do, End, Entry, Outcome, continue, go, carry, dropped, frozen, thawed, recovered}
 use Rattle.dr_model.specs.Plans.{Plan, plan, only_says}
 use Rattle.dr_model.specs.Forming.{Part, Way, goes_on, after_part, part_refusal, form_said}
-use Rattle.dr_model.specs.Runs.{Task, Course, own_course, course_of, course, answered_part, masters_lost, begun, finish, answered, said, after_plan, after_task, OwnCourse, Groups, Volumes, compared, Devices, imaged}
+use Rattle.dr_model.specs.Runs.{Task, Course, own_course, course_of, course, answered_part, masters_lost, begun, finish, answered, said, after_plan, after_task, OwnCourse, Groups, Volumes, compared, Devices, imaged, stop_place}
 use Rattle.dr_model.specs.Table.{table, waiting}
 use Rattle.dr_model.specs.Laws.{SoundRows, AllPending, Lone, servers}
 use Rattle.dr_model.specs.Allowed.{May, MayOpen, Runs}
@@ -205,7 +205,7 @@ module _ (K : World → Type 0) (is_good : (w : World) → K w → Good None w) 
 
   abbrev pub PlanFin : Plan → Option ℕ → World → Option Refusal → Type 0
   PlanFin p tag w None = K (record w { control = p.last w.control })
-  PlanFin p tag w (Some (StoppedIn s)) = WindowAlong EndFin tag w (p.follows s.0)
+  PlanFin p tag w (Some (StoppedIn s)) = (n : ℕ) → WindowAlong EndFin tag w (p.follows n)
   PlanFin p tag w (Some r) = K w
 
   -- the tables as a plan ends differ in the sessions and messages alone
@@ -231,7 +231,7 @@ module _ (K : World → Type 0) (is_good : (w : World) → K w → Good None w) 
   good-plan p last w None k =
       let g : Good None (record w { control = record w.control { sessions = (last w.control).sessions; flight = (last w.control).flight } }) = subst (λ k. Good None (record w { control = k })) (last w.control).is (is_good (record w { control = p.last w.control }) k) in
       good-none w g.rows (record { unacked = g.fresh.unacked; later = g.fresh.later }) g.lone
-  good-plan p last w (Some (StoppedIn s)) a = good-window EndFin None w (p.follows s.0) a
+  good-plan p last w (Some (StoppedIn s)) a = good-window EndFin None w (p.follows 0) (a 0)
   good-plan p last w (Some r) k = is_good w k
 
   module _ (first : World) (p : Plan) (last : Leaves p) (over : World → Option Refusal → World) (closes : Closes first over) (kept : (w : World) (r : Option Refusal) → K w → K (over w r))
@@ -243,13 +243,13 @@ module _ (K : World → Type 0) (is_good : (w : World) → K w → Good None w) 
         Then tag None w (over u r) (more (over u r)) good (Passes None (over u r) c.0 c.1 (λ n h. absurd cc)) (goes_on (over u r) (kept u r y))
 
     abbrev rest : Outcome → List World
-    rest o = worlds_after o.0 o.1 p.follows ++ over (finish p o.0 o.1) o.1 ∷ more (over (finish p o.0 o.1) o.1)
+    rest o = let n : ℕ = stop_place first p in worlds_after o.0 o.1 (p.follows n) ++ over (finish p n o.0 o.1) o.1 ∷ more (over (finish p n o.0 o.1) o.1)
 
     ends : (tag : Option ℕ) (w : World) (r : Option Refusal) → Good tag w → PlanFin p tag w r → Chain tag w (rest (w, r))
     ends tag w None good k = close-chain tag w (p.last w.control) None (last w.control) good k
     ends tag w (Some (StoppedIn s)) good a =
         let r : Option Refusal = Some (StoppedIn s) in
-        entries-chain EndFin (λ o. over o.0 r ∷ more (over o.0 r)) (λ tag u x good k. close-chain tag u u.control r (retabled-none u.control) good k) good-end (p.follows s.0) tag w a
+        entries-chain EndFin (λ o. over o.0 r ∷ more (over o.0 r)) (λ tag u x good k. close-chain tag u u.control r (retabled-none u.control) good k) good-end (p.follows (stop_place first p)) tag w (a (stop_place first p))
     ends tag w (Some r) good k = close-chain tag w w.control (Some r) (retabled-none w.control) good k
 
     pub plan-chain : K first → WindowHolds first p → Chain None first (begun first p ∷ (worlds (begun first p) p.entries ++ rest (carry (begun first p) p.entries)))
@@ -258,10 +258,10 @@ module _ (K : World → Type 0) (is_good : (w : World) → K w → Good None w) 
 
     -- the same as its moments are listed
     pub moments-chain : K first → WindowHolds first p → let o : Outcome = carry (begun first p) p.entries in
-        Chain None first (plan_moments first p ++ (over (finish p o.0 o.1) o.1 ∷ more (over (finish p o.0 o.1) o.1)))
+        Chain None first (plan_moments first p ++ (over (finish p (stop_place first p) o.0 o.1) o.1 ∷ more (over (finish p (stop_place first p) o.0 o.1) o.1)))
     moments-chain k fair =
         let o : Outcome = carry (begun first p) p.entries in
-        subst (λ us. Chain None first (begun first p ∷ us)) (sym (append_assoc (worlds (begun first p) p.entries) (worlds_after o.0 o.1 p.follows) _)) (plan-chain k fair)
+        subst (λ us. Chain None first (begun first p ∷ us)) (sym (append_assoc (worlds (begun first p) p.entries) (worlds_after o.0 o.1 (p.follows (stop_place first p))) _)) (plan-chain k fair)
 
   -- a run of such plans
   module _ (loses : (first w : World) → K w → K (masters_lost first w)) (each : (w : World) (line : ℕ) (p : Plan) → Ending w.control w.events line p → K w → WindowHolds w p) where

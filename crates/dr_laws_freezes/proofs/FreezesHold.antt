@@ -22,7 +22,7 @@ use Rattle.dr_model.specs.WriteEntries.{is_between, freeze_entries}
 use Rattle.dr_model.specs.Histories.{histories}
 use Rattle.dr_model.specs.Laws.{AllPending, Waits}
 use Rattle.dr_model.specs.Plans.{Plan, plan_of, freeze_refusal, freeze_done, refuses, unless, on_owner, owner_of, has_room}
-use Rattle.dr_model.specs.Runs.{Task, begun, finish, carried_out, answered, after_plan, after_task, after_tasks, run}
+use Rattle.dr_model.specs.Runs.{Task, begun, finish, carried_out, answered, after_plan, after_task, after_tasks, run, stop_place}
 use Rattle.dr_facts.proofs.Lists.{any-some}
 use Rattle.dr_facts.proofs.Tables.{IsOrNot, at_cases, at_part}
 use Rattle.dr_logic.proofs.Truth.{false_true}
@@ -123,7 +123,7 @@ module _ (l m v : ℕ) where
         p : Plan
         p = freeze_done w.control l m
 
-        by : (o : Outcome) → carry (begun w p) p.entries ≡ o → answered p (finish p o.0 o.1).control o.1 ≡ Done x → Held (finish p o.0 o.1).control
+        by : (o : Outcome) → carry (begun w p) p.entries ≡ o → answered p (finish p (stop_place w p) o.0 o.1).control o.1 ≡ Done x → Held (finish p (stop_place w p) o.0 o.1).control
         by (u, None) leads h = freezes w.control.volumes (begun w p) u (record { there = s.there; between = s.between }) (inl s.there) leads
         by (u, Some r) leads h = absurd cc
 

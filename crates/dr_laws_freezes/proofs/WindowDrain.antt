@@ -168,7 +168,7 @@ module _ (w : World) (k : Between w) (a : ℕ) (most : Option ℕ) where
 
   fins : (u : World) (r : Option Refusal) → Between u → Fins None u r
   fins u None b = b
-  fins u (Some (StoppedIn s)) b = window-after a 0 u (within-between a 0 u b) s.0
+  fins u (Some (StoppedIn s)) b = window-after a 0 u (within-between a 0 u b)
   fins u (Some r) b = b
 
   pending-going : (s : PairState) → is_pending s ≡ true → is_suspended s ≡ false

@@ -6,7 +6,7 @@ use Rattle.dr_ids.specs.declared.refusal.Refusal.TheVariants.{Stopped as Stopped
 use Rattle.dr_model.specs.declared.said.Said.{Said}
 use Rattle.dr_model.specs.Answers.{answer}
 use Rattle.dr_model.specs.Control.{Control, World}
-use Rattle.dr_model.specs.Carry.{Act, Entry, carry}
+use Rattle.dr_model.specs.Carry.{Act, Entry, carry, stopped_at}
 use Rattle.dr_model.specs.Plans.{Plan, same, none_follow, entries_plan}
 use Rattle.dr_model.specs.Runs.{begun, finish, masters_lost, said}
 use Rattle.dr_model.specs.Laws.{Sound, AllPending}
@@ -59,7 +59,7 @@ EntriesHold w p = WindowAlong (PlanFin Between good-between answers-between p) N
 -- how the entries of a plan end that is nothing but them
 pub fin : (entries : List Entry) (a : Said) (u : World) (r : Option Refusal) → Between u → PlanFin Between good-between answers-between (entries_plan entries a) None u r
 fin entries a u None b = b
-fin entries a u (Some (StoppedIn s)) b = window-nil (EndFin Between good-between answers-between) None u (good-none u b.sound.rows b.in_sync.fresh b.sound.queue.lone) b
+fin entries a u (Some (StoppedIn s)) b = λ n. window-nil (EndFin Between good-between answers-between) None u (good-none u b.sound.rows b.in_sync.fresh b.sound.queue.lone) b
 fin entries a u (Some r) b = b
 
 -- ---- plans
@@ -79,7 +79,7 @@ module _ (w : World) (k : Between w) (p : Plan) (begins : Begins w (begun w p) p
   unfolding carry
   sound-tables holds none last =
       subst (λ j. Sound (record u { control = j })) (last u.control)
-      (subst (λ ds. Sound (finish p (carry u ds).0 (carry u ds).1)) none (along.plan-keeps Sound RowsAt MayDo keeps-sound (λ v s. s.rows) w p holds))
+      (subst (λ ds. Sound (finish p (stopped_at u ds) (carry u ds).0 (carry u ds).1)) none (along.plan-keeps Sound RowsAt MayDo keeps-sound (λ v s. s.rows) w p holds))
 
   pub window-by : EntriesHold w p → PlanHolds w p
   window-by fairly = record { told = p.told; begins = begins.unchanged; entries = fairly; last = leaves }
@@ -95,7 +95,7 @@ module _ (w : World) (k : Between w) (p : Plan) (begins : Begins w (begun w p) p
     first-between = record { sound = orders.begins; in_sync = begins.in_sync on }
 
     refused : (v : World) (r : Refusal) → Between v → Fins None v (Some r)
-    refused v (StoppedIn s) b = follow s.0 v b
+    refused v (StoppedIn s) b = λ n. follow n v b
     refused v r b = b
 
     ended_well : (v : World) → Between v → orders.ends v → Fins None v None

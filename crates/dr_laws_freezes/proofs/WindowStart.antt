@@ -84,7 +84,7 @@ module _ (s : ℕ) where
 
     fin : (u : World) (r : Option Refusal) → Between u → Fin None u r
     fin u None b = b
-    fin u (Some (StoppedIn x)) b = window-nil (EndFin Between good-between answers-between) None u (good-none u b.sound.rows b.in_sync.fresh b.sound.queue.lone) b
+    fin u (Some (StoppedIn x)) b = λ n. window-nil (EndFin Between good-between answers-between) None u (good-none u b.sound.rows b.in_sync.fresh b.sound.queue.lone) b
     fin u (Some r) b = b
 
     acknowledges : (w : World) → Going [] w → WindowAlong Fin None w (acknowledge_on s ∷ [])

@@ -146,10 +146,10 @@ module _ (v t : ℕ) where
     window-suspend : (d : Entry) → d w.control ≡ what → Along w (d ∷ []) → WindowAlong End None w (d ∷ [])
     window-suspend d is al = window-entry End None w d [] what is (good-none w k.sound.rows k.in_sync.fresh k.sound.queue.lone) (parts-by _ refl (comes w d [] what is al))
 
-  pub window-part : (w : World) (k : Within w) (s : ℕ) → WindowAlong (EndFin Between good-between answers-between) None w (part_after v s)
+  pub window-part : (w : World) (k : Within w) (s : ℕ) → WindowAlong (EndFin Between good-between answers-between) None w (part_after v)
   window-part w k s = window-suspend w k (is_grouped w.control v (partner_of w.control v)) (part_running v) refl (parts-after v s w k.sound)
 
-  pub window-after : (w : World) (k : Within w) (s : ℕ) → WindowAlong (EndFin Between good-between answers-between) None w (suspend_after v s)
+  pub window-after : (w : World) (k : Within w) (s : ℕ) → WindowAlong (EndFin Between good-between answers-between) None w (suspend_after v)
   window-after w k s = window-suspend w k false (suspend_running v) refl (suspends-after v s w k.sound)
 
   -- a move within the write

@@ -5,6 +5,7 @@ use Rattle.std.specs.List.{find}
 use Rattle.std.specs.FinSet.{contains}
 use Rattle.std.proofs.lemmas.Bool.{and_parts, and_from, not-true}
 use Rattle.std.proofs.lemmas.Bool.Decides.{eqb_tells}
+use Rattle.dr_facts.proofs.WriteStops.{after-any}
 use Rattle.dr_ids.specs.declared.refusal.Refusal.{Refusal}
 use Rattle.dr_ids.specs.declared.refusal.Refusal.TheVariants.{Stopped as StoppedIn}
 use Rattle.dr_model.specs.declared.state.PairState.{PairState}
@@ -318,16 +319,13 @@ module _ (p : Pending) (Fin : Option ℕ → World → Option Refusal → Type 0
       window-ways w k one on (held (fields_at w.control v)) (goes_over (fields_at w.control v) t) (collides (fields_at w.control v) t) refl refl refl al))))
 
 -- a plan that carries one out
-module _ (q : Plan) (p : Pending) (k0 : Control) (follows : q.follows ≡ after_write k0 p.volume p.track) (last : q.last ≡ same) where
+module _ (q : Plan) (p : Pending) (k0 : Control) (follows : q.follows ≡ after_write k0 p.w p.volume p.track) (last : q.last ≡ same) where
   abbrev Fins : Option ℕ → World → Option Refusal → Type 0
   Fins = PlanFin Between good-between answers-between q
 
   stops : (u : World) (s : ℕ) → Within p.volume p.track u → StopFin Fins u s u
-  stops u s k = subst (λ (g : ℕ → List Entry). WindowAlong (EndFin Between good-between answers-between) None u (g s)) (sym follows) (by (collides (fields_at k0 p.volume) p.track))
-    where
-      by : (c : Bool) → WindowAlong (EndFin Between good-between answers-between) None u (cond c (suspend_after p.volume s) (part_after p.volume s))
-      by true = window-after p.volume p.track u k s
-      by false = window-part p.volume p.track u k s
+  stops u s k n = subst (λ (g : ℕ → List Entry). WindowAlong (EndFin Between good-between answers-between) None u (g n)) (sym follows)
+      (after-any (WindowAlong (EndFin Between good-between answers-between) None u) k0 p.w p.volume p.track n (window-after p.volume p.track u k n) (window-part p.volume p.track u k n))
 
   fins : (u : World) (r : Option Refusal) → Between u → Fins None u r
   fins u None b = subst (λ (g : Control → Control). Between (record u { control = g u.control })) (sym last) b

@@ -6,7 +6,7 @@ use Rattle.dr_model.specs.Control.{World, nothing}
 use Rattle.dr_model.specs.Carry.{Next, Pass, Do, End, Entry, act, carry}
 use Rattle.dr_model.specs.Plans.{Plan}
 use Rattle.dr_model.specs.Forming.{Part, after_part}
-use Rattle.dr_model.specs.Runs.{Task, course, begun, after_task}
+use Rattle.dr_model.specs.Runs.{Task, course, begun, after_task, stop_place}
 
 -- the world after an act, and those that come where no server stopped in it
 abbrev pub on_from : World → Option ℕ → (World → List World) → List World
@@ -25,8 +25,8 @@ worlds w [] = []
 worlds w (d ∷ ds) = on_next w (d w.control) (λ v. worlds v ds)
 
 -- those of what follows the stop of a server
-abbrev pub worlds_after : World → Option Refusal → (ℕ → List Entry) → List World
-worlds_after w (Some (Stopped s)) follows = worlds w (follows s.0)
+abbrev pub worlds_after : World → Option Refusal → List Entry → List World
+worlds_after w (Some (Stopped s)) follows = worlds w follows
 worlds_after w _ follows = []
 
 -- a plan: as it begins, and after each act
@@ -34,7 +34,7 @@ abbrev pub plan_moments : World → Plan → List World
 plan_moments w p =
     begun w p
     ∷ (worlds (begun w p) p.entries
-    ++ worlds_after (carry (begun w p) p.entries).0 (carry (begun w p) p.entries).1 p.follows)
+    ++ worlds_after (carry (begun w p) p.entries).0 (carry (begun w p) p.entries).1 (p.follows (stop_place w p)))
 
 -- one plan of a step, from the world in which it begins
 abbrev pub part_moments : Part → List World

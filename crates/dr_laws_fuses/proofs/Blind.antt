@@ -1,6 +1,7 @@
 -- Entries that look at no fuse: what they come to is the same in two worlds that differ in fuses alone.
 use Rattle.std.proofs.Common.{ℕ, zero, suc, ◌≡◌, refl, ap, Bool, true, false, cond, List, [], ◌∷◌, ◌++◌, map, Option, Some, None}
 use Rattle.std.specs.List.{flat_map}
+use Rattle.dr_facts.proofs.WriteStops.{after-any}
 use Rattle.dr_ids.specs.declared.names.Member.{Member}
 use Rattle.dr_ids.specs.declared.refusal.Decision.{Decision}
 use Rattle.dr_ids.specs.declared.refusal.Decision.TheVariants.{NoMember, Nothing, RevertAll, CommitRest, RevertSome, Impossible}
@@ -85,8 +86,8 @@ blind-land k n v t =
 pub blind-landing : (k : Control) (n v t : ℕ) → Blinds (landing k n v t)
 blind-landing k n v t = ((λ k g. refl), ((λ k g. refl), ((λ k g. refl), ((λ k g. refl), ((λ k g. refl), ((λ k g. refl), ((λ k g. refl), blind-land k n v t)))))))
 
-pub blind-after : (k : Control) (v t s : ℕ) → Blinds (after_write k v t s)
-blind-after k v t s = blind-if (collides (fields_at k v) t) (suspend_after v s) (part_after v s) ((λ k g. refl), tt) ((λ k g. refl), tt)
+pub blind-after : (k : Control) (n v t s : ℕ) → Blinds (after_write k n v t s)
+blind-after k n v t s = after-any Blinds k n v t s ((λ k g. refl), tt) ((λ k g. refl), tt)
 
 -- ---- tracks that are sent, copied and given back, and a start
 

@@ -1,6 +1,6 @@
 -- What each step comes to looks at no fuse: its entries, what follows a stop, the tables as it ends and its answer. As it begins, only a line that arms a fuse and the start
 -- of a server change one.
-use Rattle.std.proofs.Common.{ℕ, ◌≡◌, refl, ap, sym, subst, Bool, true, false, List, [], ◌∷◌, map, Option, Some, None, Result}
+use Rattle.std.proofs.Common.{ℕ, ◌≡◌, refl, ap, sym, subst, Bool, true, false, List, [], ◌∷◌, map, Option, Some, None, Result, ◌+◌}
 use Rattle.dr_ids.specs.declared.names.Member.{Member}
 use Rattle.dr_ids.specs.declared.refusal.Decision.{Decision}
 use Rattle.dr_ids.specs.declared.refusal.Kind.TheVariants.{Server as OfServer}
@@ -91,8 +91,8 @@ module _ (R : ℕ → Option Fuse → Option Fuse → Type 0) (k : Control) (g :
   case-blind events line _ _ other (DefinesVolume v s tracks here free) = tables _ _ _ refl refl
   case-blind events line _ _ other (SetsLink a b up) = tables _ _ _ refl refl
   case-blind events line _ _ other (Issues v t offset len bytes free) = tables _ _ _ refl refl
-  case-blind events line _ _ other (Writes v t offset len bytes free) = record { first = record { fuse = g; is = refl; fuses = all }; entries = blind-landing k _ v t; follows = blind-after k v t; last = λ j h. refl; says = λ j h. refl }
-  case-blind events line _ _ other (Applies n p found) = record { first = record { fuse = g; is = refl; fuses = all }; entries = blind-landing k p.w p.volume p.track; follows = blind-after k p.volume p.track; last = λ j h. refl; says = λ j h. refl }
+  case-blind events line _ _ other (Writes v t offset len bytes free) = record { first = record { fuse = g; is = refl; fuses = all }; entries = blind-landing k _ v t; follows = blind-after k (k.issued + 1) v t; last = λ j h. refl; says = λ j h. refl }
+  case-blind events line _ _ other (Applies n p found) = record { first = record { fuse = g; is = refl; fuses = all }; entries = blind-landing k p.w p.volume p.track; follows = blind-after k p.w p.volume p.track; last = λ j h. refl; says = λ j h. refl }
   case-blind events line _ _ other (Lists told ls few) = tables same told _ refl refl
   case-blind events line _ _ other (Shows v t there) = tables same _ _ refl refl
   case-blind events line _ _ other (Stops s on) = tables _ _ _ refl refl

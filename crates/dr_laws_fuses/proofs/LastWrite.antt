@@ -32,7 +32,7 @@ use Rattle.dr_model.specs.Moves.{Move, Hold, target}
 use Rattle.dr_model.specs.Carry.{Act, Make, OpenAttempt, Redo, Acknowledge, Drop, EndFreeze, EndThaw, EndRecovery, Turn, Next, Pass, Do, End, Entry, Outcome, act, turn, redo, redo_ended, attempt_begun, burnt, lower, pass, counts, counts_by, gate_at, continue, go, carry, follow, opened_by, equal, spent, off, acknowledged, dropped, frozen, thawed, recovered}
 use Rattle.dr_model.specs.PlanParts.{only_says}
 use Rattle.dr_model.specs.Plans.{Plan, plan, refuses, on_named, server_named, name_bytes, has_room, has_room_for, start_on, start_plan, arm_on, fuse_at_start}
-use Rattle.dr_model.specs.Carried.{begun, finish, carried_out, after_plan}
+use Rattle.dr_model.specs.Carried.{begun, finish, carried_out, after_plan, stop_place}
 use Rattle.dr_model.specs.Forming.{Part, Way, after_part, formed, form_said}
 use Rattle.dr_model.specs.Runs.{Task, OwnCourse, Groups, Volumes, Devices, own_course, course_of, course, answered_part, after_task, compared, image_plan}
 use Rattle.dr_laws_sound.proofs.Turns.{turn-cases, done, done_in_stop, not_done}
@@ -190,8 +190,8 @@ module _ (s : ℕ) (base : World) where
   carry-keeps w [] k = k
   carry-keeps w (d ∷ ds) k = go-keeps w (d w.control) (λ v. carry v ds) k (λ v k. carry-keeps v ds k)
 
-  follow-keeps : (w : World) (r : Refusal) (follows : ℕ → List Entry) → Keeps w → Keeps (follow w r follows)
-  follow-keeps w (StoppedIn q) follows k = carry-keeps w (follows q.0) k
+  follow-keeps : (w : World) (r : Refusal) (follows : List Entry) → Keeps w → Keeps (follow w r follows)
+  follow-keeps w (StoppedIn q) follows k = carry-keeps w follows k
   follow-keeps w r follows k = k
 
   -- ---- plans
@@ -207,7 +207,7 @@ module _ (s : ℕ) (base : World) where
     last_fuse : (j : Control) → (p.last j).fuse ≡ j.fuse
 
   plan-keeps : (w : World) (p : Plan) → Tables w.control p → Keeps w → Keeps (carried_out w p).0
-  plan-keeps w p tables k = finished (carry (begun w p) p.entries).0 (carry (begun w p) p.entries).1 (carry-keeps (begun w p) p.entries begins)
+  plan-keeps w p tables k = finished (stop_place w p) (carry (begun w p) p.entries).0 (carry (begun w p) p.entries).1 (carry-keeps (begun w p) p.entries begins)
     where
       begins : Keeps (begun w p)
       begins = record {
@@ -216,10 +216,10 @@ module _ (s : ℕ) (base : World) where
         quiet = tables.quiet k.quiet;
       }
 
-      finished : (v : World) (r : Option Refusal) → Keeps v → Keeps (finish p v r)
-      finished v None k = untouched v (record v { control = p.last v.control }) k (tables.last_volumes v.control) (tables.last_volume v.control) refl
+      finished : (n : ℕ) (v : World) (r : Option Refusal) → Keeps v → Keeps (finish p n v r)
+      finished n v None k = untouched v (record v { control = p.last v.control }) k (tables.last_volumes v.control) (tables.last_volume v.control) refl
           (still v (record v { control = p.last v.control }) k.quiet (ap (λ f. f s) (tables.last_on v.control)) (ap (λ f. f s) (tables.last_fuse v.control)))
-      finished v (Some r) k = follow-keeps v r p.follows k
+      finished n v (Some r) k = follow-keeps v r (p.follows n) k
 
   plain : (k : Control) (p : Plan) → ((p.first k).volumes ≡ k.volumes) → ((p.first k).volume ≡ k.volume) → ((p.first k).on ≡ k.on) → ((p.first k).fuse ≡ k.fuse) → ((j : Control) → (p.last j).volumes ≡ j.volumes) → ((j : Control) → (p.last j).volume ≡ j.volume) → ((j : Control) → (p.last j).on ≡ j.on) → ((j : Control) → (p.last j).fuse ≡ j.fuse) → Tables k p
   plain k p volumes volume on fuse last_volumes last_volume last_on last_fuse = record {
@@ -293,7 +293,7 @@ module _ (s : ℕ) (base : World) where
     says-leaves a = by-tables (only_says a) (plain w.control (only_says a) refl refl refl refl (λ j. refl) (λ j. refl) (λ j. refl) (λ j. refl))
 
     arms-leave : (q writes : ℕ) (torn : TornWord) → Leaves (arm_on writes torn q)
-    arms-leave q writes torn = subst (λ (o : Outcome). LeavesVolumes s base (finish (arm_on writes torn q) o.0 o.1)) (sym (carry-none (begun w (arm_on writes torn q)))) (record { volume = k.leaves.volume; contents = k.leaves.contents })
+    arms-leave q writes torn = subst (λ (o : Outcome). LeavesVolumes s base (finish (arm_on writes torn q) 0 o.0 o.1)) (sym (carry-none (begun w (arm_on writes torn q)))) (record { volume = k.leaves.volume; contents = k.leaves.contents })
 
     room-leaves : (b : Bool) (p : Plan) → Leaves p → Leaves (cond b p (refuses JournalFull))
     room-leaves true p leaves = leaves

@@ -30,7 +30,7 @@ use Rattle.dr_model.specs.MessagePlans.{told_begun}
 use Rattle.dr_model.specs.PlantImage.{Volume as Image}
 use Rattle.dr_model.specs.PlanParts.{Plan, name_bytes, server_named, refuses}
 use Rattle.dr_model.proofs.CarryLemmas.{carry-none}
-use Rattle.dr_model.specs.Carried.{begun, finish, carried_out, answered, after_plan}
+use Rattle.dr_model.specs.Carried.{begun, finish, carried_out, answered, after_plan, stop_place}
 use Rattle.dr_model.specs.Forming.{Part, after_part}
 use Rattle.dr_model.specs.Runs.{Task, OwnCourse, Groups, Volumes, Devices, own_course, course_of, course, after_task, after_tasks, run, answered_part, image_plan, image_told, imaged}
 use Rattle.dr_model.specs.Text.{Heard, heard, untold, name_in, told_name}
@@ -127,8 +127,8 @@ unfolding carry
 carry-unnamed w [] = unnamed-same w
 carry-unnamed w (d ∷ ds) = go-unnamed w (d w.control) (λ v. carry v ds) (λ v. carry-unnamed v ds)
 
-follow-unnamed : (w : World) (r : Refusal) (follows : ℕ → List Entry) → Unnamed w (follow w r follows)
-follow-unnamed w (StoppedIn s) follows = carry-unnamed w (follows s.0)
+follow-unnamed : (w : World) (r : Refusal) (follows : List Entry) → Unnamed w (follow w r follows)
+follow-unnamed w (StoppedIn s) follows = carry-unnamed w follows
 follow-unnamed w r follows = unnamed-same w
 
 -- ---- the journal gives each server its name
@@ -155,16 +155,16 @@ pub record PlanUnnamed (k : Control) (p : Plan) : Type 0 where
   first : (p.first k).servers ≡ k.servers
   last : (j : Control) → (p.last j).servers ≡ j.servers
 
-finish-unnamed : (p : Plan) (w : World) (r : Option Refusal) → ((j : Control) → (p.last j).servers ≡ j.servers) → Unnamed w (finish p w r)
-finish-unnamed p w None last = record { servers = last w.control; added = []; told = sym (append-nil w.events); nameless = tt }
-finish-unnamed p w (Some r) last = follow-unnamed w r p.follows
+finish-unnamed : (p : Plan) (n : ℕ) (w : World) (r : Option Refusal) → ((j : Control) → (p.last j).servers ≡ j.servers) → Unnamed w (finish p n w r)
+finish-unnamed p n w None last = record { servers = last w.control; added = []; told = sym (append-nil w.events); nameless = tt }
+finish-unnamed p n w (Some r) last = follow-unnamed w r (p.follows n)
 
 pub plan-unnamed : (w : World) (p : Plan) → PlanUnnamed w.control p → Unnamed w (carried_out w p).0
 plan-unnamed w p u =
     let b : World = begun w p in
     let o : Outcome = carry b p.entries in
     let begins : Unnamed w b = record { servers = u.first; added = p.told; told = refl; nameless = u.told } in
-    unnamed-then w b _ begins (unnamed-then b o.0 _ (carry-unnamed b p.entries) (finish-unnamed p o.0 o.1 u.last))
+    unnamed-then w b _ begins (unnamed-then b o.0 _ (carry-unnamed b p.entries) (finish-unnamed p (stop_place w p) o.0 o.1 u.last))
 
 exchanged-servers : (s server : ℕ) (reply : Bool) (work : phases.Work) (ms : List Member) (j : Control) → (exchanged s server reply work ms j).servers ≡ j.servers
 exchanged-servers s server true work ms j = refl
@@ -195,11 +195,11 @@ case-names k events line asked p c = inl (record { told = tt; first = refl; last
 defined-named : (w : World) (name : Name) → Named w → Named (carried_out w (server_done w.control name)).0
 defined-named w name named s =
     let p : Plan = server_done w.control name in
-    ap (λ (o : Outcome). (fold heard untold (finish p o.0 o.1).events).names s) (carry-none (begun w p))
+    ap (λ (o : Outcome). (fold heard untold (finish p (stop_place w p) o.0 o.1).events).names s) (carry-none (begun w p))
     ∙ ap (λ (h : Heard). h.names s) (heard-append untold w.events p.told)
     ∙ ap (λ o. option_or o (name_in (Server (length w.control.servers) name.len name.bytes) s)) (named s)
     ∙ sym (get-more w.control.servers (name_bytes name) s)
-    ∙ sym (ap (λ (o : Outcome). slice_get (finish p o.0 o.1).control.servers s) (carry-none (begun w p)))
+    ∙ sym (ap (λ (o : Outcome). slice_get (finish p (stop_place w p) o.0 o.1).control.servers s) (carry-none (begun w p)))
 
 plan-named : (w : World) (asked : Result Step ℕ) (p : Plan) → NamesBy w.control asked p → Named w → Named (carried_out w p).0
 plan-named w asked p (inl u) named = named-on w _ (plan-unnamed w p u) named

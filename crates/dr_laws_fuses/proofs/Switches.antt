@@ -24,7 +24,7 @@ use Rattle.dr_model.specs.Refusals.{unknown}
 use Rattle.dr_model.specs.Answers.{answer}
 use Rattle.dr_model.specs.Control.{Control, Fuse, Volume, World, is_volume}
 use Rattle.dr_model.specs.Moves.{Move, Restart, told, told_in_stop, landed, target}
-use Rattle.dr_model.specs.Carry.{Act, Make, Redo, Acknowledge, Pass, Do, Entry, Outcome, act, carry, lower, pass}
+use Rattle.dr_model.specs.Carry.{Act, Make, Redo, Acknowledge, Pass, Do, Entry, Outcome, act, carry, lower, pass, stopped_at}
 use Rattle.dr_model.specs.Carried.{answered, begun, carried_out, finish, masters_lost, said}
 use Rattle.dr_model.specs.Entries.{fields_at, is_at}
 use Rattle.dr_model.specs.WriteEntries.{belongs, redo_on, restart_on, start_entries, start_on_volume}
@@ -329,7 +329,7 @@ module _ (s : ℕ) (w : World) (line : ℕ) (torn : Option (List ℕ)) where
   start-taken =
       let p : Plan = start_plan w.control s in
       let same : answered_part line (record { world = one; plan = p }) ≡ answered_part line (record { world = none; plan = p }) =
-      ap (λ (b : World). let o : Outcome = carry b p.entries in masters_lost w (said (finish p o.0 o.1) line (answered p (finish p o.0 o.1).control o.1))) started-same in
+      ap (λ (b : World). let o : Outcome = carry b p.entries in masters_lost w (said (finish p (stopped_at b p.entries) o.0 o.1) line (answered p (finish p (stopped_at b p.entries) o.0 o.1).control o.1))) started-same in
       let u : World = answered_part line (record { world = none; plan = p }) in
       (u.control.fuse s, same ∙ ap (with_fuses u) (sym (at-itself u.control.fuse s)))
 

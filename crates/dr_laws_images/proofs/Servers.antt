@@ -18,7 +18,7 @@ use Rattle.dr_model.specs.Moves.{target}
 use Rattle.dr_model.specs.Carry.{Act, Make, OpenAttempt, Redo, Acknowledge, Drop, EndFreeze, EndThaw, EndRecovery, act, Next, Pass, Do, End, Entry, Outcome, carry, continue, go, follow}
 use Rattle.dr_model.specs.Plans.{Plan, same, volume_refusal, volume_done, is_foreign}
 use Rattle.dr_model.specs.Forming.{Part}
-use Rattle.dr_model.specs.Runs.{Task, course, begun, finish, carried_out, after_plan, after_task, after_tasks, run}
+use Rattle.dr_model.specs.Runs.{Task, course, begun, finish, carried_out, after_plan, after_task, after_tasks, run, stop_place}
 use Rattle.dr_facts.proofs.Lists.{any-some, found, not-found, is-met}
 use Rattle.dr_facts.proofs.Tables.{at_part}
 use Rattle.dr_laws_sound.proofs.Cases.{Case, Says, DefinesServer, DefinesVolume, SetsLink, Issues, Writes, Applies, Lists, Shows, Stops, Arms, Starts, MakesFlash, RemovesFlash, ResyncsFlash, ReversesFlash, Copies, Destages, MakesPath, RemovesPath, MakesPair, RemovesPair, PausesPair, ResumesPair, FailsOver, FailsBack, Compares, Drains, Expires, Freezes, Unfreezes, MakesSession, RemovesSession, MakesMirror, PausesMirror, RemovesMirror, Aborts, AddsMember, RemovesMember, Exchanges, Sends, Delivers, TakesReply, Loses, Recovers, Settles, one-passed, Releases}
@@ -83,8 +83,8 @@ unfolding carry
 carry-one w [] one = one
 carry-one w (d ∷ ds) one = go-one w (d w.control) (λ v. carry v ds) (λ v. carry-one v ds) one
 
-follow-one : (w : World) (r : Refusal) (follows : ℕ → List Entry) → One w → One (follow w r follows)
-follow-one w (StoppedIn s) follows one = carry-one w (follows s.0) one
+follow-one : (w : World) (r : Refusal) (follows : List Entry) → One w → One (follow w r follows)
+follow-one w (StoppedIn s) follows one = carry-one w follows one
 follow-one w r follows one = one
 
 -- ---- a volume that is defined is on the server of its subsystem
@@ -193,12 +193,12 @@ module _ (k : Control) (events : List Event) (line : ℕ) where
   ending-one _ (OnePlan asked p c) = case-one asked p c
   ending-one _ (Imaged vs) = record { first = λ one. one; last = λ j one. one }
 
-finish-one : (p : Plan) → ((j : Control) → OneServer j → OneServer (p.last j)) → (w : World) (r : Option Refusal) → One w → One (finish p w r)
-finish-one p last w None one = last w.control one
-finish-one p last w (Some r) one = follow-one w r p.follows one
+finish-one : (p : Plan) → ((j : Control) → OneServer j → OneServer (p.last j)) → (n : ℕ) (w : World) (r : Option Refusal) → One w → One (finish p n w r)
+finish-one p last n w None one = last w.control one
+finish-one p last n w (Some r) one = follow-one w r (p.follows n) one
 
 carried-one : (w : World) (p : Plan) → (line : ℕ) → KeepsOne w.control w.events line p → One w → One (carried_out w p).0
-carried-one w p line keeps one = finish-one p keeps.last (carry (begun w p) p.entries).0 (carry (begun w p) p.entries).1 (carry-one (begun w p) p.entries (keeps.first one))
+carried-one w p line keeps one = finish-one p keeps.last (stop_place w p) (carry (begun w p) p.entries).0 (carry (begun w p) p.entries).1 (carry-one (begun w p) p.entries (keeps.first one))
 
 plan-one : (w : World) (p : Plan) → (line : ℕ) → KeepsOne w.control w.events line p → One w → One (after_plan w line p)
 unfolding after_plan

@@ -23,7 +23,7 @@ use Rattle.dr_model.specs.RecoveryPlans.{recover_plan, recover_done, decided_in,
 use Rattle.dr_model.specs.PlanParts.{Plan, same, refuses, unless, on_session}
 use Rattle.dr_model.specs.Plans.{has_room}
 use Rattle.dr_model.specs.Carry.{Act, Make, OpenAttempt, Redo, Acknowledge, Drop, EndFreeze, EndThaw, EndRecovery, Next, Pass, Do, End, Entry, Turn, Outcome, act, carry, continue, go}
-use Rattle.dr_model.specs.Carried.{begun, finish, carried_out, answered, after_plan, masters_lost, losing}
+use Rattle.dr_model.specs.Carried.{begun, finish, carried_out, answered, after_plan, masters_lost, losing, stop_place}
 use Rattle.dr_model.specs.Runs.{after_task}
 use Rattle.dr_model.specs.Laws.{Sound}
 use Rattle.dr_model.specs.Recovery.{decided_over, remains_in}
@@ -115,13 +115,13 @@ said-group : (d e : Decision) (g : Option ℕ) (n : ℕ) → says_group d g ≡ 
 said-group d e None n is = absurd cc
 said-group d e (Some m) n is = cc
 
-ended-control : (q : Plan) → q.last ≡ same → (e : Outcome) → e.1 ≡ None → (finish q e.0 e.1).control ≡ e.0.control
-ended-control q last (v, None) none = ap (λ (f : Control → Control). f v.control) last
-ended-control q last (v, Some r) none = absurd cc
+ended-control : (q : Plan) → q.last ≡ same → (i : ℕ) (e : Outcome) → e.1 ≡ None → (finish q i e.0 e.1).control ≡ e.0.control
+ended-control q last i (v, None) none = ap (λ (f : Control → Control). f v.control) last
+ended-control q last i (v, Some r) none = absurd cc
 
-ended-says : (q : Plan) → q.last ≡ same → (e : Outcome) → e.1 ≡ None → answered q (finish q e.0 e.1).control e.1 ≡ q.says e.0.control
-ended-says q last (v, None) none = ap (λ (f : Control → Control). q.says (f v.control)) last
-ended-says q last (v, Some r) none = absurd cc
+ended-says : (q : Plan) → q.last ≡ same → (i : ℕ) (e : Outcome) → e.1 ≡ None → answered q (finish q i e.0 e.1).control e.1 ≡ q.says e.0.control
+ended-says q last i (v, None) none = ap (λ (f : Control → Control). q.says (f v.control)) last
+ended-says q last i (v, Some r) none = absurd cc
 
 module _ (w : World) (sound : Sound w) (s n : ℕ) (d : Decision) (x : Session) (found : session_in w.control.sessions s ≡ Some x) (running : secondary_refusal x.members w.control ≡ None) where
   abbrev p : Plan
@@ -139,9 +139,9 @@ module _ (w : World) (sound : Sound w) (s n : ℕ) (d : Decision) (x : Session) 
   first-is : p.first ≡ same
   first-is = ap (λ (q : Plan). q.first) p-is
 
-  module _ (none : o.1 ≡ None) (says : answered p (finish p o.0 o.1).control o.1 ≡ Done (AnsweredGroup n d)) where
+  module _ (none : o.1 ≡ None) (says : answered p (finish p (stop_place w p) o.0 o.1).control o.1 ≡ Done (AnsweredGroup n d)) where
     group : (recovered_in w s).group ≡ Some n
-    group = said-group _ d (recovered_in w s).group n (sym (answers-group w sound s x found running none) ∙ (sym (ended-says p last-is o none) ∙ says))
+    group = said-group _ d (recovered_in w s).group n (sym (answers-group w sound s x found running none) ∙ (sym (ended-says p last-is (stop_place w p) o none) ∙ says))
 
     ended : HasRecovered w o.0 s
     ended = has-ended w sound s x found running none
@@ -196,7 +196,7 @@ module _ (w : World) (sound : Sound w) (s n : ℕ) (d : Decision) (x : Session) 
       control = losing w.control.on k;
       contents = (masters_lost w (after_plan w line p)).contents;
       events = (masters_lost w (after_plan w line p)).events;
-    }) s n) (sym (ended-control p last-is o none))
+    }) s n) (sym (ended-control p last-is (stop_place w p) o none))
         (record { number = number-is; on = on-is })
 
 -- ---- any recovery
@@ -217,9 +217,9 @@ module _ (w : World) (sound : Sound w) (s n : ℕ) (d : Decision) where
       run x found running None none = ended-after w sound s n d x found running none says line
       run x found running (Some r) some = refused-never r n d (ill (carry (begun w (recover_plan w.control s)) (recover_plan w.control s).entries).1 some says)
         where
-          ill : (e : Option Refusal) → e ≡ Some r → answered (recover_plan w.control s) (finish (recover_plan w.control s)
+          ill : (e : Option Refusal) → e ≡ Some r → answered (recover_plan w.control s) (finish (recover_plan w.control s) (stop_place w (recover_plan w.control s))
               (carry (begun w (recover_plan w.control s)) (recover_plan w.control s).entries).0 e).control e ≡ Done (AnsweredGroup n d) → Refused r ≡ Done (AnsweredGroup n d)
-          ill e is says = subst (λ e. answered (recover_plan w.control s) (finish (recover_plan w.control s)
+          ill e is says = subst (λ e. answered (recover_plan w.control s) (finish (recover_plan w.control s) (stop_place w (recover_plan w.control s))
               (carry (begun w (recover_plan w.control s)) (recover_plan w.control s).entries).0 e).control e ≡ Done (AnsweredGroup n d)) is says
 
       some : (x : Session) → session_in w.control.sessions s ≡ Some x → (r : Option Refusal) → secondary_refusal x.members w.control ≡ r → HasEnded (masters_lost w (after_plan w line (recover_plan w.control s))) s n

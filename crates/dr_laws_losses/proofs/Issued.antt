@@ -14,7 +14,7 @@ use Rattle.dr_model.specs.Moves.{Hold, target, told, told_in_stop, landed}
 use Rattle.dr_model.specs.Carry.{Act, Make, OpenAttempt, Redo, Acknowledge, Drop, EndFreeze, EndThaw, EndRecovery, Next, Pass, Do, End, Entry, Outcome, act, carry, continue, go, follow}
 use Rattle.dr_model.specs.PlanParts.{Plan, refuses}
 use Rattle.dr_model.specs.Plans.{has_room_for}
-use Rattle.dr_model.specs.Carried.{begun, finish, carried_out, answered, after_plan}
+use Rattle.dr_model.specs.Carried.{begun, finish, carried_out, answered, after_plan, stop_place}
 use Rattle.dr_model.specs.Forming.{Part, after_part}
 use Rattle.dr_model.specs.Runs.{Task, course, image_plan, imaged, after_task}
 use Rattle.dr_facts.proofs.Emits.{by_moves, emitted, stop-onto, all-told}
@@ -82,16 +82,16 @@ unfolding carry
 carry-quietly w [] = quietly-same w
 carry-quietly w (d ∷ ds) = go-quietly w (d w.control) (λ v. carry v ds) (λ v. carry-quietly v ds)
 
-follow-quietly : (w : World) (r : Refusal) (follows : ℕ → List Entry) → Quietly w (follow w r follows)
-follow-quietly w (StoppedIn s) follows = carry-quietly w (follows s.0)
+follow-quietly : (w : World) (r : Refusal) (follows : List Entry) → Quietly w (follow w r follows)
+follow-quietly w (StoppedIn s) follows = carry-quietly w follows
 follow-quietly w r follows = quietly-same w
 
-finish-quietly : (p : Plan) (w : World) (r : Option Refusal) → Quietly w (finish p w r)
-finish-quietly p w None = record { more = []; is = sym (append-nil w.events); none = refl }
-finish-quietly p w (Some r) = follow-quietly w r p.follows
+finish-quietly : (p : Plan) (n : ℕ) (w : World) (r : Option Refusal) → Quietly w (finish p n w r)
+finish-quietly p n w None = record { more = []; is = sym (append-nil w.events); none = refl }
+finish-quietly p n w (Some r) = follow-quietly w r (p.follows n)
 
 carried-quietly : (w : World) (p : Plan) → Quietly (begun w p) (carried_out w p).0
-carried-quietly w p = let o : Outcome = carry (begun w p) p.entries in quietly-then (begun w p) o.0 (finish p o.0 o.1) (carry-quietly (begun w p) p.entries) (finish-quietly p o.0 o.1)
+carried-quietly w p = let o : Outcome = carry (begun w p) p.entries in quietly-then (begun w p) o.0 (finish p (stop_place w p) o.0 o.1) (carry-quietly (begun w p) p.entries) (finish-quietly p (stop_place w p) o.0 o.1)
 
 -- what a step tells: first what its plan tells as it begins, and then nothing of a write that is issued
 pub record TellsFirst (w : World) (t : Task) : Type 0 where

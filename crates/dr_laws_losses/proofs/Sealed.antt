@@ -12,7 +12,7 @@ use Rattle.dr_model.specs.PlanParts.{Plan, same, none_follow}
 use Rattle.dr_model.specs.Phases.{servers_where}
 use Rattle.dr_model.specs.Moves.{Seal}
 use Rattle.dr_model.specs.Carry.{Make, Pass, Do, Outcome, carry, go}
-use Rattle.dr_model.specs.Carried.{begun, finish, answered, said, after_plan, masters_lost}
+use Rattle.dr_model.specs.Carried.{begun, finish, answered, said, after_plan, masters_lost, stop_place}
 use Rattle.dr_model.specs.Runs.{course, after_task}
 use Rattle.dr_model.specs.Messages.{heard}
 use Rattle.dr_model.proofs.CarryLemmas.{carry-first}
@@ -67,7 +67,7 @@ module _ (w : World) (f : MaySeal w) where
 
   answered-is : (e : Outcome) → carry b seals.entries ≡ e → e.1 ≡ None → after_plan w 14 seals ≡ said (record e.0 { control = seals.last e.0.control }) 14 (says_phase 1 (seals.last e.0.control))
   unfolding after_plan
-  answered-is (v, None) is none = ap (λ (e : Outcome). said (finish seals e.0 e.1) 14 (answered seals (finish seals e.0 e.1).control e.1)) is
+  answered-is (v, None) is none = ap (λ (e : Outcome). said (finish seals (stop_place w seals) e.0 e.1) 14 (answered seals (finish seals (stop_place w seals) e.0 e.1).control e.1)) is
   answered-is (v, Some r) is none = absurd cc
 
   pub seal-is : after_task w (exchange 14) ≡ sealed w

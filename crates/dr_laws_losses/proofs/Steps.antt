@@ -26,7 +26,7 @@ use Rattle.dr_model.specs.Carry.{Next, Pass, Do, End, Entry, carry, go, check, f
 use Rattle.dr_model.specs.PairEntries.{refuse_if, end_if, first_differing, make_entries}
 use Rattle.dr_model.specs.PlanParts.{Plan, unless, refuses, only_says, entries_plan, none_follow}
 use Rattle.dr_model.specs.Plans.{plan_of, has_room, has_room_for, issue_refusal, issue_done, write_done, show_refusal, show_done, found_volumes, compare_entries}
-use Rattle.dr_model.specs.Carried.{begun, finish, carried_out, answered, after_plan, masters_lost}
+use Rattle.dr_model.specs.Carried.{begun, finish, carried_out, answered, after_plan, masters_lost, stop_place}
 use Rattle.dr_model.specs.Forming.{Way, formed, form_said}
 use Rattle.dr_model.specs.Runs.{Task, compared, image_told, volume_told, blocks_told, image_plan, imaged, after_task}
 use Rattle.dr_laws_cuts.proofs.Journal.{past-history}
@@ -86,7 +86,7 @@ leave-check ok r ds later = leave-more (check ok r) ds (check-never ok r) later
 leave-refuse : (why : Control → Option Refusal) (ds : List Entry) → LeaveAll ds → LeaveAll (refuse_if why ∷ ds)
 leave-refuse why ds later = leave-more (refuse_if why) ds (refuse-never why) later
 
-leave-follow : (w : World) (r : Refusal) → follow w r none_follow ≡ w
+leave-follow : (w : World) (r : Refusal) → follow w r [] ≡ w
 unfolding carry
 leave-follow w (StoppedIn s) = refl
 leave-follow w r = refl
@@ -94,7 +94,7 @@ leave-follow w r = refl
 leave-carried : (w : World) (ds : List Entry) (s : Said) → LeaveAll ds → (carried_out w (entries_plan ds s)).0 ≡ begun w (entries_plan ds s)
 leave-carried w ds s leave = by (carry (begun w (entries_plan ds s)) ds).1 ∙ leave (begun w (entries_plan ds s))
   where
-    by : (r : Option Refusal) → finish (entries_plan ds s) (carry (begun w (entries_plan ds s)) ds).0 r ≡ (carry (begun w (entries_plan ds s)) ds).0
+    by : (r : Option Refusal) → finish (entries_plan ds s) (stop_place w (entries_plan ds s)) (carry (begun w (entries_plan ds s)) ds).0 r ≡ (carry (begun w (entries_plan ds s)) ds).0
     by None = refl
     by (Some r) = leave-follow (carry (begun w (entries_plan ds s)) ds).0 r
 

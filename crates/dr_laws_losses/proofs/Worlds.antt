@@ -12,10 +12,10 @@ use Rattle.dr_model.specs.Histories.{Write, histories}
 use Rattle.dr_model.specs.Layout.{Fields}
 use Rattle.dr_model.specs.Control.{Control, Fuse, Volume, World}
 use Rattle.dr_model.specs.Moves.{Move, Land, Overwrite, Keep, Fetch, Restore, Store, Mirror, LandBoth, Hold, Carried, settled, settled_in_stop, target, next_fields, carried, told, told_in_stop, landed, keeps_staged, moved_keeping, updated_keeping}
-use Rattle.dr_model.specs.Carry.{lower, burnt, Act, Make, OpenAttempt, Redo, Acknowledge, Drop, EndFreeze, EndThaw, EndRecovery, Next, Pass, Do, End, Entry, Turn, Outcome, Ended, ended, gives_way, gate_at, writes, counts_by, pass, equal, spent, off, update_keeping, finished, cut_short, turn, redo, redo_writes, act, attempt_begun, opened_by, continue, go, carry, follow}
+use Rattle.dr_model.specs.Carry.{lower, burnt, Act, Make, OpenAttempt, Redo, Acknowledge, Drop, EndFreeze, EndThaw, EndRecovery, Next, Pass, Do, End, Entry, Turn, Outcome, Ended, ended, gives_way, gate_at, writes, counts_by, pass, equal, spent, off, update_keeping, finished, cut_short, turn, redo, redo_writes, act, attempt_begun, opened_by, continue, go, carry, follow, stopped_turn, stopped_next, stopped_at}
 use Rattle.dr_model.specs.Sessions.{changed, begun as attempted}
 use Rattle.dr_model.specs.PlanParts.{Plan}
-use Rattle.dr_model.specs.Carried.{begun, finish, carried_out, said, after_plan, losing, masters_lost}
+use Rattle.dr_model.specs.Carried.{begun, finish, carried_out, said, after_plan, losing, masters_lost, stop_place}
 use Rattle.dr_facts.proofs.Emits.{by_moves, emitted, stop-onto, all-told}
 use Rattle.dr_laws_recovery.proofs.OnTracks.{no-issues}
 use Rattle.dr_laws_losses.proofs.Alike.{NoIssue, AlikeEvents, alike-append, alike-same}
@@ -201,8 +201,28 @@ module _ (u : ℕ) where
       subst (λ x. AlikeOutcome (go w (d w.control) (λ v. carry v ds)) (go g x (λ v. carry v ds))) (sym (ap d a.control))
       (go-alike w g (d w.control) (λ v. carry v ds) (λ v h b. carry-alike v h ds b) a)
 
-  follow-alike : (w g : World) (r : Refusal) (follows : ℕ → List Entry) → Alike w g → Alike (follow w r follows) (follow g r follows)
-  follow-alike w g (StoppedIn s) follows a = (carry-alike w g (follows s.0) a).world
+  -- both stop after as many entries
+  turn-place : (w g : World) (t x : Turn) (later : World → ℕ) → AlikeTurn t x → ((w g : World) → Alike w g → later g ≡ later w) → stopped_turn x later ≡ stopped_turn t later
+  turn-place w g (v, s) (h, q) later a each = subst (λ q. stopped_turn (h, q) later ≡ stopped_turn (v, s) later) (sym a.stop) (by s)
+    where
+      by : (s : Option ℕ) → stopped_turn (h, s) later ≡ stopped_turn (v, s) later
+      by None = each v h a.world
+      by (Some s) = refl
+
+  next-place : (w g : World) (x : Next) (later : World → ℕ) → Alike w g → ((w g : World) → Alike w g → later g ≡ later w) → stopped_next g x later ≡ stopped_next w x later
+  next-place w g Pass later a each = each w g a
+  next-place w g (End r) later a each = refl
+  next-place w g (Do d) later a each = turn-place w g (act w d) (act g d) later (act-alike w g a d) each
+
+  place-alike : (w g : World) (ds : List Entry) → Alike w g → stopped_at g ds ≡ stopped_at w ds
+  unfolding stopped_at
+  place-alike w g [] a = refl
+  place-alike w g (d ∷ ds) a =
+      subst (λ x. stopped_next g x (λ v. stopped_at v ds + 1) ≡ stopped_next w (d w.control) (λ v. stopped_at v ds + 1)) (sym (ap d a.control))
+      (next-place w g (d w.control) (λ v. stopped_at v ds + 1) a (λ v h b. ap (λ n. n + 1) (place-alike v h ds b)))
+
+  follow-alike : (w g : World) (r : Refusal) (follows : List Entry) → Alike w g → Alike (follow w r follows) (follow g r follows)
+  follow-alike w g (StoppedIn s) follows a = (carry-alike w g follows a).world
   follow-alike w g r follows a = a
 
   -- ---- plans
@@ -210,19 +230,20 @@ module _ (u : ℕ) where
   abbrev pub with_told : Plan → List Event → Plan
   with_told p told = record p { told = told }
 
-  finish-alike : (p : Plan) (told : List Event) (w g : World) (r : Option Refusal) → Alike w g → Alike (finish p w r) (finish (with_told p told) g r)
-  finish-alike p told w g None a = record { control = ap p.last a.control; events = a.events }
-  finish-alike p told w g (Some r) a = follow-alike w g r p.follows a
+  finish-alike : (p : Plan) (told : List Event) (n : ℕ) (w g : World) (r : Option Refusal) → Alike w g → Alike (finish p n w r) (finish (with_told p told) n g r)
+  finish-alike p told n w g None a = record { control = ap p.last a.control; events = a.events }
+  finish-alike p told n w g (Some r) a = follow-alike w g r (p.follows n) a
 
   -- the plan of the one world is carried out in the other one too, where it may tell other events as it begins
   pub carried-alike : (p : Plan) (told : List Event) (w g : World) → Alike w g → AlikeEvents u p.told told → AlikeOutcome (carried_out w p) (carried_out g (with_told p told))
   carried-alike p told w g a same =
       let q : Plan = with_told p told in
-      let o : AlikeOutcome (carry (begun w p) p.entries) (carry (begun g q) p.entries) =
-      carry-alike (begun w p) (begun g q) p.entries (record { control = ap p.first a.control; events = alike-append u w.events g.events p.told told a.events same }) in
+      let at_begin : Alike (begun w p) (begun g q) = record { control = ap p.first a.control; events = alike-append u w.events g.events p.told told a.events same } in
+      let o : AlikeOutcome (carry (begun w p) p.entries) (carry (begun g q) p.entries) = carry-alike (begun w p) (begun g q) p.entries at_begin in
       record {
-        world = subst (λ r. Alike (finish p (carry (begun w p) p.entries).0 (carry (begun w p) p.entries).1) (finish q (carry (begun g q) p.entries).0 r)) (sym o.refusal)
-            (finish-alike p told (carry (begun w p) p.entries).0 (carry (begun g q) p.entries).0 (carry (begun w p) p.entries).1 o.world);
+        world = subst (λ n. Alike (finish p (stop_place w p) (carry (begun w p) p.entries).0 (carry (begun w p) p.entries).1) (finish q n (carry (begun g q) p.entries).0 (carry (begun g q) p.entries).1)) (sym (place-alike (begun w p) (begun g q) p.entries at_begin))
+            (subst (λ r. Alike (finish p (stop_place w p) (carry (begun w p) p.entries).0 (carry (begun w p) p.entries).1) (finish q (stop_place w p) (carry (begun g q) p.entries).0 r)) (sym o.refusal)
+            (finish-alike p told (stop_place w p) (carry (begun w p) p.entries).0 (carry (begun g q) p.entries).0 (carry (begun w p) p.entries).1 o.world));
         refusal = o.refusal;
       }
 

@@ -139,7 +139,7 @@ module _ (w : World) (s : Sound w) (m : Member) where
       let a : ℕ = m.a.0 in
       let p : Plan = drain_plan w.control a None in
       let b : ℕ = (fields_at w.control a).primary_partner in
-      let went : Went w p.entries (suspend_after a) same p.says (λ k. refl) (part w p).world = part-went w p.entries (suspend_after a) same p.says (λ k. refl) none in
+      let went : Went w p.entries (λ n. suspend_after a) same p.says (λ k. refl) (part w p).world = part-went w p.entries (λ n. suspend_after a) same p.says (λ k. refl) none in
       let dry : SentAll (fields_at (part w p).world.control a) = subst (λ (u : World). SentAll (fields_at u.control a)) (sym went.is) (λ h q c. false_true (drain-empties w s a went.led went.leads q) c) in
       record {
         sound = subst Sound (sym went.after) (sound-part w p (comes-drain w a went.room) s);

@@ -22,7 +22,7 @@ use Rattle.dr_model.specs.RecoveryPlans.{recover_plan, recover_done, decided_in,
 use Rattle.dr_model.specs.PlanParts.{Plan, same, refuses, unless, on_session}
 use Rattle.dr_model.specs.Plans.{has_room, plan}
 use Rattle.dr_model.specs.Carry.{Outcome, carry}
-use Rattle.dr_model.specs.Carried.{begun, finish, carried_out, answered, after_plan}
+use Rattle.dr_model.specs.Carried.{begun, finish, carried_out, answered, after_plan, stop_place}
 use Rattle.dr_model.specs.Runs.{Task, after_task, run}
 use Rattle.dr_model.specs.Laws.{Sound}
 use Rattle.dr_model.specs.Table.{table}
@@ -115,11 +115,11 @@ last-same k s = by (session_in k.sessions s)
     by (Some x) = of x (secondary_refusal x.members k)
 
 -- a plan that isn't refused says what it says, and one that is refused says that
-well-says : (w : World) (p : Plan) → p.last ≡ same → (o : Outcome) → o.1 ≡ None → answered p (finish p o.0 o.1).control o.1 ≡ p.says o.0.control
+well-says : (w : World) (p : Plan) → p.last ≡ same → (o : Outcome) → o.1 ≡ None → answered p (finish p (stop_place w p) o.0 o.1).control o.1 ≡ p.says o.0.control
 well-says w p last (u, None) none = ap (λ (f : Control → Control). p.says (f u.control)) last
 well-says w p last (u, Some r) none = absurd cc
 
-ill-says : (w : World) (p : Plan) (r : Refusal) (o : Outcome) → o.1 ≡ Some r → answered p (finish p o.0 o.1).control o.1 ≡ Refused r
+ill-says : (w : World) (p : Plan) (r : Refusal) (o : Outcome) → o.1 ≡ Some r → answered p (finish p (stop_place w p) o.0 o.1).control o.1 ≡ Refused r
 ill-says w p r (u, None) is = absurd cc
 ill-says w p r (u, Some q) is = let same : q ≡ r = cc in ap (λ r. Refused r) same
 

@@ -94,15 +94,15 @@ module _ (w : World) (W : World → Type 0) (k : Keeping w W) where
       along.ends-weaker k.law k.law k.law W k.may k.gives k.gives k.gives k.keeps armed (λ v q i on is. k.told v _ _ (k.gives v i)) u r (begun w p) p.entries goes.begins goes.entries e
 
   -- where it ends, and as it is answered
-  pub finish-goes : (p : Plan) → Goes p → (u : World) (r : Option Refusal) → W u → W (finish p u r)
+  pub finish-goes : (p : Plan) → Goes p → (n : ℕ) (u : World) (r : Option Refusal) → W u → W (finish p n u r)
   unfolding carry
-  finish-goes p goes u None h = goes.last u h
-  finish-goes p goes u (Some (StoppedIn q)) h = subst (λ ds. W (carry u ds).0) (sym (goes.follows q.0)) h
-  finish-goes p goes u (Some r) h = h
+  finish-goes p goes n u None h = goes.last u h
+  finish-goes p goes n u (Some (StoppedIn q)) h = subst (λ ds. W (carry u ds).0) (sym (goes.follows n)) h
+  finish-goes p goes n u (Some r) h = h
 
   pub goes-after : (p : Plan) → Goes p → (line : ℕ) → W (after_plan w line p)
   unfolding after_plan
-  goes-after p goes line = k.told _ _ _ (finish-goes p goes _ _ (subst (λ ds. W (carry (begun w p) ds).0) (take-length p.entries) (goes-moment p goes (length p.entries))))
+  goes-after p goes line = k.told _ _ _ (finish-goes p goes _ _ _ (subst (λ ds. W (carry (begun w p) ds).0) (take-length p.entries) (goes-moment p goes (length p.entries))))
 
 -- ---- one member after another
 

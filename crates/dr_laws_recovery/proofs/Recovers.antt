@@ -327,8 +327,8 @@ module _ (w : World) (sound : Sound w) (s : ℕ) where
   recover-keeps r = plan-keeps (recover_plan w.control r) (goes-recover r)
 
   -- where it ended, with what follows, where servers may go off by themselves
-  pub recover-stays : (r : ℕ) (armed : ℕ → Bool) (u : World) (o : Option Refusal) → Ends armed u o (begun w (recover_plan w.control r)) (recover_plan w.control r).entries → Same (finish (recover_plan w.control r) u o)
-  recover-stays r armed u o e = let p : Plan = recover_plan w.control r in finish-goes w Same keeping p (goes-recover r) u o (goes-ends w Same keeping p (goes-recover r) armed u o e)
+  pub recover-stays : (r n : ℕ) (armed : ℕ → Bool) (u : World) (o : Option Refusal) → Ends armed u o (begun w (recover_plan w.control r)) (recover_plan w.control r).entries → Same (finish (recover_plan w.control r) n u o)
+  recover-stays r n armed u o e = let p : Plan = recover_plan w.control r in finish-goes w Same keeping p (goes-recover r) n u o (goes-ends w Same keeping p (goes-recover r) armed u o e)
 
   pub hand-keeps : (dev : Option Name) (lets : Decision → Bool) (b : ℕ) → KeepsRecovery w (settle_plan w.control dev lets b) s
   hand-keeps dev lets b = plan-keeps (settle_plan w.control dev lets b) (goes-hand dev lets b)

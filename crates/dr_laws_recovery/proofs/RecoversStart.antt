@@ -9,7 +9,7 @@ use Rattle.dr_model.specs.Moves.{Move, Restart}
 use Rattle.dr_model.specs.Carry.{Act, Make, Redo, Acknowledge, carry}
 use Rattle.dr_model.specs.WriteEntries.{start_entries}
 use Rattle.dr_model.specs.Plans.{acknowledge_on, start_plan, starting}
-use Rattle.dr_model.specs.Runs.{begun, finish, after_plan}
+use Rattle.dr_model.specs.Runs.{begun, finish, after_plan, stop_place}
 use Rattle.dr_model.specs.Laws.{Sound, sizes}
 use Rattle.dr_laws_recovery.specs.Recovered.{recovered_in, SameRecovery, KeepsRecovery}
 use Rattle.dr_laws_sound.proofs.Turns.{done, done_in_stop, after_act}
@@ -66,15 +66,15 @@ module _ (w : World) (sound : Sound w) (x s : ℕ) where
   moment : (n : ℕ) → Same (carry first (take n (start_plan w.control x).entries)).0
   moment n = keeps-recovery w s _ (along.along-moment (Both (starts.Inner x) (Keeps w s)) I I (Keeps w s) (starts.MayStart x) (λ v j. j.1) (λ v j. j.1) (λ v j. j.1) acts first n (start_plan w.control x).entries begins goes)
 
-  ends : (u : World) (r : Option Refusal) → Same u → Same (finish (start_plan w.control x) u r)
+  ends : (n : ℕ) (u : World) (r : Option Refusal) → Same u → Same (finish (start_plan w.control x) n u r)
   unfolding carry
-  ends u None same = same
-  ends u (Some (StoppedIn q)) same = same
-  ends u (Some r) same = same
+  ends n u None same = same
+  ends n u (Some (StoppedIn q)) same = same
+  ends n u (Some r) same = same
 
   after : (line : ℕ) → Same (after_plan w line (start_plan w.control x))
   unfolding after_plan
-  after line = ends _ _ (subst (λ ds. Same (carry first ds).0) (take-length (start_plan w.control x).entries) (moment (length (start_plan w.control x).entries)))
+  after line = ends (stop_place w (start_plan w.control x)) _ _ (subst (λ ds. Same (carry first ds).0) (take-length (start_plan w.control x).entries) (moment (length (start_plan w.control x).entries)))
 
   pub start-keeps : KeepsRecovery w (start_plan w.control x) s
   start-keeps = record {

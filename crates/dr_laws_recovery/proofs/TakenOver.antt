@@ -127,8 +127,8 @@ module _ (w : World) (sound : Sound w) (x : Session) (m : Member) (listed : In x
   -- where it ended, with what follows, where servers may go off by themselves
   pub leaves-carried : (s server : ℕ) (reply : Bool) (armed : ℕ → Bool) (u : World) (r : Option Refusal)
       → let p : Plan = exchange_on w.control s (mirror_in (session_in w.control.sessions s)) server reply (members_in (session_in w.control.sessions s)) in
-      Ends armed u r (begun w p) p.entries → IsLeft w (finish p u r) m
-  leaves-carried s server reply armed u r e =
+      Ends armed u r (begun w p) p.entries → (n : ℕ) → IsLeft w (finish p n u r) m
+  leaves-carried s server reply armed u r e n =
       let p : Plan = asking w.control s server reply in
       let goes = goes-asking w sound LeftAt law s server reply in
-      finish-goes w LeftAt (keeping w sound LeftAt law) p goes u r (goes-ends w LeftAt (keeping w sound LeftAt law) p goes armed u r e)
+      finish-goes w LeftAt (keeping w sound LeftAt law) p goes n u r (goes-ends w LeftAt (keeping w sound LeftAt law) p goes armed u r e)

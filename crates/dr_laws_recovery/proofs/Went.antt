@@ -7,7 +7,7 @@ use Rattle.dr_model.specs.Control.{Control, World, Fuse}
 use Rattle.dr_model.specs.Carry.{Act, Make, OpenAttempt, Next, Pass, Do, End, Entry, Outcome, continue, go, carry}
 use Rattle.dr_model.specs.PairEntries.{refuse_if}
 use Rattle.dr_model.specs.Plans.{Plan, same, has_room}
-use Rattle.dr_model.specs.Carried.{finish, carried_out, answered, masters_lost}
+use Rattle.dr_model.specs.Carried.{finish, carried_out, answered, masters_lost, stop_place}
 use Rattle.dr_model.specs.Forming.{Part, Way, ends, goes_on, refusal_said, after_part, part_refusal, part}
 use Rattle.dr_model.proofs.CarryLemmas.{onward, carry-append}
 use Rattle.dr_facts.proofs.Entries.{any_world, any_reason, why-any, AllFine, FineThen, fine-refuse}
@@ -76,7 +76,7 @@ module _ (w : World) (ds : List Entry) (follows : ℕ → List Entry) (last : Co
     pub after : u ≡ after_part w p
     pub room : has_room w.events ≡ true
 
-  went : (o : Outcome) → carry (as_begun w) ds ≡ o → o.1 ≡ None → has_room w.events ≡ true → Went (masters_lost w (finish p o.0 o.1))
+  went : (o : Outcome) → carry (as_begun w) ds ≡ o → o.1 ≡ None → has_room w.events ≡ true → Went (masters_lost w (finish p (stop_place w p) o.0 o.1))
   went (v, Some r) leads none room = absurd cc
   went (v, None) leads none room = record {
     led = v;
@@ -84,7 +84,7 @@ module _ (w : World) (ds : List Entry) (follows : ℕ → List Entry) (last : Co
     is =
         let u : World = record v { control = last v.control } in
         lost-stays w u (steady v.control ∙ on-stays (as_begun w) v ds leads);
-    after = ap (λ (o : Outcome). masters_lost w (finish p o.0 o.1)) (sym leads);
+    after = ap (λ (o : Outcome). masters_lost w (finish p (stop_place w p) o.0 o.1)) (sym leads);
     room = room;
   }
 

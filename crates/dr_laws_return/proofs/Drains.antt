@@ -19,7 +19,7 @@ use Rattle.dr_model.specs.Carry.{Act, Make, Next, Pass, Do, End, Entry, Outcome,
 use Rattle.dr_model.specs.Entries.{fields_at, is_running, copies_from, copy_first, stands_in, is_revertible, relation_state, pair_state}
 use Rattle.dr_model.specs.PairEntries.{link_down, has_path, are_linked, belongs_to, refuse_if, end_if, send_refusal, suspend_where, flashed_refusal, store_on, strike_on, send_entries, sends, is_copying, tracks_to_send}
 use Rattle.dr_model.specs.Plans.{Plan, refuses, is_defined, has_room, drain_plan}
-use Rattle.dr_model.specs.Carried.{finish, answered}
+use Rattle.dr_model.specs.Carried.{finish, answered, stop_place}
 use Rattle.dr_model.specs.Runs.{Task, run, after_task}
 use Rattle.dr_model.specs.Laws.{Sound}
 use Rattle.dr_model.proofs.CarryLemmas.{act-move, carry-passed}
@@ -237,8 +237,8 @@ module _ (w : World) (s : Sound w) (x y : ℕ) (can : CanDrain w.control x y) wh
     step-ends : EndsOrStops w (after_task w t) x (said_in w t)
     step-ends = by (carry (as_begun w) p.entries) refl drain-ends
       where
-        said_by : (o : Outcome) → carry (as_begun w) p.entries ≡ o → said_in w t ≡ answered p (finish p o.0 o.1).control o.1
-        said_by o is = answers ∙ ap (λ (o : Outcome). answered p (finish p o.0 o.1).control o.1) is
+        said_by : (o : Outcome) → carry (as_begun w) p.entries ≡ o → said_in w t ≡ answered p (finish p (stop_place w p) o.0 o.1).control o.1
+        said_by o is = answers ∙ ap (λ (o : Outcome). answered p (finish p (stop_place w p) o.0 o.1).control o.1) is
 
         by : (o : Outcome) → carry (as_begun w) p.entries ≡ o → EndsSo w x y o → EndsOrStops w (after_task w t) x (said_in w t)
         by (u, None) is h =

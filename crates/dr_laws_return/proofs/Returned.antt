@@ -21,7 +21,7 @@ use Rattle.dr_model.specs.Carry.{Entry, Outcome, carry}
 use Rattle.dr_model.specs.Entries.{fields_at, is_running}
 use Rattle.dr_model.specs.PairEntries.{is_copying, sends, tracks_to_send}
 use Rattle.dr_model.specs.Plans.{Plan, same, refuses, is_defined, has_room, failback_plan, drain_plan}
-use Rattle.dr_model.specs.Carried.{finish, carried_out, answered}
+use Rattle.dr_model.specs.Carried.{finish, carried_out, answered, stop_place}
 use Rattle.dr_model.specs.Runs.{Task, answered_part, after_task, run}
 use Rattle.dr_model.specs.Laws.{Sound}
 use Rattle.dr_model.specs.Allowed.{Runs}
@@ -77,7 +77,7 @@ module _ (w : World) (line : ℕ) (a : Addition) (ds : List Entry) where
       by (u, None) is =
           let after = plan-ends w line p (u, None) is in
           record { led = u; leads = is; volume = ap (λ (x : World). x.control.volume) after; on = ap (λ (x : World). x.control.on) after }
-      by (u, Some r) is = let bad : Refused r ≡ Done a = sym (ap (λ (o : Outcome). answered p (finish p o.0 o.1).control o.1) is) ∙ h in absurd cc
+      by (u, Some r) is = let bad : Refused r ≡ Done a = sym (ap (λ (o : Outcome). answered p (finish p (stop_place w p) o.0 o.1).control o.1) is) ∙ h in absurd cc
 
   step-goes : (p : Plan) → Goes p → Goes (cond (has_room w.events) p (refuses JournalFull))
   step-goes p goes = if-plan Goes refused-goes (has_room w.events) p (refuses JournalFull) goes (refused-goes JournalFull)

@@ -7,7 +7,7 @@ use Rattle.std.proofs.lemmas.Result.{IfOk-at_ok}
 use Rattle.dr_model.specs.declared.step.Name.{Name}
 use Rattle.dr_model.specs.declared.step.Step.{Step}
 use Rattle.dr_model.specs.declared.step.Step.TheVariants.{Server}
-use Rattle.dr_model.specs.Carried.{begun, finish, carried_out, after_plan}
+use Rattle.dr_model.specs.Carried.{begun, finish, carried_out, after_plan, stop_place}
 use Rattle.dr_model.specs.Carry.{Outcome}
 use Rattle.dr_model.specs.Control.{World, nothing}
 use Rattle.dr_model.specs.Forming.{Part, after_part}
@@ -51,7 +51,7 @@ defined-said : (w : World) (name : Name) → name_fits name ≡ true → AllSaid
 defined-said w name fits said s bytes at =
     let p : Plan = server_done w.control name in
     more-said w.control.servers (name_bytes name) (name-said name fits) said s bytes
-    (sym (ap (λ (o : Outcome). slice_get (finish p o.0 o.1).control.servers s) (carry-none (begun w p))) ∙ at)
+    (sym (ap (λ (o : Outcome). slice_get (finish p (stop_place w p) o.0 o.1).control.servers s) (carry-none (begun w p))) ∙ at)
 
 -- ---- plans
 

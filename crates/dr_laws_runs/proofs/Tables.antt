@@ -6,7 +6,7 @@ use Rattle.dr_ids.specs.declared.refusal.Refusal.{Refusal}
 use Rattle.dr_ids.specs.declared.refusal.Refusal.TheVariants.{Stopped as StoppedIn, JournalFull}
 use Rattle.dr_model.specs.Control.{Fuse, World}
 use Rattle.dr_model.specs.Carry.{Act, Make, OpenAttempt, Redo, Acknowledge, Drop, EndFreeze, EndThaw, EndRecovery, Turn, Next, Pass, Do, End, Entry, Outcome, act, continue, go, carry, follow}
-use Rattle.dr_model.specs.Carried.{begun, finish, carried_out}
+use Rattle.dr_model.specs.Carried.{begun, finish, carried_out, stop_place}
 use Rattle.dr_model.specs.PairEntries.{is_copying}
 use Rattle.dr_model.specs.PlanParts.{Plan}
 use Rattle.dr_model.specs.Plans.{drain_plan, has_room}
@@ -92,8 +92,8 @@ unfolding carry
 carry-tables w [] = same-tables w
 carry-tables w (d ∷ ds) = go-tables w (d w.control) (λ v. carry v ds) (λ v. carry-tables v ds)
 
-follow-tables : (w : World) (r : Refusal) (follows : ℕ → List Entry) → SameTables w (follow w r follows)
-follow-tables w (StoppedIn s) follows = carry-tables w (follows s.0)
+follow-tables : (w : World) (r : Refusal) (follows : List Entry) → SameTables w (follow w r follows)
+follow-tables w (StoppedIn s) follows = carry-tables w follows
 follow-tables w r follows = same-tables w
 
 -- ---- a drain
@@ -102,15 +102,15 @@ module _ (w : World) (a : ℕ) where
   abbrev p : Plan
   p = drain_plan w.control a None
 
-  finished : (u : World) (r : Option Refusal) → SameTables u (finish p u r)
-  finished u None = record { servers = refl; defined = λ s. refl }
-  finished u (Some r) = follow-tables u r p.follows
+  finished : (n : ℕ) (u : World) (r : Option Refusal) → SameTables u (finish p n u r)
+  finished n u None = record { servers = refl; defined = λ s. refl }
+  finished n u (Some r) = follow-tables u r (p.follows n)
 
   carried-tables : SameTables w (carried_out w p).0
   carried-tables =
       let b : World = begun w p in
       let o : Outcome = carry b p.entries in
-      then-tables w b _ (record { servers = refl; defined = λ s. refl }) (then-tables b o.0 _ (carry-tables b p.entries) (finished o.0 o.1))
+      then-tables w b _ (record { servers = refl; defined = λ s. refl }) (then-tables b o.0 _ (carry-tables b p.entries) (finished (stop_place w p) o.0 o.1))
 
   drained-tables : SameTables w (after_part w p)
   drained-tables =

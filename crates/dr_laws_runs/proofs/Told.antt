@@ -1,5 +1,5 @@
 -- Worlds that differ in journals alone, which tell the same histories: what is carried out in both tells the same.
-use Rattle.std.proofs.Common.{ℕ, ◌≡◌, refl, ap, ◌∙◌, sym, subst, append_assoc, Bool, true, false, cond, not, List, [], ◌∷◌, ◌++◌, drop, length, Option, Some, None}
+use Rattle.std.proofs.Common.{ℕ, ◌≡◌, refl, ap, ◌∙◌, sym, subst, append_assoc, Bool, true, false, cond, not, List, [], ◌∷◌, ◌++◌, drop, length, Option, Some, None, ◌+◌}
 use Rattle.std.proofs.Math.Seq.{drop-append_seam}
 use Rattle.std.proofs.lemmas.List.{append-nil}
 use Rattle.std.specs.List.{fold}
@@ -12,7 +12,7 @@ use Rattle.dr_model.specs.Histories.{Histories, histories, after_event}
 use Rattle.dr_model.specs.Layout.{Fields}
 use Rattle.dr_model.specs.Control.{Volume, World}
 use Rattle.dr_model.specs.Moves.{Move, Hold, Carried, target, next_fields, carried, keeps_staged, updated_keeping, told, told_in_stop, landed}
-use Rattle.dr_model.specs.Carry.{Act, Make, OpenAttempt, Redo, Acknowledge, Drop, EndFreeze, EndThaw, EndRecovery, Turn, Ended, ended, Next, Pass, Do, End, Entry, Outcome, turn, redo, redo_ended, redo_writes, act, continue, go, carry, follow, spent, off, pass, counts_by, writes, gate_at, equal, attempt_begun, opened_by, update_keeping, finished, cut_short, dropped}
+use Rattle.dr_model.specs.Carry.{Act, Make, OpenAttempt, Redo, Acknowledge, Drop, EndFreeze, EndThaw, EndRecovery, Turn, Ended, ended, Next, Pass, Do, End, Entry, Outcome, turn, redo, redo_ended, redo_writes, act, continue, go, carry, follow, spent, off, pass, counts_by, writes, gate_at, equal, attempt_begun, opened_by, update_keeping, finished, cut_short, dropped, stopped_turn, stopped_next, stopped_at}
 use Rattle.dr_model.specs.PlanParts.{Plan}
 use Rattle.dr_model.specs.Carried.{begun, finish, carried_out}
 use Rattle.dr_model.proofs.Images.{histories-append}
@@ -155,16 +155,31 @@ unfolding carry
 carry-same w es [] alike = same-nothing es w w None refl
 carry-same w es (d ∷ ds) alike = go-same w es (d w.control) (λ v. carry v ds) alike (λ v fs alike. carry-same v fs ds alike)
 
-follow-same : (w : World) (es : List Event) (r : Refusal) (follows : ℕ → List Entry) → TellAlike es w → Same es w (follow w r follows, Some r) (follow (with_events w es) r follows, Some r)
-follow-same w es (StoppedIn s) follows alike = by (carry-same w es (follows s.0) alike)
+-- both stop after as many entries
+turn-place : (w : World) (es : List Event) (t s : Turn) (later : World → ℕ) → TellAlike es w → Same es w t s → ((v : World) (fs : List Event) → TellAlike fs v → later (with_events v fs) ≡ later v) → stopped_turn s later ≡ stopped_turn t later
+turn-place w es (v, None) s later alike same rest = subst (λ s. stopped_turn s later ≡ later v) (sym same.is) (rest v (es ++ same.on.more) (alike-on w v es same.on alike))
+turn-place w es (v, Some q) s later alike same rest = subst (λ s. stopped_turn s later ≡ 0) (sym same.is) refl
+
+next-place : (w : World) (es : List Event) (x : Next) (later : World → ℕ) → TellAlike es w → ((v : World) (fs : List Event) → TellAlike fs v → later (with_events v fs) ≡ later v) → stopped_next (with_events w es) x later ≡ stopped_next w x later
+next-place w es Pass later alike rest = rest w es alike
+next-place w es (End r) later alike rest = refl
+next-place w es (Do a) later alike rest = turn-place w es (act w a) (act (with_events w es) a) later alike (act-same w es a alike) rest
+
+place-same : (w : World) (es : List Event) (ds : List Entry) → TellAlike es w → stopped_at (with_events w es) ds ≡ stopped_at w ds
+unfolding stopped_at
+place-same w es [] alike = refl
+place-same w es (d ∷ ds) alike = next-place w es (d w.control) (λ v. stopped_at v ds + 1) alike (λ v fs alike. ap (λ n. n + 1) (place-same v fs ds alike))
+
+follow-same : (w : World) (es : List Event) (r : Refusal) (follows : List Entry) → TellAlike es w → Same es w (follow w r follows, Some r) (follow (with_events w es) r follows, Some r)
+follow-same w es (StoppedIn s) follows alike = by (carry-same w es follows alike)
   where
-    by : Same es w (carry w (follows s.0)) (carry (with_events w es) (follows s.0)) → Same es w ((carry w (follows s.0)).0, Some (StoppedIn s)) ((carry (with_events w es) (follows s.0)).0, Some (StoppedIn s))
+    by : Same es w (carry w follows) (carry (with_events w es) follows) → Same es w ((carry w follows).0, Some (StoppedIn s)) ((carry (with_events w es) follows).0, Some (StoppedIn s))
     by same = record { on = same.on; is = ap (λ (o : Outcome). (o.0, Some (StoppedIn s))) same.is }
 follow-same w es r follows alike = same-nothing es w w (Some r) refl
 
-finish-same : (p : Plan) (w : World) (es : List Event) (r : Option Refusal) → TellAlike es w → Same es w (finish p w r, r) (finish p (with_events w es) r, r)
-finish-same p w es None alike = same-nothing es w (record w { control = p.last w.control }) None refl
-finish-same p w es (Some r) alike = follow-same w es r p.follows alike
+finish-same : (p : Plan) (n : ℕ) (w : World) (es : List Event) (r : Option Refusal) → TellAlike es w → Same es w (finish p n w r, r) (finish p n (with_events w es) r, r)
+finish-same p n w es None alike = same-nothing es w (record w { control = p.last w.control }) None refl
+finish-same p n w es (Some r) alike = follow-same w es r (p.follows n) alike
 
 -- a plan
 pub plan-same : (w : World) (es : List Event) (p : Plan) → TellAlike es w → Same es w (carried_out w p) (carried_out (with_events w es) p)
@@ -173,9 +188,10 @@ plan-same w es p alike =
     let begins : GoesOn w b = record { more = p.told; is = refl } in
     let fs : List Event = es ++ p.told in
     let at_begin : TellAlike fs b = alike-on w b es begins alike in
-    then-same w b es begins _ _ (by (carry b p.entries) (carry (with_events b fs) p.entries) at_begin (carry-same b fs p.entries at_begin))
+    then-same w b es begins _ _ (subst (λ n. Same fs b (carried_out w p) (finish p n (carry (with_events b fs) p.entries).0 (carry (with_events b fs) p.entries).1, (carry (with_events b fs) p.entries).1)) (sym (place-same b fs p.entries at_begin))
+    (by (carry b p.entries) (carry (with_events b fs) p.entries) at_begin (carry-same b fs p.entries at_begin)))
   where
-    by : (o q : Outcome) → TellAlike (es ++ p.told) (begun w p) → Same (es ++ p.told) (begun w p) o q → Same (es ++ p.told) (begun w p) (finish p o.0 o.1, o.1) (finish p q.0 q.1, q.1)
+    by : (o q : Outcome) → TellAlike (es ++ p.told) (begun w p) → Same (es ++ p.told) (begun w p) o q → Same (es ++ p.told) (begun w p) (finish p (stopped_at (begun w p) p.entries) o.0 o.1, o.1) (finish p (stopped_at (begun w p) p.entries) q.0 q.1, q.1)
     by o q alike same =
-        subst (λ q. Same (es ++ p.told) (begun w p) (finish p o.0 o.1, o.1) (finish p q.0 q.1, q.1)) (sym same.is)
-        (then-same (begun w p) o.0 (es ++ p.told) same.on _ _ (finish-same p o.0 ((es ++ p.told) ++ same.on.more) o.1 (alike-on (begun w p) o.0 (es ++ p.told) same.on alike)))
+        subst (λ q. Same (es ++ p.told) (begun w p) (finish p (stopped_at (begun w p) p.entries) o.0 o.1, o.1) (finish p (stopped_at (begun w p) p.entries) q.0 q.1, q.1)) (sym same.is)
+        (then-same (begun w p) o.0 (es ++ p.told) same.on _ _ (finish-same p (stopped_at (begun w p) p.entries) o.0 ((es ++ p.told) ++ same.on.more) o.1 (alike-on (begun w p) o.0 (es ++ p.told) same.on alike)))

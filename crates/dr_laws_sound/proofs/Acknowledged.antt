@@ -26,7 +26,7 @@ use Rattle.dr_model.specs.WriteEntries.{partner_of, is_grouped, is_parted, land_
 use Rattle.dr_model.specs.PlanParts.{Plan, only_says, refuses, server_named, name_bytes}
 use Rattle.dr_model.specs.Plans.{plan, plan_of, has_room, has_room_for, issue_refusal, write_done, apply_done, apply_on, landed_on, acknowledge_if, acknowledge_on, says_acked, start_plan, start_on, compare_plan}
 use Rattle.dr_model.specs.Forming.{Part, formed, form_said}
-use Rattle.dr_model.specs.Runs.{Task, course, begun, finish, carried_out, answered, said, after_plan, run, own_course, compared, image_plan, image_told, imaged}
+use Rattle.dr_model.specs.Runs.{Task, course, begun, finish, stop_place, carried_out, answered, said, after_plan, run, own_course, compared, image_plan, image_told, imaged}
 use Rattle.dr_model.specs.Limits.{image_events}
 use Rattle.dr_laws_sound.proofs.Listed.{image-lines}
 use Rattle.dr_model.specs.Sessions.{session_in}
@@ -354,8 +354,8 @@ module _ (k : Control) (n v t : ℕ) where
       (drop-told w n (is_open v) _ _ _ refl
       (drop-told w n (is_settled v) (relation_state k v) _ _ refl (entries-told w runs))))
 
-  after-unacknowledged : (s : ℕ) → AllAcknowledgeNothing true (after_write k v t s)
-  after-unacknowledged s = after_write-fine any_world (λ w a. AcknowledgesNothing true a) any_reason k v t s (λ busy w any. refl)
+  after-unacknowledged : (s : ℕ) → AllAcknowledgeNothing true (after_write k n v t s)
+  after-unacknowledged s = after_write-fine any_world (λ w a. AcknowledgesNothing true a) any_reason k n v t s (λ busy w any. refl)
 
 -- ---- a server starts
 
@@ -379,16 +379,16 @@ starting-told w s vs = then-told w (start_entries s vs) (acknowledge_on s ∷ []
 
 -- ---- plans
 
-follow-told : (no_cuts : Bool) (w u : World) (r : Refusal) (follows : ℕ → List Entry) → ((s : ℕ) → AllAcknowledgeNothing no_cuts (follows s)) → NothingAcknowledged no_cuts u (follow u r follows)
-follow-told no_cuts w u (StoppedIn s) follows nothing = (carry-unacknowledged no_cuts u (follows s.0) (nothing s.0)).since
-follow-told no_cuts w u r follows nothing = since-same no_cuts u
+follow-told : (no_cuts : Bool) (w u : World) (r : Refusal) (follows : ℕ → List Entry) → ((s : ℕ) → AllAcknowledgeNothing no_cuts (follows s)) → (n : ℕ) → NothingAcknowledged no_cuts u (follow u r (follows n))
+follow-told no_cuts w u (StoppedIn s) follows nothing n = (carry-unacknowledged no_cuts u (follows n) (nothing n)).since
+follow-told no_cuts w u r follows nothing n = since-same no_cuts u
 
 -- what a plan tells before its answer where its entries end so, and what it leaves pending
 record TellsAt (w : World) (p : Plan) (ns : List ℕ) (o : Outcome) : Type 0 where
   told : List Event
-  events : (finish p o.0 o.1).events ≡ w.events ++ told
+  events : (finish p (stop_place w p) o.0 o.1).events ≡ w.events ++ told
   acks : acknowledgements told ≡ if_well o.1 ns
-  kept : ns ≡ [] → o.1 ≡ None → (finish p o.0 o.1).control.pending ≡ (p.first w.control).pending
+  kept : ns ≡ [] → o.1 ≡ None → (finish p (stop_place w p) o.0 o.1).control.pending ≡ (p.first w.control).pending
   uncut : cuts_any told ≡ false
   way : Settles told
 
@@ -405,7 +405,7 @@ plan-told w p ns first follows last (u, None) t = record {
   way = settles-first p.told t.added first.plain t.way;
 }
 plan-told w p ns first follows last (u, Some r) t =
-    let m : NothingAcknowledged true u (follow u r p.follows) = follow-told true w u r p.follows follows in
+    let m : NothingAcknowledged true u (follow u r (p.follows (stop_place w p))) = follow-told true w u r p.follows follows (stop_place w p) in
     record {
       told = p.told ++ (t.added ++ m.added);
       events = m.events ∙ ap (λ es. es ++ m.added) t.events ∙ append_assoc (w.events ++ p.told) t.added m.added ∙ append_assoc w.events p.told (t.added ++ m.added);
@@ -456,7 +456,7 @@ refused-answers asked none w r =
     let m : NothingAcknowledged false w (carried_out w (refuses r)).0 = (says-unacknowledged w (Refused r) (refused-not r)).since in
     record { told = m.added; events = m.events; acks = m.silent.none ∙ sym (by (carry (begun w (refuses r)) []) (carry-none (begun w (refuses r)))); held = λ n e. absurd (answered-not (refuses r) (carried_out w (refuses r)).0.control (carried_out w (refuses r)).1 (λ k. refused-not r) n e); way = inl m.silent.plain }
   where
-    by : (o : Outcome) → o ≡ (begun w (refuses r), None) → acknowledged_by asked (answered (refuses r) (finish (refuses r) o.0 o.1).control o.1) ≡ []
+    by : (o : Outcome) → o ≡ (begun w (refuses r), None) → acknowledged_by asked (answered (refuses r) (finish (refuses r) (stop_place w (refuses r)) o.0 o.1).control o.1) ≡ []
     by (u, None) is = none r
     by (u, Some q) is = none q
 
@@ -466,7 +466,7 @@ module _ (asked : Result Step ℕ) (is : (said : Said) → acknowledged_by asked
   wrote-refused r = is (Refused r)
 
   module _ (w : World) (k : Control) (n v t : ℕ) (p : Plan) (says : (j : Control) → p.says j ≡ says_written k n v t) (pending : IsUnlanded (p.first w.control) n) where
-    written : (o : Outcome) (b : Bool) → waits k v t ≡ b → TellsAt w p (cond b [] (n ∷ [])) o → (u : World) → u ≡ finish p o.0 o.1 →
+    written : (o : Outcome) (b : Bool) → waits k v t ≡ b → TellsAt w p (cond b [] (n ∷ [])) o → (u : World) → u ≡ finish p (stop_place w p) o.0 o.1 →
         let said : Said = answered p u.control o.1 in (told : List Event) × ((u.events ≡ w.events ++ told) × ((acknowledgements told ≡ wrote said) × (((i : ℕ) → said ≡ Held i → IsUnlanded u.control i × (acknowledgements told ≡ [])) × StepWay told)))
     written (x, None) true e t u is =
         let said : p.says u.control ≡ Held n = says u.control ∙ ap (λ b. cond b (Held n) (Done (Wrote n))) e in
@@ -514,7 +514,7 @@ module _ (w : World) (name : Name) (s : ℕ) where
   says-not None = done-not Alone
   says-not (Some n) = done-not (Acked n)
 
-  acks-at : (o : Outcome) → if_well o.1 (one_or_none (landed_on w.control s)) ≡ acked (answered starts (finish starts o.0 o.1).control o.1)
+  acks-at : (o : Outcome) → if_well o.1 (one_or_none (landed_on w.control s)) ≡ acked (answered starts (finish starts (stop_place w starts) o.0 o.1).control o.1)
   acks-at (u, None) = sym (says-one (landed_on w.control s))
   acks-at (u, Some r) = refl
 
@@ -550,7 +550,7 @@ module _ (w : World) (line : ℕ) where
           let m : NothingAcknowledged false w (carried_out w p).0 = (says-unacknowledged w (Done Alone) (done-not Alone)).since in
           record { told = m.added; events = m.events; acks = m.silent.none ∙ sym (none (carry (begun w p) [])); held = λ n e. absurd (answered-not p (carried_out w p).0.control (carried_out w p).1 (λ k. done-not Alone) n e); way = inl m.silent.plain }
         where
-          none : (o : Outcome) → acked (answered (only_says (Done Alone)) (finish (only_says (Done Alone)) o.0 o.1).control o.1) ≡ []
+          none : (o : Outcome) → acked (answered (only_says (Done Alone)) (finish (only_says (Done Alone)) (stop_place w (only_says (Done Alone))) o.0 o.1).control o.1) ≡ []
           none (u, None) = refl
           none (u, Some r) = refl
   step-answers step alone = unacknowledged-answers (Ok step) (λ said. other-none step said refl) w (plan_of w.control w.events line step) (case-unacknowledged w line (Ok step) (plan_of w.control w.events line step) (of-case w.control w.events line step) refl)

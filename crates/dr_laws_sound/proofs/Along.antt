@@ -196,13 +196,13 @@ module _ (I W : World → Type 0) (May : World → Act → Type 0) where
     ends-either w None i = i
     ends-either w (Some r) i = i
 
-    finish-keeps : (w v : World) (p : Plan) (r : Option Refusal) → (holds : Holds w p) → EndedBy holds.inner I holds.ends holds.may v r → I (finish p v r)
-    finish-keeps w v p None holds i = holds.last v i
-    finish-keeps w v p (Some (StoppedIn s)) holds i = ends-either _ _ (along I I I May each v (p.follows s.0) i (holds.follows s.0 v i))
-    finish-keeps w v p (Some r) holds i = i
+    finish-keeps : (w v : World) (p : Plan) (n : ℕ) (r : Option Refusal) → (holds : Holds w p) → EndedBy holds.inner I holds.ends holds.may v r → I (finish p n v r)
+    finish-keeps w v p n None holds i = holds.last v i
+    finish-keeps w v p n (Some (StoppedIn s)) holds i = ends-either _ _ (along I I I May each v (p.follows n) i (holds.follows n v i))
+    finish-keeps w v p n (Some r) holds i = i
 
     pub plan-keeps : (w : World) (p : Plan) → Holds w p → I (carried_out w p).0
-    plan-keeps w p holds = finish-keeps w _ p _ holds (along holds.inner I holds.ends holds.may holds.keeps (begun w p) p.entries holds.begins holds.entries)
+    plan-keeps w p holds = finish-keeps w _ p _ _ holds (along holds.inner I holds.ends holds.may holds.keeps (begun w p) p.entries holds.begins holds.entries)
 
     pub plan-moment : (w : World) (p : Plan) (n : ℕ) → Holds w p → W (carry (begun w p) (take n p.entries)).0
     plan-moment w p n holds = along-moment holds.inner I holds.ends W holds.may holds.within outer holds.complete holds.keeps (begun w p) n p.entries holds.begins holds.entries

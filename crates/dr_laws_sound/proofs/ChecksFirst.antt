@@ -83,7 +83,7 @@ pub first-leads : (w u : World) (ds : List Entry) (r : Refusal) → ChecksFirst 
 first-leads w u ds r first leads other = sym (ap (λ (o : Outcome). o.0) leads) ∙ carry-untouched any_act any_reason never (λ r h. h) w ds (first w) r (ap (λ (o : Outcome). o.1) leads) other
 
 -- nothing follows such a refusal
-pub follow-stays : (w : World) (r : Refusal) (follows : ℕ → List Entry) → refused_stop (Some r) ≡ None → follow w r follows ≡ w
+pub follow-stays : (w : World) (r : Refusal) (follows : List Entry) → refused_stop (Some r) ≡ None → follow w r follows ≡ w
 follow-stays w (StoppedIn s) follows other = absurd cc
 follow-stays w _ follows other = refl
 

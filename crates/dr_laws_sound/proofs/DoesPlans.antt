@@ -108,8 +108,8 @@ module _ (k : Control) (asked : Result Step ℕ) where
   dropping : (n v t : ℕ) → refuses_late asked ≡ true → IsWrite k asked n v t → (ok : Control → Bool) (r : Refusal) (ds : List Entry) → NoStop r → All ds → All (check_or_drop n ok r ++ ds)
   dropping n v t so is ok r ds why rest = fine-drop any_world (Acts k asked) (Late asked) n ok r ds (λ u any. does.Drops n v t is) (record { late = so; why = why }) rest
 
-  followed : (v t s : ℕ) → All (after_write k v t s)
-  followed v t s = after_write-fine any_world (Acts k asked) (Late asked) k v t s (λ busy u any. does.Suspends v busy)
+  followed : (n v t s : ℕ) → All (after_write k n v t s)
+  followed n v t s = after_write-fine any_world (Acts k asked) (Late asked) k n v t s (λ busy u any. does.Suspends v busy)
 
   -- an order
   ordering : refuses_late asked ≡ true → (work : phases.Work) (s n : ℕ) (ms : List Member) → ((m : Member) → In m ms → IsOrder k asked s m) → All (order_entries work s n ms)
@@ -196,8 +196,8 @@ module _ (w : World) where
   case-does line _ _ (DefinesVolume v s tracks here free) = tables _ _ _ _ _
   case-does line _ _ (SetsLink a b up) = tables _ _ _ _ _
   case-does line _ _ (Issues v t offset len bytes free) = tables _ _ _ _ _
-  case-does line _ _ (Writes v t offset len bytes free) = record { entries = writing c _ _ (c.issued + 1) v t refl (Issued v t offset len bytes); follows = followed c _ v t }
-  case-does line _ _ (Applies n p found) = record { entries = writing c _ _ p.w p.volume p.track refl (Found n p found); follows = followed c _ p.volume p.track }
+  case-does line _ _ (Writes v t offset len bytes free) = record { entries = writing c _ _ (c.issued + 1) v t refl (Issued v t offset len bytes); follows = followed c _ (c.issued + 1) v t }
+  case-does line _ _ (Applies n p found) = record { entries = writing c _ _ p.w p.volume p.track refl (Found n p found); follows = followed c _ p.w p.volume p.track }
   case-does line _ _ (Lists told ls few) = tables _ _ _ _ _
   case-does line _ _ (Shows v t there) = tables _ _ _ _ _
   case-does line _ _ (Stops s on) = tables _ _ _ _ _

@@ -2,6 +2,7 @@
 use Rattle.std.proofs.Common.{ℕ, zero, suc, ◌≡◌, ◌≤◌, ◌+◌, ◌*◌, List, [], ◌∷◌, ◌++◌, length, map, refl, arith, Bool, true, false, cond, Option, Some, None}
 use Rattle.std.specs.List.{flat_map}
 use Rattle.std.proofs.lemmas.List.{length-append, length-map}
+use Rattle.dr_facts.proofs.WriteStops.{after-any}
 use Rattle.dr_ids.specs.declared.names.Member.{Member}
 use Rattle.dr_ids.specs.declared.refusal.Decision.{Decision}
 use Rattle.dr_logic.proofs.Lists.{filter-shorter}
@@ -75,8 +76,8 @@ module _ (k : Control) (few : length k.volumes ≤ 64) (n v t : ℕ) where
       (choice-length 132 (is_parted k v) (land_parted k n v t) (land_mirrored k.volumes n v t (partner_of k v)) parted-length (mirrored-length (partner_of k v)))
       (choice-length 132 (collides (fields_at k v) t) (land_collided k n v t) (land_alone k.volumes n v t) (collided-length (partner_of k v)) (omega arith))) in omega arith
 
-pub after_write-length : (k : Control) (v t s : ℕ) → length (after_write k v t s) ≤ 1
-after_write-length k v t s = choice-length 1 (collides (fields_at k v) t) _ _ (omega arith) (omega arith)
+pub after_write-length : (k : Control) (n v t s : ℕ) → length (after_write k n v t s) ≤ 1
+after_write-length k n v t s = after-any (λ es. length es ≤ 1) k n v t s (omega arith) (omega arith)
 
 -- ---- starts, orders and recoveries
 

@@ -223,7 +223,7 @@ module _ (volumes : List ℕ) (a b n : ℕ) where
   sends-all (t ∷ ts) low once w s x out = sends-one t low.0 ts once.0 (sends volumes a b ts) (λ k y z out. sends-all ts low.1 once.1 k y z out) w s x out
 
 -- where a server stopped, the primary is suspended
-pub suspends-after : (a server : ℕ) (w : World) → Sound w → Along w (suspend_after a server)
+pub suspends-after : (a server : ℕ) (w : World) → Sound w → Along w (suspend_after a)
 suspends-after a server w s = decides w (suspend_running a) [] _ refl (by _ refl)
   where
     by : (c : Bool) → (is_part (fields_at w.control a).primary && is_running a w.control) ≡ c → Then w (cond c (Do (Make (Suspend a false))) Pass) (λ v. Along v [])

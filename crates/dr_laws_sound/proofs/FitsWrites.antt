@@ -2,6 +2,7 @@
 use Rattle.std.proofs.Common.{ℕ, ◌≡◌, ◌≢◌, ◌<◌, refl, ap, sym, ◌∙◌, subst, Bool, true, false, cond, ◌&&◌, List, [], ◌∷◌, ◌++◌, append_assoc, filter, Option, Some, None}
 use Rattle.std.proofs.lemmas.Bool.{and_parts, eq-eqb, not-true}
 use Rattle.std.specs.FinSet.{contains}
+use Rattle.dr_facts.proofs.WriteStops.{after-any}
 use Rattle.dr_model.specs.declared.event.Event.TheVariants.{Mirrored}
 use Rattle.dr_model.specs.declared.state.Part.TheVariants.{Global}
 use Rattle.dr_model.specs.Contents.{with_write}
@@ -247,17 +248,13 @@ lands w s p one =
     lands-by w s p one on (not-true (is_part f.secondary) free) open_to settled (held f) (goes_over f p.track) (collides f p.track) refl refl refl))))
 
 -- where a server stopped in it, a primary whose own server runs is suspended
-pub parts-after : (v server : ℕ) (w : World) → Sound w → Along w (part_after v server)
+pub parts-after : (v server : ℕ) (w : World) → Sound w → Along w (part_after v)
 parts-after v server w s = decides w (part_running v) [] _ refl (by _ refl)
   where
     by : (c : Bool) → (is_part (fields_at w.control v).primary && is_running v w.control) ≡ c → Then w (cond c (Do (Make (Suspend v (is_grouped w.control v (partner_of w.control v))))) Pass) (λ k. Along k [])
     by true is = let both = and_parts (is_part (fields_at w.control v).primary) _ is in (record { runs = both.1; allowed = both.0; fits = tt; group = tt; ready = idle w v s.queue both.1 }, λ f y. over _ y)
     by false is = over w s
 
--- a write that collides is followed as a send is
-pub writes-after : (k : Control) (v t server : ℕ) (w : World) → Sound w → Along w (after_write k v t server)
-writes-after k v t server w s = by (collides (fields_at k v) t)
-  where
-    by : (c : Bool) → Along w (cond c (suspend_after v server) (part_after v server))
-    by true = suspends-after v server w s
-    by false = parts-after v server w s
+-- what is sent before a write is followed as a send is
+pub writes-after : (k : Control) (n v t i : ℕ) (w : World) → Sound w → Along w (after_write k n v t i)
+writes-after k n v t i w s = after-any (Along w) k n v t i (suspends-after v i w s) (parts-after v i w s)

@@ -25,7 +25,7 @@ use Rattle.dr_model.specs.MessagePlans.{with_flight}
 use Rattle.dr_model.specs.SessionPlans.{leaving, appointed, order_of, exchanged, exchange_refusal, exchange_done, exchange_on}
 use Rattle.dr_model.specs.SessionEntries.{members_on, reply_after}
 use Rattle.dr_model.specs.Forming.{Part, after_part}
-use Rattle.dr_model.specs.Runs.{Task, course, plans_of, masters_lost, begun, finish, carried_out, answered, said, after_plan, after_task, after_tasks, run}
+use Rattle.dr_model.specs.Runs.{Task, course, plans_of, masters_lost, begun, finish, stop_place, carried_out, answered, said, after_plan, after_task, after_tasks, run}
 use Rattle.dr_model.specs.Laws.{IsCounted, FlightCounted}
 use Rattle.dr_logic.proofs.Truth.{false_true}
 use Rattle.dr_facts.proofs.Lists.{in-joined, found, from-filter, once-more, once-filter}
@@ -236,8 +236,8 @@ unfolding carry
 carry-flies w [] = flies-same w
 carry-flies w (d ∷ ds) = go-flies w (d w.control) (λ v. carry v ds) (λ v. carry-flies v ds)
 
-follow-flies : (w : World) (r : Refusal) (follows : ℕ → List Entry) → Flies w (follow w r follows)
-follow-flies w (StoppedIn s) follows = carry-flies w (follows s.0)
+follow-flies : (w : World) (r : Refusal) (follows : List Entry) → Flies w (follow w r follows)
+follow-flies w (StoppedIn s) follows = carry-flies w follows
 follow-flies w r follows = flies-same w
 
 -- ---- plans
@@ -265,9 +265,9 @@ record Counting (k : Control) (p : Plan) : Type 0 where
 counted-same : (j k : Control) (n : ℕ) → k.flight ≡ j.flight → k.servers ≡ j.servers → CountedBy j n j.flight → CountedBy k n k.flight
 counted-same j k n flight servers h = subst (λ (ss : List (List ℕ)). IsCounted n (length ss) k.flight) (sym servers) (subst (CountedBy j n) (sym flight) h)
 
-finish-tells : (p : Plan) → EndsSteady p → (w : World) (r : Option Refusal) → Tells w (finish p w r)
-finish-tells p steady w None = tells-on w _ [] (sym (append-nil w.events)) (steady w.control)
-finish-tells p steady w (Some r) = (follow-flies w r p.follows).tells
+finish-tells : (p : Plan) → EndsSteady p → (n : ℕ) (w : World) (r : Option Refusal) → Tells w (finish p n w r)
+finish-tells p steady n w None = tells-on w _ [] (sym (append-nil w.events)) (steady w.control)
+finish-tells p steady n w (Some r) = (follow-flies w r (p.follows n)).tells
 
 -- from the tables with which it begins
 carried-counted : (w : World) (p : Plan) → (n : ℕ) → CountedBy (p.first w.control) n (p.first w.control).flight
@@ -275,12 +275,12 @@ carried-counted : (w : World) (p : Plan) → (n : ℕ) → CountedBy (p.first w.
     → CountedBy (carried_out w p).0.control n (carried_out w p).0.control.flight
 carried-counted w p n h ends = let o : Outcome = carry (begun w p) p.entries in by o.0 o.1 (carry-flies (begun w p) p.entries)
   where
-    by : (u : World) (r : Option Refusal) → Flies (begun w p) u → CountedBy (finish p u r).control n (finish p u r).control.flight
+    by : (u : World) (r : Option Refusal) → Flies (begun w p) u → CountedBy (finish p (stop_place w p) u r).control n (finish p (stop_place w p) u r).control.flight
     by u None flies = ends u.control flies.flight flies.servers
-    by u (Some r) flies = let f = follow-flies u r p.follows in counted-same (p.first w.control) (follow u r p.follows).control n (f.flight ∙ flies.flight) (f.servers ∙ flies.servers) h
+    by u (Some r) flies = let f = follow-flies u r (p.follows (stop_place w p)) in counted-same (p.first w.control) (follow u r (p.follows (stop_place w p))).control n (f.flight ∙ flies.flight) (f.servers ∙ flies.servers) h
 
 carried-tells : (w : World) (p : Plan) → EndsSteady p → Tells (begun w p) (carried_out w p).0
-carried-tells w p steady = let o : Outcome = carry (begun w p) p.entries in tells-then (begun w p) o.0 _ (carry-flies (begun w p) p.entries).tells (finish-tells p steady o.0 o.1)
+carried-tells w p steady = let o : Outcome = carry (begun w p) p.entries in tells-then (begun w p) o.0 _ (carry-flies (begun w p) p.entries).tells (finish-tells p steady (stop_place w p) o.0 o.1)
 
 begun-tells : (w : World) (p : Plan) → Counting w.control p → Tells w (begun w p)
 begun-tells w p c =

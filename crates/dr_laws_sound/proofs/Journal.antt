@@ -22,7 +22,7 @@ use Rattle.dr_model.specs.Moves.{Move, Land, Overwrite, LandBoth, Hold, told, to
 use Rattle.dr_model.specs.Carry.{Act, Make, OpenAttempt, Redo, Acknowledge, Drop, EndFreeze, EndThaw, EndRecovery, act, Next, Pass, Do, End, Entry, Outcome, carry, continue, go, follow}
 use Rattle.dr_model.specs.Plans.{Plan, entries_plan, name_bytes, same, always, none_follow, server_done, volume_done, link_done, with_pending, issue_done, show_done, stop_done, arm_on, starting, start_plan, make_path_done, remove_path_done}
 use Rattle.dr_model.specs.Forming.{Part, after_part}
-use Rattle.dr_model.specs.Runs.{Task, course, masters_lost, image_told, begun, finish, carried_out, answered, after_plan, after_task, after_tasks, run}
+use Rattle.dr_model.specs.Runs.{Task, course, masters_lost, image_told, begun, finish, stop_place, carried_out, answered, after_plan, after_task, after_tasks, run}
 use Rattle.dr_model.specs.Phases as phases
 use Rattle.dr_ids.specs.declared.names.Member.{Member}
 use Rattle.dr_model.specs.Sessions.{Session, joined, left, changed, begun as attempted, mirrored_by, paused, unmirrored, raised, with_master, with_member, without_member}
@@ -186,19 +186,19 @@ pub record AnswersNothing (k : Control) (p : Plan) : Type 0 where
   pub last : (j : Control) → Stays j (p.last j)
   pub silent : NoAnswer p.told
 
-follow-onward : (w : World) (r : Refusal) (follows : ℕ → List Entry) → Onward w (follow w r follows)
-follow-onward w (StoppedIn s) follows = carry-onward w (follows s.0)
+follow-onward : (w : World) (r : Refusal) (follows : List Entry) → Onward w (follow w r follows)
+follow-onward w (StoppedIn s) follows = carry-onward w follows
 follow-onward w r follows = onward-same w
 
-finish-onward : (k : Control) (p : Plan) → (m : AnswersNothing k p) → (w : World) (r : Option Refusal) → Onward w (finish p w r)
-finish-onward k p m w None = record { stays = m.last w.control; added = []; events = sym (append-nil w.events); silent = refl }
-finish-onward k p m w (Some r) = follow-onward w r p.follows
+finish-onward : (k : Control) (p : Plan) → (m : AnswersNothing k p) → (n : ℕ) (w : World) (r : Option Refusal) → Onward w (finish p n w r)
+finish-onward k p m n w None = record { stays = m.last w.control; added = []; events = sym (append-nil w.events); silent = refl }
+finish-onward k p m n w (Some r) = follow-onward w r (p.follows n)
 
 module _ (w : World) (p : Plan) (m : AnswersNothing w.control p) where
   carried_out-onward : Onward (begun w p) (carried_out w p).0
   carried_out-onward =
       let o : Outcome = carry (begun w p) p.entries in
-      onward-then (begun w p) o.0 _ (carry-onward (begun w p) p.entries) (finish-onward w.control p m o.0 o.1)
+      onward-then (begun w p) o.0 _ (carry-onward (begun w p) p.entries) (finish-onward w.control p m (stop_place w p) o.0 o.1)
 
   pub after_plan-stays : (line : ℕ) → Stays (p.first w.control) (after_plan w line p).control
   unfolding after_plan

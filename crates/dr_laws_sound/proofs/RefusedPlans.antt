@@ -11,7 +11,7 @@ use Rattle.dr_model.specs.Sessions.{Session, Mirror}
 use Rattle.dr_model.specs.Carry.{Outcome, carry}
 use Rattle.dr_model.specs.PlanParts.{Plan, only_says}
 use Rattle.dr_model.specs.SessionPlans.{mirror_phase, session_phase}
-use Rattle.dr_model.specs.Carried.{begun, finish, carried_out, answered}
+use Rattle.dr_model.specs.Carried.{begun, finish, carried_out, answered, stop_place}
 use Rattle.dr_model.specs.Forming.{refusal_said, part_refusal}
 use Rattle.dr_model.proofs.CarryLemmas.{carry-none}
 use Rattle.dr_laws_sound.specs.Stops.{refused_stop}
@@ -39,11 +39,11 @@ Accepts p = (k : Control) → refusal_said (p.says k) ≡ None
 pub entries-refuse : (w : World) (p : Plan) (r : Refusal) → Accepts p → Refuses w p r → carry (begun w p) p.entries ≡ ((carried_out w p).0, Some r)
 entries-refuse w p r accepts refused = by (carry (begun w p) p.entries) refused.says
   where
-    by : (o : Outcome) → refusal_said (answered p (finish p o.0 o.1).control o.1) ≡ Some r → ◌≡◌ {A = Outcome} o (finish p o.0 o.1, Some r)
+    by : (o : Outcome) → refusal_said (answered p (finish p (stop_place w p) o.0 o.1).control o.1) ≡ Some r → ◌≡◌ {A = Outcome} o (finish p (stop_place w p) o.0 o.1, Some r)
     by (u, None) e = let none : None ≡ Some r = sym (accepts (p.last u.control)) ∙ e in absurd cc
     by (u, Some q) e =
         let is : q ≡ r = cc in
-        λ i. (sym (follow-stays u q p.follows (ap (λ r. refused_stop (Some r)) is ∙ refused.other)) i, Some (is i))
+        λ i. (sym (follow-stays u q (p.follows (stop_place w p)) (ap (λ r. refused_stop (Some r)) is ∙ refused.other)) i, Some (is i))
 
 -- a plan that is refused so leaves the world
 abbrev pub LeavesWorld : World → Plan → Type 0
@@ -54,7 +54,7 @@ same-begun w = λ i. record w { events = append-nil w.events i }
 
 -- one that only answers
 pub leaves_world-says : (w : World) (a : Said) → LeavesWorld w (only_says a)
-leaves_world-says w a r refused = ap (λ (o : Outcome). finish (only_says a) o.0 o.1) (carry-none (begun w (only_says a))) ∙ same-begun w
+leaves_world-says w a r refused = ap (λ (o : Outcome). finish (only_says a) (stop_place w (only_says a)) o.0 o.1) (carry-none (begun w (only_says a))) ∙ same-begun w
 
 -- one without entries is never refused
 pub never-refused : (w : World) (p : Plan) → Accepts p → p.entries ≡ [] → LeavesWorld w p

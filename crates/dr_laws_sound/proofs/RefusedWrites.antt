@@ -33,7 +33,7 @@ use Rattle.dr_model.specs.SessionPlans.{asking, off_refusal, exchange_refusal, e
 use Rattle.dr_model.specs.RecoveryPlans.{decided_in, secondary_refusal, recover_entries, recover_done, recover_plan, group_of, says_group}
 use Rattle.dr_model.specs.PlanParts.{Plan, refuses, unless, on_named, on_session, server_named, name_bytes, is_defined}
 use Rattle.dr_model.specs.Plans.{track_refusal, issue_refusal, write_done, write_plan, apply_done, apply_on, apply_plan, drain_plan}
-use Rattle.dr_model.specs.Carried.{begun, finish, carried_out, answered}
+use Rattle.dr_model.specs.Carried.{begun, finish, carried_out, answered, stop_place}
 use Rattle.dr_model.specs.Forming.{refusal_said, part_refusal}
 use Rattle.dr_model.proofs.CarryLemmas.{onward, carry-none, carry-first, carry-skips, carry-passed, carry-refused, carry-goes, carry-append, act-drop}
 use Rattle.dr_facts.proofs.Lists.{found}
@@ -446,7 +446,7 @@ module _ (w : World) (s : ℕ) (r : Refusal) where
     abbrev p : Plan
     p = recover_done s (decided_in s w.control) x.members
 
-    done-left : (o : Outcome) → carry w p.entries ≡ o → refusal_said (answered p (finish p o.0 o.1).control o.1) ≡ Some r → Recovering (finish p o.0 o.1)
+    done-left : (o : Outcome) → carry w p.entries ≡ o → refusal_said (answered p (finish p (stop_place w p) o.0 o.1).control o.1) ≡ Some r → Recovering (finish p (stop_place w p) o.0 o.1)
     done-left (u, None) leads e =
         subst (λ q. Leaves w (Ok (Recover s)) q u) (group-refuses (decided_in s w.control) (group_of (decided_in s u.control)) e)
         (ap (λ found. carry w (recover_entries s (decided_in s w.control) (members_in found))) here ∙ leads)

@@ -53,12 +53,12 @@ module _ (w : World) (task : Task) (sound : Sound w) (x : Part) (there : In x (p
 
   calm : (u : World) (s t v : ℕ) → Makes Carries x u (Restore s t v) → IsAtRest u.control s
   calm u s t v (Itself at) = itself u s t v at
-  calm u s t v (Follows stop q ends at) = follows stop u q s t v (inl (stops stop (stopped q) ends)) at
+  calm u s t v (Follows stop q n ends at) = follows stop u n s t v (inl (stops stop (stopped q) ends)) at
 
   reads-calm : (armed : ℕ → Bool) (u : World) (s t v : ℕ) → Makes (MayEnd armed) x u (Restore s t v) → IsAtRest u.control s
   reads-calm armed u s t v (Itself at) = itself u s t v (comes-carried armed _ u x.plan.entries (Restore s t v) at)
-  reads-calm armed u s t v (Follows stop q ends at) =
-      follows stop u q s t v (rides-gone LoneAt lone-rides w task x sound lone there armed stop (stopped q) ends) (comes-carried armed stop u (x.plan.follows q) (Restore s t v) at)
+  reads-calm armed u s t v (Follows stop q n ends at) =
+      follows stop u n s t v (rides-gone LoneAt lone-rides w task x sound lone there armed stop (stopped q) ends) (comes-carried armed stop u (x.plan.follows n) (Restore s t v) at)
 
 pub calm-run : (tasks : List Task) → CalmRestores tasks
 calm-run tasks before rest task is x u s t v there makes = calm (run before) task (sound-run before) x there u s t v makes

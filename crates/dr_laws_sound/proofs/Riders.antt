@@ -212,13 +212,13 @@ module _ (K : World → Type 0) (rider : Rider K) where
       holds : K (carried_out w p).0
       moments : (n : ℕ) → K (carry (begun w p) (take n p.entries)).0
       comes : (v : World) (m : Move) → ComesTo Carries (begun w p) p.entries v m → MoveComes K v m
-      stops : (q : ℕ) (u v : World) (m : Move) → Carries (begun w p) p.entries u (Some (stopped q)) → ComesTo Carries u (p.follows q) v m → MoveComes K v m
+      stops : (q n : ℕ) (u v : World) (m : Move) → Carries (begun w p) p.entries u (Some (stopped q)) → ComesTo Carries u (p.follows n) v m → MoveComes K v m
       gone : (armed : ℕ → Bool) (u : World) (r : Refusal) → Ends armed u (Some r) (begun w p) p.entries → Sound u ⊎ ((q : ℕ) → p.follows q ≡ [])
 
     -- a plan without entries
     tables : (first : Control → Control) (told : List Event) (says : Control → Said) → let p : Plan = record { first = first; told = told; entries = []; follows = none_follow; last = same; says = says } in K (begun w p) → Carried p
     unfolding carry
-    tables first told says begun = record { holds = begun; moments = λ n. none-change K _ n begun; comes = λ v m at. absurd (none-comes _ v m at); stops = λ q u v m ends at. absurd (none-comes u v m at); gone = λ armed u r e. inr (λ q. refl) }
+    tables first told says begun = record { holds = begun; moments = λ n. none-change K _ n begun; comes = λ v m at. absurd (none-comes _ v m at); stops = λ q n u v m ends at. absurd (none-comes u v m at); gone = λ armed u r e. inr (λ q. refl) }
 
     -- one whose acts may come as they do but where a server starts
     moves : (p : Plan) (o : Orders w p) → K (begun w p) → ((v : World) → o.ends v → K v → K (record v { control = p.last v.control })) → Carried p
@@ -226,7 +226,7 @@ module _ (K : World → Type 0) (rider : Rider K) where
       holds = plan-rides Sound RowsAt K MayDo w p (orders-hold w p o) rider.acts begun last keeps-sound rider.acts;
       moments = moments-ride Sound RowsAt K MayDo w p (orders-hold w p o) rider.acts begun last keeps-sound rider.acts;
       comes = λ v m at. let here = rides-comes_to Sound RowsAt K MayDo w p (orders-hold w p o) rider.acts begun last v m at in record { rows = here.0.0.rows; allowed = here.1.allowed; group = here.1.group; law = here.0.1 };
-      stops = λ q u v m ends at. let here = rides-follows Sound RowsAt K MayDo w p (orders-hold w p o) rider.acts begun last keeps-sound rider.acts q u v m ends at in record { rows = here.0.0.rows; allowed = here.1.allowed; group = here.1.group; law = here.0.1 };
+      stops = λ q n u v m ends at. let here = rides-follows Sound RowsAt K MayDo w p (orders-hold w p o) rider.acts begun last keeps-sound rider.acts q n u v m ends at in record { rows = here.0.0.rows; allowed = here.1.allowed; group = here.1.group; law = here.0.1 };
       gone = λ armed u r e. inl (along.ends-weaker Sound Sound o.ends Sound MayDo (λ v s. s) (λ v s. s) o.complete keeps-sound armed (λ v q s on is. sound-gone None v q s) u (Some r) _ p.entries o.begins o.entries e);
     }
 
@@ -291,7 +291,7 @@ module _ (K : World → Type 0) (rider : Rider K) where
           complete = λ v i. i;
           begins = sound;
           entries = lands first sound (record { w = w.control.issued + 1; volume = v; track = t; landed = false }) (one-new w s v t offset len bytes there.defined there.low);
-          follows = λ q u i. writes-after w.control v t q u i;
+          follows = λ q u i. writes-after w.control (w.control.issued + 1) v t q u i;
           last = λ v i. i;
           turns = λ v i. regroups-same v.control.sessions;
           adds = λ v i. none-added v;
@@ -303,7 +303,7 @@ module _ (K : World → Type 0) (rider : Rider K) where
           complete = λ v i. i;
           begins = sound-begun w s;
           entries = lands (as_begun w) (sound-begun w s) p (found-alone n p w.control.pending found s.queue.apart);
-          follows = λ q u i. writes-after w.control p.volume p.track q u i;
+          follows = λ q u i. writes-after w.control p.w p.volume p.track q u i;
           last = λ v i. i;
           turns = λ v i. regroups-same v.control.sessions;
           adds = λ v i. none-added v;
@@ -321,7 +321,7 @@ module _ (K : World → Type 0) (rider : Rider K) where
           comes = λ v m at.
               let here = rides-comes_to Sound RowsAt K MayDo w (start_plan w.control x) (start-hold x w s) (rider.start_acts x) begun (λ v e k. k) v m at in
               record { rows = here.0.0.sound.rows; allowed = start-allowed x _ _ v m here.1; group = start-group x v m here.1; law = here.0.1 };
-          stops = λ q u v m ends at. absurd (none-comes u v m at);
+          stops = λ q n u v m ends at. absurd (none-comes u v m at);
           gone = λ armed u r e. inr (λ q. refl);
         }
     case-rides _ _ (MakesFlash dev v t freeze choices) = entries _ _ (along-flash w s dev v t freeze choices)
@@ -428,7 +428,7 @@ module _ (K : World → Type 0) (rider : Rider K) where
     where
       by : Carried x.world (each-plan (Both Sound K) rides-part w t (s, k) x there).0.0 (each-plan (Both Sound K) rides-part w t (s, k) x there).0.1 t.line x.plan → Makes Carries x v m → MoveComes K v m
       by c (Itself at) = c.comes v m at
-      by c (Follows u q ends at) = c.stops q u v m ends at
+      by c (Follows u q n ends at) = c.stops q n u v m ends at
 
   -- and where a server stopped in them
   pub rides-gone : (w : World) (t : Task) (x : Part) → Sound w → K w → In x (plans_of w t) → (armed : ℕ → Bool) (u : World) (r : Refusal) → Ends armed u (Some r) (begun x.world x.plan) x.plan.entries → Sound u ⊎ ((q : ℕ) → x.plan.follows q ≡ [])

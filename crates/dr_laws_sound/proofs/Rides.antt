@@ -76,9 +76,9 @@ module _ (I W K : World → Type 0) (May : World → Act → Type 0) (w : World)
       (holds.begins, begins) (along-with holds.inner I holds.ends K holds.may (begun w p) p.entries begins holds.entries) at
 
   -- so where a server stopped in them, and those that follow come to one
-  pub rides-follows : along.Keeps I I May → Rides I K May → (s : ℕ) (u v : World) (m : Move) → Carries (begun w p) p.entries u (Some (stopped s)) → ComesTo Carries u (p.follows s) v m → Both I K v × May v (Make m)
-  rides-follows each acts s u v m ends at =
+  pub rides-follows : along.Keeps I I May → Rides I K May → (s n : ℕ) (u v : World) (m : Move) → Carries (begun w p) p.entries u (Some (stopped s)) → ComesTo Carries u (p.follows n) v m → Both I K v × May v (Make m)
+  rides-follows each acts s n u v m ends at =
       let j : Both I K u = subst (λ (o : Outcome). along.EndedBy (Both holds.inner K) (Both I K) (Both holds.ends K) holds.may o.0 o.1) ends
       (along.along (Both holds.inner K) (Both I K) (Both holds.ends K) holds.may (keeps-with holds.inner K holds.may I holds.keeps rides) (begun w p) p.entries (holds.begins, begins)
       (along-with holds.inner I holds.ends K holds.may (begun w p) p.entries begins holds.entries)) in
-      along.along-comes_to (Both I K) (Both I K) (Both I K) May (keeps-with I K May I each acts) u (p.follows s) v m j (along-with I I I K May u (p.follows s) j.1 (holds.follows s u j.0)) at
+      along.along-comes_to (Both I K) (Both I K) (Both I K) May (keeps-with I K May I each acts) u (p.follows n) v m j (along-with I I I K May u (p.follows n) j.1 (holds.follows n u j.0)) at

@@ -25,7 +25,7 @@ use Rattle.dr_model.specs.PairEntries.{tracks_to_send, is_copying, differs_at}
 use Rattle.dr_model.specs.WriteEntries.{lift_on, flash_free_on, freeze_on, end_freeze, thaw_on, end_thaw}
 use Rattle.dr_model.specs.Plans.{none_follow, counted_refusal, restore_refusal, left_by, Plan, entries_plan, named_pair, is_defined, is_owner, is_plain_target, is_recorded_target, is_lone_restore, may_return, may_give_back, may_copy, at_most, left_to_copy}
 use Rattle.dr_model.specs.Forming.{after_part}
-use Rattle.dr_model.specs.Runs.{begun, finish, after_plan}
+use Rattle.dr_model.specs.Runs.{begun, finish, stop_place, after_plan}
 use Rattle.dr_model.specs.Laws.{Sound}
 use Rattle.dr_laws_sound.specs.Limits.{IsWithin}
 use Rattle.dr_laws_sound.proofs.Cases.{ByHand, Commits, Reverts, Case, Says, Writes, Applies, Lists, Starts, MakesFlash, RemovesFlash, ReversesFlash, Copies, Destages, RemovesPair, Compares, Drains, Expires, Freezes, Unfreezes, PausesMirror, Exchanges, Sends, Delivers, Recovers, Settles, Releases}
@@ -81,10 +81,10 @@ pub record Spends (w : World) (p : Plan) : Type 0 where
   pub follows : FollowAdds p.follows
   pub few : length p.told + spends + 5 ≤ step_events
 
-finish-adds : (p : Plan) (w : World) (r : Option Refusal) → FollowAdds p.follows → length (finish p w r).events ≤ length w.events + 3
-finish-adds p w None few = omega arith
-finish-adds p w (Some (StoppedIn s)) few = few s.0 w
-finish-adds p w (Some r) few = omega arith
+finish-adds : (p : Plan) (n : ℕ) (w : World) (r : Option Refusal) → FollowAdds p.follows → length (finish p n w r).events ≤ length w.events + 3
+finish-adds p n w None few = omega arith
+finish-adds p n w (Some (StoppedIn s)) few = few n w
+finish-adds p n w (Some r) few = omega arith
 
 -- nothing follows
 none-adds : FollowAdds none_follow
@@ -98,8 +98,8 @@ after_plan-adds w line p s =
     let n : ℕ = s.spends in
     let a : length o.0.events ≤ length (w.events ++ p.told) + n + 1 = carry-adds n (begun w p) p.entries s.costs in
     let b : length (w.events ++ p.told) ≡ length w.events + length p.told = length-append w.events p.told in
-    let c : length (finish p o.0 o.1).events ≤ length o.0.events + 3 = finish-adds p o.0 o.1 s.follows in
-    let d : length (after_plan w line p).events ≡ length (finish p o.0 o.1).events + 1 = length-append (finish p o.0 o.1).events _ in
+    let c : length (finish p (stop_place w p) o.0 o.1).events ≤ length o.0.events + 3 = finish-adds p (stop_place w p) o.0 o.1 s.follows in
+    let d : length (after_plan w line p).events ≡ length (finish p (stop_place w p) o.0 o.1).events + 1 = length-append (finish p (stop_place w p) o.0 o.1).events _ in
     let few : length p.told + n + 5 ≤ step_events = s.few in omega arith
 
 -- without an answer it leaves room for one
@@ -212,8 +212,8 @@ module _ (w : World) (x : Sound w) (h : IsWithin w.control) where
   case-spends line _ _ (PausesMirror s on) = tables-spends _ _ _ _ (omega arith)
   case-spends line _ _ (Compares contents v u) = entries-spends _ _ 0 (costs-check 0 _ (is_defined v) _ _ (costs-check 0 _ (is_defined u) _ _ (costs-check 0 _ (is_running v) _ _ (costs-check 0 _ (is_running u) _ _
       (costs-check 0 _ (share_size v u) _ _ (costs-refused 0 _ (differs_at _) [] (costs-nil 0 _))))))) (omega arith)
-  case-spends line asked _ (Writes v t offset len bytes free) = acts-spends line asked _ (Writes v t offset len bytes free) refl (omega arith) (let le = landing-length w.control h.volumes (w.control.issued + 1) v t in omega arith) (after_write-length w.control v t)
-  case-spends line asked _ (Applies n p found) = acts-spends line asked _ (Applies n p found) refl (omega arith) (let le = landing-length w.control h.volumes p.w p.volume p.track in omega arith) (after_write-length w.control p.volume p.track)
+  case-spends line asked _ (Writes v t offset len bytes free) = acts-spends line asked _ (Writes v t offset len bytes free) refl (omega arith) (let le = landing-length w.control h.volumes (w.control.issued + 1) v t in omega arith) (after_write-length w.control (w.control.issued + 1) v t)
+  case-spends line asked _ (Applies n p found) = acts-spends line asked _ (Applies n p found) refl (omega arith) (let le = landing-length w.control h.volumes p.w p.volume p.track in omega arith) (after_write-length w.control p.w p.volume p.track)
   case-spends line asked _ (Starts s off) = acts-spends line asked _ (Starts s off) refl (omega arith) (start-length s w.control.volumes h.volumes) (λ q. omega arith)
   case-spends line asked _ (MakesFlash dev s t true choices) = acts-spends line asked _ (MakesFlash dev s t true choices) refl (omega arith) (omega arith) (λ q. omega arith)
   case-spends line asked _ (MakesFlash dev s t false choices) = acts-spends line asked _ (MakesFlash dev s t false choices) refl (omega arith) (omega arith) (λ q. omega arith)

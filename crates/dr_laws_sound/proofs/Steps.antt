@@ -99,7 +99,7 @@ module _ (w : World) (s : Sound w) (v t offset len : ℕ) (bytes : List ℕ) (th
   holds-issue = holds-moves w (issue_done w.control v t offset len bytes) begins (over _ begins) (λ q k i. over k i) (λ k i. i)
 
   holds-write : StepHolds w (write_done w.control v t offset len bytes)
-  holds-write = holds-moves w (write_done w.control v t offset len bytes) begins (lands first begins new (one-new w s v t offset len bytes there.defined there.low)) (λ q k i. writes-after w.control v t q k i) (λ k i. i)
+  holds-write = holds-moves w (write_done w.control v t offset len bytes) begins (lands first begins new (one-new w s v t offset len bytes there.defined there.low)) (λ q k i. writes-after w.control (w.control.issued + 1) v t q k i) (λ k i. i)
 
 -- a pending write is carried out
 module _ (w : World) (s : Sound w) (n : ℕ) (p : Pending) (found : find (is_write n) w.control.pending ≡ Some p) where
@@ -113,7 +113,7 @@ module _ (w : World) (s : Sound w) (n : ℕ) (p : Pending) (found : find (is_wri
   here-sound = subst Sound same-world s
 
   holds-apply : StepHolds w (apply_done w.control p)
-  holds-apply = holds-moves w (apply_done w.control p) here-sound (lands here here-sound p (found-alone n p w.control.pending found s.queue.apart)) (λ q k i. writes-after w.control p.volume p.track q k i) (λ k i. i)
+  holds-apply = holds-moves w (apply_done w.control p) here-sound (lands here here-sound p (found-alone n p w.control.pending found s.queue.apart)) (λ q k i. writes-after w.control p.w p.volume p.track q k i) (λ k i. i)
 
 -- whatever a step comes to
 module _ (w : World) (s : Sound w) (line : ℕ) where

@@ -82,7 +82,7 @@ draining ts = record {
   first = same;
   told = [];
   entries = check (is_defined 8192) (unknown OfVolume) ∷ running_check midway.control 8192 ∷ check (is_copying 8192) (pair_state midway.control 8192) ∷ sends midway.control.volumes 8192 4096 ts;
-  follows = suspend_after 8192;
+  follows = λ n. suspend_after 8192;
   last = same;
   says = always (Done (Counted (length ts)));
 }

@@ -30,10 +30,11 @@ pub record ComesTo (EndsIn : World → List Entry → World → Option Refusal �
   pub leads : EndsIn w before v None
   pub decides : entry v.control ≡ Do (Make m)
 
--- A plan makes a move in world v: its entries come to it there; or server s stops in them, in world u, and those that follow come to it.
+-- A plan makes a move in world v: its entries come to it there; or server s stops in them, in world u, and those that follow a stop after any n of
+-- them come to it.
 pub data Makes (EndsIn : World → List Entry → World → Option Refusal → Type 0) (x : Part) (v : World) (m : Move) : Type 0 where
   Itself : ComesTo EndsIn (begun x.world x.plan) x.plan.entries v m → Makes EndsIn x v m
-  Follows : (u : World) (s : ℕ) → EndsIn (begun x.world x.plan) x.plan.entries u (Some (stopped s)) → ComesTo EndsIn u (x.plan.follows s) v m → Makes EndsIn x v m
+  Follows : (u : World) (s n : ℕ) → EndsIn (begun x.world x.plan) x.plan.entries u (Some (stopped s)) → ComesTo EndsIn u (x.plan.follows n) v m → Makes EndsIn x v m
 
 -- A volume is at rest: it doesn't record for an attempt, it is no secondary, and it is the source of no revertible target.
 pub record IsAtRest (k : Control) (v : ℕ) : Type 0 where

@@ -21,4 +21,5 @@ pub mod LandedLemmas
 pub mod RouteLemmas
 pub mod SyncLemmas
 pub mod CollideLemmas
+pub mod WroteInLemmas
 pub mod WroteLemmas

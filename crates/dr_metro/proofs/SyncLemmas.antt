@@ -17,10 +17,9 @@ use Rattle.dr_model.specs.Refusals.{server_off}
 use Rattle.dr_model.specs.Relations.{closed, fetched, rewritten}
 use Rattle.dr_model.specs.Pairs.{written, is_kind, is_metro, is_suspended, held, goes_over, collides}
 use Rattle.dr_model.specs.Moves.{Suspend}
-use Rattle.dr_model.specs.Carry.{Entry, Pass, Do, Make, Drop, dropped, check, now}
+use Rattle.dr_model.specs.Carry.{Entry, Stretch, Pass, Do, Make, Drop, dropped, check, now}
 use Rattle.dr_model.specs.Entries.{fields_at, land_alone, is_running, is_no_secondary, is_open, is_settled, relation_state, drop_unless, check_or_drop, write_checks}
-use Rattle.dr_model.specs.PairEntries.{suspend_after}
-use Rattle.dr_model.specs.WriteEntries.{partner_of, is_grouped, part_running, part_after, after_write}
+use Rattle.dr_model.specs.WriteEntries.{partner_of, is_grouped, part_running, part_after}
 use Rattle.dr_model.specs.ReadStops.{Ends}
 use Rattle.dr_host.specs.Writes.{Writes}
 use Rattle.dr_moves.specs.Checks.{OnNone, is_stop}
@@ -30,7 +29,7 @@ use Rattle.dr_facts.proofs.Ends.{ends-skips, ends-goes, ends-passed, ends-refuse
 use Rattle.dr_moves.specs.Followed.{Follows}
 use Rattle.dr_metro.specs.Here.{IsTold}
 use Rattle.dr_metro.specs.Landing.{landed}
-use Rattle.dr_metro.specs.Syncing.{over_entries, collided_entries, parts, entries_by, waits_by}
+use Rattle.dr_metro.specs.Syncing.{over_entries, sent_stretches, parts, stretches_by, waits_by}
 use Rattle.dr_metro.proofs.ToldLemmas.{told-through}
 use Rattle.dr_logic.proofs.Truth.{false_true}
 use Rattle.dr_model.proofs.CarryLemmas.{act-drop}
@@ -46,14 +45,9 @@ pub on-part : (v : ℕ) (k : Control) (busy : Bool) → is_part (fields_at k v).
 on-part v k busy part on is = (λ i. cond (part i && on i) (Do (Make (Suspend v (sym is i)))) Pass)
 
 -- what follows issues no write
-pub told-followed : (armed : ℕ → Bool) (h : Writes) (v u : World) (r : Option Refusal) (follows : ℕ → List Entry) → Follows armed v r follows u → IsTold h v.events → IsTold h u.events
-told-followed armed h v u (Some (Stopped s)) follows f told = told-through armed h v u (follows s.0) f.refusal f.ends told
+pub told-followed : (armed : ℕ → Bool) (h : Writes) (v u : World) (r : Option Refusal) (follows : List Entry) → Follows armed v r follows u → IsTold h v.events → IsTold h u.events
+told-followed armed h v u (Some (Stopped s)) follows f told = told-through armed h v u follows f.refusal f.ends told
 told-followed armed h v u r follows f told = subst (λ (x : World). IsTold h x.events) (sym f) told
-
--- what follows a stop is chosen by the state in which the plan began
-pub after-is : (armed : ℕ → Bool) (w u : World) (r : Option Refusal) (k : Control) (v t : ℕ) (b : Bool) → b ≡ collides (fields_at k v) t
-    → Follows armed w r (λ s. if b then suspend_after v s else part_after v s) u → Follows armed w r (after_write k v t) u
-after-is armed w u r k v t b is f = subst (λ c. Follows armed w r (λ s. if c then suspend_after v s else part_after v s) u) is f
 
 -- a landing leaves the state of the pair as it was, and a track that is out of sync stays so
 pub state-landed : (n : ℕ) (f : Fields) (t : ℕ) → (landed n f t).primary_state ≡ f.primary_state
@@ -92,26 +86,23 @@ module _ (k : Control) (f : Fields) (n v t : ℕ) where
   abbrev over : List Entry
   over = over_entries k.volumes (parts k v u) (is_grouped k v u) n v t u
 
-  abbrev alone : List Entry
-  alone = if collides f t then collided_entries k.volumes n v t u else land_alone k.volumes n v t
+  -- by whether it waits, goes over and collides
+  abbrev by : Bool → Bool → Bool → List Stretch
+  by waits goes meets =
+      if not waits && (not goes && meets) then sent_stretches k.volumes n v t u
+      else record { entries = if waits then [] else if goes then over else land_alone k.volumes n v t; follows = part_after v } ∷ []
 
-  pub held-entries : held f ≡ true → entries_by k f n v t ≡ []
-  held-entries is = ap (λ b. if b then [] else if goes_over f t then over else alone) is
+  pub held-stretches : held f ≡ true → stretches_by k f n v t ≡ record { entries = []; follows = part_after v } ∷ []
+  held-stretches is = λ i. by (is i) (goes_over f t) (collides f t)
 
-  free-entries : held f ≡ false → entries_by k f n v t ≡ (if goes_over f t then over else alone)
-  free-entries is = ap (λ b. if b then [] else if goes_over f t then over else alone) is
+  pub over-stretches : held f ≡ false → goes_over f t ≡ true → stretches_by k f n v t ≡ record { entries = over; follows = part_after v } ∷ []
+  over-stretches free goes = λ i. by (free i) (goes i) (collides f t)
 
-  pub over-entries : held f ≡ false → goes_over f t ≡ true → entries_by k f n v t ≡ over
-  over-entries free goes = free-entries free ∙ ap (λ b. if b then over else alone) goes
+  pub sent-stretches : held f ≡ false → goes_over f t ≡ false → collides f t ≡ true → stretches_by k f n v t ≡ sent_stretches k.volumes n v t u
+  sent-stretches free goes meets = λ i. by (free i) (goes i) (meets i)
 
-  here-entries : held f ≡ false → goes_over f t ≡ false → entries_by k f n v t ≡ alone
-  here-entries free goes = free-entries free ∙ ap (λ b. if b then over else alone) goes
-
-  pub collided-entries : held f ≡ false → goes_over f t ≡ false → collides f t ≡ true → entries_by k f n v t ≡ collided_entries k.volumes n v t u
-  collided-entries free goes meets = here-entries free goes ∙ ap (λ b. if b then collided_entries k.volumes n v t u else land_alone k.volumes n v t) meets
-
-  pub alone-entries : held f ≡ false → goes_over f t ≡ false → collides f t ≡ false → entries_by k f n v t ≡ land_alone k.volumes n v t
-  alone-entries free goes meets = here-entries free goes ∙ ap (λ b. if b then collided_entries k.volumes n v t u else land_alone k.volumes n v t) meets
+  pub alone-stretches : held f ≡ false → goes_over f t ≡ false → collides f t ≡ false → stretches_by k f n v t ≡ record { entries = land_alone k.volumes n v t; follows = part_after v } ∷ []
+  alone-stretches free goes meets = λ i. by (free i) (goes i) (meets i)
 
   pub held-waits : held f ≡ true → waits_by k f v t ≡ true
   held-waits is = ap (λ b. b || (goes_over f t && (parts k v u && is_grouped k v u))) is
@@ -147,9 +138,13 @@ pub none-gives : {P : Type 0} (o : Option Refusal) → is_some o ≡ false → O
 none-gives None h p = p
 none-gives (Some x) h p = absurd cc
 
-pub ok-given : {T E : Type 0} {P : Type 0} {Q : T → Type 0} (r : Result T E) → OnOk r P → (P → (e : T) → Q e) → IfOk r Q
-ok-given (Ok x) p f = f p x
-ok-given (Err e) p f = p
+-- what holds behind a call that succeeded holds behind what follows it
+pub followed-given : {T S : Type 0} (A : T → Type 0) (res out : Result T Refusal) → out ≡ res → (old new : S) (Q : S → Type 0) → OnOk res (new ≡ old) → OnOk res (Q old) → IfOk out (λ e. A e → Q new)
+followed-given {T = T} A res out is old new Q stays holds = subst (λ (x : Result T Refusal). IfOk x (λ e. A e → Q new)) (sym is) (by res stays holds)
+  where
+    by : (x : Result T Refusal) → OnOk x (new ≡ old) → OnOk x (Q old) → IfOk x (λ e. A e → Q new)
+    by (Ok x) stays holds = λ e. subst Q (sym stays) holds
+    by (Err e) stays holds = tt
 
 -- a call that fails only by stops
 pub counted-stops : {T : Type 0} (r : Result T Refusal) (a b : ℕ) → Counted (is_err r) a b → OnErr r (is_stop (refusal_of r) ≡ true) → Counted (is_stop (refusal_of r)) a b

@@ -9,13 +9,14 @@ use Rattle.dr_host.specs.Writes.{Writes, has_number}
 use Rattle.dr_host.specs.declared.pending.Pending.{Pending}
 use Rattle.dr_model.specs.declared.event.Event.{Event}
 use Rattle.dr_model.specs.Log.{Log}
-use Rattle.dr_model.specs.Carry.{Entry}
+use Rattle.dr_model.specs.Carry.{Entry, Stretch}
 use Rattle.dr_model.specs.Control.{Control}
 use Rattle.dr_model.specs.ReadStops.{Ends}
 use Rattle.dr_volume.specs.declared.fields.Fields.{Fields}
 use Rattle.dr_volume.specs.View.{Rest, volume_seen}
 use Rattle.dr_volume.specs.Volume.{Says}
 use Rattle.dr_moves.specs.Checks.{is_stop}
+use Rattle.dr_moves.specs.Followed.{EndsIn}
 use Rattle.dr_moves.specs.Here.{refusal_of, armed_in}
 use Rattle.dr_moves.specs.Made.{IsAt, IsPrimary}
 use Rattle.dr_flash.specs.Standing.{HasNoTarget}
@@ -52,6 +53,17 @@ pub record CanCross (s : PlantState) (c : ConfigTable) (h : Writes) (events : Li
 -- issued, and the journal is told so many events at most.
 pub record Wrote (s u : PlantState) (c : ConfigTable) (h g : Writes) (old new : Log) (es : Control → List Entry) (most : ℕ) {T : Type 0} (result : Result T Refusal) : Type 0 where
   pub carried : (r : Rest) → Ends (armed_in s) (here u c r g new.events) (refusal_of result) (here s c r h old.events) (es (here s c r h old.events).control)
+  pub at : IsAt u c
+  pub told : IsTold g new.events
+  pub unarmed : (q : ℕ) → s.read_fuse q ≡ None → u.read_fuse q ≡ None
+  pub faults : Counted (is_stop (refusal_of result)) s.faults u.faults
+  pub issued : g.issued ≡ h.issued
+  pub room : old.spare ≤ new.spare + most
+  pub spare : length new.events + new.spare ≡ length old.events + old.spare
+
+-- The same of stretches, one after another, with what follows a stop in them.
+pub record WroteIn (s u : PlantState) (c : ConfigTable) (h g : Writes) (old new : Log) (ss : Control → List Stretch) (most : ℕ) {T : Type 0} (result : Result T Refusal) : Type 0 where
+  pub carried : (r : Rest) → EndsIn (armed_in s) (here s c r h old.events) (ss (here s c r h old.events).control) (here u c r g new.events) (refusal_of result)
   pub at : IsAt u c
   pub told : IsTold g new.events
   pub unarmed : (q : ℕ) → s.read_fuse q ≡ None → u.read_fuse q ≡ None

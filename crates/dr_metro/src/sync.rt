@@ -10,28 +10,28 @@ ghost use Rattle.dr_model.specs.Layout.{is_part};
 ghost use Rattle.dr_model.specs.declared.event.Event.{Event};
 ghost use Rattle.dr_model.specs.Pairs.{is_metro, is_suspended};
 ghost use Rattle.dr_model.specs.WriteEntries as entries;
-ghost use Rattle.dr_model.specs.WriteEntries.{landing, waits, after_write};
+ghost use Rattle.dr_model.specs.WriteEntries.{part_after, waits, write_stretches};
 ghost use Rattle.dr_volume.specs.Plain.{plain};
 ghost use Rattle.dr_volume.specs.View.{Rest, volume_seen, ids_of};
 ghost use Rattle.dr_volume.specs.Volume.{Says, Shows};
 ghost use Rattle.dr_moves.specs.Checks.{is_stop};
 ghost use Rattle.dr_moves.specs.Fit.{RelationsFit};
 ghost use Rattle.dr_moves.specs.Here.{world_seen, refusal_of, armed_in, IsAtRest};
-ghost use Rattle.dr_moves.specs.Made.{IsPrimary};
+ghost use Rattle.dr_moves.specs.Made.{IsAt, IsPrimary};
 ghost use Rattle.dr_flash.specs.Standing.{HasNoTarget};
 ghost use Rattle.dr_gcopy.specs.Both.{IsOn};
-ghost use Rattle.dr_moves.specs.Followed.{EndsFollowed};
+ghost use Rattle.dr_moves.specs.Followed.{EndsIn, Follows};
 ghost use Rattle.dr_host.specs.Here.{here};
 ghost use Rattle.dr_metro.specs.Here.{IsTold};
 ghost use Rattle.dr_metro.specs.Mirroring.{Mirrors, MayPair};
 ghost use Rattle.dr_metro.specs.declared.sync.WriteEnd.TheVariants.{Landed};
-ghost use Rattle.dr_metro.specs.Syncing.{parted_entries, over_entries, end_of, parts, entries_by, waits_by};
-ghost use Rattle.dr_metro.specs.Writing.{IsDue, Wrote, landed_so};
+ghost use Rattle.dr_metro.specs.Syncing.{parted_entries, over_entries, end_of, parts, stretches_by, waits_by};
+ghost use Rattle.dr_metro.specs.Writing.{IsDue, Wrote, WroteIn, landed_so};
 
 use crate::alone::{write_alone, write_here};
 use crate::colliding::write_collided;
 use crate::mirroring::write_both_by;
-use crate::parting::{follow_write, is_grouped};
+use crate::parting::{followed, is_grouped, landed};
 use crate::states::{collides, goes_over};
 use dr_config::Config;
 use dr_flash::write_refusal_by;
@@ -50,16 +50,6 @@ pub enum WriteEnd {
     Landed,
     /// It waits.
     Held,
-}
-
-/// What a write that was carried out comes to.
-fn landed(done: Result<(), Refusal>) -> Result<WriteEnd, Refusal>
-    ensures { result ≡ landed_so done }
-{
-    match done {
-        Ok(()) => Ok(WriteEnd::Landed),
-        Err(stop) => Err(stop),
-    }
 }
 
 /// Whether v can send to u, of which the fields are at hand.
@@ -133,8 +123,8 @@ fn write_over<P: Plant>(
     landed(write_both_by(plant, config, journal, h, w, u, fields, &to, found))
 }
 
-/// Carries out the write on a volume where the host may write; its fields are at hand, and whether a volume was found that is its
-/// target.
+/// Carries out the write on a volume where the host may write, with what follows the stop of a server; its fields are at hand, and
+/// whether a volume was found that is its target.
 fn place_write<P: Plant>(
     plant: &mut P,
     config: &Config,
@@ -152,26 +142,27 @@ fn place_write<P: Plant>(
     requires known { server.0 < 8 }
     requires shows { Shows (P.state plant.old) config.now w.now.volume.0 fields.now }
     requires alone { found ≡ false → HasNoTarget (P.state plant.old) config.now w.now.volume.0 }
-    requires room { length config.now.volumes + (length config.now.volumes + 4) ≤ journal.old.spare }
-    ensures wrote { Wrote (P.state plant.old) (P.state plant.new) config.now h.old h.new journal.old journal.new (λ k. entries_by k (plain fields.now) w.now.w.0 w.now.volume.0 w.now.track) (length config.now.volumes + (length config.now.volumes + 3)) result }
+    requires room { length config.now.volumes + (length config.now.volumes + 7) ≤ journal.old.spare }
+    ensures wrote { WroteIn (P.state plant.old) (P.state plant.new) config.now h.old h.new journal.old journal.new (λ k. stretches_by k (plain fields.now) w.now.w.0 w.now.volume.0 w.now.track) (length config.now.volumes + (length config.now.volumes + 6)) result }
     ensures end { (r : Rest) → IfOk result (λ e. e ≡ end_of (waits_by (here (P.state plant.old) config.now r h.old journal.old.events).control (plain fields.now) w.now.volume.0 w.now.track)) }
     ensures mirrors { is_metro fields.now.primary ≡ true → IfOk result (λ e. e ≡ Landed → Mirrors (P.state plant.new) config.now w.now.volume.0 fields.now.primary_partner.0 w.now.track) }
-    ensures stops { OnErr result (is_stop (refusal_of result) ≡ true) }
 {
     if is_held(fields) {
         return Ok(WriteEnd::Held);
     }
     let u = fields.primary_partner;
     if goes_over(fields, w.track) {
-        return write_over(plant, config, journal, h, w, u, fields, found);
+        let done = write_over(plant, config, journal, h, w, u, fields, found);
+        return followed(plant, config, journal, w.volume, done);
     }
     if collides(fields, w.track) {
-        return landed(write_collided(plant, config, journal, h, w, u));
+        return write_collided(plant, config, journal, h, w, u);
     }
-    landed(write_here(plant, config, journal, h, w, fields, server, found))
+    let done = landed(write_here(plant, config, journal, h, w, fields, server, found));
+    followed(plant, config, journal, w.volume, done)
 }
 
-/// Carries out the write, without what follows the stop of a server.
+/// Carries out the write on its volume, whose fields are at hand.
 fn carry_write<P: Plant>(
     plant: &mut P,
     config: &Config,
@@ -183,8 +174,8 @@ fn carry_write<P: Plant>(
     requires due { IsDue (P.state plant.old) config.now h.old journal.old.events w.now }
     requires pair { is_part fields.now.primary ≡ true → MayPair (P.state plant.old) config.now w.now.volume.0 fields.now.primary_partner.0 }
     requires shows { Shows (P.state plant.old) config.now w.now.volume.0 fields.now }
-    requires room { length config.now.volumes + (length config.now.volumes + 4) ≤ journal.old.spare }
-    ensures wrote { Wrote (P.state plant.old) (P.state plant.new) config.now h.old h.new journal.old journal.new (λ k. landing k w.now.w.0 w.now.volume.0 w.now.track) (length config.now.volumes + (length config.now.volumes + 3)) result }
+    requires room { length config.now.volumes + (length config.now.volumes + 7) ≤ journal.old.spare }
+    ensures wrote { WroteIn (P.state plant.old) (P.state plant.new) config.now h.old h.new journal.old journal.new (λ k. write_stretches k w.now.w.0 w.now.volume.0 w.now.track) (length config.now.volumes + (length config.now.volumes + 6)) result }
     ensures end { (r : Rest) → IfOk result (λ e. e ≡ end_of (waits (here (P.state plant.old) config.now r h.old journal.old.events).control w.now.volume.0 w.now.track)) }
     ensures mirrors { is_metro fields.now.primary ≡ true → IfOk result (λ e. e ≡ Landed → Mirrors (P.state plant.new) config.now w.now.volume.0 fields.now.primary_partner.0 w.now.track) }
 {
@@ -235,7 +226,7 @@ pub fn sync_write<P: Plant>(
     requires fits { w.now.offset + w.now.len ≤ 64 }
     requires found { find (has_number w.now.w.0) h.old.pending ≡ Some w.now }
     requires room { length config.now.volumes + (length config.now.volumes + 7) ≤ journal.old.spare }
-    ensures carried { (r : Rest) → EndsFollowed (armed_in (P.state plant.old)) (here (P.state plant.old) config.now r h.old journal.old.events) (landing (here (P.state plant.old) config.now r h.old journal.old.events).control w.now.w.0 w.now.volume.0 w.now.track) (after_write (here (P.state plant.old) config.now r h.old journal.old.events).control w.now.volume.0 w.now.track) (here (P.state plant.new) config.now r h.new journal.new.events) (refusal_of result) }
+    ensures carried { (r : Rest) → EndsIn (armed_in (P.state plant.old)) (here (P.state plant.old) config.now r h.old journal.old.events) (write_stretches (here (P.state plant.old) config.now r h.old journal.old.events).control w.now.w.0 w.now.volume.0 w.now.track) (here (P.state plant.new) config.now r h.new journal.new.events) (refusal_of result) }
     ensures end { (r : Rest) → IfOk result (λ e. e ≡ end_of (waits (here (P.state plant.old) config.now r h.old journal.old.events).control w.now.volume.0 w.now.track)) }
     ensures mirrors { is_metro (volume_seen (P.state plant.old) config.now w.now.volume.0).fields.primary ≡ true → IfOk result (λ e. e ≡ Landed → Mirrors (P.state plant.new) config.now w.now.volume.0 (volume_seen (P.state plant.old) config.now w.now.volume.0).fields.primary_partner w.now.track) }
     ensures rest { IsAtRest (P.state plant.new) config.now }
@@ -248,12 +239,5 @@ pub fn sync_write<P: Plant>(
     ensures spare { length journal.new.events + journal.new.spare ≡ length journal.old.events + journal.old.spare }
 {
     let fields = peek_fields(plant, config, w.volume);
-    let collided = collides(&fields, w.track);
-    match carry_write(plant, config, journal, h, w, &fields) {
-        Ok(end) => Ok(end),
-        Err(why) => {
-            follow_write(plant, config, journal, w.volume, collided, why);
-            Err(why)
-        }
-    }
+    carry_write(plant, config, journal, h, w, &fields)
 }

@@ -13,7 +13,7 @@ use Rattle.dr_model.specs.Control.{Control, Fuse, Volume, World}
 use Rattle.dr_model.specs.Moves.{Move, Carried, target, next_fields, carried, keeps_staged, updated_keeping}
 use Rattle.dr_model.specs.Carry.{Act, Make, Redo, Acknowledge, Next, Pass, Do, End, Entry, Turn, Outcome, act, turn, redo, redo_ended, acknowledged, carry, go, continue, check, follow, Drop, dropped, Ended, ended, lower, pass, writes, gate_at, counts_by, spent, off, update_keeping, finished, cut_short}
 use Rattle.dr_model.specs.Plans.{Plan, tables_plan, only_says, refuses, same}
-use Rattle.dr_model.specs.Runs.{begun, finish, answered, after_plan, said}
+use Rattle.dr_model.specs.Runs.{begun, finish, stop_place, answered, after_plan, said}
 
 -- a fuse is armed after writes as it was before
 pub lowered-armed : (n : ℕ) (f : Option Fuse) → is_some (lower n f) ≡ is_some f
@@ -155,9 +155,9 @@ carry-append w (d ∷ first) rest = go-then w (d w.control) (λ v. carry v first
 
 -- a plan comes to what its entries come to
 pub plan-ends : (w : World) (line : ℕ) (p : Plan) (o : Outcome) → carry (begun w p) p.entries ≡ o
-    → after_plan w line p ≡ said (finish p o.0 o.1) line (answered p (finish p o.0 o.1).control o.1)
+    → after_plan w line p ≡ said (finish p (stop_place w p) o.0 o.1) line (answered p (finish p (stop_place w p) o.0 o.1).control o.1)
 unfolding after_plan
-plan-ends w line p o e = ap (λ (o : Outcome). said (finish p o.0 o.1) line (answered p (finish p o.0 o.1).control o.1)) e
+plan-ends w line p o e = ap (λ (o : Outcome). said (finish p (stop_place w p) o.0 o.1) line (answered p (finish p (stop_place w p) o.0 o.1).control o.1)) e
 
 -- one that changes tables and tells events
 pub plan-tables : (w : World) (line : ℕ) (first : Control → Control) (told : List Event) (a : Said)
@@ -172,13 +172,13 @@ pub plan-refuses : (w : World) (line : ℕ) (r : Refusal) → after_plan w line 
 plan-refuses w line r = plan-says w line (Refused r)
 
 -- nothing follows a refusal where no entry does
-follow-none : (w : World) (r : Refusal) (follows : ℕ → List Entry) → ((s : ℕ) → follows s ≡ []) → follow w r follows ≡ w
-follow-none w (Stopped s) follows none = ap (λ (o : Outcome). o.0) (ap (carry w) (none s.0) ∙ carry-none w)
-follow-none w _ follows none = refl
+follow-none : (w : World) (r : Refusal) (n : ℕ) (follows : ℕ → List Entry) → ((s : ℕ) → follows s ≡ []) → follow w r (follows n) ≡ w
+follow-none w (Stopped s) n follows none = ap (λ (o : Outcome). o.0) (ap (carry w) (none n) ∙ carry-none w)
+follow-none w _ n follows none = refl
 
 -- a plan that a refusal ends
 pub plan-fails : (w u : World) (line : ℕ) (p : Plan) (r : Refusal) → ((s : ℕ) → p.follows s ≡ []) → carry (begun w p) p.entries ≡ (u, Some r) → after_plan w line p ≡ said u line (Refused r)
-plan-fails w u line p r none e = plan-ends w line p (u, Some r) e ∙ ap (λ v. said v line (Refused r)) (follow-none u r p.follows none)
+plan-fails w u line p r none e = plan-ends w line p (u, Some r) e ∙ ap (λ v. said v line (Refused r)) (follow-none u r (stop_place w p) p.follows none)
 
 -- a check that drops the write passes, or ends all
 pub act-drop : (w : World) (n : ℕ) → act w (Drop n) ≡ (dropped w n, None)

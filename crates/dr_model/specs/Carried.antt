@@ -2,7 +2,7 @@
 use Rattle.std.specs.Prelude.{ℕ, Bool, [], ◌∷◌, ◌++◌, Option, Some, None}
 use Rattle.dr_ids.specs.declared.refusal.Refusal.{Refusal}
 use Rattle.dr_model.specs.Control.{Control, World}
-use Rattle.dr_model.specs.Carry.{Outcome, carry, follow}
+use Rattle.dr_model.specs.Carry.{Outcome, carry, stopped_at, follow}
 use Rattle.dr_model.specs.declared.said.Said.{Said}
 use Rattle.dr_model.specs.declared.said.Said.TheVariants.{Refused}
 use Rattle.dr_model.specs.Sessions.{lost_since}
@@ -14,14 +14,18 @@ use Rattle.dr_model.specs.PlanParts.{Plan}
 abbrev pub begun : World → Plan → World
 begun w p = record w { control = p.first w.control; events = w.events ++ p.told }
 
--- where the entries ended well, the tables as the step ends; where a server stopped, what follows its stop
-abbrev pub finish : Plan → World → Option Refusal → World
-finish p w None = record w { control = p.last w.control }
-finish p w (Some r) = follow w r p.follows
+-- where the entries ended well, the tables as the step ends; where a server stopped after so many entries, what follows its stop there
+abbrev pub finish : Plan → ℕ → World → Option Refusal → World
+finish p n w None = record w { control = p.last w.control }
+finish p n w (Some r) = follow w r (p.follows n)
+
+-- how many entries of a plan came before the one in which a server stopped
+abbrev pub stop_place : World → Plan → ℕ
+stop_place w p = stopped_at (begun w p) p.entries
 
 -- a plan is carried out: the world, and the refusal, if one
 abbrev pub carried_out : World → Plan → Outcome
-carried_out w p = (finish p (carry (begun w p) p.entries).0 (carry (begun w p) p.entries).1, (carry (begun w p) p.entries).1)
+carried_out w p = (finish p (stop_place w p) (carry (begun w p) p.entries).0 (carry (begun w p) p.entries).1, (carry (begun w p) p.entries).1)
 
 -- what a step answers
 abbrev pub answered : Plan → Control → Option Refusal → Said

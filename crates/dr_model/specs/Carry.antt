@@ -1,5 +1,5 @@
 -- Moves carried out on servers that may stop within any device write. No plan says what a stop leaves: this does.
-use Rattle.std.specs.Prelude.{ℕ, ◌+◌, ◌-◌, Bool, true, false, not, List, [], ◌∷◌, ◌++◌, filter, Option, Some, None, nat_eq, nat_le, if◌then◌else◌}
+use Rattle.std.specs.Prelude.{ℕ, ◌+◌, ◌-◌, Bool, true, false, not, List, [], ◌∷◌, ◌++◌, filter, length, Option, Some, None, nat_eq, nat_lt, nat_le, if◌then◌else◌}
 use Rattle.dr_logic.specs.Tables.{at}
 use Rattle.dr_ids.specs.Paths.{without_path}
 use Rattle.dr_ids.specs.declared.refusal.Refusal.{Refusal}
@@ -237,6 +237,20 @@ unfoldable pub carry : World → List Entry → Outcome
 carry w [] = (w, None)
 carry w (d ∷ ds) = go w (d w.control) (λ v. carry v ds)
 
+-- how many entries came before the one in which a server stopped: told where it stopped in none, what entries came to and what is left
+abbrev pub stopped_turn : Turn → (World → ℕ) → ℕ
+stopped_turn (w, None) later = later w
+stopped_turn (w, Some s) later = 0
+
+abbrev pub stopped_next : World → Next → (World → ℕ) → ℕ
+stopped_next w Pass later = later w
+stopped_next w (End r) later = 0
+stopped_next w (Do a) later = stopped_turn (act w a) later
+
+unfoldable pub stopped_at : World → List Entry → ℕ
+stopped_at w [] = 0
+stopped_at w (d ∷ ds) = stopped_next w (d w.control) (λ v. stopped_at v ds + 1)
+
 -- a move that comes in any case
 abbrev pub now : Move → Entry
 now m k = Do (Make m)
@@ -247,6 +261,23 @@ check ok r k = if ok k then Pass else End r
 
 -- Where a server stopped, what follows its stop is carried out on the others, until one of them stops too; the
 -- server that stopped first is the one that counts.
-abbrev pub follow : World → Refusal → (ℕ → List Entry) → World
-follow w (StoppedIn s) follows = (carry w (follows s.0)).0
+abbrev pub follow : World → Refusal → List Entry → World
+follow w (StoppedIn s) follows = (carry w follows).0
 follow w _ follows = w
+
+-- A stretch of a plan: entries, and what follows where a server stops in them.
+pub record Stretch : Type 0 where
+  pub entries : List Entry
+  pub follows : List Entry
+
+-- the entries of stretches, one after another
+abbrev pub entries_in : List Stretch → List Entry
+entries_in [] = []
+entries_in (s ∷ []) = s.entries
+entries_in (s ∷ ss) = s.entries ++ entries_in ss
+
+-- what follows where a server stopped after that many entries of stretches: that of the stretch in which it did
+abbrev pub follows_at : List Stretch → ℕ → List Entry
+follows_at [] n = []
+follows_at (s ∷ []) n = s.follows
+follows_at (s ∷ ss) n = if nat_lt n (length s.entries) then s.follows else follows_at ss (n - length s.entries)

@@ -181,8 +181,8 @@ abbrev pub suspend_running : ℕ → Entry
 suspend_running a k = if is_part (fields_at k a).primary && is_running a k then Do (Make (Suspend a false)) else Pass
 
 -- what follows where a server stopped in a send
-abbrev pub suspend_after : ℕ → ℕ → List Entry
-suspend_after a s = suspend_running a ∷ []
+abbrev pub suspend_after : ℕ → List Entry
+suspend_after a = suspend_running a ∷ []
 
 -- the tracks of a set in order, at most so many
 abbrev pub tracks_to_send : Option ℕ → ℕ → Tracks → List ℕ

@@ -16,7 +16,7 @@ use Rattle.dr_model.specs.declared.event.Event.{Event}
 use Rattle.dr_model.specs.declared.step.Name.{Name}
 
 -- What a step comes to: the tables as it begins, what the journal is told then, the entries, those that follow where a
--- server stops in them, the tables where it ended well, and what it says then, by the last control state.
+-- server stops in them, by how many entries came before, the tables where it ended well, and what it says then, by the last control state.
 pub record Plan : Type 0 where
   pub first : Control → Control
   pub told : List Event
@@ -31,7 +31,7 @@ same k = k
 
 -- a stop ends the step
 abbrev pub none_follow : ℕ → List Entry
-none_follow server = []
+none_follow n = []
 
 -- an answer that looks at nothing
 abbrev pub always : Said → Control → Said

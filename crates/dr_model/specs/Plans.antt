@@ -122,7 +122,7 @@ write_done k v t offset len bytes = record {
   first = with_pending v t;
   told = Issue (k.issued + 1) v t offset len bytes ∷ [];
   entries = landing k (k.issued + 1) v t;
-  follows = after_write k v t;
+  follows = after_write k (k.issued + 1) v t;
   last = same;
   says = always (says_written k (k.issued + 1) v t);
 }
@@ -137,7 +137,7 @@ apply_done k p = record {
   first = same;
   told = [];
   entries = landing k p.w p.volume p.track;
-  follows = after_write k p.volume p.track;
+  follows = after_write k p.w p.volume p.track;
   last = same;
   says = always (says_written k p.w p.volume p.track);
 }
@@ -566,7 +566,7 @@ drain_plan k a most =
       first = same;
       told = [];
       entries = check (is_defined a) (unknown OfVolume) ∷ running_check k a ∷ check (is_copying a) (pair_state k a) ∷ sends k.volumes a (fields_at k a).primary_partner ts;
-      follows = suspend_after a;
+      follows = λ n. suspend_after a;
       last = same;
       says = always (Done (Counted (length ts)));
     }

@@ -11,7 +11,7 @@ use Rattle.dr_model.specs.Limits.{image_events}
 use Rattle.dr_model.specs.PlantImage.{Volume}
 use Rattle.dr_model.specs.PlanParts.{same, tables_plan, only_says, refuses}
 use Rattle.dr_model.specs.Plans.{Plan, plan, has_room, has_room_for, compare_plan}
-pub use Rattle.dr_model.specs.Carried.{begun, finish, carried_out, answered, said, masters_lost}
+pub use Rattle.dr_model.specs.Carried.{begun, finish, stop_place, carried_out, answered, said, masters_lost}
 unfoldable pub use Rattle.dr_model.specs.Carried.{after_plan}
 use Rattle.dr_model.specs.Forming.{Part, Way, formed, form_said}
 use Rattle.dr_model.specs.declared.step.Step.{Step}

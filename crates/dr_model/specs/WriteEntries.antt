@@ -6,7 +6,7 @@ use Rattle.dr_model.specs.Layout.{is_part}
 use Rattle.dr_model.specs.Control.{Control, is_volume}
 use Rattle.dr_model.specs.Pairs.{held, goes_over, collides, must_restart}
 use Rattle.dr_model.specs.Moves.{Suspend, Unsync, Mirror, LandBoth, Thaw, FlashHold, FlashFree, Lift, Restart}
-use Rattle.dr_model.specs.Carry.{Make, Redo, EndFreeze, EndThaw, Pass, Do, Entry, now}
+use Rattle.dr_model.specs.Carry.{Make, Redo, EndFreeze, EndThaw, Pass, Do, Entry, Stretch, follows_at, now}
 use Rattle.dr_model.specs.Entries.{fields_at, is_running, subsystem, copy_first, write_checks, land_alone}
 use Rattle.dr_model.specs.PairEntries.{send_refusal, suspend_where, flashed_refusal, store_on, strike_on, suspend_after}
 use Rattle.dr_model.specs.declared.said.Addition.TheVariants.{Wrote}
@@ -89,12 +89,21 @@ abbrev pub part_running : ℕ → Entry
 part_running v k = if is_part (fields_at k v).primary && is_running v k then Do (Make (Suspend v (is_grouped k v (partner_of k v)))) else Pass
 
 -- what follows where a server stopped in a host write
-abbrev pub part_after : ℕ → ℕ → List Entry
-part_after v s = part_running v ∷ []
+abbrev pub part_after : ℕ → List Entry
+part_after v = part_running v ∷ []
 
--- a host write that collides is followed as a send is
-abbrev pub after_write : Control → ℕ → ℕ → ℕ → List Entry
-after_write k v t s = if collides (fields_at k v) t then suspend_after v s else part_after v s
+-- A host write in stretches, by what follows a stop in them: of one that collides, what is sent first is followed as a send is, and the rest as
+-- any host write.
+abbrev pub write_stretches : Control → ℕ → ℕ → ℕ → List Stretch
+write_stretches k n v t =
+    if not (held (fields_at k v)) && (not (goes_over (fields_at k v) t) && collides (fields_at k v) t)
+    then record { entries = write_checks k n v ++ send_first k.volumes v (partner_of k v) t; follows = suspend_after v }
+    ∷ record { entries = land_alone k.volumes n v t; follows = part_after v } ∷ []
+    else record { entries = landing k n v t; follows = part_after v } ∷ []
+
+-- what follows a stop in host write n, after so many of its entries
+abbrev pub after_write : Control → ℕ → ℕ → ℕ → ℕ → List Entry
+after_write k n v t = follows_at (write_stretches k n v t)
 
 -- a primary of logical subsystem l, whose server runs, with its secondary in m
 abbrev pub is_between : Control → ℕ → ℕ → ℕ → Bool

@@ -36,6 +36,7 @@ pub mod EntryLemmas
 pub mod EnteredLemmas
 pub mod StopRows
 pub mod FollowLemmas
+pub mod StretchLemmas
 pub mod ActedLemmas
 pub mod WentLemmas
 pub mod PlacingLemmas

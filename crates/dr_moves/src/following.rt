@@ -17,10 +17,10 @@ use dr_plant::Plant;
 
 /// What follows the stop of a server in a plan, carried out from the state that the stop left. Why it ended is told nobody.
 ///
-/// `entries` are those by the number of the server that stopped. They ask `stands` of the configuration, and that there is `room` for
+/// `entries` are those of it. They ask `stands` of the configuration, and that there is `room` for
 /// what they tell; `leaves` is what holds of the state before them and of the one behind, and where nothing was done.
 pub trait Behind<P: Plant> {
-    ghost entries: { Self → ConfigTable → ℕ → List Entry };
+    ghost entries: { Self → ConfigTable → List Entry };
 
     ghost stands: { Self → ConfigTable → Type 0 };
 
@@ -33,7 +33,7 @@ pub trait Behind<P: Plant> {
         requires at { IsAt (P.state plant.old) config.now }
         requires stands { stands self.now config.now }
         requires room { room self.now config.now ≤ journal.old.spare }
-        ensures ends { (r : Rest) → EndsSo (armed_in (P.state plant.old)) (world_seen (P.state plant.old) config.now r journal.old.events) (entries self.now config.now server.0) (world_seen (P.state plant.new) config.now r journal.new.events) }
+        ensures ends { (r : Rest) → EndsSo (armed_in (P.state plant.old)) (world_seen (P.state plant.old) config.now r journal.old.events) (entries self.now config.now) (world_seen (P.state plant.new) config.now r journal.new.events) }
         ensures leaves { leaves self.now (P.state plant.old) (P.state plant.new) config.now }
         ensures kept { KeptBehind (P.state plant.old) (P.state plant.new) config.now journal.old journal.new (room self.now config.now) true };
 

@@ -34,7 +34,7 @@ module _ (armed : ℕ → Bool) (w u : World) (s : ℕ) (x : Session) (found : s
   pub alike-by : (a : Said) → PlanEnds armed w (recover_behind w.control s ms) u a → RecoversAlike w u
   alike-by a ends z =
       let e : PlanEnds armed w (recover_plan w.control s) u a = subst (λ p. PlanEnds armed w p u a) (sym plan-is) ends in
-      subst (λ v. SameRecovery (sizes w.control) (recovered_in w z) (recovered_in v z)) (sym e.world) (recover-stays w sound z s armed e.middle e.refusal e.ends)
+      subst (λ v. SameRecovery (sizes w.control) (recovered_in w z) (recovered_in v z)) (sym e.world) (recover-stays w sound z s _ armed e.middle e.refusal e.ends)
 
   module _ (running : secondary_refusal ms w.control ≡ None) (ends : Ends armed u None w (recover_entries s (decided_in s w.control) ms)) where
     all_on : secondary_refusal x.members w.control ≡ None

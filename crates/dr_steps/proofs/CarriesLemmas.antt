@@ -4,13 +4,13 @@ use Rattle.dr_model.specs.declared.said.Said.{Said}
 use Rattle.dr_model.specs.Carry.{Outcome, carry}
 use Rattle.dr_model.specs.Control.{World}
 use Rattle.dr_model.specs.PlanParts.{Plan}
-use Rattle.dr_model.specs.Runs.{begun, finish, carried_out, answered, after_plan, said}
+use Rattle.dr_model.specs.Runs.{begun, finish, stop_place, carried_out, answered, after_plan, said}
 use Rattle.dr_steps.specs.Here.{Carries}
 
 -- by how its entries end
-pub carries : (w : World) (p : Plan) (o : Outcome) (u : World) (a : Said) → carry (begun w p) p.entries ≡ o → finish p o.0 o.1 ≡ u → answered p u.control o.1 ≡ a → Carries w p u a
+pub carries : (w : World) (p : Plan) (o : Outcome) (u : World) (a : Said) → carry (begun w p) p.entries ≡ o → finish p (stop_place w p) o.0 o.1 ≡ u → answered p u.control o.1 ≡ a → Carries w p u a
 carries w p o u a ends world says = record {
-  world = ap (λ (o : Outcome). finish p o.0 o.1) ends ∙ world;
+  world = ap (λ (o : Outcome). finish p (stop_place w p) o.0 o.1) ends ∙ world;
   says = ap (λ (o : Outcome). answered p u.control o.1) ends ∙ says;
 }
 

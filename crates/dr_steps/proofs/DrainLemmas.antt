@@ -31,6 +31,7 @@ use Rattle.dr_moves.specs.Here.{world_seen, armed_in, IsAtRest}
 use Rattle.dr_moves.specs.Turns.{Leads}
 use Rattle.dr_moves.proofs.EntryLemmas.{refuses}
 use Rattle.dr_facts.proofs.Ends.{ends-passed, ends-none}
+use Rattle.dr_moves.proofs.StretchLemmas.{follows-to}
 use Rattle.dr_moves.specs.Followed.{EndsFollowed, Follows}
 use Rattle.dr_steps.specs.Here.{here, IsTold, Carries}
 use Rattle.dr_steps.proofs.CarriesLemmas.{carries}
@@ -90,12 +91,11 @@ module _ (s : PlantState) (c : ConfigTable) (h : Tables) (ev : List Event) (a : 
     all = checks ++ sends (ids_of c.volumes) a to sent
 
     -- what follows leads on from the middle
-    follows-to : (v u : World) (r : Refusal) → Follows (armed_in s) v (Some r) (suspend_after a) u → follow v r (suspend_after a) ≡ u
-    follows-to v u (Stopped server) so = ap (λ (o : World × Option Refusal). o.0) (exact s u so.refusal v (suspend_after a server.0) pass so.ends)
-    follows-to v u _ same = sym same
+    leads-to : (v u : World) (r : Refusal) → Follows (armed_in s) v (Some r) (suspend_after a) u → follow v r (suspend_after a) ≡ u
+    leads-to = follows-to (armed_in s) (λ u r w ds. exact s u r w ds pass) (suspend_after a)
 
     told-followed : (v u : World) (r : Refusal) → Follows (armed_in s) v (Some r) (suspend_after a) u → IsTold h v.events → IsTold h u.events
-    told-followed v u (Stopped server) so told = told-through h v u (suspend_after a server.0) so.refusal (exact s u so.refusal v (suspend_after a server.0) pass so.ends) told
+    told-followed v u (Stopped server) so told = told-through h v u (suspend_after a) so.refusal (exact s u so.refusal v (suspend_after a) pass so.ends) told
     told-followed v u _ same told = subst (λ (w : World). IsTold h w.events) (sym same) told
 
     begins : carry (record before { events = ev ++ [] }) all ≡ carry before all
@@ -146,7 +146,7 @@ module _ (s : PlantState) (c : ConfigTable) (h : Tables) (ev : List Event) (a : 
 
           -- or one failed
           pub drain-failed : (u : World) (r : Refusal) → EndsFollowed (armed_in s) before (sends (ids_of c.volumes) a to sent) (suspend_after a) u (Some r) → Carries before plan u (Refused r)
-          drain-failed u r ended = carries before plan (ended.middle, Some r) u (Refused r) (carried ended.middle (Some r) ended.ends) (follows-to ended.middle u r ended.followed) refl
+          drain-failed u r ended = carries before plan (ended.middle, Some r) u (Refused r) (carried ended.middle (Some r) ended.ends) (leads-to ended.middle u r ended.followed) refl
 
     -- the host's writes are those that were told
     pub drain-told : (u : World) (r : Option Refusal) → EndsFollowed (armed_in s) before (sends (ids_of c.volumes) a to sent) (suspend_after a) u r → IsTold h ev → IsTold h u.events

@@ -17,7 +17,7 @@ use Rattle.dr_model.specs.Groups.{SessionFits}
 use Rattle.dr_model.specs.Laws.{Sound}
 use Rattle.dr_model.specs.Phases as phases
 use Rattle.dr_model.specs.PlanParts.{Plan, unless, none_follow, name_bytes}
-use Rattle.dr_model.specs.Runs.{after_plan, begun, finish, said}
+use Rattle.dr_model.specs.Runs.{after_plan, begun, finish, stop_place, said}
 use Rattle.dr_model.specs.Decisions.{Shown}
 use Rattle.dr_model.specs.SessionEntries.{members_on, order_entries, reply_after}
 use Rattle.dr_model.specs.Messages.{Flight, heard}
@@ -56,13 +56,13 @@ plan-exact s pass w u p a e = carries w p (e.middle, e.refusal) u a (exact s e.m
 abbrev pub IsPlain : Plan → Type 0
 IsPlain p = (p.told ≡ []) × (p.follows ≡ none_follow)
 
-finish-tells : (p : Plan) (w : World) (r : Option Refusal) → IsPlain p → (finish p w r).events ≡ w.events
-finish-tells p w None plain = refl
-finish-tells p w (Some r) plain = ap (λ (v : World). v.events) (ap (follow w r) plain.1 ∙ sym (follow-nothing w r))
+finish-tells : (p : Plan) (n : ℕ) (w : World) (r : Option Refusal) → IsPlain p → (finish p n w r).events ≡ w.events
+finish-tells p n w None plain = refl
+finish-tells p n w (Some r) plain = ap (λ (v : World). v.events) (ap (λ (f : ℕ → List Entry). follow w r (f n)) plain.1 ∙ sym (follow-nothing w r))
 
 pub told-by : (s : PlantState) (h : Tables) → ReadsPass s → (w u : World) (p : Plan) (a : Said) → IsPlain p → PlanEnds (armed_in s) w p u a → IsTold h w.events → IsTold h u.events
 told-by s h pass w u p a plain e told =
-    subst (IsTold h) (sym (ap (λ (v : World). v.events) e.world ∙ finish-tells p e.middle e.refusal plain))
+    subst (IsTold h) (sym (ap (λ (v : World). v.events) e.world ∙ finish-tells p (stop_place w p) e.middle e.refusal plain))
     (told-through h (begun w p) e.middle p.entries e.refusal (exact s e.middle e.refusal (begun w p) p.entries pass e.ends)
     (subst (IsTold h) (sym (ap (λ es. w.events ++ es) plain.0 ∙ append-nil w.events)) told))
 

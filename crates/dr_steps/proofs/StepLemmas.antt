@@ -36,13 +36,13 @@ use Rattle.dr_model.specs.Contents.{image_at}
 use Rattle.dr_model.specs.Control.{World, is_volume, Control}
 use Rattle.dr_model.specs.Laws.{Sound}
 use Rattle.dr_model.specs.Entries.{is_running}
-use Rattle.dr_model.specs.WriteEntries.{landing, says_written, after_write}
+use Rattle.dr_model.specs.WriteEntries.{says_written, write_stretches}
 use Rattle.dr_ids.specs.declared.refusal.Refusal.TheVariants.{Stopped}
 use Rattle.dr_model.specs.Plans.{Plan, unless, same, track_refusal, issue_refusal, show_done, show_plan, with_pending, issue_done, write_done, apply_done, apply_on, apply_plan}
 use Rattle.dr_model.specs.Moves as moves
-use Rattle.dr_model.specs.Carry.{Entry, follow}
+use Rattle.dr_model.specs.Carry.{Entry, Stretch, carry, follow, entries_in, follows_at, stopped_at}
 use Rattle.dr_model.specs.Histories.{Histories, Write, histories}
-use Rattle.dr_model.specs.Runs.{after_plan, begun, said}
+use Rattle.dr_model.specs.Runs.{after_plan, begun, stop_place, said}
 use Rattle.dr_model.proofs.Images.{histories-push}
 use Rattle.dr_model.proofs.CarryLemmas.{carry-none, plan-ends, plan-tables, plan-refuses}
 use Rattle.dr_laws_sound.proofs.Agree.{view-image}
@@ -51,7 +51,9 @@ use Rattle.dr_volume.specs.View.{on_seen, volume_seen, ReadsPass}
 use Rattle.dr_moves.specs.Checks.{is_stop}
 use Rattle.dr_flash.specs.Views.{view_seen}
 use Rattle.dr_moves.specs.Here.{refusal_of, armed_in}
-use Rattle.dr_moves.specs.Followed.{EndsFollowed, Follows}
+use Rattle.dr_moves.specs.Followed.{EndsIn}
+use Rattle.dr_moves.proofs.StretchLemmas.{Carried, in-none, in-some}
+use Rattle.dr_facts.proofs.WriteStops.{stretches-land}
 use Rattle.dr_metro.specs.Here as metro
 use Rattle.dr_metro.specs.Syncing.{end_of}
 use Rattle.dr_metro.specs.declared.sync.WriteEnd.{WriteEnd}
@@ -138,22 +140,18 @@ written-calm n Waits = refl
 pub calm-counts : (a : Said) (s u : PlantState) → is_stopped a ≡ false → u.faults ≡ s.faults → CountsStop a s u
 calm-counts a s u calm same = subst (λ b. Counted b s.faults u.faults) (sym calm) same
 
--- where no read fuse is armed, what follows a stop is what the plan says
-follows-to : (s : PlantState) (pass : ReadsPass s) (follows : ℕ → List Entry) (v u : World) (r : Refusal) → Follows (armed_in s) v (Some r) follows u → follow v r follows ≡ u
-follows-to s pass follows v u (Stopped server) so = ap (λ (o : World × Option Refusal). o.0) (exact s u so.refusal v (follows server.0) pass so.ends)
-follows-to s pass follows v u _ same = sym same
-
--- a plan that was carried out, with what follows a stop in it
-pub followed-leads : (s : PlantState) (pass : ReadsPass s) (w u : World) (line : ℕ) (p : Plan) (result : Result Said Refusal) → ((k : Control) → p.last k ≡ k)
-    → EndsFollowed (armed_in s) (begun w p) p.entries p.follows u (refusal_of result) → ((k : Control) → IfOk result (λ a. a ≡ p.says k)) → after_plan w line p ≡ said u line (answered_by result)
-followed-leads s pass w u line p (Ok a) last ended says =
-    plan-ends w line p (ended.middle, None) (exact s ended.middle None (begun w p) p.entries pass ended.ends)
-    ∙ ap (λ (k : Control). said (record ended.middle { control = k }) line (p.says k)) (last ended.middle.control)
-    ∙ ap (λ a. said ended.middle line a) (sym (says ended.middle.control))
-    ∙ ap (λ (v : World). said v line a) (sym ended.followed)
-followed-leads s pass w u line p (Err r) last ended says =
-    plan-ends w line p (ended.middle, Some r) (exact s ended.middle (Some r) (begun w p) p.entries pass ended.ends)
-    ∙ ap (λ (v : World). said v line (Refused r)) (follows-to s pass p.follows ended.middle u r ended.followed)
+-- a plan that was carried out in stretches, with what follows a stop in them
+pub followed-leads : (s : PlantState) (pass : ReadsPass s) (w u : World) (line : ℕ) (p : Plan) (ss : List Stretch) (result : Result Said Refusal) → ((k : Control) → p.last k ≡ k) → entries_in ss ≡ p.entries → ((n : ℕ) → p.follows n ≡ follows_at ss n)
+    → EndsIn (armed_in s) (begun w p) ss u (refusal_of result) → ((k : Control) → IfOk result (λ a. a ≡ p.says k)) → after_plan w line p ≡ said u line (answered_by result)
+followed-leads s pass w u line p ss (Ok a) last same follows ended says =
+    plan-ends w line p (u, None) (ap (carry (begun w p)) (sym same) ∙ in-none (armed_in s) (λ u r w ds. exact s u r w ds pass) (begun w p) ss u ended)
+    ∙ ap (λ (k : Control). said (record u { control = k }) line (p.says k)) (last u.control)
+    ∙ ap (λ a. said u line a) (sym (says u.control))
+followed-leads s pass w u line p ss (Err r) last same follows ended says =
+    let c : Carried (begun w p) ss u r = in-some (armed_in s) (λ u r w ds. exact s u r w ds pass) (begun w p) ss u r ended in
+    plan-ends w line p (c.middle, Some r) (ap (carry (begun w p)) (sym same) ∙ c.carried)
+    ∙ ap (λ (es : List Entry). said (follow c.middle r es) line (Refused r)) (follows (stop_place w p) ∙ ap (λ es. follows_at ss (stopped_at (begun w p) es)) (sym same))
+    ∙ ap (λ (v : World). said v line (Refused r)) c.followed
 
 -- why a write isn't issued
 module _ (s : PlantState) (t : ConfigTable) (h : Tables) (ev : List Event) (v k : ℕ) where
@@ -223,14 +221,14 @@ module _ (s : PlantState) (t : ConfigTable) (h h' : Tables) (ev mid : List Event
 
   -- it is carried out
   pub issued-lands : ReadsPass s → (line : ℕ) (u : World) (result : Result Said Refusal) (p : Pending) → find (has_number n) h'.host.pending ≡ Some p
-      → EndsFollowed (armed_in s) (here s t h' mid) (landing (here s t h' mid).control p.w.0 p.volume.0 p.track) (after_write (here s t h' mid).control p.volume.0 p.track) u (refusal_of result) → IfOk result (λ a. a ≡ says_written (here s t h' mid).control p.w.0 p.volume.0 p.track)
+      → EndsIn (armed_in s) (here s t h' mid) (write_stretches (here s t h' mid).control p.w.0 p.volume.0 p.track) u (refusal_of result) → IfOk result (λ a. a ≡ says_written (here s t h' mid).control p.w.0 p.volume.0 p.track)
       → after_plan w' line (unless (issue_refusal w'.control v x.track) (write_done w'.control v x.track x.offset x.len x.bytes)) ≡ said u line (answered_by result)
   issued-lands pass line u result p found ended says =
       let is : p ≡ written (h.host.issued + 1) v x.track x.offset bytes = sym (is-written p found) ∙ ap (λ m. written m v x.track x.offset bytes) issued.number in
       plan-free w' _ line (write_done w'.control v x.track x.offset x.len x.bytes) (issue_refusal w'.control v x.track) (issued.free s)
-      (followed-leads s pass w' u line (write_done w'.control v x.track x.offset x.len x.bytes) result (λ k. refl)
-      (subst (λ (y : World). EndsFollowed (armed_in s) y (landing w'.control (h.host.issued + 1) v x.track) (after_write w'.control v x.track) u (refusal_of result)) (sym issued-begun)
-      (subst (λ (p : Pending). EndsFollowed (armed_in s) (here s t h' mid) (landing w'.control p.w.0 p.volume.0 p.track) (after_write w'.control p.volume.0 p.track) u (refusal_of result)) is ended))
+      (followed-leads s pass w' u line (write_done w'.control v x.track x.offset x.len x.bytes) (write_stretches w'.control (h.host.issued + 1) v x.track) result (λ k. refl) (stretches-land w'.control (h.host.issued + 1) v x.track) (λ n. refl)
+      (subst (λ (y : World). EndsIn (armed_in s) y (write_stretches w'.control (h.host.issued + 1) v x.track) u (refusal_of result)) (sym issued-begun)
+      (subst (λ (p : Pending). EndsIn (armed_in s) (here s t h' mid) (write_stretches w'.control p.w.0 p.volume.0 p.track) u (refusal_of result)) is ended))
       (λ k. subst (λ (p : Pending). IfOk result (λ a. a ≡ says_written w'.control p.w.0 p.volume.0 p.track)) is says))
 
 -- the write that is applied
@@ -256,12 +254,12 @@ module _ (s : PlantState) (t : ConfigTable) (h : Tables) (ev : List Event) (line
       ∙ ap (λ b. cond b None (Some (unknown OfTrack))) (lt_true p.track (volume_seen s t p.volume.0).tracks waits.low)
 
   pub applied-lands : ReadsPass s → (u : World) (result : Result Said Refusal) (p : Pending) → find (has_number n) h.host.pending ≡ Some p
-      → EndsFollowed (armed_in s) w'' (landing w''.control p.w.0 p.volume.0 p.track) (after_write w''.control p.volume.0 p.track) u (refusal_of result) → IfOk result (λ a. a ≡ says_written w''.control p.w.0 p.volume.0 p.track)
+      → EndsIn (armed_in s) w'' (write_stretches w''.control p.w.0 p.volume.0 p.track) u (refusal_of result) → IfOk result (λ a. a ≡ says_written w''.control p.w.0 p.volume.0 p.track)
       → after_plan w'' line (apply_plan w''.control n) ≡ said u line (answered_by result)
   applied-lands pass u result p is ended says =
       ap (λ o. after_plan w'' line (apply_on w''.control o)) (found-by (Some p) is)
-      ∙ followed-leads s pass w'' u line (apply_done w''.control (pending_seen p)) result (λ k. refl)
-      (subst (λ es. EndsFollowed (armed_in s) (record w'' { events = es }) (landing w''.control p.w.0 p.volume.0 p.track) (after_write w''.control p.volume.0 p.track) u (refusal_of result)) (sym (append-nil ev)) ended)
+      ∙ followed-leads s pass w'' u line (apply_done w''.control (pending_seen p)) (write_stretches w''.control p.w.0 p.volume.0 p.track) result (λ k. refl) (stretches-land w''.control p.w.0 p.volume.0 p.track) (λ n. refl)
+      (subst (λ es. EndsIn (armed_in s) (record w'' { events = es }) (write_stretches w''.control p.w.0 p.volume.0 p.track) u (refusal_of result)) (sym (append-nil ev)) ended)
       (λ k. says)
 
 -- a track that isn't there stops no server

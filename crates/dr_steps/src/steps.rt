@@ -10,12 +10,12 @@ ghost use Rattle.dr_host.specs.Writes.{has_number};
 ghost use Rattle.dr_model.specs.declared.step.Step.{Step};
 ghost use Rattle.dr_model.specs.Laws.{Sound};
 ghost use Rattle.dr_model.specs.Plans.{track_refusal, issue_refusal};
-ghost use Rattle.dr_model.specs.WriteEntries.{landing, says_written, after_write};
+ghost use Rattle.dr_model.specs.WriteEntries.{says_written, write_stretches};
 ghost use Rattle.dr_volume.specs.View.{volume_seen};
 ghost use Rattle.dr_moves.specs.Fit.{RelationsFit};
 ghost use Rattle.dr_moves.specs.Here.{refusal_of, armed_in};
 ghost use Rattle.dr_flash.specs.Views.{view_seen};
-ghost use Rattle.dr_moves.specs.Followed.{EndsFollowed};
+ghost use Rattle.dr_moves.specs.Followed.{EndsIn};
 ghost use Rattle.dr_steps.specs.Faults.{CountsStop};
 ghost use Rattle.dr_steps.specs.Here.{here, said_of, answered_by, OnAnswer, OnSaid, OnNoMemory, OnRefused, StepLeads, IsReady, IsTold};
 ghost use Rattle.dr_steps.specs.Wants.{WantsRow};
@@ -304,9 +304,8 @@ fn carry_write<P: Plant>(
     requires fit { RelationsFit (P.state plant.old) config.now }
     requires partners { PartnersFit (P.state plant.old) config.now }
     requires room { length config.now.volumes + (length config.now.volumes + 7) ≤ journal.old.spare }
-    ensures carried { EndsFollowed (armed_in (P.state plant.old)) (here (P.state plant.old) config.now tables.old journal.old.events)
-        (landing (here (P.state plant.old) config.now tables.old journal.old.events).control write.now.w.0 write.now.volume.0 write.now.track)
-        (after_write (here (P.state plant.old) config.now tables.old journal.old.events).control write.now.volume.0 write.now.track) (here (P.state plant.new) config.now tables.new journal.new.events) (refusal_of result) }
+    ensures carried { EndsIn (armed_in (P.state plant.old)) (here (P.state plant.old) config.now tables.old journal.old.events)
+        (write_stretches (here (P.state plant.old) config.now tables.old journal.old.events).control write.now.w.0 write.now.volume.0 write.now.track) (here (P.state plant.new) config.now tables.new journal.new.events) (refusal_of result) }
     ensures says { IfOk result (λ a. a ≡ says_written (here (P.state plant.old) config.now tables.old journal.old.events).control write.now.w.0 write.now.volume.0 write.now.track) }
     ensures ready { IsReady (P.state plant.new) config.now tables.new journal.new.events }
     ensures faults { CountsStop (answered_by result) (P.state plant.old) (P.state plant.new) }

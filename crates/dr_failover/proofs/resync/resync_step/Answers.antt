@@ -6,7 +6,8 @@ use Rattle.dr_volume.specs.View.{volume_seen, ids_of}
 use Rattle.dr_moves.specs.Here.{world_seen, armed_in}
 use Rattle.dr_moves.specs.Followed.{EndsFollowed}
 use Rattle.dr_failover.specs.Steps.{copying_checks}
-use Rattle.dr_failover.proofs.ResyncLemmas.{copying-checked, duplex-refused, never-duplex, calm-follows, followed-behind, one-sent, none-sent, nothing-sent}
+use Rattle.dr_moves.proofs.FollowLemmas.{calm-follows}
+use Rattle.dr_failover.proofs.ResyncLemmas.{copying-checked, duplex-refused, never-duplex, followed-behind, one-sent, none-sent, nothing-sent}
 use Rattle.dr_failover.proofs.resync.resync_step.Goals as goal
 
 pub returns-in-Some-clause-carried : goal.returns-in-Some-clause-carried

@@ -16,15 +16,15 @@ use Rattle.dr_metro.proofs.parting.part_running.Goals as goal
 use Rattle.dr_volume.proofs.WorldLaws.{on-seen}
 
 pub returns-then-not-is_part-clause-ends : goal.returns-then-not-is_part-clause-ends
-returns-then-not-is_part-clause-ends g c r s =
+returns-then-not-is_part-clause-ends g c r =
     nothing-follows (armed_in (g.P.Plant.state c.args.plant.now)) (world_seen (g.P.Plant.state c.args.plant.now) c.args.config.now r c.args.journal.now.events) (part_running c.args.v.0) (absent-part c.args.v.0 (world_seen (g.P.Plant.state c.args.plant.now) c.args.config.now r c.args.journal.now.events).control ((ap (λ (h : Head). is_part h.primary) (sym c.peek_head-head.ensures) ∙ sym c.is_part.ensures) ∙ c.if-not-is_part.true))
 
 pub returns-then-not-is_on-clause-ends : goal.returns-then-not-is_on-clause-ends
-returns-then-not-is_on-clause-ends g c r s =
+returns-then-not-is_on-clause-ends g c r =
     nothing-follows (armed_in (g.P.Plant.state c.args.plant.now)) (world_seen (g.P.Plant.state c.args.plant.now) c.args.config.now r c.args.journal.now.events) (part_running c.args.v.0) (off-part c.args.v.0 (world_seen (g.P.Plant.state c.args.plant.now) c.args.config.now r c.args.journal.now.events).control ((ap (on_seen (g.P.Plant.state c.args.plant.now)) (c.server_of.ensures.seen (g.P.Plant.state c.args.plant.now)) ∙ on-seen (g.P.Plant.state c.args.plant.now) c.server_of.result.0 c.server_of.ensures.known ∙ sym c.is_on.ensures) ∙ c.if-not-is_on.true))
 
 pub returns-clause-ends : goal.returns-clause-ends
-returns-clause-ends g c r s =
+returns-clause-ends g c r =
     record {
       refusal = refusal_of c.suspend.result;
       ends = ends-alike (armed_in (g.P.Plant.state c.args.plant.now)) (world_seen (g.P.Plant.state c.suspend.new.plant) c.args.config.now r c.suspend.new.journal.events) (refusal_of c.suspend.result) (world_seen (g.P.Plant.state c.args.plant.now) c.args.config.now r c.args.journal.now.events) (part_running c.args.v.0) (now (Suspend c.args.v.0 c.is_grouped-busy.result)) []

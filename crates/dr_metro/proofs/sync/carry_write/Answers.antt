@@ -8,20 +8,19 @@ use Rattle.dr_host.proofs.Seen.{seen-without}
 use Rattle.dr_model.specs.Histories.{histories}
 use Rattle.dr_model.specs.Layout.{Fields}
 use Rattle.dr_model.specs.Refusals.{server_off}
-use Rattle.dr_model.specs.ReadStops.{Ends}
-use Rattle.dr_model.specs.WriteEntries.{land_entries, landing}
-use Rattle.dr_volume.specs.Plain.{plain}
+use Rattle.dr_model.specs.WriteEntries.{write_stretches}
 use Rattle.dr_volume.specs.View.{on_seen}
 use Rattle.dr_volume.proofs.WorldLaws.{on-seen}
+use Rattle.dr_moves.specs.Followed.{EndsIn}
 use Rattle.dr_moves.specs.Here.{armed_in, refusal_of}
 use Rattle.dr_metro.specs.declared.sync.WriteEnd.{WriteEnd}
 use Rattle.dr_host.specs.Here.{here, rest_of}
 use Rattle.dr_metro.specs.Here.{IsTold}
-use Rattle.dr_metro.specs.Syncing.{entries_by, waits_by, end_of}
+use Rattle.dr_metro.specs.Syncing.{stretches_by, waits_by, end_of}
 use Rattle.dr_metro.proofs.RouteLemmas.{some-found}
-use Rattle.dr_metro.proofs.SyncLemmas.{write-off, write-passes, write-drops}
+use Rattle.dr_metro.proofs.SyncLemmas.{write-off, write-drops}
 use Rattle.dr_metro.proofs.ToldLemmas.{IsWrite}
-use Rattle.dr_metro.proofs.WroteLemmas.{wrote-carried}
+use Rattle.dr_metro.proofs.WroteInLemmas.{checks-end, checks-pass}
 use Rattle.dr_metro.proofs.sync.carry_write.Goals as goal
 
 pub returns-then-not-is_on-clause-wrote : goal.returns-then-not-is_on-clause-wrote
@@ -35,8 +34,8 @@ returns-then-not-is_on-clause-wrote g c =
     let on = ap (on_seen s) (c.server_of-server.ensures.seen s) ∙ on-seen s c.server_of-server.result.0 c.server_of-server.ensures.known ∙ sym c.is_on.ensures in
     record {
       carried = λ rest. let k = (here s t rest h ev).control in
-          subst (λ n. Ends (armed_in s) (here s t rest h ev) (Some (server_off n)) (here s t rest h ev) (landing k w.w.0 v w.track)) (c.server_of-server.ensures.seen s)
-          (write-off (armed_in s) (here s t rest h ev) w.w.0 v (land_entries k w.w.0 v w.track) (on ∙ c.if-not-is_on.true));
+          subst (λ n. EndsIn (armed_in s) (here s t rest h ev) (write_stretches k w.w.0 v w.track) (here s t rest h ev) (Some (server_off n))) (c.server_of-server.ensures.seen s)
+          (checks-end (armed_in s) (here s t rest h ev) w.w.0 v w.track (here s t rest h ev) (server_off (k.volume v).server) refl (λ es. write-off (armed_in s) (here s t rest h ev) w.w.0 v es (on ∙ c.if-not-is_on.true)));
       at = c.requires.due.at;
       told = c.requires.due.told;
       unarmed = λ q none. none;
@@ -59,9 +58,9 @@ returns-in-Err-clause-wrote g c =
     let gone = c.finish.ensures in
     record {
       carried = λ rest. let k = (here s t rest h ev).control in
-          subst (λ x. Ends (armed_in s) x (Some why) (here s t rest h ev) (landing k w.w.0 v w.track))
+          subst (λ x. EndsIn (armed_in s) (here s t rest h ev) (write_stretches k w.w.0 v w.track) x (Some why))
           (λ i. record (here s t rest h ev) { control = record k { issued = (sym (ap (λ (x : Writes). x.issued) gone) i); pending = (sym (seen-without w.w.0 h.pending) ∙ ap (λ (x : Writes). map pending_seen x.pending) (sym gone)) i } })
-          (write-drops (armed_in s) (here s t rest h ev) w.w.0 v why (land_entries k w.w.0 v w.track) (on ∙ c.if-not-is_on.false) (sym (c.in-Err.ensures.refusal (rest_of rest h ev) ev)));
+          (checks-end (armed_in s) (here s t rest h ev) w.w.0 v w.track _ why c.in-Err.ensures.calm (λ es. write-drops (armed_in s) (here s t rest h ev) w.w.0 v why es (on ∙ c.if-not-is_on.false) (sym (c.in-Err.ensures.refusal (rest_of rest h ev) ev))));
       at = c.requires.due.at;
       told = subst (λ (x : Writes). IsTold x ev) (sym gone) (each-without (IsWrite (histories ev).write) w.w.0 h.pending c.requires.due.told);
       unarmed = λ q none. none;
@@ -82,22 +81,28 @@ place_write-requires-clause-running g c =
 pub returns-in-Ok-clause-wrote : goal.returns-in-Ok-clause-wrote
 returns-in-Ok-clause-wrote g c =
     let s = g.P.Plant.state c.args.plant.now in
-    let u = g.P.Plant.state c.place_write.new.plant in
     let t = c.args.config.now in
     let h = c.args.h.now in
     let ev = c.args.journal.now.events in
     let w = c.args.w.now in
     let v = w.volume.0 in
-    let n = length t.volumes in
-    let new = c.place_write.new in
     let r = refusal_of c.place_write.result in
     let on = ap (on_seen s) (c.server_of-server.ensures.seen s) ∙ on-seen s c.server_of-server.result.0 c.server_of-server.ensures.known ∙ sym c.is_on.ensures in
-    wrote-carried s u t h new.h c.args.journal.now new.journal (λ k. entries_by k (plain c.args.fields.now) w.w.0 v w.track) (λ k. landing k w.w.0 v w.track) (n + (n + 3)) c.place_write.result
-    (λ rest. let k = (here s t rest h ev).control in
-    let x = here u t rest new.h new.journal.events in
-    write-passes (armed_in s) (here s t rest h ev) w.w.0 v x r (land_entries k w.w.0 v w.track) (on ∙ c.if-not-is_on.false) (sym (c.in-Ok.ensures.refusal (rest_of rest h ev) ev))
-    (subst (λ (f : Fields). Ends (armed_in s) x r (here s t rest h ev) (entries_by k f w.w.0 v w.track)) c.requires.shows.fields (c.place_write.ensures.wrote.carried rest)))
-    c.place_write.ensures.wrote
+    let wrote = c.place_write.ensures.wrote in
+    record {
+      carried = λ rest.
+          let k = (here s t rest h ev).control in
+          let x = here (g.P.Plant.state c.place_write.new.plant) t rest c.place_write.new.h c.place_write.new.journal.events in
+          checks-pass (armed_in s) (here s t rest h ev) w.w.0 v w.track x r (on ∙ c.if-not-is_on.false) (sym (c.in-Ok.ensures.refusal (rest_of rest h ev) ev))
+          (subst (λ (f : Fields). EndsIn (armed_in s) (here s t rest h ev) (stretches_by k f w.w.0 v w.track) x r) c.requires.shows.fields (wrote.carried rest));
+      at = wrote.at;
+      told = wrote.told;
+      unarmed = wrote.unarmed;
+      faults = wrote.faults;
+      issued = wrote.issued;
+      room = wrote.room;
+      spare = wrote.spare;
+    }
 
 pub returns-in-Ok-clause-end : goal.returns-in-Ok-clause-end
 returns-in-Ok-clause-end g c rest =

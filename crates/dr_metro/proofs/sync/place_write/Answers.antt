@@ -1,21 +1,26 @@
-use Rattle.std.proofs.Common.{◌≡◌, true, ◌+◌, length, arith, ap, sym, subst, ◌∙◌}
+use Rattle.std.proofs.Common.{◌≡◌, true, false, ◌+◌, length, arith, refl, ap, sym, subst, ◌∙◌, List, [], ◌∷◌}
 use Rattle.std.specs.Result.{IfOk}
 use Rattle.std.proofs.lemmas.Bool.{and_parts}
+use Rattle.dr_model.specs.Carry.{Entry}
+use Rattle.dr_model.specs.Control.{Control}
 use Rattle.dr_model.specs.Entries.{land_alone}
 use Rattle.dr_model.specs.Layout.{Fields, is_part}
 use Rattle.dr_model.specs.Pairs as pairs
 use Rattle.dr_model.specs.Pairs.{goes_over, is_metro}
-use Rattle.dr_model.specs.WriteEntries.{is_grouped}
+use Rattle.dr_model.specs.WriteEntries.{is_grouped, part_after}
 use Rattle.dr_volume.specs.Plain.{plain}
 use Rattle.dr_volume.specs.View.{ids_of, volume_seen}
 use Rattle.dr_volume.proofs.SaysLaws.{shows-says}
 use Rattle.dr_facts.proofs.Parts.{global-part, metro-part, global_metro}
 use Rattle.dr_metro.specs.declared.sync.WriteEnd.{WriteEnd}
-use Rattle.dr_metro.specs.declared.sync.WriteEnd.TheVariants.{Held}
+use Rattle.dr_metro.specs.declared.sync.WriteEnd.TheVariants.{Held, Landed}
+use Rattle.dr_metro.specs.Mirroring.{Mirrors}
 use Rattle.dr_host.specs.Here.{here}
-use Rattle.dr_metro.specs.Syncing.{over_entries, collided_entries, parts, entries_by, waits_by, end_of}
-use Rattle.dr_metro.proofs.SyncLemmas.{held-entries, over-entries, collided-entries, alone-entries, held-waits, over-waits, here-waits, nothing-mirrored, collides-global, ok-given}
-use Rattle.dr_metro.proofs.WroteLemmas.{wrote-nothing, wrote-alike, wrote-within, landed-wrote, landed-stops, landed-ok, landed-end}
+use Rattle.dr_metro.specs.Syncing.{over_entries, sent_stretches, parts, stretches_by, waits_by, end_of}
+use Rattle.dr_moves.proofs.TurnLemmas.{ok-along}
+use Rattle.dr_metro.proofs.SyncLemmas.{held-stretches, over-stretches, sent-stretches, alone-stretches, held-waits, over-waits, here-waits, nothing-mirrored, collides-global, followed-given}
+use Rattle.dr_metro.proofs.WroteLemmas.{landed-wrote, landed-ok, landed-end}
+use Rattle.dr_metro.proofs.WroteInLemmas.{wrote-in, in-as, in-nothing}
 use Rattle.dr_metro.proofs.sync.place_write.Goals as goal
 
 pub returns-then-is_held-clause-wrote : goal.returns-then-is_held-clause-wrote
@@ -25,8 +30,8 @@ returns-then-is_held-clause-wrote g c =
     let h = c.args.h.now in
     let w = c.args.w.now in
     let f = plain c.args.fields.now in
-    wrote-nothing s t h c.args.journal.now (λ k. entries_by k f w.w.0 w.volume.0 w.track) (length t.volumes + (length t.volumes + 3)) Held
-    (λ r. held-entries (here s t r h c.args.journal.now.events).control f w.w.0 w.volume.0 w.track (sym c.is_held.ensures ∙ c.if-is_held.true)) c.requires.due.at c.requires.due.told
+    in-nothing s t h c.args.journal.now (λ k. stretches_by k f w.w.0 w.volume.0 w.track) (part_after w.volume.0) (length t.volumes + (length t.volumes + 6)) Held
+    (λ r. held-stretches (here s t r h c.args.journal.now.events).control f w.w.0 w.volume.0 w.track (sym c.is_held.ensures ∙ c.if-is_held.true)) c.requires.due.at c.requires.due.told
 
 pub returns-then-is_held-clause-end : goal.returns-then-is_held-clause-end
 returns-then-is_held-clause-end g c r =
@@ -36,41 +41,58 @@ returns-then-is_held-clause-end g c r =
 pub returns-then-is_held-clause-mirrors : goal.returns-then-is_held-clause-mirrors
 returns-then-is_held-clause-mirrors g c = λ metro never. absurd cc
 
-pub write_over-requires-clause-primary : goal.write_over-requires-clause-primary
-write_over-requires-clause-primary g c =
+pub write_over-done-requires-clause-primary : goal.write_over-done-requires-clause-primary
+write_over-done-requires-clause-primary g c =
     let f = plain c.args.fields.now in
     let goes : goes_over f c.args.w.now.track ≡ true = sym c.goes_over.ensures ∙ c.if-goes_over.true in
     ap (λ (x : Fields). is_part x.primary) (sym c.requires.shows.fields) ∙ metro-part f.primary (and_parts (is_metro f.primary) _ goes).0
 
-pub write_over-requires-clause-pair : goal.write_over-requires-clause-pair
-write_over-requires-clause-pair g c =
+pub write_over-done-requires-clause-pair : goal.write_over-done-requires-clause-pair
+write_over-done-requires-clause-pair g c =
     let f = plain c.args.fields.now in
     let goes : goes_over f c.args.w.now.track ≡ true = sym c.goes_over.ensures ∙ c.if-goes_over.true in
     c.requires.pair (metro-part f.primary (and_parts (is_metro f.primary) _ goes).0)
 
-pub write_over-requires-clause-says : goal.write_over-requires-clause-says
-write_over-requires-clause-says g c = shows-says _ _ _ _ c.requires.shows
+pub write_over-done-requires-clause-says : goal.write_over-done-requires-clause-says
+write_over-done-requires-clause-says g c = shows-says _ _ _ _ c.requires.shows
+
+pub followed-requires-clause-at : goal.followed-requires-clause-at
+followed-requires-clause-at g c = c.write_over-done.ensures.wrote.at
+
+pub followed-requires-clause-room : goal.followed-requires-clause-room
+followed-requires-clause-room g c = let a = c.requires.room in let b = c.write_over-done.ensures.wrote.room in omega (arith, a, b)
 
 pub returns-then-goes_over-clause-wrote : goal.returns-then-goes_over-clause-wrote
 returns-then-goes_over-clause-wrote g c =
     let s = g.P.Plant.state c.args.plant.now in
-    let x = g.P.Plant.state c.write_over.new.plant in
+    let m = g.P.Plant.state c.write_over-done.new.plant in
+    let x = g.P.Plant.state c.followed.new.plant in
     let t = c.args.config.now in
     let h = c.args.h.now in
     let w = c.args.w.now in
+    let v = w.volume.0 in
     let f = plain c.args.fields.now in
     let n = length t.volumes in
-    wrote-alike s x t h c.write_over.new.h c.args.journal.now c.write_over.new.journal (λ k. over_entries (ids_of t.volumes) (parts k w.volume.0 f.primary_partner) (is_grouped k w.volume.0 f.primary_partner) w.w.0 w.volume.0 w.track f.primary_partner) (λ k. entries_by k f w.w.0 w.volume.0 w.track) (n + (n + 3)) c.write_over.result
-    (λ r. sym (over-entries (here s t r h c.args.journal.now.events).control f w.w.0 w.volume.0 w.track (sym c.is_held.ensures ∙ c.if-is_held.false) (sym c.goes_over.ensures ∙ c.if-goes_over.true))) c.write_over.ensures.wrote
+    let j = c.args.journal.now in
+    let over : Control → List Entry = λ k. over_entries (ids_of t.volumes) (parts k v f.primary_partner) (is_grouped k v f.primary_partner) w.w.0 v w.track f.primary_partner in
+    let b = c.followed.ensures in
+    in-as s x t h c.write_over-done.new.h j c.followed.new.journal (λ k. record { entries = over k; follows = part_after v } ∷ []) (λ k. stretches_by k f w.w.0 v w.track) (n + (n + 3) + 3) (n + (n + 6)) c.write_over-done.result c.followed.result (omega arith)
+    (λ r. sym (over-stretches (here s t r h j.events).control f w.w.0 v w.track (sym c.is_held.ensures ∙ c.if-is_held.false) (sym c.goes_over.ensures ∙ c.if-goes_over.true))) b.result
+    (wrote-in s m x t h j c.write_over-done.new.journal c.followed.new.journal c.write_over-done.new.h over (part_after v) (n + (n + 3)) c.write_over-done.result c.write_over-done.ensures.wrote
+    (record { follows = b.follows; at = b.at; unarmed = b.unarmed; faults = b.faults; room = b.room; spare = b.spare }))
 
 pub returns-then-goes_over-clause-end : goal.returns-then-goes_over-clause-end
 returns-then-goes_over-clause-end g c r =
     let w = c.args.w.now in
-    subst (λ b. IfOk c.write_over.result (λ (e : WriteEnd). e ≡ end_of b)) (sym (over-waits (here (g.P.Plant.state c.args.plant.now) c.args.config.now r c.args.h.now c.args.journal.now.events).control (plain c.args.fields.now) w.w.0 w.volume.0 w.track (sym c.is_held.ensures ∙ c.if-is_held.false) (sym c.goes_over.ensures ∙ c.if-goes_over.true)))
-    (c.write_over.ensures.end r)
+    subst (λ x. IfOk x (λ (e : WriteEnd). e ≡ end_of (waits_by (here (g.P.Plant.state c.args.plant.now) c.args.config.now r c.args.h.now c.args.journal.now.events).control (plain c.args.fields.now) w.volume.0 w.track))) (sym c.followed.ensures.result)
+    (subst (λ b. IfOk c.write_over-done.result (λ (e : WriteEnd). e ≡ end_of b)) (sym (over-waits (here (g.P.Plant.state c.args.plant.now) c.args.config.now r c.args.h.now c.args.journal.now.events).control (plain c.args.fields.now) w.w.0 w.volume.0 w.track (sym c.is_held.ensures ∙ c.if-is_held.false) (sym c.goes_over.ensures ∙ c.if-goes_over.true)))
+    (c.write_over-done.ensures.end r))
 
 pub returns-then-goes_over-clause-mirrors : goal.returns-then-goes_over-clause-mirrors
-returns-then-goes_over-clause-mirrors g c = λ metro. ok-given c.write_over.result c.write_over.ensures.mirrors (λ is e landed. is)
+returns-then-goes_over-clause-mirrors g c = λ metro.
+    let w = c.args.w.now in
+    let b = c.followed.ensures in
+    followed-given (λ e. e ≡ Landed) c.write_over-done.result c.followed.result b.result _ _ (λ x. Mirrors x c.args.config.now w.volume.0 c.args.fields.now.primary_partner.0 w.track) b.stays c.write_over-done.ensures.mirrors
 
 pub write_collided-requires-clause-primary : goal.write_collided-requires-clause-primary
 write_collided-requires-clause-primary g c =
@@ -97,15 +119,14 @@ returns-then-collides-clause-wrote g c =
     let f = plain c.args.fields.now in
     let n = length t.volumes in
     let new = c.write_collided.new in
-    landed-wrote c.write_collided.result c.landed.result c.landed.ensures s x t h new.h c.args.journal.now new.journal (λ k. entries_by k f w.w.0 w.volume.0 w.track) (n + (n + 3))
-    (wrote-alike s x t h new.h c.args.journal.now new.journal (λ k. collided_entries (ids_of t.volumes) w.w.0 w.volume.0 w.track f.primary_partner) (λ k. entries_by k f w.w.0 w.volume.0 w.track) (n + (n + 3)) c.write_collided.result
-    (λ r. sym (collided-entries (here s t r h c.args.journal.now.events).control f w.w.0 w.volume.0 w.track (sym c.is_held.ensures ∙ c.if-is_held.false) (sym c.goes_over.ensures ∙ c.if-goes_over.false) (sym c.collides.ensures ∙ c.if-collides.true))) c.write_collided.ensures.wrote)
+    in-as s x t h new.h c.args.journal.now new.journal (λ k. sent_stretches (ids_of t.volumes) w.w.0 w.volume.0 w.track f.primary_partner) (λ k. stretches_by k f w.w.0 w.volume.0 w.track) (n + (n + 6)) (n + (n + 6)) c.write_collided.result c.write_collided.result (omega arith)
+    (λ r. sym (sent-stretches (here s t r h c.args.journal.now.events).control f w.w.0 w.volume.0 w.track (sym c.is_held.ensures ∙ c.if-is_held.false) (sym c.goes_over.ensures ∙ c.if-goes_over.false) (sym c.collides.ensures ∙ c.if-collides.true))) refl c.write_collided.ensures.wrote
 
 pub returns-then-collides-clause-end : goal.returns-then-collides-clause-end
 returns-then-collides-clause-end g c r =
     let w = c.args.w.now in
     let k = (here (g.P.Plant.state c.args.plant.now) c.args.config.now r c.args.h.now c.args.journal.now.events).control in
-    landed-end c.write_collided.result c.landed.result c.landed.ensures (waits_by k (plain c.args.fields.now) w.volume.0 w.track) (here-waits k (plain c.args.fields.now) w.w.0 w.volume.0 w.track (sym c.is_held.ensures ∙ c.if-is_held.false) (sym c.goes_over.ensures ∙ c.if-goes_over.false))
+    subst (λ b. IfOk c.write_collided.result (λ (e : WriteEnd). e ≡ end_of b)) (sym (here-waits k (plain c.args.fields.now) w.w.0 w.volume.0 w.track (sym c.is_held.ensures ∙ c.if-is_held.false) (sym c.goes_over.ensures ∙ c.if-goes_over.false))) c.write_collided.ensures.end
 
 pub returns-then-collides-clause-mirrors : goal.returns-then-collides-clause-mirrors
 returns-then-collides-clause-mirrors g c =
@@ -113,29 +134,40 @@ returns-then-collides-clause-mirrors g c =
     let meets : pairs.collides f c.args.w.now.track ≡ true = sym c.collides.ensures ∙ c.if-collides.true in
     λ metro. global_metro f.primary (collides-global f.primary _ meets) metro
 
-pub returns-then-collides-clause-stops : goal.returns-then-collides-clause-stops
-returns-then-collides-clause-stops g c = landed-stops c.write_collided.result c.landed.result c.landed.ensures c.write_collided.ensures.stops
+pub followed-requires-2-clause-at : goal.followed-requires-2-clause-at
+followed-requires-2-clause-at g c = c.write_here.ensures.wrote.at
+
+pub followed-requires-2-clause-room : goal.followed-requires-2-clause-room
+followed-requires-2-clause-room g c = let a = c.requires.room in let b = c.write_here.ensures.wrote.room in omega (arith, a, b)
 
 pub returns-clause-wrote : goal.returns-clause-wrote
 returns-clause-wrote g c =
     let s = g.P.Plant.state c.args.plant.now in
-    let x = g.P.Plant.state c.write_here.new.plant in
+    let m = g.P.Plant.state c.write_here.new.plant in
+    let x = g.P.Plant.state c.followed-2.new.plant in
     let t = c.args.config.now in
     let h = c.args.h.now in
+    let k = c.write_here.new.h in
     let w = c.args.w.now in
+    let v = w.volume.0 in
     let f = plain c.args.fields.now in
     let n = length t.volumes in
-    let new = c.write_here.new in
-    landed-wrote c.write_here.result c.landed-2.result c.landed-2.ensures s x t h new.h c.args.journal.now new.journal (λ k. entries_by k f w.w.0 w.volume.0 w.track) (n + (n + 3))
-    (wrote-within s x t h new.h c.args.journal.now new.journal (λ k. entries_by k f w.w.0 w.volume.0 w.track) (n + 1) (n + (n + 3)) c.write_here.result (omega arith)
-    (wrote-alike s x t h new.h c.args.journal.now new.journal (λ k. land_alone (ids_of t.volumes) w.w.0 w.volume.0 w.track) (λ k. entries_by k f w.w.0 w.volume.0 w.track) (n + 1) c.write_here.result
-    (λ r. sym (alone-entries (here s t r h c.args.journal.now.events).control f w.w.0 w.volume.0 w.track (sym c.is_held.ensures ∙ c.if-is_held.false) (sym c.goes_over.ensures ∙ c.if-goes_over.false) (sym c.collides.ensures ∙ c.if-collides.false))) c.write_here.ensures.wrote))
+    let j = c.args.journal.now in
+    let l = c.write_here.new.journal in
+    let alone = land_alone (ids_of t.volumes) w.w.0 v w.track in
+    let b = c.followed-2.ensures in
+    in-as s x t h k j c.followed-2.new.journal (λ z. record { entries = alone; follows = part_after v } ∷ []) (λ z. stretches_by z f w.w.0 v w.track) (n + 1 + 3) (n + (n + 6)) c.landed-done.result c.followed-2.result (omega arith)
+    (λ r. sym (alone-stretches (here s t r h j.events).control f w.w.0 v w.track (sym c.is_held.ensures ∙ c.if-is_held.false) (sym c.goes_over.ensures ∙ c.if-goes_over.false) (sym c.collides.ensures ∙ c.if-collides.false))) b.result
+    (wrote-in s m x t h j l c.followed-2.new.journal k (λ z. alone) (part_after v) (n + 1) c.landed-done.result
+    (landed-wrote c.write_here.result c.landed-done.result c.landed-done.ensures s m t h k j l (λ z. alone) (n + 1) c.write_here.ensures.wrote)
+    (record { follows = b.follows; at = b.at; unarmed = b.unarmed; faults = b.faults; room = b.room; spare = b.spare }))
 
 pub returns-clause-end : goal.returns-clause-end
 returns-clause-end g c r =
     let w = c.args.w.now in
     let k = (here (g.P.Plant.state c.args.plant.now) c.args.config.now r c.args.h.now c.args.journal.now.events).control in
-    landed-end c.write_here.result c.landed-2.result c.landed-2.ensures (waits_by k (plain c.args.fields.now) w.volume.0 w.track) (here-waits k (plain c.args.fields.now) w.w.0 w.volume.0 w.track (sym c.is_held.ensures ∙ c.if-is_held.false) (sym c.goes_over.ensures ∙ c.if-goes_over.false))
+    subst (λ x. IfOk x (λ (e : WriteEnd). e ≡ end_of (waits_by k (plain c.args.fields.now) w.volume.0 w.track))) (sym c.followed-2.ensures.result)
+    (landed-end c.write_here.result c.landed-done.result c.landed-done.ensures (waits_by k (plain c.args.fields.now) w.volume.0 w.track) (here-waits k (plain c.args.fields.now) w.w.0 w.volume.0 w.track (sym c.is_held.ensures ∙ c.if-is_held.false) (sym c.goes_over.ensures ∙ c.if-goes_over.false)))
 
 pub returns-clause-mirrors : goal.returns-clause-mirrors
 returns-clause-mirrors g c = λ metro.
@@ -145,8 +177,7 @@ returns-clause-mirrors g c = λ metro.
     let v = c.args.w.now.volume.0 in
     let k = c.args.w.now.track in
     let shows = c.requires.shows.fields in
-    ok-given c.landed-2.result (landed-ok c.write_here.result c.landed-2.result c.landed-2.ensures _ c.write_here.ensures.left) (λ is e landed in_sync active.
-    nothing-mirrored (volume_seen s t v).tracks (volume_seen s t v).fields (volume_seen x t v).fields k is (ap (λ (y : Fields). is_metro y.primary) (sym shows) ∙ metro) (ap (λ (y : Fields). goes_over y k) (sym shows) ∙ sym c.goes_over.ensures ∙ c.if-goes_over.false) in_sync active)
-
-pub returns-clause-stops : goal.returns-clause-stops
-returns-clause-stops g c = landed-stops c.write_here.result c.landed-2.result c.landed-2.ensures c.write_here.ensures.stops
+    let b = c.followed-2.ensures in
+    followed-given (λ e. e ≡ Landed) c.landed-done.result c.followed-2.result b.result _ _ (λ y. Mirrors y t v c.args.fields.now.primary_partner.0 k) b.stays
+    (ok-along c.landed-done.result (landed-ok c.write_here.result c.landed-done.result c.landed-done.ensures _ c.write_here.ensures.left) (λ is in_sync active.
+    nothing-mirrored (volume_seen s t v).tracks (volume_seen s t v).fields (volume_seen x t v).fields k is (ap (λ (y : Fields). is_metro y.primary) (sym shows) ∙ metro) (ap (λ (y : Fields). goes_over y k) (sym shows) ∙ sym c.goes_over.ensures ∙ c.if-goes_over.false) in_sync active))
