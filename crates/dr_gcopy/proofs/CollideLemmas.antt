@@ -1,4 +1,4 @@
--- A track that is sent before a host write that collides with it: the entries of the send come as long as it can be sent.
+-- A track that is sent before what comes to its volume and collides with it: the entries of the send come as long as it can be sent.
 use Rattle.std.proofs.Common.{ℕ, ◌≡◌, ◌≢◌, Bool, true, false, not, ◌&&◌, ◌||◌, cond, inl, inr, List, [], ◌∷◌, ◌++◌, map, filter, refl, sym, ◌∙◌, ap, subst, Option, None, Some}
 use Rattle.std.specs.Prelude.{if◌then◌else◌, is_some}
 use Rattle.std.specs.List.{list_any}
@@ -6,7 +6,7 @@ use Rattle.std.specs.Option.{option_or}
 use Rattle.std.specs.FinSet.{contains}
 use Rattle.std.proofs.lemmas.List.{append_assoc, map-append}
 use Rattle.std.proofs.lemmas.Bool.Decides.{eqb_tells}
-use Rattle.std.proofs.lemmas.Bool.{and_parts, or_parts, or_from}
+use Rattle.std.proofs.lemmas.Bool.{and_parts, and_right, or_parts, or_from}
 use Rattle.dr_logic.specs.Tables.{at}
 use Rattle.dr_ids.specs.Paths.{Path, path_in}
 use Rattle.dr_ids.specs.declared.refusal.Refusal.{Refusal}
@@ -20,15 +20,13 @@ use Rattle.dr_model.specs.Refusals.{unknown, server_off}
 use Rattle.dr_model.specs.Moves.{Move, Carried, Keep, Note, Store, Suspend, target, next_fields, carried, moved, moved_keeping, keeps_staged}
 use Rattle.dr_model.specs.Carry.{Make, act, Next, Pass, Do, End, Entry, Turn, turn, now}
 use Rattle.dr_model.specs.Entries.{fields_at, subsystem, copies_from, stands_in, is_revertible, keep_on, copy_first}
-use Rattle.dr_model.specs.PairEntries.{link_down, send_refusal, flashed_refusal, suspend_where, store_on, strike_on}
-use Rattle.dr_model.specs.WriteEntries.{sends_first, where_sent, send_first}
-use Rattle.dr_model.specs.Pairs.{is_kind, collides, is_secondary_of, pair_seen, received, is_last}
+use Rattle.dr_model.specs.PairEntries.{link_down, send_refusal, flashed_refusal, store_on, strike_on, sends_first, where_sent, suspend_unsent, send_first}
+use Rattle.dr_model.specs.Pairs.{is_kind, collides, is_secondary_of, secondary_seen, received, is_last}
 use Rattle.dr_model.specs.ReadStops.{EndsTurn, EndsNext, Ends}
 use Rattle.dr_moves.specs.Turns.{Advances, Halts, Leads, Fails}
 use Rattle.dr_facts.proofs.Ends.{ends-skips}
 use Rattle.dr_moves.proofs.EntryLemmas.{alike-advances, alike-halts}
 use Rattle.dr_gcopy.specs.Sending.{pass_entries}
-use Rattle.dr_gcopy.proofs.SendLemmas.{suspends-none}
 use Rattle.dr_model.proofs.CarryLemmas.{turn-ends}
 use Rattle.dr_logic.proofs.Truth.{false_true}
 use Rattle.dr_logic.proofs.Tables.{at_same, at_other}
@@ -53,11 +51,11 @@ sent-is v u t d k s = ap (λ b. cond b (d k) Pass) (sends-now v u t k s)
 
 -- what holds of a state in parts holds where a move was done, if it holds of what the move makes of its volume
 module _ (Q : (ℕ → Volume) → (ℕ → Bool) → (ℕ → ℕ → Bool) → List Path → List ℕ → Type 0) where
-  abbrev Of : Control → Type 0
+  abbrev pub Of : Control → Type 0
   Of k = Q k.volume k.on k.link k.paths k.volumes
 
   -- the volume of a move once it is made
-  abbrev made : World → Move → Volume
+  abbrev pub made : World → Move → Volume
   made w m = moved_keeping (keeps_staged m) (w.control.volume (target m)) (next_fields m w.control.volume) (carried m w.control.volume w.contents (histories w.events).write)
 
   some-none : {P : Type 0} (s : ℕ) → ◌≡◌ {A = Option ℕ} (Some s) None → P
@@ -112,7 +110,7 @@ refusal_by a b paths on link from to = option_or
     else if not (on to.server) then Some (server_off to.server)
     else if not (link from to.server) then Some (link_down from to.server)
     else None)
-    (if is_secondary_of a to.fields then None else Some (PairState (record { 0 = b }) (pair_seen to.fields)))
+    (if is_secondary_of a to.fields then None else Some (PairState (record { 0 = b }) (secondary_seen to.fields)))
 
 -- it says the same of a secondary that is seen otherwise
 reaches-still : (first : Option Refusal) (belongs : Bool) (why later : Refusal) → option_or first (if belongs then None else Some why) ≡ None → option_or first (if belongs then None else Some later) ≡ None
@@ -174,7 +172,7 @@ closed-reverts true r h = absurd cc
 closed-reverts false r h = h
 
 -- what an entry comes to leads on to where something holds
-abbrev After : World → Next → (World → Type 0) → Type 0
+abbrev pub After : World → Next → (World → Type 0) → Type 0
 After w Pass G = G w
 After w (End r) G = Unit {0}
 After w (Do a) G = (act w a).1 ≡ None → G (act w a).0
@@ -261,11 +259,18 @@ sends-by v u t k collided reach free other own = (collided, none-is (send_refusa
 
 module _ (volumes : List ℕ) (v u t : ℕ) (w : World) where
   abbrev first : Entry
-  first = suspend_where (send_refusal v u) v
+  first = suspend_unsent v u t
+
+  -- v isn't suspended where it can send, or where the track doesn't collide
+  goes-by : (collided unsent : Bool) → (collided && unsent) ≡ false → cond (collided && unsent) (Do (Make (Suspend v false))) Pass ≡ Pass
+  goes-by collided unsent h = ap (λ b. cond b (Do (Make (Suspend v false))) Pass) h
+
+  stays-on : is_some (send_refusal v u w.control) ≡ false → first w.control ≡ Pass
+  stays-on reach = goes-by (collides (fields_at w.control v) t) (is_some (send_refusal v u w.control)) (and_right (collides (fields_at w.control v) t) (is_some (send_refusal v u w.control)) reach)
 
   -- where the track can be sent it is sent
   passes : (armed : ℕ → Bool) (x : World) (r : Option Refusal) (ds : List Entry) → v ≢ u → Sends v u t w.control → Ends armed x r w (pass_entries volumes v u t ++ ds) → Ends armed x r w (send_first volumes v u t ++ ds)
-  passes armed x r ds apart s e = ends-skips armed x r w first (map (where_sent v u t) (move_entries volumes v u t) ++ ds) (suspends-none w (send_refusal v u) v s.1) (send-comes v u t armed x r volumes w ds apart s e)
+  passes armed x r ds apart s e = ends-skips armed x r w first (map (where_sent v u t) (move_entries volumes v u t) ++ ds) (stays-on (ap is_some s.1)) (send-comes v u t armed x r volumes w ds apart s e)
 
   pub sent-leads : (y : World) → v ≢ u → Sends v u t w.control → Leads w (pass_entries volumes v u t) y → Leads w (send_first volumes v u t) y
   sent-leads y apart s leads armed x r ds more = passes armed x r ds apart s (leads armed x r ds more)
@@ -276,7 +281,7 @@ module _ (volumes : List ℕ) (v u t : ℕ) (w : World) where
   -- where u is the source of a revertible relationship nothing is done
   pub flashed-leads : is_some (send_refusal v u w.control) ≡ false → is_some (flashed_refusal u w.control) ≡ true → Leads w (send_first volumes v u t) w
   flashed-leads reach flashed armed x r ds more =
-      ends-skips armed x r w first (map (where_sent v u t) (move_entries volumes v u t) ++ ds) (ap (λ b. cond b (Do (Make (Suspend v false))) Pass) reach)
+      ends-skips armed x r w first (map (where_sent v u t) (move_entries volumes v u t) ++ ds) (stays-on reach)
       (none-comes v u t armed x r w (move_entries volumes v u t) ds (held-up (collides (fields_at w.control v) t) (not (is_some (send_refusal v u w.control))) (is_some (flashed_refusal u w.control)) flashed) more)
     where
       held-up : (a b c : Bool) → c ≡ true → (a && (b && not c)) ≡ false
@@ -285,13 +290,19 @@ module _ (volumes : List ℕ) (v u t : ℕ) (w : World) where
       held-up true false true h = refl
       held-up false b true h = refl
 
-  -- where u can't be sent to v is suspended, and nothing more
-  suspends-first : is_some (send_refusal v u w.control) ≡ true → first w.control ≡ now (Suspend v false) w.control
-  suspends-first is = ap (λ b. cond b (Do (Make (Suspend v false))) Pass) is
+  -- nor where the track doesn't collide
+  pub apart-leads : collides (fields_at w.control v) t ≡ false → Leads w (send_first volumes v u t) w
+  apart-leads apart armed x r ds more =
+      ends-skips armed x r w first (map (where_sent v u t) (move_entries volumes v u t) ++ ds) (goes-by (collides (fields_at w.control v) t) (is_some (send_refusal v u w.control)) (ap (λ b. b && is_some (send_refusal v u w.control)) apart))
+      (none-comes v u t armed x r w (move_entries volumes v u t) ds (ap (λ b. b && (not (is_some (send_refusal v u w.control)) && not (is_some (flashed_refusal u w.control)))) apart) more)
 
-  pub parted-leads : (y : World) → is_some (send_refusal v u w.control) ≡ true → (fields_at y.control v).recording ≡ false → Advances w (now (Suspend v false)) y → Leads w (send_first volumes v u t) y
-  parted-leads y is void advances armed x r ds more =
-      alike-advances w y first (now (Suspend v false)) (suspends-first is) advances armed x r (map (where_sent v u t) (move_entries volumes v u t) ++ ds)
+  -- where u can't be sent to v is suspended, and nothing more
+  suspends-first : collides (fields_at w.control v) t ≡ true → is_some (send_refusal v u w.control) ≡ true → first w.control ≡ now (Suspend v false) w.control
+  suspends-first collided is = λ i. cond (collided i && is i) (Do (Make (Suspend v false))) Pass
+
+  pub parted-leads : (y : World) → collides (fields_at w.control v) t ≡ true → is_some (send_refusal v u w.control) ≡ true → (fields_at y.control v).recording ≡ false → Advances w (now (Suspend v false)) y → Leads w (send_first volumes v u t) y
+  parted-leads y collided is void advances armed x r ds more =
+      alike-advances w y first (now (Suspend v false)) (suspends-first collided is) advances armed x r (map (where_sent v u t) (move_entries volumes v u t) ++ ds)
       (none-comes v u t armed x r y (move_entries volumes v u t) ds (quiet (is_kind Global (fields_at y.control v).primary) (fields_at y.control v).recording _ _ void) more)
     where
       quiet : (a b c d : Bool) → b ≡ false → ((a && (b && c)) && d) ≡ false
@@ -299,5 +310,5 @@ module _ (volumes : List ℕ) (v u t : ℕ) (w : World) where
       quiet true false c d h = refl
       quiet false b c d h = refl
 
-  pub parted-fails : (armed : ℕ → Bool) (y : World) (r : Option Refusal) → is_some (send_refusal v u w.control) ≡ true → Halts armed w (now (Suspend v false)) y r → Fails armed w (send_first volumes v u t) y r
-  parted-fails armed y r is halts ds = alike-halts armed w y r first (now (Suspend v false)) (suspends-first is) halts (map (where_sent v u t) (move_entries volumes v u t) ++ ds)
+  pub parted-fails : (armed : ℕ → Bool) (y : World) (r : Option Refusal) → collides (fields_at w.control v) t ≡ true → is_some (send_refusal v u w.control) ≡ true → Halts armed w (now (Suspend v false)) y r → Fails armed w (send_first volumes v u t) y r
+  parted-fails armed y r collided is halts ds = alike-halts armed w y r first (now (Suspend v false)) (suspends-first collided is) halts (map (where_sent v u t) (move_entries volumes v u t) ++ ds)

@@ -13,7 +13,7 @@ use Rattle.dr_gcopy.specs.Kinds.{part_of}
 use Rattle.dr_gcopy.specs.Steps.{make_moves, difference_seen}
 use Rattle.dr_gcopy.proofs.PairChecks.{unless-stopped}
 use Rattle.dr_moves.proofs.EntryLemmas.{ends-by}
-use Rattle.dr_gcopy.proofs.making.make_pair.Goals as goal
+use Rattle.dr_gcopy.proofs.making.make_as.Goals as goal
 use Rattle.dr_logic.proofs.Results.{err-always}
 
 pub returns-in-Some-clause-carried : goal.returns-in-Some-clause-carried
