@@ -18,9 +18,9 @@ CALL_NAME = "pub fn drsim"
 CHAPTERS = [
     ("What a call is", "Words Outcome Trials Trial Stands Cut Followed Lines Faults Given Limits Runs Carried Fits View"),
     ("The headline", "Headline NewestGroup ClosedCuts Cuts Dependence HeldWrites Groups Recovered Decided Decisions"
-                     " Seals Windows Moments Table Laws Held TakenWrites Stored Formed"),
+                     " Seals Windows Moments Table Laws Held TakenWrites Stored Formed BothLost CutMoments"),
     ("Orders that travel", "Arrivals OldOrders OlderNumbers Commits Flashed Flights Attempts Calm"),
-    ("Pairs, freezes and answers", "Sites Compared Returned Frozen InSync Secondaries Acknowledged RefusedSteps Showing Stops"),
+    ("Pairs, freezes and answers", "Sites FirstSite Compared Returned Frozen InSync Secondaries Acknowledged RefusedSteps Showing Stops"),
     ("Listings and images", "Listings Listed PlantImage LineText Recovery Offline Found Pieces Imaged GivesBack"),
     ("Devices", "State Layout BigEndian Control Paths Links Views"),
     ("Journal and lists", "Histories Contents Tables Answers Refusals"),

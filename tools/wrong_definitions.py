@@ -554,6 +554,36 @@ ROWS = [
         "both volumes of a pair contain the same outside what either has unsent, also where the secondary has it unsent to a third",
         (spec("Laws"), "unsent r t ≡ false → (its_secondary s ≡ Some v → unsent s t ≡ false) → r.bytes t ≡ s.bytes t", "unsent r t ≡ false → unsent s t ≡ false → r.bytes t ≡ s.bytes t"),
     ),
+    Row(
+        "secondary_of_a_global_copy_is_cascaded",
+        "mkpprc -cascade takes a secondary of Global Copy, too",
+        (spec("PairEntries"), "(is_metro (fields_at k a).secondary && not (nat_eq (fields_at k a).secondary_partner b))", "(is_part (fields_at k a).secondary && not (nat_eq (fields_at k a).secondary_partner b))"),
+    ),
+    Row(
+        "cascaded_to_its_own_primary",
+        "mkpprc -cascade may name the volume's own primary",
+        (spec("PairEntries"), "(is_metro (fields_at k a).secondary && not (nat_eq (fields_at k a).secondary_partner b))", "is_metro (fields_at k a).secondary"),
+    ),
+    Row(
+        "secondary_of_a_member_is_taken_by_cascade",
+        "mkpprc -cascade takes the secondary of a member",
+        (spec("Sessions"), "is_copy v x = list_any (λ m. m.b.0 == v || m.c.0 == v) x.members", "is_copy v x = list_any (λ m. m.c.0 == v) x.members"),
+    ),
+    Row(
+        "member_over_a_cascaded_secondary",
+        "a member is added whose secondary is a primary, too",
+        (spec("SessionPlans"), "lead_refusal b k = if is_part (fields_at k b).primary then Some (pair_state k b) else None", "lead_refusal b k = None"),
+    ),
+    Row(
+        "write_passes_a_held_second_site",
+        "a host write goes over to a cascaded volume that coordination holds",
+        (spec("WriteEntries"), "is_held_back k v = holds_back (fields_at k (partner_of k v))", "is_held_back k v = false"),
+    ),
+    Row(
+        "third_site_loses_nothing",
+        "no step takes a write from the third site",
+        (spec("TakenWrites"), "is_third k a v = let u : ℕ = (fields_at k a).primary_partner in is_cascaded (fields_at k u) && is_primary_of v (fields_at k u)", "is_third k a v = false"),
+    ),
 ]
 
 

@@ -1,5 +1,5 @@
 -- What the pair of a primary says, as checks in a row; and two moves of a member's volumes.
-use Rattle.std.proofs.Common.{ℕ, ◌≡◌, true, false, not, List, refl, sym, ◌∙◌, ap, Option, Some, None}
+use Rattle.std.proofs.Common.{ℕ, ◌≡◌, Bool, true, false, not, List, refl, sym, ◌∙◌, ap, Option, Some, None}
 use Rattle.std.specs.Prelude.{Result, Ok, Err, OnErr, option_map, if◌then◌else◌}
 use Rattle.std.specs.Option.{option_or}
 use Rattle.dr_ids.specs.declared.names.Member.{Member}
@@ -14,23 +14,26 @@ use Rattle.dr_model.specs.Control.{Control}
 use Rattle.dr_model.specs.Entries.{fields_at, is_running, pair_state, relation_state}
 use Rattle.dr_model.specs.PairEntries.{send_refusal}
 use Rattle.dr_model.specs.Refusals.{server_off, stopped}
-use Rattle.dr_model.specs.SessionPlans.{copy_refusal, member_target, member_with}
+use Rattle.dr_model.specs.SessionPlans.{copy_refusal, lead_refusal, member_target, member_with}
 use Rattle.dr_moves.specs.Checks.{is_stop}
 use Rattle.dr_moves.specs.Here.{refusal_of}
 
 module _ (k : Control) (a : ℕ) where
+  -- why its secondary doesn't do
+  abbrev follows : Option Refusal
+  follows = option_or (send_refusal a (fields_at k a).primary_partner k) (lead_refusal (fields_at k a).primary_partner k)
+
+  abbrev by : Bool → Bool → Option Refusal
+  by running global = if not running then Some (server_off (k.volume a).server) else if not global then Some (pair_state k a) else follows
+
   pub copy-off : is_running a k ≡ false → Some (server_off (k.volume a).server) ≡ copy_refusal k a
-  copy-off off = sym (ap (λ b. if not b then Some (server_off (k.volume a).server) else if not (is_kind Global (fields_at k a).primary) then Some (pair_state k a) else send_refusal a (fields_at k a).primary_partner k) off)
+  copy-off off = sym (ap (λ b. by b (is_kind Global (fields_at k a).primary)) off)
 
   pub copy-other : is_running a k ≡ true → is_kind Global (fields_at k a).primary ≡ false → Some (pair_state k a) ≡ copy_refusal k a
-  copy-other on other =
-      sym (ap (λ b. if not b then Some (server_off (k.volume a).server) else if not (is_kind Global (fields_at k a).primary) then Some (pair_state k a) else send_refusal a (fields_at k a).primary_partner k) on
-      ∙ ap (λ b. if not b then Some (pair_state k a) else send_refusal a (fields_at k a).primary_partner k) other)
+  copy-other on other = sym (λ i. by (on i) (other i))
 
-  pub copy-global : is_running a k ≡ true → is_kind Global (fields_at k a).primary ≡ true → send_refusal a (fields_at k a).primary_partner k ≡ copy_refusal k a
-  copy-global on global =
-      sym (ap (λ b. if not b then Some (server_off (k.volume a).server) else if not (is_kind Global (fields_at k a).primary) then Some (pair_state k a) else send_refusal a (fields_at k a).primary_partner k) on
-      ∙ ap (λ b. if not b then Some (pair_state k a) else send_refusal a (fields_at k a).primary_partner k) global)
+  pub copy-global : is_running a k ≡ true → is_kind Global (fields_at k a).primary ≡ true → follows ≡ copy_refusal k a
+  copy-global on global = sym (λ i. by (on i) (global i))
 
 -- what a stop fails is a stop
 pub stops-by : (r : Result (Unit {0}) Refusal) (server : ℕ) → OnErr r (refusal_of r ≡ Some (stopped server)) → OnErr r (is_stop (refusal_of r) ≡ true)

@@ -22,8 +22,21 @@ use dr_moves::{pair_state, server_of};
 use dr_plant::Plant;
 use dr_volume::peek_head;
 
+/// Why b can't be the secondary of a member: it is a primary.
+fn lead_refusal<P: Plant>(plant: &P, config: &Config, b: VolumeId) -> Option<Refusal>
+    requires rest { IsAtRest (P.state plant.now) config.now }
+    requires defined { IsSome (place_of config.now b.0) }
+    ensures refusal { (r : Rest) (events : List Event) → result ≡ plans.lead_refusal b.0 (world_seen (P.state plant.now) config.now r events).control }
+    ensures calm { is_stop result ≡ false }
+{
+    if peek_head(plant, config, b).primary.is_part() {
+        return Some(pair_state(plant, config, b));
+    }
+    None
+}
+
 /// Why no member can be made of a and its secondary, as far as their pair says: the server of a is off, a is no Global Copy
-/// primary, its secondary can't be reached from it, or hasn't the part for it.
+/// primary, its secondary can't be reached from it, or hasn't the part for it, or is a primary itself.
 fn copy_refusal<P: Plant>(plant: &P, config: &Config, a: VolumeId) -> Option<Refusal>
     requires rest { IsAtRest (P.state plant.now) config.now }
     requires defined { IsSome (place_of config.now a.0) }
@@ -42,7 +55,10 @@ fn copy_refusal<P: Plant>(plant: &P, config: &Config, a: VolumeId) -> Option<Ref
     if !f.primary.is_global() {
         return Some(pair_state(plant, config, a));
     }
-    send_refusal(plant, config, a, f.primary_partner)
+    if let Some(why) = send_refusal(plant, config, a, f.primary_partner) {
+        return Some(why);
+    }
+    lead_refusal(plant, config, f.primary_partner)
 }
 
 /// The member that primary a makes with its secondary and the target of that. Refused where the server of a is off, where a is

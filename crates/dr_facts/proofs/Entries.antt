@@ -8,7 +8,7 @@ use Rattle.dr_ids.specs.declared.refusal.Refusal.TheVariants.{Stopped as Stopped
 use Rattle.dr_model.specs.Refusals.{stopped}
 use Rattle.dr_model.specs.Control.{Control, World}
 use Rattle.dr_model.specs.Moves.{Move}
-use Rattle.dr_model.specs.Carry.{Act, Make, Drop, Turn, Next, Pass, Do, End, Entry, Outcome, act, continue, go, carry, now, check}
+use Rattle.dr_model.specs.Carry.{Act, Make, Drop, Turn, Next, Pass, Do, End, Entry, Outcome, act, continue, go, carry, carry_each, now, check}
 use Rattle.dr_model.specs.Entries.{times, on_found, drop_unless, check_or_drop}
 use Rattle.dr_model.specs.PairEntries.{end_if, refuse_if}
 use Rattle.dr_model.specs.PlanParts.{Plan}
@@ -106,6 +106,11 @@ module _ (K : World → Type 0) (Ok : World → Act → Type 0) (Why : Refusal �
   fine-flat each [] one = fine-none
   fine-flat each (x ∷ xs) one = fine-append (each x) (flat_map each xs) (one x (inl refl)) (fine-flat each xs (λ y h. one y (inr h)))
 
+  -- entries of which each comes whatever became of those before it
+  abbrev pub EachFine : List Entry → Type 0
+  EachFine [] = Unit {0}
+  EachFine (d ∷ ds) = AllFine (d ∷ []) × EachFine ds
+
   -- ---- choices
 
   pub fine-choice : (b : Bool) (ds es : List Entry) → (b ≡ true → AllFine ds) → (b ≡ false → AllFine es) → AllFine (cond b ds es)
@@ -167,12 +172,16 @@ module _ (K : World → Type 0) (Ok : World → Act → Type 0) (Why : Refusal �
     carry-kept [] fine w j = j
     carry-kept (d ∷ ds) fine w j = next-kept w (d w.control) (λ v. carry v ds) (AllFine ds) (fine w (known w j)) j (λ rest v i. carry-kept ds rest v i)
 
-    pub finish-kept : (p : Plan) (n : ℕ) (w : World) (r : Option Refusal) → ((s : ℕ) → AllFine (p.follows s)) → ((v : World) → J v → J (record v { control = p.last v.control })) → J w → J (finish p n w r)
+    pub each-kept : (ds : List Entry) → EachFine ds → (w : World) → J w → J (carry_each w ds)
+    each-kept [] fine w j = j
+    each-kept (d ∷ ds) fine w j = each-kept ds fine.1 (carry w (d ∷ [])).0 (carry-kept (d ∷ []) fine.0 w j)
+
+    pub finish-kept : (p : Plan) (n : ℕ) (w : World) (r : Option Refusal) → ((s : ℕ) → EachFine (p.follows s)) → ((v : World) → J v → J (record v { control = p.last v.control })) → J w → J (finish p n w r)
     finish-kept p n w None follows last j = last w j
-    finish-kept p n w (Some (StoppedIn s)) follows last j = carry-kept (p.follows n) (follows n) w j
+    finish-kept p n w (Some (StoppedIn s)) follows last j = each-kept (p.follows n) (follows n) w j
     finish-kept p n w (Some r) follows last j = j
 
-    pub plan-kept : (w : World) (p : Plan) → J (begun w p) → AllFine p.entries → ((s : ℕ) → AllFine (p.follows s)) → ((v : World) → J v → J (record v { control = p.last v.control })) → J (carried_out w p).0
+    pub plan-kept : (w : World) (p : Plan) → J (begun w p) → AllFine p.entries → ((s : ℕ) → EachFine (p.follows s)) → ((v : World) → J v → J (record v { control = p.last v.control })) → J (carried_out w p).0
     plan-kept w p j entries follows last = finish-kept p (stop_place w p) (carry (begun w p) p.entries).0 (carry (begun w p) p.entries).1 follows last (carry-kept p.entries entries (begun w p) j)
 
   -- how such entries are refused, where nothing needs to be known of worlds: for no reason, by a stop, or for such a reason
@@ -202,6 +211,10 @@ module _ (K J : World → Type 0) (Ok More : World → Act → Type 0) (Why Much
   unfolding AllFine
   fine-wider [] fine = tt
   fine-wider (d ∷ ds) fine = λ w j. next-wider w (d w.control) (AllFine K Ok Why ds) (AllFine J More Much ds) j (fine w (known w j)) (λ rest. fine-wider ds rest)
+
+  pub each-wider : (ds : List Entry) → EachFine K Ok Why ds → EachFine J More Much ds
+  each-wider [] fine = tt
+  each-wider (d ∷ ds) fine = (fine-wider (d ∷ []) fine.0, each-wider ds fine.1)
 
 -- ---- entries from a world on: what comes before the first act is seen in that world, and refuses for reasons of its own
 
@@ -257,7 +270,7 @@ module _ (K : World → Type 0) (Ok : World → Act → Type 0) (First Why : Ref
         by (End r) on fine = j
         by (Do a) on fine = turn-kept K Ok Why J known keeps (act w a) (λ v. carry v ds) (keeps w a fine.0 j) (λ v i. carry-kept K Ok Why J known keeps ds fine.1 v i)
 
-    pub plan-from : (w : World) (p : Plan) → J (begun w p) → FineFrom (begun w p) p.entries → ((s : ℕ) → AllFine K Ok Why (p.follows s)) → ((v : World) → J v → J (record v { control = p.last v.control })) → J (carried_out w p).0
+    pub plan-from : (w : World) (p : Plan) → J (begun w p) → FineFrom (begun w p) p.entries → ((s : ℕ) → EachFine K Ok Why (p.follows s)) → ((v : World) → J v → J (record v { control = p.last v.control })) → J (carried_out w p).0
     plan-from w p j entries follows last =
         finish-kept K Ok Why J known keeps p (stop_place w p) (carry (begun w p) p.entries).0 (carry (begun w p) p.entries).1 follows last (from-kept p.entries (begun w p) entries j)
 

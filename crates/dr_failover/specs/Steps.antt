@@ -5,17 +5,21 @@ use Rattle.dr_ids.specs.declared.refusal.Which.TheVariants.{Size}
 use Rattle.dr_model.specs.declared.state.Part.{Part}
 use Rattle.dr_model.specs.Control.{Control}
 use Rattle.dr_model.specs.Carry.{Entry, check}
-use Rattle.dr_model.specs.Entries.{fields_at, is_running, running_check, share_size, is_settled, pair_state, relation_state}
+use Rattle.dr_model.specs.Entries.{fields_at, is_running, running_check, share_size, is_settled, is_no_secondary, pair_state, secondary_state, relation_state}
 use Rattle.dr_model.specs.PairEntries.{refuse_if, reach_refusal, may_take_over, leads_as, leads_to, fall_back_on, yield_on, is_copying, sends, tracks_to_send}
 use Rattle.dr_model.specs.Refusals.{server_off, over}
 
 -- b runs, and is a secondary of a of that kind
 abbrev pub failover_checks : Control → ℕ → ℕ → Part → List Entry
-failover_checks k b a kind = running_check k b ∷ check (may_take_over a b kind) (pair_state k b) ∷ []
+failover_checks k b a kind = running_check k b ∷ check (may_take_over a b kind) (secondary_state k b) ∷ []
 
--- x and y are primaries of each other, x of that kind
+-- x and y are primaries of each other, x of that kind, and neither is a secondary
 abbrev pub lead_checks : Control → ℕ → ℕ → Part → List Entry
-lead_checks k x y kind = check (leads_as x y kind) (pair_state k x) ∷ check (leads_to y x) (pair_state k y) ∷ []
+lead_checks k x y kind =
+    check (leads_as x y kind) (pair_state k x)
+    ∷ check (leads_to y x) (pair_state k y)
+    ∷ check (is_no_secondary x) (secondary_state k x)
+    ∷ check (is_no_secondary y) (secondary_state k y) ∷ []
 
 -- neither stands in a revertible or reversing relationship
 abbrev pub settled_checks : Control → ℕ → ℕ → List Entry

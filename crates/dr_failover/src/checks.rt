@@ -19,7 +19,7 @@ use dr_flash::{is_settled, relation_state};
 use dr_gcopy::{is_primary_by, is_secondary_by, reach_refusal, running_refusal};
 use dr_ids::{Refusal, VolumeId};
 use dr_model::Part;
-use dr_moves::pair_state;
+use dr_moves::{pair_state, secondary_state};
 use dr_plant::Plant;
 use dr_volume::{Head, peek_head};
 
@@ -31,7 +31,7 @@ fn may_take_over(h: &Head, a: VolumeId, kind: Part) -> bool
 }
 
 /// Why secondary b of a, of that kind, isn't taken over: its server is off, or it is no such secondary.
-pub(crate) fn failover_refusal<P: Plant>(
+pub fn failover_refusal<P: Plant>(
     plant: &P,
     config: &Config,
     b: VolumeId,
@@ -49,7 +49,7 @@ pub(crate) fn failover_refusal<P: Plant>(
         return Some(why);
     }
     if !may_take_over(&peek_head(plant, config, b), a, kind) {
-        return Some(pair_state(plant, config, b));
+        return Some(secondary_state(plant, config, b));
     }
     None
 }
@@ -61,7 +61,7 @@ fn leads_as(h: &Head, y: VolumeId, kind: Part) -> bool
     is_primary_by(h, y) && h.primary.is_kind(kind)
 }
 
-/// Why x and y aren't primaries of each other, x of that kind.
+/// Why x and y aren't primaries of each other, x of that kind, or one of them is a secondary, too.
 fn lead_refusal<P: Plant>(
     plant: &P,
     config: &Config,
@@ -82,6 +82,12 @@ fn lead_refusal<P: Plant>(
     }
     if !is_primary_by(&peek_head(plant, config, y), x) {
         return Some(pair_state(plant, config, y));
+    }
+    if peek_head(plant, config, x).secondary.is_part() {
+        return Some(secondary_state(plant, config, x));
+    }
+    if peek_head(plant, config, y).secondary.is_part() {
+        return Some(secondary_state(plant, config, y));
     }
     None
 }
@@ -109,7 +115,7 @@ fn settled_refusal<P: Plant>(
 }
 
 /// Why the pair of x and y can't go on with x as its primary, whatever sessions say: the server of x is off, y can't be reached from x,
-/// x is no primary of y of that kind, y is no primary of x, or y, or else x, stands in a revertible or reversing relationship.
+/// x is no primary of y of that kind, y is no primary of x, x, or else y, is a secondary, or y, or else x, stands in a revertible or reversing relationship.
 pub(crate) fn failback_refusal<P: Plant>(
     plant: &P,
     config: &Config,

@@ -22,6 +22,7 @@ mod returning;
 mod taking;
 mod turning;
 
+pub use checks::failover_refusal;
 pub use comparing::compare_volumes;
 pub use resync::resync_step;
 pub use returning::failback;

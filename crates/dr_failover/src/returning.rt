@@ -31,7 +31,7 @@ use dr_session::Sessions;
 /// Of two primaries of each other x goes on as the primary and y as its secondary; the caller knows both. What y hasn't sent is out of
 /// sync at x too; x is voided, and its long busy state stays. Both are Full Duplex where the pair is a Metro Mirror and nothing is
 /// out of sync then, else Copy Pending. Refused, in this order, where the server of x is off; y can't be reached from x; x is no
-/// primary of y of that kind; y is no primary of x; y, or else x, stands in a revertible or reversing relationship; and, where a
+/// primary of y of that kind; y is no primary of x; x, or else y, is a secondary; y, or else x, stands in a revertible or reversing relationship; and, where a
 /// target of y is a member's, as its restore is. Fails too where a server stops in a move or goes off at a read; what was
 /// done by then stays. A session has at most 64 members. The journal needs room for three events.
 pub fn failback<P: Plant>(

@@ -5,6 +5,7 @@ ghost use Rattle.dr_logic.specs.Counts.{Counted};
 ghost use Rattle.dr_config.specs.Table.{place_of};
 ghost use Rattle.dr_model.specs.Laws.{Sound};
 ghost use Rattle.dr_model.specs.PairEntries.{failover_entries};
+ghost use Rattle.dr_model.specs.Pairs.{is_cascaded};
 ghost use Rattle.dr_model.specs.ReadStops.{Ends};
 ghost use Rattle.dr_volume.specs.Update.{OthersStay};
 ghost use Rattle.dr_volume.specs.View.{Rest, volume_seen};
@@ -21,7 +22,7 @@ use dr_ids::{Refusal, VolumeId};
 use dr_model::Journal;
 use dr_plant::Plant;
 
-/// Secondary b of a, of that kind, becomes a Suspended primary of a, with no track out of sync; the caller knows b, and a isn't asked.
+/// Secondary b of a, of that kind, becomes a Suspended primary of a, with no track out of sync; the caller knows b, which isn't cascaded, and a isn't asked.
 /// Refused, in this order, where the server of b is off, or b is no secondary of a of that kind. Fails too where the server stops in
 /// the move or goes off at a read. The journal needs room for two events.
 pub fn failover<P: Plant>(
@@ -35,6 +36,7 @@ pub fn failover<P: Plant>(
     requires rest { IsAtRest (P.state plant.old) config.now }
     requires fit { RelationsFit (P.state plant.old) config.now }
     requires defined { IsSome (place_of config.now b.0) }
+    requires uncascaded { is_cascaded (volume_seen (P.state plant.old) config.now b.0).fields ≡ false }
     requires room { 2 ≤ journal.old.spare }
     ensures carried { (r : Rest) → Ends (armed_in (P.state plant.old)) (world_seen (P.state plant.new) config.now r journal.new.events) (refusal_of result) (world_seen (P.state plant.old) config.now r journal.old.events)
         (failover_entries (world_seen (P.state plant.old) config.now r journal.old.events).control b.0 a.0 (part_of kind)) }

@@ -12,6 +12,10 @@
 -- volumes that it spares. Two are `ran-then`, one that failed `ran-failed`, a move `ran-made` with `stays-by`. What all of them ask is one
 -- record too (`CanPass`), with one lemma that carries it along volumes that are as they were (`can-still`). `Kept` serves where each part
 -- says what is set aside; `copy_first` doesn't.
+-- **Entries that each test the same condition** (`send_first`, in `CollideLemmas.antt`): the call proves the bare entries, and one lemma over
+--   `Ends` turns them into the tested ones (`send-comes`). It goes entry by entry with the condition and what keeps it (`Sends`), a product in
+--   `abbrev` form, so that a change of other parts of the state converts; `acted` takes any statement on parts of the state over a move that
+--   was done. Where the condition fails at the start, all pass (`none-comes`).
 pub mod PairLemmas
 pub mod ReachLemmas
 pub mod PairChecks
@@ -22,3 +26,5 @@ pub mod SendMoves
 pub mod SendLemmas
 pub mod RanLemmas
 pub mod DrainLemmas
+pub mod CollideLemmas
+pub mod PartLemmas

@@ -16,7 +16,7 @@ use Rattle.dr_model.specs.Refusals.{server_off, unknown}
 use Rattle.dr_model.specs.Carry.{Pass, Do, Make, check, now}
 use Rattle.dr_model.specs.Layout.{is_part}
 use Rattle.dr_model.specs.Moves.{Suspend}
-use Rattle.dr_model.specs.Pairs.{is_secondary_of, pair_seen}
+use Rattle.dr_model.specs.Pairs.{is_secondary_of, secondary_seen}
 use Rattle.dr_model.specs.Entries.{copies_from, fields_at, is_running, subsystem}
 use Rattle.dr_model.specs.PairEntries.{end_if, refuse_if, link_down, has_path, are_linked, reach_refusal, send_refusal, suspend_where, suspend_running}
 use Rattle.dr_volume.specs.View.{volume_seen, volume_at, volume_on, on_seen}
@@ -100,7 +100,7 @@ refusal_by a b paths on link from to = option_or
     else if not (on to.server) then Some (server_off to.server)
     else if not (link from to.server) then Some (link_down from to.server)
     else None)
-    (if is_secondary_of a to.fields then None else Some (PairState (record { 0 = b }) (pair_seen to.fields)))
+    (if is_secondary_of a to.fields then None else Some (PairState (record { 0 = b }) (secondary_seen to.fields)))
 
 pub same-refusal : (a b : ℕ) (k l : Control) → l.paths ≡ k.paths → l.on ≡ k.on → l.link ≡ k.link → (l.volume a).server ≡ (k.volume a).server → l.volume b ≡ k.volume b → send_refusal a b l ≡ send_refusal a b k
 same-refusal a b k l paths on link from to = λ i. refusal_by a b (paths i) (on i) (link i) (from i) (to i)

@@ -2,7 +2,7 @@
 use Rattle.std.specs.Prelude.{ℕ, Bool, not, ◌&&◌, ◌||◌, nat_eq}
 use Rattle.dr_model.specs.declared.state.Part.{Part}
 use Rattle.dr_model.specs.Layout.{is_part}
-use Rattle.dr_model.specs.Pairs.{is_kind, is_suspended}
+use Rattle.dr_model.specs.Pairs.{is_kind, is_metro, is_suspended}
 use Rattle.dr_volume.specs.declared.head.Head.{Head}
 
 -- it is a primary of b
@@ -12,6 +12,14 @@ primary_by b h = is_part h.primary && nat_eq h.primary_partner.0 b
 -- it is the secondary of a
 abbrev pub secondary_by : ℕ → Head → Bool
 secondary_by a h = is_part h.secondary && nat_eq h.secondary_partner.0 a
+
+-- it has no part in a pair
+abbrev pub unpaired_by : Head → Bool
+unpaired_by h = not (is_part h.primary) && not (is_part h.secondary)
+
+-- it may be cascaded with secondary b: it is no primary, and the Metro Mirror secondary of another volume
+abbrev pub may_cascade_by : ℕ → Head → Bool
+may_cascade_by b h = not (is_part h.primary) && (is_metro h.secondary && not (nat_eq h.secondary_partner.0 b))
 
 -- it may become the secondary of a: it is no primary, and the secondary of no other
 abbrev pub free_for : ℕ → Head → Bool

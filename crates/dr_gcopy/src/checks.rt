@@ -14,13 +14,13 @@ ghost use Rattle.dr_moves.specs.Checks.{Checked, OnNone, is_stop};
 ghost use Rattle.dr_moves.specs.Here.{world_seen, IsAtRest};
 ghost use Rattle.dr_gcopy.specs.Steps.{unlike_checks, free_checks, flash_checks, make_checks, remove_checks, contact_checks, pause_checks, resume_checks};
 
-use crate::parts::{is_primary_by, is_secondary_by, may_follow, may_pause, may_resume};
+use crate::parts::{is_primary_by, is_secondary_by, may_follow, may_lead, may_pause, may_resume};
 use crate::reach::reach_refusal;
 use dr_config::Config;
 use dr_flash::{is_settled, relation_state};
 use dr_ids::{Refusal, VolumeId, Which};
 use dr_model::Part;
-use dr_moves::{is_unpaired, pair_state, server_of, tracks_of};
+use dr_moves::{pair_state, secondary_state, server_of, tracks_of};
 use dr_plant::Plant;
 use dr_volume::peek_head;
 
@@ -59,16 +59,22 @@ fn unlike_refusal(config: &Config, a: VolumeId, b: VolumeId) -> Option<Refusal>
     None
 }
 
-/// Why a pair of a and b can't be made beside those that there are: a has a part in a pair, or b is a primary or the
-/// secondary of another volume.
-fn free_refusal<P: Plant>(plant: &P, config: &Config, a: VolumeId, b: VolumeId) -> Option<Refusal>
+/// Why a pair of a and b can't be made beside those that there are: a has a part in a pair, or, where it is to be cascaded, is a primary
+/// or no Metro Mirror secondary of another volume than b; or b is a primary or the secondary of another volume.
+fn free_refusal<P: Plant>(
+    plant: &P,
+    config: &Config,
+    a: VolumeId,
+    b: VolumeId,
+    cascade: bool,
+) -> Option<Refusal>
     requires rest { IsAtRest (P.state plant.now) config.now }
     requires primary { IsSome (place_of config.now a.0) }
     requires secondary { IsSome (place_of config.now b.0) }
-    ensures checked { (r : Rest) (events : List Event) → Checked (world_seen (P.state plant.now) config.now r events) (free_checks (world_seen (P.state plant.now) config.now r events).control a.0 b.0) result }
+    ensures checked { (r : Rest) (events : List Event) → Checked (world_seen (P.state plant.now) config.now r events) (free_checks (world_seen (P.state plant.now) config.now r events).control a.0 b.0 cascade) result }
     ensures calm { is_stop result ≡ false }
 {
-    if !is_unpaired(&peek_head(plant, config, a)) {
+    if !may_lead(&peek_head(plant, config, a), b, cascade) {
         return Some(pair_state(plant, config, a));
     }
     if !may_follow(&peek_head(plant, config, b), a) {
@@ -104,11 +110,12 @@ pub(crate) fn make_refusal<P: Plant>(
     config: &Config,
     a: VolumeId,
     b: VolumeId,
+    cascade: bool,
 ) -> Option<Refusal>
     requires rest { IsAtRest (P.state plant.now) config.now }
     requires primary { IsSome (place_of config.now a.0) }
     requires secondary { IsSome (place_of config.now b.0) }
-    ensures checked { (r : Rest) (events : List Event) → Checked (world_seen (P.state plant.now) config.now r events) (make_checks (world_seen (P.state plant.now) config.now r events).control a.0 b.0) result }
+    ensures checked { (r : Rest) (events : List Event) → Checked (world_seen (P.state plant.now) config.now r events) (make_checks (world_seen (P.state plant.now) config.now r events).control a.0 b.0 cascade) result }
     ensures running { OnNone result ((P.state plant.now).on (volume_seen (P.state plant.now) config.now a.0).server ≡ true) }
     ensures reached { OnNone result ((P.state plant.now).on (volume_seen (P.state plant.now) config.now b.0).server ≡ true) }
     ensures apart { OnNone result (a.0 ≢ b.0) }
@@ -124,7 +131,7 @@ pub(crate) fn make_refusal<P: Plant>(
     if let Some(why) = unlike_refusal(config, a, b) {
         return Some(why);
     }
-    if let Some(why) = free_refusal(plant, config, a, b) {
+    if let Some(why) = free_refusal(plant, config, a, b, cascade) {
         return Some(why);
     }
     flash_refusal(plant, config, a, b)
@@ -251,7 +258,7 @@ pub(crate) fn resume_refusal<P: Plant>(
         return Some(why);
     }
     if !is_secondary_by(&peek_head(plant, config, b), a) {
-        return Some(pair_state(plant, config, b));
+        return Some(secondary_state(plant, config, b));
     }
     None
 }

@@ -25,7 +25,7 @@ use dr_plant::Plant;
 use dr_volume::peek_fields;
 
 /// Whether as many tracks were sent as are to be.
-fn is_enough(most: Option<u32>, sent: u16) -> bool
+pub fn is_enough(most: Option<u32>, sent: u16) -> bool
     ensures { result ≡ enough most sent }
 {
     match most {

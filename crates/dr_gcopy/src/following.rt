@@ -21,8 +21,8 @@ use dr_plant::Plant;
 use dr_volume::peek_head;
 
 /// Suspends a volume that is a primary and whose server is on. A stop of that server in it is told, and changes nothing
-/// of what was refused before.
-fn suspend_running<P: Plant>(plant: &mut P, config: &Config, journal: &mut Journal, a: VolumeId)
+/// of what was refused before. The journal needs room for three events.
+pub fn suspend_running<P: Plant>(plant: &mut P, config: &Config, journal: &mut Journal, a: VolumeId)
     requires at { IsAt (P.state plant.old) config.now }
     requires defined { IsSome (place_of config.now a.0) }
     requires room { 3 ≤ journal.old.spare }

@@ -84,7 +84,7 @@ pub fn make_pair<P: Plant>(
     requires secondary { IsSome (place_of config.now b.0) }
     requires room { 3 ≤ journal.old.spare }
     ensures carried { (r : Rest) → Ends (armed_in (P.state plant.old)) (world_seen (P.state plant.new) config.now r journal.new.events) (refusal_of result) (world_seen (P.state plant.old) config.now r journal.old.events)
-        (make_entries (world_seen (P.state plant.old) config.now r journal.old.events).control a.0 b.0 (part_of kind) full (if full then None else first_differing (track_seen (P.state plant.old) config.now) (volume_seen (P.state plant.old) config.now a.0).tracks a.0 b.0)) }
+        (make_entries (world_seen (P.state plant.old) config.now r journal.old.events).control a.0 b.0 (part_of kind) false full (if full then None else first_differing (track_seen (P.state plant.old) config.now) (volume_seen (P.state plant.old) config.now a.0).tracks a.0 b.0)) }
     ensures unchanged { is_stop (refusal_of result) ≡ false → OnErr result ((P.state plant.new ≡ P.state plant.old) × (journal.new ≡ journal.old)) }
     ensures rest { IsAtRest (P.state plant.new) config.now }
     ensures fit { RelationsFit (P.state plant.new) config.now }
@@ -95,7 +95,39 @@ pub fn make_pair<P: Plant>(
     ensures room { journal.old.spare ≤ journal.new.spare + 3 }
     ensures spare { length journal.new.events + journal.new.spare ≡ length journal.old.events + journal.old.spare }
 {
-    if let Some(why) = make_refusal(plant, config, a, b) {
+    make_as(plant, config, journal, a, b, kind, false, full)
+}
+
+/// The same where a may be cascaded from then on: then, in place of having no part, it has to be a Metro Mirror secondary of another volume
+/// than b, and no primary.
+pub fn make_as<P: Plant>(
+    plant: &mut P,
+    config: &Config,
+    journal: &mut Journal,
+    a: VolumeId,
+    b: VolumeId,
+    kind: CopyKind,
+    cascade: bool,
+    full: bool,
+) -> Result<(), Refusal>
+    requires rest { IsAtRest (P.state plant.old) config.now }
+    requires fit { RelationsFit (P.state plant.old) config.now }
+    requires primary { IsSome (place_of config.now a.0) }
+    requires secondary { IsSome (place_of config.now b.0) }
+    requires room { 3 ≤ journal.old.spare }
+    ensures carried { (r : Rest) → Ends (armed_in (P.state plant.old)) (world_seen (P.state plant.new) config.now r journal.new.events) (refusal_of result) (world_seen (P.state plant.old) config.now r journal.old.events)
+        (make_entries (world_seen (P.state plant.old) config.now r journal.old.events).control a.0 b.0 (part_of kind) cascade full (if full then None else first_differing (track_seen (P.state plant.old) config.now) (volume_seen (P.state plant.old) config.now a.0).tracks a.0 b.0)) }
+    ensures unchanged { is_stop (refusal_of result) ≡ false → OnErr result ((P.state plant.new ≡ P.state plant.old) × (journal.new ≡ journal.old)) }
+    ensures rest { IsAtRest (P.state plant.new) config.now }
+    ensures fit { RelationsFit (P.state plant.new) config.now }
+    ensures unarmed { (q : ℕ) → (P.state plant.old).read_fuse q ≡ None → (P.state plant.new).read_fuse q ≡ None }
+    ensures faults { Counted (is_stop (refusal_of result)) (P.state plant.old).faults (P.state plant.new).faults }
+    ensures others { BothAlone (P.state plant.old) (P.state plant.new) config.now a.0 b.0 }
+    ensures on { OnOk result ((P.state plant.new).on ≡ (P.state plant.old).on) }
+    ensures room { journal.old.spare ≤ journal.new.spare + 3 }
+    ensures spare { length journal.new.events + journal.new.spare ≡ length journal.old.events + journal.old.spare }
+{
+    if let Some(why) = make_refusal(plant, config, a, b, cascade) {
         return Err(why);
     }
     compare(plant, config, journal, a, b, full)?;

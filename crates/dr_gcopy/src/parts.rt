@@ -1,12 +1,13 @@
 //! What the fields of a volume, or its head alone, say of a pair.
 
-ghost use Rattle.std.specs.Prelude.{◌≡◌};
+ghost use Rattle.std.specs.Prelude.{◌≡◌, if◌then◌else◌};
 ghost use Rattle.dr_model.specs.Pairs as pairs;
 ghost use Rattle.dr_volume.specs.Plain.{plain};
-ghost use Rattle.dr_gcopy.specs.Heads.{primary_by, secondary_by, free_for, active_by, paused_by};
+ghost use Rattle.dr_gcopy.specs.Heads.{primary_by, secondary_by, unpaired_by, may_cascade_by, free_for, active_by, paused_by};
 
 use dr_ids::VolumeId;
 use dr_model::{PairState, Part};
+use dr_moves::is_unpaired;
 use dr_volume::{Fields, Head};
 
 /// The state of a pair as it is made.
@@ -52,6 +53,18 @@ pub fn is_secondary_by(h: &Head, a: VolumeId) -> bool
     h.secondary.is_part() && h.secondary_partner.0 == a.0
 }
 
+/// Whether a volume with this head may become the primary of `b`: it has no part in a pair, or, where it is to be cascaded, it is no
+/// primary, and the Metro Mirror secondary of another volume.
+pub(crate) fn may_lead(h: &Head, b: VolumeId, cascade: bool) -> bool
+    ensures { result ≡ (if cascade then may_cascade_by b.0 h.now else unpaired_by h.now) }
+{
+    if cascade {
+        !h.primary.is_part() && (h.secondary.is_metro() && h.secondary_partner.0 != b.0)
+    } else {
+        is_unpaired(h)
+    }
+}
+
 /// Whether a volume with this head may become the secondary of `a`: it is no primary, and the secondary of no other.
 pub(crate) fn may_follow(h: &Head, a: VolumeId) -> bool
     ensures { result ≡ free_for a.0 h.now }
@@ -83,4 +96,12 @@ pub(crate) fn is_last(f: &Fields, t: u16) -> bool
     let mut left = f.out_of_sync;
     left.remove(t);
     left.len() == 0
+}
+
+/// Whether track t of a volume with these fields collides with what comes to it: a Global Copy primary records, and the track is still out of
+/// sync, so that its secondary hasn't what it was as the primary began to.
+pub fn collides(f: &Fields, t: u16) -> bool
+    ensures { result ≡ pairs.collides (plain f.now) t }
+{
+    f.primary.is_global() && (f.recording && f.out_of_sync.contains(t))
 }

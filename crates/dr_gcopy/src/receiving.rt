@@ -25,7 +25,7 @@ use dr_config::Config;
 use dr_flash::{copy_first, is_revertible, relation_state};
 use dr_ids::{Refusal, VolumeId};
 use dr_model::Journal;
-use dr_moves::pair_state;
+use dr_moves::secondary_state;
 use dr_plant::{Block, Plant};
 use dr_volume::peek_head;
 
@@ -45,7 +45,7 @@ pub(crate) fn stranger_refusal<P: Plant>(
     if is_secondary_by(&peek_head(plant, config, b), a) {
         return None;
     }
-    Some(pair_state(plant, config, b))
+    Some(secondary_state(plant, config, b))
 }
 
 /// The refusal where b stands in a revertible relationship.

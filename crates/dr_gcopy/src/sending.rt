@@ -50,8 +50,9 @@ pub fn send_refusal<P: Plant>(
     stranger_refusal(plant, config, a, b)
 }
 
-/// Suspends primary a, which can't send to b for this reason, and gives it, or the stop of a's server in the suspension.
-fn refuse<P: Plant>(
+/// Suspends primary a, whose server is on, and which can't send to b for this reason, and gives it, or the stop of a's server in the
+/// suspension. The journal needs room for three events.
+pub fn refuse<P: Plant>(
     plant: &mut P,
     config: &Config,
     journal: &mut Journal,

@@ -27,12 +27,11 @@ use Rattle.dr_model.specs.Laws.{Sound}
 use Rattle.dr_model.specs.Messages.{Message}
 use Rattle.dr_model.specs.Pairs.{is_secondary_of}
 use Rattle.dr_model.specs.Carried.{begun}
-use Rattle.dr_model.specs.Carry.{Entry, follow, Outcome}
+use Rattle.dr_model.specs.Carry.{Entry, follow}
 use Rattle.dr_model.specs.PlanParts.{Plan, none_follow, refuses, unless}
 use Rattle.dr_model.specs.ReadStops.{Ends}
 use Rattle.dr_model.specs.SessionEntries.{members_on, order_entries, reply_after}
 use Rattle.dr_model.specs.SessionPlans.{exchanged, exchange_done, exchange_on, exchange_refusal, phase_refusal, is_idle, order_of}
-use Rattle.dr_model.proofs.CarryLemmas.{carry-none}
 use Rattle.dr_laws_recovery.specs.TakenOver.{IsLeft}
 use Rattle.dr_laws_recovery.proofs.TakenOver.{leaves-carried, leaves-delivery}
 use Rattle.dr_volume.specs.View.{Rest}
@@ -58,7 +57,7 @@ pub silent-ends : (armed : ℕ → Bool) (u w : World) (r : Option Refusal) (es 
 silent-ends armed u w r es ends = subst (λ z. Ends armed u r z es) (sym (same-begun w)) ends
 
 pub follow-nothing : (w : World) (r : Refusal) → w ≡ follow w r []
-follow-nothing w (StoppedIn s) = sym (ap (λ (o : Outcome). o.0) (carry-none w))
+follow-nothing w (StoppedIn s) = refl
 follow-nothing w _ = refl
 
 -- the sessions and the flight after an exchange

@@ -77,7 +77,7 @@ pub enum RelSeen {
     None,
 }
 
-/// Why a step was refused; the answers E01 to E25 in this order.
+/// Why a step was refused; the answers E01 to E26 in this order.
 #[derive(Clone, Copy)]
 pub enum Refusal {
     Syntax { column: u16 },
@@ -105,6 +105,7 @@ pub enum Refusal {
     JournalFull,
     NotBuilt,
     OldMessage { m: u32 },
+    Held { volume: VolumeId },
 }
 
 /// Why a call that may want memory failed.

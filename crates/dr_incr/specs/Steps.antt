@@ -8,7 +8,7 @@ use Rattle.dr_model.specs.Laws.{SetsFit}
 use Rattle.dr_model.specs.Control.{Control}
 use Rattle.dr_model.specs.Moves.{Resync, Reverse}
 use Rattle.dr_model.specs.Carry.{Entry, now, check}
-use Rattle.dr_model.specs.Entries.{relation_state, pair_state, keep_on, for_lowest, running_check}
+use Rattle.dr_model.specs.Entries.{relation_state, secondary_state, keep_on, for_lowest, running_check}
 use Rattle.dr_model.specs.PairEntries.{refuse_if}
 use Rattle.dr_model.specs.Plans.{is_recorded_target, is_lone_restore, may_return, counted_refusal, restore_refusal, left_by}
 
@@ -26,7 +26,7 @@ resync_entries k s t sequence = resync_checks k s t ++ now (Resync t sequence) �
 
 -- and no other target of s is revertible or restored, and s is no secondary and no primary but a Suspended one
 abbrev pub lone_checks : Control → ℕ → ℕ → List Entry
-lone_checks k s t = check (is_lone_restore s t) (relation_state k s) ∷ check (may_return s) (pair_state k s) ∷ []
+lone_checks k s t = check (is_lone_restore s t) (relation_state k s) ∷ check (may_return s) (secondary_state k s) ∷ []
 
 -- a member's target is restored only while its session lets it be, and leaves the session by it
 abbrev pub reverse_checks : Control → ℕ → ℕ → List Entry

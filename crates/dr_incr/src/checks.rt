@@ -19,7 +19,7 @@ ghost use Rattle.dr_incr.specs.Steps.{target_checks, lone_checks};
 use dr_config::Config;
 use dr_flash::relation_state;
 use dr_ids::{Refusal, VolumeId};
-use dr_moves::{is_quiet, pair_state, server_of};
+use dr_moves::{is_quiet, secondary_state, server_of};
 use dr_plant::Plant;
 use dr_volume::{Head, peek_head, peek_head_at};
 
@@ -109,7 +109,7 @@ pub(crate) fn lone_refusal<P: Plant>(
         return Some(relation_state(plant, config, s));
     }
     if !may_return(&peek_head(plant, config, s)) {
-        return Some(pair_state(plant, config, s));
+        return Some(secondary_state(plant, config, s));
     }
     None
 }

@@ -14,7 +14,7 @@ use Rattle.dr_model.specs.Control.{Control}
 use Rattle.dr_model.specs.Relations.{flashed, committed, reverted}
 use Rattle.dr_model.specs.Pairs.{records, is_secondary_of, held_for, past_attempt, with_floor}
 use Rattle.dr_model.specs.Moves.{Hold, Free, Seal, Finish, RaiseAttempt, RaiseFloor, Leave, Flash, Commit, Revert, Carried}
-use Rattle.dr_model.specs.Entries.{fields_at, relation_state, pair_state}
+use Rattle.dr_model.specs.Entries.{fields_at, relation_state, secondary_state}
 use Rattle.dr_model.specs.PairEntries.{reach_refusal, belongs_to, send_refusal}
 use Rattle.dr_model.specs.SessionEntries.{stale_refusal, is_flashed, is_committed, may_flash, unflashed_refusal, flash_refusal, commit_refusal, is_past, last_of, members_on}
 use Rattle.dr_model.specs.Phases as phases
@@ -43,9 +43,9 @@ use Rattle.dr_logic.proofs.Truth.{false_true}
 -- ---- what passed checks say
 
 pub sends-to : (a b : ℕ) (k : Control) → send_refusal a b k ≡ None → is_secondary_of a (fields_at k b) ≡ true
-sends-to a b k h = by (belongs_to a b k) (second-none (reach_refusal a b k) (cond (belongs_to a b k) None (Some (pair_state k b))) h)
+sends-to a b k h = by (belongs_to a b k) (second-none (reach_refusal a b k) (cond (belongs_to a b k) None (Some (secondary_state k b))) h)
   where
-    by : (c : Bool) → cond c None (Some (pair_state k b)) ≡ None → c ≡ true
+    by : (c : Bool) → cond c None (Some (secondary_state k b)) ≡ None → c ≡ true
     by true h = refl
     by false h = absurd cc
 

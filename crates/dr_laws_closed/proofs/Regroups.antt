@@ -18,7 +18,7 @@ use Rattle.dr_laws_sessions.proofs.Changes.{numbers, session-found, same-session
 use Rattle.dr_laws_sessions.proofs.Members.{no-place, quiet-members}
 use Rattle.dr_laws_attempts.proofs.Tables.{quiet-phase}
 use Rattle.dr_laws_attempts.proofs.Members.{quiet-raised}
-use Rattle.dr_laws_closed.specs.Regroups.{Eases, WasIn, Stays, Rests, Regroups}
+use Rattle.dr_laws_closed.specs.Regroups.{Eases, WasIn, Stays, Rests, AllStay, Regroups}
 
 -- ---- phases
 
@@ -73,70 +73,74 @@ eases-idle p = record { coordinating = λ e. absurd cc; early = λ e. absurd e }
 
 -- ---- the table
 
-stays-on : (ss : List Session) (x : Session) (m : Member) → In x ss → In m x.members → Stays ss x m
-stays-on ss x m i here = record { was = record { session = x; listed = i; here = here }; number = refl; last = refl; phase = eases-same (phase_of x.mirror) }
+pub stays-same : (ss : List Session) → AllStay ss ss
+stays-same ss x m i here = record { was = record { session = x; listed = i; here = here }; number = refl; last = refl; phase = eases-same (phase_of x.mirror) }
+
+-- where all members stay
+pub regroups-stay : (ss us : List Session) → AllStay ss us → Regroups ss us
+regroups-stay ss us stays y m i here = inl (stays y m i here)
 
 pub regroups-same : (ss : List Session) → Regroups ss ss
-regroups-same ss x m i here = inl (stays-on ss x m i here)
+regroups-same ss = regroups-stay ss ss (stays-same ss)
 
 module _ (ss : List Session) (once : Once (numbers ss)) where
   -- one session changes
-  regroups-one : (s : ℕ) (f : Session → Session) → ((x : Session) (m : Member) → In x ss → x.number ≡ s → In m (f x).members → Stays ss (f x) m ⊎ Rests ss (f x) m) → Regroups ss (changed s f ss)
-  regroups-one s f to y m i here = by (changed-in s f ss y once i)
+  stays-samee : (s : ℕ) (f : Session → Session) → ((x : Session) (m : Member) → In x ss → x.number ≡ s → In m (f x).members → Stays ss (f x) m) → AllStay ss (changed s f ss)
+  stays-samee s f to y m i here = by (changed-in s f ss y once i)
     where
-      by : (In y ss × (y.number ≢ s)) ⊎ Became s f ss y → Stays ss y m ⊎ Rests ss y m
-      by (inl o) = inl (stays-on ss y m o.0 here)
-      by (inr b) = subst (λ z. Stays ss z m ⊎ Rests ss z m) (sym b.is) (to b.from m b.listed b.number (subst (λ (z : Session). In m z.members) b.is here))
+      by : (In y ss × (y.number ≢ s)) ⊎ Became s f ss y → Stays ss y m
+      by (inl o) = stays-same ss y m o.0 here
+      by (inr b) = subst (λ z. Stays ss z m) (sym b.is) (to b.from m b.listed b.number (subst (λ (z : Session). In m z.members) b.is here))
 
   -- its phase goes on, and it keeps its number, its attempt and its members
-  eased : (s : ℕ) (f : Session → Session) → ((x : Session) → (f x).number ≡ x.number) → ((x : Session) → (f x).last ≡ x.last) → ((x : Session) (m : Member) → In m (f x).members → In m x.members) → ((x : Session) → Eases (phase_of x.mirror) (phase_of (f x).mirror)) → Regroups ss (changed s f ss)
-  eased s f number last members phase = regroups-one s f (λ x m i e here. inl (record { was = record { session = x; listed = i; here = members x m here }; number = number x; last = last x; phase = phase x }))
+  eased : (s : ℕ) (f : Session → Session) → ((x : Session) → (f x).number ≡ x.number) → ((x : Session) → (f x).last ≡ x.last) → ((x : Session) (m : Member) → In m (f x).members → In m x.members) → ((x : Session) → Eases (phase_of x.mirror) (phase_of (f x).mirror)) → AllStay ss (changed s f ss)
+  eased s f number last members phase = stays-samee s f (λ x m i e here. record { was = record { session = x; listed = i; here = members x m here }; number = number x; last = last x; phase = phase x })
 
-  mirrors : (s : ℕ) (g : Mirror → Mirror) → ((r : Mirror) → Eases r.master.phase (g r).master.phase) → Regroups ss (changed s (with_mirror g) ss)
+  mirrors : (s : ℕ) (g : Mirror → Mirror) → ((r : Mirror) → Eases r.master.phase (g r).master.phase) → AllStay ss (changed s (with_mirror g) ss)
   mirrors s g to = eased s (with_mirror g) (λ x. refl) (λ x. refl) (λ x m here. here) (λ x. eases-mirror g to x.mirror)
 
-  pub regroups-paused : (s : ℕ) (on : Bool) → Regroups ss (changed s (paused on) ss)
-  regroups-paused s on = mirrors s (λ r. record r { paused = on }) (λ r. eases-same r.master.phase)
+  pub stays-paused : (s : ℕ) (on : Bool) → AllStay ss (changed s (paused on) ss)
+  stays-paused s on = mirrors s (λ r. record r { paused = on }) (λ r. eases-same r.master.phase)
 
-  pub regroups-aborted : (s : ℕ) → Regroups ss (changed s (with_master phases.aborted) ss)
-  regroups-aborted s = mirrors s (λ r. record r { master = phases.aborted r.master }) (λ r. eases-aborted r.master.phase r.master refl)
+  pub stays-aborted : (s : ℕ) → AllStay ss (changed s (with_master phases.aborted) ss)
+  stays-aborted s = mirrors s (λ r. record r { master = phases.aborted r.master }) (λ r. eases-aborted r.master.phase r.master refl)
 
-  pub regroups-taken : (s server : ℕ) (reply : phases.Reply) → Regroups ss (changed s (with_master (λ m. phases.taken m server reply)) ss)
-  regroups-taken s server reply = mirrors s (λ r. record r { master = phases.taken r.master server reply }) (λ r. eases-taken r.master server reply)
+  pub stays-taken : (s server : ℕ) (reply : phases.Reply) → AllStay ss (changed s (with_master (λ m. phases.taken m server reply)) ss)
+  stays-taken s server reply = mirrors s (λ r. record r { master = phases.taken r.master server reply }) (λ r. eases-taken r.master server reply)
 
-  pub regroups-mirrored : (s server : ℕ) → Regroups ss (changed s (mirrored_by server) ss)
-  regroups-mirrored s server = eased s (mirrored_by server) (λ x. refl) (λ x. refl) (λ x m here. here) (λ x. eases-idle (phase_of x.mirror))
+  pub stays-mirrored : (s server : ℕ) → AllStay ss (changed s (mirrored_by server) ss)
+  stays-mirrored s server = eased s (mirrored_by server) (λ x. refl) (λ x. refl) (λ x m here. here) (λ x. eases-idle (phase_of x.mirror))
 
-  pub regroups-unmirrored : (s : ℕ) → Regroups ss (changed s unmirrored ss)
-  regroups-unmirrored s = eased s unmirrored (λ x. refl) (λ x. refl) (λ x m here. here) (λ x. eases-idle (phase_of x.mirror))
+  pub stays-unmirrored : (s : ℕ) → AllStay ss (changed s unmirrored ss)
+  stays-unmirrored s = eased s unmirrored (λ x. refl) (λ x. refl) (λ x m here. here) (λ x. eases-idle (phase_of x.mirror))
 
   -- a logical subsystem more, or less
-  pub regroups-joined : (s l : ℕ) → Regroups ss (joined s l ss)
-  regroups-joined s l = by (session_in ss s)
+  pub stays-joined : (s l : ℕ) → AllStay ss (joined s l ss)
+  stays-joined s l = by (session_in ss s)
     where
-      new : (y : Session) (m : Member) → In y ss ⊎ In y (new_session s l ∷ []) → In m y.members → Stays ss y m ⊎ Rests ss y m
-      new y m (inl i) here = inl (stays-on ss y m i here)
+      new : (y : Session) (m : Member) → In y ss ⊎ In y (new_session s l ∷ []) → In m y.members → Stays ss y m
+      new y m (inl i) here = stays-same ss y m i here
       new y m (inr (inl is)) here = absurd (subst (λ (z : Session). In m z.members) is here)
       new y m (inr (inr never)) here = absurd never
 
-      by : (o : Option Session) → Regroups ss (joins o s l ss)
+      by : (o : Option Session) → AllStay ss (joins o s l ss)
       by None y m i here = new y m (in-joined ss (new_session s l ∷ []) y i) here
       by (Some x) y m i here = eased s (joined_by l) (λ x. refl) (λ x. refl) (λ x m here. here) (λ x. eases-same (phase_of x.mirror)) y m i here
 
-  pub regroups-left : (s l : ℕ) → Regroups ss (left s l ss)
-  regroups-left s l = by (session_in ss s)
+  pub stays-left : (s l : ℕ) → AllStay ss (left s l ss)
+  stays-left s l = by (session_in ss s)
     where
-      which : (b : Bool) → Regroups ss (cond b (without_session s ss) (changed s (left_by l) ss))
-      which true y m i here = inl (stays-on ss y m (without-in s ss y i) here)
+      which : (b : Bool) → AllStay ss (cond b (without_session s ss) (changed s (left_by l) ss))
+      which true y m i here = stays-same ss y m (without-in s ss y i) here
       which false y m i here = eased s (left_by l) (λ x. refl) (λ x. refl) (λ x m here. here) (λ x. eases-same (phase_of x.mirror)) y m i here
 
-      by : (o : Option Session) → Regroups ss (leaves o s l ss)
-      by None = regroups-same ss
+      by : (o : Option Session) → AllStay ss (leaves o s l ss)
+      by None = stays-same ss
       by (Some x) = which (is_only l x)
 
   -- a member less
-  pub regroups-removed : (s a : ℕ) → Regroups ss (changed s (without_member a) ss)
-  regroups-removed s a = eased s (without_member a) (λ x. refl) (λ x. refl) (λ x m here. (from-filter (λ (m : Member). not (m.a.0 == a)) x.members m here).0)
+  pub stays-removed : (s a : ℕ) → AllStay ss (changed s (without_member a) ss)
+  stays-removed s a = eased s (without_member a) (λ x. refl) (λ x. refl) (λ x m here. (from-filter (λ (m : Member). not (m.a.0 == a)) x.members m here).0)
       (λ x. eases-mirror (mirror_with (servers_of (filter (λ (m : Member). not (m.a.0 == a)) x.members))) (λ r. eases-same r.master.phase) x.mirror)
 
   -- a member more, in a session without an attempt, whose last number is raised before
@@ -165,7 +169,7 @@ module _ (ss : List Session) (once : Once (numbers ss)) where
       inner z e is (inr b) = inr (grown b.from (same-session ss b.from x once b.listed there.0 (b.number ∙ sym there.1)) (is ∙ ap (with_member m) b.is))
 
       outer : (In y ss × (y.number ≢ s)) ⊎ Became s (raised n) ss y → (y.number ≢ s) → Stays ss y q ⊎ Rests ss y q
-      outer (inl o) ne = inl (stays-on ss y q o.0 here)
+      outer (inl o) ne = inl (stays-same ss y q o.0 here)
       outer (inr b) ne = absurd (ne (ap (λ (z : Session). z.number) b.is ∙ b.number))
 
       by : (In y (changed s (raised n) ss) × (y.number ≢ s)) ⊎ Became s (with_member m) (changed s (raised n) ss) y → Stays ss y q ⊎ Rests ss y q
@@ -173,15 +177,15 @@ module _ (ss : List Session) (once : Once (numbers ss)) where
       by (inr b) = inner b.from b.number b.is (changed-in s (raised n) ss b.from once b.listed)
 
 -- masters are lost
-pub regroups-lost : (ss : List Session) (before now : ℕ → Bool) → Regroups ss (lost_since before now ss)
-regroups-lost ss before now y m i here =
+pub stays-lost : (ss : List Session) (before now : ℕ → Bool) → AllStay ss (lost_since before now ss)
+stays-lost ss before now y m i here =
     let o = from-map (with_mirror (mirror_lost_since before now)) ss y i in
-    subst (λ z. Stays ss z m ⊎ Rests ss z m) (sym o.is) (inl (record {
+    subst (λ z. Stays ss z m) (sym o.is) (record {
       was = record { session = o.from; listed = o.here; here = subst (λ (z : Session). In m z.members) o.is here };
       number = refl;
       last = refl;
       phase = eases-mirror (mirror_lost_since before now) (λ r. lost-by r (before r.server && not (now r.server))) o.from.mirror;
-    }))
+    })
   where
     lost-by : (r : Mirror) (b : Bool) → Eases r.master.phase (cond b (record r { master = phases.lost r.master }) r).master.phase
     lost-by r true = eases-lost r.master.phase r.master.servers

@@ -35,7 +35,11 @@ pub record Rests (ss : List Session) (y : Session) (m : Member) : Type 0 where
   pub idle : phase_of y.mirror ≡ phase.Idle
   pub target : WasIn ss m ⊎ ((x : Session) (q : Member) → In x ss → In q x.members → q.c.0 ≡ m.c.0 → ⊥)
 
--- each member of the new table stays in its session and attempt, or its session is Idle
+-- each member of the new table stays in its session and attempt
+abbrev pub AllStay : List Session → List Session → Type 0
+AllStay ss us = (y : Session) (m : Member) → In y us → In m y.members → Stays ss y m
+
+-- or its session is Idle
 abbrev pub Regroups : List Session → List Session → Type 0
 Regroups ss us = (y : Session) (m : Member) → In y us → In m y.members → Stays ss y m ⊎ Rests ss y m
 

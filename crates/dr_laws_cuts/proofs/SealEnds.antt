@@ -15,7 +15,7 @@ use Rattle.dr_model.specs.Pairs.{primary_of, records, sealed}
 use Rattle.dr_model.specs.Relations.{is_bare}
 use Rattle.dr_model.specs.Moves.{Move, Seal, moved, tracks_after, updated}
 use Rattle.dr_model.specs.Carry.{Make, Turn, Entry, Pass, Do, turn, spent, off, finished, cut_short}
-use Rattle.dr_model.specs.Entries.{fields_at, is_running, pair_state}
+use Rattle.dr_model.specs.Entries.{fields_at, is_running, secondary_state}
 use Rattle.dr_model.specs.PairEntries.{has_path, reach_refusal, belongs_to, send_refusal, refuse_if, end_if}
 use Rattle.dr_model.specs.SessionEntries.{is_drained, void_refusal, seal_refusal, seal_on, seal_entries}
 use Rattle.dr_model.specs.ReadStops.{GoesOff, IsEnd, EndsTurn, EndsNext, Ends, gone_off}
@@ -188,7 +188,7 @@ module _ (w : World) (laws : CutsHold w) (s a b n : ℕ) (sends : SendsTo w a b)
     last-by void free true e drained same ends =
         let rec : records n f ≡ true = met (records n f) (Void n) void in
         let sent = none-both (reach_refusal a b w.control) _ (chosen (is_drained a w.control) (send_refusal a b w.control) None drained free) in
-        let second = and_parts (is_part x.fields.secondary) _ (met (belongs_to a b w.control) (pair_state w.control b) sent.1) in
+        let second = and_parts (is_part x.fields.secondary) _ (met (belongs_to a b w.control) (secondary_state w.control b) sent.1) in
         let takes : primary_of x.fields ≡ Some a = choose_some (is_part x.fields.secondary) x.fields.secondary_partner second.0 ∙ ap (λ j. Some j) (eqb-true x.fields.secondary_partner a second.1) in
         let on : w.control.on x.server ≡ true = (passed (is_running b w.control) _ _ (passed (has_path a b w.control) _ _ sent.0).1).0 in
         so (holding rec takes drained) takes on e same ends

@@ -21,13 +21,17 @@ module _ (T : Table) (rows : SoundRows T) where
   pub target-still : {P : Type 0} (v s : ℕ) → source (T v) ≡ Some s → (fields T v).recording ≡ true → P
   target-still v s is rec = false_true ((rows.parts.fit v).no_primary (chosen _ _ s is).0) (first v rec)
 
-  -- a volume that is no primary takes what comes to it, since it records nothing and isn't held
-  pub plain-receives : (v t : ℕ) → is_part (fields T v).primary ≡ false → t < (T v).volume.tracks → Kept T v t → MayReceive T v t
-  plain-receives v t plain low kept = record { low = low; kept = kept; free = free (fields T v).coordination refl; sent = λ rec. false_true plain (first v rec) }
+  -- a volume that is no primary isn't held
+  pub plain-free : (v : ℕ) → is_part (fields T v).primary ≡ false → (fields T v).coordination ≡ false
+  plain-free v plain = free (fields T v).coordination refl
     where
       free : (held : Bool) → (fields T v).coordination ≡ held → held ≡ false
       free true e = false_true plain (first v ((rows.recorders v).holds e))
       free false e = refl
+
+  -- and takes what comes to it, since it records nothing
+  pub plain-receives : (v t : ℕ) → is_part (fields T v).primary ≡ false → t < (T v).volume.tracks → Kept T v t → MayReceive T v t
+  plain-receives v t plain low kept = record { low = low; kept = kept; free = plain-free v plain; sent = λ rec. false_true plain (first v rec) }
 
   pub metro-still : {P : Type 0} (v : ℕ) → is_metro (fields T v).primary ≡ true → (fields T v).recording ≡ true → P
   metro-still v is rec = global_metro _ ((rows.recorders v).global rec) is

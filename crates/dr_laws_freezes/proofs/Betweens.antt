@@ -4,14 +4,14 @@ use Rattle.std.proofs.lemmas.Bool.{and_from}
 use Rattle.dr_ids.specs.declared.refusal.Refusal.{Refusal}
 use Rattle.dr_ids.specs.declared.refusal.Refusal.TheVariants.{Stopped as StoppedIn}
 use Rattle.dr_model.specs.Control.{World, nothing}
-use Rattle.dr_model.specs.Carry.{Act, Make, OpenAttempt, Next, Pass, Do, End, Entry, Outcome, continue, go, carry}
+use Rattle.dr_model.specs.Carry.{Act, Make, OpenAttempt, Next, Pass, Do, End, Entry, Outcome, continue, go, carry, carry_each}
 use Rattle.dr_model.specs.Plans.{Plan}
 use Rattle.dr_model.specs.Forming.{Part, after_part}
 use Rattle.dr_model.specs.Runs.{Task, course, begun, finish, carried_out, answered, after_plan, after_task, after_tasks, run, stop_place}
 use Rattle.dr_laws_sound.proofs.Turns.{Counts, after_act, act-cases}
 use Rattle.dr_laws_sound.proofs.Parts.{Comes, last-plan, course-case}
 use Rattle.dr_laws_freezes.specs.InSync.{DuplexInSync}
-use Rattle.dr_laws_freezes.proofs.Chains.{act_tag, CountsFin, window_next, WindowAlong, act-runs, EndFin, PlanFin}
+use Rattle.dr_laws_freezes.proofs.Chains.{act_tag, CountsFin, window_next, WindowAlong, act-runs, PlanFin, WindowEach}
 use Rattle.dr_laws_freezes.proofs.WindowActs.{Between}
 use Rattle.dr_laws_freezes.proofs.WindowPlans.{good-between, answers-between, loses-between, PlanHolds}
 use Rattle.dr_laws_freezes.proofs.WindowSteps.{between-nothing, window-case, window-ending}
@@ -40,13 +40,18 @@ module _ (Fin : Option ℕ → World → Option Refusal → Type 0) where
   window-came [] tag w a = record { tag = tag; fin = a.1 }
   window-came (d ∷ ds) tag w a = next-came tag w (d w.control) (λ v. carry v ds) (λ tag v. WindowAlong Fin tag v ds) (λ tag v b. window-came ds tag v b) a.1
 
+-- and what follows a stop
+each-came : (ds : List Entry) (tag : Option ℕ) (w : World) → WindowEach Between good-between answers-between tag w ds → Between (carry_each w ds)
+each-came [] tag w a = a.1
+each-came (d ∷ ds) tag w a = let c = window-came (λ tag u r. WindowEach Between good-between answers-between tag u ds) (d ∷ []) tag w a in each-came ds c.tag (carry w (d ∷ [])).0 c.fin
+
 -- a plan that may come
 carried-between : (w : World) (p : Plan) → PlanHolds w p → Between (carried_out w p).0
 carried-between w p fair = by (carry (begun w p) p.entries) (window-came (PlanFin Between good-between answers-between p) p.entries None (begun w p) fair.entries)
   where
     by : (o : Outcome) → Came (PlanFin Between good-between answers-between p) o → Between (finish p (stop_place w p) o.0 o.1)
     by (u, None) c = c.fin
-    by (u, Some (StoppedIn s)) c = (window-came (EndFin Between good-between answers-between) (p.follows (stop_place w p)) c.tag u (c.fin (stop_place w p))).fin
+    by (u, Some (StoppedIn s)) c = each-came (p.follows (stop_place w p)) c.tag u (c.fin (stop_place w p))
     by (u, Some r) c = c.fin
 
 between-part : (w : World) (p : Plan) → Comes w p → Between w → Between (after_part w p)

@@ -13,7 +13,7 @@ use Rattle.dr_model.specs.Sessions.{Session}
 use Rattle.dr_model.specs.Groups.{In}
 use Rattle.dr_model.specs.Control.{Control, Pending, Fuse, World, Volume}
 use Rattle.dr_model.specs.Moves.{Move, Hold, is_write, is_other}
-use Rattle.dr_model.specs.Carry.{Act, Make, OpenAttempt, Redo, Acknowledge, Drop, EndFreeze, EndThaw, EndRecovery, Turn, Next, Pass, Do, End, Entry, Outcome, continue, go, carry, dropped, frozen, thawed, recovered}
+use Rattle.dr_model.specs.Carry.{Act, Make, OpenAttempt, Redo, Acknowledge, Drop, EndFreeze, EndThaw, EndRecovery, Turn, Next, Pass, Do, End, Entry, Outcome, continue, go, carry, dropped, frozen, thawed, recovered, carry_each}
 use Rattle.dr_model.specs.Plans.{Plan, plan, only_says}
 use Rattle.dr_model.specs.Forming.{Part, Way, goes_on, after_part, part_refusal, form_said}
 use Rattle.dr_model.specs.Runs.{Task, Course, own_course, course_of, course, answered_part, masters_lost, begun, finish, answered, said, after_plan, after_task, OwnCourse, Groups, Volumes, compared, Devices, imaged, stop_place}
@@ -21,7 +21,7 @@ use Rattle.dr_model.specs.Table.{table, waiting}
 use Rattle.dr_model.specs.Laws.{SoundRows, AllPending, Lone, servers}
 use Rattle.dr_model.specs.Allowed.{May, MayOpen, Runs}
 use Rattle.dr_model.proofs.Images.{histories-append}
-use Rattle.dr_laws_freezes.specs.Moments.{on_from, on_next, worlds, worlds_after, plan_moments, part_moments, parts_moments, task_moments, moments_from}
+use Rattle.dr_laws_freezes.specs.Moments.{on_from, on_next, worlds, worlds_after, plan_moments, part_moments, parts_moments, task_moments, moments_from, worlds_each}
 use Rattle.dr_laws_sound.proofs.Turns.{done, done_in_stop, opened_in_stop, not_done, fused, place, server_of, server_at, after_act, Writes, Counts, act-cases}
 use Rattle.dr_laws_sound.proofs.Due.{waiting-settled}
 use Rattle.dr_facts.proofs.Lists.{to-filter}
@@ -197,15 +197,33 @@ said-closes first line p w k r other =
 lost-closes : (first : World) → Closes first (λ w r. masters_lost first w)
 lost-closes first w k r other = ([], close w (masters_lost first (record w { control = k })) k [] other tt (ap histories (append-nil w.events)) (sym (append-nil w.events)) refl refl refl refl refl)
 
--- K holds between steps
+-- K holds between steps; how what follows a stop ends, and how a plan's entries end
 module _ (K : World → Type 0) (is_good : (w : World) → K w → Good None w) (answers : (first w : World) (line : ℕ) (a : Said) → K w → K (ended first w line a)) where
-  -- how what follows a stop ends, and how a plan's entries end
-  abbrev pub EndFin : Option ℕ → World → Option Refusal → Type 0
-  EndFin tag w r = K w
+  good-window : (Fin : Option ℕ → World → Option Refusal → Type 0) (tag : Option ℕ) (w : World) (ds : List Entry) → WindowAlong Fin tag w ds → Good tag w
+  unfolding WindowAlong
+  good-window Fin tag w [] a = a.0
+  good-window Fin tag w (d ∷ ds) a = a.0
+
+  -- what follows a stop, each entry whether a server stopped in the one before or not
+  abbrev pub WindowEach : Option ℕ → World → List Entry → Type 0
+  WindowEach tag w [] = Good tag w × K w
+  WindowEach tag w (d ∷ ds) = WindowAlong (λ tag u r. WindowEach tag u ds) tag w (d ∷ [])
+
+  good-each : (tag : Option ℕ) (w : World) (ds : List Entry) → WindowEach tag w ds → Good tag w
+  good-each tag w [] a = a.0
+  good-each tag w (d ∷ ds) a = good-window (λ tag u r. WindowEach tag u ds) tag w (d ∷ []) a
+
+  each-chain : (rest : World → List World) → ((tag : Option ℕ) (u : World) → Good tag u → K u → Chain tag u (rest u)) → (ds : List Entry) (tag : Option ℕ) (w : World) → WindowEach tag w ds → Chain tag w (worlds_each w ds ++ rest (carry_each w ds))
+  unfolding worlds_each
+  each-chain rest ends [] tag w a = ends tag w a.0 a.1
+  each-chain rest ends (d ∷ ds) tag w a =
+      let u : World = (carry w (d ∷ [])).0 in
+      subst (Chain tag w) (sym (append_assoc (worlds w (d ∷ [])) (worlds_each u ds) (rest (carry_each u ds))))
+      (entries-chain (λ tag u r. WindowEach tag u ds) (λ o. worlds_each o.0 ds ++ rest (carry_each o.0 ds)) (λ tag u r good b. each-chain rest ends ds tag u b) (λ u r b. good-each None u ds b) (d ∷ []) tag w a)
 
   abbrev pub PlanFin : Plan → Option ℕ → World → Option Refusal → Type 0
   PlanFin p tag w None = K (record w { control = p.last w.control })
-  PlanFin p tag w (Some (StoppedIn s)) = (n : ℕ) → WindowAlong EndFin tag w (p.follows n)
+  PlanFin p tag w (Some (StoppedIn s)) = (n : ℕ) → WindowEach tag w (p.follows n)
   PlanFin p tag w (Some r) = K w
 
   -- the tables as a plan ends differ in the sessions and messages alone
@@ -219,19 +237,11 @@ module _ (K : World → Type 0) (is_good : (w : World) → K w → Good None w) 
     pub entries : WindowAlong (PlanFin p) None (begun w p) p.entries
     pub last : Leaves p
 
-  good-end : (w : World) (r : Option Refusal) → EndFin None w r → Good None w
-  good-end w r k = is_good w k
-
-  good-window : (Fin : Option ℕ → World → Option Refusal → Type 0) (tag : Option ℕ) (w : World) (ds : List Entry) → WindowAlong Fin tag w ds → Good tag w
-  unfolding WindowAlong
-  good-window Fin tag w [] a = a.0
-  good-window Fin tag w (d ∷ ds) a = a.0
-
   good-plan : (p : Plan) → Leaves p → (w : World) (r : Option Refusal) → PlanFin p None w r → Good None w
   good-plan p last w None k =
       let g : Good None (record w { control = record w.control { sessions = (last w.control).sessions; flight = (last w.control).flight } }) = subst (λ k. Good None (record w { control = k })) (last w.control).is (is_good (record w { control = p.last w.control }) k) in
       good-none w g.rows (record { unacked = g.fresh.unacked; later = g.fresh.later }) g.lone
-  good-plan p last w (Some (StoppedIn s)) a = good-window EndFin None w (p.follows 0) (a 0)
+  good-plan p last w (Some (StoppedIn s)) a = good-each None w (p.follows 0) (a 0)
   good-plan p last w (Some r) k = is_good w k
 
   module _ (first : World) (p : Plan) (last : Leaves p) (over : World → Option Refusal → World) (closes : Closes first over) (kept : (w : World) (r : Option Refusal) → K w → K (over w r))
@@ -249,7 +259,7 @@ module _ (K : World → Type 0) (is_good : (w : World) → K w → Good None w) 
     ends tag w None good k = close-chain tag w (p.last w.control) None (last w.control) good k
     ends tag w (Some (StoppedIn s)) good a =
         let r : Option Refusal = Some (StoppedIn s) in
-        entries-chain EndFin (λ o. over o.0 r ∷ more (over o.0 r)) (λ tag u x good k. close-chain tag u u.control r (retabled-none u.control) good k) good-end (p.follows (stop_place first p)) tag w (a (stop_place first p))
+        each-chain (λ u. over u r ∷ more (over u r)) (λ tag u good k. close-chain tag u u.control r (retabled-none u.control) good k) (p.follows (stop_place first p)) tag w (a (stop_place first p))
     ends tag w (Some r) good k = close-chain tag w w.control (Some r) (retabled-none w.control) good k
 
     pub plan-chain : K first → WindowHolds first p → Chain None first (begun first p ∷ (worlds (begun first p) p.entries ++ rest (carry (begun first p) p.entries)))

@@ -20,7 +20,7 @@ use Rattle.dr_model.specs.Carry.{Make, Pass, Do, Outcome, act, carry, continue, 
 use Rattle.dr_model.specs.Entries.{fields_at, is_running, subsystem}
 use Rattle.dr_model.specs.WriteEntries.{is_between, freeze_entries}
 use Rattle.dr_model.specs.Histories.{histories}
-use Rattle.dr_model.specs.Laws.{AllPending, Waits}
+use Rattle.dr_model.specs.Laws.{AllPending, Waits, Sound}
 use Rattle.dr_model.specs.Plans.{Plan, plan_of, freeze_refusal, freeze_done, refuses, unless, on_owner, owner_of, has_room}
 use Rattle.dr_model.specs.Runs.{Task, begun, finish, carried_out, answered, after_plan, after_task, after_tasks, run, stop_place}
 use Rattle.dr_facts.proofs.Lists.{any-some}
@@ -37,6 +37,7 @@ use Rattle.dr_laws_freezes.proofs.WindowActs.{Between}
 use Rattle.dr_laws_freezes.proofs.Betweens.{between-task, between-run}
 use Rattle.dr_laws_freezes.proofs.LongBusy.{Frozen}
 use Rattle.dr_laws_freezes.proofs.LongBusySteps.{none, task-kept}
+use Rattle.dr_laws_sound.proofs.Steps.{sound-task}
 
 module _ (l m v : ℕ) where
   -- v is one of the primaries that are frozen
@@ -147,7 +148,7 @@ pending-in P (q ∷ qs) all p (inr there) = pending-in P qs all.1 p there
 -- where v is frozen, what lasts begins
 begins : (u : World) (l m v : ℕ) → Between u → Held l m v u.control → Frozen v (fields_at u.control v).primary_partner (u.control.volume v).server none u.events u
 begins u l m v k held = record {
-  rooted = record { there = held.stands.there; busy = record { primary = primary; second = k.sound.uncascaded v primary; busy = held.busy; partner = refl }; server = refl };
+  rooted = record { there = held.stands.there; busy = record { primary = primary; busy = held.busy; partner = refl }; server = refl };
   silent = record {
     waits = each-on (λ p a on. by p a on p.landed refl) u.control.pending k.sound.queue.each;
     issued = each-on (λ p a. (a.number, a.volume)) u.control.pending k.sound.queue.each;
@@ -173,16 +174,17 @@ begins u l m v k held = record {
 
 -- and it lasts
 module _ (v b s : ℕ) (base : List Event) where
-  lasts : (ts : List Task) (w : World) → NoneLetsGo w ts v → Frozen v b s none base w → Frozen v b s none base (after_tasks w ts)
+  lasts : (ts : List Task) (w : World) → NoneLetsGo w ts v → Sound w → Frozen v b s none base w → Frozen v b s none base (after_tasks w ts)
   unfolding after_tasks NoneLetsGo
-  lasts [] w stay k = k
-  lasts (t ∷ ts) w stay k = lasts ts (after_task w t) stay.1 (task-kept v b s base w t stay.0 k)
+  lasts [] w stay sound k = k
+  lasts (t ∷ ts) w stay sound k = lasts ts (after_task w t) stay.1 (sound-task w t sound) (task-kept v b s base w t stay.0 (sound, k))
 
 pub freezes-hold : (tasks : List Task) → FreezesHold tasks
 freezes-hold tasks before later behind t devs l m v said is asked says there between stay =
     let w : World = run before in
     let u : World = after_task w t in
     let same : t ≡ record { line = t.line; asked = Ok (Freeze devs l m); listed = t.listed } = λ i. record t { asked = asked i } in
+    let now : Between u = between-task w t (between-run before) in
     let held : Held l m v u.control = subst (λ t. said_in w t ≡ Done said → Held l m v (after_task w t).control) (sym same) (task-held l m v w (record { there = there; between = between }) t.line devs said) says in
-    let k = lasts v (fields_at u.control v).primary_partner (u.control.volume v).server u.events later u stay (begins u l m v (between-task w t (between-run before)) held) in
+    let k = lasts v (fields_at u.control v).primary_partner (u.control.volume v).server u.events later u stay now.sound (begins u l m v now held) in
     record { busy = k.rooted.busy.busy; acknowledged = k.silent.acked; waits = λ p here. pending-in _ _ k.silent.waits p here }

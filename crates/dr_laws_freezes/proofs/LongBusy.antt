@@ -25,7 +25,6 @@ use Rattle.dr_laws_sound.proofs.Unacknowledged.{AcknowledgesNothing, EndsUnackno
 -- a primary of b that is long busy
 pub record Busy (b : ℕ) (f : Fields) : Type 0 where
   pub primary : is_part f.primary ≡ true
-  pub second : is_part f.secondary ≡ false
   pub busy : f.long_busy ≡ true
   pub partner : f.primary_partner ≡ b
 
@@ -80,37 +79,47 @@ module _ (v b s : ℕ) (N : ℕ → Type 0) where
   busy-left (Yield x a kind state) u ok is k = absurd (ok is)
   busy-left (Thaw x) u ok is k = absurd (ok is)
   busy-left (Lift x) u ok is k = absurd (ok is)
-  busy-left (DropSecondary x) u ok is k = record { primary = k.primary; second = refl; busy = k.busy; partner = k.partner }
-  busy-left (LeavePrimary x) u ok is k = record { primary = k.primary; second = refl; busy = k.busy; partner = k.partner }
-  busy-left (Suspend x more) u ok is k = record { primary = k.primary; second = k.second; busy = ap (λ c. c || more) k.busy; partner = k.partner }
-  busy-left m u ok is k = record { primary = k.primary; second = k.second; busy = k.busy; partner = k.partner }
+  busy-left (Suspend x more) u ok is k = record { primary = k.primary; busy = ap (λ c. c || more) k.busy; partner = k.partner }
+  busy-left m u ok is k = record { primary = k.primary; busy = k.busy; partner = k.partner }
 
-  abbrev At : ℕ → Volume → Type 0
-  At j y = j ≡ v → Busy b y.fields × (y.server ≡ s)
+  -- nor does v become a secondary
+  abbrev SecondFrom : Control → Fields → Type 0
+  SecondFrom k f = is_part f.secondary ≡ true → is_part (fields_at k v).secondary ≡ true
 
-  at-old : (k : Control) → Rooted k → (j : ℕ) → At j (k.volume j)
-  at-old k r j is = subst (λ j. Busy b (fields_at k j) × ((k.volume j).server ≡ s)) (sym is) (r.busy, r.server)
+  second-left : (m : Move) (u : Volume) → M m → target m ≡ v → is_part (fields_left m u).secondary ≡ true → is_part u.fields.secondary ≡ true
+  second-left (MakeSecondary x a kind state) u ok is h = absurd (ok is)
+  second-left (DropSecondary x) u ok is h = absurd cc
+  second-left (TakeOver x) u ok is h = absurd cc
+  second-left (LeavePrimary x) u ok is h = absurd cc
+  second-left (Yield x a kind state) u ok is h = absurd (ok is)
+  second-left m u ok is h = h
 
-  changed-rooted : (w : World) (m : Move) → M m → Rooted w.control → At v (at w.control.volume (target m) (moved_keeping (keeps_staged m) (w.control.volume (target m)) (next_of w m) (carried_in w m)) v)
+  abbrev At : Control → ℕ → Volume → Type 0
+  At k j y = j ≡ v → Busy b y.fields × (y.server ≡ s) × SecondFrom k y.fields
+
+  at-old : (k : Control) → Rooted k → (j : ℕ) → At k j (k.volume j)
+  at-old k r j is = subst (λ j. Busy b (fields_at k j) × ((k.volume j).server ≡ s) × SecondFrom k (fields_at k j)) (sym is) (r.busy, r.server, λ h. h)
+
+  changed-rooted : (w : World) (m : Move) → M m → Rooted w.control → At w.control v (at w.control.volume (target m) (moved_keeping (keeps_staged m) (w.control.volume (target m)) (next_of w m) (carried_in w m)) v)
   changed-rooted w m ok r =
-      at_cases At w.control.volume (target m) (moved_keeping (keeps_staged m) (w.control.volume (target m)) (next_of w m) (carried_in w m))
-      (λ is. let old = at-old w.control r (target m) is in (busy-left m (w.control.volume (target m)) ok is old.0, old.1)) (λ j ne. at-old w.control r j) v
+      at_cases (At w.control) w.control.volume (target m) (moved_keeping (keeps_staged m) (w.control.volume (target m)) (next_of w m) (carried_in w m))
+      (λ is. let old = at-old w.control r (target m) is in (busy-left m (w.control.volume (target m)) ok is old.0, old.1, λ h. old.2 (second-left m (w.control.volume (target m)) ok is h))) (λ j ne. at-old w.control r j) v
 
   abbrev Keeps : World → Turn → Type 0
-  Keeps w t = Rooted t.0.control × (t.0.control.issued ≡ w.control.issued)
+  Keeps w t = Rooted t.0.control × (t.0.control.issued ≡ w.control.issued) × SecondFrom w.control (fields_at t.0.control v)
 
   done-rooted : (w : World) (a : Act) (f : Option Fuse) → Ok w a → Rooted w.control → Keeps w (after_act w a f, None)
-  done-rooted w (Make m) f ok r = let new = changed-rooted w m ok r refl in (record { there = r.there; busy = new.0; server = new.1 }, refl)
-  done-rooted w (OpenAttempt x i n) f ok r = let new = changed-rooted w (Hold x i n true) tt r refl in (record { there = r.there; busy = new.0; server = new.1 }, refl)
-  done-rooted w a f ok r = (record { there = r.there; busy = r.busy; server = r.server }, refl)
+  done-rooted w (Make m) f ok r = let new = changed-rooted w m ok r refl in (record { there = r.there; busy = new.0; server = new.1 }, refl, new.2)
+  done-rooted w (OpenAttempt x i n) f ok r = let new = changed-rooted w (Hold x i n true) tt r refl in (record { there = r.there; busy = new.0; server = new.1 }, refl, new.2)
+  done-rooted w a f ok r = (record { there = r.there; busy = r.busy; server = r.server }, refl, λ h. h)
 
   stop-rooted : (w : World) (a : Act) → Ok w a → Rooted w.control → Counts w a (Keeps w)
-  stop-rooted w (Make m) ok r = λ f. let new = changed-rooted w m ok r refl in (record { there = r.there; busy = new.0; server = new.1 }, refl)
-  stop-rooted w (OpenAttempt x i n) ok r = λ f. let new = changed-rooted w (Hold x i n true) tt r refl in (record { there = r.there; busy = new.0; server = new.1 }, refl)
+  stop-rooted w (Make m) ok r = λ f. let new = changed-rooted w m ok r refl in (record { there = r.there; busy = new.0; server = new.1 }, refl, new.2)
+  stop-rooted w (OpenAttempt x i n) ok r = λ f. let new = changed-rooted w (Hold x i n true) tt r refl in (record { there = r.there; busy = new.0; server = new.1 }, refl, new.2)
   stop-rooted w a ok r = tt
 
   act-rooted : (w : World) (a : Act) → Ok w a → Rooted w.control → Keeps w (act w a)
-  act-rooted w a ok r = act-cases w a (Keeps w) (λ d off. (r, refl)) (λ f. done-rooted w a f ok r) (stop-rooted w a ok r) (λ d f. (record { there = r.there; busy = r.busy; server = r.server }, refl))
+  act-rooted w a ok r = act-cases w a (Keeps w) (λ d off. (r, refl, λ h. h)) (λ f. done-rooted w a f ok r) (stop-rooted w a ok r) (λ d f. (record { there = r.there; busy = r.busy; server = r.server }, refl, λ h. h))
 
   -- ---- and no write lands on it
 
@@ -231,6 +240,10 @@ module _ (v b s : ℕ) (N : ℕ → Type 0) where
     pub record Frozen (w : World) : Type 0 where
       pub rooted : Rooted w.control
       pub silent : Silent w
+
+    -- v is the secondary of one there only if it was
+    pub second-from : (w : World) (a : Act) → Ok w a → Frozen w → is_part (fields_at (act w a).0.control v).secondary ≡ true → is_part (fields_at w.control v).secondary ≡ true
+    second-from w a ok k = (act-rooted w a ok k.rooted).2
 
     pub frozen-act : (w : World) (a : Act) → Ok w a → Frozen w → Frozen (act w a).0
     frozen-act w a ok k = let r = act-rooted w a ok k.rooted in record { rooted = r.0; silent = act-silent w a ok r.1 k.silent }

@@ -1,5 +1,5 @@
 -- Acts that do what windows ask, and keep what holds of pairs, and entries that come to them.
-use Rattle.std.proofs.Common.{ℕ, ◌≡◌, refl, sym, subst, Bool, true, false, cond, List, [], ◌∷◌, filter, Option, Some, None}
+use Rattle.std.proofs.Common.{ℕ, ◌≡◌, refl, sym, subst, Bool, true, false, cond, List, [], ◌∷◌, filter, Option, Some, None, ◌++◌}
 use Rattle.dr_ids.specs.declared.refusal.Refusal.{Refusal}
 use Rattle.dr_model.specs.declared.event.Event.TheVariants.{Frozen, Thawed, Recovered}
 use Rattle.dr_model.specs.Control.{Control, Fuse, World}
@@ -14,7 +14,7 @@ use Rattle.dr_laws_sound.proofs.Along as along
 use Rattle.dr_laws_sound.proofs.KeepsSound.{MayDo, Along, Then, comes, keeps-sound}
 use Rattle.dr_model.specs.Allowed.{May}
 use Rattle.dr_model.specs.PairEntries.{end_if, refuse_if}
-use Rattle.dr_facts.proofs.Entries.{any_reason, AllFine, FineFrom, FromThen, from-all}
+use Rattle.dr_facts.proofs.Entries.{any_reason, AllFine, FineFrom, FromThen, from-all, FineThen}
 use Rattle.dr_laws_freezes.proofs.WindowMoves.{WindowMay, tag_after, come, come-open}
 use Rattle.dr_laws_freezes.proofs.InSync.{Gentle, Clean, LeavesOneOut, FullDuplexInSync, in_sync-done, in_sync-stop, in_sync-not, in_sync-same, fresh-told}
 use Rattle.dr_laws_freezes.proofs.Chains.{WindowMayDo, act_tag, CountsFin, window_next, WindowAlong, window-entry, window-nil, good-none}
@@ -134,3 +134,18 @@ module _ (Fin : Option ℕ → World → Option Refusal → Type 0) (fin : (w : 
       by : (o : Option Refusal) → why w.control ≡ o → Then w (end_if o) (λ v. Along v ds) → window_next Fin None w (end_if o) (λ tag v. WindowAlong Fin tag v ds)
       by None is a = go is a
       by (Some r) is a = fin w (Some r) k
+
+  -- such acts, and then what comes behind them
+  module _ (J : World → Type 0) (more : List Entry) (go : (w : World) → Between w → J w → Along w more → WindowAlong Fin None w more) where
+    first-decides : (w : World) (x : Next) (ds : List Entry) → ((v : World) → Between v → J v → AllFine J (Leaves J) any_reason ds → Along v (ds ++ more) → WindowAlong Fin None v (ds ++ more)) → Between w → J w → FineThen J (Leaves J) any_reason w x (AllFine J (Leaves J) any_reason ds)
+        → Then w x (λ v. Along v (ds ++ more)) → window_next Fin None w x (λ tag v. WindowAlong Fin tag v (ds ++ more))
+    first-decides w Pass ds rest k j fine a = rest w k j fine a
+    first-decides w (End r) ds rest k j fine a = fin w (Some r) k
+    first-decides w (Do x) ds rest k j fine a =
+        window-act Fin (λ w r. fin w (Some r)) w x (λ tag v. WindowAlong Fin tag v (ds ++ more)) k a.0 fine.0.0 (λ f b. rest (after_act w x f) b (fine.0.1 f) fine.1 (a.1 f b.sound))
+
+    pub window-first : (ds : List Entry) (w : World) → Between w → J w → AllFine J (Leaves J) any_reason ds → Along w (ds ++ more) → WindowAlong Fin None w (ds ++ more)
+    unfolding AllFine
+    window-first [] w k j fine a = go w k j a
+    window-first (d ∷ ds) w k j fine a =
+        window-entry Fin None w d (ds ++ more) (d w.control) refl (good-none w k.sound.rows k.in_sync.fresh k.sound.queue.lone) (first-decides w (d w.control) ds (window-first ds) k j (fine w j) (comes w d (ds ++ more) (d w.control) refl a))

@@ -9,7 +9,7 @@ use Rattle.dr_model.specs.Control.{Control, World}
 use Rattle.dr_model.specs.Moves.{FallBack, Yield}
 use Rattle.dr_model.specs.Pairs.{state_with}
 use Rattle.dr_model.specs.Carry.{Entry, check}
-use Rattle.dr_model.specs.Entries.{fields_at, is_running, is_settled}
+use Rattle.dr_model.specs.Entries.{fields_at, is_running, is_settled, is_no_secondary}
 use Rattle.dr_model.specs.PairEntries.{refuse_if, reach_refusal, leads_as, leads_to, unsent_by, fall_back_on, yield_on}
 use Rattle.dr_model.specs.Plans.{Plan, failback_plan, is_defined, is_owner, yield_refusal}
 use Rattle.dr_model.specs.Allowed.{Runs}
@@ -50,8 +50,8 @@ module _ (w : World) (k : Between w) (devs : Devs) (x y : ℕ) (kind : Part) whe
 
   comes : Comes p.entries
   comes = checked (is_defined x) _ _ (λ there. checked (is_defined y) _ _ (λ too. checked (is_owner devs.dev x) _ _ (λ own. checked (is_owner devs.remotedev y) _ _ (λ theirs. checked (is_running x) _ _ (λ on.
-      refusing (reach_refusal x y) _ (checked (leads_as x y kind) _ _ (λ leads. checked (leads_to y x) _ _ (λ back. checked (is_settled y) _ _ (λ still. checked (is_settled x) _ _ (λ settled.
-      refusing (yield_refusal y) _ (turns on)))))))))))
+      refusing (reach_refusal x y) _ (checked (leads_as x y kind) _ _ (λ leads. checked (leads_to y x) _ _ (λ back. checked (is_no_secondary x) _ _ (λ free. checked (is_no_secondary y) _ _ (λ lone. checked (is_settled y) _ _ (λ still. checked (is_settled x) _ _ (λ settled.
+      refusing (yield_refusal y) _ (turns on)))))))))))))
 
   pub window-failback : EntriesHold w p
   window-failback = window-leaves (PlanFin Between good-between answers-between p) (fin p.entries (Done Alone)) Stays p.entries start (begun-between w k) (λ on. on) comes (along-failback w k.sound devs x y kind)

@@ -1,5 +1,5 @@
 -- A plan that makes a pair in freeze windows: its primary had no part.
-use Rattle.std.proofs.Common.{ℕ, ◌≡◌, ◌≢◌, refl, ap, sym, ◌∙◌, Bool, true, false, List, [], ◌∷◌, Option, None}
+use Rattle.std.proofs.Common.{ℕ, ◌≡◌, ◌≢◌, refl, ap, sym, ◌∙◌, Bool, true, false, List, [], ◌∷◌, Option, None, cond, ◌++◌}
 use Rattle.dr_ids.specs.declared.refusal.Refusal.{Refusal}
 use Rattle.dr_model.specs.declared.said.Addition.TheVariants.{Alone}
 use Rattle.dr_model.specs.declared.said.Said.TheVariants.{Done}
@@ -12,9 +12,9 @@ use Rattle.dr_model.specs.Control.{Control, Volume, World}
 use Rattle.dr_model.specs.Pairs.{first_state}
 use Rattle.dr_model.specs.Moves.{Move, MakeSecondary, MakePrimary}
 use Rattle.dr_model.specs.Carry.{Make, Do, Entry, now, check}
-use Rattle.dr_model.specs.PairEntries.{refuse_if, reach_refusal, two_servers, stands_free, may_follow, differs_at}
+use Rattle.dr_model.specs.PairEntries.{refuse_if, reach_refusal, two_servers, may_follow, differs_at, make_entries, may_lead, first_differing}
 use Rattle.dr_model.specs.Entries.{fields_at, is_running, share_size, is_no_target, is_settled}
-use Rattle.dr_model.specs.Plans.{make_pair_plan, is_defined, is_owner}
+use Rattle.dr_model.specs.Plans.{make_pair_plan, is_defined, is_owner, cascades, cascade_refusal}
 use Rattle.dr_laws_sound.proofs.Turns.{done}
 use Rattle.dr_laws_sound.proofs.KeepsSound.{Along, comes}
 use Rattle.dr_laws_sound.proofs.FitsFlash.{as_begun}
@@ -23,6 +23,7 @@ use Rattle.dr_laws_freezes.proofs.Chains.{WindowAlong, window-nil, PlanFin, good
 use Rattle.dr_laws_freezes.proofs.WindowActs.{Between, window-move, window-check, window-refuse}
 use Rattle.dr_laws_freezes.proofs.WindowPlans.{good-between, answers-between, begun-between, EntriesHold, fin}
 use Rattle.dr_logic.proofs.Tables.{at_other}
+use Rattle.dr_model.specs.Contents.{image_at}
 
 -- the two moves that make a pair
 module _ (Fin : Option ℕ → World → Option Refusal → Type 0) (fin : (w : World) (r : Option Refusal) → Between w → Fin None w r) (a b : ℕ) (kind : Part) (full : Bool) where
@@ -64,8 +65,19 @@ module _ (w : World) (k : Between w) (devs : Devs) (a b : ℕ) (kind : Part) (ch
   refusing : (why : Control → Option Refusal) (ds : List Entry) → (Along start ds → WindowAlong Fins None start ds) → Along start (refuse_if why ∷ ds) → WindowAlong Fins None start (refuse_if why ∷ ds)
   refusing why ds go al = window-refuse Fins fins start (begun-between w k) why ds al (λ h. go)
 
+  abbrev difference : Option ℕ
+  difference = cond choices.full None (first_differing (image_at w.events) (w.control.volume a).tracks a b)
+
+  made : (cascade : Bool) → Along start (make_entries w.control a b kind cascade choices.full difference) → WindowAlong Fins None start (make_entries w.control a b kind cascade choices.full difference)
+  made cascade =
+      checked (is_running a) _ _ (refusing (reach_refusal a b) _
+      (checked (two_servers a b) _ _ (checked (share_size a b) _ _ (checked (may_lead cascade a b) _ _ (checked (may_follow a b) _ _ (checked (is_no_target a) _ _ (checked (is_no_target b) _ _ (checked (is_settled b) _ _ (refusing (differs_at difference) _
+      (makes Fins fins a b kind choices.full start (begun-between w k)))))))))))
+
+  cascading : (cascade : Bool) → let ds : List Entry = cond cascade (refuse_if (cascade_refusal a) ∷ []) [] ++ make_entries w.control a b kind cascade choices.full difference in Along start ds → WindowAlong Fins None start ds
+  cascading true = refusing (cascade_refusal a) _ (made true)
+  cascading false = made false
+
   pub window-pair : is_part kind ≡ true → EntriesHold w (make_pair_plan w.control w.events devs a b kind choices)
   window-pair part =
-      checked (is_defined a) _ _ (checked (is_defined b) _ _ (checked (is_owner devs.dev a) _ _ (checked (is_owner devs.remotedev b) _ _ (checked (is_running a) _ _ (refusing (reach_refusal a b) _
-      (checked (two_servers a b) _ _ (checked (share_size a b) _ _ (checked (stands_free a) _ _ (checked (may_follow a b) _ _ (checked (is_no_target a) _ _ (checked (is_no_target b) _ _ (checked (is_settled b) _ _ (refusing (differs_at _) _
-      (makes Fins fins a b kind choices.full start (begun-between w k))))))))))))))) (along-pair w k.sound devs a b kind choices part)
+      checked (is_defined a) _ _ (checked (is_defined b) _ _ (checked (is_owner devs.dev a) _ _ (checked (is_owner devs.remotedev b) _ _ (cascading (cascades kind choices))))) (along-pair w k.sound devs a b kind choices part)

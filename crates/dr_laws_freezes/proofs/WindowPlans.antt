@@ -10,10 +10,10 @@ use Rattle.dr_model.specs.Carry.{Act, Entry, carry, stopped_at}
 use Rattle.dr_model.specs.Plans.{Plan, same, none_follow, entries_plan}
 use Rattle.dr_model.specs.Runs.{begun, finish, masters_lost, said}
 use Rattle.dr_model.specs.Laws.{Sound, AllPending}
-use Rattle.dr_facts.proofs.Entries.{any_world, FineFrom}
+use Rattle.dr_facts.proofs.Entries.{any_world, FineFrom, EachFine, from-all}
 use Rattle.dr_laws_closed.proofs.Regroups.{regroups-same}
 use Rattle.dr_laws_sound.proofs.Along as along
-use Rattle.dr_laws_sound.proofs.KeepsSound.{Along, StepHolds, RowsAt, MayDo, keeps-sound, over}
+use Rattle.dr_laws_sound.proofs.KeepsSound.{Along, StepHolds, RowsAt, MayDo, keeps-sound, EachAlong}
 use Rattle.dr_laws_sound.proofs.FitsFlash.{as_begun, sound-begun}
 use Rattle.dr_laws_sound.proofs.FitsSessions.{Orders, sound-lost}
 use Rattle.dr_laws_sound.proofs.NewMessages.{adds-same}
@@ -22,7 +22,7 @@ use Rattle.dr_laws_sound.proofs.Steps.{sound-said}
 use Rattle.dr_laws_freezes.proofs.WindowMoves.{Unacked}
 use Rattle.dr_laws_freezes.proofs.InSync.{in_sync-same, fresh-told}
 use Rattle.dr_laws_freezes.proofs.Windows.{Good}
-use Rattle.dr_laws_freezes.proofs.Chains.{ended, WindowAlong, window-nil, EndFin, PlanFin, WindowHolds, Leaves, good-none}
+use Rattle.dr_laws_freezes.proofs.Chains.{ended, WindowAlong, window-nil, PlanFin, WindowHolds, Leaves, good-none, WindowEach}
 use Rattle.dr_laws_freezes.proofs.WindowActs.{Between, KeepsPairs, window-entries}
 use Rattle.dr_laws_freezes.proofs.WindowBegins.{Begins}
 
@@ -56,10 +56,21 @@ begun-between w k = record {
 abbrev pub EntriesHold : World → Plan → Type 0
 EntriesHold w p = WindowAlong (PlanFin Between good-between answers-between p) None (begun w p) p.entries
 
+-- and of what follows a stop
+abbrev pub FollowHolds : World → List Entry → Type 0
+FollowHolds = WindowEach Between good-between answers-between None
+
+-- it is so where its acts keep what holds of pairs, and may come
+pub window-each : (Ok : World → Act → Type 0) (Why : Refusal → Type 0) → ((v : World) (a : Act) → Ok v a → KeepsPairs v a) → (ds : List Entry) → EachFine any_world Ok Why ds → EachAlong ds → (w : World) → Between w → FollowHolds w ds
+window-each Ok Why keeps [] fine al w b = (good-between w b, b)
+window-each Ok Why keeps (d ∷ ds) fine al w b =
+    window-entries (λ tag u r. WindowEach Between good-between answers-between tag u ds) (λ u r b. window-each Ok Why keeps ds fine.1 al.1 u b) any_world any_world Sound Ok Why Why (λ r why. why) (λ v any. tt) (λ v a ok any. keeps v a ok) (λ v a f ok any. tt)
+    (λ u b sound. window-each Ok Why keeps ds fine.1 al.1 u b) (d ∷ []) w b tt (from-all any_world Ok Why Why (λ r why. why) w tt (d ∷ []) fine.0) (al.0 w b.sound)
+
 -- how the entries of a plan end that is nothing but them
 pub fin : (entries : List Entry) (a : Said) (u : World) (r : Option Refusal) → Between u → PlanFin Between good-between answers-between (entries_plan entries a) None u r
 fin entries a u None b = b
-fin entries a u (Some (StoppedIn s)) b = λ n. window-nil (EndFin Between good-between answers-between) None u (good-none u b.sound.rows b.in_sync.fresh b.sound.queue.lone) b
+fin entries a u (Some (StoppedIn s)) b = λ n. (good-between u b, b)
 fin entries a u (Some r) b = b
 
 -- ---- plans
@@ -90,7 +101,7 @@ module _ (w : World) (k : Between w) (p : Plan) (begins : Begins w (begun w p) p
       window-by (subst (WindowAlong Fins None u) (sym none) (window-nil Fins None u (good-none u b.sound.rows b.in_sync.fresh b.sound.queue.lone) (subst (λ j. Between (record u { control = j })) (sym (last u.control)) b)))
 
   -- of entries that come where they may
-  module _ (on : NoneOn) (orders : Orders w p) (follow : (s : ℕ) (v : World) → Between v → WindowAlong (EndFin Between good-between answers-between) None v (p.follows s)) where
+  module _ (on : NoneOn) (orders : Orders w p) (follow : (s : ℕ) (v : World) → Between v → FollowHolds v (p.follows s)) where
     first-between : Between u
     first-between = record { sound = orders.begins; in_sync = begins.in_sync on }
 
@@ -117,4 +128,4 @@ module _ (w : World) (k : Between w) (p : Plan) (begins : Begins w (begun w p) p
 
 -- a plan of entries that are allowed along
 pub alone : (w : World) → Sound w → (entries : List Entry) (says : Control → Said) → Along (as_begun w) entries → Orders w (record { first = same; told = []; entries = entries; follows = none_follow; last = same; says = says })
-alone w s entries says a = record { ends = Sound; complete = λ v y. y; begins = sound-begun w s; entries = a; follows = λ q v y. over v y; last = λ v y. y; turns = λ v y. regroups-same v.control.sessions; adds = λ v y. adds-same v.control.sessions v.control.flight v.control.flight refl; goes = λ v y. goes-same v.control }
+alone w s entries says a = record { ends = Sound; complete = λ v y. y; begins = sound-begun w s; entries = a; follows = λ q. tt; last = λ v y. y; turns = λ v y. regroups-same v.control.sessions; adds = λ v y. adds-same v.control.sessions v.control.flight v.control.flight refl; goes = λ v y. goes-same v.control }

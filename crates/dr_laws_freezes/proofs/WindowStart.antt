@@ -29,7 +29,7 @@ use Rattle.dr_laws_sound.proofs.FitsPairs.{row}
 use Rattle.dr_laws_sound.proofs.Starts as starts
 use Rattle.dr_laws_freezes.proofs.WindowMoves.{Unacked, come}
 use Rattle.dr_laws_freezes.proofs.InSync.{Clean, Free, free-left, clean-left, Fresh, FullDuplexInSync, fresh-by, fresh-told, fresh-done, fresh-stop, all-other, above}
-use Rattle.dr_laws_freezes.proofs.Chains.{WindowAlong, window_next, window-entry, window-nil, PlanFin, EndFin, good-none}
+use Rattle.dr_laws_freezes.proofs.Chains.{WindowAlong, window_next, window-entry, window-nil, PlanFin, good-none}
 use Rattle.dr_laws_freezes.proofs.WindowActs.{Between}
 use Rattle.dr_laws_freezes.proofs.WindowPlans.{good-between, answers-between, EntriesHold}
 use Rattle.dr_facts.proofs.Tracks.{bare-has}
@@ -84,7 +84,7 @@ module _ (s : ℕ) where
 
     fin : (u : World) (r : Option Refusal) → Between u → Fin None u r
     fin u None b = b
-    fin u (Some (StoppedIn x)) b = λ n. window-nil (EndFin Between good-between answers-between) None u (good-none u b.sound.rows b.in_sync.fresh b.sound.queue.lone) b
+    fin u (Some (StoppedIn x)) b = λ n. (good-none u b.sound.rows b.in_sync.fresh b.sound.queue.lone, b)
     fin u (Some r) b = b
 
     acknowledges : (w : World) → Going [] w → WindowAlong Fin None w (acknowledge_on s ∷ [])

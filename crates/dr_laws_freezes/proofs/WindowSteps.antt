@@ -8,11 +8,10 @@ use Rattle.dr_model.specs.Plans.{Plan}
 use Rattle.dr_model.specs.Runs.{Task, begun, image_told}
 use Rattle.dr_laws_freezes.specs.Moments.{moments_from}
 use Rattle.dr_laws_freezes.specs.Windows.{FreezeCut}
-use Rattle.dr_facts.proofs.Entries.{any_world, from-all}
 use Rattle.dr_facts.proofs.Reasons.{NoStop}
 use Rattle.dr_facts.proofs.Tables.{at_cases}
 use Rattle.dr_laws_sound.proofs.Cases.{Case, Writes, Applies, Stops, Starts, MakesFlash, RemovesFlash, ResyncsFlash, ReversesFlash, Copies, Destages as DestagesCase, MakesPair, RemovesPair, PausesPair, ResumesPair, FailsOver, FailsBack, Compares, Drains, Expires, Freezes, Unfreezes, AddsMember, RemovesMember, Exchanges, Delivers, Recovers, Settles, Commits, Reverts, Releases}
-use Rattle.dr_laws_sound.proofs.Does.{IsWrite, Issued, Found, IsSend, Drained, Collided, Does, Acts, Late, MakesPrimary, Resumes, FallsBack, Yields, GivesBack, Destages, Stores, Strikes, Lands, Unsyncs, Mirrors, LandsBoth, Drops, Redoes, Acknowledges, EndsFreeze, EndsThaw, EndsRecovery, OrdersAttempt}
+use Rattle.dr_laws_sound.proofs.Does.{IsWrite, Issued, Found, IsSend, Drained, Collided, Does, Acts, Late, MakesPrimary, Resumes, FallsBack, Yields, GivesBack, Destages, Stores, Strikes, Lands, Unsyncs, Mirrors, LandsBoth, Drops, Redoes, Acknowledges, EndsFreeze, EndsThaw, EndsRecovery, OrdersAttempt, Fed, SendsOn, StrikesOn}
 use Rattle.dr_laws_sound.proofs.DoesPlans.{Entered, case-does}
 use Rattle.dr_laws_sound.proofs.Steps.{sound-nothing, case-holds, ending-holds}
 use Rattle.dr_laws_sound.proofs.FitsMembers.{orders-added, orders-expelled}
@@ -25,15 +24,14 @@ use Rattle.dr_laws_sound.proofs.FitsFlash.{as_begun, sound-begun, along-flash, a
 use Rattle.dr_laws_sound.proofs.FitsPairs.{along-remove, along-pause, along-resume}
 use Rattle.dr_laws_sound.proofs.FitsFailover.{along-failover, along-compare}
 use Rattle.dr_laws_sound.proofs.FitsHolds.{freezes, thaws, lifts, releases}
-use Rattle.dr_model.specs.Laws.{Sound}
 use Rattle.dr_laws_sound.proofs.Listed.{image-lines}
 use Rattle.dr_laws_sound.proofs.Parts.{Ending, OnePlan, Imaged}
 use Rattle.dr_laws_freezes.proofs.Begun.{lines-beside, leaves}
 use Rattle.dr_laws_freezes.proofs.Windows.{Chain, freeze-cut}
-use Rattle.dr_laws_freezes.proofs.Chains.{run-chain, EndFin, retabled-none}
-use Rattle.dr_laws_freezes.proofs.WindowActs.{Between, KeepsPairs, window-entries}
+use Rattle.dr_laws_freezes.proofs.Chains.{run-chain, retabled-none}
+use Rattle.dr_laws_freezes.proofs.WindowActs.{Between, KeepsPairs}
 use Rattle.dr_laws_freezes.proofs.WindowBegins.{Begins, beside-begins, case-begins}
-use Rattle.dr_laws_freezes.proofs.WindowPlans.{good-between, answers-between, loses-between, PlanHolds, EntriesHold, window-by, window-tables, window-plan, alone}
+use Rattle.dr_laws_freezes.proofs.WindowPlans.{good-between, answers-between, loses-between, PlanHolds, EntriesHold, window-by, window-tables, window-plan, alone, window-each}
 use Rattle.dr_laws_freezes.proofs.WindowPairs.{window-pair}
 use Rattle.dr_laws_freezes.proofs.WindowCopy.{window-copy}
 use Rattle.dr_laws_freezes.proofs.WindowDrain.{window-drain}
@@ -71,17 +69,20 @@ module _ (k : Control) where
   no-send : {asked : Result Step ℕ} → {a b : ℕ} → IsSend k asked a b → lands_tracks asked ≡ false → ⊥
   no-send (Drained a most part) none = cc
   no-send (Collided n v t is met) none = no-write is none
+  no-send (Fed a most is) none = cc
 
   -- the others keep what holds of pairs
   keeps-pairs : {asked : Result Step ℕ} → lands_tracks asked ≡ false → (w : World) (a : Act) → Does k asked w.control a → KeepsPairs w a
   keeps-pairs none w _ (Stores a b is t last) = absurd (no-send is none)
   keeps-pairs none w _ (Strikes a b is t last) = absurd (no-send is none)
   keeps-pairs none w _ (Lands n v t is free) = absurd (no-write is none)
-  keeps-pairs none w _ (Unsyncs n v t is) = absurd (no-write is none)
+  keeps-pairs none w _ (Unsyncs n v t is over) = absurd (no-write is none)
+  keeps-pairs none w _ (SendsOn n v t is fed collides last) = absurd (no-write is none)
+  keeps-pairs none w _ (StrikesOn n v t is fed last) = absurd (no-write is none)
   keeps-pairs none w _ (Mirrors n v t is over) = absurd (no-write is none)
   keeps-pairs none w _ (LandsBoth n v t is free) = absurd (no-write is none)
   keeps-pairs none w _ (Drops n v t is) = absurd (no-write is none)
-  keeps-pairs none w _ (MakesPrimary a b kind state full free) = absurd cc
+  keeps-pairs none w _ (MakesPrimary a b kind state full cascade free) = absurd cc
   keeps-pairs none w _ (GivesBack q t back) = absurd cc
   keeps-pairs none w _ (Redoes v) = tt
   keeps-pairs none w _ (Acknowledges s n is) = absurd cc
@@ -107,7 +108,7 @@ module _ (w : World) (k : Between w) (line : ℕ) where
       let does : Entered w asked p = case-does w line asked p c in
       let keeps = λ (v : World) (a : Act) (d : Acts w.control asked v a). keeps-pairs w.control none v a d in
       window-plan w k p (case-begins w k.in_sync line asked p c) (leaves w.control w.events line asked p c) (none-on asked p c none) orders
-      (λ s v b. window-entries (EndFin Between good-between answers-between) (λ u r b. b) any_world any_world Sound (Acts w.control asked) (Late asked) (Late asked) (λ r why. why) (λ v any. tt) (λ v a d any. keeps v a d) (λ v a f d any. tt) (λ u b sound. b) (p.follows s) v b tt (from-all any_world (Acts w.control asked) (Late asked) (Late asked) (λ r why. why) v tt (p.follows s) (does.follows s)) (orders.follows s v b.sound))
+      (λ s v b. window-each (Acts w.control asked) (Late asked) keeps (p.follows s) (does.follows s) (orders.follows s) v b)
       (Acts w.control asked) NoStop (Late asked) (λ r why. why.why) keeps does.entries
 
   pub window-case : (asked : Result Step ℕ) (p : Plan) → Case w.control w.events line asked p → PlanHolds w p

@@ -27,9 +27,9 @@ use Rattle.dr_laws_sound.proofs.FitsWrites.{parts-after}
 use Rattle.dr_laws_freezes.proofs.WindowMoves.{WindowMay, tag_after, come}
 use Rattle.dr_laws_freezes.proofs.InSync.{is_synced, LeavesOneOut, Unheld, unheld, Clean, Free, Fresh, FullDuplexInSync, free-left, fresh-done, fresh-stop, fresh-told}
 use Rattle.dr_laws_freezes.proofs.Windows.{Good}
-use Rattle.dr_laws_freezes.proofs.Chains.{WindowAlong, window_next, window-entry, window-nil, StopFin, EndFin, good-none}
+use Rattle.dr_laws_freezes.proofs.Chains.{WindowAlong, window_next, window-entry, window-nil, StopFin, good-none, WindowEach}
 use Rattle.dr_laws_freezes.proofs.WindowActs.{Between, window-act, window-check}
-use Rattle.dr_laws_freezes.proofs.WindowPlans.{good-between, answers-between}
+use Rattle.dr_laws_freezes.proofs.WindowPlans.{good-between, answers-between, FollowHolds}
 use Rattle.dr_facts.proofs.Parts.{metro-part}
 use Rattle.dr_logic.proofs.Truth.{false_true}
 use Rattle.dr_logic.proofs.Tables.{at_same, off_later}
@@ -117,7 +117,10 @@ module _ (v t : ℕ) where
   -- where a server stopped, v is suspended, or its server is off
   module _ (w : World) (k : Within w) (busy : Bool) where
     abbrev End : Option ℕ → World → Option Refusal → Type 0
-    End = EndFin Between good-between answers-between
+    End tag u r = WindowEach Between good-between answers-between tag u []
+
+    over : (u : World) → Between u → WindowEach Between good-between answers-between None u []
+    over u b = (good-between u b, b)
 
     abbrev m : Move
     m = Suspend v busy
@@ -134,23 +137,23 @@ module _ (v t : ℕ) where
     parts-by : (c : Bool) → (is_part (fields_at w.control v).primary && is_running v w.control) ≡ c → Then w (cond c (Do (Make m)) Pass) (λ u. Along u []) → window_next End None w (cond c (Do (Make m)) Pass) (λ tag u. WindowAlong End tag u [])
     parts-by true is a = (
       (a.0, tt, tt),
-      λ f. let b : Between (done w m f) = heal (done w m f) (within-done w m f k a.0 here) (λ runs h. false_true (off f) h) in window-nil End None (done w m f) (good-none (done w m f) b.sound.rows b.in_sync.fresh b.sound.queue.lone) b,
+      λ f. let b : Between (done w m f) = heal (done w m f) (within-done w m f k a.0 here) (λ runs h. false_true (off f) h) in window-nil End None (done w m f) (good-between (done w m f) b) (over (done w m f) b),
       (
-        λ f. heal (done_in_stop w m f) (within-stop w m f k a.0 here) (λ runs h. false_true (off f) h),
-        λ d f. heal (not_done w (server_at w v) f) (within-not w m f k a.0) (λ runs h. false_true (at_same w.control.on (server_at w v) false) runs),
+        λ f. over (done_in_stop w m f) (heal (done_in_stop w m f) (within-stop w m f k a.0 here) (λ runs h. false_true (off f) h)),
+        λ d f. over (not_done w (server_at w v) f) (heal (not_done w (server_at w v) f) (within-not w m f k a.0) (λ runs h. false_true (at_same w.control.on (server_at w v) false) runs)),
       ),
     )
     parts-by false is a = window-nil End None w (good-none w k.sound.rows k.in_sync.fresh k.sound.queue.lone)
-        (heal w k (λ runs h. false_true is (and_from _ _ (metro-part (fields_at w.control v).primary (and_parts (is_metro (fields_at w.control v).primary) _ h).0) runs)))
+        (over w (heal w k (λ runs h. false_true is (and_from _ _ (metro-part (fields_at w.control v).primary (and_parts (is_metro (fields_at w.control v).primary) _ h).0) runs))))
 
     window-suspend : (d : Entry) → d w.control ≡ what → Along w (d ∷ []) → WindowAlong End None w (d ∷ [])
     window-suspend d is al = window-entry End None w d [] what is (good-none w k.sound.rows k.in_sync.fresh k.sound.queue.lone) (parts-by _ refl (comes w d [] what is al))
 
-  pub window-part : (w : World) (k : Within w) (s : ℕ) → WindowAlong (EndFin Between good-between answers-between) None w (part_after v)
-  window-part w k s = window-suspend w k (is_grouped w.control v (partner_of w.control v)) (part_running v) refl (parts-after v s w k.sound)
+  pub window-part : (w : World) → Within w → FollowHolds w (part_after v)
+  window-part w k = window-suspend w k (is_grouped w.control v (partner_of w.control v)) (part_running v) refl (parts-after v w k.sound)
 
-  pub window-after : (w : World) (k : Within w) (s : ℕ) → WindowAlong (EndFin Between good-between answers-between) None w (suspend_after v)
-  window-after w k s = window-suspend w k false (suspend_running v) refl (suspends-after v s w k.sound)
+  pub window-after : (w : World) → Within w → FollowHolds w (suspend_after v)
+  window-after w k = window-suspend w k false (suspend_running v) refl (suspends-after v w k.sound)
 
   -- a move within the write
   pub window-within : (Fin : Option ℕ → World → Option Refusal → Type 0) → ((u : World) (s : ℕ) → Within u → StopFin Fin u s u) → (tag : Option ℕ) (w : World) → Within w → (d : Entry) (m : Move) (ds : List Entry) → d w.control ≡ Do (Make m) → Good tag w
@@ -163,6 +166,31 @@ module _ (v t : ℕ) where
       λ d f. stops (not_done w (server_at w (target m)) f) _ (within-not w m f k may),
     ),
   )
+
+-- where a server stopped in what a cascaded secondary u sends on, u is suspended, and then v
+module _ (v t u : ℕ) where
+  abbrev ThenPart : Option ℕ → World → Option Refusal → Type 0
+  ThenPart tag w r = WindowEach Between good-between answers-between tag w (part_after v)
+
+  then-part : (w : World) → Within v t w → ThenPart None w None
+  then-part w k = window-part v t w k
+
+  pub window-both : (w : World) → Within v t w → FollowHolds w (suspend_running u ∷ part_running v ∷ [])
+  window-both w k = by (is_part (fields_at w.control u).primary && is_running u w.control) refl (suspends-after u w k.sound)
+    where
+      good : Good None w
+      good = good-none w k.sound.rows k.in_sync.fresh k.sound.queue.lone
+
+      m : Move
+      m = Suspend u false
+
+      here : Here v t w m
+      here there runs h q other = let no : false ≡ true = (and_parts (is_metro (fields_at w.control u).primary) false h).1 in absurd cc
+
+      by : (c : Bool) → suspend_running u w.control ≡ cond c (Do (Make m)) Pass → Along w (suspend_after u) → WindowAlong ThenPart None w (suspend_running u ∷ [])
+      by true is al = window-within v t ThenPart (λ x s k. then-part x k) None w k (suspend_running u) m [] is good (comes w (suspend_running u) [] (Do (Make m)) is al).0 tt tt here
+          (λ f z. window-nil ThenPart None (done w m f) (good-none (done w m f) z.sound.rows z.in_sync.fresh z.sound.queue.lone) (then-part (done w m f) z))
+      by false is al = window-entry ThenPart None w (suspend_running u) [] Pass is good (window-nil ThenPart None w good (then-part w k))
 
 -- moves of targets that keep a track
 abbrev pub Keeps : Move → Type 0

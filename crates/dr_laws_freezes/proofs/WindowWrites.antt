@@ -1,6 +1,6 @@
 -- Host writes that are carried out in freeze windows: one that lands on its volume alone lands on no locked primary, and one that its
 -- secondary stores first lands on both sides where nothing else is out of sync.
-use Rattle.std.proofs.Common.{ℕ, ◌≡◌, ◌<◌, ◌+◌, inl, inr, refl, ap, sym, ◌∙◌, subst, Bool, true, false, cond, not, ◌&&◌, ◌||◌, List, [], ◌∷◌, ◌++◌, append_assoc, map, filter, Option, Some, None}
+use Rattle.std.proofs.Common.{ℕ, ◌≡◌, ◌<◌, ◌+◌, inl, inr, refl, ap, sym, ◌∙◌, subst, Bool, true, false, cond, not, ◌&&◌, ◌||◌, List, [], ◌∷◌, ◌++◌, append_assoc, filter, Option, Some, None, ◌≢◌}
 use Rattle.std.specs.List.{find}
 use Rattle.std.specs.FinSet.{contains}
 use Rattle.std.proofs.lemmas.Bool.{and_parts, and_from, not-true}
@@ -11,13 +11,13 @@ use Rattle.dr_ids.specs.declared.refusal.Refusal.TheVariants.{Stopped as Stopped
 use Rattle.dr_model.specs.declared.state.PairState.{PairState}
 use Rattle.dr_model.specs.declared.state.PairState.TheVariants.{CopyPending, FullDuplex, Suspended}
 use Rattle.dr_model.specs.Histories.{histories}
-use Rattle.dr_model.specs.Layout.{Fields}
-use Rattle.dr_model.specs.Pairs.{is_metro, is_kind, is_last, is_full_duplex, is_suspended, held, goes_over, collides}
+use Rattle.dr_model.specs.Layout.{Fields, is_part}
+use Rattle.dr_model.specs.Pairs.{is_metro, is_kind, is_last, is_full_duplex, is_suspended, held, goes_over, collides, is_cascaded, secondary_of}
 use Rattle.dr_model.specs.Control.{Control, Fuse, Pending, Volume, World}
 use Rattle.dr_model.specs.Moves.{Move, Land, Overwrite, Keep, Note, Store, Strike, Suspend, target, Unsync, Mirror, LandBoth, is_write}
-use Rattle.dr_model.specs.Carry.{Act, Make, Pass, Do, Entry, now}
-use Rattle.dr_model.specs.Entries.{fields_at, is_running, is_no_secondary, is_open, is_settled, keep_on, copy_first, land_on, land_alone}
-use Rattle.dr_model.specs.WriteEntries.{sends_first, where_sent, send_first, land_collided, after_write, partner_of, is_grouped, land_mirrored, land_parted, is_parted, land_over, landing, part_after}
+use Rattle.dr_model.specs.Carry.{Act, Make, Pass, Do, Entry, now, Next, End}
+use Rattle.dr_model.specs.Entries.{fields_at, is_running, is_no_secondary, is_open, is_settled, copy_first, land_on, land_alone}
+use Rattle.dr_model.specs.WriteEntries.{land_collided, after_write, partner_of, is_grouped, land_parted, is_parted, land_over, landing, mirror_and_land, land_mirrored, land_fed, is_held_back}
 use Rattle.dr_model.specs.Plans.{Plan, same, issue_refusal, write_done, apply_done}
 use Rattle.dr_model.specs.Groups.{In}
 use Rattle.dr_model.specs.Laws.{AllPending}
@@ -33,26 +33,27 @@ use Rattle.dr_laws_sound.proofs.Lands.{found-alone, waits, may-ack, not-busy}
 use Rattle.dr_laws_sound.proofs.FitsFlash.{as_begun}
 use Rattle.dr_laws_sound.proofs.FitsPairs.{row, runs-done, part-same}
 use Rattle.dr_laws_sound.proofs.FitsWrites.{lands}
-use Rattle.dr_laws_freezes.proofs.WindowMoves.{is_locked, come, Unacked}
-use Rattle.dr_laws_freezes.proofs.InSync.{is_synced, Clean, unheld}
+use Rattle.dr_laws_freezes.proofs.WindowMoves.{is_locked, come, Unacked, WindowMay, tag_after}
+use Rattle.dr_laws_freezes.proofs.InSync.{is_synced, Clean, unheld, LeavesOneOut}
 use Rattle.dr_laws_freezes.proofs.Windows.{Good}
-use Rattle.dr_laws_freezes.proofs.Chains.{WindowAlong, window-nil, StopFin, EndFin, PlanFin, good-none}
+use Rattle.dr_laws_freezes.proofs.Chains.{WindowAlong, window-nil, StopFin, PlanFin, good-none, window-entry}
 use Rattle.dr_laws_freezes.proofs.WindowActs.{Between, Leaves, window-leaves, window-move, window-check}
-use Rattle.dr_facts.proofs.Entries.{any_reason, Fine, AllFine, fine-then, fine-one, fine-append, fine-if, from-all}
-use Rattle.dr_facts.proofs.SharedEntries.{where-fine, keep-fine, copies-fine}
-use Rattle.dr_laws_freezes.proofs.WindowPlans.{good-between, answers-between, begun-between, EntriesHold}
+use Rattle.dr_facts.proofs.Entries.{any_reason, AllFine, fine-one, fine-append, from-all, FineThen}
+use Rattle.dr_facts.proofs.SharedEntries.{copies-fine}
+use Rattle.dr_laws_freezes.proofs.WindowPlans.{good-between, answers-between, begun-between, EntriesHold, FollowHolds}
 use Rattle.dr_laws_freezes.proofs.WindowBegins.{issued-in_sync}
-use Rattle.dr_laws_freezes.proofs.WindowDrain.{locked-synced}
+use Rattle.dr_laws_freezes.proofs.WindowDrain.{locked-synced, global-unlocked, first-comes}
 use Rattle.dr_model.specs.declared.state.Part.TheVariants.{Global}
-use Rattle.std.specs.Prelude.{is_some}
 use Rattle.std.proofs.Math.Bool.{and-false}
-use Rattle.dr_model.specs.PairEntries.{send_refusal, suspend_where, store_on, strike_on, suspend_after}
 use Rattle.dr_laws_freezes.proofs.WindowTracks.{is_firm}
 use Rattle.dr_laws_sound.proofs.KeepsRecorders.{not-metro}
-use Rattle.dr_laws_freezes.proofs.WindowWithin.{window-after, Within, within-between, heal, Here, window-part, window-within, Keeps, window-copies, window-dropped}
+use Rattle.dr_laws_freezes.proofs.WindowWithin.{window-after, Within, within-between, heal, Here, window-part, window-within, Keeps, window-copies, window-dropped, window-both}
 use Rattle.dr_facts.proofs.Tracks.{not_removed_from}
 use Rattle.dr_logic.proofs.Truth.{false_true}
 use Rattle.dr_logic.proofs.Tables.{at_same, at_other}
+use Rattle.dr_model.specs.PairEntries.{send_first}
+use Rattle.dr_logic.proofs.Choices.{choose_some}
+use Rattle.dr_facts.proofs.Parts.{metro-part}
 
 not-suspended : (s : PairState) → is_full_duplex s ≡ true → is_suspended s ≡ false
 not-suspended CopyPending h = absurd cc
@@ -133,25 +134,11 @@ module _ (p : Pending) (Fin : Option ℕ → World → Option Refusal → Type 0
   alone : (volumes : List ℕ) (w : World) → Between w → Apart false w → Along w (land_alone volumes n v t) → WindowAlong Fin None w (land_alone volumes n v t)
   alone volumes = window-apart false (land_alone volumes n v t) (alone-comes false volumes)
 
-  module _ (u : ℕ) where
-    abbrev Sent : Entry → Type 0
-    Sent d = (w : World) → Apart true w → Fine (Apart true) (Ok true) any_reason w (d w.control)
-
-    sent-one : (d : Entry) → Sent d → Sent (where_sent v u t d)
-    sent-one d one w k = fine-if (Apart true) (Ok true) any_reason w (sends_first v u t w.control) (d w.control) Pass (one w k) tt
-
-    unlocked : (w : World) → Apart true w → is_locked (fields_at w.control v) ≡ true → ⊥
-    unlocked w k locked = false_true (apart true w k).1 locked
-
-    sent-comes : (xs : List ℕ) → Comes true (map (where_sent v u t) (map (keep_on u t) xs ++ store_on v u t ∷ strike_on v t ∷ []))
-    sent-comes [] = fine-then (Apart true) (Ok true) any_reason (where_sent v u t (store_on v u t)) _ (sent-one (store_on v u t) (λ w k. ((λ locked. absurd (unlocked w k locked), tt, refl), λ f. global-stays w (Store u t v (is_last (fields_at w.control v) t)) f refl k)))
-        (fine-one (Apart true) (Ok true) any_reason (where_sent v u t (strike_on v t)) (sent-one (strike_on v t) (λ w k. ((λ locked. absurd (unlocked w k locked), refl, refl), λ f. global-stays w (Strike v t (is_last (fields_at w.control v) t)) f refl k))))
-    sent-comes (x ∷ xs) = fine-then (Apart true) (Ok true) any_reason (where_sent v u t (keep_on u t x)) _ (sent-one (keep_on u t x) (keep-fine (Apart true) (Ok true) any_reason (keep-ok true) (note-ok true) u t x)) (sent-comes xs)
-
-    collided : (volumes : List ℕ) (w : World) → Between w → Apart true w → Along w (send_first volumes v u t ++ land_alone volumes n v t) → WindowAlong Fin None w (send_first volumes v u t ++ land_alone volumes n v t)
-    collided volumes = window-apart true _ (fine-append (Apart true) (Ok true) any_reason (send_first volumes v u t) (land_alone volumes n v t)
-        (fine-then (Apart true) (Ok true) any_reason (suspend_where (send_refusal v u) v) _
-        (where-fine (Apart true) (Ok true) any_reason (λ j. is_some (send_refusal v u j)) (Make (Suspend v false)) (λ w k so. ((tt, tt, refl), λ f. global-stays w (Suspend v false) f refl k))) (sent-comes volumes)) (alone-comes true volumes))
+  collided : (u : ℕ) (volumes : List ℕ) (w : World) → Between w → Apart true w → Along w (send_first volumes v u t ++ land_alone volumes n v t) → WindowAlong Fin None w (send_first volumes v u t ++ land_alone volumes n v t)
+  collided u volumes = window-apart true _ (fine-append (Apart true) (Ok true) any_reason (send_first volumes v u t) (land_alone volumes n v t)
+      (first-comes (Apart true) (Ok true) any_reason (keep-ok true) (note-ok true) v u t (λ w k. ((tt, tt, refl), λ f. global-stays w (Suspend v false) f refl k))
+      (λ w k. ((λ locked. global-unlocked (fields_at w.control v) k locked, tt, refl), λ f. global-stays w (Store u t v (is_last (fields_at w.control v) t)) f refl k))
+      (λ w k. ((λ locked. global-unlocked (fields_at w.control v) k locked, refl, refl), λ f. global-stays w (Strike v t (is_last (fields_at w.control v) t)) f refl k)) volumes) (alone-comes true volumes))
 
   -- it is stored on the secondary, and the track is out of sync until it has landed
   record Both (tag : Option ℕ) (w : World) : Type 0 where
@@ -239,23 +226,93 @@ module _ (p : Pending) (Fin : Option ℕ → World → Option Refusal → Type 0
           out = λ j is. let e : n ≡ j = cc in (sym e, ap (λ (y : Volume). contains y.fields.out_of_sync t) (at_other w.control.volume u (row w m f) v (λ e. (k.within.sound.rows.parts.secondary v u one.0.allowed.sends).apart (ap (λ j. (w.control.volume j).server) e))) ∙ one.0.allowed.out);
         }) (one.1 f z.sound) lands-both)
 
-    -- the track is out of sync, and the targets of u keep it first
-    mirrored : (w : World) → Between w → Runs w v → is_suspended (fields_at w.control v).primary_state ≡ false → One w → Along w (land_mirrored volumes n v t u) → WindowAlong Fin None w (land_mirrored volumes n v t u)
-    mirrored w k on going waiting al =
+    -- the targets of u keep it first
+    stores : (w : World) → Both None w → Along w (mirror_and_land volumes n v t u) → WindowAlong Fin None w (mirror_and_land volumes n v t u)
+    stores w k al =
+        let joined : mirror_and_land volumes n v t u ≡ copy_first volumes u t ++ (now (Mirror u t v n) ∷ behind) = append_assoc (copy_first volumes u t) (now (Mirror u t v n) ∷ copy_first volumes v t) (now (LandBoth n v t) ∷ []) in
+        subst (WindowAlong Fin None w) (sym joined) (window-copies Fin None (Both None) (λ w k. k.within.sound) (good-both None) (both-keeps None) u t volumes (now (Mirror u t v n) ∷ behind) w k (subst (Along w) joined al) mirrors)
+
+    -- the track is out of sync
+    unsyncs : (w : World) → Between w → Runs w v → is_suspended (fields_at w.control v).primary_state ≡ false → One w → (more : List Entry) → ((f : Option Fuse) → Both None (done w (Unsync v t) f) → Along (done w (Unsync v t) f) more → WindowAlong Fin None (done w (Unsync v t) f) more)
+        → Along w (now (Unsync v t) ∷ more) → WindowAlong Fin None w (now (Unsync v t) ∷ more)
+    unsyncs w k on going waiting more go al =
         let m : Move = Unsync v t in
-        let rest : List Entry = (copy_first volumes u t ++ (now (Mirror u t v n) ∷ copy_first volumes v t)) ++ (now (LandBoth n v t) ∷ []) in
-        let joined : rest ≡ copy_first volumes u t ++ (now (Mirror u t v n) ∷ behind) = append_assoc (copy_first volumes u t) (now (Mirror u t v n) ∷ copy_first volumes v t) (now (LandBoth n v t) ∷ []) in
-        let one = comes w (now m) rest (Do (Make m)) refl al in
-        window-within v t Fin stops None w (within-between v t w k) (now m) m rest refl (good-none w k.sound.rows k.in_sync.fresh k.sound.queue.lone) one.0 tt (k.in_sync.clean v (waits w k.sound p waiting).defined on)
+        let one = comes w (now m) more (Do (Make m)) refl al in
+        window-within v t Fin stops None w (within-between v t w k) (now m) m more refl (good-none w k.sound.rows k.in_sync.fresh k.sound.queue.lone) one.0 tt (k.in_sync.clean v (waits w k.sound p waiting).defined on)
         (λ there runs h q other. insert_other (fields_at w.control v).out_of_sync t q (λ e. absurd (other refl e)) ∙ k.in_sync.clean v there runs h q)
-        (λ f z. subst (WindowAlong Fin None (done w m f)) (sym joined)
-        (window-copies Fin None (Both None) (λ w k. k.within.sound) (good-both None) (both-keeps None) u t volumes (now (Mirror u t v n) ∷ behind) (done w m f) (record {
+        (λ f z. go f (record {
           within = z;
           on = runs-done w m f v on;
           going = part-same w m f (λ (g : Fields). is_suspended g.primary_state) refl v ∙ going;
           one = waiting;
           out = λ j is. absurd cc;
-        }) (subst (Along (done w m f)) joined (one.1 f z.sound)) mirrors))
+        }) (one.1 f z.sound))
+
+    -- u is cascaded, and sends on first what the track was
+    module _ (c : ℕ) (ne : v ≢ u) where
+      record Feeds (w : World) : Type 0 where
+        on : Runs w v
+        going : is_suspended (fields_at w.control v).primary_state ≡ false
+        one : One w
+        global : is_kind Global (fields_at w.control u).primary ≡ true
+
+      feeds-by : (w : World) (m : Move) (f : Option Fuse) → (next_of w m).primary ≡ (fields_at w.control (target m)).primary → is_suspended (fields_at (done w m f).control v).primary_state ≡ false → (done w m f).control.pending ≡ w.control.pending → Feeds w → Feeds (done w m f)
+      feeds-by w m f primary going pending x = record {
+        on = runs-done w m f v x.on;
+        going = going;
+        one = ap (filter (is_write n)) pending ∙ x.one;
+        global = part-same w m f (λ (g : Fields). is_kind Global g.primary) (ap (is_kind Global) primary) u ∙ x.global;
+      }
+
+      elsewhere : (w : World) (m : Move) (f : Option Fuse) → (next_of w m).primary_state ≡ (fields_at w.control (target m)).primary_state → Feeds w → is_suspended (fields_at (done w m f).control v).primary_state ≡ false
+      elsewhere w m f state x = ap is_suspended (part-same w m f (λ (g : Fields). g.primary_state) state v) ∙ x.going
+
+      -- what is done meanwhile
+      abbrev FeedsOk : World → Act → Type 0
+      FeedsOk w (Make m) = (Within v t w → May w m → WindowMay None w m × LeavesOneOut w m × Here v t w m) × (tag_after m None ≡ None) × ((f : Option Fuse) → Feeds (done w m f))
+      FeedsOk w a = ⊥
+
+      abbrev Never : Refusal → Type 0
+      Never r = ⊥
+
+      sent-first : AllFine Feeds FeedsOk Never (send_first volumes u c t)
+      sent-first = first-comes Feeds FeedsOk Never
+          (λ x q w s. (λ k may. (tt, tt, λ there runs. k.in_sync.clean x there runs), refl, λ f. feeds-by w (Keep x q) f refl (elsewhere w (Keep x q) f refl s) refl s))
+          (λ x q w s. (λ k may. (tt, tt, λ there runs. k.in_sync.clean x there runs), refl, λ f. feeds-by w (Note x q) f refl (elsewhere w (Note x q) f refl s) refl s)) u c t
+          (λ w s. (
+            λ k may. (tt, tt, λ there runs h q other. let no : false ≡ true = (and_parts (is_metro (fields_at w.control u).primary) false h).1 in absurd cc),
+            refl,
+            λ f. feeds-by w (Suspend u false) f refl (ap (λ (y : Volume). is_suspended y.fields.primary_state) (at_other w.control.volume u (row w (Suspend u false) f) v ne) ∙ s.going) refl s,
+          ))
+          (λ w s. let m : Move = Store c t u (is_last (fields_at w.control u) t) in
+          (λ k may. (λ locked. global-unlocked (fields_at w.control u) s.global locked, tt, λ d r h. false_true (unheld w k.sound.rows m (come w m may)) (and_parts (is_metro (fields_at w.control c).primary) _ h).0), refl, λ f. feeds-by w m f refl (elsewhere w m f refl s) refl s))
+          (λ w s. let m : Move = Strike u t (is_last (fields_at w.control u) t) in (
+            λ k may. (λ locked. global-unlocked (fields_at w.control u) s.global locked, refl, λ d r h. absurd (not-metro (fields_at w.control u).primary s.global (and_parts (is_metro (fields_at w.control u).primary) _ h).0)),
+            refl,
+            λ f. feeds-by w m f refl (ap (λ (y : Volume). is_suspended y.fields.primary_state) (at_other w.control.volume u (row w m f) v ne) ∙ s.going) refl s,
+          )) volumes
+
+      abbrev after : List Entry
+      after = mirror_and_land volumes n v t u
+
+      good-within : (w : World) → Within v t w → Good None w
+      good-within w k = good-none w k.sound.rows k.in_sync.fresh k.sound.queue.lone
+
+      feeds-next : (w : World) (d : Entry) (x : Next) (ds : List Entry) → d w.control ≡ x → ((z : World) → Within v t z → Feeds z → AllFine Feeds FeedsOk Never ds → Along z (ds ++ after) → WindowAlong Fin None z (ds ++ after)) → Within v t w → Feeds w → FineThen Feeds FeedsOk Never w x (AllFine Feeds FeedsOk Never ds)
+          → Along w (d ∷ ds ++ after) → WindowAlong Fin None w (d ∷ ds ++ after)
+      feeds-next w d Pass ds is rest k j fine al = window-entry Fin None w d (ds ++ after) Pass is (good-within w k) (rest w k j fine (comes w d (ds ++ after) Pass is al))
+      feeds-next w d (Do (Make m)) ds is rest k j fine al =
+          let one = comes w d (ds ++ after) (Do (Make m)) is al in
+          let ok = fine.0.0 k one.0 in
+          window-within v t Fin stops None w k d m (ds ++ after) is (good-within w k) one.0 ok.0 ok.1 ok.2
+          (λ f z. subst (λ tag. WindowAlong Fin tag (done w m f) (ds ++ after)) (sym fine.0.1) (rest (done w m f) z (fine.0.2 f) fine.1 (one.1 f z.sound)))
+      feeds-next w d (Do a) ds is rest k j fine al = absurd fine.0
+      feeds-next w d (End r) ds is rest k j fine al = absurd fine
+
+      feeds-all : (ds : List Entry) (w : World) → Within v t w → Feeds w → AllFine Feeds FeedsOk Never ds → Along w (ds ++ after) → WindowAlong Fin None w (ds ++ after)
+      unfolding AllFine
+      feeds-all [] w k x fine al = stores w (record { within = k; on = x.on; going = x.going; one = x.one; out = λ j is. absurd cc }) al
+      feeds-all (d ∷ ds) w k x fine al = feeds-next w d (d w.control) ds refl (feeds-all ds) k x (fine w x) al
 
   -- whichever it is
   module _ (w : World) (k : Between w) (one : One w) (on : Runs w v) where
@@ -282,10 +339,27 @@ module _ (p : Pending) (Fin : Option ℕ → World → Option Refusal → Type 0
         let first = comes w (now m) (left busy) (Do (Make m)) refl al in
         window-move Fin fin w k (now m) m (left busy) refl first.0 tt tt refl (λ h z. parted-by h z not_busy busy refl (first.1 h z.sound))
 
-    over-by : f.long_busy ≡ false → is_suspended f.primary_state ≡ false → (b : Bool) → Along w (cond b (land_parted w.control n v t) (land_mirrored w.control.volumes n v t (partner_of w.control v)))
-        → WindowAlong Fin None w (cond b (land_parted w.control n v t) (land_mirrored w.control.volumes n v t (partner_of w.control v)))
-    over-by not_busy going true al = parted not_busy al
-    over-by not_busy going false al = mirrored w.control.volumes (partner_of w.control v) w k on going one al
+    abbrev u : ℕ
+    u = partner_of w.control v
+
+    abbrev c : ℕ
+    c = partner_of w.control u
+
+    abbrev over : Bool → Bool → Bool → List Entry
+    over b h d = cond b (land_parted w.control n v t) (cond h [] (cond d (land_fed w.control.volumes n v t u c) (land_mirrored w.control.volumes n v t u)))
+
+    over-by : is_part f.primary ≡ true → f.long_busy ≡ false → is_suspended f.primary_state ≡ false → (b h d : Bool) → is_cascaded (fields_at w.control u) ≡ d → Along w (over b h d) → WindowAlong Fin None w (over b h d)
+    over-by leads not_busy going true h d is al = parted not_busy al
+    over-by leads not_busy going false true d is al = window-nil Fin None w (good-none w k.sound.rows k.in_sync.fresh k.sound.queue.lone) (fin w None k)
+    over-by leads not_busy going false false true is al =
+        let volumes : List ℕ = w.control.volumes in
+        let parts = and_parts (is_part (fields_at w.control u).primary) _ is in
+        let to : secondary_of f ≡ Some u = choose_some (is_part f.primary) f.primary_partner leads in
+        let ne : v ≢ u = λ e. (k.sound.rows.parts.secondary v u to).apart (ap (λ j. (w.control.volume j).server) e) in
+        unsyncs volumes u w k on going one (send_first volumes u c t ++ mirror_and_land volumes n v t u)
+        (λ h b al. feeds-all volumes u c ne (send_first volumes u c t) (done w (Unsync v t) h) b.within
+        (record { on = b.on; going = b.going; one = b.one; global = part-same w (Unsync v t) h (λ (g : Fields). is_kind Global g.primary) refl u ∙ ((k.sound.rows.parts.fit u).both parts.0 parts.1).sends }) (sent-first volumes u c ne) al) al
+    over-by leads not_busy going false false false is al = unsyncs w.control.volumes u w k on going one (mirror_and_land w.control.volumes n v t u) (λ h b al. stores w.control.volumes u (done w (Unsync v t) h) b al) al
 
     -- where it doesn't go over, it isn't Full Duplex: its tracks would be in sync
     not-synced : goes_over f t ≡ false → is_synced f ≡ false
@@ -305,7 +379,7 @@ module _ (p : Pending) (Fin : Option ℕ → World → Option Refusal → Type 0
     window-ways true g c hs gs cs al = window-nil Fin None w (good-none w k.sound.rows k.in_sync.fresh k.sound.queue.lone) (fin w None k)
     window-ways false true c hs gs cs al =
         let both = and_parts (is_metro f.primary) _ gs in
-        over-by (not-busy f hs) (not-true (is_suspended f.primary_state) (and_parts (not (is_suspended f.primary_state)) _ both.1).0) (is_parted w.control v) al
+        over-by (metro-part f.primary both.0) (not-busy f hs) (not-true (is_suspended f.primary_state) (and_parts (not (is_suspended f.primary_state)) _ both.1).0) (is_parted w.control v) (is_held_back w.control v) (is_cascaded (fields_at w.control u)) refl al
     window-ways false false true hs gs cs al = collided (partner_of w.control v) w.control.volumes w k (and_parts (is_kind Global f.primary) _ cs).0 al
     window-ways false false false hs gs cs al = alone w.control.volumes w k (not-synced gs, locked-busy f (not-busy f hs) (not-synced gs)) al
 
@@ -324,8 +398,8 @@ module _ (q : Plan) (p : Pending) (k0 : Control) (follows : q.follows ≡ after_
   Fins = PlanFin Between good-between answers-between q
 
   stops : (u : World) (s : ℕ) → Within p.volume p.track u → StopFin Fins u s u
-  stops u s k n = subst (λ (g : ℕ → List Entry). WindowAlong (EndFin Between good-between answers-between) None u (g n)) (sym follows)
-      (after-any (WindowAlong (EndFin Between good-between answers-between) None u) k0 p.w p.volume p.track n (window-after p.volume p.track u k n) (window-part p.volume p.track u k n))
+  stops u s k n = subst (λ (g : ℕ → List Entry). FollowHolds u (g n)) (sym follows)
+      (after-any k0 p.w p.volume p.track (FollowHolds u) n (window-after p.volume p.track u k) (window-part p.volume p.track u k) (λ fed. window-both p.volume p.track (partner_of k0 p.volume) u k))
 
   fins : (u : World) (r : Option Refusal) → Between u → Fins None u r
   fins u None b = subst (λ (g : Control → Control). Between (record u { control = g u.control })) (sym last) b

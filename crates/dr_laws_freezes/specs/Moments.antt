@@ -24,9 +24,14 @@ unfoldable pub worlds : World → List Entry → List World
 worlds w [] = []
 worlds w (d ∷ ds) = on_next w (d w.control) (λ v. worlds v ds)
 
+-- those of entries that come one by one, whether a server stopped in the one before or not
+unfoldable pub worlds_each : World → List Entry → List World
+worlds_each w [] = []
+worlds_each w (d ∷ ds) = worlds w (d ∷ []) ++ worlds_each (carry w (d ∷ [])).0 ds
+
 -- those of what follows the stop of a server
 abbrev pub worlds_after : World → Option Refusal → List Entry → List World
-worlds_after w (Some (Stopped s)) follows = worlds w follows
+worlds_after w (Some (Stopped s)) follows = worlds_each w follows
 worlds_after w _ follows = []
 
 -- a plan: as it begins, and after each act

@@ -1,6 +1,6 @@
 -- What each step comes to looks at no fuse: its entries, what follows a stop, the tables as it ends and its answer. As it begins, only a line that arms a fuse and the start
 -- of a server change one.
-use Rattle.std.proofs.Common.{ℕ, ◌≡◌, refl, ap, sym, subst, Bool, true, false, List, [], ◌∷◌, map, Option, Some, None, Result, ◌+◌}
+use Rattle.std.proofs.Common.{ℕ, ◌≡◌, refl, ap, sym, subst, Bool, true, false, List, [], ◌∷◌, map, Option, Some, None, Result, ◌+◌, cond}
 use Rattle.dr_ids.specs.declared.names.Member.{Member}
 use Rattle.dr_ids.specs.declared.refusal.Decision.{Decision}
 use Rattle.dr_ids.specs.declared.refusal.Kind.TheVariants.{Server as OfServer}
@@ -22,10 +22,10 @@ use Rattle.dr_model.specs.Sessions.{changed, with_master}
 use Rattle.dr_model.specs.Messages.{Message, heard, answered}
 use Rattle.dr_model.specs.MessagePlans.{replying}
 use Rattle.dr_model.specs.RecoveryPlans.{decided_in, says_recovered}
-use Rattle.dr_model.specs.Plans.{Plan, same, entries_plan, tables_plan, at_most, left_to_copy, copy_one, is_owner, yield_refusal, member_from, restores_refusal}
+use Rattle.dr_model.specs.Plans.{Plan, same, entries_plan, cascades, cascade_refusal, tables_plan, at_most, left_to_copy, copy_one, is_owner, yield_refusal, member_from, restores_refusal}
 use Rattle.dr_laws_sound.proofs.Cases.{Case, Says, DefinesServer, DefinesVolume, SetsLink, Issues, Writes, Applies, Lists, Shows, Stops, Arms, Starts, MakesFlash, RemovesFlash, ResyncsFlash, ReversesFlash, Copies, Destages, MakesPath, RemovesPath, MakesPair, RemovesPair, PausesPair, ResumesPair, FailsOver, FailsBack, Compares, Drains, Expires, Freezes, Unfreezes, Releases, MakesSession, RemovesSession, MakesMirror, PausesMirror, RemovesMirror, Aborts, AddsMember, RemovesMember, Exchanges, Sends, Delivers, TakesReply, Loses, Recovers, Settles}
 use Rattle.dr_laws_fuses.specs.Fuses.{fuse_changed}
-use Rattle.dr_laws_fuses.proofs.Blind.{fused, Blind, Blinds, blind-append, blind-map, blind-times, blind-if, blind-landing, blind-after, blind-sends, blind-copied, blind-hold, blind-destage, blind-order, blind-settle, blind-recover}
+use Rattle.dr_laws_fuses.proofs.Blind.{fused, Blind, Blinds, blind-append, blind-map, blind-times, blind-if, blind-landing, blind-after, blind-drain, blind-drained, blind-copied, blind-hold, blind-destage, blind-order, blind-settle, blind-recover}
 
 -- tables that differ in fuses alone
 pub record TablesAlike (R : ℕ → Option Fuse → Option Fuse → Type 0) (j k : Control) : Type 0 where
@@ -106,14 +106,27 @@ module _ (R : ℕ → Option Fuse → Option Fuse → Type 0) (k : Control) (g :
   case-blind events line _ _ other (Destages v) = acts _ _ ((λ k g. refl), ((λ k g. refl), blind-destage (k.volume v).staged v))
   case-blind events line _ _ other (MakesPath src tgt group) = tables _ _ _ refl refl
   case-blind events line _ _ other (RemovesPath src tgt) = tables _ _ _ refl refl
-  case-blind events line _ _ other (MakesPair devs a b kind choices part) = acts _ _ ((λ k g. refl), ((λ k g. refl), (owner devs.dev a, (owner devs.remotedev b, ((λ k g. refl), ((λ k g. refl), ((λ k g. refl), ((λ k g. refl), ((λ k g. refl), ((λ k g. refl), ((λ k g. refl), ((λ k g. refl), ((λ k g. refl), ((λ k g. refl), ((λ k g. refl), ((λ k g. refl), tt))))))))))))))))
+  case-blind events line _ _ other (MakesPair devs a b kind choices part) = acts _ _ (
+    (λ k g. refl),
+    (
+      (λ k g. refl),
+      (
+        owner devs.dev a,
+        (
+          owner devs.remotedev b,
+          blind-append (cond (cascades kind choices) (refuse_if (cascade_refusal a) ∷ []) []) _ (blind-if (cascades kind choices) _ _ ((λ k g. refl), tt) tt)
+              ((λ k g. refl), ((λ k g. refl), ((λ k g. refl), ((λ k g. refl), ((λ k g. refl), ((λ k g. refl), ((λ k g. refl), ((λ k g. refl), ((λ k g. refl), ((λ k g. refl), ((λ k g. refl), ((λ k g. refl), tt)))))))))))),
+        ),
+      ),
+    ),
+  )
   case-blind events line _ _ other (RemovesPair devs a b source_only) = acts _ _ ((λ k g. refl), ((λ k g. refl), (owner devs.dev a, (owner devs.remotedev b, ((λ k g. refl), ((λ k g. refl), ((λ k g. refl), blind-if source_only (now (DropPrimary a) ∷ []) (remove_both k a b) ((λ k g. refl), tt) ((λ k g. refl), ((λ k g. refl), ((λ k g. refl), ((λ k g. refl), tt)))))))))))
   case-blind events line _ _ other (PausesPair devs a b) = acts _ _ ((λ k g. refl), ((λ k g. refl), (owner devs.dev a, (owner devs.remotedev b, ((λ k g. refl), ((λ k g. refl), ((λ k g. refl), ((λ k g. refl), tt))))))))
   case-blind events line _ _ other (ResumesPair devs a b kind) = acts _ _ ((λ k g. refl), ((λ k g. refl), (owner devs.dev a, (owner devs.remotedev b, ((λ k g. refl), ((λ k g. refl), ((λ k g. refl), ((λ k g. refl), ((λ k g. refl), ((λ k g. refl), tt))))))))))
   case-blind events line _ _ other (FailsOver devs b a kind) = acts _ _ ((λ k g. refl), ((λ k g. refl), (owner devs.dev b, (owner devs.remotedev a, ((λ k g. refl), ((λ k g. refl), ((λ k g. refl), tt)))))))
-  case-blind events line _ _ other (FailsBack devs x y kind) = acts _ _ ((λ k g. refl), ((λ k g. refl), (owner devs.dev x, (owner devs.remotedev y, ((λ k g. refl), ((λ k g. refl), ((λ k g. refl), ((λ k g. refl), ((λ k g. refl), ((λ k g. refl), (yielding y, ((λ k g. refl), ((λ k g. refl), tt)))))))))))))
+  case-blind events line _ _ other (FailsBack devs x y kind) = acts _ _ ((λ k g. refl), ((λ k g. refl), (owner devs.dev x, (owner devs.remotedev y, ((λ k g. refl), ((λ k g. refl), ((λ k g. refl), ((λ k g. refl), ((λ k g. refl), ((λ k g. refl), ((λ k g. refl), ((λ k g. refl), (yielding y, ((λ k g. refl), ((λ k g. refl), tt)))))))))))))))
   case-blind events line _ _ other (Compares contents v u) = acts _ _ ((λ k g. refl), ((λ k g. refl), ((λ k g. refl), ((λ k g. refl), ((λ k g. refl), ((λ k g. refl), tt))))))
-  case-blind events line _ _ other (Drains a most) = record { first = record { fuse = g; is = refl; fuses = all }; entries = ((λ k g. refl), ((λ k g. refl), ((λ k g. refl), blind-sends k.volumes a _ (tracks_to_send most (k.volume a).tracks (fields_at k a).out_of_sync)))); follows = λ s. ((λ k g. refl), tt); last = λ j h. refl; says = λ j h. refl }
+  case-blind events line _ _ other (Drains a most) = record { first = record { fuse = g; is = refl; fuses = all }; entries = ((λ k g. refl), ((λ k g. refl), ((λ k g. refl), blind-drain k a (tracks_to_send most (k.volume a).tracks (fields_at k a).out_of_sync)))); follows = blind-drained k a (tracks_to_send most (k.volume a).tracks (fields_at k a).out_of_sync); last = λ j h. refl; says = λ j h. refl }
   case-blind events line _ _ other (Expires s on) = acts _ _ (blind-map (lift_on s) k.volumes (λ v k g. refl))
   case-blind events line _ _ other (Freezes l m) = acts _ _ (blind-append (map (freeze_on l m) k.volumes) _ (blind-map (freeze_on l m) k.volumes (λ v k g. refl)) ((λ k g. refl), tt))
   case-blind events line _ _ other (Unfreezes l m) = acts _ _ (blind-append (map (thaw_on l m) k.volumes) _ (blind-map (thaw_on l m) k.volumes (λ v k g. refl)) ((λ k g. refl), tt))

@@ -29,7 +29,7 @@ use Rattle.dr_model.specs.PlantImage.{Volume as Listed}
 use Rattle.dr_model.specs.Limits.{image_events}
 use Rattle.dr_model.specs.Control.{Control, Fuse, Volume, World, is_volume, new_volume}
 use Rattle.dr_model.specs.Moves.{Move, Hold, target}
-use Rattle.dr_model.specs.Carry.{Act, Make, OpenAttempt, Redo, Acknowledge, Drop, EndFreeze, EndThaw, EndRecovery, Turn, Next, Pass, Do, End, Entry, Outcome, act, turn, redo, redo_ended, attempt_begun, burnt, lower, pass, counts, counts_by, gate_at, continue, go, carry, follow, opened_by, equal, spent, off, acknowledged, dropped, frozen, thawed, recovered}
+use Rattle.dr_model.specs.Carry.{Act, Make, OpenAttempt, Redo, Acknowledge, Drop, EndFreeze, EndThaw, EndRecovery, Turn, Next, Pass, Do, End, Entry, Outcome, act, turn, redo, redo_ended, attempt_begun, burnt, lower, pass, counts, counts_by, gate_at, continue, go, carry, follow, opened_by, equal, spent, off, acknowledged, dropped, frozen, thawed, recovered, carry_each}
 use Rattle.dr_model.specs.PlanParts.{only_says}
 use Rattle.dr_model.specs.Plans.{Plan, plan, refuses, on_named, server_named, name_bytes, has_room, has_room_for, start_on, start_plan, arm_on, fuse_at_start}
 use Rattle.dr_model.specs.Carried.{begun, finish, carried_out, after_plan, stop_place}
@@ -190,8 +190,12 @@ module _ (s : ℕ) (base : World) where
   carry-keeps w [] k = k
   carry-keeps w (d ∷ ds) k = go-keeps w (d w.control) (λ v. carry v ds) k (λ v k. carry-keeps v ds k)
 
+  each-keeps : (w : World) (ds : List Entry) → Keeps w → Keeps (carry_each w ds)
+  each-keeps w [] k = k
+  each-keeps w (d ∷ ds) k = each-keeps (carry w (d ∷ [])).0 ds (carry-keeps w (d ∷ []) k)
+
   follow-keeps : (w : World) (r : Refusal) (follows : List Entry) → Keeps w → Keeps (follow w r follows)
-  follow-keeps w (StoppedIn q) follows k = carry-keeps w follows k
+  follow-keeps w (StoppedIn q) follows k = each-keeps w follows k
   follow-keeps w r follows k = k
 
   -- ---- plans

@@ -22,7 +22,7 @@ use Rattle.dr_model.specs.Limits.{image_events}
 use Rattle.dr_model.specs.Answers.{answer}
 use Rattle.dr_model.specs.Control.{Control, Fuse, Volume, World, nothing}
 use Rattle.dr_model.specs.Moves.{Move, Hold, target, told, told_in_stop, landed}
-use Rattle.dr_model.specs.Carry.{Act, Make, OpenAttempt, Redo, Acknowledge, Drop, EndFreeze, EndThaw, EndRecovery, Turn, Next, Pass, Do, End, Entry, Outcome, act, continue, go, carry, follow}
+use Rattle.dr_model.specs.Carry.{Act, Make, OpenAttempt, Redo, Acknowledge, Drop, EndFreeze, EndThaw, EndRecovery, Turn, Next, Pass, Do, End, Entry, Outcome, act, continue, go, carry, follow, carry_each}
 use Rattle.dr_model.specs.Phases as phases
 use Rattle.dr_model.specs.SessionPlans.{exchanged, is_idle}
 use Rattle.dr_model.specs.SessionEntries.{members_on}
@@ -127,8 +127,12 @@ unfolding carry
 carry-unnamed w [] = unnamed-same w
 carry-unnamed w (d ∷ ds) = go-unnamed w (d w.control) (λ v. carry v ds) (λ v. carry-unnamed v ds)
 
+each-unnamed : (w : World) (ds : List Entry) → Unnamed w (carry_each w ds)
+each-unnamed w [] = unnamed-same w
+each-unnamed w (d ∷ ds) = unnamed-then w (carry w (d ∷ [])).0 _ (carry-unnamed w (d ∷ [])) (each-unnamed (carry w (d ∷ [])).0 ds)
+
 follow-unnamed : (w : World) (r : Refusal) (follows : List Entry) → Unnamed w (follow w r follows)
-follow-unnamed w (StoppedIn s) follows = carry-unnamed w follows
+follow-unnamed w (StoppedIn s) follows = each-unnamed w follows
 follow-unnamed w r follows = unnamed-same w
 
 -- ---- the journal gives each server its name

@@ -7,7 +7,7 @@ use Rattle.dr_ids.specs.declared.refusal.Refusal.TheVariants.{Stopped as Stopped
 use Rattle.dr_model.specs.Refusals.{stopped}
 use Rattle.dr_model.specs.declared.event.Event.{Event}
 use Rattle.dr_model.specs.Control.{Control, Fuse, World}
-use Rattle.dr_model.specs.Carry.{Next, Pass, Do, End, Entry, Turn, Outcome, act, continue, go, carry, follow, stopped_turn, stopped_next, stopped_at}
+use Rattle.dr_model.specs.Carry.{Next, Pass, Do, End, Entry, Turn, Outcome, act, continue, go, carry, follow, stopped_turn, stopped_next, stopped_at, carry_each}
 use Rattle.dr_model.specs.PlanParts.{Plan}
 use Rattle.dr_model.specs.Carried.{begun, finish, carried_out, stop_place}
 use Rattle.dr_laws_sound.specs.Stops.{first_stop, StopsTold}
@@ -89,8 +89,12 @@ unfolding carry
 carry-on w [] = goes-same w.events
 carry-on w (d ∷ ds) = go-on w (d w.control) (λ v. carry v ds) (λ v. carry-on v ds)
 
+each-on : (w : World) (ds : List Entry) → GoesOn w.events (carry_each w ds).events
+each-on w [] = goes-same w.events
+each-on w (d ∷ ds) = goes-then _ _ _ (carry-on w (d ∷ [])) (each-on (carry w (d ∷ [])).0 ds)
+
 pub follow-on : (w : World) (r : Refusal) (follows : List Entry) → GoesOn w.events (follow w r follows).events
-follow-on w (StoppedIn s) follows = carry-on w follows
+follow-on w (StoppedIn s) follows = each-on w follows
 follow-on w r follows = goes-same w.events
 
 pub finish-on : (p : Plan) (n : ℕ) (w : World) (r : Option Refusal) → GoesOn w.events (finish p n w r).events
@@ -180,12 +184,20 @@ module _ (R : ℕ → Option Fuse → Option Fuse → Type 0) (M : ℕ → Type 
 
   -- ---- a plan
 
-  follow-alike : (w : World) (g : ℕ → Option Fuse) (r : Refusal) (follows : List Entry) → Fuses w g → Blinds follows → Alike w (follow w r follows, Some r) (follow (with_fuses w g) r follows, Some r)
-  follow-alike w g (StoppedIn s) follows all blind = by (carry-alike w g follows all blind)
+  each-alike : (w : World) (g : ℕ → Option Fuse) (r : Refusal) (ds : List Entry) → Fuses w g → Blinds ds → Alike w (carry_each w ds, Some r) (carry_each (with_fuses w g) ds, Some r)
+  each-alike w g r [] all blind = inl (record { fuse = g; is = refl; fuses = all })
+  each-alike w g r (d ∷ ds) all blind = by (carry w (d ∷ [])) (carry (with_fuses w g) (d ∷ [])) (carry-on w (d ∷ [])) (carry-alike w g (d ∷ []) all (blind.0, tt)) (λ v h fuses. each-alike v h r ds fuses blind.1)
     where
-      by : Alike w (carry w follows) (carry (with_fuses w g) follows) → Alike w ((carry w follows).0, Some (StoppedIn s)) ((carry (with_fuses w g) follows).0, Some (StoppedIn s))
-      by (inl same) = inl (record { fuse = same.fuse; is = ap (λ (o : Outcome). (o.0, Some (StoppedIn s))) same.is; fuses = same.fuses })
-      by (inr parted) = inr parted
+      by : (o q : Outcome) → GoesOn w.events o.0.events → Alike w o q → ((v : World) (h : ℕ → Option Fuse) → Fuses v h → Alike v (carry_each v ds, Some r) (carry_each (with_fuses v h) ds, Some r)) → Alike w (carry_each o.0 ds, Some r) (carry_each q.0 ds, Some r)
+      by o q on (inl same) rest = subst (λ x. Alike w (carry_each o.0 ds, Some r) (carry_each x.0 ds, Some r)) (sym same.is) (further (rest o.0 same.fuse same.fuses))
+        where
+          further : Alike o.0 (carry_each o.0 ds, Some r) (carry_each (with_fuses o.0 same.fuse) ds, Some r) → Alike w (carry_each o.0 ds, Some r) (carry_each (with_fuses o.0 same.fuse) ds, Some r)
+          further (inl one) = inl one
+          further (inr parted) = inr (parted-from M w.events o.0.events _ _ on parted)
+      by o q on (inr parted) rest = inr (parted-on M w.events _ _ _ _ parted (each-on o.0 ds) (each-on q.0 ds))
+
+  follow-alike : (w : World) (g : ℕ → Option Fuse) (r : Refusal) (follows : List Entry) → Fuses w g → Blinds follows → Alike w (follow w r follows, Some r) (follow (with_fuses w g) r follows, Some r)
+  follow-alike w g (StoppedIn s) follows all blind = each-alike w g (StoppedIn s) follows all blind
   follow-alike w g r follows all blind = inl (record { fuse = g; is = refl; fuses = all })
 
   module _ (w : World) (g : ℕ → Option Fuse) (p : Plan) (blind : PlanBlind R w.control g p) where

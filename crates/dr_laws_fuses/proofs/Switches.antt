@@ -11,7 +11,7 @@ use Rattle.dr_logic.specs.Tables.{at}
 use Rattle.dr_logic.proofs.Tables.{at_same, at_other}
 use Rattle.dr_logic.proofs.Truth.{false_true}
 use Rattle.dr_facts.proofs.Emits.{Of, Lists, by_moves, any-lists, all-told, all-stop}
-use Rattle.dr_facts.proofs.Entries.{any_world, any_reason, AllFine, Fine, fine-append, fine-flat, fine-none, fine-then, fine-one, plan-kept}
+use Rattle.dr_facts.proofs.Entries.{any_world, any_reason, AllFine, Fine, fine-append, fine-flat, fine-then, fine-one, plan-kept}
 use Rattle.dr_model.specs.declared.event.Event.{Event}
 use Rattle.dr_model.specs.declared.event.Event.TheVariants.{Ack, Started, Stopped}
 use Rattle.dr_model.specs.declared.said.Said.{Said}
@@ -173,7 +173,7 @@ module _ (s : ℕ) where
 
     start-kept : (w : World) → Untold w (carried_out w (start_plan w.control q)).0
     start-kept w = plan-kept any_world Quiet any_reason (Untold w) (λ v j. tt) (λ v a quiet j. untold-then w v (act v a).0 j (act-quiet v a quiet)) w (start_plan w.control q)
-        (record { told = Started q ∷ []; is = refl; none = refl }) (starts w.control.volumes) (λ q. fine-none any_world Quiet any_reason) (λ v j. j)
+        (record { told = Started q ∷ []; is = refl; none = refl }) (starts w.control.volumes) (λ q. tt) (λ v j. j)
 
   -- a step that starts another server
   module _ (w : World) (line : ℕ) where

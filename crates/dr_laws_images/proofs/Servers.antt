@@ -15,7 +15,7 @@ use Rattle.dr_model.specs.Refusals.{duplicate}
 use Rattle.dr_model.specs.Control.{Control, Fuse, Volume, World, new_volume, is_volume, nothing}
 use Rattle.dr_model.specs.Entries.{subsystem, first_of}
 use Rattle.dr_model.specs.Moves.{target}
-use Rattle.dr_model.specs.Carry.{Act, Make, OpenAttempt, Redo, Acknowledge, Drop, EndFreeze, EndThaw, EndRecovery, act, Next, Pass, Do, End, Entry, Outcome, carry, continue, go, follow}
+use Rattle.dr_model.specs.Carry.{Act, Make, OpenAttempt, Redo, Acknowledge, Drop, EndFreeze, EndThaw, EndRecovery, act, Next, Pass, Do, End, Entry, Outcome, carry, continue, go, follow, carry_each}
 use Rattle.dr_model.specs.Plans.{Plan, same, volume_refusal, volume_done, is_foreign}
 use Rattle.dr_model.specs.Forming.{Part}
 use Rattle.dr_model.specs.Runs.{Task, course, begun, finish, carried_out, after_plan, after_task, after_tasks, run, stop_place}
@@ -83,8 +83,12 @@ unfolding carry
 carry-one w [] one = one
 carry-one w (d ∷ ds) one = go-one w (d w.control) (λ v. carry v ds) (λ v. carry-one v ds) one
 
+each-one : (w : World) (ds : List Entry) → One w → One (carry_each w ds)
+each-one w [] one = one
+each-one w (d ∷ ds) one = each-one (carry w (d ∷ [])).0 ds (carry-one w (d ∷ []) one)
+
 follow-one : (w : World) (r : Refusal) (follows : List Entry) → One w → One (follow w r follows)
-follow-one w (StoppedIn s) follows one = carry-one w follows one
+follow-one w (StoppedIn s) follows one = each-one w follows one
 follow-one w r follows one = one
 
 -- ---- a volume that is defined is on the server of its subsystem

@@ -4,7 +4,7 @@ use Rattle.std.specs.Prelude.{is_some}
 use Rattle.dr_ids.specs.declared.names.Member.{Member}
 use Rattle.dr_ids.specs.declared.refusal.PhaseName.{PhaseName}
 use Rattle.dr_ids.specs.declared.refusal.Refusal.{Refusal}
-use Rattle.dr_ids.specs.declared.refusal.Refusal.TheVariants.{OldMessage, Syntax, Unknown, Duplicate, Limit, ServerOff, LinkDown, Void, NotPrimary, Inhibited, PairState, RelationState, InSession, NotInSession, InFormation, OutOfOrder, Unsealed, Stale, Forbidden, NotIdentical, NumbersSpent, Stopped, NoGroup, JournalFull, NotBuilt}
+use Rattle.dr_ids.specs.declared.refusal.Refusal.TheVariants.{OldMessage, Syntax, Unknown, Duplicate, Limit, ServerOff, LinkDown, Void, NotPrimary, Inhibited, PairState, RelationState, InSession, NotInSession, InFormation, OutOfOrder, Unsealed, Stale, Forbidden, NotIdentical, NumbersSpent, Stopped, NoGroup, JournalFull, NotBuilt, Held as HeldBack}
 use Rattle.dr_facts.proofs.Reasons.{NoStop, names_no_stop}
 use Rattle.dr_facts.proofs.Entries.{any_world, from-ends}
 use Rattle.dr_laws_sound.proofs.Does.{Acts, Late}
@@ -212,6 +212,7 @@ other-code (Refused NumbersSpent) b = refl
 other-code (Refused (Stopped server)) b = refl
 other-code (Refused (NoGroup decision)) b = refl
 other-code (Refused JournalFull) b = refl
+other-code (Refused (HeldBack volume)) b = refl
 other-code (Refused NotBuilt) b = absurd cc
 
 -- the last event of some, and of some more with one behind

@@ -11,7 +11,7 @@ use Rattle.dr_model.specs.Answers.{answer}
 use Rattle.dr_model.specs.Limits.{image_events}
 use Rattle.dr_model.specs.Control.{Control, Fuse, Volume, World}
 use Rattle.dr_model.specs.Moves.{Hold, target, told, told_in_stop, landed}
-use Rattle.dr_model.specs.Carry.{Act, Make, OpenAttempt, Redo, Acknowledge, Drop, EndFreeze, EndThaw, EndRecovery, Next, Pass, Do, End, Entry, Outcome, act, carry, continue, go, follow}
+use Rattle.dr_model.specs.Carry.{Act, Make, OpenAttempt, Redo, Acknowledge, Drop, EndFreeze, EndThaw, EndRecovery, Next, Pass, Do, End, Entry, Outcome, act, carry, continue, go, follow, carry_each}
 use Rattle.dr_model.specs.PlanParts.{Plan, refuses}
 use Rattle.dr_model.specs.Plans.{has_room_for}
 use Rattle.dr_model.specs.Carried.{begun, finish, carried_out, answered, after_plan, stop_place}
@@ -82,8 +82,12 @@ unfolding carry
 carry-quietly w [] = quietly-same w
 carry-quietly w (d ∷ ds) = go-quietly w (d w.control) (λ v. carry v ds) (λ v. carry-quietly v ds)
 
+each-quietly : (w : World) (ds : List Entry) → Quietly w (carry_each w ds)
+each-quietly w [] = quietly-same w
+each-quietly w (d ∷ ds) = quietly-then w (carry w (d ∷ [])).0 _ (carry-quietly w (d ∷ [])) (each-quietly (carry w (d ∷ [])).0 ds)
+
 follow-quietly : (w : World) (r : Refusal) (follows : List Entry) → Quietly w (follow w r follows)
-follow-quietly w (StoppedIn s) follows = carry-quietly w follows
+follow-quietly w (StoppedIn s) follows = each-quietly w follows
 follow-quietly w r follows = quietly-same w
 
 finish-quietly : (p : Plan) (n : ℕ) (w : World) (r : Option Refusal) → Quietly w (finish p n w r)

@@ -25,7 +25,7 @@ use Rattle.dr_model.specs.PlantImage.{Kept, Volume}
 use Rattle.dr_model.specs.Carry.{Next, Pass, Do, End, Entry, carry, go, check, follow}
 use Rattle.dr_model.specs.PairEntries.{refuse_if, end_if, first_differing, make_entries}
 use Rattle.dr_model.specs.PlanParts.{Plan, unless, refuses, only_says, entries_plan, none_follow}
-use Rattle.dr_model.specs.Plans.{plan_of, has_room, has_room_for, issue_refusal, issue_done, write_done, show_refusal, show_done, found_volumes, compare_entries}
+use Rattle.dr_model.specs.Plans.{plan_of, has_room, has_room_for, issue_refusal, issue_done, write_done, show_refusal, show_done, found_volumes, compare_entries, cascades, cascade_refusal}
 use Rattle.dr_model.specs.Carried.{begun, finish, carried_out, answered, after_plan, masters_lost, stop_place}
 use Rattle.dr_model.specs.Forming.{Way, formed, form_said}
 use Rattle.dr_model.specs.Runs.{Task, compared, image_told, volume_told, blocks_told, image_plan, imaged, after_task}
@@ -191,11 +191,21 @@ module _ (u : ℕ) where
   compare-leaves : (k : Control) (contents : ℕ → ℕ → List ℕ) (v x : ℕ) → LeaveAll (compare_entries k contents v x)
   compare-leaves k contents v x = leave-check _ _ _ (leave-check _ _ _ (leave-check _ _ _ (leave-check _ _ _ (leave-check _ _ _ (leave-refuse _ _ leave-none)))))
 
-  pair-leaves : (k : Control) (devs : Devs) (x y : ℕ) (kind : Part) (full : Bool) (t : ℕ) → LeaveAll (found_volumes devs x y ++ make_entries k x y kind full (Some t))
-  pair-leaves k devs x y kind full t =
-      leave-check _ _ _ (leave-check _ _ _ (leave-check _ _ _ (leave-check _ _ _
-      (leave-check _ _ _ (leave-refuse _ _ (leave-check _ _ _ (leave-check _ _ _ (leave-check _ _ _ (leave-check _ _ _ (leave-check _ _ _ (leave-check _ _ _ (leave-check _ _ _
-      (leave-ended _ _ _ (λ k. refl))))))))))))))
+  -- those of a pair that is made
+  abbrev pair_entries : Control → Devs → ℕ → ℕ → Part → Bool → Bool → Option ℕ → List Entry
+  pair_entries k devs x y kind cascade full o = found_volumes devs x y ++ (cond cascade (refuse_if (cascade_refusal x) ∷ []) [] ++ make_entries k x y kind cascade full o)
+
+  pair-leaves : (k : Control) (devs : Devs) (x y : ℕ) (kind : Part) (cascade full : Bool) (t : ℕ) → LeaveAll (pair_entries k devs x y kind cascade full (Some t))
+  pair-leaves k devs x y kind cascade full t = leave-check _ _ _ (leave-check _ _ _ (leave-check _ _ _ (leave-check _ _ _ (held-by cascade))))
+    where
+      made : LeaveAll (make_entries k x y kind cascade full (Some t))
+      made =
+          leave-check _ _ _ (leave-refuse _ _ (leave-check _ _ _ (leave-check _ _ _ (leave-check _ _ _ (leave-check _ _ _ (leave-check _ _ _ (leave-check _ _ _ (leave-check _ _ _
+          (leave-ended _ _ _ (λ k. refl))))))))))
+
+      held-by : (c : Bool) → LeaveAll (cond c (refuse_if (cascade_refusal x) ∷ []) [] ++ make_entries k x y kind cascade full (Some t))
+      held-by true = leave-refuse _ _ made
+      held-by false = made
 
   module _ (w : World) (contents : ℕ → ℕ → List ℕ) (events : List Event) (e : AlikeEvents u w.events events) (line : ℕ) where
     abbrev k : Control
@@ -213,7 +223,7 @@ module _ (u : ℕ) where
     -- a pair that is made: where the volumes differ, the step is refused before it does anything
     module _ (listed : List Volume) (devs : Devs) (x y n : ℕ) (choices : PairChoices) (same : HoldsSame w (Ok (MakePair devs x y n choices))) where
       abbrev plan_by : Option ℕ → Plan
-      plan_by o = entries_plan (found_volumes devs x y ++ make_entries k x y (kind_of n) choices.full o) (Done Alone)
+      plan_by o = entries_plan (pair_entries k devs x y (kind_of n) (cascades (kind_of n) choices) choices.full o) (Done Alone)
 
       abbrev differing : List Event → Bool → Option ℕ
       differing es full = cond full None (first_differing (image_at es) (k.volume x).tracks x y)
@@ -236,7 +246,7 @@ module _ (u : ℕ) where
       pair-by (Some t) some = record {
         other = wrong line;
         alike = subst (λ o. Alike u (masters_lost w (after_plan w line (cond (has_room w.events) (plan_by o) (refuses JournalFull)))) (masters_lost g (after_plan g line (refuses (Syntax 0))))) (sym some)
-            (idle-or-full w g a line (found_volumes devs x y ++ make_entries k x y (kind_of n) choices.full (Some t)) (Done Alone) (pair-leaves k devs x y (kind_of n) choices.full t) (has_room w.events));
+            (idle-or-full w g a line (pair_entries k devs x y (kind_of n) (cascades (kind_of n) choices) choices.full (Some t)) (Done Alone) (pair-leaves k devs x y (kind_of n) (cascades (kind_of n) choices) choices.full t) (has_room w.events));
       }
 
     -- a track that is shown, and a write that is issued

@@ -12,7 +12,7 @@ use Rattle.dr_model.specs.Histories.{Write, histories}
 use Rattle.dr_model.specs.Layout.{Fields}
 use Rattle.dr_model.specs.Control.{Control, Fuse, Volume, World}
 use Rattle.dr_model.specs.Moves.{Move, Land, Overwrite, Keep, Fetch, Restore, Store, Mirror, LandBoth, Hold, Carried, settled, settled_in_stop, target, next_fields, carried, told, told_in_stop, landed, keeps_staged, moved_keeping, updated_keeping}
-use Rattle.dr_model.specs.Carry.{lower, burnt, Act, Make, OpenAttempt, Redo, Acknowledge, Drop, EndFreeze, EndThaw, EndRecovery, Next, Pass, Do, End, Entry, Turn, Outcome, Ended, ended, gives_way, gate_at, writes, counts_by, pass, equal, spent, off, update_keeping, finished, cut_short, turn, redo, redo_writes, act, attempt_begun, opened_by, continue, go, carry, follow, stopped_turn, stopped_next, stopped_at}
+use Rattle.dr_model.specs.Carry.{lower, burnt, Act, Make, OpenAttempt, Redo, Acknowledge, Drop, EndFreeze, EndThaw, EndRecovery, Next, Pass, Do, End, Entry, Turn, Outcome, Ended, ended, gives_way, gate_at, writes, counts_by, pass, equal, spent, off, update_keeping, finished, cut_short, turn, redo, redo_writes, act, attempt_begun, opened_by, continue, go, carry, follow, stopped_turn, stopped_next, stopped_at, carry_each}
 use Rattle.dr_model.specs.Sessions.{changed, begun as attempted}
 use Rattle.dr_model.specs.PlanParts.{Plan}
 use Rattle.dr_model.specs.Carried.{begun, finish, carried_out, said, after_plan, losing, masters_lost, stop_place}
@@ -221,8 +221,12 @@ module _ (u : ℕ) where
       subst (λ x. stopped_next g x (λ v. stopped_at v ds + 1) ≡ stopped_next w (d w.control) (λ v. stopped_at v ds + 1)) (sym (ap d a.control))
       (next-place w g (d w.control) (λ v. stopped_at v ds + 1) a (λ v h b. ap (λ n. n + 1) (place-alike v h ds b)))
 
+  each-alike : (w g : World) (ds : List Entry) → Alike w g → Alike (carry_each w ds) (carry_each g ds)
+  each-alike w g [] a = a
+  each-alike w g (d ∷ ds) a = each-alike (carry w (d ∷ [])).0 (carry g (d ∷ [])).0 ds (carry-alike w g (d ∷ []) a).world
+
   follow-alike : (w g : World) (r : Refusal) (follows : List Entry) → Alike w g → Alike (follow w r follows) (follow g r follows)
-  follow-alike w g (StoppedIn s) follows a = (carry-alike w g follows a).world
+  follow-alike w g (StoppedIn s) follows a = each-alike w g follows a
   follow-alike w g r follows a = a
 
   -- ---- plans

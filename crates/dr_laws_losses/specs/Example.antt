@@ -37,7 +37,7 @@ volumes =
 abbrev pub pairs_made : List Task
 pairs_made =
     task 6 (MakePath no_names 1 2 false)
-    ∷ task 7 (MakePair no_names 256 512 0 (record { full = false }))
+    ∷ task 7 (MakePair no_names 256 512 0 (record { full = false; cascade = false }))
     ∷ task 8 (MakeFlash no_names 512 768 true true true true false None)
     ∷ task 9 (MakeSession no_names 1 1)
     ∷ task 10 (AddMember no_names 1 256 1)

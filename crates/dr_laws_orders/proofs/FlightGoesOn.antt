@@ -15,7 +15,7 @@ use Rattle.dr_model.specs.SessionPlans.{exchanged}
 use Rattle.dr_model.specs.SessionEntries.{members_on, reply_after}
 use Rattle.dr_model.specs.Forming.{Part, after_part}
 use Rattle.dr_model.specs.Runs.{Task, course, masters_lost, carried_out, after_plan, after_task, after_tasks}
-use Rattle.dr_facts.proofs.Entries.{any_world, any_reason, Fine, AllFine, fine-none, fine-then, plan-kept}
+use Rattle.dr_facts.proofs.Entries.{any_world, any_reason, Fine, AllFine, fine-none, fine-then, plan-kept, EachFine}
 use Rattle.dr_facts.proofs.Lists.{in-joined, from-filter}
 use Rattle.dr_facts.proofs.Tables.{at_cases, at2_cases}
 use Rattle.dr_laws_sound.proofs.Cases.{Case, Starts, RemovesSession, MakesMirror, Aborts, Exchanges, Sends, Delivers, Loses}
@@ -128,6 +128,10 @@ any-fine : (ds : List Entry) → AllFine any_world Any any_reason ds
 any-fine [] = fine-none any_world Any any_reason
 any-fine (d ∷ ds) = fine-then any_world Any any_reason d ds (λ w k. any-next w (d w.control)) (any-fine ds)
 
+any-each : (ds : List Entry) → EachFine any_world Any any_reason ds
+any-each [] = tt
+any-each (d ∷ ds) = (any-fine (d ∷ []), any-each ds)
+
 -- ---- plans
 
 -- in the tables of a plan as it begins, and as it ends
@@ -138,7 +142,7 @@ record Going (k : Control) (p : Plan) : Type 0 where
 -- it is carried out; its masters are lost as it is answered, or as the next one begins
 carried-goes : (w : World) (p : Plan) → Going w.control p → FlightGoesOn w.control.flight (carried_out w p).0.control.flight
 carried-goes w p g = plan-kept any_world Any any_reason (λ v. FlightGoesOn w.control.flight v.control.flight) (λ v j. tt) (λ v a any j. subst (FlightGoesOn w.control.flight) (sym (act-leaves v a)) j) w p
-    g.first (any-fine p.entries) (λ s. any-fine (p.follows s)) (λ v j. goes-then _ _ _ j (g.last v.control))
+    g.first (any-fine p.entries) (λ s. any-each (p.follows s)) (λ v j. goes-then _ _ _ j (g.last v.control))
 
 answered-goes : (w : World) (line : ℕ) (p : Plan) → Going w.control p → FlightGoesOn w.control.flight (masters_lost w (after_plan w line p)).control.flight
 unfolding after_plan

@@ -2,118 +2,98 @@
 use Rattle.std.proofs.Common.{ℕ, ◌≡◌, ◌≤◌, ◌⊎◌, inl, inr, refl, ap, sym, ◌∙◌, subst, Bool, true, false, cond, not, ◌&&◌, ◌||◌, nat_eq, arith, List, [], ◌∷◌, Option, Some, None}
 use Rattle.std.specs.FinSet.{contains, len}
 use Rattle.std.specs.List.{list_any}
-use Rattle.std.proofs.lemmas.Bool.{and_parts, and_from, eq-eqb, false_from_ne_true}
+use Rattle.std.proofs.lemmas.Bool.{and_parts, and_from, eq-eqb}
 use Rattle.dr_ids.specs.declared.names.Member.{Member}
 use Rattle.dr_ids.specs.declared.refusal.Refusal.{Refusal}
 use Rattle.dr_ids.specs.declared.refusal.Refusal.TheVariants.{Void}
 use Rattle.dr_model.specs.Layout.{Tracks, Fields, is_part}
 use Rattle.dr_model.specs.Relations.{is_bare, in_order}
-use Rattle.dr_model.specs.Pairs.{is_pending, records}
+use Rattle.dr_model.specs.Pairs.{is_pending, records, is_cascaded}
 use Rattle.dr_model.specs.Control.{Control, Fuse, Volume, World}
 use Rattle.dr_model.specs.Sessions.{Session}
 use Rattle.dr_model.specs.Moves.{Move, Keep, Note, Store, Strike, Suspend, Seal, target, fields_left}
-use Rattle.dr_model.specs.Carry.{Act, Make, Entry, Outcome, carry, go}
-use Rattle.dr_model.specs.Entries.{fields_at, is_running, pair_state}
-use Rattle.dr_model.specs.PairEntries.{end_if, refuse_if, send_refusal, send_entries, sends, reach_refusal, belongs_to, flashed_refusal, is_copying, suspend_after}
+use Rattle.dr_model.specs.Carry.{Act, Make, Entry, Outcome, carry, go, entries_in}
+use Rattle.dr_model.specs.Entries.{fields_at, is_running}
+use Rattle.dr_model.specs.PairEntries.{end_if, refuse_if, send_refusal, sends, flashed_refusal, is_copying, suspend_after, feeds, held_refusal}
 use Rattle.dr_model.specs.SessionEntries.{void_refusal, is_drained, seal_refusal, seal_on, member_entries, order_entries}
 use Rattle.dr_model.specs.Phases as phases
 use Rattle.dr_model.specs.Plans.{Plan, drain_plan, is_defined, same}
 use Rattle.dr_model.specs.Forming.{Way, goes_on, part, drains}
 use Rattle.dr_model.specs.Groups.{In}
-use Rattle.dr_model.specs.Allowed.{Runs}
 use Rattle.dr_model.specs.Laws.{Sound, Recorders}
 use Rattle.dr_model.specs.Table.{table}
 use Rattle.dr_model.proofs.CarryLemmas.{carry-first}
 use Rattle.dr_facts.proofs.Tables.{at_cases}
-use Rattle.dr_laws_sound.proofs.Turns.{done, after_act}
+use Rattle.dr_laws_sound.proofs.Turns.{after_act}
 use Rattle.dr_laws_sound.proofs.Spends.{len-low}
-use Rattle.dr_laws_sound.proofs.FitsFlash.{as_begun, sound-begun}
-use Rattle.dr_laws_sound.proofs.Turned.{passed-check, nothing-left}
+use Rattle.dr_laws_sound.proofs.FitsFlash.{as_begun}
 use Rattle.dr_laws_sound.proofs.FitsPairs.{row, part-same}
 use Rattle.dr_laws_sound.proofs.Parts.{comes-drain}
 use Rattle.dr_laws_sound.proofs.Steps.{sound-part}
 use Rattle.dr_facts.proofs.Entries.{any_world, any_reason, why-any, fine-one, fine-flat, fine-check}
-use Rattle.dr_facts.proofs.SharedEntries.{where-fine, sends-fine}
-use Rattle.dr_laws_recovery.proofs.Emptied.{can-send, drain-empties}
+use Rattle.dr_facts.proofs.SharedEntries.{where-fine, sends-fine, feeds-fine}
+use Rattle.dr_laws_recovery.proofs.Emptied.{drain-empties}
 use Rattle.dr_laws_recovery.proofs.Went.{Each, each-refuse, carry-keeps, Split, carry-split, Went, part-went, goes-onward}
 use Rattle.dr_model.proofs.LawfulLemmas.{removed}
 use Rattle.dr_facts.proofs.Parts.{global-part}
-use Rattle.dr_facts.proofs.Refusals.{met, none-both}
+use Rattle.dr_facts.proofs.Refusals.{met}
 use Rattle.dr_logic.proofs.Truth.{false_true}
 use Rattle.dr_logic.proofs.Options.{none_some}
+use Rattle.dr_laws_recovery.proofs.Collisions.{written-out}
 
 -- ---- moves that leave nothing more to send
 
--- of a drain into b
-abbrev Sends : ℕ → Move → Type 0
-Sends b (Keep v t) = Unit {0}
-Sends b (Note v t) = Unit {0}
-Sends b (Store v t u last) = v ≡ b
-Sends b (Strike v t last) = Unit {0}
-Sends b (Suspend v busy) = Unit {0}
-Sends b m = ⊥
+-- of a drain
+abbrev Sends : Move → Type 0
+Sends (Keep v t) = Unit {0}
+Sends (Note v t) = Unit {0}
+Sends (Store v t u last) = Unit {0}
+Sends (Strike v t last) = Unit {0}
+Sends (Suspend v busy) = Unit {0}
+Sends m = ⊥
 
-abbrev IsSend : ℕ → World → Act → Type 0
-IsSend b w (Make m) = Sends b m
-IsSend b w a = ⊥
+abbrev IsSend : World → Act → Type 0
+IsSend w (Make m) = Sends m
+IsSend w a = ⊥
 
--- a primary in Copy Pending has nothing to send
+-- a primary in Copy Pending that records has nothing to send
 abbrev pub SentAll : Fields → Type 0
-SentAll f = (is_part f.primary && is_pending f.primary_state) ≡ true → (q : ℕ) → contains f.out_of_sync q ≡ true → ⊥
+SentAll f = f.recording ≡ true → (is_part f.primary && is_pending f.primary_state) ≡ true → (q : ℕ) → contains f.out_of_sync q ≡ true → ⊥
 
--- what receives a track is no primary
-abbrev Receives : Fields → Move → Type 0
-Receives f (Store v t u last) = is_part f.primary ≡ false
-Receives f m = Unit {0}
+sent-move : (m : Move) (u : Volume) → Sends m → SentAll u.fields → SentAll (fields_left m u)
+sent-move (Keep v t) u is old = old
+sent-move (Note v t) u is old = old
+sent-move (Store v t from last) u is old = λ r h q c. old r h q (sym (ap (λ s. contains s q) (written-out u.fields t r)) ∙ c)
+sent-move (Strike v t true) u is old = λ r h. let no : false ≡ true = (and_parts (is_part u.fields.primary) false h).1 in absurd cc
+sent-move (Strike v t false) u is old = λ r h q c. old r h q (removed u.fields.out_of_sync t q c)
+sent-move (Suspend v busy) u is old = λ r h. let no : false ≡ true = (and_parts (is_part u.fields.primary) false h).1 in absurd cc
+sent-move m u is old = absurd is
 
-sent-left : (b : ℕ) (m : Move) (u : Volume) → Sends b m → Receives u.fields m → SentAll u.fields → SentAll (fields_left m u)
-sent-left b (Keep v t) u is none old = old
-sent-left b (Note v t) u is none old = old
-sent-left b (Store v t from last) u is none old = λ h. false_true none (and_parts (is_part u.fields.primary) _ h).0
-sent-left b (Strike v t true) u is none old = λ h. let no : false ≡ true = (and_parts (is_part u.fields.primary) false h).1 in absurd cc
-sent-left b (Strike v t false) u is none old = λ h q c. old h q (removed u.fields.out_of_sync t q c)
-sent-left b (Suspend v busy) u is none old = λ h. let no : false ≡ true = (and_parts (is_part u.fields.primary) false h).1 in absurd cc
-sent-left b m u is none old = absurd is
-
--- b is no primary
-abbrev NoPrimary : ℕ → World → Type 0
-NoPrimary b w = is_part (fields_at w.control b).primary ≡ false
-
-receives : (b : ℕ) (w : World) (m : Move) → Sends b m → NoPrimary b w → Receives (fields_at w.control (target m)) m
-receives b w (Store v t u last) is none = subst (λ j. is_part (fields_at w.control j).primary ≡ false) (sym is) none
-receives b w m is none = tt
-
-stays-none : (b : ℕ) (w : World) (m : Move) (f : Option Fuse) → Sends b m → NoPrimary b w → NoPrimary b (done w m f)
-stays-none b w (Keep v t) f is none = part-same w (Keep v t) f (λ (g : Fields). is_part g.primary) refl b ∙ none
-stays-none b w (Note v t) f is none = part-same w (Note v t) f (λ (g : Fields). is_part g.primary) refl b ∙ none
-stays-none b w (Store v t u last) f is none = part-same w (Store v t u last) f (λ (g : Fields). is_part g.primary) refl b ∙ none
-stays-none b w (Strike v t last) f is none = part-same w (Strike v t last) f (λ (g : Fields). is_part g.primary) refl b ∙ none
-stays-none b w (Suspend v busy) f is none = part-same w (Suspend v busy) f (λ (g : Fields). is_part g.primary) refl b ∙ none
-stays-none b w m f is none = absurd is
-
--- b is no primary, and a has nothing to send
-abbrev Into : ℕ → ℕ → World → Type 0
-Into b a w = NoPrimary b w × SentAll (fields_at w.control a)
-
-sent-act : (b a : ℕ) (w : World) (x : Act) (f : Option Fuse) → IsSend b w x → Into b a w → Into b a (after_act w x f)
-sent-act b a w (Make m) f is old = (
-  stays-none b w m f is old.0,
-  at_cases (λ j (y : Volume). SentAll (fields_at w.control j) → SentAll y.fields) w.control.volume (target m) (row w m f) (sent-left b m (w.control.volume (target m)) is (receives b w m is old.0)) (λ q ne h. h) a old.1,
-)
-sent-act b a w x f is old = absurd is
+sent-act : (a : ℕ) (w : World) (x : Act) (f : Option Fuse) → IsSend w x → SentAll (fields_at w.control a) → SentAll (fields_at (after_act w x f).control a)
+sent-act a w (Make m) f is old =
+    at_cases (λ j (y : Volume). SentAll (fields_at w.control j) → SentAll y.fields) w.control.volume (target m) (row w m f) (sent-move m (w.control.volume (target m)) is) (λ q ne h. h) a old
+sent-act a w x f is old = absurd is
 
 -- and nothing of the sessions changes
-sessions-act : (b : ℕ) (ss : List Session) (w : World) (x : Act) (f : Option Fuse) → IsSend b w x → w.control.sessions ≡ ss → (after_act w x f).control.sessions ≡ ss
-sessions-act b ss w (Make m) f is old = old
-sessions-act b ss w x f is old = absurd is
+sessions-act : (ss : List Session) (w : World) (x : Act) (f : Option Fuse) → IsSend w x → w.control.sessions ≡ ss → (after_act w x f).control.sessions ≡ ss
+sessions-act ss w (Make m) f is old = old
+sessions-act ss w x f is old = absurd is
 
 -- ---- a primary is drained
 
-fine-drain : (k : Control) (a : ℕ) → Each (IsSend (fields_at k a).primary_partner) (drain_plan k a None).entries
+fine-drain : (k : Control) (a : ℕ) → Each IsSend (drain_plan k a None).entries
 fine-drain k a =
-    let b : ℕ = (fields_at k a).primary_partner in
-    fine-check any_world (IsSend b) any_reason (is_defined a) _ _ tt (fine-check any_world (IsSend b) any_reason (is_running a) _ _ tt (fine-check any_world (IsSend b) any_reason (is_copying a) _ _ tt
-    (sends-fine any_world (IsSend b) any_reason (λ u t w any. tt) (λ u t w any. tt) k.volumes a b (λ w any. tt) (λ t last w any. refl) (λ t last w any. tt) (λ j. why-any (send_refusal _ _ j)) (λ j. why-any (flashed_refusal _ j)) _)))
+    fine-check any_world IsSend any_reason (is_defined a) _ _ tt (fine-check any_world IsSend any_reason (is_running a) _ _ tt (fine-check any_world IsSend any_reason (is_copying a) _ _ tt
+    (by (is_cascaded (fields_at k b)) (in_order (k.volume a).tracks (fields_at k a).out_of_sync))))
+  where
+    b : ℕ
+    b = (fields_at k a).primary_partner
+
+    by : (c : Bool) (ts : List ℕ) → Each IsSend (entries_in (cond c (feeds k.volumes a b (fields_at k b).primary_partner ts) (record { entries = sends k.volumes a b ts; follows = suspend_after a } ∷ [])))
+    by true ts =
+        feeds-fine any_world IsSend any_reason (λ u t w any. tt) (λ u t w any. tt) k.volumes a b (fields_at k b).primary_partner (λ w any. tt) (λ t last w any. tt) (λ t last w any. tt) (λ w any. tt) (λ t last w any. tt) (λ t last w any. tt)
+        (λ j. why-any (send_refusal _ _ j)) (λ j. why-any (flashed_refusal _ j)) (λ j. why-any (held_refusal _ j)) ts
+    by false ts = sends-fine any_world IsSend any_reason (λ u t w any. tt) (λ u t w any. tt) k.volumes a b (λ w any. tt) (λ t last w any. tt) (λ t last w any. tt) (λ j. why-any (send_refusal _ _ j)) (λ j. why-any (flashed_refusal _ j)) ts
 
 -- What drains leave where none of them was refused: the sessions are as they were, who had nothing to send has nothing to send, and nor have those
 -- that were drained.
@@ -123,46 +103,21 @@ pub record Drained (w : World) (ms : List Member) (u : World) : Type 0 where
   pub stays : (a : ℕ) → SentAll (fields_at w.control a) → SentAll (fields_at u.control a)
   pub drained : (m : Member) → In m ms → SentAll (fields_at u.control m.a.0)
 
--- Nothing is sent, or the secondary is in place, so it is no primary.
-sent-into : (vs : List ℕ) (a b : ℕ) (ts : List ℕ) (w u : World) → Sound w → Runs w a → carry w (sends vs a b ts) ≡ (u, None) → (w ≡ u) ⊎ NoPrimary b w
-sent-into vs a b [] w u s on leads = inl (nothing-left w u leads)
-sent-into vs a b (t ∷ ts) w u s on leads =
-    let one : Split w u (send_entries vs a b t) (sends vs a b ts) = carry-split w u (send_entries vs a b t) (sends vs a b ts) leads in
-    let parts = none-both (reach_refusal a b w.control) _ (can-send a b w one.middle _ on one.first).free in
-    let second = (and_parts (is_part (fields_at w.control b).secondary) _ (met (belongs_to a b w.control) (pair_state w.control b) parts.1)).0 in
-    inr (false_from_ne_true (is_part (fields_at w.control b).primary) (λ h. false_true (s.uncascaded b h) second))
-
 module _ (w : World) (s : Sound w) (m : Member) where
   -- one of them
   drain-one : (part w (drain_plan w.control m.a.0 None)).refusal ≡ None → Drained w (m ∷ []) (part w (drain_plan w.control m.a.0 None)).world
   drain-one none =
       let a : ℕ = m.a.0 in
       let p : Plan = drain_plan w.control a None in
-      let b : ℕ = (fields_at w.control a).primary_partner in
-      let went : Went w p.entries (λ n. suspend_after a) same p.says (λ k. refl) (part w p).world = part-went w p.entries (λ n. suspend_after a) same p.says (λ k. refl) none in
-      let dry : SentAll (fields_at (part w p).world.control a) = subst (λ (u : World). SentAll (fields_at u.control a)) (sym went.is) (λ h q c. false_true (drain-empties w s a went.led went.leads q) c) in
+      let went : Went w p.entries p.follows same p.says (λ k. refl) (part w p).world = part-went w p.entries p.follows same p.says (λ k. refl) none in
+      let dry : SentAll (fields_at (part w p).world.control a) = subst (λ (u : World). SentAll (fields_at u.control a)) (sym went.is) (λ r h q c. false_true (drain-empties w s a went.led went.leads q) c) in
       record {
         sound = subst Sound (sym went.after) (sound-part w p (comes-drain w a went.room) s);
-        sessions = ap (λ (u : World). u.control.sessions) went.is ∙ carry-keeps (IsSend b) (λ u. u.control.sessions ≡ w.control.sessions) (sessions-act b w.control.sessions) (as_begun w) went.led p.entries (fine-drain w.control a) went.leads refl;
-        stays = λ j h. subst (λ (u : World). SentAll (fields_at u.control j)) (sym went.is) (kept j went.led went.leads h);
+        sessions = ap (λ (u : World). u.control.sessions) went.is ∙ carry-keeps IsSend (λ u. u.control.sessions ≡ w.control.sessions) (sessions-act w.control.sessions) (as_begun w) went.led p.entries (fine-drain w.control a) went.leads refl;
+        stays = λ j h. subst (λ (u : World). SentAll (fields_at u.control j)) (sym went.is) (carry-keeps IsSend (λ u. SentAll (fields_at u.control j)) (sent-act j) (as_begun w) went.led p.entries (fine-drain w.control a) went.leads h);
         drained = λ q here. by (part w p).world q here dry;
       }
     where
-      into : (j : ℕ) (led : World) → carry (as_begun w) (drain_plan w.control m.a.0 None).entries ≡ (led, None) → SentAll (fields_at w.control j)
-          → (as_begun w ≡ led) ⊎ NoPrimary (fields_at w.control m.a.0).primary_partner (as_begun w) → SentAll (fields_at led.control j)
-      into j led leads h (inl same) = subst (λ (u : World). SentAll (fields_at u.control j)) same h
-      into j led leads h (inr none) =
-          let b : ℕ = (fields_at w.control m.a.0).primary_partner in
-          (carry-keeps (IsSend b) (Into b j) (sent-act b j) (as_begun w) led (drain_plan w.control m.a.0 None).entries (fine-drain w.control m.a.0) leads (none, h)).1
-
-      kept : (j : ℕ) (led : World) → carry (as_begun w) (drain_plan w.control m.a.0 None).entries ≡ (led, None) → SentAll (fields_at w.control j) → SentAll (fields_at led.control j)
-      kept j led leads h =
-          let a : ℕ = m.a.0 in
-          let there = passed-check (as_begun w) led (is_defined a) _ _ leads in
-          let on = passed-check (as_begun w) led (is_running a) _ _ there.1 in
-          let copying = passed-check (as_begun w) led (is_copying a) _ _ on.1 in
-          into j led leads h (sent-into w.control.volumes a (fields_at w.control a).primary_partner (in_order (w.control.volume a).tracks (fields_at w.control a).out_of_sync) (as_begun w) led (sound-begun w s) on.0 copying.1)
-
       by : (u : World) (q : Member) → In q (m ∷ []) → SentAll (fields_at u.control m.a.0) → SentAll (fields_at u.control q.a.0)
       by u q (inl is) h = subst (λ (z : Member). SentAll (fields_at u.control z.a.0)) (sym is) h
       by u q (inr none) h = absurd none
@@ -184,7 +139,7 @@ drained-passed : (w : World) (s : Sound w) (m : Member) → is_copying m.a.0 w.c
 drained-passed w s m not_so = record { sound = s; sessions = refl; stays = λ a h. h; drained = by }
   where
     by : (q : Member) → In q (m ∷ []) → SentAll (fields_at w.control q.a.0)
-    by q (inl is) = λ h. false_true (ap (λ (z : Member). is_copying z.a.0 w.control) is ∙ not_so) h
+    by q (inl is) = λ r h. false_true (ap (λ (z : Member). is_copying z.a.0 w.control) is ∙ not_so) h
     by q (inr none) = absurd none
 
 pub drains-drained : (w : World) (s : Sound w) (ms : List Member) → (drains w ms).refusal ≡ None → Drained w ms (drains w ms).world
@@ -277,4 +232,4 @@ seals-done i n ms w v leads dry records = none-any (λ (m : Member). not (is_dra
         let row = records m.a.0 in
         let copying : (is_part f.primary && is_pending f.primary_state) ≡ true = and_from (is_part f.primary) _ (global-part f.primary (row.global recording)) (row.pending recording) in
         let still : SentAll f = carry-keeps IsSeal (λ u. SentAll (fields_at u.control m.a.0)) (seal-act m.a.0) w v (order_entries phases.Seal i n ms) (order-seals i n ms) leads (dry m here) in
-        ap not (none-bare f.out_of_sync (λ q c. still copying q c))
+        ap not (none-bare f.out_of_sync (λ q c. still recording copying q c))

@@ -1,5 +1,5 @@
 -- A drain of all tracks that ends well leaves nothing out of sync, also where its pair is Full Duplex then.
-use Rattle.std.proofs.Common.{ℕ, zero, suc, ◌≡◌, ◌≢◌, ◌<◌, ◌+◌, inl, inr, refl, ap, sym, ◌∙◌, subst, true, false, cond, not, arith, List, [], ◌∷◌, Option, Some, None}
+use Rattle.std.proofs.Common.{ℕ, zero, suc, ◌≡◌, ◌≢◌, ◌<◌, ◌+◌, inl, inr, refl, ap, sym, ◌∙◌, subst, true, false, cond, not, arith, List, [], ◌∷◌, Option, Some, None, Bool, ◌++◌}
 use Rattle.std.specs.Prelude.{is_some}
 use Rattle.std.specs.Option.{option_or}
 use Rattle.std.specs.FinSet.{contains, remove}
@@ -11,12 +11,12 @@ use Rattle.dr_ids.specs.declared.refusal.Kind.TheVariants.{Path as OfPath}
 use Rattle.dr_model.specs.Refusals.{unknown, server_off}
 use Rattle.dr_model.specs.Layout.{Tracks, Fields, is_part}
 use Rattle.dr_model.specs.Relations.{in_order}
-use Rattle.dr_model.specs.Pairs.{is_secondary_of, is_last}
+use Rattle.dr_model.specs.Pairs.{is_secondary_of, is_last, is_cascaded, secondary_of}
 use Rattle.dr_model.specs.Control.{Control, Fuse, Volume, World}
 use Rattle.dr_model.specs.Moves.{Move, Keep, Note, Store, Strike, Suspend}
-use Rattle.dr_model.specs.Carry.{Act, Make, Pass, Do, Entry, carry}
-use Rattle.dr_model.specs.Entries.{fields_at, is_running, copy_first, pair_state}
-use Rattle.dr_model.specs.PairEntries.{link_down, has_path, reach_refusal, belongs_to, refuse_if, send_refusal, suspend_where, flashed_refusal, store_on, strike_on, send_entries, sends, is_copying}
+use Rattle.dr_model.specs.Carry.{Act, Make, Pass, Do, Entry, carry, entries_in}
+use Rattle.dr_model.specs.Entries.{fields_at, is_running, copy_first, secondary_state}
+use Rattle.dr_model.specs.PairEntries.{link_down, has_path, reach_refusal, belongs_to, refuse_if, send_refusal, suspend_where, flashed_refusal, store_on, strike_on, send_entries, sends, is_copying, held_refusal, send_first, feeds, suspend_after}
 use Rattle.dr_model.specs.Plans.{drain_plan, is_defined}
 use Rattle.dr_model.specs.Groups.{In}
 use Rattle.dr_model.specs.Laws.{Sound}
@@ -31,12 +31,12 @@ use Rattle.dr_model.proofs.LawfulLemmas.{removed}
 use Rattle.dr_laws_sound.specs.Turning.{Leaves}
 use Rattle.dr_laws_sound.proofs.Turns.{done, after_act}
 use Rattle.dr_laws_sound.proofs.FitsFlash.{as_begun, sound-begun}
-use Rattle.dr_laws_sound.proofs.FitsPairs.{row, runs-done, part-same}
-use Rattle.dr_laws_sound.proofs.FitsDrain.{along-drain}
+use Rattle.dr_laws_sound.proofs.FitsPairs.{row, runs-done, part-same, its-first}
+use Rattle.dr_laws_sound.proofs.FitsDrain.{along-drain, feeds-joined}
 use Rattle.dr_laws_sound.proofs.CopyFirst.{unturned}
 use Rattle.dr_laws_sound.proofs.Turned.{passed-check, passed-refuse, move-led, nothing-left, sound-led, pair-equal}
 use Rattle.dr_facts.proofs.Entries.{any_world, any_reason, fine-one}
-use Rattle.dr_facts.proofs.SharedEntries.{copies-fine}
+use Rattle.dr_facts.proofs.SharedEntries.{copies-fine, send_first-fine}
 use Rattle.dr_laws_recovery.proofs.Went.{carry-keeps, Split, carry-split}
 use Rattle.dr_laws_recovery.specs.Emptied.{IsEmptied, EqualAfter}
 use Rattle.dr_logic.proofs.Truth.{false_true}
@@ -44,6 +44,7 @@ use Rattle.dr_logic.proofs.Options.{none_some}
 use Rattle.dr_logic.proofs.Tables.{at_same, at_other}
 use Rattle.dr_logic.proofs.Choices.{choose_some}
 use Rattle.dr_laws_cuts.proofs.Still.{no-second}
+use Rattle.dr_laws_sound.proofs.FitsCollide.{third-apart}
 
 -- the tracks of a set are in it in order
 in-range : (n b q : ℕ) → b < q + 1 → q < b + n → In q (range_with_len b n)
@@ -63,6 +64,8 @@ abbrev Stays : ℕ → Move → Type 0
 Stays a (Keep v t) = Unit {0}
 Stays a (Note v t) = Unit {0}
 Stays a (Store v t u last) = a ≢ v
+Stays a (Strike v t last) = a ≢ v
+Stays a (Suspend v busy) = a ≢ v
 Stays a m = ⊥
 
 abbrev Ok : ℕ → World → Act → Type 0
@@ -79,6 +82,8 @@ module _ (a b : ℕ) where
   same-out w (Keep v t) f is = part-same w (Keep v t) f (λ (g : Fields). g.out_of_sync) refl a
   same-out w (Note v t) f is = part-same w (Note v t) f (λ (g : Fields). g.out_of_sync) refl a
   same-out w (Store v t u last) f is = ap (λ (y : Volume). y.fields.out_of_sync) (at_other w.control.volume v (row w (Store v t u last) f) a is)
+  same-out w (Strike v t last) f is = ap (λ (y : Volume). y.fields.out_of_sync) (at_other w.control.volume v (row w (Strike v t last) f) a is)
+  same-out w (Suspend v busy) f is = ap (λ (y : Volume). y.fields.out_of_sync) (at_other w.control.volume v (row w (Suspend v busy) f) a is)
   same-out w m f is = absurd is
 
   leaving-act : (ts : List ℕ) (w : World) (x : Act) (f : Option Fuse) → Ok a w x → Leaving ts w → Leaving ts (after_act w x f)
@@ -104,9 +109,9 @@ module _ (a b : ℕ) where
     still-sends : send_refusal a b k ≡ None → send_refusal a b w.control ≡ None
     still-sends h =
         let parts = none-both (reach_refusal a b k) _ h in
-        let belongs : belongs_to a b w.control ≡ true = sym (part-same w m f (is_secondary_of a) refl b) ∙ met (belongs_to a b k) (pair_state k b) parts.1 in
-        ap (λ o. option_or o (cond (belongs_to a b w.control) None (Some (pair_state w.control b)))) (sym still-reach ∙ parts.0)
-        ∙ ap (λ c. cond c None (Some (pair_state w.control b))) belongs
+        let belongs : belongs_to a b w.control ≡ true = sym (part-same w m f (is_secondary_of a) refl b) ∙ met (belongs_to a b k) (secondary_state k b) parts.1 in
+        ap (λ o. option_or o (cond (belongs_to a b w.control) None (Some (secondary_state w.control b)))) (sym still-reach ∙ parts.0)
+        ∙ ap (λ c. cond c None (Some (secondary_state w.control b))) belongs
 
   -- so a send that isn't refused finds the secondary in place and reached
   pub record Sendable (w v : World) (ds : List Entry) : Type 0 where
@@ -142,16 +147,50 @@ module _ (a b : ℕ) where
           one (inl is) = false_true (ap (contains (remove (fields_at w.control a).out_of_sync t)) is ∙ not_removed (fields_at w.control a).out_of_sync t) h
           one (inr there) = there
 
+  -- the targets of b keep it, b stores it, and it is struck off
+  record Stored (ts : List ℕ) (v : World) (ds : List Entry) : Type 0 where
+    middle : World
+    left : Leaving ts middle
+    rest : carry middle ds ≡ (v, None)
+
+  stored-left : a ≢ b → (volumes : List ℕ) (t : ℕ) (ts : List ℕ) (ds : List Entry) (w v : World) → carry w (copy_first volumes b t ++ store_on a b t ∷ strike_on a t ∷ ds) ≡ (v, None) → Leaving (t ∷ ts) w → Stored ts v ds
+  stored-left ne volumes t ts ds w v leads old =
+      let one : Split w v (copy_first volumes b t) (store_on a b t ∷ strike_on a t ∷ ds) = carry-split w v (copy_first volumes b t) (store_on a b t ∷ strike_on a t ∷ ds) leads in
+      let two : Split one.middle v (store_on a b t ∷ []) (strike_on a t ∷ ds) = carry-split one.middle v (store_on a b t ∷ []) (strike_on a t ∷ ds) one.rest in
+      let three : Split two.middle v (strike_on a t ∷ []) ds = carry-split two.middle v (strike_on a t ∷ []) ds two.rest in
+      let kept = carry-keeps (Ok a) (Leaving (t ∷ ts)) (leaving-act (t ∷ ts)) w one.middle (copy_first volumes b t) (copies-fine any_world (Ok a) any_reason (λ u t w any. tt) (λ u t w any. tt) volumes b t) one.first old in
+      let stored = carry-keeps (Ok a) (Leaving (t ∷ ts)) (leaving-act (t ∷ ts)) one.middle two.middle (store_on a b t ∷ []) (fine-one any_world (Ok a) any_reason (store_on a b t) (λ w any. ne)) two.first kept in
+      record { middle = three.middle; left = struck-left t ts two.middle three.middle three.first stored; rest = three.rest }
+
   sent-left : a ≢ b → (volumes : List ℕ) (ts : List ℕ) (w v : World) → carry w (sends volumes a b ts) ≡ (v, None) → Leaving ts w → Leaving [] v
   sent-left ne volumes [] w v leads old = subst (Leaving []) (nothing-left w v leads) old
   sent-left ne volumes (t ∷ ts) w v leads old =
       let one : Split w v (send_entries volumes a b t) (sends volumes a b ts) = carry-split w v (send_entries volumes a b t) (sends volumes a b ts) leads in
       let free = (passed-refuse w one.middle (flashed_refusal b) _ (can-send w one.middle _ old.runs one.first).leads).1 in
-      let two : Split w one.middle (copy_first volumes b t) (store_on a b t ∷ strike_on a t ∷ []) = carry-split w one.middle (copy_first volumes b t) (store_on a b t ∷ strike_on a t ∷ []) free in
-      let three : Split two.middle one.middle (store_on a b t ∷ []) (strike_on a t ∷ []) = carry-split two.middle one.middle (store_on a b t ∷ []) (strike_on a t ∷ []) two.rest in
-      let kept = carry-keeps (Ok a) (Leaving (t ∷ ts)) (leaving-act (t ∷ ts)) w two.middle (copy_first volumes b t) (copies-fine any_world (Ok a) any_reason (λ u t w any. tt) (λ u t w any. tt) volumes b t) two.first old in
-      let stored = carry-keeps (Ok a) (Leaving (t ∷ ts)) (leaving-act (t ∷ ts)) two.middle three.middle (store_on a b t ∷ []) (fine-one any_world (Ok a) any_reason (store_on a b t) (λ w any. ne)) three.first kept in
-      sent-left ne volumes ts one.middle v one.rest (struck-left t ts three.middle one.middle three.rest stored)
+      let stored : Stored ts one.middle [] = stored-left ne volumes t ts [] w one.middle free old in
+      sent-left ne volumes ts one.middle v one.rest (subst (Leaving ts) (nothing-left stored.middle one.middle stored.rest) stored.left)
+
+  -- b is cascaded: what a track was there goes to c first
+  fed-left : a ≢ b → (c : ℕ) → a ≢ c → (volumes : List ℕ) (ts : List ℕ) (w v : World) → carry w (entries_in (feeds volumes a b c ts)) ≡ (v, None) → Leaving ts w → Leaving [] v
+  fed-left ne c apart volumes [] w v leads old = subst (Leaving []) (nothing-left w v leads) old
+  fed-left ne c apart volumes (t ∷ ts) w v leads old =
+      let joined = can-send w v _ old.runs (sym (ap (carry w) (feeds-joined volumes a b c t ts)) ∙ leads) in
+      let free = (passed-refuse w v (held_refusal b) _ (passed-refuse w v (flashed_refusal b) _ joined.leads).1).1 in
+      let moves : List Entry = copy_first volumes b t ++ store_on a b t ∷ strike_on a t ∷ entries_in (feeds volumes a b c ts) in
+      let one : Split w v (send_first volumes b c t) moves = carry-split w v (send_first volumes b c t) moves free in
+      let passed = carry-keeps (Ok a) (Leaving (t ∷ ts)) (leaving-act (t ∷ ts)) w one.middle (send_first volumes b c t)
+      (send_first-fine any_world (Ok a) any_reason (λ u t w any. tt) (λ u t w any. tt) volumes b c t (λ w any. ne) (λ last w any so. apart) (λ last w any. ne)) one.first old in
+      let stored : Stored ts v (entries_in (feeds volumes a b c ts)) = stored-left ne volumes t ts (entries_in (feeds volumes a b c ts)) one.middle v one.rest passed in
+      fed-left ne c apart volumes ts stored.middle v stored.rest stored.left
+
+  -- it is the secondary of another volume than a
+  third-left : a ≢ b → (c : ℕ) (volumes : List ℕ) (ts : List ℕ) (w v : World) → Sound w → secondary_of (fields_at w.control b) ≡ Some c → carry w (entries_in (feeds volumes a b c ts)) ≡ (v, None) → Leaving ts w → Leaving [] v
+  third-left ne c volumes [] w v s third leads old = subst (Leaving []) (nothing-left w v leads) old
+  third-left ne c volumes (t ∷ ts) w v s third leads old =
+      let joined = can-send w v _ old.runs (sym (ap (carry w) (feeds-joined volumes a b c t ts)) ∙ leads) in
+      let belongs : belongs_to a b w.control ≡ true = met (belongs_to a b w.control) (secondary_state w.control b) (none-both (reach_refusal a b w.control) _ joined.free).1 in
+      let takes = its-first a (fields_at w.control b) belongs in
+      fed-left ne c (λ e. third-apart w s a b c takes third (sym e)) volumes (t ∷ ts) w v leads old
 
 module _ (w : World) (s : Sound w) (a : ℕ) where
   pub drain-empties : Leaves (λ u. IsEmptied u a) w (drain_plan w.control a None)
@@ -164,9 +203,14 @@ module _ (w : World) (s : Sound w) (a : ℕ) where
       let b : ℕ = (fields_at w.control a).primary_partner in
       let first_part : is_part (fields_at w.control a).primary ≡ true = (and_parts (is_part (fields_at w.control a).primary) _ copying.0).0 in
       let ne : a ≢ b = λ e. no-second (table w) s.rows a (choose_some _ b first_part ∙ ap (λ j. Some j) (sym e)) in
-      let left = sent-left a b ne w.control.volumes ts first u copying.1
-      (record { runs = on.0; rest = λ q h. in-in_order (w.control.volume a).tracks (fields_at w.control a).out_of_sync q ((s.rows.structure.lawful a).sets.out_of_sync_low q h) h }) in
+      let old : Leaving a b ts first = record { runs = on.0; rest = λ q h. in-in_order (w.control.volume a).tracks (fields_at w.control a).out_of_sync q ((s.rows.structure.lawful a).sets.out_of_sync_low q h) h } in
+      let left = by first (sound-begun w s) b ts ne (is_cascaded (fields_at w.control b)) refl copying.1 old in
       unturned (contains (fields_at u.control a).out_of_sync t) (λ h. left.rest t h)
+    where
+      by : (first : World) → Sound first → (b : ℕ) (ts : List ℕ) → a ≢ b → (c : Bool) → is_cascaded (fields_at first.control b) ≡ c
+          → carry first (entries_in (cond c (feeds w.control.volumes a b (fields_at first.control b).primary_partner ts) (record { entries = sends w.control.volumes a b ts; follows = suspend_after a } ∷ []))) ≡ (u, None) → Leaving a b ts first → Leaving a b [] u
+      by first x b ts ne true is leads old = third-left a b ne (fields_at first.control b).primary_partner w.control.volumes ts first u x (choose_some _ _ (and_parts (is_part (fields_at first.control b).primary) _ is).0) leads old
+      by first x b ts ne false is leads old = sent-left a b ne w.control.volumes ts first u leads old
 
   pub drain-equals : (y : ℕ) → Leaves (λ u. EqualAfter u a y) w (drain_plan w.control a None)
   drain-equals y u leads idle leads-to follows t lt =

@@ -7,7 +7,7 @@ use Rattle.dr_model.specs.declared.event.Event.{Event}
 use Rattle.dr_ids.specs.declared.names.Member.{Member}
 use Rattle.dr_model.specs.Groups.{In}
 use Rattle.dr_model.specs.Control.{World}
-use Rattle.dr_model.specs.Carry.{Act, Next, Pass, Do, End, Entry, carry}
+use Rattle.dr_model.specs.Carry.{Act, Next, Pass, Do, End, Entry, carry, carry_each}
 use Rattle.dr_model.specs.PlanParts.{Plan, refuses, unless}
 use Rattle.dr_model.specs.Carried.{begun, finish, after_plan}
 use Rattle.dr_model.specs.ReadStops.{Ends}
@@ -95,9 +95,8 @@ module _ (w : World) (W : World → Type 0) (k : Keeping w W) where
 
   -- where it ends, and as it is answered
   pub finish-goes : (p : Plan) → Goes p → (n : ℕ) (u : World) (r : Option Refusal) → W u → W (finish p n u r)
-  unfolding carry
   finish-goes p goes n u None h = goes.last u h
-  finish-goes p goes n u (Some (StoppedIn q)) h = subst (λ ds. W (carry u ds).0) (sym (goes.follows n)) h
+  finish-goes p goes n u (Some (StoppedIn q)) h = subst (λ ds. W (carry_each u ds)) (sym (goes.follows n)) h
   finish-goes p goes n u (Some r) h = h
 
   pub goes-after : (p : Plan) → Goes p → (line : ℕ) → W (after_plan w line p)

@@ -7,7 +7,8 @@
 -- - each step keeps the writes of lists but those that it may take away: `told-task`, `keeps-run` (`KeepsWrites.antt`),
 --   on what moves tell (`Takes.antt`), steps of one plan by their acts (`TakesSteps.antt`) and an `@run` (`TakesRuns.antt`). A new
 --   kind of move that takes writes has a row in `Takes` and in `takes-onto`, and its act a clause in `does-takes`; a new step that may
---   take one is a row of `takes_from`. All others fall to their last clauses
+--   take one is a row of `takes_from`. All others fall to their last clauses. What a cascaded secondary sends on before a write collided
+--   as the step began: `Collisions.antt` carries that along its moves
 -- - where a list lost a write there is the step that may have taken it: `step-at`, `kept-or-taken`, `holds-run`
 --   (`TakenAt.antt`)
 -- - what a secondary stored is acknowledged, or a server stops in that step, after each step and wherever a volume is cut: `stored-run`
@@ -90,6 +91,7 @@ pub mod OnTracks
 pub mod Headline
 pub mod HeadlineAlong
 pub mod Takes
+pub mod Collisions
 pub mod TakesSteps
 pub mod TakesRuns
 pub mod KeepsWrites

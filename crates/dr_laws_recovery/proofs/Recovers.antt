@@ -16,7 +16,7 @@ use Rattle.dr_model.specs.Messages.{Flight}
 use Rattle.dr_model.specs.Control.{Fuse, Pending, Volume, World}
 use Rattle.dr_model.specs.Relations.{committed, reverted}
 use Rattle.dr_model.specs.Pairs.{taken_over}
-use Rattle.dr_model.specs.Moves.{Move, TakeOver, FallBack, Yield, Commit, Revert, target, keeps_staged, moved_keeping}
+use Rattle.dr_model.specs.Moves.{Move, TakeOver, FallBack, Yield, Commit, Revert, target, keeps_staged, moved_keeping, LeavePrimary}
 use Rattle.dr_model.specs.Carry.{Act, Make, EndRecovery}
 use Rattle.dr_model.specs.ReadStops.{Ends}
 use Rattle.dr_model.specs.Entries.{fields_at, relation_state}
@@ -92,6 +92,7 @@ module _ (w : World) (s : ℕ) where
   -- acts of a recovery, which does what was decided where it is one of the session, and of a failover and a failback
   abbrev pub Fit : Act → Type 0
   Fit (Make (TakeOver b)) = Unit {0}
+  Fit (Make (LeavePrimary b)) = Unit {0}
   Fit (Make (FallBack v more state)) = Unit {0}
   Fit (Make (Yield v u kind state)) = Unit {0}
   Fit (Make (Commit c a i n)) = i ≡ s → reverts w ≡ false
@@ -188,6 +189,7 @@ module _ (w : World) (s : ℕ) where
 
     keeps-moved : (m : Move) → May u m → Fit (Make m) → table j ≡ after (histories u.events).write (table u) m → Moves u.control j.control (target m) (next_of u m) (carried_in u m) → Keeps j
     keeps-moved (TakeOver b) may fit rows moves = keeps-taken b may rows moves
+    keeps-moved (LeavePrimary b) may fit rows moves = keeps-still u j sessions k (LeavePrimary b) rows moves sound.rows sound.attempts may.allowed refl refl refl refl (λ n. n) (λ t. refl)
     keeps-moved (FallBack v more state) may fit rows moves = keeps-still u j sessions k (FallBack v more state) rows moves sound.rows sound.attempts may.allowed refl refl refl refl (λ n. n) (λ t. refl)
     keeps-moved (Yield v p kind state) may fit rows moves = keeps-still u j sessions k (Yield v p kind state) rows moves sound.rows sound.attempts may.allowed refl refl refl refl (λ n. n) (λ t. refl)
     keeps-moved (Commit c a i n) may fit rows moves = elim (eqb_tells i s) [

@@ -1,13 +1,13 @@
 -- A failover and a failback leave what a recovery makes of each session.
-use Rattle.std.proofs.Common.{ℕ, refl, Bool, List, [], ◌∷◌, ◌++◌, Option}
+use Rattle.std.proofs.Common.{ℕ, refl, Bool, List, [], ◌∷◌, ◌++◌, Option, true, false, cond}
 use Rattle.dr_ids.specs.declared.refusal.Refusal.{Refusal}
 use Rattle.dr_model.specs.declared.said.Said.{Said}
 use Rattle.dr_model.specs.declared.state.Part.{Part}
 use Rattle.dr_model.specs.declared.step.Devs.{Devs}
 use Rattle.dr_model.specs.Control.{Control, World}
-use Rattle.dr_model.specs.Moves.{TakeOver}
-use Rattle.dr_model.specs.Carry.{Act, Entry, now, check}
-use Rattle.dr_model.specs.Entries.{is_running, is_settled, relation_state, pair_state}
+use Rattle.dr_model.specs.Moves.{TakeOver, LeavePrimary}
+use Rattle.dr_model.specs.Carry.{Act, Entry, now, check, Make}
+use Rattle.dr_model.specs.Entries.{is_running, is_settled, relation_state, pair_state, fields_at, is_no_secondary, secondary_state}
 use Rattle.dr_model.specs.PairEntries.{refuse_if, reach_refusal, leads_to, may_take_over, leads_as, failover_entries, failback_entries, fall_back_on, yield_on}
 use Rattle.dr_model.specs.Plans.{entries_plan, is_defined, is_owner, found_volumes, yield_refusal, failover_plan, failback_plan}
 use Rattle.dr_model.specs.Laws.{Sound}
@@ -18,6 +18,7 @@ use Rattle.dr_laws_sound.proofs.FitsFailover.{along-failover, along-failback}
 use Rattle.dr_laws_recovery.specs.Recovered.{KeepsRecovery}
 use Rattle.dr_laws_recovery.proofs.Keeping.{fit-along}
 use Rattle.dr_laws_recovery.proofs.Recovers.{Keeps, Fit, begins, plan-keeps}
+use Rattle.dr_model.specs.Pairs.{is_cascaded}
 
 module _ (w : World) (sound : Sound w) (s : ℕ) where
   -- acts that fit
@@ -49,12 +50,16 @@ module _ (w : World) (sound : Sound w) (s : ℕ) where
 
   pub failover-keeps : (devs : Devs) (b a : ℕ) (kind : Part) → KeepsRecovery w (failover_plan w.control devs b a kind) s
   failover-keeps devs b a kind = entries-keep (found_volumes devs b a ++ failover_entries w.control b a kind) _
-      (found devs b a _ (checked (is_running b) _ _ (checked (may_take_over a b kind) (pair_state w.control b) _ (one (now (TakeOver b)) [] (λ u k. tt) (fine-none (Keeps w s) Ok any_reason)))))
+      (found devs b a _ (checked (is_running b) _ _ (checked (may_take_over a b kind) (secondary_state w.control b) _ (one (now (cond (is_cascaded (fields_at w.control b)) (LeavePrimary b) (TakeOver b))) [] (λ u k. left (is_cascaded (fields_at w.control b))) (fine-none (Keeps w s) Ok any_reason)))))
       (along-failover w sound devs b a kind)
+    where
+      left : (c : Bool) → Fit w s (Make (cond c (LeavePrimary b) (TakeOver b)))
+      left true = tt
+      left false = tt
 
   pub failback-keeps : (devs : Devs) (x y : ℕ) (kind : Part) → KeepsRecovery w (failback_plan w.control devs x y kind) s
   failback-keeps devs x y kind = entries-keep (found_volumes devs x y ++ failback_entries w.control (yield_refusal y) x y kind) _
       (found devs x y _ (checked (is_running x) _ _ (refused (reach_refusal x y) _ (checked (leads_as x y kind) (pair_state w.control x) _ (checked (leads_to y x) (pair_state w.control y) _
-      (checked (is_settled y) (relation_state w.control y) _ (checked (is_settled x) (relation_state w.control x) _ (refused (yield_refusal y) _
-      (one (fall_back_on x y) _ (λ u k. tt) (one (yield_on y x) [] (λ u k. tt) (fine-none (Keeps w s) Ok any_reason)))))))))))
+      (checked (is_no_secondary x) (secondary_state w.control x) _ (checked (is_no_secondary y) (secondary_state w.control y) _ (checked (is_settled y) (relation_state w.control y) _ (checked (is_settled x) (relation_state w.control x) _ (refused (yield_refusal y) _
+      (one (fall_back_on x y) _ (λ u k. tt) (one (yield_on y x) [] (λ u k. tt) (fine-none (Keeps w s) Ok any_reason)))))))))))))
       (along-failback w sound devs x y kind)

@@ -18,7 +18,7 @@ use Rattle.dr_model.specs.Control.{Control, Fuse, Volume, World}
 use Rattle.dr_model.specs.Groups.{In}
 use Rattle.dr_model.specs.Pairs.{is_primary_of}
 use Rattle.dr_model.specs.Sessions.{Session, session_in, mirror_in, members_in, changed, paused, begun as attempt_opened, with_mirror, mirror_lost_since, lost_since}
-use Rattle.dr_model.specs.Moves.{Move, MakePrimary, DropPrimary, TakeOver, Yield, Hold, target, fields_left}
+use Rattle.dr_model.specs.Moves.{Move, MakePrimary, DropPrimary, TakeOver, Yield, Hold, target, fields_left, MakeSecondary, DropSecondary, LeavePrimary}
 use Rattle.dr_model.specs.Carry.{Act, Make, OpenAttempt, act}
 use Rattle.dr_model.specs.Carried.{begun, carried_out}
 use Rattle.dr_model.specs.Entries.{fields_at}
@@ -27,14 +27,14 @@ use Rattle.dr_model.specs.SessionEntries.{is_on, members_on}
 use Rattle.dr_model.specs.SessionPlans.{exchange_on, asking}
 use Rattle.dr_model.specs.Plans.{Plan, drain_plan, has_room}
 use Rattle.dr_model.specs.Forming.{Part, Way, stays, goes_on, unless_refused, after_part, part, drains, is_draining, ask, next_asked, master_in, phase_in, has_committed, still_left, turn_by, turns, most_turns, form_refusal, form_in, formed}
-use Rattle.dr_model.specs.TakenWrites.{takes_from, is_target_in, is_copy_in}
+use Rattle.dr_model.specs.TakenWrites.{takes_from, is_target_in, is_copy_in, is_third}
 use Rattle.dr_facts.proofs.Lists.{from-filter, any-some}
 use Rattle.dr_laws_sound.proofs.Turns.{done, after_act, Counts, act-cases}
 use Rattle.dr_laws_sound.proofs.FitsPairs.{part-same}
-use Rattle.dr_facts.proofs.Entries.{any_world, any_reason, plan-from, from-wider, fine-wider}
+use Rattle.dr_facts.proofs.Entries.{any_world, any_reason, plan-from, from-wider, each-wider}
 use Rattle.dr_facts.proofs.Reasons.{NoStop}
 use Rattle.dr_laws_sound.proofs.Cases.{Case, Says, DefinesVolume, Drains, MakesSession, RemovesSession, MakesMirror, PausesMirror, RemovesMirror, Aborts, AddsMember, RemovesMember, Sends, TakesReply, Exchanges, on-case, refused-not}
-use Rattle.dr_laws_sound.proofs.Does.{Does, Acts, Late, MakesPrimary, DropsPrimary, TakesOver, Yields, RecoversSecondary}
+use Rattle.dr_laws_sound.proofs.Does.{Does, Acts, Late, MakesPrimary, DropsPrimary, TakesOver, Yields, RecoversSecondary, MakesSecondary, DropsSecondary, LeavesPrimary}
 use Rattle.dr_laws_sound.proofs.DoesPlans.{case-does}
 use Rattle.dr_laws_recovery.proofs.Takes.{OkBy, Told, told-none, told-on}
 use Rattle.dr_laws_recovery.proofs.TakesSteps.{MayTake, case-told}
@@ -44,20 +44,26 @@ use Rattle.dr_laws_recovery.proofs.TakesSteps.{MayTake, case-told}
 abbrev KeepsPartner : Move → Type 0
 KeepsPartner (MakePrimary v b kind state full) = ⊥
 KeepsPartner (DropPrimary v) = ⊥
+KeepsPartner (MakeSecondary v a kind state) = ⊥
+KeepsPartner (DropSecondary v) = ⊥
+KeepsPartner (LeavePrimary v) = ⊥
 KeepsPartner (TakeOver v) = ⊥
 KeepsPartner (Yield v a kind state) = ⊥
 KeepsPartner m = Unit {0}
 
--- what names a primary's secondary
+-- what names a primary's secondary, and whether it is cascaded
 abbrev Names : Type 0
-Names = PairPart × ℕ
+Names = PairPart × (ℕ × PairPart)
 
 abbrev names : Fields → Names
-names f = (f.primary, f.primary_partner)
+names f = (f.primary, (f.primary_partner, f.secondary))
 
 partner-kept : (m : Move) (u : Volume) → KeepsPartner m → names (fields_left m u) ≡ names u.fields
 partner-kept (MakePrimary v b kind state full) u is = absurd is
 partner-kept (DropPrimary v) u is = absurd is
+partner-kept (MakeSecondary v a kind state) u is = absurd is
+partner-kept (DropSecondary v) u is = absurd is
+partner-kept (LeavePrimary v) u is = absurd is
 partner-kept (TakeOver v) u is = absurd is
 partner-kept (Yield v a kind state) u is = absurd is
 partner-kept m u is = refl
@@ -69,11 +75,14 @@ is_in_run (Ok (Exchange s name reply)) = true
 is_in_run asked = false
 
 does-keep : (k : Control) (asked : Result Step ℕ) (w : World) (a : Act) → Does k asked w.control a → is_in_run asked ≡ true → OkBy KeepsPartner w a
-does-keep k _ w _ (MakesPrimary a b kind state full free) h = absurd cc
+does-keep k _ w _ (MakesPrimary a b kind state full cascade free) h = absurd cc
 does-keep k _ w _ (DropsPrimary a) h = absurd cc
-does-keep k _ w _ (TakesOver b a kind may) h = absurd cc
+does-keep k _ w _ (MakesSecondary a b kind state free) h = absurd cc
+does-keep k _ w _ (DropsSecondary b) h = absurd cc
+does-keep k _ w _ (LeavesPrimary b a kind may is) h = absurd cc
+does-keep k _ w _ (TakesOver b a kind may is) h = absurd cc
 does-keep k _ w _ (Yields x y kind state leads) h = absurd cc
-does-keep k _ w _ (RecoversSecondary b is) h = absurd cc
+does-keep k _ w _ (RecoversSecondary i m here is) h = absurd cc
 does-keep k _ w _ d h = tt
 
 -- ---- tables of sessions that leave each its members
@@ -176,13 +185,19 @@ module _ (w0 : World) (s n : ℕ) where
       let keeps : (v : World) (a : Act) → any_world v → Acts w.control asked v a → OkBy KeepsPartner v a = λ v a any does. does-keep w.control asked v a does turn in
       let stands : Stands u.control = plan-from any_world (OkBy KeepsPartner) any_reason any_reason StandsIn (λ v k. tt) stands-act w p (t.first g.stands)
       (from-wider any_world any_world (Acts w.control asked) (OkBy KeepsPartner) NoStop any_reason (Late asked) any_reason (λ v any. any) keeps (λ r why. tt) (λ r why. tt) p.entries (begun w p) tt e.entries)
-      (λ x. fine-wider any_world any_world (Acts w.control asked) (OkBy KeepsPartner) (Late asked) any_reason (λ v any. any) keeps (λ r why. tt) (p.follows x) (e.follows x)) (λ v k. t.last v.control k) in
+      (λ x. each-wider any_world any_world (Acts w.control asked) (OkBy KeepsPartner) (Late asked) any_reason (λ v any. any) keeps (λ r why. tt) (p.follows x) (e.follows x)) (λ v k. t.last v.control k) in
       record { told = told-on Q w0.events w.events u.events g.told (case-told w Q 0 asked p c to); stands = (stands.0, lost-members s w.control.on u.control.on u.control.sessions ∙ stands.1) }
 
-  -- the secondary that a member's primary names may be taken from
-  copy-may : (w : World) (m : Member) → Going w → In m members → (v : ℕ) → is_primary_of v (fields_at w.control m.a.0) ≡ true → Q v
+  -- what a drain of a sends to, by what names secondaries
+  sent_by : (ℕ → Names) → ℕ → ℕ → Bool
+  sent_by n a v = (is_part (n a).0 && nat_eq (n a).1.0 v) || ((is_part (n (n a).1.0).0 && is_part (n (n a).1.0).1.1) && (is_part (n (n a).1.0).0 && nat_eq (n (n a).1.0).1.0 v))
+
+  -- the secondary that a member's primary names may be taken from, and that of a cascaded one
+  copy-may : (w : World) (m : Member) → Going w → In m members → (v : ℕ) → MayTake w.control (Ok (Drain m.a.0 None)) v → Q v
+  unfolding sent_by
   copy-may w m g here v is =
-      ap (λ c. is_target_in k0 s v || c) (any-some (λ (q : Member). is_primary_of v (fields_at k0 q.a.0)) members m here (ap (λ (x : Names). is_part x.0 && nat_eq x.1 v) (sym (g.stands.0 m.a.0)) ∙ is)) ∙ or-true (is_target_in k0 s v)
+      let same : sent_by (λ q. names (fields_at w.control q)) m.a.0 v ≡ sent_by (λ q. names (fields_at k0 q)) m.a.0 v = λ i. sent_by (λ q. g.stands.0 q i) m.a.0 v in
+      ap (λ c. is_target_in k0 s v || c) (any-some (λ (q : Member). is_primary_of v (fields_at k0 q.a.0) || is_third k0 q.a.0 v) members m here (sym same ∙ is)) ∙ or-true (is_target_in k0 s v)
 
   drain-going : (w : World) (m : Member) → In m members → Going w → Going (after_part w (drain_plan w.control m.a.0 None))
   drain-going w m here g = part-going w (Ok (Drain m.a.0 None)) _ (Drains m.a.0 None) refl (copy-may w m g here) g

@@ -1,7 +1,7 @@
 -- Each step of one plan takes writes from those volumes alone from which it may.
-use Rattle.std.proofs.Common.{ℕ, ◌≡◌, refl, ap, sym, ◌∙◌, subst, Bool, true, false, not, ◌||◌, List, [], ◌++◌, Option, nat_eq, Result}
+use Rattle.std.proofs.Common.{ℕ, ◌≡◌, refl, ap, sym, ◌∙◌, subst, Bool, true, false, not, ◌||◌, List, [], ◌++◌, Option, nat_eq, Result, ◌&&◌}
 use Rattle.std.proofs.Math.Bool.{or-true}
-use Rattle.std.proofs.lemmas.Bool.{and_from, and_parts, eq-eqb}
+use Rattle.std.proofs.lemmas.Bool.{and_from, and_parts, eq-eqb, or_right}
 use Rattle.dr_ids.specs.declared.names.Member.{Member}
 use Rattle.dr_model.specs.declared.event.Event.{Event}
 use Rattle.dr_model.specs.declared.said.Said.{Said}
@@ -9,11 +9,11 @@ use Rattle.dr_model.specs.declared.step.Step.{Step}
 use Rattle.dr_model.specs.Layout.{Fields, is_part}
 use Rattle.dr_model.specs.Control.{Control, Pending, World}
 use Rattle.dr_model.specs.Groups.{In}
-use Rattle.dr_model.specs.Pairs.{is_primary_of, is_metro, goes_over, collides}
-use Rattle.dr_model.specs.Carry.{Act, carry}
-use Rattle.dr_model.specs.Carried.{begun, carried_out}
+use Rattle.dr_model.specs.Pairs.{is_primary_of, is_metro, goes_over, collides, is_cascaded}
+use Rattle.dr_model.specs.Carry.{Act, carry, act}
+use Rattle.dr_model.specs.Carried.{carried_out}
 use Rattle.dr_model.specs.Entries.{fields_at, is_at}
-use Rattle.dr_model.specs.WriteEntries.{partner_of}
+use Rattle.dr_model.specs.WriteEntries.{partner_of, is_fed, is_parted}
 use Rattle.dr_model.specs.Messages.{Message}
 use Rattle.dr_model.specs.MessagePlans.{told_begun}
 use Rattle.dr_model.specs.Sessions.{session_in, members_in}
@@ -21,26 +21,46 @@ use Rattle.dr_model.specs.SessionPlans.{is_idle}
 use Rattle.dr_model.specs.PlanParts.{Plan, same, none_follow}
 use Rattle.dr_model.specs.PlantImage.{Volume}
 use Rattle.dr_model.specs.Runs.{image_plan, image_told}
-use Rattle.dr_model.specs.TakenWrites.{takes_from, sends_write, sends_pending, is_target_in, is_target_for}
-use Rattle.dr_facts.proofs.Entries.{any_world, any_reason, plan-from, from-wider, fine-wider}
+use Rattle.dr_model.specs.TakenWrites.{takes_from, sends_write, sends_pending, is_target_in, is_target_for, is_third}
+use Rattle.dr_facts.proofs.Entries.{any_world, plan-from}
 use Rattle.dr_facts.proofs.Emits.{AllOf}
 use Rattle.dr_facts.proofs.Lists.{any-some}
 use Rattle.dr_facts.proofs.Parts.{global-part, metro-part}
 use Rattle.dr_facts.proofs.Reasons.{NoStop}
 use Rattle.dr_laws_sound.proofs.Listed.{AllLines, each-line, all-lines, image-lines}
 use Rattle.dr_laws_sound.proofs.Cases.{Case, is-new, Reverts, DefinesServer, DefinesVolume, Issues, Writes, Lists, Shows, Stops, Starts, Sends}
-use Rattle.dr_laws_sound.proofs.Does.{Does, Acts, Late, IsWrite, Issued, Found, IsSend, Drained, Collided, IsOrder, Exchanged, Delivered, Relates, Withdraws, Resyncs, Reverses, GivesBack, GivesUp, Stores, Mirrors, OrdersFlash, OrdersRevert, RecoversRevert, SettlesRevert}
+use Rattle.dr_laws_sound.proofs.Does.{Does, Acts, Late, IsWrite, Issued, Found, IsSend, Drained, Collided, IsOrder, Exchanged, Delivered, Relates, Withdraws, Resyncs, Reverses, GivesBack, GivesUp, Stores, Mirrors, OrdersFlash, OrdersRevert, RecoversRevert, SettlesRevert, Fed, SendsOn}
 use Rattle.dr_laws_sound.proofs.DoesPlans.{case-does}
 use Rattle.dr_laws_recovery.proofs.Takes.{OkBy, TakesFrom, Told, told-more, told-none, Takes, act-told}
+use Rattle.dr_laws_recovery.proofs.Collisions.{Stays, stays-hits, is_writing, writing-begun, writing-last, writing-act}
 
 -- the volumes that a step may take from
 abbrev pub MayTake : Control → Result Step ℕ → ℕ → Type 0
 MayTake k asked v = takes_from k asked v ≡ true
 
 module _ (k : Control) where
+  -- a primary names its secondary
+  its-own : (a : ℕ) → is_part (fields_at k a).primary ≡ true → is_primary_of (partner_of k a) (fields_at k a) ≡ true
+  its-own a part = and_from (is_part (fields_at k a).primary) _ part (eq-eqb (partner_of k a) (partner_of k a) refl)
+
+  -- and its secondary does, which is cascaded
+  own-third : (a : ℕ) → is_cascaded (fields_at k (partner_of k a)) ≡ true → is_third k a (partner_of k (partner_of k a)) ≡ true
+  own-third a cascaded = let u : ℕ = partner_of k a in and_from (is_cascaded (fields_at k u)) _ cascaded (its-own u (and_parts (is_part (fields_at k u).primary) _ cascaded).0)
+
   -- a primary's secondary, where a host write goes there
   write-sends : (a t : ℕ) → is_part (fields_at k a).primary ≡ true → (goes_over (fields_at k a) t || collides (fields_at k a) t) ≡ true → sends_write k a t (partner_of k a) ≡ true
-  write-sends a t part goes = let f : Fields = fields_at k a in and_from (is_primary_of f.primary_partner f) _ (and_from (is_part f.primary) _ part (eq-eqb f.primary_partner f.primary_partner refl)) goes
+  write-sends a t part goes = ap (λ b. b || third_write a t) (and_from (is_primary_of (partner_of k a) (fields_at k a)) _ (its-own a part) goes)
+    where
+      third_write : ℕ → ℕ → Bool
+      third_write a t = is_third k a (partner_of k a) && (goes_over (fields_at k a) t && collides (fields_at k (partner_of k a)) t)
+
+  -- and the third site's
+  sends-on : (a t : ℕ) → is_fed k a t ≡ true → collides (fields_at k (partner_of k a)) t ≡ true → sends_write k a t (partner_of k (partner_of k a)) ≡ true
+  sends-on a t fed hits =
+      let over = and_parts (goes_over (fields_at k a) t) _ fed in
+      let cascaded = (and_parts (is_cascaded (fields_at k (partner_of k a))) _ (and_parts (not (is_parted k a)) _ over.1).1).0 in
+      or_right (is_primary_of (partner_of k (partner_of k a)) (fields_at k a) && (goes_over (fields_at k a) t || collides (fields_at k a) t)) _
+      (and_from (is_third k a (partner_of k (partner_of k a))) _ (own-third a cascaded) (and_from (goes_over (fields_at k a) t) _ over.0 hits))
 
   over-sends : (a t : ℕ) → goes_over (fields_at k a) t ≡ true → sends_write k a t (partner_of k a) ≡ true
   over-sends a t over = let f : Fields = fields_at k a in write-sends a t (metro-part f.primary (and_parts (is_metro f.primary) _ over).0) (ap (λ b. b || collides f t) over)
@@ -56,8 +76,13 @@ module _ (k : Control) where
   write-may _ _ _ _ b (Issued v t offset len bytes) sends = sends
   write-may _ _ _ _ b (Found n p found) sends = subst (λ (o : Option Pending). sends_pending k o b ≡ true) (sym found) sends
 
+  write-writing : (asked : Result Step ℕ) (n v t : ℕ) → IsWrite k asked n v t → is_writing asked ≡ true
+  write-writing _ _ _ _ (Issued v t offset len bytes) = refl
+  write-writing _ _ _ _ (Found n p found) = refl
+
   send-may : (asked : Result Step ℕ) (a b : ℕ) → IsSend k asked a b → MayTake k asked b
-  send-may _ _ _ (Drained a most part) = and_from (is_part (fields_at k a).primary) _ part (eq-eqb (fields_at k a).primary_partner (fields_at k a).primary_partner refl)
+  send-may _ _ _ (Drained a most part) = ap (λ b. b || is_third k a (partner_of k a)) (its-own a part)
+  send-may _ _ _ (Fed a most cascaded) = or_right (is_primary_of (partner_of k (partner_of k a)) (fields_at k a)) _ (own-third a cascaded)
   send-may _ _ _ (Collided n v t is met) = write-may _ n v t (partner_of k v) is (collision-sends v t met)
 
   order-may : (asked : Result Step ℕ) (s : ℕ) (m : Member) → IsOrder k asked s m → MayTake k asked m.c.0
@@ -66,22 +91,23 @@ module _ (k : Control) where
 
   module _ (Q : ℕ → Type 0) where
     -- the acts that a step comes to
-    does-takes : (asked : Result Step ℕ) (w : World) (a : Act) → Does k asked w.control a → ((v : ℕ) → MayTake k asked v → Q v) → OkBy (Takes Q) w a
-    does-takes _ w _ (Relates s t choices) to = to t (eq-eqb t t refl)
-    does-takes _ w _ (Withdraws s t) to = to t (eq-eqb t t refl)
-    does-takes _ w _ (Resyncs s t sequence) to = to t (eq-eqb t t refl)
-    does-takes _ w _ (Reverses s t left) to = to t (eq-eqb t t refl)
-    does-takes _ w _ (GivesBack q t back) to =
+    does-takes : (asked : Result Step ℕ) (w : World) (a : Act) → Does k asked w.control a → (is_writing asked ≡ true → Stays k w) → ((v : ℕ) → MayTake k asked v → Q v) → OkBy (Takes Q) w a
+    does-takes _ w _ (Relates s t choices) stays to = to t (eq-eqb t t refl)
+    does-takes _ w _ (Withdraws s t) stays to = to t (eq-eqb t t refl)
+    does-takes _ w _ (Resyncs s t sequence) stays to = to t (eq-eqb t t refl)
+    does-takes _ w _ (Reverses s t left) stays to = to t (eq-eqb t t refl)
+    does-takes _ w _ (GivesBack q t back) stays to =
         let s : ℕ = (fields_at k t).source in to s (and_from (fields_at k t).reversing _ back (ap (λ b. b || nat_eq t s) (eq-eqb s s refl)))
-    does-takes _ w _ (GivesUp q t back) to =
+    does-takes _ w _ (GivesUp q t back) stays to =
         let s : ℕ = (fields_at k t).source in to t (and_from (fields_at k t).reversing _ back (ap (λ b. nat_eq s t || b) (eq-eqb t t refl) ∙ or-true (nat_eq s t)))
-    does-takes _ w _ (Stores a b is t last) to = to b (send-may _ a b is)
-    does-takes _ w _ (Mirrors n v t is over) to = to (partner_of k v) (write-may _ n v t (partner_of k v) is (over-sends v t over))
-    does-takes _ w _ (OrdersFlash s m is n) to = to m.c.0 (order-may _ s m is)
-    does-takes _ w _ (OrdersRevert s m is n) to = to m.c.0 (order-may _ s m is)
-    does-takes _ w _ (RecoversRevert s m here n) to = to m.c.0 (session-target s m here)
-    does-takes _ w _ (SettlesRevert s m (Reverts devs source sequence t own is) n) to = to m.c.0 (subst (λ o. is_at o m.c.0 ≡ true) (sym own) (eq-eqb t m.c.0 (sym is)))
-    does-takes _ w _ d to = tt
+    does-takes _ w _ (Stores a b is t last) stays to = to b (send-may _ a b is)
+    does-takes _ w _ (Mirrors n v t is over) stays to = to (partner_of k v) (write-may _ n v t (partner_of k v) is (over-sends v t over))
+    does-takes _ w _ (SendsOn n v t is fed hits last) stays to = to _ (write-may _ n v t _ is (sends-on v t fed (stays-hits k w (stays (write-writing _ n v t is)) (partner_of k v) t hits)))
+    does-takes _ w _ (OrdersFlash s m is n) stays to = to m.c.0 (order-may _ s m is)
+    does-takes _ w _ (OrdersRevert s m is n) stays to = to m.c.0 (order-may _ s m is)
+    does-takes _ w _ (RecoversRevert s m here n) stays to = to m.c.0 (session-target s m here)
+    does-takes _ w _ (SettlesRevert s m (Reverts devs source sequence t own is) n) stays to = to m.c.0 (subst (λ o. is_at o m.c.0 ≡ true) (sym own) (eq-eqb t m.c.0 (sym is)))
+    does-takes _ w _ d stays to = tt
 
     lines-told : (told : List Event) → AllLines told → AllOf (TakesFrom Q) told
     lines-told = all-lines (AllOf (TakesFrom Q)) tt (λ e es l rest. (each-line (TakesFrom Q) (λ line v u state kind k. tt) (λ line s t sequence previous state flags own. tt) (λ line s a b c state. tt) (λ line s server phase n paused. tt) tt (λ v server tracks. tt) (λ v index bytes. tt) tt e l, rest))
@@ -114,10 +140,15 @@ module _ (w : World) (Q : ℕ → Type 0) where
   pub case-told : (line : ℕ) (asked : Result Step ℕ) (p : Plan) → Case w.control w.events line asked p → ((v : ℕ) → MayTake w.control asked v → Q v) → Tells p
   case-told line asked p c to =
       let e = case-does w line asked p c in
-      let takes : (v : World) (a : Act) → any_world v → Acts w.control asked v a → OkBy (Takes Q) v a = λ v a any does. does-takes w.control Q asked v a does to in
-      plan-from any_world (OkBy (Takes Q)) any_reason any_reason (λ u. Told Q w.events u.events) (λ u t. tt) (λ v a ok t. act-told Q w.events v a ok t) w p (begun-told p.told (begins-told w.control Q w.events line asked p c to))
-      (from-wider any_world any_world (Acts w.control asked) (OkBy (Takes Q)) NoStop any_reason (Late asked) any_reason (λ v any. any) takes (λ r why. tt) (λ r why. tt) p.entries (begun w p) tt e.entries)
-      (λ s. fine-wider any_world any_world (Acts w.control asked) (OkBy (Takes Q)) (Late asked) any_reason (λ v any. any) takes (λ r why. tt) (p.follows s) (e.follows s)) (λ v t. t)
+      (plan-from any_world (Acts w.control asked) NoStop (Late asked) Since (λ u j. tt) takes w p
+      (begun-told p.told (begins-told w.control Q w.events line asked p c to), λ is. writing-begun w.control w refl line asked p c is) e.entries e.follows
+      (λ v j. (j.0, λ is. writing-last w.control w.events line asked p c is v (j.1 is)))).0
+    where
+      Since : World → Type 0
+      Since u = Told Q w.events u.events × (is_writing asked ≡ true → Stays w.control u)
+
+      takes : (v : World) (a : Act) → Acts w.control asked v a → Since v → Since (act v a).0
+      takes v a does j = (act-told Q w.events v a (does-takes w.control Q asked v a does j.1 to) j.0, λ is. writing-act w.control asked is v a does (j.1 is))
 
   -- a plan that only tells something, as it begins
   abbrev pub telling : List Event → (Control → Said) → Plan

@@ -1,23 +1,23 @@
 -- A drain of all tracks that nothing stands against is refused for a stop alone, of a server on which a fuse was armed.
-use Rattle.std.proofs.Common.{ℕ, ◌≡◌, refl, ap, sym, ◌∙◌, subst, Bool, true, false, cond, not, ◌&&◌, ◌||◌, List, [], ◌∷◌, filter, Option, Some, None, Ok}
+use Rattle.std.proofs.Common.{ℕ, ◌≡◌, refl, ap, sym, ◌∙◌, subst, Bool, true, false, cond, not, ◌&&◌, ◌||◌, List, [], ◌∷◌, filter, Option, Some, None, Ok, ◌++◌}
 use Rattle.std.specs.Prelude.{is_some}
 use Rattle.std.specs.List.{list_any}
 use Rattle.std.specs.Option.{option_or}
 use Rattle.std.specs.FinSet.{contains}
-use Rattle.std.proofs.lemmas.Bool.{and_parts, eqb-true, false_from_ne_true}
+use Rattle.std.proofs.lemmas.Bool.{and_parts, eqb-true, false_from_ne_true, and_right}
 use Rattle.dr_ids.specs.declared.refusal.Refusal.{Refusal}
-use Rattle.dr_ids.specs.declared.refusal.Refusal.TheVariants.{Stopped, JournalFull}
+use Rattle.dr_ids.specs.declared.refusal.Refusal.TheVariants.{Stopped, JournalFull, Held}
 use Rattle.dr_ids.specs.declared.refusal.Kind.TheVariants.{Path as OfPath}
 use Rattle.dr_model.specs.Refusals.{unknown, server_off}
 use Rattle.dr_model.specs.declared.step.Step.TheVariants.{Drain}
 use Rattle.dr_model.specs.Layout.{Fields, no_fields, is_part}
 use Rattle.dr_model.specs.Relations.{parted_if, noted, fetched}
-use Rattle.dr_model.specs.Pairs.{is_secondary_of}
+use Rattle.dr_model.specs.Pairs.{is_secondary_of, is_cascaded, holds_back}
 use Rattle.dr_model.specs.Control.{Control, Fuse, Volume, World}
 use Rattle.dr_model.specs.Moves.{Move, Keep, Note, Store, Strike, Suspend, target, fields_left}
-use Rattle.dr_model.specs.Carry.{Act, Make, Next, Pass, Do, End, Entry, Outcome, Turn, continue, go, carry, turn}
-use Rattle.dr_model.specs.Entries.{fields_at, is_running, copies_from, copy_first, stands_in, is_revertible, relation_state, pair_state}
-use Rattle.dr_model.specs.PairEntries.{link_down, has_path, are_linked, belongs_to, refuse_if, end_if, send_refusal, suspend_where, flashed_refusal, store_on, strike_on, send_entries, sends, is_copying, tracks_to_send}
+use Rattle.dr_model.specs.Carry.{Act, Make, Next, Pass, Do, End, Entry, Outcome, Turn, continue, go, carry, turn, entries_in}
+use Rattle.dr_model.specs.Entries.{fields_at, is_running, copies_from, copy_first, stands_in, is_revertible, relation_state, secondary_state}
+use Rattle.dr_model.specs.PairEntries.{link_down, has_path, are_linked, belongs_to, refuse_if, end_if, send_refusal, suspend_where, flashed_refusal, store_on, strike_on, send_entries, sends, is_copying, tracks_to_send, held_refusal, send_first, feeds, suspend_after}
 use Rattle.dr_model.specs.Plans.{Plan, refuses, is_defined, has_room, drain_plan}
 use Rattle.dr_model.specs.Carried.{finish, answered, stop_place}
 use Rattle.dr_model.specs.Runs.{Task, run, after_task}
@@ -31,11 +31,12 @@ use Rattle.dr_laws_sound.proofs.FitsPairs.{its-first, row, runs-done, part-same}
 use Rattle.dr_laws_sound.proofs.Steps.{sound-run}
 use Rattle.dr_laws_recovery.specs.Emptied.{IsEmptied}
 use Rattle.dr_facts.proofs.Entries.{Fine, AllFine, FineThen, fine-none, fine-then, fine-append}
-use Rattle.dr_facts.proofs.SharedEntries.{copies-fine}
+use Rattle.dr_facts.proofs.SharedEntries.{copies-fine, send_first-fine}
 use Rattle.dr_laws_recovery.proofs.Emptied.{drain-empties}
 use Rattle.dr_laws_return.specs.Drains.{CanDrain, EndsOrStops, DrainsOrStops}
 use Rattle.dr_laws_return.proofs.Returned.{Ends, drain-goes}
 use Rattle.dr_logic.proofs.Truth.{false_true}
+use Rattle.dr_laws_sound.proofs.FitsDrain.{feeds-joined}
 
 -- ---- a server stops where a fuse is armed alone
 
@@ -58,6 +59,7 @@ Sends (Keep v t) = Unit {0}
 Sends (Note v t) = Unit {0}
 Sends (Store v t u last) = Unit {0}
 Sends (Strike v t last) = Unit {0}
+Sends (Suspend v busy) = Unit {0}
 Sends m = ⊥
 
 abbrev IsSend : World → Act → Type 0
@@ -73,6 +75,7 @@ sends-leave w (Keep u t) f is v = part-same w (Keep u t) f second_part refl v
 sends-leave w (Note u t) f is v = part-same w (Note u t) f second_part refl v
 sends-leave w (Store u t a last) f is v = part-same w (Store u t a last) f second_part refl v
 sends-leave w (Strike u t last) f is v = part-same w (Strike u t last) f second_part refl v
+sends-leave w (Suspend u busy) f is v = part-same w (Suspend u busy) f second_part refl v
 sends-leave w m f is v = absurd is
 
 -- a relationship may end, and none begins
@@ -85,6 +88,7 @@ plain-left (Keep v t) u is old = plain-parted _ (noted (fetched u.fields t) t) o
 plain-left (Note v t) u is old = old
 plain-left (Store v t a last) u is old = old
 plain-left (Strike v t last) u is old = old
+plain-left (Suspend v busy) u is old = old
 plain-left m u is old = absurd is
 
 -- where a volume with these fields is a target of y, it isn't revertible
@@ -100,7 +104,17 @@ frees-left y (Keep v t) u is old = frees-parted y _ (noted (fetched u.fields t) 
 frees-left y (Note v t) u is old = old
 frees-left y (Store v t a last) u is old = old
 frees-left y (Strike v t last) u is old = old
+frees-left y (Suspend v busy) u is old = old
 frees-left y m u is old = absurd is
+
+-- coordination holds back no more than it did
+let-left : (m : Move) (u : Volume) → Sends m → holds_back u.fields ≡ false → holds_back (fields_left m u) ≡ false
+let-left (Keep v t) u is old = old
+let-left (Note v t) u is old = old
+let-left (Store v t a last) u is old = old
+let-left (Strike v t last) u is old = old
+let-left (Suspend v busy) u is old = and_right (is_cascaded u.fields) false refl
+let-left m u is old = absurd is
 
 -- none of those that pass the first test passes the second
 none-among : (p q : ℕ → Bool) (xs : List ℕ) → ((u : ℕ) → p u ≡ true → q u ≡ false) → list_any q (filter p xs) ≡ false
@@ -112,7 +126,7 @@ none-among p q (u ∷ us) none = by (p u) refl (none-among p q us none)
     by false is rest = rest
 
 module _ (start : World) (x y : ℕ) where
-  -- the secondary is reached and in place, and the source of no revertible relationship; and fuses are armed where they were
+  -- the secondary is reached and in place, the source of no revertible relationship, and lets in what it is sent; and fuses are armed where they were
   record Ready (w : World) : Type 0 where
     path : has_path x y w.control ≡ true
     other : is_running y w.control ≡ true
@@ -120,6 +134,7 @@ module _ (start : World) (x y : ℕ) where
     follows : belongs_to x y w.control ≡ true
     plain : (fields_at w.control y).related ≡ false
     free : (u : ℕ) → Frees y (fields_at w.control u)
+    let_in : holds_back (fields_at w.control y) ≡ false
     armed : (q : ℕ) → HasFuse w q → HasFuse start q
 
   ready-done : (w : World) (m : Move) (f : Option Fuse) → Sends m → (is_some f ≡ true → HasFuse w (server_at w (target m))) → Ready w → Ready (done w m f)
@@ -132,6 +147,7 @@ module _ (start : World) (x y : ℕ) where
         follows = ap (is_secondary_of x) (sends-leave w m f is y) ∙ old.follows;
         plain = at_cases (λ q (u : Volume). (fields_at w.control q).related ≡ false → u.fields.related ≡ false) w.control.volume (target m) (row w m f) (plain-left m (w.control.volume (target m)) is) (λ q ne h. h) y old.plain;
         free = at_cases (λ q (u : Volume). Frees y u.fields) w.control.volume (target m) (row w m f) (frees-left y m (w.control.volume (target m)) is (old.free (target m))) (λ q ne. old.free q);
+        let_in = at_cases (λ q (u : Volume). holds_back (fields_at w.control q) ≡ false → holds_back u.fields ≡ false) w.control.volume (target m) (row w m f) (let-left m (w.control.volume (target m)) is) (λ q ne h. h) y old.let_in;
         armed = at_cases (λ q (o : Option Fuse). is_some o ≡ true → HasFuse start q) w.control.fuse (server_at w (target m)) f (λ h. old.armed _ (fused h)) (λ q ne h. old.armed q h);
       }
 
@@ -169,10 +185,10 @@ module _ (start : World) (x y : ℕ) where
   none-refuses : (w : World) → Ready w → send_refusal x y w.control ≡ None
   none-refuses w old =
       let k : Control = w.control in
-      ap (λ b. option_or (cond (not b) (Some (unknown OfPath)) (cond (not (is_running y k)) (Some (server_off (k.volume y).server)) (cond (not (are_linked x y k)) (Some (link_down (k.volume x).server (k.volume y).server)) None))) (cond (belongs_to x y k) None (Some (pair_state k y)))) old.path
-      ∙ ap (λ b. option_or (cond (not b) (Some (server_off (k.volume y).server)) (cond (not (are_linked x y k)) (Some (link_down (k.volume x).server (k.volume y).server)) None)) (cond (belongs_to x y k) None (Some (pair_state k y)))) old.other
-      ∙ ap (λ b. option_or (cond (not b) (Some (link_down (k.volume x).server (k.volume y).server)) None) (cond (belongs_to x y k) None (Some (pair_state k y)))) old.linked
-      ∙ ap (λ b. cond b None (Some (pair_state k y))) old.follows
+      ap (λ b. option_or (cond (not b) (Some (unknown OfPath)) (cond (not (is_running y k)) (Some (server_off (k.volume y).server)) (cond (not (are_linked x y k)) (Some (link_down (k.volume x).server (k.volume y).server)) None))) (cond (belongs_to x y k) None (Some (secondary_state k y)))) old.path
+      ∙ ap (λ b. option_or (cond (not b) (Some (server_off (k.volume y).server)) (cond (not (are_linked x y k)) (Some (link_down (k.volume x).server (k.volume y).server)) None)) (cond (belongs_to x y k) None (Some (secondary_state k y)))) old.other
+      ∙ ap (λ b. option_or (cond (not b) (Some (link_down (k.volume x).server (k.volume y).server)) None) (cond (belongs_to x y k) None (Some (secondary_state k y)))) old.linked
+      ∙ ap (λ b. cond b None (Some (secondary_state k y))) old.follows
 
   none-flashed : (w : World) → Ready w → flashed_refusal y w.control ≡ None
   none-flashed w old =
@@ -185,14 +201,33 @@ module _ (start : World) (x y : ℕ) where
   each : (d : Entry) (ds : List Entry) → ((u : World) → Ready u → One u (d u.control)) → All ds → All (d ∷ ds)
   each = fine-then Ready IsSend Refuses
 
+  sent-go : (ds : List Entry) → All ds → All (suspend_where (send_refusal x y) x ∷ refuse_if (send_refusal x y) ∷ refuse_if (flashed_refusal y) ∷ ds)
+  sent-go ds rest =
+      each (suspend_where (send_refusal x y) x) _ (λ u r. subst (λ o. One u (cond (is_some o) (Do (Make (Suspend x false))) Pass)) (sym (none-refuses u r)) tt)
+      (each (refuse_if (send_refusal x y)) _ (λ u r. subst (λ o. One u (end_if o)) (sym (none-refuses u r)) tt) (each (refuse_if (flashed_refusal y)) _ (λ u r. subst (λ o. One u (end_if o)) (sym (none-flashed u r)) tt) rest))
+
+  stored-go : (volumes : List ℕ) (t : ℕ) (ds : List Entry) → All ds → All (copy_first volumes y t ++ store_on x y t ∷ strike_on x t ∷ ds)
+  stored-go volumes t ds rest =
+      fine-append Ready IsSend Refuses (copy_first volumes y t) _ (copies-fine Ready IsSend Refuses (λ v t u r. tt) (λ v t u r. tt) volumes y t)
+      (each (store_on x y t) _ (λ u r. tt) (each (strike_on x t) ds (λ u r. tt) rest))
+
   -- so each track is sent, until a server stops
   sends-go : (volumes ts : List ℕ) → All (sends volumes x y ts)
   sends-go volumes [] = fine-none Ready IsSend Refuses
-  sends-go volumes (t ∷ ts) = fine-append Ready IsSend Refuses (send_entries volumes x y t) (sends volumes x y ts)
-      (each (suspend_where (send_refusal x y) x) _ (λ u r. subst (λ o. One u (cond (is_some o) (Do (Make (Suspend x false))) Pass)) (sym (none-refuses u r)) tt)
-      (each (refuse_if (send_refusal x y)) _ (λ u r. subst (λ o. One u (end_if o)) (sym (none-refuses u r)) tt) (each (refuse_if (flashed_refusal y)) _ (λ u r. subst (λ o. One u (end_if o)) (sym (none-flashed u r)) tt)
-      (fine-append Ready IsSend Refuses (copy_first volumes y t) _ (copies-fine Ready IsSend Refuses (λ v t u r. tt) (λ v t u r. tt) volumes y t)
-      (each (store_on x y t) _ (λ u r. tt) (each (strike_on x t) [] (λ u r. tt) (fine-none Ready IsSend Refuses))))))) (sends-go volumes ts)
+  sends-go volumes (t ∷ ts) = fine-append Ready IsSend Refuses (send_entries volumes x y t) (sends volumes x y ts) (sent-go _ (stored-go volumes t [] (fine-none Ready IsSend Refuses))) (sends-go volumes ts)
+
+  -- and into a cascaded secondary, which sends on to c
+  feeds-go : (c : ℕ) (volumes ts : List ℕ) → All (entries_in (feeds volumes x y c ts))
+  feeds-go c volumes [] = fine-none Ready IsSend Refuses
+  feeds-go c volumes (t ∷ ts) =
+      subst All (sym (feeds-joined volumes x y c t ts))
+      (sent-go _ (each (refuse_if (held_refusal y)) _ (λ u r. subst (λ h. One u (end_if (cond h (Some (Held (record { 0 = y }))) None))) (sym r.let_in) tt)
+      (fine-append Ready IsSend Refuses (send_first volumes y c t) _ (send_first-fine Ready IsSend Refuses (λ v t u r. tt) (λ v t u r. tt) volumes y c t (λ u r. tt) (λ last u r so. tt) (λ last u r. tt))
+      (stored-go volumes t _ (feeds-go c volumes ts)))))
+
+  drains-go : (volumes : List ℕ) (c : ℕ) (ts : List ℕ) (is_fed : Bool) → All (entries_in (cond is_fed (feeds volumes x y c ts) (record { entries = sends volumes x y ts; follows = suspend_after x } ∷ [])))
+  drains-go volumes c ts true = feeds-go c volumes ts
+  drains-go volumes c ts false = sends-go volumes ts
 
 -- ---- the step
 
@@ -214,6 +249,7 @@ module _ (w : World) (s : Sound w) (x y : ℕ) (can : CanDrain w.control x y) wh
     follows = can.follows;
     plain = false_from_ne_true (fields_at w.control y).related (λ h. false_true ((s.rows.parts.fit y).no_secondary h) (and_parts (is_part (fields_at w.control y).secondary) _ can.follows).0);
     free = can.free;
+    let_in = can.let_in;
     armed = λ q h. h;
   }
 
@@ -225,8 +261,8 @@ module _ (w : World) (s : Sound w) (x y : ℕ) (can : CanDrain w.control x y) wh
       carry-passed first (is_defined x) _ _ (s.rows.parts.primary y x (its-first x (fields_at w.control y) can.follows)).defined
       ∙ carry-passed first (is_running x) _ _ can.runs
       ∙ carry-passed first (is_copying x) _ _ can.copying
-      ∙ ap (λ b. carry first (sends w.control.volumes x b ts)) partner
-      )) (all-go w x y _ (sends-go w x y w.control.volumes ts) first ready)
+      ∙ ap (λ b. carry first (entries_in (cond (is_cascaded (fields_at w.control b)) (feeds w.control.volumes x b (fields_at w.control b).primary_partner ts) (record { entries = sends w.control.volumes x b ts; follows = suspend_after x } ∷ [])))) partner
+      )) (all-go w x y _ (drains-go w x y w.control.volumes (fields_at w.control y).primary_partner ts (is_cascaded (fields_at w.control y))) first ready)
 
   module _ (t : Task) (asked : t.asked ≡ Ok (Drain x None)) (room : has_room w.events ≡ true) where
     answers : said_in w t ≡ part_answer (record { world = w; plan = p })

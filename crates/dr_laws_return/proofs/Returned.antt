@@ -1,5 +1,5 @@
 -- A failback and a drain behind it, both answered ok, leave a pair turned round and equal, whatever came before.
-use Rattle.std.proofs.Common.{ℕ, ◌≡◌, ◌≢◌, ◌≤◌, refl, ap, sym, ◌∙◌, subst, append_assoc, arith, Bool, true, false, cond, List, [], ◌∷◌, ◌++◌, Option, Some, None, Ok}
+use Rattle.std.proofs.Common.{ℕ, ◌≡◌, ◌≢◌, ◌≤◌, refl, ap, sym, ◌∙◌, subst, append_assoc, arith, Bool, true, false, cond, List, [], ◌∷◌, ◌++◌, Option, Some, None, Ok, ◌&&◌}
 use Rattle.std.proofs.lemmas.Bool.{and_parts, and_from, eqb-true, eq-eqb, false_from_ne_true}
 use Rattle.std.specs.FinSet.{contains, len}
 use Rattle.dr_ids.specs.declared.refusal.Refusal.{Refusal}
@@ -14,12 +14,12 @@ use Rattle.dr_model.specs.declared.step.Devs.{Devs}
 use Rattle.dr_model.specs.declared.step.Step.TheVariants.{Failback, Drain}
 use Rattle.dr_model.specs.Layout.{Blocks, Fields, Tracks, is_part, kind_of}
 use Rattle.dr_model.specs.Relations.{is_bare}
-use Rattle.dr_model.specs.Pairs.{primary_of, secondary_of, is_primary_of, is_secondary_of, is_kind, is_metro, is_full_duplex}
+use Rattle.dr_model.specs.Pairs.{primary_of, secondary_of, is_primary_of, is_secondary_of, is_kind, is_metro, is_full_duplex, is_cascaded}
 use Rattle.dr_model.specs.Control.{Control, Fuse, Volume, World, is_volume}
 use Rattle.dr_model.specs.Fits.{Fits}
-use Rattle.dr_model.specs.Carry.{Entry, Outcome, carry}
+use Rattle.dr_model.specs.Carry.{Entry, Outcome, carry, entries_in}
 use Rattle.dr_model.specs.Entries.{fields_at, is_running}
-use Rattle.dr_model.specs.PairEntries.{is_copying, sends, tracks_to_send}
+use Rattle.dr_model.specs.PairEntries.{is_copying, sends, tracks_to_send, feeds, suspend_after}
 use Rattle.dr_model.specs.Plans.{Plan, same, refuses, is_defined, has_room, failback_plan, drain_plan}
 use Rattle.dr_model.specs.Carried.{finish, carried_out, answered, stop_place}
 use Rattle.dr_model.specs.Runs.{Task, answered_part, after_task, run}
@@ -116,8 +116,8 @@ module _ (x y : ℕ) (kind : Part) where
     sent : IsEmptied u x
     runs : Runs u x
 
-  drained-home : (w u : World) → Sound w → Facing w → Ends w (drain_plan w.control x None).entries u → Home u
-  drained-home w u s faces ends =
+  drained-home : (w u : World) → Sound w → Facing w → is_part (fields_at w.control y).primary ≡ false → Ends w (drain_plan w.control x None).entries u → Home u
+  drained-home w u s faces plain ends =
       let first : World = as_begun w in
       let there = passed-check first ends.led (is_defined x) _ _ ends.leads in
       let on = passed-check first ends.led (is_running x) _ _ there.1 in
@@ -125,7 +125,10 @@ module _ (x y : ℕ) (kind : Part) where
       let f : Fields = fields_at w.control x in
       let ts : List ℕ = tracks_to_send None (w.control.volume x).tracks f.out_of_sync in
       let partner : f.primary_partner ≡ y = eqb-true f.primary_partner y (and_parts (is_part f.primary) _ faces.leads).1 in
-      let goes = sends-face x y kind (apart w s faces) w.control.volumes ts first ends.led (subst (λ b. carry first (sends w.control.volumes x b ts) ≡ (ends.led, None)) partner copying.1) (record { runs = on.0; faces = faces }) in
+      let sent : carry first (sends w.control.volumes x y ts) ≡ (ends.led, None) =
+      sym (ap (λ c. carry first (entries_in (cond c (feeds w.control.volumes x y (fields_at w.control y).primary_partner ts) (record { entries = sends w.control.volumes x y ts; follows = suspend_after x } ∷ [])))) (ap (λ p. p && is_part (fields_at w.control y).secondary) plain))
+      ∙ subst (λ b. carry first (entries_in (cond (is_cascaded (fields_at w.control b)) (feeds w.control.volumes x b (fields_at w.control b).primary_partner ts) (record { entries = sends w.control.volumes x b ts; follows = suspend_after x } ∷ []))) ≡ (ends.led, None)) partner copying.1 in
+      let goes = sends-face x y kind (apart w s faces) w.control.volumes ts first ends.led sent (record { runs = on.0; faces = faces }) in
       record {
         faces = subst (λ (vs : ℕ → Volume). Faces x y kind (vs x).fields (vs y).fields) (sym ends.volume) goes.faces;
         sent = λ t. ap (λ (vs : ℕ → Volume). contains (vs x).fields.out_of_sync t) ends.volume ∙ drain-empties w s x ends.led ends.leads t;
@@ -212,9 +215,9 @@ home-tasks w t s devs x y kind a b sound then asked drains says answers =
     let t_is : t ≡ record { line = t.line; asked = Ok (Failback devs x y kind); listed = t.listed } = λ i. record t { asked = asked i } in
     let one : Ends w p.entries u =
     subst (λ (t : Task). said_in w t ≡ Done a → Ends w p.entries (after_task w t)) (sym t_is) (step-goes w t.line a p.entries p (plan-goes w t.line a p.entries p.follows p.says)) says in
-    let faces : Facing x y (kind_of kind) u =
-    subst (λ (vs : ℕ → Volume). Faces x y (kind_of kind) (vs x).fields (vs y).fields) (sym one.volume) (turned-faces x y (kind_of kind) one.led (failback-leaves w sound devs x y (kind_of kind) one.led one.leads)) in
-    drained-home x y (kind_of kind) u (after_task u s) then faces (drain-goes u s x b drains answers)
+    let turned : IsTurned one.led x y (kind_of kind) = failback-leaves w sound devs x y (kind_of kind) one.led one.leads in
+    let faces : Facing x y (kind_of kind) u = subst (λ (vs : ℕ → Volume). Faces x y (kind_of kind) (vs x).fields (vs y).fields) (sym one.volume) (turned-faces x y (kind_of kind) one.led turned) in
+    drained-home x y (kind_of kind) u (after_task u s) then faces (ap (λ (vs : ℕ → Volume). is_part (vs y).fields.primary) one.volume ∙ turned.plain) (drain-goes u s x b drains answers)
 
 pub returned-run : (tasks : List Task) (on : ℕ → Bool) (fuse : ℕ → Option Fuse) (device : ℕ → Blocks) → Fits (run tasks) on fuse device → HoldsTracks (run tasks) device → Returns tasks device
 returned-run tasks on fuse device fits holds before t s devs x y kind a b is asked drains says answers =

@@ -4,6 +4,7 @@ use Rattle.dr_ids.specs.declared.refusal.Refusal.TheVariants.{Stopped}
 use Rattle.dr_model.specs.declared.said.Said.{Said}
 use Rattle.dr_model.specs.declared.said.Said.TheVariants.{Done, Refused}
 use Rattle.dr_model.specs.declared.step.Step.TheVariants.{Drain}
+use Rattle.dr_model.specs.Pairs.{holds_back}
 use Rattle.dr_model.specs.Control.{Control, World}
 use Rattle.dr_model.specs.Entries.{fields_at, is_running, copies_from}
 use Rattle.dr_model.specs.PairEntries.{is_copying, leads_to, belongs_to, has_path, are_linked}
@@ -13,7 +14,7 @@ use Rattle.dr_laws_sound.specs.Acknowledged.{said_in}
 use Rattle.dr_laws_recovery.specs.Emptied.{IsEmptied}
 
 -- x, on a running server, is a primary of y in Copy Pending, and y its secondary; a path goes from the subsystem of x to that of y, the server of
--- y is on, and the link between their servers is up; and y is the source of no revertible relationship
+-- y is on, and the link between their servers is up; y is the source of no revertible relationship, and isn't both cascaded and held by coordination
 pub record CanDrain (k : Control) (x y : ℕ) : Type 0 where
   pub runs : is_running x k ≡ true
   pub copying : is_copying x k ≡ true
@@ -23,6 +24,7 @@ pub record CanDrain (k : Control) (x y : ℕ) : Type 0 where
   pub other : is_running y k ≡ true
   pub linked : are_linked x y k ≡ true
   pub free : (u : ℕ) → copies_from y (fields_at k u) ≡ true → (fields_at k u).revertible ≡ false
+  pub let_in : holds_back (fields_at k y) ≡ false
 
 -- A step that began in w led to u: it was answered ok, and x has nothing out of sync; or it was refused because a server stopped on which a fuse was
 -- armed as it began. It is answered in no other way.

@@ -5,7 +5,7 @@ use Rattle.dr_ids.specs.declared.names.Member.{Member}
 use Rattle.dr_ids.specs.declared.refusal.Refusal.{Refusal}
 use Rattle.dr_ids.specs.declared.refusal.Refusal.TheVariants.{Stopped as StoppedIn, JournalFull}
 use Rattle.dr_model.specs.Control.{Fuse, World}
-use Rattle.dr_model.specs.Carry.{Act, Make, OpenAttempt, Redo, Acknowledge, Drop, EndFreeze, EndThaw, EndRecovery, Turn, Next, Pass, Do, End, Entry, Outcome, act, continue, go, carry, follow}
+use Rattle.dr_model.specs.Carry.{Act, Make, OpenAttempt, Redo, Acknowledge, Drop, EndFreeze, EndThaw, EndRecovery, Turn, Next, Pass, Do, End, Entry, Outcome, act, continue, go, carry, follow, carry_each}
 use Rattle.dr_model.specs.Carried.{begun, finish, carried_out, stop_place}
 use Rattle.dr_model.specs.PairEntries.{is_copying}
 use Rattle.dr_model.specs.PlanParts.{Plan}
@@ -92,8 +92,12 @@ unfolding carry
 carry-tables w [] = same-tables w
 carry-tables w (d ∷ ds) = go-tables w (d w.control) (λ v. carry v ds) (λ v. carry-tables v ds)
 
+each-tables : (w : World) (ds : List Entry) → SameTables w (carry_each w ds)
+each-tables w [] = same-tables w
+each-tables w (d ∷ ds) = then-tables w (carry w (d ∷ [])).0 _ (carry-tables w (d ∷ [])) (each-tables (carry w (d ∷ [])).0 ds)
+
 follow-tables : (w : World) (r : Refusal) (follows : List Entry) → SameTables w (follow w r follows)
-follow-tables w (StoppedIn s) follows = carry-tables w follows
+follow-tables w (StoppedIn s) follows = each-tables w follows
 follow-tables w r follows = same-tables w
 
 -- ---- a drain

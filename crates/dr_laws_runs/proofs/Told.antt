@@ -12,7 +12,7 @@ use Rattle.dr_model.specs.Histories.{Histories, histories, after_event}
 use Rattle.dr_model.specs.Layout.{Fields}
 use Rattle.dr_model.specs.Control.{Volume, World}
 use Rattle.dr_model.specs.Moves.{Move, Hold, Carried, target, next_fields, carried, keeps_staged, updated_keeping, told, told_in_stop, landed}
-use Rattle.dr_model.specs.Carry.{Act, Make, OpenAttempt, Redo, Acknowledge, Drop, EndFreeze, EndThaw, EndRecovery, Turn, Ended, ended, Next, Pass, Do, End, Entry, Outcome, turn, redo, redo_ended, redo_writes, act, continue, go, carry, follow, spent, off, pass, counts_by, writes, gate_at, equal, attempt_begun, opened_by, update_keeping, finished, cut_short, dropped, stopped_turn, stopped_next, stopped_at}
+use Rattle.dr_model.specs.Carry.{Act, Make, OpenAttempt, Redo, Acknowledge, Drop, EndFreeze, EndThaw, EndRecovery, Turn, Ended, ended, Next, Pass, Do, End, Entry, Outcome, turn, redo, redo_ended, redo_writes, act, continue, go, carry, follow, spent, off, pass, counts_by, writes, gate_at, equal, attempt_begun, opened_by, update_keeping, finished, cut_short, dropped, stopped_turn, stopped_next, stopped_at, carry_each}
 use Rattle.dr_model.specs.PlanParts.{Plan}
 use Rattle.dr_model.specs.Carried.{begun, finish, carried_out}
 use Rattle.dr_model.proofs.Images.{histories-append}
@@ -170,11 +170,15 @@ unfolding stopped_at
 place-same w es [] alike = refl
 place-same w es (d ∷ ds) alike = next-place w es (d w.control) (λ v. stopped_at v ds + 1) alike (λ v fs alike. ap (λ n. n + 1) (place-same v fs ds alike))
 
-follow-same : (w : World) (es : List Event) (r : Refusal) (follows : List Entry) → TellAlike es w → Same es w (follow w r follows, Some r) (follow (with_events w es) r follows, Some r)
-follow-same w es (StoppedIn s) follows alike = by (carry-same w es follows alike)
+each-same : (w : World) (es : List Event) (r : Refusal) (ds : List Entry) → TellAlike es w → Same es w (carry_each w ds, Some r) (carry_each (with_events w es) ds, Some r)
+each-same w es r [] alike = same-nothing es w w (Some r) refl
+each-same w es r (d ∷ ds) alike = by (carry w (d ∷ [])) (carry (with_events w es) (d ∷ [])) (carry-same w es (d ∷ []) alike) (λ v fs alike. each-same v fs r ds alike)
   where
-    by : Same es w (carry w follows) (carry (with_events w es) follows) → Same es w ((carry w follows).0, Some (StoppedIn s)) ((carry (with_events w es) follows).0, Some (StoppedIn s))
-    by same = record { on = same.on; is = ap (λ (o : Outcome). (o.0, Some (StoppedIn s))) same.is }
+    by : (o q : Outcome) → Same es w o q → ((v : World) (fs : List Event) → TellAlike fs v → Same fs v (carry_each v ds, Some r) (carry_each (with_events v fs) ds, Some r)) → Same es w (carry_each o.0 ds, Some r) (carry_each q.0 ds, Some r)
+    by o q same rest = subst (λ x. Same es w (carry_each o.0 ds, Some r) (carry_each x.0 ds, Some r)) (sym same.is) (then-same w o.0 es same.on _ _ (rest o.0 (es ++ same.on.more) (alike-on w o.0 es same.on alike)))
+
+follow-same : (w : World) (es : List Event) (r : Refusal) (follows : List Entry) → TellAlike es w → Same es w (follow w r follows, Some r) (follow (with_events w es) r follows, Some r)
+follow-same w es (StoppedIn s) follows alike = each-same w es (StoppedIn s) follows alike
 follow-same w es r follows alike = same-nothing es w w (Some r) refl
 
 finish-same : (p : Plan) (n : ℕ) (w : World) (es : List Event) (r : Option Refusal) → TellAlike es w → Same es w (finish p n w r, r) (finish p n (with_events w es) r, r)

@@ -4,6 +4,7 @@ use Rattle.std.specs.Prelude.{option_map}
 use Rattle.std.specs.List.{find, list_any}
 use Rattle.std.specs.FinSet.{contains}
 use Rattle.std.proofs.lemmas.List.{append-nil}
+use Rattle.dr_model.specs.PairEntries.{send_first}
 use Rattle.dr_ids.specs.declared.refusal.Refusal.{Refusal}
 use Rattle.dr_ids.specs.declared.refusal.Refusal.TheVariants.{Syntax, JournalFull, Stopped as StoppedIn}
 use Rattle.dr_model.specs.declared.event.Event.{Event}
@@ -18,11 +19,11 @@ use Rattle.dr_model.specs.Answers.{answer}
 use Rattle.dr_model.specs.Refusals.{unknown}
 use Rattle.dr_ids.specs.declared.refusal.Kind.TheVariants.{Write as OfWrite}
 use Rattle.dr_model.specs.Control.{Control, Fuse, Pending, Volume, World}
-use Rattle.dr_model.specs.Pairs.{held, goes_over, collides}
+use Rattle.dr_model.specs.Pairs.{held, goes_over, collides, is_cascaded}
 use Rattle.dr_model.specs.Moves.{Move, Keep, Note, Land, Overwrite, Suspend, Unsync, Mirror, LandBoth, is_write, target}
 use Rattle.dr_model.specs.Carry.{Make, Acknowledge, Drop, act, acknowledged, dropped, Next, Pass, Do, End, Entry, Turn, Outcome, carry, continue, go, now, check, follow}
 use Rattle.dr_model.specs.Entries.{fields_at, copies_from, is_running, is_no_secondary, is_open, is_settled, relation_state, land_on, land_alone, copy_first, drop_unless, keep_on}
-use Rattle.dr_model.specs.WriteEntries.{partner_of, is_grouped, is_parted, land_mirrored, land_parted, land_entries, landing, send_first, waits, says_written, after_write, start_entries}
+use Rattle.dr_model.specs.WriteEntries.{partner_of, is_grouped, is_parted, land_mirrored, land_parted, land_entries, landing, waits, says_written, after_write, start_entries, mirror_and_land, land_fed, is_held_back}
 use Rattle.dr_model.specs.PlanParts.{Plan, only_says, refuses, server_named, name_bytes}
 use Rattle.dr_model.specs.Plans.{plan, plan_of, has_room, has_room_for, issue_refusal, write_done, apply_done, apply_on, landed_on, acknowledge_if, acknowledge_on, says_acked, start_plan, start_on, compare_plan}
 use Rattle.dr_model.specs.Forming.{Part, formed, form_said}
@@ -38,10 +39,10 @@ use Rattle.dr_facts.proofs.Tables.{at_part}
 use Rattle.dr_laws_sound.specs.Acknowledged.{acknowledgements, wrote, acked, acknowledged_by, said_in, IsUnlanded, AcknowledgesAnswered, AcknowledgedIsAnswered}
 use Rattle.dr_laws_sound.proofs.Turns.{act-cases, after_act, done_in_stop, server_at, server_of}
 use Rattle.dr_laws_sound.proofs.Parts as parts
-use Rattle.dr_laws_sound.proofs.Unacknowledged.{mirrors, cuts_any, NoAcknowledgement, no_acknowledgement-none, mirrors-then, uncut-then, HasStop, AcknowledgesNothing, Turned, act-turned, none-then, NothingAcknowledged, since-same, since-then, StaysPending, pending-same, AllAcknowledgeNothing, Comes, carry-unacknowledged}
+use Rattle.dr_laws_sound.proofs.Unacknowledged.{mirrors, cuts_any, NoAcknowledgement, no_acknowledgement-none, mirrors-then, uncut-then, HasStop, AcknowledgesNothing, Turned, act-turned, none-then, NothingAcknowledged, since-same, since-then, StaysPending, pending-same, AllAcknowledgeNothing, Comes, carry-unacknowledged, EachAcknowledgesNothing, each-unacknowledged}
 use Rattle.dr_laws_sound.proofs.AcknowledgingSteps.{PlanAcknowledgesNothing, NotHeld, done-not, refused-not, phase-not, acknowledges, case-unacknowledged, says-unacknowledged, lines-unacknowledged, if-plan, unless-plan, named-plan}
 use Rattle.dr_laws_sound.proofs.Cases.{of-case, Compares}
-use Rattle.dr_facts.proofs.Entries.{any_world, any_reason, fine-none, fine-now}
+use Rattle.dr_facts.proofs.Entries.{any_world, any_reason, fine-none, fine-now, fine-append}
 use Rattle.dr_facts.proofs.SharedEntries.{copies-fine, send_first-fine, after_write-fine, starts-fine}
 
 -- what is acknowledged where a plan ends well
@@ -315,18 +316,23 @@ module _ (k : Control) (n v t : ℕ) where
         way = way r;
       }
 
-  mirrored-told : (w : World) (u : ℕ) → is_running v w.control ≡ true → Told w (carry w (land_mirrored k.volumes n v t u)) (n ∷ [])
-  mirrored-told w u runs =
-      subst (λ ds. Told w (carry w ds) (n ∷ [])) (sym (append_assoc (now (Unsync v t) ∷ copy_first k.volumes u t) (now (Mirror u t v n) ∷ copy_first k.volumes v t) (now (LandBoth n v t) ∷ [])))
-      (then-told w (now (Unsync v t) ∷ copy_first k.volumes u t) (now (Mirror u t v n) ∷ lands_behind k.volumes) (n ∷ []) (now-unacknowledged (Unsync v t) _ refl (keeps-unacknowledged k.volumes u t))
-      (λ x on stays. mirror-told x u (runs-on w x runs on stays)))
+  sent-unacknowledged : (q u : ℕ) → AllAcknowledgeNothing true (send_first k.volumes q u t)
+  sent-unacknowledged q u = send_first-fine any_world (λ w a. AcknowledgesNothing true a) any_reason (λ u t w any. refl) (λ u t w any. refl) k.volumes q u t (λ w any. refl) (λ last w any so. refl) (λ last w any. refl)
 
-  sent-unacknowledged : (u : ℕ) → AllAcknowledgeNothing true (send_first k.volumes v u t)
-  sent-unacknowledged u = send_first-fine any_world (λ w a. AcknowledgesNothing true a) any_reason (λ u t w any. refl) (λ u t w any. refl) k.volumes v u t (λ w any. refl) (λ last w any. refl) (λ last w any. refl)
+  -- the track is out of sync, and what else comes before the secondary stores it acknowledges nothing
+  mirrored-told : (w : World) (u : ℕ) (first : List Entry) → AllAcknowledgeNothing true first → is_running v w.control ≡ true → Told w (carry w (now (Unsync v t) ∷ first ++ mirror_and_land k.volumes n v t u)) (n ∷ [])
+  mirrored-told w u first nothing runs =
+      let copies : List Entry = copy_first k.volumes u t in
+      let joined : first ++ mirror_and_land k.volumes n v t u ≡ (first ++ copies) ++ now (Mirror u t v n) ∷ lands_behind k.volumes =
+      ap (λ ds. first ++ ds) (append_assoc copies (now (Mirror u t v n) ∷ copy_first k.volumes v t) (now (LandBoth n v t) ∷ [])) ∙ sym (append_assoc first copies (now (Mirror u t v n) ∷ lands_behind k.volumes)) in
+      subst (λ ds. Told w (carry w (now (Unsync v t) ∷ ds)) (n ∷ [])) (sym joined)
+      (then-told w (now (Unsync v t) ∷ first ++ copies) (now (Mirror u t v n) ∷ lands_behind k.volumes) (n ∷ [])
+      (now-unacknowledged (Unsync v t) _ refl (fine-append any_world (λ w a. AcknowledgesNothing true a) any_reason first copies nothing (keeps-unacknowledged k.volumes u t)))
+      (λ x on stays. mirror-told x u (runs-on w x runs on stays)))
 
   collided-told : (w : World) (u : ℕ) → is_running v w.control ≡ true → Told w (carry w (send_first k.volumes v u t ++ land_alone k.volumes n v t)) (n ∷ [])
   collided-told w u runs =
-      then-told w (send_first k.volumes v u t) (land_alone k.volumes n v t) (n ∷ []) (sent-unacknowledged u)
+      then-told w (send_first k.volumes v u t) (land_alone k.volumes n v t) (n ∷ []) (sent-unacknowledged v u)
       (λ x on stays. alone-told x (runs-on w x runs on stays))
 
   -- what is acknowledged where the write waits, and where it doesn't
@@ -338,14 +344,20 @@ module _ (k : Control) (n v t : ℕ) where
   parted-told w false runs = then-told w (now (Suspend v false) ∷ []) (land_alone k.volumes n v t) (n ∷ []) (now-unacknowledged (Suspend v false) [] refl none-unacknowledged) (λ x on stays. alone-told x (runs-on w x runs on stays))
 
   entries-told : (w : World) → is_running v w.control ≡ true → Told w (carry w (land_entries k n v t)) (unless_waits (waits k v t))
-  entries-told w runs = by (held (fields_at k v)) (goes_over (fields_at k v) t) (is_parted k v) (collides (fields_at k v) t)
+  entries-told w runs = by (held (fields_at k v)) (goes_over (fields_at k v) t) (is_parted k v) (collides (fields_at k v) t) (is_held_back k v) (is_cascaded (fields_at k u))
     where
-      by : (a c d e : Bool) → Told w (carry w (cond a [] (cond c (cond d (land_parted k n v t) (land_mirrored k.volumes n v t (partner_of k v))) (cond e (send_first k.volumes v (partner_of k v) t ++ land_alone k.volumes n v t) (land_alone k.volumes n v t))))) (unless_waits (a || (c && (d && is_grouped k v (partner_of k v)))))
-      by true c d e = unacknowledged-told w _ (carry-unacknowledged true w [] none-unacknowledged)
-      by false true true e = parted-told w (is_grouped k v (partner_of k v)) runs
-      by false true false e = mirrored-told w (partner_of k v) runs
-      by false false d true = collided-told w (partner_of k v) runs
-      by false false d false = alone-told w runs
+      u : ℕ
+      u = partner_of k v
+
+      by : (a c d e h f : Bool) → Told w (carry w (cond a [] (cond c (cond d (land_parted k n v t) (cond h [] (cond f (land_fed k.volumes n v t u (partner_of k u)) (land_mirrored k.volumes n v t u)))) (cond e (send_first k.volumes v u t ++ land_alone k.volumes n v t) (land_alone k.volumes n v t)))))
+          (unless_waits (a || (c && cond d (is_grouped k v u) h)))
+      by true c d e h f = unacknowledged-told w _ (carry-unacknowledged true w [] none-unacknowledged)
+      by false true true e h f = parted-told w (is_grouped k v u) runs
+      by false true false e true f = unacknowledged-told w _ (carry-unacknowledged true w [] none-unacknowledged)
+      by false true false e false true = mirrored-told w u (send_first k.volumes u (partner_of k u) t) (sent-unacknowledged u (partner_of k u)) runs
+      by false true false e false false = mirrored-told w u [] none-unacknowledged runs
+      by false false d true h f = collided-told w u runs
+      by false false d false h f = alone-told w runs
 
   landing-told : (w : World) → Told w (carry w (landing k n v t)) (unless_waits (waits k v t))
   landing-told w =
@@ -354,8 +366,8 @@ module _ (k : Control) (n v t : ℕ) where
       (drop-told w n (is_open v) _ _ _ refl
       (drop-told w n (is_settled v) (relation_state k v) _ _ refl (entries-told w runs))))
 
-  after-unacknowledged : (s : ℕ) → AllAcknowledgeNothing true (after_write k n v t s)
-  after-unacknowledged s = after_write-fine any_world (λ w a. AcknowledgesNothing true a) any_reason k n v t s (λ busy w any. refl)
+  after-unacknowledged : (s : ℕ) → EachAcknowledgesNothing true (after_write k n v t s)
+  after-unacknowledged s = after_write-fine any_world (λ w a. AcknowledgesNothing true a) any_reason k n v t s (λ busy w any. refl) (λ fed w any. refl)
 
 -- ---- a server starts
 
@@ -379,8 +391,8 @@ starting-told w s vs = then-told w (start_entries s vs) (acknowledge_on s ∷ []
 
 -- ---- plans
 
-follow-told : (no_cuts : Bool) (w u : World) (r : Refusal) (follows : ℕ → List Entry) → ((s : ℕ) → AllAcknowledgeNothing no_cuts (follows s)) → (n : ℕ) → NothingAcknowledged no_cuts u (follow u r (follows n))
-follow-told no_cuts w u (StoppedIn s) follows nothing n = (carry-unacknowledged no_cuts u (follows n) (nothing n)).since
+follow-told : (no_cuts : Bool) (w u : World) (r : Refusal) (follows : ℕ → List Entry) → ((s : ℕ) → EachAcknowledgesNothing no_cuts (follows s)) → (n : ℕ) → NothingAcknowledged no_cuts u (follow u r (follows n))
+follow-told no_cuts w u (StoppedIn s) follows nothing n = each-unacknowledged no_cuts u (follows n) (nothing n)
 follow-told no_cuts w u r follows nothing n = since-same no_cuts u
 
 -- what a plan tells before its answer where its entries end so, and what it leaves pending
@@ -395,7 +407,7 @@ record TellsAt (w : World) (p : Plan) (ns : List ℕ) (o : Outcome) : Type 0 whe
 abbrev PlanTold : World → Plan → List ℕ → Type 0
 PlanTold w p ns = TellsAt w p ns (carry (begun w p) p.entries)
 
-plan-told : (w : World) (p : Plan) (ns : List ℕ) → NoAcknowledgement true p.told → ((s : ℕ) → AllAcknowledgeNothing true (p.follows s)) → ((k : Control) → (p.last k).pending ≡ k.pending) → (o : Outcome) → Told (begun w p) o ns → TellsAt w p ns o
+plan-told : (w : World) (p : Plan) (ns : List ℕ) → NoAcknowledgement true p.told → ((s : ℕ) → EachAcknowledgesNothing true (p.follows s)) → ((k : Control) → (p.last k).pending ≡ k.pending) → (o : Outcome) → Told (begun w p) o ns → TellsAt w p ns o
 plan-told w p ns first follows last (u, None) t = record {
   told = p.told ++ t.added;
   events = t.events ∙ append_assoc w.events p.told t.added;
@@ -521,7 +533,7 @@ module _ (w : World) (name : Name) (s : ℕ) where
   start-answers : Answers (Ok (Start name)) w starts
   start-answers =
       let o : Outcome = carry (begun w starts) starts.entries in
-      let t : PlanTold w starts (one_or_none (landed_on w.control s)) = plan-told w starts (one_or_none (landed_on w.control s)) (record { none = refl; plain = refl; uncut = λ h. refl }) (λ q. none-unacknowledged) (λ j. refl) o (starting-told (begun w starts) s w.control.volumes) in
+      let t : PlanTold w starts (one_or_none (landed_on w.control s)) = plan-told w starts (one_or_none (landed_on w.control s)) (record { none = refl; plain = refl; uncut = λ h. refl }) (λ q. tt) (λ j. refl) o (starting-told (begun w starts) s w.control.volumes) in
       record {
         told = t.told;
         events = t.events;

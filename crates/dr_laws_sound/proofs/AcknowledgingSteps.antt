@@ -20,7 +20,7 @@ use Rattle.dr_model.specs.MessagePlans.{told_begun}
 use Rattle.dr_model.specs.Listings.{lists}
 use Rattle.dr_model.specs.Plans.{Plan, refuses, unless, on_named, on_owner, on_session, is_defined, only_says}
 use Rattle.dr_facts.proofs.Reasons.{NoStop}
-use Rattle.dr_facts.proofs.Entries.{any_world, from-none, fine-none}
+use Rattle.dr_facts.proofs.Entries.{any_world, from-none}
 pub use Rattle.dr_laws_sound.proofs.Cases.{NotHeld, done-not, refused-not}
 use Rattle.dr_laws_sound.proofs.Cases.{Case, Says, DefinesServer, DefinesVolume, Issues, Writes, Applies, Lists, Shows, Stops, Starts, Aborts, Exchanges, Sends, TakesReply, Recovers}
 use Rattle.dr_laws_sound.proofs.Does.{Does, Acts, Late, IsWrite, Issued, Found, Lands, Overwrites, Mirrors, LandsBoth, Drops, Acknowledges}
@@ -132,6 +132,6 @@ pub lines-unacknowledged : (w : World) (told : List Event) → AllLines told →
 lines-unacknowledged w told ls =
     let p : Plain told = lines-plain told ls in
     record {
-      since = plan-since false NoStop NoStop (λ u a. AcknowledgesNothing false a) (λ u a nothing. nothing) w (lists told) (record { none = p.none; plain = p.plain; uncut = λ h. absurd cc }) (from-none any_world (λ u a. AcknowledgesNothing false a) NoStop NoStop _) (λ s. fine-none any_world (λ u a. AcknowledgesNothing false a) NoStop);
+      since = plan-since false NoStop NoStop (λ u a. AcknowledgesNothing false a) (λ u a nothing. nothing) w (lists told) (record { none = p.none; plain = p.plain; uncut = λ h. absurd cc }) (from-none any_world (λ u a. AcknowledgesNothing false a) NoStop NoStop _) (λ s. tt);
       says = λ k. done-not Alone;
     }

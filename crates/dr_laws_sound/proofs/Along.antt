@@ -6,12 +6,12 @@ use Rattle.dr_ids.specs.declared.refusal.Refusal.TheVariants.{Stopped as Stopped
 use Rattle.dr_model.specs.Control.{Control, World, Fuse}
 use Rattle.dr_model.specs.Refusals.{stopped}
 use Rattle.dr_model.specs.Moves.{Move}
-use Rattle.dr_model.specs.Carry.{Act, Make, OpenAttempt, Redo, Acknowledge, Drop, EndFreeze, EndThaw, EndRecovery, act, Turn, Next, Pass, Do, End, Entry, Outcome, continue, go, carry, check, now}
+use Rattle.dr_model.specs.Carry.{Act, Make, OpenAttempt, Redo, Acknowledge, Drop, EndFreeze, EndThaw, EndRecovery, act, Turn, Next, Pass, Do, End, Entry, Outcome, continue, go, carry, carry_each, check, now}
 use Rattle.dr_model.specs.Plans.{Plan}
 use Rattle.dr_model.specs.Runs.{begun, finish, carried_out}
 use Rattle.dr_model.specs.Allowed.{Runs}
 use Rattle.dr_model.specs.ReadStops.{GoesOff, IsEnd, EndsTurn, EndsNext, Ends, gone_off}
-use Rattle.dr_laws_sound.specs.Calm.{Carries, ComesTo}
+use Rattle.dr_laws_sound.specs.Calm.{Carries, ComesTo, EndsEach}
 use Rattle.dr_laws_sound.proofs.Turns.{done, done_in_stop, opened_in_stop, not_done, place, server_of, after_act, Writes, Counts, act-cases}
 use Rattle.dr_logic.proofs.Truth.{false_true}
 
@@ -176,6 +176,33 @@ module _ (J I E W : World → Type 0) (May : World → Act → Type 0) (inner : 
       → J w → Along J I E May w ds → Ends armed u r w ds → W u
   ends-weaker keeps armed goes_off u r w ds j a e = ends-keep J W May (keeps-weaker keeps) armed goes_off u r w ds j (along-weaker w ds j a) e
 
+-- entries of which each may come wherever I holds, whatever became of those before it
+module _ (I : World → Type 0) (May : World → Act → Type 0) where
+  abbrev pub EachAlong : List Entry → Type 0
+  EachAlong [] = Unit {0}
+  EachAlong (d ∷ ds) = ((w : World) → I w → Along I I I May w (d ∷ [])) × EachAlong ds
+
+  ends-either : (w : World) (r : Option Refusal) → EndedBy I I I May w r → I w
+  ends-either w None i = i
+  ends-either w (Some r) i = i
+
+  pub each-along : Keeps I I May → (ds : List Entry) → EachAlong ds → (w : World) → I w → I (carry_each w ds)
+  each-along each [] all w i = i
+  each-along each (d ∷ ds) all w i = each-along each ds all.1 (carry w (d ∷ [])).0 (ends-either _ _ (along I I I May each w (d ∷ []) i (all.0 w i)))
+
+  -- however single entries end that leave I, where they come to a move I holds, and the move may come
+  module _ (EndsIn : World → List Entry → World → Option Refusal → Type 0) (ended : (w : World) (d : Entry) (u : World) (r : Option Refusal) → I w → Along I I I May w (d ∷ []) → EndsIn w (d ∷ []) u r → I u) where
+    comes-each : (before : List Entry) (d : Entry) (rest : List Entry) → EachAlong (before ++ d ∷ rest) → (w v : World) (m : Move) → I w → EndsEach EndsIn w before v None → d v.control ≡ Do (Make m) → I v × May v (Make m)
+    comes-each [] d rest all w v m i is decides = let j : I v = subst I (sym is) i in (j, (along-comes I I I May v d [] _ decides (all.0 v j)).0)
+    comes-each (e ∷ es) d rest all w v m i goes decides = comes-each es d rest all.1 goes.middle v m (ended w e goes.middle goes.refusal i (all.0 w i) goes.first) goes.rest decides
+
+    pub each-comes_to : (ds : List Entry) → EachAlong ds → (w v : World) (m : Move) → I w → ComesTo (EndsEach EndsIn) w ds v m → I v × May v (Make m)
+    each-comes_to ds all w v m i at = comes-each at.before at.entry at.rest (subst EachAlong at.placed all) w v m i at.leads at.decides
+
+  -- as they are carried out
+  pub carried-ends : Keeps I I May → (w : World) (d : Entry) (u : World) (r : Option Refusal) → I w → Along I I I May w (d ∷ []) → Carries w (d ∷ []) u r → I u
+  carried-ends each w d u r i a is = ends-either u r (subst (λ (o : Outcome). EndedBy I I I May o.0 o.1) is (along I I I May each w (d ∷ []) i a))
+
 -- What is to be shown of a step's plan: I holds between steps, W at every moment. A plan may have an inner law and
 -- acts of its own, as that of a start, and a law for the end of its entries, on which the tables as the step ends rest.
 module _ (I W : World → Type 0) (May : World → Act → Type 0) where
@@ -188,17 +215,13 @@ module _ (I W : World → Type 0) (May : World → Act → Type 0) where
     pub complete : (v : World) → ends v → W v
     pub begins : inner (begun w p)
     pub entries : Along inner I ends may (begun w p) p.entries
-    pub follows : (s : ℕ) (v : World) → I v → Along I I I May v (p.follows s)
+    pub follows : (s : ℕ) → EachAlong I May (p.follows s)
     pub last : (v : World) → ends v → I (record v { control = p.last v.control })
 
   module _ (each : Keeps I I May) (outer : (v : World) → I v → W v) where
-    ends-either : (w : World) (r : Option Refusal) → EndedBy I I I May w r → I w
-    ends-either w None i = i
-    ends-either w (Some r) i = i
-
     finish-keeps : (w v : World) (p : Plan) (n : ℕ) (r : Option Refusal) → (holds : Holds w p) → EndedBy holds.inner I holds.ends holds.may v r → I (finish p n v r)
     finish-keeps w v p n None holds i = holds.last v i
-    finish-keeps w v p n (Some (StoppedIn s)) holds i = ends-either _ _ (along I I I May each v (p.follows n) i (holds.follows n v i))
+    finish-keeps w v p n (Some (StoppedIn s)) holds i = each-along I May each (p.follows n) (holds.follows n) v i
     finish-keeps w v p n (Some r) holds i = i
 
     pub plan-keeps : (w : World) (p : Plan) → Holds w p → I (carried_out w p).0

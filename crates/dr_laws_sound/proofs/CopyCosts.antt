@@ -1,6 +1,6 @@
 -- What the background copy and the restore of a target tell: a restore tells of each track what is kept of it, at most 12
 -- times, and that it came back; and at its end of each track, and that it ended.
-use Rattle.std.proofs.Common.{ℕ, zero, suc, ◌≡◌, ◌≢◌, ◌≤◌, ◌+◌, ◌*◌, List, [], ◌∷◌, ◌++◌, append_assoc, length, map, filter, refl, ap, sym, ◌∙◌, subst, arith, Bool, true, false, cond, not, ◌&&◌, Option, Some, None}
+use Rattle.std.proofs.Common.{ℕ, zero, suc, ◌≡◌, ◌≢◌, ◌≤◌, ◌+◌, ◌*◌, List, [], ◌∷◌, ◌++◌, append_assoc, length, map, filter, refl, ap, sym, ◌∙◌, subst, arith, Bool, true, false, cond, not, ◌&&◌, Option, Some, None, ◌⊎◌, inl, inr}
 use Rattle.std.specs.FinSet.{contains, empty, insert}
 use Rattle.dr_logic.specs.Tables.{at}
 use Rattle.dr_model.specs.declared.event.Event.TheVariants.{Restored}
@@ -34,17 +34,22 @@ module _ (s : ℕ) where
       fewer (λ u. copies_from s (at w.control.volume (target m) y u).fields) (copies w)
       (at_cases (λ u (z : Volume). copies_from s z.fields ≡ true → copies w u ≡ true) w.control.volume (target m) y still (λ q ne h. h)) us
 
--- The targets of s keep track t, or note its change: each at its entry, as long as `L` holds, which moves on volumes that aren't restored leave.
-module _ (s t : ℕ) (L : World → Type 0) (entry : ℕ → Entry) (comes : (x : ℕ) (w : World) → L w → entry x w.control ≡ keep_on s t x w.control)
-    (stays : (w : World) (a : Move) (f : Option Fuse) → L w → (fields_at w.control (target a)).reversing ≡ false → (copies_from s (fields_left a (w.control.volume (target a))) ≡ true → copies s w (target a) ≡ true) → L (done w a f))
+-- a move makes no new target of any volume
+abbrev pub MakesNone : World → Move → Type 0
+MakesNone w a = (q : ℕ) → copies_from q (fields_left a (w.control.volume (target a))) ≡ true → copies q w (target a) ≡ true
+
+-- The targets of s keep track t, or note its change: each at its entry, or that is passed over, as long as `L` holds, which moves on volumes that aren't
+-- restored leave.
+module _ (s t : ℕ) (L : World → Type 0) (entry : ℕ → Entry) (comes : (x : ℕ) (w : World) → L w → (entry x w.control ≡ keep_on s t x w.control) ⊎ (entry x w.control ≡ Pass))
+    (stays : (w : World) (a : Move) (f : Option Fuse) → L w → (fields_at w.control (target a)).reversing ≡ false → MakesNone w a → L (done w a f))
     (m : ℕ) (more : List Entry) (rest : (b : ℕ) → m ≤ b → (w : World) → L w → Costs b w more) where
   abbrev After : List ℕ → Type 0
   After us = (c b : ℕ) (w : World) → count s w us ≤ c → c + m ≤ b → L w → Costs b w (map entry us ++ more)
 
   moved-on : (us : List ℕ) → After us → (a : Move) (w : World) (c b : ℕ) → count s w us ≤ c → c + m ≤ b → L w → (fields_at w.control (target a)).reversing ≡ false
-      → (copies_from s (fields_left a (w.control.volume (target a))) ≡ true → copies s w (target a) ≡ true) → (f : Option Fuse) → Costs b (done w a f) (map entry us ++ more)
+      → MakesNone w a → (f : Option Fuse) → Costs b (done w a f) (map entry us ++ more)
   moved-on us next a w c b cnt le l free still f =
-      let fewer : count s (done w a f) us ≤ count s w us = copies-after s w a _ still us in
+      let fewer : count s (done w a f) us ≤ count s w us = copies-after s w a _ (still s) us in
       next c b (done w a f) (omega arith) le (stays w a f l free still)
 
   keep-by : (x : ℕ) (us : List ℕ) → After us → (w : World) → L w → (g rev own nt : Bool) → (fields_at w.control x).reversing ≡ rev → (c b : ℕ) → length (cond g (x ∷ filter (copies s w) us) (filter (copies s w) us)) ≤ c → c + m ≤ b
@@ -52,19 +57,28 @@ module _ (s t : ℕ) (L : World → Type 0) (entry : ℕ → Entry) (comes : (x 
   keep-by x us next w l false rev own nt free c b cnt le = next c b w cnt le l
   keep-by x us next w l true true own nt free c b cnt le = next c b w (omega arith) le l
   keep-by x us next w l true false true false free c b cnt le = next c b w (omega arith) le l
-  keep-by x us next w l true false true true free c b cnt le = (next c b w (omega arith) le l, (b, ((omega arith), λ f. moved-on us next (Note x t) w c b (omega arith) le l free (λ h. h) f)))
+  keep-by x us next w l true false true true free c b cnt le = (next c b w (omega arith) le l, (b, ((omega arith), λ f. moved-on us next (Note x t) w c b (omega arith) le l free (λ q h. h) f)))
   keep-by x us next w l true false false nt free zero b cnt le = absurd (omega arith)
   keep-by x us next w l true false false nt free (suc c) b cnt le =
       let u : Volume = w.control.volume x in (
         next (suc c) b w (omega arith) le l,
-        (c + m, ((omega arith), λ f. moved-on us next (Keep x t) w c (c + m) (omega arith) (omega arith) l free (parted-copies (is_whole u.tracks (insert u.fields.own t) && not u.fields.persistent) u.fields.related u.fields.source s) f)),
+        (c + m, ((omega arith), λ f. moved-on us next (Keep x t) w c (c + m) (omega arith) (omega arith) l free (λ q. parted-copies (is_whole u.tracks (insert u.fields.own t) && not u.fields.persistent) u.fields.related u.fields.source q) f)),
       )
+
+  count-rest : (x : ℕ) (us : List ℕ) (w : World) → count s w us ≤ count s w (x ∷ us)
+  count-rest x us w = by (copies s w x)
+    where
+      by : (g : Bool) → count s w us ≤ length (cond g (x ∷ filter (copies s w) us) (filter (copies s w) us))
+      by true = omega arith
+      by false = omega arith
 
   pub keeps : (us : List ℕ) → After us
   keeps [] c b w cnt le l = rest b (omega arith) w l
   keeps (x ∷ us) c b w cnt le l =
-      let f : Fields = fields_at w.control x in
-      costs-entry b w (entry x) _ _ (comes x w l) (keep-by x us (keeps us) w l (copies s w x) f.reversing (contains f.own t) (f.recorded && not (contains f.source_changes t)) refl c b cnt le)
+      let f : Fields = fields_at w.control x in elim (comes x w l) [
+        | inl is ↦ costs-entry b w (entry x) _ _ is (keep-by x us (keeps us) w l (copies s w x) f.reversing (contains f.own t) (f.recorded && not (contains f.source_changes t)) refl c b cnt le)
+        | inr is ↦ costs-entry b w (entry x) _ Pass is (keeps us c b w (let fewer : count s w us ≤ count s w (x ∷ us) = count-rest x us w in omega arith) le l)
+      ]
 
 module _ (volumes : List ℕ) (v s : ℕ) where
   -- v is restored, and s has few targets
@@ -77,12 +91,12 @@ module _ (volumes : List ℕ) (v s : ℕ) where
   abbrev LiveAt : ℕ → World → Type 0
   LiveAt t w = Live w × (lowest_held v w.control ≡ Some t)
 
-  live-stays : (t : ℕ) (w : World) (a : Move) (f : Option Fuse) → LiveAt t w → (fields_at w.control (target a)).reversing ≡ false → (copies_from s (fields_left a (w.control.volume (target a))) ≡ true → copies s w (target a) ≡ true) → LiveAt t (done w a f)
+  live-stays : (t : ℕ) (w : World) (a : Move) (f : Option Fuse) → LiveAt t w → (fields_at w.control (target a)).reversing ≡ false → MakesNone w a → LiveAt t (done w a f)
   live-stays t w a f live free still =
       let k : World = done w a f in
       let ne : v ≢ target a = λ e. false_true free (ap (λ j. (fields_at w.control j).reversing) (sym e) ∙ live.0.reversing) in
       let same : k.control.volume v ≡ w.control.volume v = at_other w.control.volume (target a) _ v ne in
-      let few_all : count s k volumes ≤ count s w volumes = copies-after s w a _ still volumes in
+      let few_all : count s k volumes ≤ count s w volumes = copies-after s w a _ (still s) volumes in
       let few : count s w volumes ≤ most_targets = live.0.few in (
         record { reversing = ap (λ (x : Volume). x.fields.reversing) same ∙ live.0.reversing; small = subst (λ (x : Volume). x.tracks ≤ most_tracks) (sym same) live.0.small; few = omega arith },
         ap (λ (x : Volume). lowest x.tracks x.fields.own) same ∙ live.1,
@@ -173,7 +187,7 @@ module _ (volumes : List ℕ) (v s : ℕ) where
       → (o : Option ℕ) → lowest_held v w.control ≡ o → Costs b w (round more)
   round-by p b w more enough le live next over None is = all-pass b w _ is (passes b w _ _ is (passes b w _ _ is (next b (omega arith) w live))) volumes
   round-by p b w more enough le live next over (Some t) is =
-      keeps s t (LiveAt t) (λ u. for_lowest v (λ t. keep_on s t u)) (λ x w live. ap (λ o. on_found o (λ t. keep_on s t x) w.control) live.1) (live-stays t) (p + 1) _ (λ b le w live. restore t p more enough next over b le w live.0 live.1) volumes 12 b w live.few (omega arith) (live, is)
+      keeps s t (LiveAt t) (λ u. for_lowest v (λ t. keep_on s t u)) (λ x w live. inl (ap (λ o. on_found o (λ t. keep_on s t x) w.control) live.1)) (live-stays t) (p + 1) _ (λ b le w live. restore t p more enough next over b le w live.0 live.1) volumes 12 b w live.few (omega arith) (live, is)
 
   pub rounds : (n b : ℕ) (w : World) → n * 13 + 257 ≤ b → Live w → Costs b w (times n (give_back volumes s v))
   rounds zero b w le live = costs-nil b w

@@ -12,7 +12,9 @@ use Rattle.dr_model.specs.Contents.{image}
 use Rattle.dr_model.specs.Histories.{Write, Histories, histories, after_event}
 use Rattle.dr_model.specs.Control.{Pending, Volume, World, is_volume, new_volume}
 use Rattle.dr_model.specs.Table.{Row, table, waiting, due_by, aside, aside_by}
-use Rattle.dr_model.specs.Laws.{NoneCascaded, Seals, OneKind, SealedGlobal, AllSent, NoMetro, fields, ShowsAside, SoundRows, HoldsOld, RowParts, RowRecords, Partnered, OneWay, FreeSource, Alike, source, its_primary, its_secondary, Numbered, Waits, AllPending, Lone, Together, servers, sizes, Sound}
+use Rattle.dr_model.specs.Laws.{Seals, OneKind, SealedGlobal, AllSent, NoMetro, fields, ShowsAside, SoundRows, HoldsOld, RowParts, RowRecords, Partnered, OneWay, FreeSource, Alike, source, its_primary, its_secondary, Numbered, Waits, AllPending, Lone, Together, servers, sizes, Sound}
+use Rattle.dr_model.specs.Groups.{SecondariesUncascaded}
+use Rattle.dr_model.specs.Entries.{fields_at}
 use Rattle.dr_model.proofs.Images.{histories-append}
 use Rattle.dr_laws_attempts.proofs.Volumes.{attempts-defined}
 use Rattle.dr_laws_messages.proofs.Moves.{flights-defined}
@@ -208,16 +210,15 @@ module _ (w : World) (s : Sound w) (v server tracks : ℕ) (here : server < leng
         calm = λ l f. ap w.control.on (same-server p waits) ∙ waits.calm l f;
       }
 
-  uncascaded-defined : NoneCascaded with_volume.control
-  uncascaded-defined =
-      at_cases (λ u (x : Volume). is_part x.fields.primary ≡ true → is_part x.fields.secondary ≡ false) w.control.volume v (new_volume server tracks) (λ h. absurd cc) (λ u ne. s.uncascaded u)
+  secondaries-defined : SecondariesUncascaded with_volume.control
+  secondaries-defined x q i here = at_cases (λ u (y : Volume). q.b.0 ≡ u → is_part y.fields.primary ≡ true → is_part y.fields.secondary ≡ false) w.control.volume v (new_volume server tracks)
+      (λ is h. absurd cc) (λ u ne is. subst (λ j. is_part (fields_at w.control j).primary ≡ true → is_part (fields_at w.control j).secondary ≡ false) is (s.secondaries x q i here)) q.b.0 refl
 
   pub sound-defined : Sound with_volume
   sound-defined = record {
     rows = subst SoundRows (sym table-defined) rows-defined;
     targets = few-defined w.control s.targets v server tracks undefined;
-    uncascaded = uncascaded-defined;
-    secondaries = λ x q i here. uncascaded-defined q.b.0;
+    secondaries = secondaries-defined;
     groups = groups-defined w.control v server tracks undefined s.groups;
     housed = housed-volume w.control v server tracks here s.housed;
     attempts = attempts-defined w.control v server tracks undefined s.groups s.attempts;

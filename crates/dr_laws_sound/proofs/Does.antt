@@ -14,7 +14,7 @@ use Rattle.dr_model.specs.declared.step.Step.TheVariants.{Start, Write, Apply, M
 use Rattle.dr_model.specs.Layout.{is_part}
 use Rattle.dr_model.specs.Control.{Control, Pending, World}
 use Rattle.dr_model.specs.Relations.{Choices}
-use Rattle.dr_model.specs.Pairs.{held, goes_over, collides, next_state, state_with}
+use Rattle.dr_model.specs.Pairs.{held, is_cascaded, goes_over, collides, next_state, state_with}
 use Rattle.dr_model.specs.Groups.{In}
 use Rattle.dr_model.specs.Messages.{Message, message_in}
 use Rattle.dr_model.specs.Sessions.{session_in, members_in}
@@ -22,9 +22,9 @@ use Rattle.dr_model.specs.Moves as moves
 use Rattle.dr_model.specs.Moves.{is_write}
 use Rattle.dr_model.specs.Carry.{Act, Make, OpenAttempt, Redo, Acknowledge, Drop, EndFreeze, EndThaw, EndRecovery}
 use Rattle.dr_model.specs.Entries.{fields_at}
-use Rattle.dr_model.specs.PairEntries.{stands_free, may_follow, may_take_over, leads_as, leads_to, unsent_by}
+use Rattle.dr_model.specs.PairEntries.{may_lead, may_follow, may_take_over, leads_as, leads_to, unsent_by}
 use Rattle.dr_model.specs.PlanParts.{server_named, name_bytes}
-use Rattle.dr_model.specs.WriteEntries.{partner_of, is_between, belongs}
+use Rattle.dr_model.specs.WriteEntries.{partner_of, is_fed, is_between, belongs}
 use Rattle.dr_model.specs.Plans.{landed_on}
 use Rattle.dr_facts.proofs.Reasons.{NoStop}
 use Rattle.dr_laws_sound.proofs.Cases.{ByHand}
@@ -38,6 +38,8 @@ pub data IsWrite (k : Control) : Result Step ℕ → ℕ → ℕ → ℕ → Typ
 pub data IsSend (k : Control) : Result Step ℕ → ℕ → ℕ → Type 0 where
   Drained : (a : ℕ) → (most : Option ℕ) → is_part (fields_at k a).primary ≡ true → IsSend k (Ok (Drain a most)) a (fields_at k a).primary_partner
   Collided : {asked : Result Step ℕ} → (n v t : ℕ) → IsWrite k asked n v t → collides (fields_at k v) t ≡ true → IsSend k asked v (partner_of k v)
+  -- as the cascaded secondary of a primary that sends
+  Fed : (a : ℕ) → (most : Option ℕ) → is_cascaded (fields_at k (partner_of k a)) ≡ true → IsSend k (Ok (Drain a most)) (partner_of k a) (partner_of k (partner_of k a))
 
 -- a server carries out an order of session s with member m
 pub data IsOrder (k : Control) : Result Step ℕ → ℕ → Member → Type 0 where
@@ -65,14 +67,15 @@ pub data Does (k : Control) : Result Step ℕ → Control → Act → Type 0 whe
   Frees : {devs : Devs} → {l : ℕ} → {j : Control} → (v : ℕ) → Does k (Ok (UnfreezeFlash devs l)) j (Make (moves.FlashFree v))
   -- pairs
   MakesSecondary : {devs : Devs} → {n : ℕ} → {choices : PairChoices} → {j : Control} → (a b : ℕ) → (kind : Part) → (state : PairState) → may_follow a b k ≡ true → Does k (Ok (MakePair devs a b n choices)) j (Make (moves.MakeSecondary b a kind state))
-  MakesPrimary : {devs : Devs} → {n : ℕ} → {choices : PairChoices} → {j : Control} → (a b : ℕ) → (kind : Part) → (state : PairState) → (full : Bool) → stands_free a k ≡ true
+  MakesPrimary : {devs : Devs} → {n : ℕ} → {choices : PairChoices} → {j : Control} → (a b : ℕ) → (kind : Part) → (state : PairState) → (full cascade : Bool) → may_lead cascade a b k ≡ true
       → Does k (Ok (MakePair devs a b n choices)) j (Make (moves.MakePrimary a b kind state full))
   DropsPrimary : {devs : Devs} → {b : ℕ} → {source_only : Bool} → {j : Control} → (a : ℕ) → Does k (Ok (RemovePair devs a b source_only)) j (Make (moves.DropPrimary a))
   DropsSecondary : {devs : Devs} → {a : ℕ} → {source_only : Bool} → {j : Control} → (b : ℕ) → Does k (Ok (RemovePair devs a b source_only)) j (Make (moves.DropSecondary b))
   Pauses : {devs : Devs} → {a : ℕ} → {j : Control} → (b : ℕ) → Does k (Ok (PausePair devs a b)) j (Make (moves.Follow b SuspendedState))
   Follows : {devs : Devs} → {n a : ℕ} → {j : Control} → (b : ℕ) → (state : PairState) → Does k (Ok (ResumePair devs a b n)) j (Make (moves.Follow b state))
   Resumes : {devs : Devs} → {n b : ℕ} → {j : Control} → (a : ℕ) → Does k (Ok (ResumePair devs a b n)) j (Make (moves.Resume a (next_state (fields_at j a))))
-  TakesOver : {devs : Devs} → {n : ℕ} → {j : Control} → (b a : ℕ) → (kind : Part) → may_take_over a b kind k ≡ true → Does k (Ok (Failover devs b a n)) j (Make (moves.TakeOver b))
+  TakesOver : {devs : Devs} → {n : ℕ} → {j : Control} → (b a : ℕ) → (kind : Part) → may_take_over a b kind k ≡ true → is_cascaded (fields_at k b) ≡ false → Does k (Ok (Failover devs b a n)) j (Make (moves.TakeOver b))
+  LeavesPrimary : {devs : Devs} → {n : ℕ} → {j : Control} → (b a : ℕ) → (kind : Part) → may_take_over a b kind k ≡ true → is_cascaded (fields_at k b) ≡ true → Does k (Ok (Failover devs b a n)) j (Make (moves.LeavePrimary b))
   FallsBack : {devs : Devs} → {n : ℕ} → {j : Control} → (x y : ℕ) → (kind : Part) → leads_as x y kind k ≡ true → Does k (Ok (Failback devs x y n)) j (Make (moves.FallBack x (unsent_by y j) (state_with (unsent_by y j) (fields_at j x))))
   Yields : {devs : Devs} → {n : ℕ} → {j : Control} → (x y : ℕ) → (kind : Part) → (state : PairState) → leads_to y x k ≡ true → Does k (Ok (Failback devs x y n)) j (Make (moves.Yield y x kind state))
   -- tracks that are sent, and host writes
@@ -80,8 +83,11 @@ pub data Does (k : Control) : Result Step ℕ → Control → Act → Type 0 whe
   Strikes : {asked : Result Step ℕ} → {j : Control} → (a b : ℕ) → IsSend k asked a b → (t : ℕ) → (last : Bool) → Does k asked j (Make (moves.Strike a t last))
   Lands : {asked : Result Step ℕ} → {j : Control} → (n v t : ℕ) → IsWrite k asked n v t → held (fields_at k v) ≡ false → Does k asked j (Make (moves.Land n v t))
   Overwrites : {asked : Result Step ℕ} → {j : Control} → (n v t : ℕ) → IsWrite k asked n v t → held (fields_at k v) ≡ false → Does k asked j (Make (moves.Overwrite n v t))
-  Unsyncs : {asked : Result Step ℕ} → {j : Control} → (n v t : ℕ) → IsWrite k asked n v t → Does k asked j (Make (moves.Unsync v t))
+  Unsyncs : {asked : Result Step ℕ} → {j : Control} → (n v t : ℕ) → IsWrite k asked n v t → goes_over (fields_at k v) t ≡ true → Does k asked j (Make (moves.Unsync v t))
   Mirrors : {asked : Result Step ℕ} → {j : Control} → (n v t : ℕ) → IsWrite k asked n v t → goes_over (fields_at k v) t ≡ true → Does k asked j (Make (moves.Mirror (partner_of k v) t v n))
+  -- the cascaded secondary of such a volume sends on what a write collides with there then
+  SendsOn : {asked : Result Step ℕ} → {j : Control} → (n v t : ℕ) → IsWrite k asked n v t → is_fed k v t ≡ true → collides (fields_at j (partner_of k v)) t ≡ true → (last : Bool) → Does k asked j (Make (moves.Store (partner_of k (partner_of k v)) t (partner_of k v) last))
+  StrikesOn : {asked : Result Step ℕ} → {j : Control} → (n v t : ℕ) → IsWrite k asked n v t → is_fed k v t ≡ true → (last : Bool) → Does k asked j (Make (moves.Strike (partner_of k v) t last))
   LandsBoth : {asked : Result Step ℕ} → {j : Control} → (n v t : ℕ) → IsWrite k asked n v t → held (fields_at k v) ≡ false → Does k asked j (Make (moves.LandBoth n v t))
   Drops : {asked : Result Step ℕ} → {j : Control} → (n v t : ℕ) → IsWrite k asked n v t → Does k asked j (Drop n)
   -- starts, and holds that end
@@ -106,7 +112,7 @@ pub data Does (k : Control) : Result Step ℕ → Control → Act → Type 0 whe
   RaisesAttempt : {devs : Devs} → {l s : ℕ} → {j : Control} → (a n : ℕ) → Does k (Ok (AddMember devs l a s)) j (Make (moves.RaiseAttempt a n))
   RaisesFloor : {devs : Devs} → {l a s : ℕ} → {j : Control} → (c n : ℕ) → Does k (Ok (AddMember devs l a s)) j (Make (moves.RaiseFloor c n))
   Leaves : {devs : Devs} → {l a : ℕ} → {j : Control} → (c p s : ℕ) → Does k (Ok (RemoveMember devs l a s)) j (Make (moves.Leave c p s))
-  RecoversSecondary : {s : ℕ} → {j : Control} → (b : ℕ) → is_part (fields_at j b).secondary ≡ true → Does k (Ok (Recover s)) j (Make (moves.TakeOver b))
+  RecoversSecondary : {j : Control} → (s : ℕ) → (m : Member) → In m (members_in (session_in k.sessions s)) → is_part (fields_at j m.b.0).secondary ≡ true → Does k (Ok (Recover s)) j (Make (moves.TakeOver m.b.0))
   RecoversCommit : {j : Control} → (s : ℕ) → (m : Member) → In m (members_in (session_in k.sessions s)) → (n : ℕ) → Does k (Ok (Recover s)) j (Make (moves.Commit m.c.0 m.a.0 s n))
   RecoversRevert : {j : Control} → (s : ℕ) → (m : Member) → In m (members_in (session_in k.sessions s)) → (n : ℕ) → Does k (Ok (Recover s)) j (Make (moves.Revert m.c.0 m.a.0 s n))
   EndsRecovery : {j : Control} → (s n : ℕ) → Does k (Ok (Recover s)) j (EndRecovery s n)

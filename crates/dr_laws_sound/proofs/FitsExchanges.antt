@@ -26,11 +26,11 @@ use Rattle.dr_laws_attempts.proofs.Tables.{with-answered}
 use Rattle.dr_laws_attempts.proofs.Orders.{order-is, reports-lost, done-asked}
 use Rattle.dr_laws_messages.proofs.Replies.{flights-answered, flights-heard}
 use Rattle.dr_laws_closed.specs.Regroups.{Regroups}
-use Rattle.dr_laws_closed.proofs.Regroups.{regroups-same, regroups-taken}
+use Rattle.dr_laws_closed.proofs.Regroups.{regroups-same, regroups-stay, stays-taken}
+use Rattle.dr_laws_sound.proofs.KeepsGroups.{secondaries-stay}
 use Rattle.dr_laws_sound.proofs.NewMessages.{Adds, adds-same}
 use Rattle.dr_laws_sound.proofs.GoesOn.{Knows, AllGoOn, shown-by, reply-shown, goes-same, goes-still}
 use Rattle.dr_laws_sound.proofs.TablesGo.{goes-taken}
-use Rattle.dr_laws_sound.proofs.KeepsSound.{over}
 use Rattle.dr_laws_sound.proofs.Cases.{Ordered, ordered}
 use Rattle.dr_laws_sound.proofs.FitsFlash.{sound-begun}
 use Rattle.dr_laws_sound.proofs.FitsSessions.{sound-tables, sound-flight, Orders}
@@ -235,6 +235,7 @@ module _ (w : World) (s : Sound w) (i server : ℕ) (x : Session) (r : Mirror) (
     answers : (reply : Bool) → Sound (record v { control = exchanged i server reply o.work ms v.control })
     answers true = sound-tables v _ _
         (subst (λ qs. Groups (answered_by i server o.work (members_on server qs) v.control)) e.among (groups-answered v.control i server o.work y e.sound.groups e.there silent owes))
+        (secondaries-stay v.control _ (stays-taken v.control.sessions e.sound.groups.once i server (reply_after i o.work ms v.control)) e.sound.secondaries)
         (subst (λ qs. Attempts (answered_by i server o.work (members_on server qs) v.control)) e.among (with-answered v.control i server o.work y e.sound.groups e.sound.attempts e.there lost does))
         (subst (λ qs. Flights (exchanged i server true o.work (members_on server qs) v.control)) e.among (flights-answered v.control i server o.work y e.sound.groups e.sound.attempts e.sound.flights e.there lost does))
         e.sound
@@ -284,7 +285,7 @@ module _ (w : World) (s : Sound w) (i server : ℕ) (x : Session) (r : Mirror) (
     goes false = goes-heard v.control.sessions (goes-same v.control)
 
     turns : (reply : Bool) → Regroups v.control.sessions (exchanged i server reply o.work ms v.control).sessions
-    turns true = regroups-taken v.control.sessions e.sound.groups.once i server (reply_after i o.work ms v.control)
+    turns true = regroups-stay _ _ (stays-taken v.control.sessions e.sound.groups.once i server (reply_after i o.work ms v.control))
     turns false = regroups-same v.control.sessions
 
     adds : (reply : Bool) → Adds v.control.sessions v.control.flight (exchanged i server reply o.work ms v.control).flight
@@ -296,7 +297,7 @@ module _ (w : World) (s : Sound w) (i server : ℕ) (x : Session) (r : Mirror) (
     complete = λ v e. e.sound;
     begins = sound-begun w s;
     entries = carries w s i server x o allowed.found on-server (how-by o.work refl);
-    follows = λ q v y. over v y;
+    follows = λ q. tt;
     last = λ v e. answers v e reply;
     turns = λ v e. turns v e reply;
     adds = λ v e. adds v e reply;

@@ -1,27 +1,27 @@
 -- The plans that turn a pair round are allowed along: a secondary is taken over, and a pair goes the other way; and that two volumes are
 -- compared.
-use Rattle.std.proofs.Common.{ℕ, ◌≡◌, ◌≢◌, ◌<◌, refl, ap, sym, ◌∙◌, subst, true, ◌||◌, List, [], ◌∷◌, Option, Some}
-use Rattle.std.proofs.lemmas.Bool.{and_parts, or_right}
+use Rattle.std.proofs.Common.{ℕ, ◌≡◌, ◌≢◌, ◌<◌, refl, ap, sym, ◌∙◌, subst, Bool, true, false, cond, ◌||◌, List, [], ◌∷◌, Option, Some}
+use Rattle.std.proofs.lemmas.Bool.{and_parts, or_right, not-true}
 use Rattle.std.specs.Cmp.{nat_cmp_total}
 use Rattle.std.specs.FinSet.{contains, contains-union}
 use Rattle.dr_model.specs.declared.state.Part.{Part}
 use Rattle.dr_model.specs.declared.step.Devs.{Devs}
 use Rattle.dr_model.specs.Layout.{Tracks, Fields, is_part}
-use Rattle.dr_model.specs.Pairs.{secondary_of, is_primary_of, voided, state_with}
+use Rattle.dr_model.specs.Pairs.{secondary_of, is_primary_of, is_cascaded, voided, state_with}
 use Rattle.dr_model.specs.Views.{source_of}
 use Rattle.dr_model.specs.Control.{Fuse, Volume, World, is_volume}
-use Rattle.dr_model.specs.Moves.{Move, TakeOver, FallBack, Yield}
-use Rattle.dr_model.specs.Carry.{Make, Do}
-use Rattle.dr_model.specs.Entries.{fields_at, is_running, share_size, is_settled}
+use Rattle.dr_model.specs.Moves.{Move, TakeOver, LeavePrimary, FallBack, Yield}
+use Rattle.dr_model.specs.Carry.{Make, Do, now}
+use Rattle.dr_model.specs.Entries.{fields_at, is_running, share_size, is_settled, is_no_secondary}
 use Rattle.dr_model.specs.PairEntries.{reach_refusal, first_differing, differs_at, leads_to, belongs_to, may_take_over, leads_as, unsent_by, fall_back_on, yield_on}
 use Rattle.dr_model.specs.Plans.{is_defined, yield_refusal, failover_plan, failback_plan, compare_plan}
 use Rattle.dr_model.specs.Table.{table}
 use Rattle.dr_model.specs.Laws.{Sound, PartnerFits, unsent}
-use Rattle.dr_model.specs.Allowed.{MayFallBack, MayYield, Runs}
+use Rattle.dr_model.specs.Allowed.{MayFallBack, MayYield, Idle, Runs}
 use Rattle.dr_laws_sound.proofs.Turns.{done}
 use Rattle.dr_laws_sound.proofs.RowsAfter.{idle}
-use Rattle.dr_laws_sound.proofs.KeepsSound.{Along, StepHolds, over, decides, moves, checked}
-use Rattle.dr_laws_sound.proofs.KeepsStructure.{revertible-not as other-none}
+use Rattle.dr_laws_sound.proofs.KeepsSound.{Along, Then, StepHolds, over, decides, checked}
+use Rattle.dr_laws_sound.proofs.FitsCollide.{uncascaded-second}
 use Rattle.dr_laws_sound.proofs.FitsFlash.{refused, as_begun, sound-begun, holds-entries}
 use Rattle.dr_laws_sound.proofs.FitsPairs.{found, reached, its-second, row, runs-done, part-same}
 use Rattle.dr_laws_sound.proofs.Lands.{unrestored, unflashed}
@@ -42,13 +42,14 @@ module _ (w : World) (s : Sound w) where
       found first (sound-begun w s) devs b a _ (λ there_b there_a.
       checked first (is_running b) _ _ (sound-begun w s) (λ on.
       checked first (may_take_over a b kind) _ _ (sound-begun w s) (λ may.
-      moves first (TakeOver b) [] (record {
-        runs = on;
-        allowed = record { second = is-second b a kind may; free = other-none _ ((sound-begun w s).uncascaded b) (is-second b a kind may) };
-        fits = tt;
-        group = tt;
-        ready = idle first b (sound-begun w s).queue on;
-      }) (λ f y. over _ y))))
+      decides first (now (cond (is_cascaded (fields_at w.control b)) (LeavePrimary b) (TakeOver b))) [] _ refl (by on (is-second b a kind may) (is_cascaded (fields_at w.control b)) refl))))
+    where
+      ready : Runs first b → Idle first b
+      ready on = idle first b (sound-begun w s).queue on
+
+      by : Runs first b → is_part (fields_at w.control b).secondary ≡ true → (c : Bool) → is_cascaded (fields_at w.control b) ≡ c → Then first (Do (Make (cond c (LeavePrimary b) (TakeOver b)))) (λ k. Along k [])
+      by on second true is = (record { runs = on; allowed = record { first = (and_parts (is_part (fields_at w.control b).primary) _ is).0; second = second }; fits = tt; group = tt; ready = ready on }, λ f y. over _ y)
+      by on second false is = (record { runs = on; allowed = record { second = second; free = uncascaded-second (fields_at w.control b) is second }; fits = tt; group = tt; ready = ready on }, λ f y. over _ y)
 
   pub holds-failover : (devs : Devs) (b a : ℕ) (kind : Part) → StepHolds w (failover_plan w.control devs b a kind)
   holds-failover devs b a kind = holds-entries w _ _ s (along-failover devs b a kind)
@@ -59,6 +60,8 @@ module _ (w : World) (s : Sound w) where
     on_y : Runs first y
     leads : is_primary_of y (fields_at w.control x) ≡ true
     back : is_primary_of x (fields_at w.control y) ≡ true
+    free_x : is_part (fields_at w.control x).secondary ≡ false
+    free_y : is_part (fields_at w.control y).secondary ≡ false
     settled : is_settled y w.control ≡ true
 
   module _ (x y : ℕ) (p : MayTurn x y) where
@@ -106,8 +109,8 @@ module _ (w : World) (s : Sound w) where
         let back = still-second f x ∙ its-second y (fields_at w.control x) p.leads in record {
           sends = sends;
           back = back;
-          free = z.uncascaded y (part-same first falls f (λ (g : Fields). is_part g.primary) refl y ∙ (and_parts (is_part (fields_at w.control y).primary) _ p.back).0);
-          from_free = z.uncascaded x (part-same first falls f (λ (g : Fields). is_part g.primary) refl x ∙ (and_parts (is_part (fields_at w.control x).primary) _ p.leads).0);
+          free = part-same first falls f (λ (g : Fields). is_part g.secondary) refl y ∙ p.free_y;
+          from_free = part-same first falls f (λ (g : Fields). is_part g.secondary) refl x ∙ p.free_x;
           alike = refl;
           idle = ap (λ (v : Volume). v.fields.recording) (at_same w.control.volume x (row first falls f));
           out = taken f;
@@ -132,10 +135,12 @@ module _ (w : World) (s : Sound w) where
       refused first (reach_refusal x y) _ (sound-begun w s) (λ reach.
       checked first (leads_as x y kind) _ _ (sound-begun w s) (λ leads.
       checked first (leads_to y x) _ _ (sound-begun w s) (λ back.
+      checked first (is_no_secondary x) _ _ (sound-begun w s) (λ free_x.
+      checked first (is_no_secondary y) _ _ (sound-begun w s) (λ free_y.
       checked first (is_settled y) _ _ (sound-begun w s) (λ settled.
       checked first (is_settled x) _ _ (sound-begun w s) (λ other.
       refused first (yield_refusal y) _ (sound-begun w s) (λ none.
-      turns x y (record { on_x = on; on_y = reached first x y reach; leads = (and_parts (leads_to x y w.control) _ leads).0; back = back; settled = settled })))))))))
+      turns x y (record { on_x = on; on_y = reached first x y reach; leads = (and_parts (leads_to x y w.control) _ leads).0; back = back; free_x = not-true _ free_x; free_y = not-true _ free_y; settled = settled })))))))))))
 
   pub holds-failback : (devs : Devs) (x y : ℕ) (kind : Part) → StepHolds w (failback_plan w.control devs x y kind)
   holds-failback devs x y kind = holds-entries w _ _ s (along-failback devs x y kind)

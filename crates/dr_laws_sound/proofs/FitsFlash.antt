@@ -54,7 +54,7 @@ sound-begun w s = subst (λ es. Sound (record w { events = es })) (sym (append-n
 
 -- a plan of entries alone
 pub holds-entries : (w : World) (entries : List Entry) (said : Said) → Sound w → Along (as_begun w) entries → StepHolds w (entries_plan entries said)
-holds-entries w entries said s a = holds-moves w (entries_plan entries said) (sound-begun w s) a (λ q k i. over k i) (λ k i. i)
+holds-entries w entries said s a = holds-moves w (entries_plan entries said) (sound-begun w s) a (λ q. tt) (λ k i. i)
 
 -- a target's server is its source's
 pub runs-target : (w : World) → Sound w → (v u : ℕ) → from w v ≡ Some u → Runs w u → Runs w v

@@ -8,7 +8,7 @@ use Rattle.dr_ids.specs.declared.names.Member.{Member}
 use Rattle.dr_model.specs.declared.state.Part.TheVariants.{Global}
 use Rattle.dr_model.specs.Refusals.{server_off}
 use Rattle.dr_model.specs.Layout.{is_part}
-use Rattle.dr_model.specs.Sessions.{Session, session_in, has_place_of, in_session, busy}
+use Rattle.dr_model.specs.Sessions.{Session, session_in, has_place_of, busy}
 use Rattle.dr_model.specs.Control.{Control, Fuse, Volume, World, is_volume}
 use Rattle.dr_model.specs.Pairs.{is_kind}
 use Rattle.dr_model.specs.Moves.{Move, RaiseAttempt, RaiseFloor, Leave}
@@ -16,7 +16,7 @@ use Rattle.dr_model.specs.Carry.{Make, Pass, Do, Entry}
 use Rattle.dr_model.specs.Entries.{fields_at, is_running, copies_from, targets_of, pair_state}
 use Rattle.dr_model.specs.PairEntries.{reach_refusal, send_refusal}
 use Rattle.dr_model.specs.SessionEntries.{first_number, raise_attempt_on, raise_floor_on}
-use Rattle.dr_model.specs.SessionPlans.{off_refusal, member_with, mirrored_targets, is_mirrored_target, settled_target, the_only}
+use Rattle.dr_model.specs.SessionPlans.{off_refusal, lead_refusal, member_with, mirrored_targets, is_mirrored_target, settled_target, the_only}
 use Rattle.dr_model.specs.Groups.{In, MemberStands}
 use Rattle.dr_model.specs.Attempts.{MayGo, GoesAs, NoneRevertible, seen, seen_in, roles}
 use Rattle.dr_model.specs.Laws.{FlashFits, PartnerFits, Sound}
@@ -30,23 +30,25 @@ use Rattle.dr_laws_attempts.proofs.Members.{raised-low, attempts-added, attempts
 use Rattle.dr_laws_sessions.proofs.Frames.{stands-grows}
 use Rattle.dr_laws_sessions.proofs.Volumes.{grows-framed}
 use Rattle.dr_laws_sessions.proofs.Members.{groups-added, groups-removed, places-differ, no-place}
+use Rattle.dr_facts.proofs.Sessions.{in-none}
 use Rattle.dr_laws_sessions.proofs.Silent.{placeless-silent, member-found}
 use Rattle.dr_laws_sessions.proofs.PlanTables.{taken-quiet}
 use Rattle.dr_laws_sessions.proofs.Housed.{housed-low}
 use Rattle.dr_laws_sound.proofs.Turns.{done}
 use Rattle.dr_laws_sound.proofs.RowsAfter.{idle}
-use Rattle.dr_laws_sound.proofs.KeepsSound.{MayDo, Then, over}
+use Rattle.dr_laws_sound.proofs.KeepsSound.{MayDo, Then}
 use Rattle.dr_laws_messages.proofs.Members.{flights-added, flights-removed}
 use Rattle.dr_laws_sound.proofs.NewMessages.{adds-same}
 use Rattle.dr_laws_sound.proofs.TablesGo.{goes-added, goes-removed}
-use Rattle.dr_laws_closed.proofs.Regroups.{regroups-added, regroups-removed}
+use Rattle.dr_laws_closed.proofs.Regroups.{regroups-stay, regroups-added, stays-removed}
+use Rattle.dr_laws_sound.proofs.KeepsGroups.{secondaries-stay, secondaries-added}
 use Rattle.dr_laws_sound.proofs.Cases.{Joins, added, expelled, one-passed}
 use Rattle.dr_laws_sound.proofs.CopyFirst.{from}
 use Rattle.dr_laws_sound.proofs.FitsFlash.{as_begun, sound-begun}
 use Rattle.dr_laws_sound.proofs.FitsPairs.{reached, row, runs-done}
 use Rattle.dr_laws_sound.proofs.FitsSessions.{sound-sessions, Orders}
 use Rattle.dr_laws_sound.proofs.Along as along
-use Rattle.dr_logic.proofs.Choices.{choose_some}
+use Rattle.dr_logic.proofs.Choices.{choose_some, not_chosen}
 use Rattle.dr_facts.proofs.Parts.{global-part}
 use Rattle.dr_facts.proofs.Refusals.{none-both, met}
 use Rattle.dr_facts.proofs.Tables.{at_part}
@@ -100,8 +102,8 @@ module _ (w : World) (s : Sound w) where
     on : Runs w a
     on = not-false (is_running a w.control) (one-passed (not (is_running a w.control)) (server_off (w.control.volume a).server) _ joins.copies).0
 
-    checks : (is_kind Global (fields_at w.control a).primary ≡ true) × (send_refusal a b w.control ≡ None)
-    checks = let rest = one-passed (not (is_kind Global (fields_at w.control a).primary)) (pair_state w.control a) _ (one-passed (not (is_running a w.control)) (server_off (w.control.volume a).server) _ joins.copies).1 in (not-false (is_kind Global (fields_at w.control a).primary) rest.0, rest.1)
+    checks : (is_kind Global (fields_at w.control a).primary ≡ true) × (send_refusal a b w.control ≡ None) × (lead_refusal b w.control ≡ None)
+    checks = let rest = one-passed (not (is_kind Global (fields_at w.control a).primary)) (pair_state w.control a) _ (one-passed (not (is_running a w.control)) (server_off (w.control.volume a).server) _ joins.copies).1 in let pair = none-both (send_refusal a b w.control) _ rest.1 in (not-false (is_kind Global (fields_at w.control a).primary) rest.0, pair.0, pair.1)
 
     on_b : Runs w b
     on_b = reached w a b (none-both (reach_refusal a b w.control) _ checks.1).0
@@ -140,11 +142,7 @@ module _ (w : World) (s : Sound w) where
     on_c = ap w.control.on flash.same_server ∙ on_b
 
     none : find (has_place_of m) w.control.sessions ≡ None
-    none = by (find (has_place_of m) w.control.sessions) joins.places
-      where
-        by : (o : Option Session) → in_session o ≡ None → o ≡ None
-        by None h = refl
-        by (Some y) h = absurd cc
+    none = in-none (find (has_place_of m) w.control.sessions) joins.places
 
     abbrev n : ℕ
     n = first_number w.control x.last m
@@ -158,6 +156,7 @@ module _ (w : World) (s : Sound w) where
       attempt : (fields_at v.control a).attempt ≤ n
       seal : (fields_at v.control b).seal ≤ n
       floor : (fields_at v.control c).floor ≤ n
+      free : is_part (fields_at v.control b).primary ≡ false
 
     -- and its primary and target have come to the number
     record Risen (v : World) : Type 0 where
@@ -166,7 +165,7 @@ module _ (w : World) (s : Sound w) where
       past : n ≤ (fields_at v.control c).floor
 
     raised : Raised (as_begun w)
-    raised = record { kept = begins; attempt = omega arith; seal = omega arith; floor = omega arith }
+    raised = record { kept = begins; attempt = omega arith; seal = omega arith; floor = omega arith; free = not_chosen (is_part (fields_at w.control b).primary) (pair_state w.control b) checks.2 }
 
     abbrev To : World → List Entry → Type 0
     To = along.Along Sound Sound Risen MayDo
@@ -190,6 +189,7 @@ module _ (w : World) (s : Sound w) where
               attempt = subst (λ i. i ≤ n) (sym (attempt-stays f)) h.attempt;
               seal = subst (λ i. i ≤ n) (sym (at_part (λ (x : Volume). x.fields.seal) v.control.volume c (row v (RaiseFloor c n) f) refl b)) h.seal;
               floor = let e = raised-floor f in omega (arith, e);
+              free = at_part (λ (x : Volume). is_part x.fields.primary) v.control.volume c (row v (RaiseFloor c n) f) refl b ∙ h.free;
             };
             held = subst (λ i. n ≤ i) (sym (attempt-stays f)) held;
             past = let e = raised-floor f in omega (arith, e);
@@ -218,6 +218,7 @@ module _ (w : World) (s : Sound w) where
             attempt = let e = raised-attempt f in omega (arith, e);
             seal = subst (λ i. i ≤ n) (sym (at_part (λ (x : Volume). x.fields.seal) w.control.volume a (row (as_begun w) (RaiseAttempt a n) f) refl b)) raised.seal;
             floor = subst (λ i. i ≤ n) (sym (at_part (λ (x : Volume). x.fields.floor) w.control.volume a (row (as_begun w) (RaiseAttempt a n) f) refl c)) raised.floor;
+            free = at_part (λ (x : Volume). is_part x.fields.primary) w.control.volume a (row (as_begun w) (RaiseAttempt a n) f) refl b ∙ raised.free;
           }) (let e = raised-attempt f in omega (arith, e)) (runs-done (as_begun w) (RaiseAttempt a n) f c on_c),
         )
         by false lt = floors (as_begun w) raised (ltb-false (fields_at w.control a).attempt n lt) on_c
@@ -230,7 +231,7 @@ module _ (w : World) (s : Sound w) where
         let there : MemberStands v.control m = stands-grows w.control v.control m (grows-framed w.control v.control kept.frame) stands in
         let found : session_in v.control.sessions i ≡ Some x = ap (λ ss. session_in ss i) kept.frame.sessions ∙ joins.found in
         let free : find (has_place_of m) v.control.sessions ≡ None = ap (λ ss. find (has_place_of m) ss) kept.frame.sessions ∙ none in
-        sound-sessions v _ (groups-added v.control i n x m kept.sound.groups found (taken-quiet w.control x a joins.free) (housed-low v.control m kept.sound.housed there) there (places-differ v.control m there other) free)
+        sound-sessions v _ (groups-added v.control i n x m kept.sound.groups found (taken-quiet w.control x a joins.free) (housed-low v.control m kept.sound.housed there) there (places-differ v.control m there other) free) (secondaries-added v.control i n m kept.sound.groups h.free kept.sound.secondaries)
         (attempts-added v.control i n x m kept.sound.groups kept.sound.attempts found (taken-quiet w.control x a joins.free) free joins.inside h.attempt h.seal h.floor (raised-low x.last _ (fields_at v.control a).attempt e.held) (raised-low x.last _ (fields_at v.control c).floor e.past))
         (flights-added v.control i n x m kept.sound.groups kept.sound.attempts kept.sound.flights found (taken-quiet w.control x a joins.free) free joins.inside h.attempt h.seal h.floor (raised-low x.last _ (fields_at v.control a).attempt e.held) (raised-low x.last _ (fields_at v.control c).floor e.past)) kept.sound
 
@@ -240,7 +241,7 @@ module _ (w : World) (s : Sound w) where
       complete = λ v e. e.raised.kept.sound;
       begins = sound-begun w s;
       entries = raises;
-      follows = λ q v y. over v y;
+      follows = λ q. tt;
       last = joined;
       turns = λ v e. let kept : Kept w v = e.raised.kept in regroups-added v.control.sessions kept.sound.groups.once i n x m (ap (λ ss. session_in ss i) kept.frame.sessions ∙ joins.found) (quiet-of x (taken-quiet w.control x a joins.free)) (ap (λ ss. find (has_place_of m) ss) kept.frame.sessions ∙ none);
       adds = λ v e. adds-same v.control.sessions v.control.flight v.control.flight refl;
@@ -281,16 +282,16 @@ module _ (w : World) (s : Sound w) where
         begins = sound-begun w s;
         entries = along.along-now Sound Sound (Gone m) MayDo first leave [] (record { runs = runs; allowed = tt; fits = tt; group = (free, goes); ready = idle first m.c.0 begins.sound.queue runs })
             (λ f y. along.along-nil Sound Sound (Gone m) MayDo _ (record { kept = kept-done w first leave f begins y; plain = ap (λ (z : Volume). z.fields.member) (at_same w.control.volume m.c.0 (row first leave f)) }));
-        follows = λ q v y. over v y;
+        follows = λ q. tt;
         last = λ v e.
             let f : session_in v.control.sessions i ≡ Some x = ap (λ ss. session_in ss i) e.kept.frame.sessions ∙ found in
             let now : Sound v = e.kept.sound in
             let gone : ((q : Member) → In q x.members → q.a.0 ≡ m.a.0 → (fields_at v.control q.c.0).member ≡ false) = λ q h same. (
             let one = now.groups.lone.one m.a.0 x x m q (session-found v.control.sessions i x f).0 (session-found v.control.sessions i x f).0 here h (inl refl) (inl (sym same)) in
             subst (λ (z : Member). (fields_at v.control z.c.0).member ≡ false) one.1 e.plain) in
-            sound-sessions v _ (groups-removed v.control i m.a.0 x now.groups f idles) (attempts-removed v.control i m.a.0 x now.groups now.attempts f idles gone)
+            sound-sessions v _ (groups-removed v.control i m.a.0 x now.groups f idles) (secondaries-stay v.control _ (stays-removed v.control.sessions now.groups.once i m.a.0) now.secondaries) (attempts-removed v.control i m.a.0 x now.groups now.attempts f idles gone)
             (flights-removed v.control i m.a.0 x now.groups now.attempts now.flights f idles gone) now;
-        turns = λ v e. regroups-removed v.control.sessions e.kept.sound.groups.once i m.a.0;
+        turns = λ v e. regroups-stay _ _ (stays-removed v.control.sessions e.kept.sound.groups.once i m.a.0);
         adds = λ v e. adds-same v.control.sessions v.control.flight v.control.flight refl;
         goes = λ v e. goes-removed v.control e.kept.sound.groups i m.a.0 x (ap (λ ss. session_in ss i) e.kept.frame.sessions ∙ found) (quiet-of x idles);
       }

@@ -21,7 +21,7 @@ use Rattle.dr_model.specs.Runs.{begun as begun_by}
 use Rattle.dr_model.specs.SessionEntries.{members_on, reply_after}
 use Rattle.dr_model.specs.SessionPlans.{is_idle, off_refusal, phase_refusal, apart_refusal}
 use Rattle.dr_model.specs.MessagePlans.{full_refusal, old_refusal, send_order, sending, told_begun, order_done, replying, is_awaited, taking}
-use Rattle.dr_model.specs.Groups.{In, Groups, SessionFits, IsLoose, Due}
+use Rattle.dr_model.specs.Groups.{In, Groups, SessionFits, IsLoose, Due, SecondariesUncascaded}
 use Rattle.dr_model.specs.Attempts.{phase_of, owed_of, Attempts}
 use Rattle.dr_model.specs.Decisions.{Shown}
 use Rattle.dr_model.specs.Flights.{IsAnswer, HasAnswer, IsAwaited, shown_by, shown_in, Flights}
@@ -37,7 +37,8 @@ use Rattle.dr_laws_attempts.proofs.Orders.{order-is}
 use Rattle.dr_laws_messages.proofs.Turns.{flights-begun}
 use Rattle.dr_laws_messages.proofs.Messages.{flights-sent, flights-replied}
 use Rattle.dr_laws_messages.proofs.Taken.{awaited-so, lost-by, done-by, sessions-taken, attempts-taken, flights-taken}
-use Rattle.dr_laws_closed.proofs.Regroups.{regroups-same}
+use Rattle.dr_laws_closed.proofs.Regroups.{regroups-same, stays-taken}
+use Rattle.dr_laws_sound.proofs.KeepsGroups.{secondaries-stay, secondaries-begun}
 use Rattle.dr_laws_sound.proofs.NewMessages.{Adds, adds-answered, adds-sent}
 use Rattle.dr_laws_sound.proofs.GoesOn.{AllGoOn, goes-replied}
 use Rattle.dr_laws_sound.proofs.TablesGo.{goes-taken}
@@ -128,6 +129,9 @@ module _ (w : World) (s : Sound w) (i server : ℕ) (x : Session) (r : Mirror) (
     groups : Groups begins
     groups = groups-begun k i x r s.groups posts.found posts.mirror idle
 
+    secondaries : SecondariesUncascaded begins
+    secondaries = secondaries-begun k i s.groups.once s.secondaries
+
     attempts : Attempts begins
     attempts = attempts-begun k i x r opens.member s.groups s.attempts posts.found posts.mirror idle opens.here
 
@@ -145,7 +149,7 @@ module _ (w : World) (s : Sound w) (i server : ℕ) (x : Session) (r : Mirror) (
     next-number = ap (λ (o : phases.Order). o.number) opens.order ∙ ap (λ n. n + 1) (fits.sound.number r posts.mirror)
 
     sent-idle : Sent true
-    sent-idle = sound-tables w (changed i begun k.sessions) (sent i server o k.flight) groups attempts
+    sent-idle = sound-tables w (changed i begun k.sessions) (sent i server o k.flight) groups secondaries attempts
         (flights-sent begins i server (begun x) (record r { master = phases.begun r.master }) o groups attempts flights found-begun (ap (option_map (λ (r : Mirror). record r { master = phases.begun r.master })) posts.mirror)
         (ap (λ b. phases.order_if b (Some phases.Hold) (r.master.number + 1)) owed ∙ ap Some (sym opens.order))) s
 
@@ -154,7 +158,7 @@ module _ (w : World) (s : Sound w) (i server : ℕ) (x : Session) (r : Mirror) (
     sound-opened =
         let u : World = record w { control = begins } in
         sound-told None u u.control.servers u.control.on u.control.fuse u.control.link u.control.paths (Begin i o.number ∷ []) (told-lists true u i o.number) (told-quiet true i o.number (u.control.issued + 1)) (λ j h. h) s.housed
-        (sound-sessions w (changed i begun k.sessions) groups attempts flights s)
+        (sound-sessions w (changed i begun k.sessions) groups secondaries attempts flights s)
 
     -- the first hold is what its phase asks for
     pub adds-first : Adds (changed i begun k.sessions) k.flight (sent i server o k.flight)
@@ -187,7 +191,7 @@ module _ (w : World) (s : Sound w) (i server : ℕ) (x : Session) (r : Mirror) (
       (told-quiet (is_idle r.master.phase) i o.number (u.control.issued + 1)) (λ j h. h) s.housed sent-so
 
   pub holds-sent : StepHolds w posted
-  holds-sent = holds-moves w posted sound-sent (over _ sound-sent) (λ q v y. over v y) (λ v y. y)
+  holds-sent = holds-moves w posted sound-sent (over _ sound-sent) (λ q. tt) (λ v y. y)
 
 -- ---- an order arrives
 
@@ -243,7 +247,7 @@ module _ (w : World) (s : Sound w) (q : ℕ) (m : Message) (starts : ℕ) (x : S
     complete = λ v e. e.sound;
     begins = sound-begun w s;
     entries = carries w s m.session m.server x m.order found on (how-due w s m.session m.server x m.order found on m.order.work low due);
-    follows = λ q v y. over v y;
+    follows = λ q. tt;
     last = replied;
     turns = λ v e. regroups-same v.control.sessions;
     adds = λ v e.
@@ -281,7 +285,7 @@ module _ (w : World) (s : Sound w) (q : ℕ) (m : Message) (reply : phases.Reply
   taken-flights = flights-taken w.control s.groups s.attempts s.flights m reply x r here returns.arrives.says returns.arrives.found returns.arrives.mirror awaited
 
   pub sound-taken : Sound (begun_by w (taken m reply))
-  sound-taken = sound-sessions (as_begun w) (taking m reply w.control).sessions taken-groups taken-attempts taken-flights (sound-begun w s)
+  sound-taken = sound-sessions (as_begun w) (taking m reply w.control).sessions taken-groups (secondaries-stay w.control _ (stays-taken w.control.sessions s.groups.once m.session m.server reply) s.secondaries) taken-attempts taken-flights (sound-begun w s)
 
   -- what it tells was on its way
   pub goes-back : AllGoOn w.control (changed m.session (with_master (λ q. phases.taken q m.server reply)) w.control.sessions) w.control.flight
@@ -301,4 +305,4 @@ module _ (w : World) (s : Sound w) (q : ℕ) (m : Message) (reply : phases.Reply
           (awaited-so w.control s.groups s.attempts s.flights m reply x r here returns.arrives.says returns.arrives.found returns.arrives.mirror awaited (subst HasAnswer (sym returns.arrives.says) (subst IsAnswer (sym is) tt))))
 
   pub holds-taken : StepHolds w (taken m reply)
-  holds-taken = holds-moves w (taken m reply) sound-taken (over _ sound-taken) (λ q v y. over v y) (λ v y. y)
+  holds-taken = holds-moves w (taken m reply) sound-taken (over _ sound-taken) (λ q. tt) (λ v y. y)

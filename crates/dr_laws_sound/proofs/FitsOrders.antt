@@ -17,7 +17,7 @@ use Rattle.dr_model.specs.Control.{Control, Fuse, World}
 use Rattle.dr_model.specs.Pairs.{is_kind, is_primary_of, primary_of, records, held_for}
 use Rattle.dr_model.specs.Moves.{Move, Hold, Free, Seal, Flash, Commit, Revert, RaiseFloor, Finish}
 use Rattle.dr_model.specs.Carry.{Make, OpenAttempt, Pass, Do, Entry}
-use Rattle.dr_model.specs.Entries.{fields_at, is_at, pair_state}
+use Rattle.dr_model.specs.Entries.{fields_at, is_at, pair_state, secondary_state}
 use Rattle.dr_model.specs.PairEntries.{reach_refusal, send_refusal, belongs_to, end_if, refuse_if}
 use Rattle.dr_model.specs.SessionEntries.{last_of, may_hold, hold_refusal, stale_refusal, hold_on, void_refusal, free_on, is_drained, seal_refusal, seal_on, is_flashed, flash_refusal, flash_on, is_committed, commit_refusal, commit_on, revert_on, is_past, finish_on, member_entries, members_on, order_entries}
 use Rattle.dr_model.specs.Groups.{In, MemberStands, Due}
@@ -214,7 +214,7 @@ module _ (w : World) (s : Sound w) (i server : ℕ) (x : Session) (o : phases.Or
         allowed = record {
           sends = choose_some (is_part f.primary) f.primary_partner (global-part f.primary ((st.sound.rows.recorders m.a.0).global recording))
               ∙ ap (λ u. Some u) (partner-is v.control x m st.sound.groups (listed-in v (m ∷ rest) st) (st.left m (inl refl)).0 recording);
-          takes = its-first m.a.0 (fields_at v.control m.b.0) (met (belongs_to m.a.0 m.b.0 v.control) (pair_state v.control m.b.0) free.1);
+          takes = its-first m.a.0 (fields_at v.control m.b.0) (met (belongs_to m.a.0 m.b.0 v.control) (secondary_state v.control m.b.0) free.1);
           records = rec;
           drained = λ t. bare-has f.out_of_sync t drained;
         };

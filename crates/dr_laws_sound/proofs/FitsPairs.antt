@@ -1,28 +1,34 @@
 -- The plans on pairs are allowed along: a pair is made and removed, paused and resumed.
-use Rattle.std.proofs.Common.{ℕ, zero, suc, ◌≡◌, ◌≢◌, ◌<◌, ◌+◌, inl, inr, refl, ap, sym, ◌∙◌, subst, Bool, true, false, cond, not, ◌&&◌, nat_eq, List, [], ◌∷◌, ◌++◌, Option, Some, None, arith}
+use Rattle.std.proofs.Common.{ℕ, zero, suc, ◌≡◌, ◌≢◌, ◌<◌, ◌+◌, inl, inr, refl, ap, sym, ◌∙◌, subst, Bool, true, false, cond, not, ◌&&◌, ◌||◌, ◌==◌, nat_eq, List, [], ◌∷◌, ◌++◌, Option, Some, None, arith}
 use Rattle.std.specs.Prelude.{is_some}
 use Rattle.std.proofs.lemmas.List.{append-nil}
-use Rattle.std.proofs.lemmas.Bool.{and_parts, eqb-true, eq-eqb, not-true, not-false}
+use Rattle.std.proofs.lemmas.Bool.{and_parts, or_parts, eqb-true, eqb-false, eq-eqb, not-true, not-false}
 use Rattle.std.proofs.lemmas.Bool.Decides.{eqb_tells}
 use Rattle.std.proofs.lemmas.Slice.Eq.{bytes_eq-Decides}
 use Rattle.std.specs.List.{find, range_with_len}
 use Rattle.std.specs.Str.{bytes_eq}
 use Rattle.dr_ids.specs.declared.refusal.Refusal.{Refusal}
 use Rattle.dr_model.specs.declared.state.Part.{Part}
+use Rattle.dr_model.specs.declared.state.Part.TheVariants.{Global}
 use Rattle.dr_model.specs.declared.state.PairState.{PairState}
 use Rattle.dr_model.specs.declared.state.PairState.TheVariants.{Suspended}
 use Rattle.dr_model.specs.declared.step.Devs.{Devs}
 use Rattle.dr_model.specs.declared.step.PairChoices.{PairChoices}
 use Rattle.dr_model.specs.Contents.{image_at}
 use Rattle.dr_model.specs.Layout.{Fields, is_part}
-use Rattle.dr_model.specs.Pairs.{is_kind, is_suspended, secondary_of, primary_of, is_primary_of, is_secondary_of, first_state, next_state}
+use Rattle.dr_model.specs.Pairs.{is_kind, is_metro, is_suspended, secondary_of, primary_of, is_primary_of, is_secondary_of, first_state, next_state}
 use Rattle.dr_model.specs.Control.{Control, Fuse, Volume, World, is_volume}
 use Rattle.dr_model.specs.Moves.{Suspend, MakeSecondary, MakePrimary, DropPrimary, DropSecondary, Follow, Resume}
 use Rattle.dr_model.specs.Carry.{Make, Pass, Do, Entry, now}
 use Rattle.dr_model.specs.Entries.{fields_at, is_running, share_size, is_no_target, is_settled}
-use Rattle.dr_model.specs.PairEntries.{has_path, reach_refusal, first_differing, differs_at, two_servers, stands_free, may_follow, leads_to, belongs_to, are_linked, let_go, remove_both, may_pause, tell_paused, may_resume, follow_on, resume_on}
-use Rattle.dr_model.specs.Plans.{is_defined, is_owner, found_volumes, make_pair_plan, remove_pair_plan, pause_pair_plan, resume_pair_plan, member_refusal}
-use Rattle.dr_model.specs.Laws.{Sound}
+use Rattle.dr_model.specs.PairEntries.{refuse_if, has_path, reach_refusal, first_differing, differs_at, two_servers, may_lead, make_entries, may_follow, leads_to, belongs_to, are_linked, let_go, remove_both, may_pause, tell_paused, may_resume, follow_on, resume_on}
+use Rattle.dr_model.specs.Plans.{is_defined, is_owner, found_volumes, cascades, cascade_refusal, make_pair_plan, remove_pair_plan, pause_pair_plan, resume_pair_plan, member_refusal}
+use Rattle.dr_model.specs.Laws.{Sound, Cascaded}
+use Rattle.dr_model.specs.Attempts.{SecondaryOfNone}
+use Rattle.dr_model.specs.Sessions.{is_copy}
+use Rattle.dr_ids.specs.declared.names.Member.{Member}
+use Rattle.dr_facts.proofs.Lists.{not-found, any-none}
+use Rattle.dr_facts.proofs.Sessions.{in-none}
 use Rattle.dr_model.specs.Allowed.{Runs}
 use Rattle.dr_laws_sound.proofs.Turns.{done}
 use Rattle.dr_laws_sound.proofs.RowsAfter.{idle}
@@ -88,6 +94,29 @@ module _ (w : World) (s : Sound w) where
   abbrev begins : Sound first
   begins = sound-begun w s
 
+  -- a becomes the primary of b: it is no primary, and a secondary only where it is cascaded from then on, and of no member
+  record MayLead (a b : ℕ) (kind : Part) : Type 0 where
+    lone : is_part (fields_at w.control a).primary ≡ false
+    cascaded : is_part (fields_at w.control a).secondary ≡ true → Cascaded kind b (fields_at w.control a).secondary (fields_at w.control a).secondary_partner
+    unused : is_part (fields_at w.control a).secondary ≡ true → SecondaryOfNone w.control a
+
+  may-lead : (a b : ℕ) (kind : Part) (c : Bool) → (c ≡ true → is_kind Global kind ≡ true) → (c ≡ true → SecondaryOfNone w.control a) → may_lead c a b w.control ≡ true → MayLead a b kind
+  may-lead a b kind true global none leads =
+      let both = and_parts (not (is_part (fields_at w.control a).primary)) _ leads in
+      let second = and_parts (is_metro (fields_at w.control a).secondary) _ both.1 in
+      record {
+        lone = not-true (is_part (fields_at w.control a).primary) both.0;
+        cascaded = λ h. record { sends = global refl; takes = second.0; apart = λ e. eqb-false _ _ (not-true (nat_eq (fields_at w.control a).secondary_partner b) second.1) (sym e) };
+        unused = λ h. none refl;
+      }
+  may-lead a b kind false global none leads = let both = both-not _ _ leads in record { lone = both.0; cascaded = λ h. false_true both.1 h; unused = λ h. false_true both.1 h }
+
+  -- a volume of which no session names a member's secondary or target
+  of-none : (a : ℕ) → cascade_refusal a w.control ≡ None → SecondaryOfNone w.control a
+  of-none a none x m i here e =
+      let copy : (m.b.0 == a || m.c.0 == a) ≡ false = any-none (λ (q : Member). q.b.0 == a || q.c.0 == a) x.members m (not-found (is_copy a) w.control.sessions x (in-none (find (is_copy a) w.control.sessions) none) i) here in
+      eqb-false m.b.0 a (or_parts (m.b.0 == a) _ copy).0 e
+
   -- what two volumes are of which a pair is made
   record MayPair (a b : ℕ) (kind : Part) (full : Bool) : Type 0 where
     part : is_part kind ≡ true
@@ -95,7 +124,7 @@ module _ (w : World) (s : Sound w) where
     tracks : (w.control.volume a).tracks ≡ (w.control.volume b).tracks
     there_a : is_volume w.control a ≡ true
     there_b : is_volume w.control b ≡ true
-    unpaired : (is_part (fields_at w.control a).primary ≡ false) × (is_part (fields_at w.control a).secondary ≡ false)
+    leads : MayLead a b kind
     first_b : is_part (fields_at w.control b).primary ≡ false
     plain_a : (fields_at w.control a).related ≡ false
     plain_b : (fields_at w.control b).related ≡ false
@@ -126,13 +155,13 @@ module _ (w : World) (s : Sound w) where
         let on_b : Runs k b = runs-done first (MakeSecondary b a kind state) f b p.on_b in
         let plain_a : (fields_at k.control a).related ≡ false = ap (λ (x : Volume). x.fields.related) same ∙ p.plain_a in
         let plain_b : (fields_at k.control b).related ≡ false = ap (λ (x : Volume). x.fields.related) here ∙ p.plain_b in
-        let free : is_part (fields_at k.control a).secondary ≡ false = ap (λ (x : Volume). is_part x.fields.secondary) same ∙ p.unpaired.1 in
+        let second : (is_part (fields_at k.control a).secondary ≡ true → is_part (fields_at w.control a).secondary ≡ true) = λ h. ap (λ (x : Volume). is_part x.fields.secondary) (sym same) ∙ h in
         moves k (MakePrimary a b kind state full) [] (record {
           runs = on_a;
           allowed = record {
             is_kind = p.part;
             plain = plain_a;
-            second = λ h. false_true free h;
+            second = λ h. subst (λ (x : Volume). Cascaded kind b x.fields.secondary x.fields.secondary_partner) (sym same) (p.leads.cascaded (second h));
             defined = p.there_b;
             takes = ap (λ (x : Volume). primary_of x.fields) here ∙ choose_some (is_part kind) a p.part;
             alike = ap (λ (x : Volume). x.fields.secondary) here;
@@ -141,8 +170,8 @@ module _ (w : World) (s : Sound w) where
                 let lt_b : t < (k.control.volume b).tracks = subst (λ n. t < n) (p.tracks ∙ sym (ap (λ (x : Volume). x.tracks) here)) lt_a in
                 contents-image k x a t lt on_a plain_a ∙ told-nothing f a t ∙ p.equal no t lt_a ∙ sym (told-nothing f b t) ∙ sym (contents-image k x b t lt_b on_b plain_b);
           };
-          fits = free;
-          group = λ h. false_true free h;
+          fits = tt;
+          group = λ h. p.leads.unused (second h);
           ready = idle k a x.queue on_a;
         }) (λ g y. over _ y)
 
@@ -154,47 +183,56 @@ module _ (w : World) (s : Sound w) where
         apart = λ e. p.apart (sym e);
         tracks = sym p.tracks;
         from_defined = p.there_a;
-        from_first = p.unpaired.0;
-        from_free = λ h. false_true p.unpaired.1 h;
+        from_first = p.leads.lone;
+        from_free = p.leads.cascaded;
         plain = p.plain_b;
         first = p.first_b;
         still = λ x h r. unrestored first begins b p.settled x h r;
         settled = λ x h. unturned (fields_at w.control x).revertible (unflashed first begins b p.settled x h);
       };
       fits = tt;
-      group = (may-follow first begins b (unflashed first begins b p.settled), unturned (fields_at w.control a).recording (λ rec. false_true p.unpaired.0 (global-part (fields_at w.control a).primary ((begins.rows.recorders a).global rec))));
+      group = (may-follow first begins b (unflashed first begins b p.settled), unturned (fields_at w.control a).recording (λ rec. false_true p.leads.lone (global-part (fields_at w.control a).primary ((begins.rows.recorders a).global rec))));
       ready = idle first b begins.queue p.on_b;
     }) second-half
 
   pub along-pair : (devs : Devs) (a b : ℕ) (kind : Part) (choices : PairChoices) → is_part kind ≡ true → Along first (make_pair_plan w.control w.events devs a b kind choices).entries
   along-pair devs a b kind choices part =
-      let difference : Option ℕ = cond choices.full None (first_differing (image_at w.events) (w.control.volume a).tracks a b) in
-      found first begins devs a b _ (λ there_a there_b.
-      checked first (is_running a) _ _ begins (λ on_a.
-      refused first (reach_refusal a b) _ begins (λ reach.
-      checked first (two_servers a b) _ _ begins (λ servers.
-      checked first (share_size a b) _ _ begins (λ size.
-      checked first (stands_free a) _ _ begins (λ unpaired.
-      checked first (may_follow a b) _ _ begins (λ follows.
-      checked first (is_no_target a) _ _ begins (λ plain_a.
-      checked first (is_no_target b) _ _ begins (λ plain_b.
-      checked first (is_settled b) _ _ begins (λ settled.
-      refused first (differs_at difference) _ begins (λ none.
-      along-made a b kind choices.full (record {
-        part = part;
-        apart = λ e. false_true (not-true (nat_eq (w.control.volume a).server (w.control.volume b).server) servers) (eq-eqb _ _ e);
-        tracks = eqb-true (w.control.volume a).tracks (w.control.volume b).tracks size;
-        there_a = there_a;
-        there_b = there_b;
-        unpaired = both-not _ _ unpaired;
-        first_b = not-true _ (and_parts (not (is_part (fields_at w.control b).primary)) _ follows).0;
-        plain_a = not-true (fields_at w.control a).related plain_a;
-        plain_b = not-true (fields_at w.control b).related plain_b;
-        settled = settled;
-        on_a = on_a;
-        on_b = reached first a b reach;
-        equal = λ no t lt. identical (image_at w.events) (w.control.volume a).tracks a b (not-full choices.full _ no (no-difference difference w.control none)) t lt;
-      }))))))))))))
+      found first begins devs a b _ (λ there_a there_b. by there_a there_b (cascades kind choices) (λ is. (and_parts (is_kind Global kind) _ is).0))
+    where
+      difference : Option ℕ
+      difference = cond choices.full None (first_differing (image_at w.events) (w.control.volume a).tracks a b)
+
+      makes : is_volume w.control a ≡ true → is_volume w.control b ≡ true → (c : Bool) → (c ≡ true → is_kind Global kind ≡ true) → (c ≡ true → SecondaryOfNone w.control a) → Along first (make_entries w.control a b kind c choices.full difference)
+      makes there_a there_b c global unused =
+          checked first (is_running a) _ _ begins (λ on_a.
+          refused first (reach_refusal a b) _ begins (λ reach.
+          checked first (two_servers a b) _ _ begins (λ servers.
+          checked first (share_size a b) _ _ begins (λ size.
+          checked first (may_lead c a b) _ _ begins (λ leads.
+          checked first (may_follow a b) _ _ begins (λ follows.
+          checked first (is_no_target a) _ _ begins (λ plain_a.
+          checked first (is_no_target b) _ _ begins (λ plain_b.
+          checked first (is_settled b) _ _ begins (λ settled.
+          refused first (differs_at difference) _ begins (λ none.
+          along-made a b kind choices.full (record {
+            part = part;
+            apart = λ e. false_true (not-true (nat_eq (w.control.volume a).server (w.control.volume b).server) servers) (eq-eqb _ _ e);
+            tracks = eqb-true (w.control.volume a).tracks (w.control.volume b).tracks size;
+            there_a = there_a;
+            there_b = there_b;
+            leads = may-lead a b kind c global unused leads;
+            first_b = not-true _ (and_parts (not (is_part (fields_at w.control b).primary)) _ follows).0;
+            plain_a = not-true (fields_at w.control a).related plain_a;
+            plain_b = not-true (fields_at w.control b).related plain_b;
+            settled = settled;
+            on_a = on_a;
+            on_b = reached first a b reach;
+            equal = λ no t lt. identical (image_at w.events) (w.control.volume a).tracks a b (not-full choices.full _ no (no-difference difference w.control none)) t lt;
+          })))))))))))
+
+      by : is_volume w.control a ≡ true → is_volume w.control b ≡ true → (c : Bool) → (c ≡ true → is_kind Global kind ≡ true) → Along first (cond c (refuse_if (cascade_refusal a) ∷ []) [] ++ make_entries w.control a b kind c choices.full difference)
+      by there_a there_b true global = refused first (cascade_refusal a) _ begins (λ none. makes there_a there_b true global (λ is. of-none a none))
+      by there_a there_b false global = makes there_a there_b false global (λ is. absurd cc)
 
   pub holds-pair : (devs : Devs) (a b : ℕ) (kind : Part) (choices : PairChoices) → is_part kind ≡ true → StepHolds w (make_pair_plan w.control w.events devs a b kind choices)
   holds-pair devs a b kind choices part = holds-entries w _ _ s (along-pair devs a b kind choices part)

@@ -19,7 +19,7 @@ use Rattle.dr_model.specs.Groups.{In}
 use Rattle.dr_model.specs.Plans.{plan, name_bytes}
 use Rattle.dr_model.specs.Control.{Control, Fuse, Volume, World, nothing}
 use Rattle.dr_model.specs.Moves.{Hold, told, told_in_stop, landed, target}
-use Rattle.dr_model.specs.Carry.{Act, Make, OpenAttempt, Redo, Acknowledge, Drop, EndFreeze, EndThaw, EndRecovery, act, Next, Pass, Do, End, Entry, Outcome, carry, continue, go, follow}
+use Rattle.dr_model.specs.Carry.{Act, Make, OpenAttempt, Redo, Acknowledge, Drop, EndFreeze, EndThaw, EndRecovery, act, Next, Pass, Do, End, Entry, Outcome, carry, carry_each, continue, go, follow}
 use Rattle.dr_model.specs.PlanParts.{Plan, unless, tables_plan}
 use Rattle.dr_model.specs.MessagePlans.{with_flight}
 use Rattle.dr_model.specs.SessionPlans.{leaving, appointed, order_of, exchanged, exchange_refusal, exchange_done, exchange_on}
@@ -236,8 +236,12 @@ unfolding carry
 carry-flies w [] = flies-same w
 carry-flies w (d ∷ ds) = go-flies w (d w.control) (λ v. carry v ds) (λ v. carry-flies v ds)
 
+each-flies : (w : World) (entries : List Entry) → Flies w (carry_each w entries)
+each-flies w [] = flies-same w
+each-flies w (d ∷ ds) = flies-then w (carry w (d ∷ [])).0 _ (carry-flies w (d ∷ [])) (each-flies (carry w (d ∷ [])).0 ds)
+
 follow-flies : (w : World) (r : Refusal) (follows : List Entry) → Flies w (follow w r follows)
-follow-flies w (StoppedIn s) follows = carry-flies w follows
+follow-flies w (StoppedIn s) follows = each-flies w follows
 follow-flies w r follows = flies-same w
 
 -- ---- plans

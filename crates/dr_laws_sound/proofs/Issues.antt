@@ -115,7 +115,6 @@ module _ (w : World) (s : Sound w) (v t offset len : ℕ) (bytes : List ℕ) (de
   sound-issued = record {
     rows = subst SoundRows (sym same-table) s.rows;
     targets = record { once = s.targets.once; few = s.targets.few };
-    uncascaded = s.uncascaded;
     secondaries = s.secondaries;
     groups = groups-same w.control issued.control (record { sessions = refl; volumes = refl; server = λ v. refl; tracks = λ v. refl }) (λ v h. (h, (refl, refl))) s.groups;
     housed = s.housed;

@@ -19,7 +19,7 @@ use Rattle.dr_model.specs.Limits.{most_servers, most_volumes, most_tracks, most_
 use Rattle.dr_model.specs.Control.{Control, Fuse, Pending, Volume, World, new_volume, nothing}
 use Rattle.dr_model.specs.Relations.{rest}
 use Rattle.dr_model.specs.Moves.{Move, Land, Overwrite, LandBoth, Hold, told, told_in_stop, landed, target, settled, settled_in_stop, is_other, marked}
-use Rattle.dr_model.specs.Carry.{Act, Make, OpenAttempt, Redo, Acknowledge, Drop, EndFreeze, EndThaw, EndRecovery, act, Next, Pass, Do, End, Entry, Outcome, carry, continue, go, follow}
+use Rattle.dr_model.specs.Carry.{Act, Make, OpenAttempt, Redo, Acknowledge, Drop, EndFreeze, EndThaw, EndRecovery, act, Next, Pass, Do, End, Entry, Outcome, carry, carry_each, continue, go, follow}
 use Rattle.dr_model.specs.Plans.{Plan, entries_plan, name_bytes, same, always, none_follow, server_done, volume_done, link_done, with_pending, issue_done, show_done, stop_done, arm_on, starting, start_plan, make_path_done, remove_path_done}
 use Rattle.dr_model.specs.Forming.{Part, after_part}
 use Rattle.dr_model.specs.Runs.{Task, course, masters_lost, image_told, begun, finish, stop_place, carried_out, answered, after_plan, after_task, after_tasks, run}
@@ -186,8 +186,12 @@ pub record AnswersNothing (k : Control) (p : Plan) : Type 0 where
   pub last : (j : Control) → Stays j (p.last j)
   pub silent : NoAnswer p.told
 
+each-onward : (w : World) (entries : List Entry) → Onward w (carry_each w entries)
+each-onward w [] = onward-same w
+each-onward w (d ∷ ds) = onward-then w (carry w (d ∷ [])).0 _ (carry-onward w (d ∷ [])) (each-onward (carry w (d ∷ [])).0 ds)
+
 follow-onward : (w : World) (r : Refusal) (follows : List Entry) → Onward w (follow w r follows)
-follow-onward w (StoppedIn s) follows = carry-onward w follows
+follow-onward w (StoppedIn s) follows = each-onward w follows
 follow-onward w r follows = onward-same w
 
 finish-onward : (k : Control) (p : Plan) → (m : AnswersNothing k p) → (n : ℕ) (w : World) (r : Option Refusal) → Onward w (finish p n w r)

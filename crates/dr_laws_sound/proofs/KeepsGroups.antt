@@ -1,23 +1,26 @@
 -- Each kind of move keeps what sessions and records say together, whether or not the server stopped in it.
-use Rattle.std.proofs.Common.{ℕ, ◌≡◌, ◌⊎◌, inl, inr, refl, subst, Bool, true, false, cond, List, Option}
+use Rattle.std.proofs.Common.{ℕ, ◌≡◌, ◌≢◌, ◌⊎◌, inl, inr, refl, ap, ◌∙◌, subst, Bool, true, false, cond, List, [], ◌∷◌, ◌++◌, Option}
 use Rattle.std.proofs.lemmas.Bool.{false_from_ne_true}
 use Rattle.dr_logic.specs.Tables.{at}
 use Rattle.dr_ids.specs.declared.names.Member.{Member}
 use Rattle.dr_model.specs.Layout.{Fields, is_part}
-use Rattle.dr_model.specs.Sessions.{Session, changed, begun}
+use Rattle.dr_model.specs.Sessions.{Session, changed, begun, raised, with_member}
 use Rattle.dr_model.specs.Histories.{Write}
 use Rattle.dr_model.specs.Control.{Control, Fuse, Pending, Volume, World}
 use Rattle.dr_model.specs.Moves.{Move, Suspend, MakeSecondary, MakePrimary, DropPrimary, DropSecondary, TakeOver, LeavePrimary, FallBack, Yield, Lift, Restart, Hold, Finish, RaiseAttempt, target, keeps_staged, moved_keeping}
 use Rattle.dr_model.specs.Entries.{fields_at}
 use Rattle.dr_model.specs.Groups.{In, Groups, SecondariesUncascaded, Housed, OpensAttempt}
 use Rattle.dr_model.specs.Table.{table}
-use Rattle.dr_model.specs.Laws.{NoneCascaded}
-use Rattle.dr_model.specs.Allowed.{Allowed, Fits}
+use Rattle.dr_model.specs.Allowed.{Allowed}
 use Rattle.dr_model.specs.Attempts.{Attempts, InAttempt, SecondaryOfNone}
 use Rattle.dr_model.specs.Flights.{Flights}
 use Rattle.dr_facts.proofs.Tables.{at_cases, at_part}
 use Rattle.dr_laws_sound.proofs.Turns.{next_of, carried_in}
-use Rattle.dr_laws_sessions.specs.Frames.{Framed, RecordedOr}
+use Rattle.dr_model.specs.Tables.{Once}
+use Rattle.dr_facts.proofs.Lists.{in-joined}
+use Rattle.dr_laws_closed.specs.Regroups.{AllStay}
+use Rattle.dr_laws_sessions.specs.Frames.{Framed, RecordedOr, Became}
+use Rattle.dr_laws_sessions.proofs.Changes.{numbers, changed-in, changed-once}
 use Rattle.dr_laws_sessions.proofs.Volumes.{groups-same, groups-held, groups-opened}
 use Rattle.dr_laws_sessions.proofs.Housed.{housed-stays}
 use Rattle.dr_laws_attempts.proofs.Moves.{attempts-move}
@@ -38,10 +41,6 @@ abbrev pub MakesNoneCascaded : Control → Move → Type 0
 MakesNoneCascaded k (MakePrimary v u kind state full) = is_part (fields_at k v).secondary ≡ true → SecondaryOfNone k v
 MakesNoneCascaded k m = Unit {0}
 
-fits-free : (k : Control) (m : Move) → Fits k m → BecomesFree k m
-fits-free k (MakePrimary v u kind state full) fits = fits
-fits-free k m fits = tt
-
 pub makes-none : (k : Control) (m : Move) → InAttempt k m → MakesNoneCascaded k m
 makes-none k (MakePrimary v u kind state full) g = g
 makes-none k m g = tt
@@ -49,6 +48,35 @@ makes-none k m g = tt
 second-free : (k : Control) (m : Move) → MakesNoneCascaded k m → (x : Session) (q : Member) → In x k.sessions → In q x.members → q.b.0 ≡ target m → BecomesFree k m
 second-free k (MakePrimary v u kind state full) g x q i here is = false_from_ne_true _ (λ two. absurd (g two x q i here is))
 second-free k m g x q i here is = tt
+
+-- each member stays
+pub secondaries-stay : (k : Control) (ss : List Session) → AllStay k.sessions ss → SecondariesUncascaded k → SecondariesUncascaded (record k { sessions = ss })
+secondaries-stay k ss stays old x q i here = let p = (stays x q i here).was in old p.session q p.listed p.here
+
+-- what holds of each member, where one session changes
+each-changed : (P : Member → Type 0) (s : ℕ) (f : Session → Session) (ss : List Session) → Once (numbers ss) → ((x : Session) (q : Member) → In x ss → In q x.members → P q) → ((x : Session) (q : Member) → In x ss → In q (f x).members → P q)
+    → (x : Session) (q : Member) → In x (changed s f ss) → In q x.members → P q
+each-changed P s f ss once old new x q i here = by (changed-in s f ss x once i)
+  where
+    by : (In x ss × (x.number ≢ s)) ⊎ Became s f ss x → P q
+    by (inl o) = old x q o.0 here
+    by (inr b) = new b.from q b.listed (subst (λ (y : Session). In q y.members) b.is here)
+
+-- an attempt begins
+pub secondaries-begun : (k : Control) (s : ℕ) → Once (numbers k.sessions) → SecondariesUncascaded k → SecondariesUncascaded (record k { sessions = changed s begun k.sessions })
+secondaries-begun k s once old = each-changed (λ q. IsUncascaded (fields_at k q.b.0)) s begun k.sessions once old old
+
+-- a session has a member more, whose secondary isn't cascaded
+pub secondaries-added : (k : Control) (s n : ℕ) (m : Member) → Groups k → is_part (fields_at k m.b.0).primary ≡ false → SecondariesUncascaded k → SecondariesUncascaded (record k { sessions = changed s (with_member m) (changed s (raised n) k.sessions) })
+secondaries-added k s n m groups free old = each-changed (λ q. IsUncascaded (fields_at k q.b.0)) s (with_member m) (changed s (raised n) k.sessions) (changed-once s (raised n) k.sessions (λ x. refl) groups.once) was (λ x q i here. by x q i (in-joined x.members (m ∷ []) q here))
+  where
+    was : (x : Session) (q : Member) → In x (changed s (raised n) k.sessions) → In q x.members → IsUncascaded (fields_at k q.b.0)
+    was = each-changed (λ q. IsUncascaded (fields_at k q.b.0)) s (raised n) k.sessions groups.once old old
+
+    by : (x : Session) (q : Member) → In x (changed s (raised n) k.sessions) → In q x.members ⊎ In q (m ∷ []) → IsUncascaded (fields_at k q.b.0)
+    by x q i (inl here) = was x q i here
+    by x q i (inr (inl is)) = λ first. false_true (ap (λ (r : Member). is_part (fields_at k r.b.0).primary) is ∙ free) first
+    by x q i (inr (inr none)) = absurd none
 
 module _ (w : World) (write : ℕ → Write) (on : ℕ → Bool) (fuse : ℕ → Option Fuse) (ps : List Pending) where
   abbrev next : Move → Volume
@@ -106,10 +134,6 @@ module _ (w : World) (write : ℕ → Write) (on : ℕ → Bool) (fuse : ℕ →
   stays-uncascaded (Yield v u kind state) a free old h = absurd cc
   stays-uncascaded m a free old h = old h
 
-  pub uncascaded-after : (m : Move) → Allowed write (table w) m → Fits w.control m → NoneCascaded w.control → NoneCascaded (after m)
-  uncascaded-after m a fits old =
-      at_cases (λ u (x : Volume). IsUncascaded x.fields) w.control.volume (target m) (next m) (stays-uncascaded m a (fits-free w.control m fits) (old (target m))) (λ u ne. old u)
-
   pub secondaries-after : (m : Move) → Allowed write (table w) m → MakesNoneCascaded w.control m → SecondariesUncascaded w.control → SecondariesUncascaded (after m)
   secondaries-after m a g old = λ x q i here.
       let was : (u : ℕ) → q.b.0 ≡ u → IsUncascaded (fields_at w.control u) = λ u is. subst (λ j. IsUncascaded (fields_at w.control j)) is (old x q i here) in
@@ -119,6 +143,9 @@ module _ (w : World) (write : ℕ → Write) (on : ℕ → Bool) (fuse : ℕ →
   -- the first hold of an attempt, with which it begins
   pub groups-begun : (v s n : ℕ) → OpensAttempt w.control v s n → Groups w.control → Groups (record (after (Hold v s n true)) { sessions = changed s begun w.control.sessions })
   groups-begun v s n opens old = groups-opened w.control (after (Hold v s n true)) v s n (frame (Hold v s n true)) (holds v s n true) opens old
+
+  pub secondaries-opened : (v s n : ℕ) → Allowed write (table w) (Hold v s n true) → Groups w.control → SecondariesUncascaded w.control → SecondariesUncascaded (record (after (Hold v s n true)) { sessions = changed s begun w.control.sessions })
+  secondaries-opened v s n a groups old = secondaries-begun (after (Hold v s n true)) s groups.once (secondaries-after (Hold v s n true) a tt old)
 
   -- each volume stays on its server
   pub housed-after : (m : Move) → Housed w.control → Housed (after m)

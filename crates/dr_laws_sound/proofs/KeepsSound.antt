@@ -30,7 +30,7 @@ use Rattle.dr_laws_sound.proofs.KeepsRecorders.{kept-recorders}
 use Rattle.dr_laws_sound.proofs.KeepsSeals.{kept-seals}
 use Rattle.dr_laws_sound.proofs.KeepsAsides.{kept-asides}
 use Rattle.dr_laws_sound.proofs.KeepsPairs.{kept-pairs}
-use Rattle.dr_laws_sound.proofs.KeepsGroups.{makes-none, uncascaded-after, secondaries-after, groups-after, groups-begun, housed-after, attempts-after, attempts-begun, flights-after, flights-begun}
+use Rattle.dr_laws_sound.proofs.KeepsGroups.{makes-none, secondaries-after, secondaries-opened, groups-after, groups-begun, housed-after, attempts-after, attempts-begun, flights-after, flights-begun}
 use Rattle.dr_laws_sessions.proofs.Volumes.{groups-same}
 use Rattle.dr_laws_sound.proofs.KeepsTargets.{few-after}
 use Rattle.dr_laws_sound.proofs.KeepsQueue.{AllQuiet, queue-done, queue-stop, queue-same, goes-off, apart-filter, lone-filter}
@@ -58,7 +58,6 @@ module _ (starts : Option ℕ) where
   sound-done w m f s may = record {
     rows = subst SoundRows (sym (table-done w s.rows.structure m f s.rows.images.blank may.allowed may.ready)) (rows-after (histories w.events).write (table w) m s.rows may.allowed);
     targets = record { once = s.targets.once; few = few-after w.control s.targets m (carried_in w m) may.fits };
-    uncascaded = uncascaded-after w (histories w.events).write (done w m f).control.on (done w m f).control.fuse (done w m f).control.pending m may.allowed may.fits s.uncascaded;
     secondaries = secondaries-after w (histories w.events).write (done w m f).control.on (done w m f).control.fuse (done w m f).control.pending m may.allowed (makes-none w.control m may.group) s.secondaries;
     queue = queue-done starts w s.queue m f may.ready;
     groups = groups-after w (histories w.events).write (done w m f).control.on (done w m f).control.fuse (done w m f).control.pending m may.allowed may.group s.groups;
@@ -71,7 +70,6 @@ module _ (starts : Option ℕ) where
   sound-stop w m f s may = record {
     rows = subst SoundRows (sym (table-stop w s.rows.structure m f s.rows.images.blank may.allowed may.ready)) (rows-after (histories w.events).write (table w) m s.rows may.allowed);
     targets = record { once = s.targets.once; few = few-after w.control s.targets m (carried_in w m) may.fits };
-    uncascaded = uncascaded-after w (histories w.events).write (done_in_stop w m f).control.on (done_in_stop w m f).control.fuse (done_in_stop w m f).control.pending m may.allowed may.fits s.uncascaded;
     secondaries = secondaries-after w (histories w.events).write (done_in_stop w m f).control.on (done_in_stop w m f).control.fuse (done_in_stop w m f).control.pending m may.allowed (makes-none w.control m may.group) s.secondaries;
     queue = queue-stop starts w s.queue m f may.ready;
     groups = groups-after w (histories w.events).write (done_in_stop w m f).control.on (done_in_stop w m f).control.fuse (done_in_stop w m f).control.pending m may.allowed may.group s.groups;
@@ -89,8 +87,7 @@ module _ (starts : Option ℕ) where
       record {
         rows = subst SoundRows (sym (table-done w s.rows.structure m f s.rows.images.blank may.allowed may.ready)) (rows-after (histories w.events).write (table w) m s.rows may.allowed);
         targets = record { once = s.targets.once; few = few-after w.control s.targets m (carried_in w m) tt };
-        uncascaded = uncascaded-after w (histories w.events).write k.on k.fuse k.pending m may.allowed tt s.uncascaded;
-        secondaries = λ x q i here. uncascaded-after w (histories w.events).write k.on k.fuse k.pending m may.allowed tt s.uncascaded q.b.0;
+        secondaries = secondaries-opened w (histories w.events).write k.on k.fuse k.pending v i n may.allowed s.groups s.secondaries;
         queue = record { each = q.each; apart = q.apart; lone = q.lone; numbers = q.numbers };
         groups = groups-begun w (histories w.events).write k.on k.fuse k.pending v i n may.opens s.groups;
         housed = housed-after w (histories w.events).write k.on k.fuse k.pending m s.housed;
@@ -106,8 +103,7 @@ module _ (starts : Option ℕ) where
       record {
         rows = subst SoundRows (sym (table-stop w s.rows.structure m f s.rows.images.blank may.allowed may.ready)) (rows-after (histories w.events).write (table w) m s.rows may.allowed);
         targets = record { once = s.targets.once; few = few-after w.control s.targets m (carried_in w m) tt };
-        uncascaded = uncascaded-after w (histories w.events).write k.on k.fuse k.pending m may.allowed tt s.uncascaded;
-        secondaries = λ x q i here. uncascaded-after w (histories w.events).write k.on k.fuse k.pending m may.allowed tt s.uncascaded q.b.0;
+        secondaries = secondaries-opened w (histories w.events).write k.on k.fuse k.pending v i n may.allowed s.groups s.secondaries;
         queue = record { each = q.each; apart = q.apart; lone = q.lone; numbers = q.numbers };
         groups = groups-begun w (histories w.events).write k.on k.fuse k.pending v i n may.opens s.groups;
         housed = housed-after w (histories w.events).write k.on k.fuse k.pending m s.housed;
@@ -125,7 +121,6 @@ module _ (starts : Option ℕ) where
   sound-told w servers on fuse link paths es same quiet off housed s = record {
     rows = rows-told w es same s.rows;
     targets = record { once = s.targets.once; few = s.targets.few };
-    uncascaded = s.uncascaded;
     secondaries = s.secondaries;
     groups = told-groups w servers on fuse link paths s.groups;
     housed = housed;
@@ -147,7 +142,6 @@ module _ (starts : Option ℕ) where
   sound-fused w x f s = record {
     rows = s.rows;
     targets = record { once = s.targets.once; few = s.targets.few };
-    uncascaded = s.uncascaded;
     secondaries = s.secondaries;
     groups = told-groups w w.control.servers w.control.on (at w.control.fuse x f) w.control.link w.control.paths s.groups;
     housed = s.housed;
@@ -180,7 +174,6 @@ module _ (starts : Option ℕ) where
       record {
         rows = subst SoundRows (λ i u. record (table w u) { due = λ q. image h.write (h.now u q ++ sym (waiting-settled n u q ps unlanded) i) }) s.rows;
         targets = record { once = s.targets.once; few = s.targets.few };
-        uncascaded = s.uncascaded;
         secondaries = s.secondaries;
         groups = groups-same w.control _ (record { sessions = refl; volumes = refl; server = λ v. refl; tracks = λ v. refl }) (λ v h. (h, (refl, refl))) s.groups;
         housed = s.housed;
@@ -231,6 +224,10 @@ keeps-sound = record { runs = runs; does = does; counts = λ w m f s may. sound-
 abbrev pub Along : World → List Entry → Type 0
 Along = along.Along Sound Sound Sound MayDo
 
+-- what follows a stop, each entry by itself
+abbrev pub EachAlong : List Entry → Type 0
+EachAlong = along.EachAlong Sound MayDo
+
 -- The steps of a proof that a plan of moves is allowed along: what follows a decision; no entry is left; an entry, by
 -- what it decides; a move that comes in any case; a check.
 abbrev pub Then : World → Next → (World → Type 0) → Type 0
@@ -261,5 +258,5 @@ abbrev pub StepHolds : World → Plan → Type 1
 StepHolds = along.Holds Sound RowsAt MayDo
 
 -- a plan of moves
-pub holds-moves : (w : World) (p : Plan) → Sound (begun w p) → Along (begun w p) p.entries → ((s : ℕ) (v : World) → Sound v → Along v (p.follows s)) → ((v : World) → Sound v → Sound (record v { control = p.last v.control })) → StepHolds w p
+pub holds-moves : (w : World) (p : Plan) → Sound (begun w p) → Along (begun w p) p.entries → ((s : ℕ) → EachAlong (p.follows s)) → ((v : World) → Sound v → Sound (record v { control = p.last v.control })) → StepHolds w p
 holds-moves w p begins entries follows last = record { inner = Sound; ends = Sound; may = MayDo; keeps = keeps-sound; within = λ v s. s.rows; complete = λ v s. s.rows; begins = begins; entries = entries; follows = follows; last = last }

@@ -20,7 +20,7 @@ use Rattle.dr_model.specs.Refusals.{server_off, unknown}
 use Rattle.dr_ids.specs.declared.refusal.Kind.TheVariants.{Server as OfServer}
 use Rattle.dr_model.specs.Control.{Control, is_volume}
 use Rattle.dr_model.specs.Entries.{first_of, subsystem, fields_at, is_running, pair_state}
-use Rattle.dr_model.specs.PairEntries.{link_down, first_active}
+use Rattle.dr_model.specs.PairEntries.{link_down, first_active, send_refusal}
 use Rattle.dr_model.specs.Pairs.{is_kind}
 use Rattle.dr_model.specs.Phases as phases
 use Rattle.dr_model.specs.Sessions.{Session, Mirror, in_session, is_member, has_subsystem, has_member_in, is_only, formation, unless_idle, busy, join_refusal, leave_refusal, last_refusal, make_refusal, drop_refusal, abort_refusal}
@@ -98,7 +98,8 @@ module _ (k : Control) where
 
   pub copy-why : (a : ℕ) → NoneStops (copy_refusal k a)
   copy-why a =
-      why-if NoStop (not (is_running a k)) (Some (server_off (k.volume a).server)) _ refl (why-if NoStop (not (is_kind Global (fields_at k a).primary)) (Some (pair_state k a)) _ refl (send-why a (fields_at k a).primary_partner k))
+      why-if NoStop (not (is_running a k)) (Some (server_off (k.volume a).server)) _ refl (why-if NoStop (not (is_kind Global (fields_at k a).primary)) (Some (pair_state k a)) _ refl (why-or NoStop (send_refusal a (fields_at k a).primary_partner k) _ (send-why a (fields_at k a).primary_partner k)
+      (why-if NoStop (is_part (fields_at k (fields_at k a).primary_partner).primary) _ None refl tt)))
 
   pub taken-why : (x : Session) (a : ℕ) → NoneStops (taken_refusal k x a)
   taken-why x a = why-if NoStop (is_member a x) _ _ refl (why-or NoStop (in_session (find (is_member a) k.sessions)) _ (session-why (find (is_member a) k.sessions)) (busy-why x.mirror))

@@ -1,7 +1,7 @@
 -- What a host write, a drain, an exchange and a recovery leave that are refused, but by the stop of a server.
 use Rattle.std.proofs.Common.{ℕ, suc, ◌+◌, ◌≡◌, ◌⊎◌, inl, inr, refl, ap, sym, ◌∙◌, subst, append_assoc, take, drop, not, Bool, true, false, cond, ◌||◌, List, [], ◌∷◌, ◌++◌, Option, Some, None, nat_le, nat_lt, length, ◌&&◌, nat_eq}
 use Rattle.std.specs.Prelude.{is_some, option_map}
-use Rattle.std.specs.List.{find}
+use Rattle.std.specs.List.{find, flat_map}
 use Rattle.std.specs.Option.{option_or}
 use Rattle.std.proofs.lemmas.Bool.{eqb-true}
 use Rattle.dr_ids.specs.declared.names.Member.{Member}
@@ -22,9 +22,9 @@ use Rattle.dr_model.specs.Refusals.{unknown, over, server_off}
 use Rattle.dr_model.specs.Phases as phases
 use Rattle.dr_model.specs.Sessions.{Session, Mirror, session_in, mirror_in, members_in}
 use Rattle.dr_model.specs.Moves.{is_write, Suspend}
-use Rattle.dr_model.specs.Carry.{Make, Drop, Pass, Do, End, Entry, Outcome, carry, check, dropped, Next}
+use Rattle.dr_model.specs.Carry.{Make, Drop, Pass, Do, End, Entry, Outcome, carry, check, dropped, Next, entries_in}
 use Rattle.dr_model.specs.Entries.{fields_at, is_running, relation_state, pair_state, is_no_secondary, is_open, is_settled, drop_unless, check_or_drop, copy_first}
-use Rattle.dr_model.specs.PairEntries.{end_if, reach_refusal, send_refusal, flashed_refusal, suspend_where, refuse_if, store_on, strike_on, send_entries, sends, tracks_to_send, is_copying}
+use Rattle.dr_model.specs.PairEntries.{end_if, reach_refusal, send_refusal, flashed_refusal, suspend_where, refuse_if, store_on, strike_on, send_entries, sends, tracks_to_send, is_copying, held_refusal, send_first, feeds, drain_stretches, suspend_after}
 use Rattle.dr_model.specs.WriteEntries.{landing, land_entries, waits, says_written}
 use Rattle.dr_model.specs.SessionEntries.{member_entries, members_on, order_entries, hold_refusal, stale_refusal, hold_on, void_refusal, free_on, is_drained, is_committed, is_past, seal_refusal, seal_on, flash_refusal, flash_on, commit_refusal, commit_on, revert_on, finish_on, is_flashed}
 use Rattle.dr_model.specs.Messages.{Message, Body, Asks, Replies, message_in}
@@ -40,11 +40,12 @@ use Rattle.dr_facts.proofs.Lists.{found}
 use Rattle.dr_laws_sound.specs.Stops.{refused_stop}
 use Rattle.dr_laws_sound.specs.RefusedSteps.{is_by_volume, is_off, with_issued, let_go, HasSent, HasCarriedOrder, HasOrdered, HasDelivered, NamedOrdered, Leaves}
 use Rattle.dr_laws_sound.proofs.ChecksFirst.{never, any_act, NeverRefuse, ChecksFirst, first-done, first-refuse, never-leads, blocks-leave}
-use Rattle.dr_model.specs.Pairs.{records}
+use Rattle.dr_model.specs.Pairs.{records, is_cascaded}
 use Rattle.dr_facts.proofs.Entries.{any_world, Fine, fine-none, fine-then, fine-one, fine-append, fine-if}
-use Rattle.dr_facts.proofs.SharedEntries.{where-fine, copies-fine, lands-fine, recover-fine}
+use Rattle.dr_facts.proofs.SharedEntries.{where-fine, copies-fine, lands-fine, recover-fine, send_first-fine}
 use Rattle.dr_laws_sound.proofs.RefusedPlans.{Refuses, entries-refuse, same-begun, leaves_world-says, never-refused, phase-accepts}
 use Rattle.dr_laws_sound.proofs.Cases.{taken}
+use Rattle.dr_laws_sound.proofs.FitsDrain.{feeds-joined}
 
 -- ---- what refuses a plan before its entries
 
@@ -114,7 +115,7 @@ module _ (k : Control) (n v t : ℕ) (w u : World) (r : Refusal) (other : refuse
   settled-left : carry w (check_or_drop n (is_settled v) (relation_state k v) ++ land_entries k n v t) ≡ (u, Some r) → Dropped w u n r
   settled-left leads = elim (drop-left w u n (is_settled v) (relation_state k v) r (land_entries k n v t) refl leads) [
     | inl a ↦ refused-place (relation_state k v) refl a.0 a.1
-    | inr b ↦ never-leads w u (land_entries k n v t) r (lands-fine any_world any_act never (λ u t w any. tt) (λ u t w any. tt) k n v t (λ free. record { land = λ w any. tt; over = λ w any. tt; suspend = λ busy w any. tt; unsync = λ w any. tt; mirror = λ over w any. tt; both = λ w any. tt; store = λ met last w any. tt; strike = λ met last w any. tt })) b other
+    | inr b ↦ never-leads w u (land_entries k n v t) r (lands-fine any_world any_act never (λ u t w any. tt) (λ u t w any. tt) k n v t (λ free. record { land = λ w any. tt; over = λ w any. tt; suspend = λ busy w any. tt; unsync = λ over w any. tt; mirror = λ over w any. tt; both = λ w any. tt; store = λ met last w any. tt; strike = λ met last w any. tt; fed_suspend = λ fed w any. tt; fed_store = λ fed last w any so. tt; fed_strike = λ fed last w any. tt })) b other
   ]
 
   open-left : carry w (check_or_drop n (is_open v) (Inhibited (record { 0 = v })) ++ (check_or_drop n (is_settled v) (relation_state k v) ++ land_entries k n v t)) ≡ (u, Some r) → Dropped w u n r
@@ -230,59 +231,102 @@ module _ (volumes : List ℕ) (a b : ℕ) where
   abbrev suspends : List Entry
   suspends = suspend_where (send_refusal a b) a ∷ []
 
-  -- one track, after what suspends the primary
-  abbrev one_sent : ℕ → List Entry
-  one_sent t = refuse_if (send_refusal a b) ∷ refuse_if (flashed_refusal b) ∷ copy_first volumes b t ++ store_on a b t ∷ strike_on a t ∷ []
-
-  one-never : (t : ℕ) → NeverRefuse (copy_first volumes b t ++ store_on a b t ∷ strike_on a t ∷ [])
-  one-never t = fine-append any_world any_act never (copy_first volumes b t) _ (copies-fine any_world any_act never (λ u t w any. tt) (λ u t w any. tt) volumes b t) (fine-then any_world any_act never (store_on a b t) _ (λ w any. tt) (fine-one any_world any_act never (strike_on a t) (λ w any. tt)))
-
   suspends-never : NeverRefuse suspends
   suspends-never = fine-one any_world any_act never (suspend_where (send_refusal a b) a) (where-fine any_world any_act never (λ k. is_some (send_refusal a b k)) (Make (Suspend a false)) (λ w any so. tt))
 
+  stores-never : (t : ℕ) → NeverRefuse (copy_first volumes b t ++ store_on a b t ∷ strike_on a t ∷ [])
+  stores-never t = fine-append any_world any_act never (copy_first volumes b t) _ (copies-fine any_world any_act never (λ u t w any. tt) (λ u t w any. tt) volumes b t) (fine-then any_world any_act never (store_on a b t) _ (λ w any. tt) (fine-one any_world any_act never (strike_on a t) (λ w any. tt)))
+
   -- why the send of a track is refused
   abbrev why_not : Control → Option Refusal
-  why_not k = option_or (send_refusal a b k) (flashed_refusal b k)
+  why_not k = option_or (send_refusal a b k) (option_or (flashed_refusal b k) (held_refusal b k))
 
-  one-refused : (t : ℕ) (w u : World) (r : Refusal) → carry w (one_sent t) ≡ (u, Some r) → refused_stop (Some r) ≡ None → (u ≡ w) × (why_not w.control ≡ Some r)
-  one-refused t w u r leads other = elim (refuse-left w u (send_refusal a b) r _ leads) [
-    | inl x ↦ (x.0, ap (λ o. option_or o (flashed_refusal b w.control)) x.1)
+  -- one track, after what suspends the primary, and how it is refused
+  module _ (one_sent : ℕ → List Entry) (one-refused : (t : ℕ) (w u : World) (r : Refusal) → carry w (one_sent t) ≡ (u, Some r) → refused_stop (Some r) ≡ None → (u ≡ w) × (why_not w.control ≡ Some r)) where
+    -- tracks in turn
+    abbrev all_sent : List ℕ → List Entry
+    all_sent ts = flat_map (λ t. suspends ++ one_sent t) ts
+
+    record SentSome (ts : List ℕ) (r : Refusal) (w u : World) : Type 0 where
+      tracks : ℕ
+      leads : carry w (all_sent (take tracks ts) ++ suspends) ≡ (u, None)
+      refuses : why_not u.control ≡ Some r
+
+    -- what refuses the send of one track leaves the primary suspended, or not
+    one-left : (t : ℕ) (ts : List ℕ) (w u : World) (r : Refusal) → carry w (suspends ++ one_sent t) ≡ (u, Some r) → refused_stop (Some r) ≡ None → SentSome ts r w u
+    one-left t ts w u r leads other = by (carry w suspends) refl (sym (carry-append w suspends (one_sent t)) ∙ leads)
+      where
+        by : (o : Outcome) → carry w suspends ≡ o → onward o (λ v. carry v (one_sent t)) ≡ (u, Some r) → SentSome ts r w u
+        by (v, None) is h =
+            let x = one-refused t v u r h other in
+            record { tracks = 0; leads = is ∙ ap (λ v. (v, None)) (sym x.0); refuses = ap (λ (z : World). why_not z.control) x.0 ∙ x.1 }
+        by (v, Some q) is h = never-leads w u suspends r suspends-never (is ∙ h) other
+
+    sends-left : (ts : List ℕ) (w u : World) (r : Refusal) → carry w (all_sent ts) ≡ (u, Some r) → refused_stop (Some r) ≡ None → SentSome ts r w u
+    sends-left [] w u r leads other = let h : None ≡ Some r = ap (λ (o : Outcome). o.1) (sym (carry-none w) ∙ leads) in absurd cc
+    sends-left (t ∷ ts) w u r leads other =
+        by (λ v h. sends-left ts v u r h other) (carry w (suspends ++ one_sent t)) refl (sym (carry-append w (suspends ++ one_sent t) (all_sent ts)) ∙ leads)
+      where
+        by : ((v : World) → carry v (all_sent ts) ≡ (u, Some r) → SentSome ts r v u) → (o : Outcome) → carry w (suspends ++ one_sent t) ≡ o → onward o (λ v. carry v (all_sent ts)) ≡ (u, Some r) → SentSome (t ∷ ts) r w u
+        by more (v, None) is h =
+            let rest = more v h in
+            let ds : List Entry = all_sent (take rest.tracks ts) in
+            record {
+              tracks = suc rest.tracks;
+              leads = ap (carry w) (append_assoc (suspends ++ one_sent t) ds suspends) ∙ carry-append w (suspends ++ one_sent t) (ds ++ suspends) ∙ ap (λ (o : Outcome). onward o (λ v. carry v (ds ++ suspends))) is ∙ rest.leads;
+              refuses = rest.refuses;
+            }
+        by more (v, Some q) is h = one-left t (t ∷ ts) w u r (is ∙ h) other
+
+  -- b has no other part
+  abbrev plain_sent : ℕ → List Entry
+  plain_sent t = refuse_if (send_refusal a b) ∷ refuse_if (flashed_refusal b) ∷ copy_first volumes b t ++ store_on a b t ∷ strike_on a t ∷ []
+
+  plain-refused : (t : ℕ) (w u : World) (r : Refusal) → carry w (plain_sent t) ≡ (u, Some r) → refused_stop (Some r) ≡ None → (u ≡ w) × (why_not w.control ≡ Some r)
+  plain-refused t w u r leads other = elim (refuse-left w u (send_refusal a b) r _ leads) [
+    | inl x ↦ (x.0, ap (λ o. option_or o (option_or (flashed_refusal b w.control) (held_refusal b w.control))) x.1)
     | inr x ↦ elim (refuse-left w u (flashed_refusal b) r _ x.1) [
-      | inl y ↦ (y.0, ap (λ o. option_or o (flashed_refusal b w.control)) x.0 ∙ y.1)
-      | inr y ↦ never-leads w u (copy_first volumes b t ++ store_on a b t ∷ strike_on a t ∷ []) r (one-never t) y.1 other
+      | inl y ↦ (y.0, ap (λ o. option_or o (option_or (flashed_refusal b w.control) (held_refusal b w.control))) x.0 ∙ ap (λ o. option_or o (held_refusal b w.control)) y.1)
+      | inr y ↦ never-leads w u (copy_first volumes b t ++ store_on a b t ∷ strike_on a t ∷ []) r (stores-never t) y.1 other
     ]
   ]
 
-  record SentSome (ts : List ℕ) (r : Refusal) (w u : World) : Type 0 where
-    tracks : ℕ
-    leads : carry w (sends volumes a b (take tracks ts) ++ suspends) ≡ (u, None)
-    refuses : why_not u.control ≡ Some r
+  plain-all : (ts : List ℕ) → sends volumes a b ts ≡ all_sent plain_sent plain-refused ts
+  plain-all [] = refl
+  plain-all (t ∷ ts) = ap (λ ds. send_entries volumes a b t ++ ds) (plain-all ts)
 
-  -- what refuses the send of one track leaves the primary suspended, or not
-  one-left : (t : ℕ) (ts : List ℕ) (w u : World) (r : Refusal) → carry w (send_entries volumes a b t) ≡ (u, Some r) → refused_stop (Some r) ≡ None → SentSome ts r w u
-  one-left t ts w u r leads other = by (carry w suspends) refl (sym (carry-append w suspends (one_sent t)) ∙ leads)
-    where
-      by : (o : Outcome) → carry w suspends ≡ o → onward o (λ v. carry v (one_sent t)) ≡ (u, Some r) → SentSome ts r w u
-      by (v, None) is h =
-          let x = one-refused t v u r h other in
-          record { tracks = 0; leads = is ∙ ap (λ v. (v, None)) (sym x.0); refuses = ap (λ (z : World). why_not z.control) x.0 ∙ x.1 }
-      by (v, Some q) is h = never-leads w u suspends r suspends-never (is ∙ h) other
+  -- b is cascaded
+  module _ (c : ℕ) where
+    abbrev fed_moves : ℕ → List Entry
+    fed_moves t = send_first volumes b c t ++ (copy_first volumes b t ++ store_on a b t ∷ strike_on a t ∷ [])
 
-  sends-left : (ts : List ℕ) (w u : World) (r : Refusal) → carry w (sends volumes a b ts) ≡ (u, Some r) → refused_stop (Some r) ≡ None → SentSome ts r w u
-  sends-left [] w u r leads other = let h : None ≡ Some r = ap (λ (o : Outcome). o.1) (sym (carry-none w) ∙ leads) in absurd cc
-  sends-left (t ∷ ts) w u r leads other =
-      by (λ v h. sends-left ts v u r h other) (carry w (send_entries volumes a b t)) refl (sym (carry-append w (send_entries volumes a b t) (sends volumes a b ts)) ∙ leads)
-    where
-      by : ((v : World) → carry v (sends volumes a b ts) ≡ (u, Some r) → SentSome ts r v u) → (o : Outcome) → carry w (send_entries volumes a b t) ≡ o → onward o (λ v. carry v (sends volumes a b ts)) ≡ (u, Some r) → SentSome (t ∷ ts) r w u
-      by more (v, None) is h =
-          let rest = more v h in
-          let ds : List Entry = sends volumes a b (take rest.tracks ts) in
-          record {
-            tracks = suc rest.tracks;
-            leads = ap (carry w) (append_assoc (send_entries volumes a b t) ds suspends) ∙ carry-append w (send_entries volumes a b t) (ds ++ suspends) ∙ ap (λ (o : Outcome). onward o (λ v. carry v (ds ++ suspends))) is ∙ rest.leads;
-            refuses = rest.refuses;
-          }
-      by more (v, Some q) is h = one-left t (t ∷ ts) w u r (is ∙ h) other
+    abbrev fed_sent : ℕ → List Entry
+    fed_sent t = refuse_if (send_refusal a b) ∷ refuse_if (flashed_refusal b) ∷ refuse_if (held_refusal b) ∷ fed_moves t
+
+    fed-never : (t : ℕ) → NeverRefuse (fed_moves t)
+    fed-never t = fine-append any_world any_act never (send_first volumes b c t) _ (send_first-fine any_world any_act never (λ u t w any. tt) (λ u t w any. tt) volumes b c t (λ w any. tt) (λ last w any so. tt) (λ last w any. tt)) (stores-never t)
+
+    fed-refused : (t : ℕ) (w u : World) (r : Refusal) → carry w (fed_sent t) ≡ (u, Some r) → refused_stop (Some r) ≡ None → (u ≡ w) × (why_not w.control ≡ Some r)
+    fed-refused t w u r leads other = elim (refuse-left w u (send_refusal a b) r _ leads) [
+      | inl x ↦ (x.0, ap (λ o. option_or o (option_or (flashed_refusal b w.control) (held_refusal b w.control))) x.1)
+      | inr x ↦ elim (refuse-left w u (flashed_refusal b) r _ x.1) [
+        | inl y ↦ (y.0, ap (λ o. option_or o (option_or (flashed_refusal b w.control) (held_refusal b w.control))) x.0 ∙ ap (λ o. option_or o (held_refusal b w.control)) y.1)
+        | inr y ↦ elim (refuse-left w u (held_refusal b) r _ y.1) [
+          | inl z ↦ (z.0, ap (λ o. option_or o (option_or (flashed_refusal b w.control) (held_refusal b w.control))) x.0 ∙ ap (λ o. option_or o (held_refusal b w.control)) y.0 ∙ z.1)
+          | inr z ↦ never-leads w u (fed_moves t) r (fed-never t) z.1 other
+        ]
+      ]
+    ]
+
+    fed-all : (ts : List ℕ) → entries_in (feeds volumes a b c ts) ≡ all_sent fed_sent fed-refused ts
+    fed-all [] = refl
+    fed-all (t ∷ ts) =
+        let rest : List Entry = entries_in (feeds volumes a b c ts) in
+        let checks : List Entry = suspend_where (send_refusal a b) a ∷ refuse_if (send_refusal a b) ∷ refuse_if (flashed_refusal b) ∷ refuse_if (held_refusal b) ∷ [] in
+        feeds-joined volumes a b c t ts
+        ∙ ap (λ ds. checks ++ (send_first volumes b c t ++ ds)) (sym (append_assoc (copy_first volumes b t) (store_on a b t ∷ strike_on a t ∷ []) rest))
+        ∙ ap (λ ds. checks ++ ds) (sym (append_assoc (send_first volumes b c t) (copy_first volumes b t ++ store_on a b t ∷ strike_on a t ∷ []) rest))
+        ∙ ap (λ ds. (suspends ++ fed_sent t) ++ ds) (fed-all ts)
 
 pub drain-left : (w : World) (a : ℕ) (most : Option ℕ) (r : Refusal) → Refuses w (drain_plan w.control a most) r → ((carried_out w (drain_plan w.control a most)).0 ≡ w) ⊎ HasSent w a most r (carried_out w (drain_plan w.control a most)).0
 drain-left w a most r refused =
@@ -292,7 +336,7 @@ drain-left w a most r refused =
         | inl y ↦ inl y.0
         | inr y ↦ elim (check-left w u (is_copying a) (pair_state w.control a) r _ y) [
           | inl z ↦ inl z.0
-          | inr z ↦ let some = sends-left w.control.volumes a b ts w u r z refused.other in inr (record { tracks = some.tracks; leads = some.leads; refuses = some.refuses })
+          | inr z ↦ inr (by (is_cascaded (fields_at w.control b)) refl z)
         ]
       ]
     ]
@@ -311,6 +355,21 @@ drain-left w a most r refused =
 
     leads : carry w p.entries ≡ (u, Some r)
     leads = ap (λ v. carry v p.entries) (sym (same-begun w)) ∙ entries-refuse w p r (λ k. refl) refused
+
+    c : ℕ
+    c = (fields_at w.control b).primary_partner
+
+    by : (fed : Bool) → is_cascaded (fields_at w.control b) ≡ fed → carry w (entries_in (drain_stretches w.control a ts)) ≡ (u, Some r) → HasSent w a most r u
+    by true is z =
+        let same : ((us : List ℕ) → entries_in (drain_stretches w.control a us) ≡ all_sent w.control.volumes a b (fed_sent w.control.volumes a b c) (fed-refused w.control.volumes a b c) us) = λ us.
+        ap (λ d. entries_in (cond d (feeds w.control.volumes a b c us) (record { entries = sends w.control.volumes a b us; follows = suspend_after a } ∷ []))) is ∙ fed-all w.control.volumes a b c us in
+        let some = sends-left w.control.volumes a b (fed_sent w.control.volumes a b c) (fed-refused w.control.volumes a b c) ts w u r (ap (carry w) (sym (same ts)) ∙ z) refused.other in
+        record { tracks = some.tracks; leads = ap (λ ds. carry w (ds ++ suspend_where (send_refusal a b) a ∷ [])) (same (take some.tracks ts)) ∙ some.leads; refuses = some.refuses }
+    by false is z =
+        let same : ((us : List ℕ) → entries_in (drain_stretches w.control a us) ≡ all_sent w.control.volumes a b (plain_sent w.control.volumes a b) (plain-refused w.control.volumes a b) us) = λ us.
+        ap (λ d. entries_in (cond d (feeds w.control.volumes a b c us) (record { entries = sends w.control.volumes a b us; follows = suspend_after a } ∷ []))) is ∙ plain-all w.control.volumes a b us in
+        let some = sends-left w.control.volumes a b (plain_sent w.control.volumes a b) (plain-refused w.control.volumes a b) ts w u r (ap (carry w) (sym (same ts)) ∙ z) refused.other in
+        record { tracks = some.tracks; leads = ap (λ ds. carry w (ds ++ suspend_where (send_refusal a b) a ∷ [])) (same (take some.tracks ts)) ∙ some.leads; refuses = some.refuses }
 
 -- ---- orders
 

@@ -44,21 +44,22 @@ use Rattle.dr_laws_messages.proofs.Members.{flights-joined, flights-left}
 use Rattle.dr_laws_messages.proofs.Messages.{flights-dropped}
 use Rattle.dr_facts.proofs.Lists.{from-filter}
 use Rattle.dr_laws_attempts.proofs.Tables.{with-joined, with-left, with-mirrored, with-paused, with-unmirrored, with-aborted}
-use Rattle.dr_laws_closed.specs.Regroups.{Regroups}
+use Rattle.dr_laws_closed.specs.Regroups.{AllStay, Regroups}
 use Rattle.dr_laws_closed.specs.Silent.{AllStill}
-use Rattle.dr_laws_closed.proofs.Regroups.{regroups-same, regroups-joined, regroups-left, regroups-mirrored, regroups-paused, regroups-unmirrored, regroups-aborted, regroups-taken, regroups-lost}
+use Rattle.dr_laws_closed.proofs.Regroups.{regroups-same, regroups-stay, stays-same, stays-joined, stays-left, stays-mirrored, stays-paused, stays-unmirrored, stays-aborted, stays-taken, stays-lost}
+use Rattle.dr_laws_sound.proofs.KeepsGroups.{secondaries-stay}
 use Rattle.dr_model.specs.Listings.{lists}
-use Rattle.dr_laws_sound.specs.Calm.{Carries, ComesTo, Makes, Itself, Follows}
+use Rattle.dr_laws_sound.specs.Calm.{Carries, ComesTo, EndsEach, Makes, Itself, Follows}
 use Rattle.dr_laws_sound.proofs.Listed.{AllLines, NoBegins, Plain, lines-plain, lines-lists, image-lines}
 use Rattle.dr_laws_sound.proofs.Cases.{Posts, Case, Says, DefinesServer, DefinesVolume, SetsLink, Issues, Writes, Applies, Lists, Shows, Stops, Arms, Starts, MakesFlash, RemovesFlash, ResyncsFlash, ReversesFlash, Copies, Destages, MakesPath, RemovesPath, MakesPair, RemovesPair, PausesPair, ResumesPair, FailsOver, FailsBack, Compares, Drains, Expires, Freezes, Unfreezes, MakesSession, RemovesSession, MakesMirror, PausesMirror, RemovesMirror, Aborts, AddsMember, RemovesMember, Exchanges, Sends, Delivers, TakesReply, Loses, Recovers, Settles, added, expelled, ordered, is-new, may-issue, Releases}
-use Rattle.dr_laws_sound.proofs.KeepsSound.{Along, StepHolds, RowsAt, MayDo, keeps-sound, sound-gone, over}
+use Rattle.dr_laws_sound.proofs.KeepsSound.{Along, StepHolds, RowsAt, MayDo, keeps-sound, sound-gone}
 use Rattle.dr_laws_sound.proofs.Along as along
 use Rattle.dr_laws_sound.proofs.FitsFlash.{as_begun, sound-begun, along-flash, along-withdraw, along-resync, along-reverse}
 use Rattle.dr_laws_sound.proofs.FitsCopy.{along-copy}
 use Rattle.dr_laws_sound.proofs.FitsDestage.{along-destage}
 use Rattle.dr_laws_sound.proofs.FitsPairs.{along-pair, along-remove, along-pause, along-resume}
 use Rattle.dr_laws_sound.proofs.FitsFailover.{along-failover, along-failback, along-compare}
-use Rattle.dr_laws_sound.proofs.FitsDrain.{along-drain, suspends-after}
+use Rattle.dr_laws_sound.proofs.FitsDrain.{along-drain, drains-after}
 use Rattle.dr_laws_sound.proofs.FitsWrites.{lands, writes-after}
 use Rattle.dr_laws_sound.proofs.FitsHolds.{freezes, thaws, lifts, releases}
 use Rattle.dr_laws_sound.proofs.FitsSessions.{Orders, sound-tables, sound-lost}
@@ -142,7 +143,7 @@ start-hold x w s = record {
   complete = λ v i. i.rows;
   begins = starts.begins x w s;
   entries = starts.volumes-start x w.control.volumes (begun w (start_plan w.control x)) (starts.begins x w s);
-  follows = λ q v i. over v i;
+  follows = λ q. tt;
   last = λ v i. i;
 }
 
@@ -169,8 +170,8 @@ none-change P w zero p = p
 none-change P w (suc n) p = p
 
 -- and no move comes
-pub none-comes : (w v : World) (m : Move) → ComesTo Carries w [] v m → ⊥
-none-comes w v m at = by at.before at.placed
+pub none-comes : (EndsIn : World → List Entry → World → Option Refusal → Type 0) (w v : World) (m : Move) → ComesTo EndsIn w [] v m → ⊥
+none-comes EndsIn w v m at = by at.before at.placed
   where
     by : (before : List Entry) → [] ≡ before ++ at.entry ∷ at.rest → ⊥
     by [] is = absurd cc
@@ -212,13 +213,13 @@ module _ (K : World → Type 0) (rider : Rider K) where
       holds : K (carried_out w p).0
       moments : (n : ℕ) → K (carry (begun w p) (take n p.entries)).0
       comes : (v : World) (m : Move) → ComesTo Carries (begun w p) p.entries v m → MoveComes K v m
-      stops : (q n : ℕ) (u v : World) (m : Move) → Carries (begun w p) p.entries u (Some (stopped q)) → ComesTo Carries u (p.follows n) v m → MoveComes K v m
+      stops : (q n : ℕ) (u v : World) (m : Move) → Carries (begun w p) p.entries u (Some (stopped q)) → ComesTo (EndsEach Carries) u (p.follows n) v m → MoveComes K v m
       gone : (armed : ℕ → Bool) (u : World) (r : Refusal) → Ends armed u (Some r) (begun w p) p.entries → Sound u ⊎ ((q : ℕ) → p.follows q ≡ [])
 
     -- a plan without entries
     tables : (first : Control → Control) (told : List Event) (says : Control → Said) → let p : Plan = record { first = first; told = told; entries = []; follows = none_follow; last = same; says = says } in K (begun w p) → Carried p
     unfolding carry
-    tables first told says begun = record { holds = begun; moments = λ n. none-change K _ n begun; comes = λ v m at. absurd (none-comes _ v m at); stops = λ q n u v m ends at. absurd (none-comes u v m at); gone = λ armed u r e. inr (λ q. refl) }
+    tables first told says begun = record { holds = begun; moments = λ n. none-change K _ n begun; comes = λ v m at. absurd (none-comes Carries _ v m at); stops = λ q n u v m ends at. absurd (none-comes (EndsEach Carries) u v m at); gone = λ armed u r e. inr (λ q. refl) }
 
     -- one whose acts may come as they do but where a server starts
     moves : (p : Plan) (o : Orders w p) → K (begun w p) → ((v : World) → o.ends v → K v → K (record v { control = p.last v.control })) → Carried p
@@ -238,13 +239,13 @@ module _ (K : World → Type 0) (rider : Rider K) where
     begins = silently w (as_begun w) k refl refl refl refl refl refl refl refl
 
     entries : (ds : List Entry) (a : Said) → Along (as_begun w) ds → Carried (entries_plan ds a)
-    entries ds a all = moves (entries_plan ds a) (record { ends = Sound; complete = λ v i. i; begins = sound-begun w s; entries = all; follows = λ q v i. over v i; last = λ v i. i; turns = λ v i. regroups-same v.control.sessions; adds = λ v i. none-added v; goes = λ v i. goes-same v.control }) begins (λ v e k. k)
+    entries ds a all = moves (entries_plan ds a) (record { ends = Sound; complete = λ v i. i; begins = sound-begun w s; entries = all; follows = λ q. tt; last = λ v i. i; turns = λ v i. regroups-same v.control.sessions; adds = λ v i. none-added v; goes = λ v i. goes-same v.control }) begins (λ v e k. k)
 
     sessions : (f : List Session → List Session) (g : Control → Flight) (says : Control → Said) → Groups (with_sessions f w.control) → Attempts (with_sessions f w.control) → Flights (record w.control { sessions = f w.control.sessions; flight = g w.control })
-        → Regroups w.control.sessions (f w.control.sessions) → Adds w.control.sessions w.control.flight (g w.control) → AllGoOn w.control (f w.control.sessions) (g w.control) → Carried (record { first = λ k. record k { sessions = f k.sessions; flight = g k }; told = []; entries = []; follows = none_follow; last = same; says = says })
-    sessions f g says groups attempts flights turn adds goes =
+        → AllStay w.control.sessions (f w.control.sessions) → Adds w.control.sessions w.control.flight (g w.control) → AllGoOn w.control (f w.control.sessions) (g w.control) → Carried (record { first = λ k. record k { sessions = f k.sessions; flight = g k }; told = []; entries = []; follows = none_follow; last = same; says = says })
+    sessions f g says groups attempts flights stays adds goes =
         let first : World = as_begun w in
-        tables (λ k. record k { sessions = f k.sessions; flight = g k }) [] says (rider.regroups first (f w.control.sessions) (g w.control) (sound-begun w s) (sound-tables first (f w.control.sessions) (g w.control) groups attempts flights (sound-begun w s)) turn adds goes begins)
+        tables (λ k. record k { sessions = f k.sessions; flight = g k }) [] says (rider.regroups first (f w.control.sessions) (g w.control) (sound-begun w s) (sound-tables first (f w.control.sessions) (g w.control) groups (secondaries-stay w.control (f w.control.sessions) stays s.secondaries) attempts flights (sound-begun w s)) (regroups-stay _ _ stays) adds goes begins)
 
     rides-lines : (told : List Event) → AllLines told → Carried (lists told)
     rides-lines told ls =
@@ -291,7 +292,7 @@ module _ (K : World → Type 0) (rider : Rider K) where
           complete = λ v i. i;
           begins = sound;
           entries = lands first sound (record { w = w.control.issued + 1; volume = v; track = t; landed = false }) (one-new w s v t offset len bytes there.defined there.low);
-          follows = λ q u i. writes-after w.control (w.control.issued + 1) v t q u i;
+          follows = λ q. writes-after w.control (w.control.issued + 1) v t q;
           last = λ v i. i;
           turns = λ v i. regroups-same v.control.sessions;
           adds = λ v i. none-added v;
@@ -303,7 +304,7 @@ module _ (K : World → Type 0) (rider : Rider K) where
           complete = λ v i. i;
           begins = sound-begun w s;
           entries = lands (as_begun w) (sound-begun w s) p (found-alone n p w.control.pending found s.queue.apart);
-          follows = λ q u i. writes-after w.control p.w p.volume p.track q u i;
+          follows = λ q. writes-after w.control p.w p.volume p.track q;
           last = λ v i. i;
           turns = λ v i. regroups-same v.control.sessions;
           adds = λ v i. none-added v;
@@ -321,7 +322,7 @@ module _ (K : World → Type 0) (rider : Rider K) where
           comes = λ v m at.
               let here = rides-comes_to Sound RowsAt K MayDo w (start_plan w.control x) (start-hold x w s) (rider.start_acts x) begun (λ v e k. k) v m at in
               record { rows = here.0.0.sound.rows; allowed = start-allowed x _ _ v m here.1; group = start-group x v m here.1; law = here.0.1 };
-          stops = λ q n u v m ends at. absurd (none-comes u v m at);
+          stops = λ q n u v m ends at. absurd (none-comes (EndsEach Carries) u v m at);
           gone = λ armed u r e. inr (λ q. refl);
         }
     case-rides _ _ (MakesFlash dev v t freeze choices) = entries _ _ (along-flash w s dev v t freeze choices)
@@ -340,22 +341,22 @@ module _ (K : World → Type 0) (rider : Rider K) where
     case-rides _ _ (FailsBack devs x y kind) = entries _ _ (along-failback w s devs x y kind)
     case-rides _ _ (Compares contents v u) = entries _ _ (along-compare w s contents v u)
     case-rides _ _ (Drains a most) =
-        moves (drain_plan w.control a most) (record { ends = Sound; complete = λ v i. i; begins = sound-begun w s; entries = along-drain w s a most; follows = λ q v i. suspends-after a q v i; last = λ v i. i; turns = λ v i. regroups-same v.control.sessions; adds = λ v i. none-added v; goes = λ v i. goes-same v.control }) begins (λ v e k. k)
+        moves (drain_plan w.control a most) (record { ends = Sound; complete = λ v i. i; begins = sound-begun w s; entries = along-drain w s a most; follows = drains-after w.control a most; last = λ v i. i; turns = λ v i. regroups-same v.control.sessions; adds = λ v i. none-added v; goes = λ v i. goes-same v.control }) begins (λ v e k. k)
     case-rides _ _ (Expires x on) = entries _ _ (lifts x w.control.volumes (as_begun w) (sound-begun w s) on.1)
     case-rides _ _ (Freezes l m) = entries _ _ (freezes l m w.control.volumes (as_begun w) (sound-begun w s))
     case-rides _ _ (Unfreezes l m) = entries _ _ (thaws l m w.control.volumes (as_begun w) (sound-begun w s))
     case-rides _ _ (Releases l) = entries _ _ (releases l w.control.volumes (as_begun w) (sound-begun w s))
-    case-rides _ _ (MakesSession l i free) = sessions (joined i l) (λ k. k.flight) _ (groups-joined w.control i l s.groups) (with-joined w.control s.groups s.attempts i l) (flights-joined w.control s.flights s.groups i l) (regroups-joined w.control.sessions s.groups.once i l) (none-added w) (goes-joined w.control s.groups i l)
-    case-rides _ _ (RemovesSession l i x found free) = sessions (left i l) (λ k. messages.left i l x k.flight) _ (groups-left w.control i l x s.groups found free) (with-left w.control s.groups s.attempts i l x found free) (flights-left w.control s.flights s.groups i l x found free) (regroups-left w.control.sessions s.groups.once i l)
+    case-rides _ _ (MakesSession l i free) = sessions (joined i l) (λ k. k.flight) _ (groups-joined w.control i l s.groups) (with-joined w.control s.groups s.attempts i l) (flights-joined w.control s.flights s.groups i l) (stays-joined w.control.sessions s.groups.once i l) (none-added w) (goes-joined w.control s.groups i l)
+    case-rides _ _ (RemovesSession l i x found free) = sessions (left i l) (λ k. messages.left i l x k.flight) _ (groups-left w.control i l x s.groups found free) (with-left w.control s.groups s.attempts i l x found free) (flights-left w.control s.flights s.groups i l x found free) (stays-left w.control.sessions s.groups.once i l)
         (adds-fewer w.control.sessions w.control.flight (messages.left i l x w.control.flight) (left-fewer i l x w.control.flight)) (goes-left w.control s.groups i l x (left-fewer i l x w.control.flight))
     case-rides _ _ (MakesMirror owner i x found free l owned) =
         let at = owned-volume w.control l owner owned in
         sessions (changed i (mirrored_by owner)) (λ k. messages.raised i k.flight) _ (groups-mirrored w.control i owner x s.groups found (no-maker x.mirror free) at.volume at.defined at.server)
-        (with-mirrored w.control s.groups s.attempts i owner x found (no-maker x.mirror free)) (flights-mirrored w.control s.groups s.attempts s.flights i owner x found (no-maker x.mirror free)) (regroups-mirrored w.control.sessions s.groups.once i owner)
+        (with-mirrored w.control s.groups s.attempts i owner x found (no-maker x.mirror free)) (flights-mirrored w.control s.groups s.attempts s.flights i owner x found (no-maker x.mirror free)) (stays-mirrored w.control.sessions s.groups.once i owner)
         (adds-same w.control.sessions w.control.flight (messages.raised i w.control.flight) refl) (goes-mirrored w.control s.groups i owner)
-    case-rides _ _ (PausesMirror i on) = sessions (changed i (paused on)) (λ k. k.flight) _ (groups-paused w.control i on s.groups) (with-paused w.control s.groups s.attempts i on) (flights-paused w.control s.groups s.attempts s.flights i on) (regroups-paused w.control.sessions s.groups.once i on) (none-added w) (goes-paused w.control s.groups i on)
-    case-rides _ _ (RemovesMirror i x found free) = sessions (changed i unmirrored) (λ k. k.flight) _ (groups-unmirrored w.control i x s.groups found free) (with-unmirrored w.control s.groups s.attempts i x found free) (flights-unmirrored w.control s.groups s.attempts s.flights i x found free) (regroups-unmirrored w.control.sessions s.groups.once i) (none-added w) (goes-unmirrored w.control s.groups i)
-    case-rides _ _ (Aborts i x found free) = sessions (changed i (with_master phases.aborted)) (λ k. messages.aborted i x.mirror k.flight) _ (groups-aborted w.control i s.groups) (with-aborted w.control s.groups s.attempts i) (flights-aborted w.control s.groups s.attempts s.flights i x found) (regroups-aborted w.control.sessions s.groups.once i)
+    case-rides _ _ (PausesMirror i on) = sessions (changed i (paused on)) (λ k. k.flight) _ (groups-paused w.control i on s.groups) (with-paused w.control s.groups s.attempts i on) (flights-paused w.control s.groups s.attempts s.flights i on) (stays-paused w.control.sessions s.groups.once i on) (none-added w) (goes-paused w.control s.groups i on)
+    case-rides _ _ (RemovesMirror i x found free) = sessions (changed i unmirrored) (λ k. k.flight) _ (groups-unmirrored w.control i x s.groups found free) (with-unmirrored w.control s.groups s.attempts i x found free) (flights-unmirrored w.control s.groups s.attempts s.flights i x found free) (stays-unmirrored w.control.sessions s.groups.once i) (none-added w) (goes-unmirrored w.control s.groups i)
+    case-rides _ _ (Aborts i x found free) = sessions (changed i (with_master phases.aborted)) (λ k. messages.aborted i x.mirror k.flight) _ (groups-aborted w.control i s.groups) (with-aborted w.control s.groups s.attempts i) (flights-aborted w.control s.groups s.attempts s.flights i x found) (stays-aborted w.control.sessions s.groups.once i)
         (adds-same w.control.sessions w.control.flight (messages.aborted i x.mirror w.control.flight) (aborted-messages i x.mirror w.control.flight)) (goes-aborted w.control s.groups s.attempts s.flights i x found (aborted-messages i x.mirror w.control.flight))
     case-rides _ _ (AddsMember i a c x joins) =
         let o = orders-added w s i a c x joins in
@@ -363,9 +364,9 @@ module _ (K : World → Type 0) (rider : Rider K) where
     case-rides _ _ (RemovesMember i a x m found is idle on) =
         let o = orders-expelled w s i a x m found is idle on in
         turned (expelled i m) (λ v. refl) o begins
-    case-rides _ _ (Recovers i x found on) = moves _ (record { ends = Sound; complete = λ v y. y; begins = sound-begun w s; entries = along-recover w s i x found on; follows = λ q v y. over v y; last = λ v y. y; turns = λ v y. regroups-same v.control.sessions; adds = λ v y. none-added v; goes = λ v y. goes-same v.control }) begins (λ v e k. k)
+    case-rides _ _ (Recovers i x found on) = moves _ (record { ends = Sound; complete = λ v y. y; begins = sound-begun w s; entries = along-recover w s i x found on; follows = λ q. tt; last = λ v y. y; turns = λ v y. regroups-same v.control.sessions; adds = λ v y. none-added v; goes = λ v y. goes-same v.control }) begins (λ v e k. k)
     case-rides _ _ (Settles i x m found here on free hand) = entries _ _ (along-settle w s i x found on free m here)
-    case-rides _ _ (Loses n) = sessions (λ ss. ss) (λ k. messages.lost n k.flight) _ s.groups s.attempts (flights-dropped w.control n s.flights) (regroups-same w.control.sessions)
+    case-rides _ _ (Loses n) = sessions (λ ss. ss) (λ k. messages.lost n k.flight) _ s.groups s.attempts (flights-dropped w.control n s.flights) (stays-same w.control.sessions)
         (adds-fewer w.control.sessions w.control.flight (messages.lost n w.control.flight) (λ m here. (from-filter (λ (m : Message). not (m.number == n)) w.control.flight.messages m here).0))
         (goes-fewer w.control (messages.lost n w.control.flight) (λ m here. (from-filter (λ (m : Message). not (m.number == n)) w.control.flight.messages m here).0) (λ t. refl))
     case-rides _ _ (Exchanges i server reply x r o allowed) = turned (ordered i server reply (members_on server x.members) o) (λ v. by reply v) (orders-ordered w s i server x r o allowed reply) begins
@@ -378,7 +379,7 @@ module _ (K : World → Type 0) (rider : Rider K) where
     case-rides _ _ (TakesReply n m reply x r returns) =
         let first : World = as_begun w in
         let f : Session → Session = with_master (λ q. phases.taken q m.server reply) in
-        tables (taking m reply) [] (says_phase m.session) (rider.regroups first (changed m.session f w.control.sessions) w.control.flight (sound-begun w s) (sound-taken w s n m reply x r returns) (regroups-taken w.control.sessions s.groups.once m.session m.server reply) (none-added w) (goes-back w s n m reply x r returns) begins)
+        tables (taking m reply) [] (says_phase m.session) (rider.regroups first (changed m.session f w.control.sessions) w.control.flight (sound-begun w s) (sound-taken w s n m reply x r returns) (regroups-stay _ _ (stays-taken w.control.sessions s.groups.once m.session m.server reply)) (none-added w) (goes-back w s n m reply x r returns) begins)
 
     ending-rides : (p : Plan) → Ending w.control w.events line p → Carried p
     ending-rides _ (OnePlan asked p c) = case-rides asked p c
@@ -394,7 +395,7 @@ module _ (K : World → Type 0) (rider : Rider K) where
 
   -- masters are lost as a step ends
   lost : (w u : World) → Sound u → K u → K (masters_lost w u)
-  lost w u sound k = rider.regroups u (lost_since w.control.on u.control.on u.control.sessions) _ sound (sound-lost w u sound) (regroups-lost u.control.sessions w.control.on u.control.on)
+  lost w u sound k = rider.regroups u (lost_since w.control.on u.control.on u.control.sessions) _ sound (sound-lost w u sound) (regroups-stay _ _ (stays-lost u.control.sessions w.control.on u.control.on))
       (adds-same u.control.sessions u.control.flight (messages.lost_since w.control.on u.control.on u.control.sessions u.control.flight) refl) (goes-lost u.control sound.groups sound.attempts sound.flights w.control.on u.control.on) k
 
   -- a plan before the last one of its step

@@ -7,7 +7,7 @@ use Rattle.dr_model.specs.Moves.{Move}
 use Rattle.dr_model.specs.Carry.{Act, Make, OpenAttempt, Next, Pass, Do, End, Entry, Outcome, carry}
 use Rattle.dr_model.specs.Plans.{Plan}
 use Rattle.dr_model.specs.Runs.{begun, carried_out}
-use Rattle.dr_laws_sound.specs.Calm.{Carries, ComesTo}
+use Rattle.dr_laws_sound.specs.Calm.{Carries, ComesTo, EndsEach}
 use Rattle.dr_laws_sound.proofs.Turns.{done_in_stop, opened_in_stop, not_done, server_of, after_act, Writes}
 use Rattle.dr_laws_sound.proofs.Along as along
 
@@ -45,6 +45,10 @@ module _ (J I E K : World → Type 0) (May : World → Act → Type 0) where
       along.along-entry (Both J K) (Both I K) (Both E K) May w d ds (d w.control) refl
       (next-with w (d w.control) (λ v. along.Along J I E May v ds) (λ v. along.Along (Both J K) (Both I K) (Both E K) May v ds) (λ v k a. along-with v ds k a) k (along.along-comes J I E May w d ds (d w.control) refl a))
 
+pub each-with : (I K : World → Type 0) (May : World → Act → Type 0) (ds : List Entry) → along.EachAlong I May ds → along.EachAlong (Both I K) May ds
+each-with I K May [] all = tt
+each-with I K May (d ∷ ds) all = (λ w i. along-with I I I K May w (d ∷ []) i.1 (all.0 w i.0), each-with I K May ds all.1)
+
 -- A plan of which a step's laws are shown: K holds as it ends, at each of its moments, and where servers go off, if it holds as the
 -- plan begins and the last tables keep it.
 module _ (I W K : World → Type 0) (May : World → Act → Type 0) (w : World) (p : Plan) (holds : along.Holds I W May w p)
@@ -59,7 +63,7 @@ module _ (I W K : World → Type 0) (May : World → Act → Type 0) (w : World)
     complete = λ v e. e.1;
     begins = (holds.begins, begins);
     entries = along-with holds.inner I holds.ends K holds.may (begun w p) p.entries begins holds.entries;
-    follows = λ s v i. along-with I I I K May v (p.follows s) i.1 (holds.follows s v i.0);
+    follows = λ s. each-with I K May (p.follows s) (holds.follows s);
     last = λ v e. (holds.last v e.0, last v e.0 e.1);
   }
 
@@ -76,9 +80,9 @@ module _ (I W K : World → Type 0) (May : World → Act → Type 0) (w : World)
       (holds.begins, begins) (along-with holds.inner I holds.ends K holds.may (begun w p) p.entries begins holds.entries) at
 
   -- so where a server stopped in them, and those that follow come to one
-  pub rides-follows : along.Keeps I I May → Rides I K May → (s n : ℕ) (u v : World) (m : Move) → Carries (begun w p) p.entries u (Some (stopped s)) → ComesTo Carries u (p.follows n) v m → Both I K v × May v (Make m)
+  pub rides-follows : along.Keeps I I May → Rides I K May → (s n : ℕ) (u v : World) (m : Move) → Carries (begun w p) p.entries u (Some (stopped s)) → ComesTo (EndsEach Carries) u (p.follows n) v m → Both I K v × May v (Make m)
   rides-follows each acts s n u v m ends at =
       let j : Both I K u = subst (λ (o : Outcome). along.EndedBy (Both holds.inner K) (Both I K) (Both holds.ends K) holds.may o.0 o.1) ends
       (along.along (Both holds.inner K) (Both I K) (Both holds.ends K) holds.may (keeps-with holds.inner K holds.may I holds.keeps rides) (begun w p) p.entries (holds.begins, begins)
       (along-with holds.inner I holds.ends K holds.may (begun w p) p.entries begins holds.entries)) in
-      along.along-comes_to (Both I K) (Both I K) (Both I K) May (keeps-with I K May I each acts) u (p.follows n) v m j (along-with I I I K May u (p.follows n) j.1 (holds.follows n u j.0)) at
+      along.each-comes_to (Both I K) May Carries (along.carried-ends (Both I K) May (keeps-with I K May I each acts)) (p.follows n) (each-with I K May (p.follows n) (holds.follows n)) u v m j at

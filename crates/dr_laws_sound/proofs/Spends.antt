@@ -1,5 +1,5 @@
 -- What each step tells: with its answer it is no more than a step has room for.
-use Rattle.std.proofs.Common.{ℕ, zero, suc, ◌≡◌, ◌≢◌, ◌≤◌, ◌<◌, ◌+◌, ◌-◌, List, [], ◌∷◌, ◌++◌, length, refl, ap, sym, ◌∙◌, arith, Bool, true, false, cond, Option, Some, None, Result, Ok, map}
+use Rattle.std.proofs.Common.{ℕ, zero, suc, ◌≡◌, ◌≢◌, ◌≤◌, ◌<◌, ◌+◌, ◌-◌, List, [], ◌∷◌, ◌++◌, length, refl, ap, sym, ◌∙◌, arith, Bool, true, false, cond, Option, Some, None, Result, Ok, map, ◌*◌}
 use Rattle.dr_model.specs.declared.step.Step.{Step}
 use Rattle.dr_model.specs.declared.step.Step.TheVariants.{Copy, RemoveFlash, ReverseFlash}
 use Rattle.dr_ids.specs.declared.names.Member.{Member}
@@ -19,33 +19,34 @@ use Rattle.dr_model.specs.Relations.{rest, turned}
 use Rattle.dr_model.specs.Limits.{step_events, most_volumes, most_tracks}
 use Rattle.dr_model.specs.Control.{Control, World}
 use Rattle.dr_model.specs.Moves.{Withdraw, Fetch, Reverse, Suspend, Lift, told, told_left}
-use Rattle.dr_model.specs.Carry.{Act, Entry, Outcome, carry, now}
+use Rattle.dr_model.specs.Carry.{Act, Entry, Outcome, carry, carry_each, now}
 use Rattle.dr_model.specs.Entries.{fields_at, is_running, times, lowest_missing, fetch_next, give_back, share_size}
-use Rattle.dr_model.specs.PairEntries.{tracks_to_send, is_copying, differs_at}
+use Rattle.dr_model.specs.PairEntries.{tracks_to_send, is_copying, differs_at, refuse_if, make_entries, first_differing}
 use Rattle.dr_model.specs.WriteEntries.{lift_on, flash_free_on, freeze_on, end_freeze, thaw_on, end_thaw}
-use Rattle.dr_model.specs.Plans.{none_follow, counted_refusal, restore_refusal, left_by, Plan, entries_plan, named_pair, is_defined, is_owner, is_plain_target, is_recorded_target, is_lone_restore, may_return, may_give_back, may_copy, at_most, left_to_copy}
+use Rattle.dr_model.specs.Plans.{none_follow, counted_refusal, restore_refusal, left_by, Plan, entries_plan, named_pair, is_defined, is_owner, is_plain_target, is_recorded_target, is_lone_restore, may_return, may_give_back, may_copy, at_most, left_to_copy, cascades, cascade_refusal}
 use Rattle.dr_model.specs.Forming.{after_part}
 use Rattle.dr_model.specs.Runs.{begun, finish, stop_place, after_plan}
 use Rattle.dr_model.specs.Laws.{Sound}
 use Rattle.dr_laws_sound.specs.Limits.{IsWithin}
-use Rattle.dr_laws_sound.proofs.Cases.{ByHand, Commits, Reverts, Case, Says, Writes, Applies, Lists, Starts, MakesFlash, RemovesFlash, ReversesFlash, Copies, Destages, RemovesPair, Compares, Drains, Expires, Freezes, Unfreezes, PausesMirror, Exchanges, Sends, Delivers, Recovers, Settles, Releases}
+use Rattle.dr_laws_sound.proofs.Cases.{ByHand, Commits, Reverts, Case, Says, Writes, Applies, Lists, Starts, MakesFlash, RemovesFlash, ReversesFlash, Copies, Destages, RemovesPair, Compares, Drains, Expires, Freezes, Unfreezes, PausesMirror, Exchanges, Sends, Delivers, Recovers, Settles, Releases, MakesPair}
 use Rattle.dr_facts.proofs.Sets.{not_removed, rest_low}
 use Rattle.dr_laws_sound.proofs.Costs.{tells, Costs, costs-nil, costs-check, costs-last, carry-adds, fine-costs, from-costs}
 use Rattle.dr_laws_sound.proofs.CopyCosts.{rounds}
-use Rattle.dr_laws_sound.proofs.PairCosts.{suspend-once, costs-refused, sends-costs, sent-few}
+use Rattle.dr_laws_sound.proofs.PairCosts.{suspend-once, costs-refused, drains-costs, sent-few}
 use Rattle.dr_model.specs.MessagePlans.{told_begun}
 use Rattle.dr_model.specs.SessionPlans.{is_idle}
 use Rattle.dr_laws_sessions.proofs.Members.{members-few}
 use Rattle.dr_model.specs.RecoveryPlans.{decided_in}
-use Rattle.dr_laws_sound.proofs.EntryLengths.{map-length, fetches-length, destage-length, landing-length, after_write-length, start-length, order-length, recover-length}
+use Rattle.dr_laws_sound.proofs.EntryLengths.{map-length, fetches-length, destage-length, landing-length, after_write-length, after_drain-length, start-length, order-length, recover-length}
 use Rattle.dr_laws_sound.proofs.Does.{Does, Acts, Late, Withdraws, Reverses, GivesUp, Suspends, Lifts}
 use Rattle.dr_laws_sound.proofs.DoesPlans.{case-does}
-use Rattle.dr_facts.proofs.Entries.{any_world, any_reason, fine-one, fine-times, fine-found}
+use Rattle.dr_facts.proofs.Entries.{any_world, EachFine, any_reason, fine-one, fine-times, fine-found}
 use Rattle.dr_facts.proofs.Reasons.{NoStop}
 use Rattle.dr_model.proofs.LawfulLemmas.{removed}
 use Rattle.dr_facts.proofs.Tracks.{empty_has}
 use Rattle.dr_facts.proofs.Costs.{blanks-few, restored-few, freed-few}
 use Rattle.dr_logic.proofs.Truth.{false_true}
+use Rattle.dr_model.specs.Contents.{image_at}
 
 -- a set of numbers below n has no more than n
 pub len-low : (n : ℕ) (s : Tracks) → ((q : ℕ) → contains s q ≡ true → q < n) → len s ≤ n
@@ -70,25 +71,24 @@ len-low (suc n) s low =
     either true e le = omega arith
     either false e le = omega arith
 
--- what follows a stop tells three events at most
+-- what follows a stop tells six events at most
 abbrev FollowAdds : (ℕ → List Entry) → Type 0
-FollowAdds follows = (s : ℕ) (v : World) → length (carry v (follows s)).0.events ≤ length v.events + 3
+FollowAdds follows = (s : ℕ) (v : World) → length (carry_each v (follows s)).events ≤ length v.events + 6
 
 -- what a plan tells
 pub record Spends (w : World) (p : Plan) : Type 0 where
   pub spends : ℕ
   pub costs : Costs spends (begun w p) p.entries
   pub follows : FollowAdds p.follows
-  pub few : length p.told + spends + 5 ≤ step_events
+  pub few : length p.told + spends + 8 ≤ step_events
 
-finish-adds : (p : Plan) (n : ℕ) (w : World) (r : Option Refusal) → FollowAdds p.follows → length (finish p n w r).events ≤ length w.events + 3
+finish-adds : (p : Plan) (n : ℕ) (w : World) (r : Option Refusal) → FollowAdds p.follows → length (finish p n w r).events ≤ length w.events + 6
 finish-adds p n w None few = omega arith
 finish-adds p n w (Some (StoppedIn s)) few = few n w
 finish-adds p n w (Some r) few = omega arith
 
 -- nothing follows
 none-adds : FollowAdds none_follow
-unfolding carry
 none-adds s v = omega arith
 
 pub after_plan-adds : (w : World) (line : ℕ) (p : Plan) → Spends w p → length (after_plan w line p).events ≤ length w.events + step_events
@@ -98,9 +98,9 @@ after_plan-adds w line p s =
     let n : ℕ = s.spends in
     let a : length o.0.events ≤ length (w.events ++ p.told) + n + 1 = carry-adds n (begun w p) p.entries s.costs in
     let b : length (w.events ++ p.told) ≡ length w.events + length p.told = length-append w.events p.told in
-    let c : length (finish p (stop_place w p) o.0 o.1).events ≤ length o.0.events + 3 = finish-adds p (stop_place w p) o.0 o.1 s.follows in
+    let c : length (finish p (stop_place w p) o.0 o.1).events ≤ length o.0.events + 6 = finish-adds p (stop_place w p) o.0 o.1 s.follows in
     let d : length (after_plan w line p).events ≡ length (finish p (stop_place w p) o.0 o.1).events + 1 = length-append (finish p (stop_place w p) o.0 o.1).events _ in
-    let few : length p.told + n + 5 ≤ step_events = s.few in omega arith
+    let few : length p.told + n + 8 ≤ step_events = s.few in omega arith
 
 -- without an answer it leaves room for one
 pub after_part-adds : (w : World) (p : Plan) → Spends w p → length (after_part w p).events + 1 ≤ length w.events + step_events
@@ -140,6 +140,11 @@ copied-few : (k : Control) (t n : ℕ) (most : Option ℕ) → left_to_copy k t 
 copied-few k t n None le = le
 copied-few k t n (Some m) le = let e = min-le_right m (left_to_copy k t) in omega arith
 
+-- an entry that comes only where that is so
+one-first : (b : Bool) (d : Entry) (ds : List Entry) → length (cond b (d ∷ []) [] ++ ds) ≤ length ds + 1
+one-first true d ds = omega arith
+one-first false d ds = omega arith
+
 module _ (w : World) (x : Sound w) (h : IsWithin w.control) where
   left-few : (t : ℕ) → left_to_copy w.control t ≤ most_tracks
   left-few t =
@@ -164,7 +169,7 @@ module _ (w : World) (x : Sound w) (h : IsWithin w.control) where
       let s : ℕ = (fields_at w.control t).source in
       rounds w.control.volumes t s n 3585 (record w { events = w.events ++ [] }) (omega arith) (record { reversing = is; small = h.tracks t; few = x.targets.few s })
 
-  entries-spends : (entries : List Entry) (said : Said) (n : ℕ) → Costs n (record w { events = w.events ++ [] }) entries → n + 5 ≤ step_events → Spends w (entries_plan entries said)
+  entries-spends : (entries : List Entry) (said : Said) (n : ℕ) → Costs n (record w { events = w.events ++ [] }) entries → n + 8 ≤ step_events → Spends w (entries_plan entries said)
   entries-spends entries said n c few = record { spends = n; costs = c; follows = none-adds; few = omega arith }
 
   tables-spends : (first last : Control → Control) (told : List Event) (says : Control → Said) → length told ≤ 256 → Spends w (record { first = first; told = told; entries = []; follows = none_follow; last = last; says = says })
@@ -174,13 +179,20 @@ module _ (w : World) (x : Sound w) (h : IsWithin w.control) where
     two : (v : World) (a : Act) → Acts w.control asked v a → tells v a ≤ 2
     two v a d = does-tells w.control asked v a other d
 
-    followed-adds : ((s : ℕ) → length (p.follows s) ≤ 1) → FollowAdds p.follows
-    followed-adds one s v =
-        let le : length (p.follows s) ≤ 1 = one s in
-        let adds : length (carry v (p.follows s)).0.events ≤ length v.events + 2 + 1 = carry-adds 2 v (p.follows s) (fine-costs (Acts w.control asked) NoStop (Late asked) two (p.follows s) 2 v ((case-does w line asked p case).follows s) (omega arith)) in omega arith
+    each-adds : (ds : List Entry) → EachFine any_world (Acts w.control asked) (Late asked) ds → (v : World) → length (carry_each v ds).events ≤ length v.events + length ds * 3
+    each-adds [] fine v = omega arith
+    each-adds (d ∷ ds) fine v =
+        let u : World = (carry v (d ∷ [])).0 in
+        let one : length u.events ≤ length v.events + 2 + 1 = carry-adds 2 v (d ∷ []) (fine-costs (Acts w.control asked) NoStop (Late asked) two (d ∷ []) 2 v fine.0 (omega arith)) in
+        let rest : length (carry_each u ds).events ≤ length u.events + length ds * 3 = each-adds ds fine.1 u in omega arith
+
+    followed-adds : ((s : ℕ) → length (p.follows s) ≤ 2) → FollowAdds p.follows
+    followed-adds few s v =
+        let le : length (p.follows s) ≤ 2 = few s in
+        let adds : length (carry_each v (p.follows s)).events ≤ length v.events + length (p.follows s) * 3 = each-adds (p.follows s) ((case-does w line asked p case).follows s) v in omega arith
 
     -- a plan with few entries
-    acts-spends : length p.told ≤ 1 → length p.entries ≤ 256 → ((s : ℕ) → length (p.follows s) ≤ 1) → Spends w p
+    acts-spends : length p.told ≤ 1 → length p.entries ≤ 256 → ((s : ℕ) → length (p.follows s) ≤ 2) → Spends w p
     acts-spends told few one = record {
       spends = 512;
       costs = from-costs (Acts w.control asked) NoStop (Late asked) two p.entries 512 (begun w p) (case-does w line asked p case).entries (omega arith);
@@ -231,6 +243,10 @@ module _ (w : World) (x : Sound w) (h : IsWithin w.control) where
       (costs-check 3585 _ (is_defined t) _ _ (costs-check 3585 _ (is_running t) _ _ (costs-check 3585 _ (may_copy t) _ _ (costs-check 3585 _ (may_give_back t) _ _
       (copy-costs (at_most most (left_to_copy w.control t)) t (copied-few w.control t most_tracks most (left-few t)) _ refl))))) (omega arith)
   case-spends line asked _ (Destages v) = acts-spends line asked _ (Destages v) refl (omega arith) (let le = destage-length (w.control.volume v).staged v in omega arith) (λ q. omega arith)
+  case-spends line asked _ (MakesPair devs a b kind choices part) =
+      let made : List Entry = make_entries w.control a b kind (cascades kind choices) choices.full (cond choices.full None (first_differing (image_at w.events) (w.control.volume a).tracks a b)) in
+      let le : length (cond (cascades kind choices) (refuse_if (cascade_refusal a) ∷ []) [] ++ made) ≤ length made + 1 = one-first (cascades kind choices) (refuse_if (cascade_refusal a)) made in
+      acts-spends line asked _ (MakesPair devs a b kind choices part) refl (omega arith) (omega arith) (λ q. omega arith)
   case-spends line asked _ (RemovesPair devs a b true) = acts-spends line asked _ (RemovesPair devs a b true) refl (omega arith) (omega arith) (λ q. omega arith)
   case-spends line asked _ (RemovesPair devs a b false) = acts-spends line asked _ (RemovesPair devs a b false) refl (omega arith) (omega arith) (λ q. omega arith)
   case-spends line _ _ (Drains a most) =
@@ -240,10 +256,9 @@ module _ (w : World) (x : Sound w) (h : IsWithin w.control) where
       let small : n ≤ most_tracks = h.tracks a in
       let le : length ts ≤ n = sent-few most n f.out_of_sync in
       record {
-        spends = 3584;
-        costs = costs-check 3584 _ (is_defined a) _ _ (costs-check 3584 _ (is_running a) _ _ (costs-check 3584 _ (is_copying a) _ _
-            (sends-costs w.control.volumes f.primary_partner a ts 3584 (omega arith) _ (x.targets.few f.primary_partner))));
-        follows = followed-adds line _ _ (Drains a most) refl (λ s. omega arith);
+        spends = 7168;
+        costs = costs-check 7168 _ (is_defined a) _ _ (costs-check 7168 _ (is_running a) _ _ (costs-check 7168 _ (is_copying a) _ _ (drains-costs w.control a ts 7168 (omega arith) _ x.targets.few)));
+        follows = followed-adds line _ _ (Drains a most) refl (after_drain-length w.control a ts);
         few = omega arith;
       }
   case-spends line asked _ (Expires s on) = acts-spends line asked _ (Expires s on) refl (omega arith) (let e = length-map w.control.volumes (lift_on s) in let le = h.volumes in omega arith) (λ q. omega arith)

@@ -31,7 +31,7 @@ use Rattle.dr_laws_sessions.proofs.Volumes.{groups-same}
 use Rattle.dr_laws_messages.proofs.Moves.{flights-started}
 use Rattle.dr_laws_sound.proofs.RowsAfter.{calm-each}
 use Rattle.dr_laws_sound.proofs.KeepsQueue.{apart-filter, lone-filter, numbered-after}
-use Rattle.dr_laws_sound.proofs.KeepsSound.{StepHolds, over, sound-done, sound-stop, sound-not, rows-told, sound-fused}
+use Rattle.dr_laws_sound.proofs.KeepsSound.{StepHolds, sound-done, sound-stop, sound-not, rows-told, sound-fused}
 use Rattle.dr_laws_sound.proofs.Along as along
 use Rattle.dr_logic.proofs.Tables.{at_same, at_other}
 
@@ -190,7 +190,6 @@ module _ (s : ℕ) where
   sound-off w j off = record {
     rows = j.rows;
     targets = j.targets;
-    uncascaded = j.uncascaded;
     secondaries = j.secondaries;
     groups = j.groups;
     housed = j.housed;
@@ -203,7 +202,6 @@ module _ (s : ℕ) where
   sound-free w j free = record {
     rows = j.rows;
     targets = j.targets;
-    uncascaded = j.uncascaded;
     secondaries = j.secondaries;
     groups = j.groups;
     housed = j.housed;
@@ -248,7 +246,6 @@ module _ (s : ℕ) where
     acknowledges = record {
       rows = subst SoundRows (λ i u. record (table w u) { due = λ q. sym (same-due u q) i; aside = λ q. sym (same-aside u q) i }) j.rows;
       targets = record { once = j.targets.once; few = j.targets.few };
-      uncascaded = j.uncascaded;
       secondaries = j.secondaries;
       groups = same-groups w.control (acknowledged w p.w).control refl refl refl j.groups;
       housed = j.housed;
@@ -351,7 +348,6 @@ module _ (s : ℕ) where
         sound = record {
           rows = rows-told w (Started s ∷ []) same x.rows;
           targets = record { once = x.targets.once; few = x.targets.few };
-          uncascaded = x.uncascaded;
           secondaries = x.secondaries;
           groups = same-groups w.control (starting s w.control) refl refl refl x.groups;
           housed = x.housed;
@@ -377,6 +373,6 @@ module _ (s : ℕ) where
     complete = λ v i. i.rows;
     begins = begins w x;
     entries = volumes-start w.control.volumes (begun w (start_plan w.control s)) (begins w x);
-    follows = λ q v i. over v i;
+    follows = λ q. tt;
     last = λ v i. i;
   }

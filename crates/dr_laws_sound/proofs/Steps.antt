@@ -63,7 +63,7 @@ sound-said w line a s = sound-told None w w.control.servers w.control.on w.contr
 
 -- a step without entries leaves what it begins with
 holds-tables : (w : World) (first : Control → Control) (told : List Event) (a : Said) → Sound (begun w (tables_plan first told a)) → StepHolds w (tables_plan first told a)
-holds-tables w first told a s = holds-moves w (tables_plan first told a) s (over _ s) (λ q v i. over v i) (λ v i. i)
+holds-tables w first told a s = holds-moves w (tables_plan first told a) s (over _ s) (λ q. tt) (λ v i. i)
 
 -- the names, servers, fuses, links and paths that it changes, and what it tells, are nothing to the volumes and the queue
 holds-told : (w : World) (servers : List (List ℕ)) (on : ℕ → Bool) (fuse : ℕ → Option Fuse) (link : ℕ → ℕ → Bool) (paths : List Path) (told : List Event) (a : Said) → Housed (record w.control { servers = servers }) → Sound w → histories (w.events ++ told) ≡ histories w.events → AllQuiet (w.control.issued + 1) told
@@ -96,10 +96,10 @@ module _ (w : World) (s : Sound w) (v t offset len : ℕ) (bytes : List ℕ) (th
   new = record { w = w.control.issued + 1; volume = v; track = t; landed = false }
 
   holds-issue : StepHolds w (issue_done w.control v t offset len bytes)
-  holds-issue = holds-moves w (issue_done w.control v t offset len bytes) begins (over _ begins) (λ q k i. over k i) (λ k i. i)
+  holds-issue = holds-moves w (issue_done w.control v t offset len bytes) begins (over _ begins) (λ q. tt) (λ k i. i)
 
   holds-write : StepHolds w (write_done w.control v t offset len bytes)
-  holds-write = holds-moves w (write_done w.control v t offset len bytes) begins (lands first begins new (one-new w s v t offset len bytes there.defined there.low)) (λ q k i. writes-after w.control (w.control.issued + 1) v t q k i) (λ k i. i)
+  holds-write = holds-moves w (write_done w.control v t offset len bytes) begins (lands first begins new (one-new w s v t offset len bytes there.defined there.low)) (λ q. writes-after w.control (w.control.issued + 1) v t q) (λ k i. i)
 
 -- a pending write is carried out
 module _ (w : World) (s : Sound w) (n : ℕ) (p : Pending) (found : find (is_write n) w.control.pending ≡ Some p) where
@@ -113,7 +113,7 @@ module _ (w : World) (s : Sound w) (n : ℕ) (p : Pending) (found : find (is_wri
   here-sound = subst Sound same-world s
 
   holds-apply : StepHolds w (apply_done w.control p)
-  holds-apply = holds-moves w (apply_done w.control p) here-sound (lands here here-sound p (found-alone n p w.control.pending found s.queue.apart)) (λ q k i. writes-after w.control p.w p.volume p.track q k i) (λ k i. i)
+  holds-apply = holds-moves w (apply_done w.control p) here-sound (lands here here-sound p (found-alone n p w.control.pending found s.queue.apart)) (λ q. writes-after w.control p.w p.volume p.track q) (λ k i. i)
 
 -- whatever a step comes to
 module _ (w : World) (s : Sound w) (line : ℕ) where
@@ -171,7 +171,7 @@ module _ (w : World) (s : Sound w) (line : ℕ) where
   case-holds _ _ (Delivers n m starts x r reaches) = holds-orders w _ (orders-delivered w s n m starts x r reaches)
   case-holds _ _ (TakesReply n m reply x r returns) = holds-taken w s n m reply x r returns
   case-holds _ _ (Exchanges i server reply x r o allowed) = holds-orders w _ (orders-ordered w s i server x r o allowed reply)
-  case-holds _ _ (Recovers i x found on) = holds-moves w _ (sound-begun w s) (along-recover w s i x found on) (λ q v y. over v y) (λ v y. y)
+  case-holds _ _ (Recovers i x found on) = holds-moves w _ (sound-begun w s) (along-recover w s i x found on) (λ q. tt) (λ v y. y)
   case-holds _ _ (Settles i x m found here on free hand) = holds-entries w _ _ s (along-settle w s i x found on free m here)
 
   pub ending-holds : (p : Plan) → Ending w.control w.events line p → StepHolds w p
@@ -241,7 +241,6 @@ sound-nothing = record {
   attempts = attempts-none;
   flights = flights-none;
   targets = record { once = tt; few = λ v. omega arith };
-  uncascaded = λ v h. absurd cc;
   queue = record { each = tt; apart = tt; lone = tt; numbers = record { now = λ v t. tt; aside = λ v t. tt } };
 }
 

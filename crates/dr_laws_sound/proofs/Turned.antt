@@ -8,24 +8,23 @@ use Rattle.dr_model.specs.declared.state.Part.{Part}
 use Rattle.dr_model.specs.declared.step.Devs.{Devs}
 use Rattle.dr_model.specs.Layout.{is_part}
 use Rattle.dr_model.specs.Histories.{histories}
-use Rattle.dr_model.specs.Pairs.{is_primary_of, is_secondary_of, is_kind, next_state, state_with, is_suspended}
+use Rattle.dr_model.specs.Pairs.{is_primary_of, is_secondary_of, is_kind, next_state, state_with, is_suspended, is_cascaded}
 use Rattle.dr_model.specs.Control.{Control, Fuse, Volume, World}
-use Rattle.dr_model.specs.Moves.{Move, TakeOver, FallBack, Yield, target}
-use Rattle.dr_model.specs.Carry.{Make, Pass, Do, End, Entry, Outcome, continue, go, carry, check, now}
-use Rattle.dr_model.specs.Entries.{fields_at, is_running, is_settled}
+use Rattle.dr_model.specs.Moves.{Move, TakeOver, FallBack, Yield, target, LeavePrimary}
+use Rattle.dr_model.specs.Carry.{Make, Pass, Do, End, Entry, Outcome, continue, go, carry, check}
+use Rattle.dr_model.specs.Entries.{fields_at, is_running, is_settled, is_no_secondary}
 use Rattle.dr_model.specs.PairEntries.{end_if, refuse_if, reach_refusal, leads_to, belongs_to, may_take_over, leads_as, unsent_by, failover_entries, failback_entries, fall_back_on, yield_on}
 use Rattle.dr_model.specs.Plans.{found_volumes, failover_plan, failback_plan, yield_refusal}
 use Rattle.dr_model.specs.Table.{Row, table}
 use Rattle.dr_model.specs.Rows.{next_row}
 use Rattle.dr_model.specs.Laws.{Sound}
-use Rattle.dr_model.specs.Allowed.{Runs}
-use Rattle.dr_laws_sound.specs.Turning.{TakesOver, IsTurned, Leaves, AreEqual}
+use Rattle.dr_model.specs.Allowed.{Runs, Allowed, Ready}
+use Rattle.dr_laws_sound.specs.Turning.{TakesOver, IsTurned, Leaves, AreEqual, LeavesFirst, FailsOver}
 use Rattle.dr_facts.proofs.Parts.{two-partners}
 use Rattle.dr_model.proofs.CarryLemmas.{carry-first}
 use Rattle.dr_laws_sound.proofs.Turns.{done, act-cases}
 use Rattle.dr_laws_sound.proofs.RowsAfter.{idle, table-done}
 use Rattle.dr_laws_sound.proofs.KeepsSound.{Along, MayDo, keeps-sound}
-use Rattle.dr_laws_sound.proofs.KeepsStructure.{revertible-not as other-none}
 use Rattle.dr_laws_sound.proofs.FitsFlash.{as_begun, sound-begun}
 use Rattle.dr_laws_sound.proofs.FitsPairs.{reached, its-second, its-first, row, runs-done}
 use Rattle.dr_laws_sound.proofs.FitsFailover.{along-failback}
@@ -35,6 +34,7 @@ use Rattle.dr_facts.proofs.Tables.{at_cases}
 use Rattle.dr_facts.proofs.Tracks.{empty_has}
 use Rattle.dr_logic.proofs.Tables.{at_same, at_other}
 use Rattle.dr_logic.proofs.Truth.{false_true}
+use Rattle.dr_laws_sound.proofs.FitsCollide.{uncascaded-second}
 
 -- ---- a pair that is in place
 
@@ -91,6 +91,13 @@ module _ (w : World) (s : Sound w) where
   abbrev first : World
   first = as_begun w
 
+  -- a move that stores nothing
+  same-bytes : (m : Move) (f : Option Fuse) → Allowed (histories first.events).write (table first) m → Ready first m → ((t : ℕ) → (next_row (histories first.events).write m (table first)).bytes t ≡ w.contents (target m) t) → (v t : ℕ) → (done first m f).contents v t ≡ w.contents v t
+  same-bytes m f allowed ready none v t =
+      let z = sound-begun w s in
+      ap (λ (T : ℕ → Row). (T v).bytes t) (table-done first z.rows.structure m f z.rows.images.blank allowed ready)
+      ∙ at_cases (λ v (r : Row). r.bytes t ≡ w.contents v t) (table first) (target m) (next_row (histories first.events).write m (table first)) (none t) (λ v ne. refl) v
+
   -- ---- a secondary is taken over
 
   module _ (b a : ℕ) (kind : Part) (on : Runs first b) (may : may_take_over a b kind w.control ≡ true) (f : Option Fuse) where
@@ -103,15 +110,11 @@ module _ (w : World) (s : Sound w) where
     now-first : over.control.volume b ≡ row first (TakeOver b) f
     now-first = at_same w.control.volume b (row first (TakeOver b) f)
 
-    same-bytes : (v t : ℕ) → over.contents v t ≡ w.contents v t
-    same-bytes v t =
-        let z = sound-begun w s in
-        let is = (and_parts (is_part (fields_at w.control b).secondary) _ belongs).0 in
-        ap (λ (T : ℕ → Row). (T v).bytes t) (table-done first z.rows.structure (TakeOver b) f z.rows.images.blank (record { second = is; free = other-none _ (z.uncascaded b) is }) (idle first b z.queue on))
-        ∙ at_cases (λ v (r : Row). r.bytes t ≡ w.contents v t) (table first) b (next_row (histories first.events).write (TakeOver b) (table first)) refl (λ v ne. refl) v
+    is-second : is_part (fields_at w.control b).secondary ≡ true
+    is-second = (and_parts (is_part (fields_at w.control b).secondary) _ belongs).0
 
-    taken : TakesOver w over b a kind
-    taken = record {
+    taken : is_cascaded (fields_at w.control b) ≡ false → TakesOver w over b a kind
+    taken unfed = record {
       leads = ap (λ (v : Volume). is_primary_of a v.fields) now-first ∙ belongs;
       of_kind = ap (λ (v : Volume). is_kind kind v.fields.primary) now-first ∙ (and_parts (belongs_to a b w.control) _ may).1;
       suspended = ap (λ (v : Volume). is_suspended v.fields.primary_state) now-first;
@@ -119,15 +122,31 @@ module _ (w : World) (s : Sound w) where
       second = ap (λ (v : Volume). is_part v.fields.secondary) now-first;
       unsealed = ap (λ (v : Volume). v.fields.seal) now-first;
       others = λ v ne. ap (λ (x : Volume). x.fields) (at_other w.control.volume b (row first (TakeOver b) f) v ne);
-      tracks = same-bytes;
+      tracks = same-bytes (TakeOver b) f (record { second = is-second; free = uncascaded-second (fields_at w.control b) unfed is-second }) (idle first b (sound-begun w s).queue on) (λ t. refl);
     }
 
-  pub failover-leaves : (devs : Devs) (b a : ℕ) (kind : Part) → Leaves (λ u. TakesOver w u b a kind) w (failover_plan w.control devs b a kind)
+    -- a cascaded one leaves its primary
+    abbrev parted : World
+    parted = done first (LeavePrimary b) f
+
+    left : is_cascaded (fields_at w.control b) ≡ true → LeavesFirst w parted b
+    left fed = record {
+      own = ap (λ (v : Volume). v.fields) (at_same w.control.volume b (row first (LeavePrimary b) f));
+      others = λ v ne. ap (λ (x : Volume). x.fields) (at_other w.control.volume b (row first (LeavePrimary b) f) v ne);
+      tracks = same-bytes (LeavePrimary b) f (record { first = (and_parts (is_part (fields_at w.control b).primary) _ fed).0; second = is-second }) (idle first b (sound-begun w s).queue on) (λ t. refl);
+    }
+
+  pub failover-leaves : (devs : Devs) (b a : ℕ) (kind : Part) → Leaves (λ u. FailsOver w u b a kind) w (failover_plan w.control devs b a kind)
   failover-leaves devs b a kind u leads =
       let runs = passed-check first u (is_running b) _ _ (passed-found first u devs b a (failover_entries w.control b a kind) leads) in
-      let may = passed-check first u (may_take_over a b kind) _ _ runs.1 in
-      let led = move-led first u (now (TakeOver b)) (TakeOver b) [] refl runs.0 may.1 in
-      subst (λ u. TakesOver w u b a kind) (nothing-left _ u led.leads) (taken b a kind runs.0 may.0 led.fuse)
+      let may = passed-check first u (may_take_over a b kind) _ _ runs.1 in (
+        λ unfed.
+            let led = move-led first u _ (TakeOver b) [] (ap (λ c. Do (Make (cond c (LeavePrimary b) (TakeOver b)))) unfed) runs.0 may.1 in
+            subst (λ u. TakesOver w u b a kind) (nothing-left _ u led.leads) (taken b a kind runs.0 may.0 led.fuse unfed),
+        λ fed.
+            let led = move-led first u _ (LeavePrimary b) [] (ap (λ c. Do (Make (cond c (LeavePrimary b) (TakeOver b)))) fed) runs.0 may.1 in
+            subst (λ u. LeavesFirst w u b) (nothing-left _ u led.leads) (left b a kind runs.0 may.0 led.fuse fed),
+      )
 
   -- ---- a pair goes the other way
 
@@ -178,6 +197,7 @@ module _ (w : World) (s : Sound w) where
       alike = ap (λ (v : Volume). v.fields.secondary) at-y ∙ ap (λ (v : Volume). v.fields.primary) (at-half ∙ sym at-x);
       same_state = ap (λ (v : Volume). v.fields.secondary_state) at-y ∙ ap (λ (v : Volume). v.fields.primary_state) (at-half ∙ sym at-x);
       unsealed = ap (λ (v : Volume). v.fields.seal) at-y;
+      plain = ap (λ (v : Volume). is_part v.fields.primary) at-y;
       equal = λ t lt none. pair-equal both z x y leads-then follows-then t lt none ((z.rows.recorders x).none idle-then t);
     }
 
@@ -188,7 +208,8 @@ module _ (w : World) (s : Sound w) where
       let reach = passed-refuse first u (reach_refusal x y) _ runs.1 in
       let heads = passed-check first u (leads_as x y kind) _ _ reach.1 in
       let back = passed-check first u (leads_to y x) _ _ heads.1 in
-      let still = passed-check first u (is_settled x) _ _ (passed-check first u (is_settled y) _ _ back.1).1 in
+      let lone = passed-check first u (is_no_secondary y) _ _ (passed-check first u (is_no_secondary x) _ _ back.1).1 in
+      let still = passed-check first u (is_settled x) _ _ (passed-check first u (is_settled y) _ _ lone.1).1 in
       let free = passed-refuse first u (yield_refusal y) _ still.1 in
       let m : Move = FallBack x (unsent_by y w.control) (state_with (unsent_by y w.control) (fields_at w.control x)) in
       let one = move-led first u (fall_back_on x y) m (yield_on y x ∷ []) refl runs.0 free.1 in

@@ -10,12 +10,12 @@ use Rattle.dr_model.specs.declared.event.Event.TheVariants.{Ack, Mirrored, Stopp
 use Rattle.dr_logic.specs.Tables.{at}
 use Rattle.dr_model.specs.Control.{Control, Fuse, Pending, Volume, World}
 use Rattle.dr_model.specs.Moves.{Move, Land, Overwrite, LandBoth, Hold, told, told_in_stop, landed, settled, settled_in_stop, target}
-use Rattle.dr_model.specs.Carry.{Act, Make, OpenAttempt, Redo, Acknowledge, Drop, EndFreeze, EndThaw, EndRecovery, act, Turn, Entry, Outcome, carry}
+use Rattle.dr_model.specs.Carry.{Act, Make, OpenAttempt, Redo, Acknowledge, Drop, EndFreeze, EndThaw, EndRecovery, act, Turn, Entry, Outcome, carry, carry_each}
 use Rattle.dr_model.specs.Carried.{begun, carried_out}
 use Rattle.dr_model.specs.PlanParts.{Plan}
 use Rattle.dr_ids.specs.declared.refusal.Refusal.{Refusal}
 use Rattle.dr_facts.proofs.Emits.{Tag, Acks, Mirrors, Cuts, Of, all_tags, emits, act_emits, Lists, each-told, stop-onto}
-use Rattle.dr_facts.proofs.Entries.{any_world, any_reason, AllFine, carry-kept, FineFrom, plan-from}
+use Rattle.dr_facts.proofs.Entries.{any_world, any_reason, AllFine, EachFine, carry-kept, FineFrom, plan-from, each-kept}
 use Rattle.dr_laws_sound.proofs.ChecksFirst.{carry-on}
 use Rattle.dr_logic.proofs.Truth.{false_true}
 use Rattle.dr_model.specs.Groups.{In}
@@ -236,6 +236,10 @@ module _ (no_cuts : Bool) (w : World) where
 abbrev pub AllAcknowledgeNothing : Bool → List Entry → Type 0
 AllAcknowledgeNothing no_cuts = AllFine any_world (λ w a. AcknowledgesNothing no_cuts a) any_reason
 
+-- each by itself
+abbrev pub EachAcknowledgesNothing : Bool → List Entry → Type 0
+EachAcknowledgesNothing no_cuts = EachFine any_world (λ w a. AcknowledgesNothing no_cuts a) any_reason
+
 module _ (no_cuts : Bool) where
   abbrev pub Comes : World → Outcome → Type 0
   Comes w o = EndsUnacknowledged no_cuts w o.0 o.1
@@ -252,8 +256,12 @@ module _ (no_cuts : Bool) where
       let since : Since w (carry w ds).0 = carry-kept any_world (λ w a. AcknowledgesNothing no_cuts a) any_reason (Since w) (λ u h. tt) (λ u a nothing h. act-since w u a nothing h) ds nothing w (since-same no_cuts w, pending-same w.control) in
       record { since = since.0; stays = since.1; on = carry-on w ds }
 
+  pub each-unacknowledged : (w : World) (ds : List Entry) → EachAcknowledgesNothing no_cuts ds → NothingAcknowledged no_cuts w (carry_each w ds)
+  each-unacknowledged w ds nothing =
+      each-kept any_world (λ w a. AcknowledgesNothing no_cuts a) any_reason (NothingAcknowledged no_cuts w) (λ u h. tt) (λ u a nothing h. since-then no_cuts w u _ h (act-turned no_cuts u a nothing).unacknowledged.since) ds nothing w (since-same no_cuts w)
+
   -- a plan whose acts are such
   pub plan-since : (First Why : Refusal → Type 0) (Ok : World → Act → Type 0) → ((u : World) (a : Act) → Ok u a → AcknowledgesNothing no_cuts a) → (w : World) (p : Plan) → NoAcknowledgement no_cuts p.told → FineFrom any_world Ok First Why (begun w p) p.entries
-      → ((s : ℕ) → AllFine any_world Ok Why (p.follows s)) → NothingAcknowledged no_cuts w (carried_out w p).0
+      → ((s : ℕ) → EachFine any_world Ok Why (p.follows s)) → NothingAcknowledged no_cuts w (carried_out w p).0
   plan-since First Why Ok nothing w p told entries follows =
       plan-from any_world Ok First Why (NothingAcknowledged no_cuts w) (λ u h. tt) (λ u a ok h. since-then no_cuts w u _ h (act-turned no_cuts u a (nothing u a ok)).unacknowledged.since) w p (record { added = p.told; events = refl; silent = told }) entries follows (λ u h. record { added = h.added; events = h.events; silent = h.silent })

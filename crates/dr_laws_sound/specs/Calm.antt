@@ -1,5 +1,5 @@
 -- Where a step makes a move, and what a volume is where it takes a track back from its target.
-use Rattle.std.specs.Prelude.{◌≡◌, ℕ, Bool, false, List, ◌∷◌, ◌++◌, Option, Some, None}
+use Rattle.std.specs.Prelude.{◌≡◌, ℕ, Bool, false, List, [], ◌∷◌, ◌++◌, Option, Some, None}
 use Rattle.dr_ids.specs.declared.refusal.Refusal.{Refusal}
 use Rattle.dr_model.specs.Refusals.{stopped}
 use Rattle.dr_model.specs.Layout.{is_part}
@@ -30,11 +30,23 @@ pub record ComesTo (EndsIn : World → List Entry → World → Option Refusal �
   pub leads : EndsIn w before v None
   pub decides : entry v.control ≡ Do (Make m)
 
+-- The first of entries ends in some way in a world from which the later ones go on.
+pub record EndsOne (EndsIn : World → List Entry → World → Option Refusal → Type 0) (w : World) (d : Entry) (later : World → Type 0) : Type 0 where
+  pub middle : World
+  pub refusal : Option Refusal
+  pub first : EndsIn w (d ∷ []) middle refusal
+  pub rest : later middle
+
+-- Entries end so one by one, whether a server stopped in the one before or not.
+abbrev pub EndsEach : (World → List Entry → World → Option Refusal → Type 0) → World → List Entry → World → Option Refusal → Type 0
+EndsEach EndsIn w [] v r = v ≡ w
+EndsEach EndsIn w (d ∷ ds) v r = EndsOne EndsIn w d (λ u. EndsEach EndsIn u ds v r)
+
 -- A plan makes a move in world v: its entries come to it there; or server s stops in them, in world u, and those that follow a stop after any n of
--- them come to it.
+-- them, each by itself, come to it.
 pub data Makes (EndsIn : World → List Entry → World → Option Refusal → Type 0) (x : Part) (v : World) (m : Move) : Type 0 where
   Itself : ComesTo EndsIn (begun x.world x.plan) x.plan.entries v m → Makes EndsIn x v m
-  Follows : (u : World) (s n : ℕ) → EndsIn (begun x.world x.plan) x.plan.entries u (Some (stopped s)) → ComesTo EndsIn u (x.plan.follows n) v m → Makes EndsIn x v m
+  Follows : (u : World) (s n : ℕ) → EndsIn (begun x.world x.plan) x.plan.entries u (Some (stopped s)) → ComesTo (EndsEach EndsIn) u (x.plan.follows n) v m → Makes EndsIn x v m
 
 -- A volume is at rest: it doesn't record for an attempt, it is no secondary, and it is the source of no revertible target.
 pub record IsAtRest (k : Control) (v : ℕ) : Type 0 where

@@ -13,9 +13,9 @@ use Rattle.dr_model.specs.Phases as phases
 use Rattle.dr_model.specs.Control.{World}
 use Rattle.dr_model.specs.Sessions.{Mirror, session_in, mirror_in, members_in}
 use Rattle.dr_model.specs.Messages.{Message, message_in}
-use Rattle.dr_model.specs.Carry.{Entry, carry, dropped}
+use Rattle.dr_model.specs.Carry.{Entry, carry, dropped, entries_in}
 use Rattle.dr_model.specs.Entries.{fields_at}
-use Rattle.dr_model.specs.PairEntries.{sends, suspend_where, send_refusal, flashed_refusal, tracks_to_send}
+use Rattle.dr_model.specs.PairEntries.{drain_stretches, suspend_where, send_refusal, flashed_refusal, held_refusal, tracks_to_send}
 use Rattle.dr_model.specs.SessionEntries.{members_on, order_entries}
 use Rattle.dr_model.specs.SessionPlans.{order_of, asking}
 use Rattle.dr_model.specs.RecoveryPlans.{decided_in, recover_entries}
@@ -55,10 +55,10 @@ pub record HasSent (w : World) (a : ℕ) (most : Option ℕ) (r : Refusal) (u : 
   pub leads :
       let b : ℕ = (fields_at w.control a).primary_partner in
       let ts : List ℕ = tracks_to_send most (w.control.volume a).tracks (fields_at w.control a).out_of_sync in
-      CarriesTo w (sends w.control.volumes a b (take tracks ts) ++ suspend_where (send_refusal a b) a ∷ []) u
+      CarriesTo w (entries_in (drain_stretches w.control a (take tracks ts)) ++ suspend_where (send_refusal a b) a ∷ []) u
   pub refuses :
       let b : ℕ = (fields_at w.control a).primary_partner in
-      option_or (send_refusal a b u.control) (flashed_refusal b u.control) ≡ Some r
+      option_or (send_refusal a b u.control) (option_or (flashed_refusal b u.control) (held_refusal b u.control)) ≡ Some r
 
 -- an order was carried out for so many members of session s on a server, and the others refuse it with r
 pub record HasCarriedOrder (w : World) (s server : ℕ) (order : phases.Order) (r : Refusal) (u : World) : Type 0 where

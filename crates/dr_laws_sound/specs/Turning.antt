@@ -3,7 +3,7 @@ use Rattle.std.specs.Prelude.{◌≡◌, ◌≢◌, ◌<◌, ℕ, true, false, N
 use Rattle.std.specs.FinSet.{contains}
 use Rattle.dr_model.specs.declared.state.Part.{Part}
 use Rattle.dr_model.specs.Layout.{is_part}
-use Rattle.dr_model.specs.Pairs.{is_primary_of, is_secondary_of, is_kind, is_suspended, next_state}
+use Rattle.dr_model.specs.Pairs.{is_primary_of, is_secondary_of, is_kind, is_suspended, next_state, is_cascaded, no_secondary}
 use Rattle.dr_model.specs.Control.{World}
 use Rattle.dr_model.specs.Carry.{carry}
 use Rattle.dr_model.specs.Carried.{begun}
@@ -22,7 +22,18 @@ pub record TakesOver (w u : World) (b a : ℕ) (kind : Part) : Type 0 where
   pub others : (v : ℕ) → v ≢ b → fields_at u.control v ≡ fields_at w.control v
   pub tracks : (v t : ℕ) → u.contents v t ≡ w.contents v t
 
--- x is the primary of y, of that kind, and y its secondary, of the same kind, in the same state and not sealed. They are Full Duplex where
+-- A world w has become one in which b has left its primary: it is no secondary, and not sealed. No other field of its record, no other record has
+-- changed, and no track.
+pub record LeavesFirst (w u : World) (b : ℕ) : Type 0 where
+  pub own : fields_at u.control b ≡ no_secondary (fields_at w.control b)
+  pub others : (v : ℕ) → v ≢ b → fields_at u.control v ≡ fields_at w.control v
+  pub tracks : (v t : ℕ) → u.contents v t ≡ w.contents v t
+
+-- b is taken over from a; if it is cascaded, it leaves a, and goes on as the primary that it is.
+abbrev pub FailsOver : World → World → ℕ → ℕ → Part → Type 0
+FailsOver w u b a kind = (is_cascaded (fields_at w.control b) ≡ false → TakesOver w u b a kind) × (is_cascaded (fields_at w.control b) ≡ true → LeavesFirst w u b)
+
+-- x is the primary of y, of that kind, and y its secondary and no primary, of the same kind, in the same state and not sealed. They are Full Duplex where
 -- the pair is one of Metro Mirror with nothing out of sync, and else in Copy Pending. x doesn't record, and each track in which they differ
 -- is out of sync.
 pub record IsTurned (u : World) (x y : ℕ) (kind : Part) : Type 0 where
@@ -34,6 +45,7 @@ pub record IsTurned (u : World) (x y : ℕ) (kind : Part) : Type 0 where
   pub alike : (fields_at u.control y).secondary ≡ (fields_at u.control x).primary
   pub same_state : (fields_at u.control y).secondary_state ≡ (fields_at u.control x).primary_state
   pub unsealed : (fields_at u.control y).seal ≡ 0
+  pub plain : is_part (fields_at u.control y).primary ≡ false
   pub equal : (t : ℕ) → t < (u.control.volume x).tracks → contains (fields_at u.control x).out_of_sync t ≡ false → u.contents x t ≡ u.contents y t
 
 -- a plan that ends well leaves that

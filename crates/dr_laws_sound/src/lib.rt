@@ -40,7 +40,7 @@ ghost use Rattle.dr_laws_sound.specs.Limits.{IsWithin};
 ghost use Rattle.dr_model.specs.declared.event.Event.TheVariants as event;
 ghost use Rattle.dr_model.specs.declared.said.Said.TheVariants as answer;
 ghost use Rattle.dr_laws_sound.specs.RefusedSteps.{StaysRefused, RefusedStay, with_issued};
-ghost use Rattle.dr_laws_sound.specs.Turning.{TakesOver, IsTurned, Leaves, AreEqual};
+ghost use Rattle.dr_laws_sound.specs.Turning.{FailsOver, IsTurned, Leaves, AreEqual};
 ghost use Rattle.dr_laws_sound.specs.TurnedExample.{leading, paired, parted, fused, midway, says, leaves, over, home, drains, compares};
 ghost use Rattle.dr_laws_sound.specs.RefusedExamples.{stopped, inhibited, writes, copies, recovers};
 ghost use Rattle.dr_laws_sound.specs.Acknowledged.{AcknowledgesAnswered, AcknowledgedIsAnswered};
@@ -119,12 +119,12 @@ pub fn examples_are_refused()
 {}
 
 /// A failover that ends well leaves its volume a Suspended primary of the other, of the kind that it named, with nothing out of sync and no
-/// seal, and no other record and no track changed. A failback that ends well leaves the first volume the primary of the other, and that
-/// one its secondary, of one kind and in one state, Full Duplex where the kind is Metro Mirror and nothing is out of sync; the primary
+/// seal, or, if it is cascaded, no secondary any more, and the primary that it was; and no other record and no track changed. A failback
+/// that ends well leaves the first volume the primary of the other, and that one its secondary and no primary, of one kind and in one state, Full Duplex where the kind is Metro Mirror and nothing is out of sync; the primary
 /// doesn't record, and each track in which the two differ is out of sync. Wherever a primary has nothing out of sync, and nothing
 /// changed since it began to record, and the other is its secondary, both contain the same.
 pub fn failovers_and_failbacks_turn_a_pair()
-    ensures over { (w : World) (devs : Devs) (b a : ℕ) (kind : PairPart) → Sound w → Leaves (λ u. TakesOver w u b a kind) w (failover_plan w.control devs b a kind) }
+    ensures over { (w : World) (devs : Devs) (b a : ℕ) (kind : PairPart) → Sound w → Leaves (λ u. FailsOver w u b a kind) w (failover_plan w.control devs b a kind) }
     ensures home { (w : World) (devs : Devs) (x y : ℕ) (kind : PairPart) → Sound w → Leaves (λ u. IsTurned u x y kind) w (failback_plan w.control devs x y kind) }
     ensures equal { (w : World) (x y : ℕ) → Sound w → is_primary_of y (fields_at w.control x) ≡ true → is_secondary_of x (fields_at w.control y) ≡ true → AreEqual w x y }
 {}

@@ -135,7 +135,7 @@ fn push_values(out: &mut Vec<u8>, told: &Heard, of: AnswerNumbers) -> Result<(),
         4 => push_word(out, limit_word(of.a)),
         5 | 21 => push_word(out, told.name(of.a)),
         6 => push_link(out, told, of.a, of.b),
-        8 | 9 => push_volume(out, of.a),
+        8 | 9 | 26 => push_volume(out, of.a),
         10 => {
             push_volume(out, of.a)?;
             push_word(out, pair_words(of.b))

@@ -141,6 +141,7 @@ pub(crate) fn refusal_words(code: u8) -> &'static [u8]
         23 => b"E23 journal full",
         24 => b"E24 not built",
         25 => b"E25 old message",
+        26 => b"E26 held",
         _ => b"",
     }
 }

@@ -1,6 +1,6 @@
 -- Read first: `WroteLemmas.antt`: parts of a host write in a row; `LandedLemmas.antt`: a host write lands by a move, alone or with its
 -- secondary; `LandingLemmas.antt`, `RouteLemmas.antt`: its bytes; `ToldLemmas.antt`: the journal; `SyncLemmas.antt`: what
--- it comes to, by the tests on its volume's fields; `Issued.antt` of `dr_facts`: no entry issues a write; `CollideLemmas.antt`:
+-- it comes to, by the tests on its volume's fields; `Issued.antt` of `dr_facts`: no entry issues a write; `CollideLemmas.antt` of `dr_gcopy`:
 -- entries that come only as long as a track can be sent.
 -- - **Several acts in a row over host, plant and journal** (`dr_metro/src/mirroring.rt`): what comes before the landing has `Ran`
 --   (of `dr_gcopy`), the landing and all that ends with it has `Wrote` over what is left; `wrote-then` and `wrote-failed` put one
@@ -10,16 +10,10 @@
 --   record the gate alone is read. The public calls of one move alone are `make_move`.
 -- - **A move that settles a pending write** is no `make_move`: what becomes of the host's writes stands in what `make` says of a stop
 --   (`writes_after`), and one lemma makes the entry of it, whichever kind of move it is (`landing-wrote`).
--- - **Entries that each test the same condition** (`send_first`, in `dr_metro/proofs/CollideLemmas.antt`): the call
---   proves the bare entries, and one lemma over `Ends` turns them into the tested ones (`send-comes`). It goes entry by
---   entry with the condition and what keeps it (`Sends`), a product in `abbrev` form, so that a change of other parts of
---   the state converts; `acted` takes any statement on parts of the state over a move that was done. Where the condition
---   fails at the start, all pass (`none-comes`).
 pub mod ToldLemmas
 pub mod LandingLemmas
 pub mod LandedLemmas
 pub mod RouteLemmas
 pub mod SyncLemmas
-pub mod CollideLemmas
 pub mod WroteInLemmas
 pub mod WroteLemmas

@@ -9,7 +9,7 @@ use Rattle.dr_model.specs.Histories.{histories, Write}
 use Rattle.dr_model.specs.Carry.{now}
 use Rattle.dr_model.specs.Entries.{copy_first}
 use Rattle.dr_model.specs.Moves.{Unsync, Mirror, LandBoth}
-use Rattle.dr_model.specs.WriteEntries.{land_mirrored}
+use Rattle.dr_model.specs.WriteEntries.{mirror_and_land, land_mirrored}
 use Rattle.dr_host.specs.Writes.{Writes, number, has_number, bytes_of}
 use Rattle.dr_host.specs.declared.pending.Pending.{Pending}
 use Rattle.dr_host.proofs.Each.{each-found, named-found}
@@ -35,7 +35,10 @@ pub some-found : {T : Type 0} (o : Option T) (x : T) → o ≡ Some x → is_som
 some-found o x is = ap is_some is
 
 -- the entries on both sides, from the first on
+pub crossed-is : (volumes : List ℕ) (n v t u : ℕ) → mirror_and_land volumes n v t u ≡ mirror_entries volumes n v t u
+crossed-is volumes n v t u =
+    append_assoc (copy_first volumes u t) (now (Mirror u t v n) ∷ copy_first volumes v t) (now (LandBoth n v t) ∷ [])
+    ∙ sym (append_assoc (copy_first volumes u t) (now (Mirror u t v n) ∷ []) (settle_entries volumes n v t))
+
 pub mirrored-is : (volumes : List ℕ) (n v t u : ℕ) → land_mirrored volumes n v t u ≡ now (Unsync v t) ∷ mirror_entries volumes n v t u
-mirrored-is volumes n v t u =
-    append_assoc (now (Unsync v t) ∷ copy_first volumes u t) (now (Mirror u t v n) ∷ copy_first volumes v t) (now (LandBoth n v t) ∷ [])
-    ∙ ap (λ es. now (Unsync v t) ∷ es) (sym (append_assoc (copy_first volumes u t) (now (Mirror u t v n) ∷ []) (settle_entries volumes n v t)))
+mirrored-is volumes n v t u = ap (λ es. now (Unsync v t) ∷ es) (crossed-is volumes n v t u)

@@ -15,22 +15,23 @@ use Rattle.dr_model.specs.Layout.{Tracks, Fields, is_part}
 use Rattle.dr_model.specs.Control.{Control, World}
 use Rattle.dr_model.specs.Refusals.{server_off}
 use Rattle.dr_model.specs.Relations.{closed, fetched, rewritten}
-use Rattle.dr_model.specs.Pairs.{written, is_kind, is_metro, is_suspended, held, goes_over, collides}
+use Rattle.dr_model.specs.Pairs.{written, is_kind, is_metro, is_suspended, is_cascaded, held, goes_over, collides}
 use Rattle.dr_model.specs.Moves.{Suspend}
 use Rattle.dr_model.specs.Carry.{Entry, Stretch, Pass, Do, Make, Drop, dropped, check, now}
 use Rattle.dr_model.specs.Entries.{fields_at, land_alone, is_running, is_no_secondary, is_open, is_settled, relation_state, drop_unless, check_or_drop, write_checks}
-use Rattle.dr_model.specs.WriteEntries.{partner_of, is_grouped, part_running, part_after}
+use Rattle.dr_model.specs.WriteEntries.{partner_of, is_grouped, is_parted, land_parted, land_mirrored, land_fed, land_collided, waits, part_running, part_after}
 use Rattle.dr_model.specs.ReadStops.{Ends}
 use Rattle.dr_host.specs.Writes.{Writes}
 use Rattle.dr_moves.specs.Checks.{OnNone, is_stop}
 use Rattle.dr_moves.specs.Here.{refusal_of}
 use Rattle.dr_flash.specs.HostWrites.{write_refusal}
 use Rattle.dr_facts.proofs.Ends.{ends-skips, ends-goes, ends-passed, ends-refused}
-use Rattle.dr_moves.specs.Followed.{Follows}
+use Rattle.dr_moves.specs.Followed.{EndsEach, Follows}
 use Rattle.dr_metro.specs.Here.{IsTold}
 use Rattle.dr_metro.specs.Landing.{landed}
-use Rattle.dr_metro.specs.Syncing.{over_entries, sent_stretches, parts, stretches_by, waits_by}
+use Rattle.dr_metro.specs.Syncing.{over_entries, sent_stretches, fed_stretches, placed_stretches, parts, stretches_by, waits_by}
 use Rattle.dr_metro.proofs.ToldLemmas.{told-through}
+use Rattle.dr_logic.proofs.Results.{ok-two}
 use Rattle.dr_logic.proofs.Truth.{false_true}
 use Rattle.dr_model.proofs.CarryLemmas.{act-drop}
 
@@ -45,8 +46,12 @@ pub on-part : (v : ℕ) (k : Control) (busy : Bool) → is_part (fields_at k v).
 on-part v k busy part on is = (λ i. cond (part i && on i) (Do (Make (Suspend v (sym is i)))) Pass)
 
 -- what follows issues no write
+told-each : (armed : ℕ → Bool) (h : Writes) (v u : World) (es : List Entry) → EndsEach armed v es u → IsTold h v.events → IsTold h u.events
+told-each armed h v u [] same told = subst (λ (x : World). IsTold h x.events) (sym same) told
+told-each armed h v u (d ∷ ds) f told = let first = f.first in told-each armed h f.middle u ds f.later (told-through armed h v f.middle (d ∷ []) first.refusal first.ends told)
+
 pub told-followed : (armed : ℕ → Bool) (h : Writes) (v u : World) (r : Option Refusal) (follows : List Entry) → Follows armed v r follows u → IsTold h v.events → IsTold h u.events
-told-followed armed h v u (Some (Stopped s)) follows f told = told-through armed h v u follows f.refusal f.ends told
+told-followed armed h v u (Some (Stopped s)) follows f told = told-each armed h v u follows f told
 told-followed armed h v u r follows f told = subst (λ (x : World). IsTold h x.events) (sym f) told
 
 -- a landing leaves the state of the pair as it was, and a track that is out of sync stays so
@@ -113,6 +118,58 @@ module _ (k : Control) (f : Fields) (n v t : ℕ) where
   pub here-waits : held f ≡ false → goes_over f t ≡ false → waits_by k f v t ≡ false
   here-waits free goes = (λ i. free i || (goes i && (parts k v u && is_grouped k v u)))
 
+-- what it comes to behind its checks, and whether it waits, where its secondary isn't cascaded
+module _ (k : Control) (n v t : ℕ) (uncascaded : goes_over (fields_at k v) t ≡ true → is_cascaded (fields_at k (partner_of k v)) ≡ false) where
+  abbrev first : Fields
+  first = fields_at k v
+
+  abbrev to : ℕ
+  to = partner_of k v
+
+  abbrev is_coordinated : Bool
+  is_coordinated = (fields_at k to).coordination
+
+  abbrev plain_by : Bool → Bool → Bool → Bool → List Stretch
+  plain_by waits goes parted meets =
+      if not waits && (not goes && meets) then sent_stretches k.volumes n v t to
+      else record { entries = if waits then [] else if goes then over_entries k.volumes parted (is_grouped k v to) n v t to else land_alone k.volumes n v t; follows = part_after v } ∷ []
+
+  abbrev placed_by : Bool → Bool → Bool → Bool → Bool → List Stretch
+  placed_by waits goes parted cascaded meets =
+      if waits then record { entries = []; follows = part_after v } ∷ []
+      else if goes && (not parted && (cascaded && not (cascaded && is_coordinated))) then fed_stretches k.volumes n v t to (partner_of k to)
+      else if not goes && meets then sent_stretches k.volumes n v t to
+      else record {
+        entries =
+            if waits then []
+            else if goes then (if parted then land_parted k n v t else if cascaded && is_coordinated then [] else if cascaded then land_fed k.volumes n v t to (partner_of k to) else land_mirrored k.volumes n v t to)
+            else if meets then land_collided k n v t
+            else land_alone k.volumes n v t;
+        follows = part_after v;
+      } ∷ []
+
+  pub uncascaded-stretches : stretches_by k first n v t ≡ placed_stretches k n v t
+  uncascaded-stretches = by (held first) (goes_over first t) (is_parted k v) (is_cascaded (fields_at k to)) (collides first t) uncascaded
+    where
+      by : (waits goes parted cascaded meets : Bool) → (goes ≡ true → cascaded ≡ false) → plain_by waits goes parted meets ≡ placed_by waits goes parted cascaded meets
+      by true goes parted cascaded meets free = refl
+      by false true parted true meets free = absurd (let no : true ≡ false = free refl in cc)
+      by false true true false meets free = refl
+      by false true false false meets free = refl
+      by false false parted cascaded true free = refl
+      by false false parted cascaded false free = refl
+
+  pub uncascaded-waits : waits_by k first v t ≡ waits k v t
+  uncascaded-waits = by (held first) (goes_over first t) (is_parted k v) (is_cascaded (fields_at k to)) uncascaded
+    where
+      by : (waits goes parted cascaded : Bool) → (goes ≡ true → cascaded ≡ false)
+          → (waits || (goes && (parted && is_grouped k v to))) ≡ (waits || (goes && (if parted then is_grouped k v to else cascaded && is_coordinated)))
+      by true goes parted cascaded free = refl
+      by false true parted true free = absurd (let no : true ≡ false = free refl in cc)
+      by false true true false free = refl
+      by false true false false free = refl
+      by false false parted cascaded free = refl
+
 pub collides-global : (p : Part) (rest : Bool) → (is_kind Global p && rest) ≡ true → is_kind Global p ≡ true
 collides-global p rest h = (and_parts (is_kind Global p) rest h).0
 
@@ -145,6 +202,13 @@ followed-given {T = T} A res out is old new Q stays holds = subst (λ (x : Resul
     by : (x : Result T Refusal) → OnOk x (new ≡ old) → OnOk x (Q old) → IfOk x (λ e. A e → Q new)
     by (Ok x) stays holds = λ e. subst Q (sym stays) holds
     by (Err e) stays holds = tt
+
+pub ok-given : {T : Type 0} (out : Result T Refusal) (A : T → Type 0) (P : Type 0) → OnOk out P → IfOk out (λ e. A e → P)
+ok-given (Ok x) A P holds = λ e. holds
+ok-given (Err e) A P holds = tt
+
+pub followed-ok : {T S : Type 0} (res out : Result T Refusal) → out ≡ res → (old new : S) (Q : S → Type 0) → OnOk res (new ≡ old) → OnOk res (Q old) → OnOk out (Q new)
+followed-ok {T = T} res out is old new Q stays holds = subst (λ (x : Result T Refusal). OnOk x (Q new)) (sym is) (ok-two res stays holds (λ same left. subst Q (sym same) left))
 
 -- a call that fails only by stops
 pub counted-stops : {T : Type 0} (r : Result T Refusal) (a b : ℕ) → Counted (is_err r) a b → OnErr r (is_stop (refusal_of r) ≡ true) → Counted (is_stop (refusal_of r)) a b

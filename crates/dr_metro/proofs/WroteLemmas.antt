@@ -44,7 +44,8 @@ use Rattle.dr_gcopy.specs.Ran.{Ran}
 use Rattle.dr_gcopy.proofs.SendLemmas.{other-server, same-server, same-tracks}
 use Rattle.dr_host.specs.Here.{here, rest_of}
 use Rattle.dr_metro.specs.Here.{IsTold}
-use Rattle.dr_metro.specs.Mirroring.{MayPair, CanLand}
+use Rattle.dr_gcopy.specs.Sending.{MayPair}
+use Rattle.dr_metro.specs.Mirroring.{CanLand}
 use Rattle.dr_metro.specs.Syncing.{end_of}
 use Rattle.dr_metro.specs.Writing.{IsDue, Wrote, landed_so}
 use Rattle.dr_metro.specs.declared.sync.WriteEnd.{WriteEnd}

@@ -1,5 +1,5 @@
 -- What is done for a host write on both sides, from its last move to its first, what that asks, and what it leaves.
-use Rattle.std.specs.Prelude.{◌≡◌, ◌≢◌, ℕ, ◌<◌, Bool, true, false, List, [], ◌∷◌, ◌++◌, is_some}
+use Rattle.std.specs.Prelude.{◌≡◌, ℕ, ◌<◌, Bool, true, false, List, [], ◌∷◌, ◌++◌, is_some}
 use Rattle.std.specs.FinSet.{contains}
 use Rattle.std.specs.List.{find}
 use Rattle.dr_plant.specs.State.{PlantState}
@@ -18,6 +18,7 @@ use Rattle.dr_volume.specs.Volume.{Says}
 use Rattle.dr_moves.specs.Made.{IsAt, IsPrimary}
 use Rattle.dr_flash.specs.Standing.{HasNoTarget}
 use Rattle.dr_gcopy.specs.Both.{IsOn}
+use Rattle.dr_gcopy.specs.Sending.{MayPair}
 use Rattle.dr_metro.specs.Here.{IsTold}
 use Rattle.dr_metro.specs.declared.moves.Route.{Route}
 
@@ -36,12 +37,6 @@ mirror_entries volumes n v t u = store_entries volumes n v t u ++ settle_entries
 -- Track t of primary v is the same on u, or v records that it isn't: it is out of sync, or the pair is Suspended.
 abbrev pub Mirrors : PlantState → ConfigTable → ℕ → ℕ → ℕ → Type 0
 Mirrors s c v u t = contains (volume_seen s c v).fields.out_of_sync t ≡ false → is_suspended (volume_seen s c v).fields.primary_state ≡ false → track_seen s c u t ≡ track_seen s c v t
-
--- u is defined, on another server than v, and as large
-pub record MayPair (s : PlantState) (c : ConfigTable) (v u : ℕ) : Type 0 where
-  pub to : is_some (place_of c u) ≡ true
-  pub two_servers : (volume_seen s c v).server ≢ (volume_seen s c u).server
-  pub size : (volume_seen s c u).tracks ≡ (volume_seen s c v).tracks
 
 -- Pending write n can land on track t of primary v, whose server is on: these are the track's bytes with it, and these the fields of v.
 pub record CanLand (s : PlantState) (c : ConfigTable) (h : Writes) (events : List Event) (n v t : ℕ) (block : List ℕ) (f : Fields) : Type 0 where

@@ -23,7 +23,7 @@ use Rattle.dr_flash.specs.Standing.{HasNoTarget}
 use Rattle.dr_gcopy.specs.Both.{IsOn}
 use Rattle.dr_host.specs.Here.{here}
 use Rattle.dr_metro.specs.Here.{IsTold}
-use Rattle.dr_metro.specs.Mirroring.{MayPair}
+use Rattle.dr_gcopy.specs.Sending.{MayPair}
 use Rattle.dr_metro.specs.declared.sync.WriteEnd.{WriteEnd}
 use Rattle.dr_metro.specs.declared.sync.WriteEnd.TheVariants.{Landed}
 

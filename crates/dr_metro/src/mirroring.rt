@@ -126,8 +126,11 @@ fn store_and_settle<P: Plant>(
     settle(plant, config, journal, h, m, bytes, fields, found)
 }
 
-/// The same, behind the read of the track.
-fn read_and_store<P: Plant>(
+/// The secondary u stores pending write w, and then it lands on its primary, of which the track is out of sync; both servers are on, the
+/// fields of both are at hand, and whether a volume was found that is a target of the primary. The targets of each keep the track first,
+/// and the write is acknowledged. Fails where a server stops in a move or goes off at a read: then the write stays pending, and what was
+/// done by then stays. The journal needs room for two events for each volume and two more.
+pub fn read_and_store<P: Plant>(
     plant: &mut P,
     config: &Config,
     journal: &mut Journal,

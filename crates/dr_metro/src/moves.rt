@@ -71,8 +71,9 @@ pub fn unsync<P: Plant>(
     make_move(plant, config, journal, &Move::Unsync { v, t }, None)
 }
 
-/// The same by the fields of the primary, which are at hand and become what the move leaves: of the record the gate alone is read.
-pub(crate) fn unsync_by<P: Plant>(
+/// The same by the fields of the primary, which are at hand and become what the move leaves: of the record the gate alone is read. Fails
+/// where the server stops in the move or goes off at a read. The journal needs room for one event.
+pub fn unsync_by<P: Plant>(
     plant: &mut P,
     config: &Config,
     journal: &mut Journal,

@@ -25,15 +25,15 @@ use dr_plant::Plant;
 use dr_volume::peek_head;
 
 /// Whether the path from the logical subsystem of a to that of b has its group flag.
-pub(crate) fn is_grouped(config: &Config, a: VolumeId, b: VolumeId) -> bool
+pub fn is_grouped(config: &Config, a: VolumeId, b: VolumeId) -> bool
     ensures { result ≡ unwrap_or (path_in config.now.paths (subsystem a.0) (subsystem b.0)) false }
 {
     config.path(a.lss(), b.lss()).unwrap_or(false)
 }
 
 /// Suspends a volume that is a primary and whose server is on, long busy where the path to its secondary has its group
-/// flag. A stop of that server in it is told, and changes nothing of what was refused before.
-fn part_running<P: Plant>(plant: &mut P, config: &Config, journal: &mut Journal, v: VolumeId)
+/// flag. A stop of that server in it is told, and changes nothing of what was refused before. The journal needs room for three events.
+pub fn part_running<P: Plant>(plant: &mut P, config: &Config, journal: &mut Journal, v: VolumeId)
     requires rest { IsAtRest (P.state plant.old) config.now }
     requires fit { RelationsFit (P.state plant.old) config.now }
     requires defined { IsSome (place_of config.now v.0) }
@@ -85,7 +85,7 @@ fn follow_part<P: Plant>(
 }
 
 /// What a write that was carried out comes to.
-pub(crate) fn landed(done: Result<(), Refusal>) -> Result<WriteEnd, Refusal>
+pub fn landed(done: Result<(), Refusal>) -> Result<WriteEnd, Refusal>
     ensures { result ≡ landed_so done }
 {
     match done {
@@ -94,8 +94,9 @@ pub(crate) fn landed(done: Result<(), Refusal>) -> Result<WriteEnd, Refusal>
     }
 }
 
-/// What a write on v came to, with what follows where a server stopped in it.
-pub(crate) fn followed<P: Plant>(
+/// What a write on v came to, with what follows where a server stopped in it: v is suspended, where it is a primary whose own server
+/// still runs, long busy where the path to its secondary has its group flag. The journal needs room for three events.
+pub fn followed<P: Plant>(
     plant: &mut P,
     config: &Config,
     journal: &mut Journal,

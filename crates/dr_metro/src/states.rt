@@ -6,16 +6,8 @@ ghost use Rattle.dr_volume.specs.Plain.{plain};
 
 use dr_volume::Fields;
 
-/// Whether a host write on track t collides: a Global Copy primary records, and the track is still out of sync, so that
-/// its secondary hasn't what it was as the primary began to.
-pub(crate) fn collides(f: &Fields, t: u16) -> bool
-    ensures { result ≡ pairs.collides (plain f.now) t }
-{
-    f.primary.is_global() && (f.recording && f.out_of_sync.contains(t))
-}
-
 /// Whether a host write on track t goes to the secondary first.
-pub(crate) fn goes_over(f: &Fields, t: u16) -> bool
+pub fn goes_over(f: &Fields, t: u16) -> bool
     ensures { result ≡ pairs.goes_over (plain f.now) t }
 {
     f.primary.is_metro() && (!f.primary_state.is_suspended() && !f.out_of_sync.contains(t))

@@ -11,7 +11,7 @@ use Rattle.dr_model.specs.Histories.{histories}
 use Rattle.dr_model.specs.Layout.{Fields}
 use Rattle.dr_model.specs.Control.{Control, Fuse, Volume, World}
 use Rattle.dr_model.specs.Moves.{Move, Carried, target, next_fields, carried, keeps_staged, updated_keeping}
-use Rattle.dr_model.specs.Carry.{Act, Make, Redo, Acknowledge, Next, Pass, Do, End, Entry, Turn, Outcome, act, turn, redo, redo_ended, acknowledged, carry, go, continue, check, follow, Drop, dropped, Ended, ended, lower, pass, writes, gate_at, counts_by, spent, off, update_keeping, finished, cut_short}
+use Rattle.dr_model.specs.Carry.{Act, Make, Redo, Acknowledge, Next, Pass, Do, End, Entry, Turn, Outcome, act, turn, redo, redo_ended, acknowledged, carry, go, continue, check, carry_each, follow, Drop, dropped, Ended, ended, lower, pass, writes, gate_at, counts_by, spent, off, update_keeping, finished, cut_short}
 use Rattle.dr_model.specs.Plans.{Plan, tables_plan, only_says, refuses, same}
 use Rattle.dr_model.specs.Runs.{begun, finish, stop_place, answered, after_plan, said}
 
@@ -173,7 +173,7 @@ plan-refuses w line r = plan-says w line (Refused r)
 
 -- nothing follows a refusal where no entry does
 follow-none : (w : World) (r : Refusal) (n : ℕ) (follows : ℕ → List Entry) → ((s : ℕ) → follows s ≡ []) → follow w r (follows n) ≡ w
-follow-none w (Stopped s) n follows none = ap (λ (o : Outcome). o.0) (ap (carry w) (none n) ∙ carry-none w)
+follow-none w (Stopped s) n follows none = ap (carry_each w) (none n)
 follow-none w _ n follows none = refl
 
 -- a plan that a refusal ends

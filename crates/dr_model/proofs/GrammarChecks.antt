@@ -1,5 +1,5 @@
 -- The grammar at a few lines.
-use Rattle.std.proofs.Common.{◌≡◌, refl, [], ◌∷◌, false, ◌*◌, None, List, ℕ, length}
+use Rattle.std.proofs.Common.{◌≡◌, refl, [], ◌∷◌, true, false, ◌*◌, None, List, ℕ, length}
 use Rattle.std.specs.Prelude.{Ok, Err, codes, Result}
 use Rattle.dr_ids.specs.Spelling.{all_digits}
 use Rattle.dr_model.specs.LineWords.{words_from, words_behind, spelled_bytes, paired, ranges_items}
@@ -123,9 +123,18 @@ unfolding outcome line_of words_from words_behind command_named commands command
 remote_off_flash = refl
 
 -- options in any order
-pair : line_of (codes "mkpprc -mode nocp -type gcp 1000:200a") ≡ Ok (MakePair no_devs 4096 8202 2 (record { full = false }) ∷ [])
+pair : line_of (codes "mkpprc -mode nocp -type gcp 1000:200a") ≡ Ok (MakePair no_devs 4096 8202 2 (record { full = false; cascade = false }) ∷ [])
 unfolding no_devs line_of words_from words_behind command_named commands command_word read_words read_on setting_named settings setting_word operands needed operand_value operand_items own_steps all_digits no_options no_operands spelled_bytes has flagged valued setting_items may_end may_end_with steps_of step_of paired ranges_items form
 pair = refl
+
+-- a pair that makes a cascaded volume, of Global Copy alone
+cascade : line_of (codes "mkpprc -type gcp -mode nocp -cascade 2000:3000") ≡ Ok (MakePair no_devs 8192 12288 2 (record { full = false; cascade = true }) ∷ [])
+unfolding no_devs line_of words_from words_behind command_named commands command_word read_words read_on setting_named settings setting_word operands needed operand_value operand_items own_steps all_digits no_options no_operands spelled_bytes has flagged valued setting_items may_end may_end_with steps_of step_of paired ranges_items form
+cascade = refl
+
+cascade_of_metro : outcome (line_of (codes "mkpprc -type mmir -cascade 2000:3000")) ≡ 28000
+unfolding outcome line_of words_from words_behind command_named commands command_word read_words read_on setting_named settings setting_word operands needed operand_value operand_items own_steps all_digits no_options no_operands spelled_bytes has flagged valued setting_items may_end may_end_with steps_of step_of paired ranges_items form
+cascade_of_metro = refl
 
 session : line_of (codes "mksession -lss 10 -volume 1000 01") ≡ Ok (MakeSession no_devs 16 1 ∷ AddMember no_devs 16 4096 1 ∷ [])
 unfolding no_devs line_of words_from words_behind command_named commands command_word read_words read_on setting_named settings setting_word operands needed operand_value operand_items own_steps all_digits no_options no_operands spelled_bytes has flagged valued setting_items may_end may_end_with steps_of step_of paired ranges_items form

@@ -10,7 +10,7 @@ use Rattle.dr_model.specs.declared.state.Part.TheVariants.{Global}
 use Rattle.dr_model.specs.Layout.{Tracks, is_part}
 use Rattle.dr_model.specs.Moves.{Move, Land, Overwrite, Keep, Note, Relate, Withdraw, Fetch, Resync, Reverse, Restore, Release, Store, Strike, Suspend, MakeSecondary, MakePrimary, DropPrimary, DropSecondary, Follow, Resume, TakeOver, LeavePrimary, FallBack, Yield, Unsync, Mirror, LandBoth, Thaw, FlashHold, FlashFree, Lift, Restart, Hold, Free, Seal, Finish, RaiseAttempt, RaiseFloor, Leave, Flash, Commit, Revert, Unstage, target, is_write}
 use Rattle.dr_model.specs.Pairs.{is_metro, is_kind, is_pending, is_suspended, records}
-use Rattle.dr_model.specs.Entries.{targets_of, fields_at}
+use Rattle.dr_model.specs.Entries.{targets_of}
 use Rattle.dr_model.specs.Table.{Table, table}
 use Rattle.dr_model.specs.Groups.{OpensAttempt}
 use Rattle.dr_model.specs.Attempts.{InAttempt}
@@ -342,10 +342,9 @@ Ready w (Mirror v t u n) = MayTell w n v t u
 Ready w (Restart v) = Unit {0}
 Ready w m = Idle w (target m)
 
--- the source of a new target has a place for it, and no command makes a cascaded volume
+-- the source of a new target has a place for it
 abbrev pub Fits : Control → Move → Type 0
 Fits k (Relate v s choices) = length (targets_of k s) < most_targets
-Fits k (MakePrimary v u kind state full) = is_part (fields_at k v).secondary ≡ false
 Fits k m = Unit {0}
 
 -- the server of a volume is on

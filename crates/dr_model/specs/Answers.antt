@@ -13,7 +13,7 @@ use Rattle.dr_ids.specs.declared.refusal.PairSeen.TheVariants.{CopyPending, Full
 use Rattle.dr_ids.specs.declared.refusal.RelSeen.{RelSeen}
 use Rattle.dr_ids.specs.declared.refusal.RelSeen.TheVariants.{Revertible, Reversing, Target, Source, None as NoRelation}
 use Rattle.dr_ids.specs.declared.refusal.Refusal.{Refusal}
-use Rattle.dr_ids.specs.declared.refusal.Refusal.TheVariants.{Syntax, Unknown, Duplicate, Limit, ServerOff, LinkDown, Void, NotPrimary, Inhibited, PairState, RelationState, InSession, NotInSession, InFormation, OutOfOrder, Unsealed, Stale, Forbidden, NotIdentical, NumbersSpent, Stopped, NoGroup, JournalFull, NotBuilt, OldMessage}
+use Rattle.dr_ids.specs.declared.refusal.Refusal.TheVariants.{Syntax, Unknown, Duplicate, Limit, ServerOff, LinkDown, Void, NotPrimary, Inhibited, PairState, RelationState, InSession, NotInSession, InFormation, OutOfOrder, Unsealed, Stale, Forbidden, NotIdentical, NumbersSpent, Stopped, NoGroup, JournalFull, NotBuilt, OldMessage, Held as HeldBack}
 use Rattle.dr_model.specs.declared.event.Event.{Event}
 use Rattle.dr_model.specs.declared.event.Event.TheVariants.{Answer}
 use Rattle.dr_model.specs.declared.said.Addition.{Addition}
@@ -150,6 +150,7 @@ refused_numbers (NoGroup decision) = numbers_of 22 (decision_place decision) (de
 refused_numbers JournalFull = numbers_of 23 0 0 0
 refused_numbers NotBuilt = numbers_of 24 0 0 0
 refused_numbers (OldMessage m) = numbers_of 25 m 0 0
+refused_numbers (HeldBack volume) = numbers_of 26 volume.0 0 0
 
 -- code 100 is held, and a the write that waits
 abbrev pub numbers : Said → AnswerNumbers

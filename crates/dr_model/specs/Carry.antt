@@ -259,10 +259,15 @@ now m k = Do (Make m)
 abbrev pub check : (Control → Bool) → Refusal → Entry
 check ok r k = if ok k then Pass else End r
 
--- Where a server stopped, what follows its stop is carried out on the others, until one of them stops too; the
--- server that stopped first is the one that counts.
+-- entries that come one by one, whether a server stopped in the one before or not
+abbrev pub carry_each : World → List Entry → World
+carry_each w [] = w
+carry_each w (d ∷ ds) = carry_each (carry w (d ∷ [])).0 ds
+
+-- Where a server stopped, what follows its stop is carried out on the others, each entry also where a further server stopped in
+-- one before; the server that stopped first is the one that counts.
 abbrev pub follow : World → Refusal → List Entry → World
-follow w (StoppedIn s) follows = (carry w follows).0
+follow w (StoppedIn s) follows = carry_each w follows
 follow w _ follows = w
 
 -- A stretch of a plan: entries, and what follows where a server stops in them.

@@ -10,7 +10,7 @@ use Rattle.dr_ids.specs.declared.refusal.Refusal.TheVariants.{Inhibited, NotPrim
 use Rattle.dr_model.specs.Layout.{Fields, is_part}
 use Rattle.dr_model.specs.Control.{Control}
 use Rattle.dr_model.specs.Relations.{rest, lowest}
-use Rattle.dr_model.specs.Pairs.{is_quiet, pair_seen}
+use Rattle.dr_model.specs.Pairs.{is_quiet, pair_seen, secondary_seen}
 use Rattle.dr_model.specs.Moves.{Land, Overwrite, Keep, Note, Fetch, Restore, Release}
 use Rattle.dr_model.specs.Refusals.{server_off}
 use Rattle.dr_model.specs.Carry.{Make, Drop, Next, Pass, Do, Entry, now, check}
@@ -92,6 +92,10 @@ relation_state k v = RelationState (record { 0 = v }) (relation_seen k v)
 -- the refusal that says how a volume's pair is seen
 abbrev pub pair_state : Control → ℕ → Refusal
 pair_state k v = PairState (record { 0 = v }) (pair_seen (fields_at k v))
+
+-- the same where it is asked for as a secondary
+abbrev pub secondary_state : Control → ℕ → Refusal
+secondary_state k v = PairState (record { 0 = v }) (secondary_seen (fields_at k v))
 
 -- before track t of its source is overwritten, the target u keeps it; one that holds it already notes the change
 abbrev pub keep_if : Fields → ℕ → ℕ → Next

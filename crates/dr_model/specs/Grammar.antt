@@ -1,5 +1,5 @@
 -- The steps of a line, or the column of the first word that can't stand where it stands.
-use Rattle.std.specs.Prelude.{ℕ, ◌+◌, Bool, false, ◌&&◌, ◌||◌, List, [], ◌∷◌, ◌++◌, length, map, nat_eq, nat_le, nat_lt, Option, Some, None, Result, Ok, Err, slice_get, if◌then◌else◌}
+use Rattle.std.specs.Prelude.{ℕ, ◌+◌, Bool, false, not, ◌&&◌, ◌||◌, List, [], ◌∷◌, ◌++◌, length, map, nat_eq, nat_le, nat_lt, Option, Some, None, Result, Ok, Err, slice_get, if◌then◌else◌}
 use Rattle.std.specs.Bool.{beq}
 use Rattle.std.specs.List.{list_all}
 use Rattle.std.specs.Option.{option_map, is_none}
@@ -11,9 +11,10 @@ use Rattle.dr_model.specs.declared.grammar.Setting.{Setting}
 use Rattle.dr_model.specs.declared.grammar.Operand.{Operand}
 use Rattle.dr_model.specs.declared.grammar.Item.{Item}
 use Rattle.dr_model.specs.declared.grammar.LinePlace.{LinePlace}
+use Rattle.dr_model.specs.declared.grammar.Options.{Options}
 use Rattle.dr_model.specs.LineWords.{Word, line_words, onto, ◌>>=◌}
 use Rattle.dr_model.specs.LineTable.{command_word, commands, setting_word, settings, needed, operands, repeats, may_end_with, own_steps}
-use Rattle.dr_model.specs.LineSteps.{is_flag, has, flagged, valued, setting_items, operand_value, operand_items, no_options, no_operands, step_of}
+use Rattle.dr_model.specs.LineSteps.{is_flag, has, flagged, valued, setting_items, operand_value, operand_items, no_options, no_operands, or_zero, step_of}
 
 -- what was read of a line: the place that was reached, and the items so far
 pub record Reading : Type 0 where
@@ -34,10 +35,14 @@ setting_named (s ∷ ss) word = if bytes_eq word (setting_word s) then Some s el
 abbrev pub setting_at : LinePlace → List ℕ → Option Setting
 setting_at place word = if nat_eq place.filled 0 then setting_named (settings place.command) word else None
 
--- no needed option is missing, and of `-unconditional` and `-at` both were given or neither
+-- `-cascade` was given with another type than Global Copy
+abbrev pub cascades_metro : Options → Bool
+cascades_metro o = o.cascade && not (nat_eq (or_zero o.kind) 2)
+
+-- no needed option is missing, of `-unconditional` and `-at` both were given or neither, and `-cascade` isn't given with Metro Mirror
 abbrev pub is_ready : LinePlace → Bool
 is_ready place =
-    list_all (λ setting. has setting place.options) (needed place.command) && beq place.options.unconditional place.options.at_source
+    list_all (λ setting. has setting place.options) (needed place.command) && beq place.options.unconditional place.options.at_source && not (cascades_metro place.options)
 
 -- the operand, where it may be repeated
 abbrev pub again : Option Operand → Option Operand

@@ -13,7 +13,7 @@ use Rattle.dr_model.specs.declared.state.Part.{Part}
 use Rattle.dr_model.specs.declared.state.Part.TheVariants.{Global}
 use Rattle.dr_model.specs.declared.state.PairState.{PairState}
 use Rattle.dr_model.specs.Pairs.{primary_of, secondary_of, is_metro, is_kind, is_pending}
-use Rattle.dr_model.specs.Entries.{is_at, targets_of, fields_at}
+use Rattle.dr_model.specs.Entries.{is_at, targets_of}
 use Rattle.dr_model.specs.Table.{Row, Table, table}
 pub use Rattle.dr_model.specs.Tables.{Once}
 use Rattle.dr_model.specs.Messages.{Flight, Message}
@@ -364,15 +364,10 @@ pub record FewTargets (k : Control) : Type 0 where
   pub once : Once k.volumes
   pub few : (v : ℕ) → length (targets_of k v) ≤ most_targets
 
--- No volume is cascaded: no command makes one.
-abbrev pub NoneCascaded : Control → Type 0
-NoneCascaded k = (v : ℕ) → is_part (fields_at k v).primary ≡ true → is_part (fields_at k v).secondary ≡ false
-
 -- while a server starts, or none
 pub record SoundBut (starts : Option ℕ) (w : World) : Type 0 where
   pub rows : SoundRows (table w)
   pub targets : FewTargets w.control
-  pub uncascaded : NoneCascaded w.control
   pub queue : Queue starts w
   pub groups : Groups w.control
   pub secondaries : SecondariesUncascaded w.control

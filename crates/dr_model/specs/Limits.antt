@@ -8,7 +8,7 @@ most_events = 1000000
 
 -- the room that a step needs there before it begins
 abbrev pub step_events : ℕ
-step_events = 4096
+step_events = 8192
 
 -- and that an image needs
 abbrev pub image_events : ℕ

@@ -11,7 +11,7 @@ use Rattle.dr_model.specs.declared.step.Step.TheVariants.{Server, Volume, Link, 
 use Rattle.dr_model.specs.declared.grammar.Command.{Command}
 use Rattle.dr_model.specs.declared.grammar.Command.TheVariants.{AtServer, AtVolume, AtLink, AtStop, AtStart, AtExpire, AtIssue, AtWrite, AtApply, AtDrain, AtCopy, AtDestage, AtExchange, AtSend, AtDeliver, AtLose, AtRun, AtAbort, AtRecover, AtShow, AtCompare, AtImage, Mkpprcpath, Rmpprcpath, Mkpprc, Rmpprc, Pausepprc, Resumepprc, Failoverpprc, Failbackpprc, Freezepprc, Unfreezepprc, Lspprc, Lsflash, Mkflash, Rmflash, Resyncflash, Reverseflash, Commitflash, Revertflash, Unfreezeflash, Mksession, Chsession, Rmsession, Lssession, Showgmir, Mkgmir, Resumegmir, Pausegmir, Rmgmir}
 use Rattle.dr_model.specs.declared.grammar.Setting.{Setting}
-use Rattle.dr_model.specs.declared.grammar.Setting.TheVariants.{Quiet, Dev, RemoteDev, RemotePort, SourceLss, TargetLss, ConsistencyGroup, Force, PairType, Mode, Unconditional, AtSource, NoCopy, Persist, Recording, Inhibit, FreezeSource, Sequence, Fast, TargetPprc, OfLss, Members, Action, OfSession, Interval, Coordination, DrainTime}
+use Rattle.dr_model.specs.declared.grammar.Setting.TheVariants.{Quiet, Dev, RemoteDev, RemotePort, SourceLss, TargetLss, ConsistencyGroup, Force, PairType, Mode, Cascade, Unconditional, AtSource, NoCopy, Persist, Recording, Inhibit, FreezeSource, Sequence, Fast, TargetPprc, OfLss, Members, Action, OfSession, Interval, Coordination, DrainTime}
 use Rattle.dr_model.specs.declared.grammar.Operand.{Operand}
 use Rattle.dr_model.specs.declared.grammar.Operand.TheVariants.{ServerName, OtherName, UpOrDown, AfterWord, TornMark, TornBytes, OneVolume, OtherVolume, Count, TrackNumber, Offset, WriteBytes, CountOrAll, SessionNumber, NoReply, LssNumber, VolumeRange, VolumeList, VolumePair, LssPair, EachLss, Ports, ControlPath}
 use Rattle.dr_model.specs.declared.grammar.Options.{Options}
@@ -24,6 +24,7 @@ abbrev pub is_flag : Setting → Bool
 is_flag Quiet = true
 is_flag ConsistencyGroup = true
 is_flag Force = true
+is_flag Cascade = true
 is_flag Unconditional = true
 is_flag NoCopy = true
 is_flag Persist = true
@@ -46,6 +47,7 @@ has ConsistencyGroup o = o.group
 has Force o = o.force
 has PairType o = is_some o.kind
 has Mode o = is_some o.full
+has Cascade o = o.cascade
 has Unconditional o = o.unconditional
 has AtSource o = o.at_source
 has NoCopy o = o.nocopy
@@ -69,6 +71,7 @@ unfoldable pub flagged : Setting → Options → Options
 flagged Quiet o = record o { quiet = true }
 flagged ConsistencyGroup o = record o { group = true }
 flagged Force o = record o { force = true }
+flagged Cascade o = record o { cascade = true }
 flagged Unconditional o = record o { unconditional = true }
 flagged NoCopy o = record o { nocopy = true }
 flagged Persist o = record o { persistent = true }
@@ -120,6 +123,7 @@ no_options = record {
   force = false;
   kind = None;
   full = None;
+  cascade = false;
   unconditional = false;
   at_source = false;
   nocopy = false;
@@ -234,7 +238,7 @@ step_of AtCompare o p i = Compare p.volume p.with
 step_of AtImage o p i = Image
 step_of Mkpprcpath o p i = MakePath o.devs (or_zero o.src) (or_zero o.tgt) o.group
 step_of Rmpprcpath o p i = RemovePath o.devs (lss_in i.first) (lss_in i.second) o.force
-step_of Mkpprc o p i = MakePair o.devs i.first i.second (or_zero o.kind) (record { full = unwrap_or o.full true })
+step_of Mkpprc o p i = MakePair o.devs i.first i.second (or_zero o.kind) (record { full = unwrap_or o.full true; cascade = o.cascade })
 step_of Rmpprc o p i = RemovePair o.devs i.first i.second o.unconditional
 step_of Pausepprc o p i = PausePair o.devs i.first i.second
 step_of Resumepprc o p i = ResumePair o.devs i.first i.second (or_zero o.kind)

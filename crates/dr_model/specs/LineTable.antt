@@ -3,7 +3,7 @@ use Rattle.std.specs.Prelude.{ℕ, Bool, true, false, List, [], ◌∷◌, lengt
 use Rattle.dr_model.specs.declared.grammar.Command.{Command}
 use Rattle.dr_model.specs.declared.grammar.Command.TheVariants.{AtServer, AtVolume, AtLink, AtStop, AtStart, AtExpire, AtIssue, AtWrite, AtApply, AtDrain, AtCopy, AtDestage, AtExchange, AtSend, AtDeliver, AtLose, AtRun, AtAbort, AtRecover, AtShow, AtCompare, AtImage, Mkpprcpath, Rmpprcpath, Mkpprc, Rmpprc, Pausepprc, Resumepprc, Failoverpprc, Failbackpprc, Freezepprc, Unfreezepprc, Lspprc, Lsflash, Mkflash, Rmflash, Resyncflash, Reverseflash, Commitflash, Revertflash, Unfreezeflash, Mksession, Chsession, Rmsession, Lssession, Showgmir, Mkgmir, Resumegmir, Pausegmir, Rmgmir}
 use Rattle.dr_model.specs.declared.grammar.Setting.{Setting}
-use Rattle.dr_model.specs.declared.grammar.Setting.TheVariants.{Quiet, Dev, RemoteDev, RemotePort, SourceLss, TargetLss, ConsistencyGroup, Force, PairType, Mode, Unconditional, AtSource, NoCopy, Persist, Recording, Inhibit, FreezeSource, Sequence, Fast, TargetPprc, OfLss, Members, Action, OfSession, Interval, Coordination, DrainTime}
+use Rattle.dr_model.specs.declared.grammar.Setting.TheVariants.{Quiet, Dev, RemoteDev, RemotePort, SourceLss, TargetLss, ConsistencyGroup, Force, PairType, Mode, Cascade, Unconditional, AtSource, NoCopy, Persist, Recording, Inhibit, FreezeSource, Sequence, Fast, TargetPprc, OfLss, Members, Action, OfSession, Interval, Coordination, DrainTime}
 use Rattle.dr_model.specs.declared.grammar.Operand.{Operand}
 use Rattle.dr_model.specs.declared.grammar.Operand.TheVariants.{ServerName, OtherName, UpOrDown, AfterWord, TornMark, TornBytes, OneVolume, OtherVolume, Count, TrackNumber, Offset, WriteBytes, CountOrAll, SessionNumber, NoReply, LssNumber, VolumeRange, VolumeList, VolumePair, LssPair, EachLss, Ports, ControlPath}
 
@@ -26,6 +26,7 @@ setting_word ConsistencyGroup = codes "-consistgrp"
 setting_word Force = codes "-force"
 setting_word PairType = codes "-type"
 setting_word Mode = codes "-mode"
+setting_word Cascade = codes "-cascade"
 setting_word Unconditional = codes "-unconditional"
 setting_word AtSource = codes "-at"
 setting_word NoCopy = codes "-nocp"
@@ -103,7 +104,7 @@ form AtCompare = host_line (codes "@compare") (OneVolume ∷ OtherVolume ∷ [])
 form AtImage = host_line (codes "@image") []
 form Mkpprcpath = one_step (codes "mkpprcpath") (with_remote (RemotePort ∷ SourceLss ∷ TargetLss ∷ ConsistencyGroup ∷ [])) (SourceLss ∷ TargetLss ∷ []) (Ports ∷ [])
 form Rmpprcpath = step_each (codes "rmpprcpath") (with_remote (RemotePort ∷ Force ∷ [])) [] (LssPair ∷ [])
-form Mkpprc = step_each (codes "mkpprc") (with_remote (PairType ∷ Mode ∷ [])) (PairType ∷ []) (VolumePair ∷ [])
+form Mkpprc = step_each (codes "mkpprc") (with_remote (PairType ∷ Mode ∷ Cascade ∷ [])) (PairType ∷ []) (VolumePair ∷ [])
 form Rmpprc = step_each (codes "rmpprc") (with_remote (Unconditional ∷ AtSource ∷ [])) [] (VolumePair ∷ [])
 form Pausepprc = step_each (codes "pausepprc") (with_remote []) [] (VolumePair ∷ [])
 form Resumepprc = step_each (codes "resumepprc") (with_remote (PairType ∷ [])) (PairType ∷ []) (VolumePair ∷ [])

@@ -14,7 +14,7 @@ use Rattle.dr_model.specs.declared.step.Step.TheVariants.{Server, Volume, Link, 
 use Rattle.dr_model.specs.declared.grammar.Command.{Command}
 use Rattle.dr_model.specs.declared.grammar.Command.TheVariants.{AtServer, AtVolume, AtLink, AtStop, AtStart, AtExpire, AtIssue, AtWrite, AtApply, AtDrain, AtCopy, AtDestage, AtExchange, AtSend, AtDeliver, AtLose, AtRun, AtAbort, AtRecover, AtShow, AtCompare, AtImage, Mkpprcpath, Rmpprcpath, Mkpprc, Rmpprc, Pausepprc, Resumepprc, Failoverpprc, Failbackpprc, Freezepprc, Unfreezepprc, Lspprc, Lsflash, Mkflash, Rmflash, Resyncflash, Reverseflash, Commitflash, Revertflash, Unfreezeflash, Mksession, Chsession, Rmsession, Lssession, Showgmir, Mkgmir, Resumegmir, Pausegmir, Rmgmir}
 use Rattle.dr_model.specs.declared.grammar.Setting.{Setting}
-use Rattle.dr_model.specs.declared.grammar.Setting.TheVariants.{Quiet, Dev, RemoteDev, RemotePort, SourceLss, TargetLss, PairType, Mode, AtSource, Sequence, OfLss, Members, Action, OfSession, Interval, Coordination, DrainTime}
+use Rattle.dr_model.specs.declared.grammar.Setting.TheVariants.{Quiet, Dev, RemoteDev, RemotePort, SourceLss, TargetLss, PairType, Mode, Cascade, AtSource, Sequence, OfLss, Members, Action, OfSession, Interval, Coordination, DrainTime}
 use Rattle.dr_model.specs.declared.grammar.Operand.{Operand}
 use Rattle.dr_model.specs.declared.grammar.Operand.TheVariants.{ServerName, OtherName, UpOrDown, AfterWord, TornMark, TornBytes, OneVolume, OtherVolume, Count, TrackNumber, Offset, WriteBytes, CountOrAll, SessionNumber, NoReply, LssNumber, VolumeRange, VolumeList, VolumePair, LssPair, EachLss, Ports, ControlPath}
 use Rattle.dr_model.specs.declared.grammar.Options.{Options}
@@ -195,7 +195,7 @@ at_saying _ = None
 unfoldable pub pair_saying : Step → Option Saying
 pair_saying (MakePath devs src tgt group) = Some (for_item Mkpprcpath (record no_options { devs = devs; src = Some src; tgt = Some tgt; group = group }) 0 0)
 pair_saying (RemovePath devs src tgt force) = Some (for_item Rmpprcpath (record no_options { devs = devs; force = force }) src tgt)
-pair_saying (MakePair devs a b kind choices) = Some (for_item Mkpprc (record no_options { devs = devs; kind = Some kind; full = if choices.full then None else Some false }) a b)
+pair_saying (MakePair devs a b kind choices) = Some (for_item Mkpprc (record no_options { devs = devs; kind = Some kind; full = if choices.full then None else Some false; cascade = choices.cascade }) a b)
 pair_saying (RemovePair devs a b source_only) = Some (for_item Rmpprc (record no_options { devs = devs; unconditional = source_only; at_source = source_only }) a b)
 pair_saying (PausePair devs a b) = Some (for_item Pausepprc (given devs) a b)
 pair_saying (ResumePair devs a b kind) = Some (for_item Resumepprc (record no_options { devs = devs; kind = Some kind }) a b)
@@ -253,6 +253,7 @@ setting_fits RemoteDev o i = name_fits (unwrap_or o.devs.remotedev no_name)
 setting_fits SourceLss o i = nat_lt (or_zero o.src) 256
 setting_fits TargetLss o i = nat_lt (or_zero o.tgt) 256
 setting_fits PairType o i = nat_eq (or_zero o.kind) 1 || nat_eq (or_zero o.kind) 2
+setting_fits Cascade o i = nat_eq (or_zero o.kind) 2
 setting_fits Sequence o i = nat_lt (or_zero o.sequence) (2 ^ 32)
 setting_fits OfLss o i = nat_lt (or_zero o.lss) 256
 setting_fits Members o i = nat_lt i.first 65536 && nat_eq i.second i.first

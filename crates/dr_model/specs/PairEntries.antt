@@ -1,12 +1,12 @@
 -- Entries of plans on pairs: making and ending them, pausing and resuming, and sending tracks.
-use Rattle.std.specs.Prelude.{ℕ, Bool, false, ◌&&◌, ◌||◌, not, List, [], ◌∷◌, ◌++◌, take, Option, Some, None, is_some, option_map, nat_eq, if◌then◌else◌}
-use Rattle.std.specs.List.{find, range_with_len}
+use Rattle.std.specs.Prelude.{ℕ, Bool, false, ◌&&◌, ◌||◌, not, List, [], ◌∷◌, ◌++◌, map, take, Option, Some, None, is_some, option_map, nat_eq, if◌then◌else◌}
+use Rattle.std.specs.List.{find, flat_map, range_with_len}
 use Rattle.std.specs.Option.{option_or}
 use Rattle.std.specs.Str.{bytes_eq}
 use Rattle.std.specs.FinSet.{union}
 use Rattle.dr_ids.specs.Paths.{path_in}
 use Rattle.dr_ids.specs.declared.refusal.Refusal.{Refusal}
-use Rattle.dr_ids.specs.declared.refusal.Refusal.TheVariants.{LinkDown, NotIdentical}
+use Rattle.dr_ids.specs.declared.refusal.Refusal.TheVariants.{LinkDown, NotIdentical, Held}
 use Rattle.dr_ids.specs.declared.refusal.Kind.TheVariants.{Path as OfPath}
 use Rattle.dr_ids.specs.declared.refusal.Which.TheVariants.{Size, Server as OneServer}
 use Rattle.dr_model.specs.Refusals.{server_off, unknown, over}
@@ -15,10 +15,10 @@ use Rattle.dr_model.specs.declared.state.PairState.TheVariants.{Suspended}
 use Rattle.dr_model.specs.Layout.{Tracks, is_part}
 use Rattle.dr_model.specs.Control.{Control}
 use Rattle.dr_model.specs.Relations.{in_order}
-use Rattle.dr_model.specs.Pairs.{is_primary_of, is_secondary_of, is_unpaired, is_kind, is_pending, is_suspended, first_state, next_state, state_with, is_last}
-use Rattle.dr_model.specs.Moves.{Store, Strike, Suspend, MakeSecondary, MakePrimary, DropPrimary, DropSecondary, Follow, Resume, TakeOver, FallBack, Yield}
-use Rattle.dr_model.specs.Carry.{Make, Next, Pass, Do, End, Entry, now, check}
-use Rattle.dr_model.specs.Entries.{fields_at, is_running, running_check, subsystem, share_server, share_size, is_no_target, stands_in, is_revertible, relation_state, pair_state, is_settled, copy_first}
+use Rattle.dr_model.specs.Pairs.{is_primary_of, is_secondary_of, is_unpaired, is_cascaded, is_metro, is_kind, is_pending, is_suspended, first_state, next_state, state_with, is_last, collides, holds_back}
+use Rattle.dr_model.specs.Moves.{Store, Strike, Suspend, MakeSecondary, MakePrimary, DropPrimary, DropSecondary, Follow, Resume, TakeOver, LeavePrimary, FallBack, Yield}
+use Rattle.dr_model.specs.Carry.{Make, Next, Pass, Do, End, Entry, Stretch, now, check}
+use Rattle.dr_model.specs.Entries.{fields_at, is_running, running_check, subsystem, share_server, share_size, is_no_target, stands_in, is_revertible, relation_state, pair_state, secondary_state, is_settled, is_no_secondary, copy_first}
 
 -- the link between two servers is down
 abbrev pub link_down : ℕ → ℕ → Refusal
@@ -66,18 +66,26 @@ two_servers a b k = not (share_server a b k)
 abbrev pub stands_free : ℕ → Control → Bool
 stands_free v k = is_unpaired (fields_at k v)
 
+-- a may become cascaded with secondary b: it is no primary, and the Metro Mirror secondary of another volume
+abbrev pub may_cascade : ℕ → ℕ → Control → Bool
+may_cascade a b k = not (is_part (fields_at k a).primary) && (is_metro (fields_at k a).secondary && not (nat_eq (fields_at k a).secondary_partner b))
+
+-- a may become the primary of b, as a cascaded volume or as one with no other part
+abbrev pub may_lead : Bool → ℕ → ℕ → Control → Bool
+may_lead cascade a b k = if cascade then may_cascade a b k else stands_free a k
+
 -- b may become the secondary of a: it is no primary, and the secondary of no other
 abbrev pub may_follow : ℕ → ℕ → Control → Bool
 may_follow a b k = not (is_part (fields_at k b).primary) && (not (is_part (fields_at k b).secondary) || nat_eq (fields_at k b).secondary_partner a)
 
--- a pair is made of two volumes that are there, of which this track differs, where none may
-abbrev pub make_entries : Control → ℕ → ℕ → Part → Bool → Option ℕ → List Entry
-make_entries k a b kind full difference =
+-- a pair is made of two volumes that are there, of which this track differs, where none may; a is cascaded from then on, or has no other part
+abbrev pub make_entries : Control → ℕ → ℕ → Part → Bool → Bool → Option ℕ → List Entry
+make_entries k a b kind cascade full difference =
     running_check k a
     ∷ refuse_if (reach_refusal a b)
     ∷ check (two_servers a b) (over OneServer)
     ∷ check (share_size a b) (over Size)
-    ∷ check (stands_free a) (pair_state k a)
+    ∷ check (may_lead cascade a b) (pair_state k a)
     ∷ check (may_follow a b) (pair_state k b)
     ∷ check (is_no_target a) (relation_state k a)
     ∷ check (is_no_target b) (relation_state k b)
@@ -137,13 +145,13 @@ resume_entries k a b kind =
     running_check k a
     ∷ check (may_resume a b kind) (pair_state k a)
     ∷ refuse_if (reach_refusal a b)
-    ∷ check (belongs_to a b) (pair_state k b)
+    ∷ check (belongs_to a b) (secondary_state k b)
     ∷ follow_on a b
     ∷ resume_on a ∷ []
 
 -- why primary a can't send to b: b can't be reached, or isn't its secondary
 abbrev pub send_refusal : ℕ → ℕ → Control → Option Refusal
-send_refusal a b k = option_or (reach_refusal a b k) (if belongs_to a b k then None else Some (pair_state k b))
+send_refusal a b k = option_or (reach_refusal a b k) (if belongs_to a b k then None else Some (secondary_state k b))
 
 -- then the primary is suspended, too
 abbrev pub suspend_where : (Control → Option Refusal) → ℕ → Entry
@@ -152,6 +160,10 @@ suspend_where why a k = if is_some (why k) then Do (Make (Suspend a false)) else
 -- b is the source of a revertible relationship
 abbrev pub flashed_refusal : ℕ → Control → Option Refusal
 flashed_refusal b k = if stands_in is_revertible k b then Some (relation_state k b) else None
+
+-- b is cascaded, and coordination holds back what it receives
+abbrev pub held_refusal : ℕ → Control → Option Refusal
+held_refusal b k = if holds_back (fields_at k b) then Some (Held (record { 0 = b })) else None
 
 -- secondary b stores track t of a
 abbrev pub store_on : ℕ → ℕ → ℕ → Entry
@@ -171,6 +183,26 @@ send_entries volumes a b t =
     ++ store_on a b t
     ∷ strike_on a t ∷ []
 
+-- Secondary u of v can still be sent what a track of v was before what comes to v, which collides with it; the entries of the send
+-- come as long as that is so.
+abbrev pub sends_first : ℕ → ℕ → ℕ → Control → Bool
+sends_first v u t k = collides (fields_at k v) t && (not (is_some (send_refusal v u k)) && not (is_some (flashed_refusal u k)))
+
+-- an entry that comes only as long as the track can be sent
+abbrev pub where_sent : ℕ → ℕ → ℕ → Entry → Entry
+where_sent v u t d k = if sends_first v u t k then d k else Pass
+
+-- v, on which the track collides, is suspended where it can't send to u
+abbrev pub suspend_unsent : ℕ → ℕ → ℕ → Entry
+suspend_unsent v u t k = if collides (fields_at k v) t && is_some (send_refusal v u k) then Do (Make (Suspend v false)) else Pass
+
+-- A track comes to v, from the host or from the primary of v. If it collides, what it was is sent to the secondary u first, as a drain sends it. Where
+-- u can't be reached, or isn't the secondary of v, v is suspended, and the track comes; so it does where u is the source of a revertible relationship.
+abbrev pub send_first : List ℕ → ℕ → ℕ → ℕ → List Entry
+send_first volumes v u t =
+    suspend_unsent v u t
+    ∷ map (where_sent v u t) (copy_first volumes u t ++ store_on v u t ∷ strike_on v t ∷ [])
+
 -- tracks are sent in this order
 abbrev pub sends : List ℕ → ℕ → ℕ → List ℕ → List Entry
 sends volumes a b [] = []
@@ -183,6 +215,29 @@ suspend_running a k = if is_part (fields_at k a).primary && is_running a k then 
 -- what follows where a server stopped in a send
 abbrev pub suspend_after : ℕ → List Entry
 suspend_after a = suspend_running a ∷ []
+
+-- and the primary a of b, whose server doesn't run
+abbrev pub suspend_unless : ℕ → ℕ → Entry
+suspend_unless b a k = if is_running b k then Pass else suspend_running a k
+
+-- Track t is sent from a to its secondary b, which is cascaded and has c as its secondary. Where coordination holds b, the send is refused. What
+-- the track was at b is sent on to c first, if it collides there. In that, a stop suspends b, and a only where the server of b is off then.
+abbrev pub feed_stretches : List ℕ → ℕ → ℕ → ℕ → ℕ → List Stretch
+feed_stretches volumes a b c t =
+    record { entries = suspend_where (send_refusal a b) a ∷ refuse_if (send_refusal a b) ∷ refuse_if (flashed_refusal b) ∷ refuse_if (held_refusal b) ∷ []; follows = suspend_after a }
+    ∷ record { entries = send_first volumes b c t; follows = suspend_running b ∷ suspend_unless b a ∷ [] }
+    ∷ record { entries = copy_first volumes b t ++ store_on a b t ∷ strike_on a t ∷ []; follows = suspend_after a } ∷ []
+
+-- tracks are so sent in this order
+abbrev pub feeds : List ℕ → ℕ → ℕ → ℕ → List ℕ → List Stretch
+feeds volumes a b c ts = flat_map (feed_stretches volumes a b c) ts
+
+-- what a primary sends, in stretches: to a cascaded secondary, or to one with no other part
+abbrev pub drain_stretches : Control → ℕ → List ℕ → List Stretch
+drain_stretches k a ts =
+    let b : ℕ = (fields_at k a).primary_partner in
+    if is_cascaded (fields_at k b) then feeds k.volumes a b (fields_at k b).primary_partner ts
+    else record { entries = sends k.volumes a b ts; follows = suspend_after a } ∷ []
 
 -- the tracks of a set in order, at most so many
 abbrev pub tracks_to_send : Option ℕ → ℕ → Tracks → List ℕ
@@ -207,9 +262,12 @@ first_active k src tgt = find (is_active k src tgt) k.volumes
 abbrev pub may_take_over : ℕ → ℕ → Part → Control → Bool
 may_take_over a b kind k = belongs_to a b k && is_kind kind (fields_at k b).secondary
 
--- Secondary b of a is taken over; a isn't asked.
+-- Secondary b of a is taken over; a isn't asked. A cascaded one leaves its primary, and goes on as the primary that it is.
 abbrev pub failover_entries : Control → ℕ → ℕ → Part → List Entry
-failover_entries k b a kind = running_check k b ∷ check (may_take_over a b kind) (pair_state k b) ∷ now (TakeOver b) ∷ []
+failover_entries k b a kind =
+    running_check k b
+    ∷ check (may_take_over a b kind) (secondary_state k b)
+    ∷ now (if is_cascaded (fields_at k b) then LeavePrimary b else TakeOver b) ∷ []
 
 -- x is a primary of y, of that kind
 abbrev pub leads_as : ℕ → ℕ → Part → Control → Bool
@@ -234,6 +292,8 @@ failback_entries k why x y kind =
     ∷ refuse_if (reach_refusal x y)
     ∷ check (leads_as x y kind) (pair_state k x)
     ∷ check (leads_to y x) (pair_state k y)
+    ∷ check (is_no_secondary x) (secondary_state k x)
+    ∷ check (is_no_secondary y) (secondary_state k y)
     ∷ check (is_settled y) (relation_state k y)
     ∷ check (is_settled x) (relation_state k x)
     ∷ refuse_if why

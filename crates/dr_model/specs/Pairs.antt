@@ -26,6 +26,14 @@ is_primary_of b f = is_part f.primary && nat_eq f.primary_partner b
 abbrev pub is_secondary_of : ℕ → Fields → Bool
 is_secondary_of a f = is_part f.secondary && nat_eq f.secondary_partner a
 
+-- it has both parts: it is the secondary of a first site, and the primary of a third
+abbrev pub is_cascaded : Fields → Bool
+is_cascaded f = is_part f.primary && is_part f.secondary
+
+-- coordination holds back what a cascaded volume receives
+abbrev pub holds_back : Fields → Bool
+holds_back f = is_cascaded f && f.coordination
+
 -- it has no part in a pair
 abbrev pub is_unpaired : Fields → Bool
 is_unpaired f = not (is_part f.primary) && not (is_part f.secondary)
@@ -80,6 +88,10 @@ target_seen Suspended = seen.TargetSuspended
 -- how a volume's pair is seen: as a primary, else as a secondary, else none
 abbrev pub pair_seen : Fields → PairSeen
 pair_seen f = if is_part f.primary then state_seen f.primary_state else if is_part f.secondary then target_seen f.secondary_state else seen.None
+
+-- the same as a secondary, else as a primary, where a refusal speaks of its part as a secondary
+abbrev pub secondary_seen : Fields → PairSeen
+secondary_seen f = if is_part f.secondary then target_seen f.secondary_state else if is_part f.primary then state_seen f.primary_state else seen.None
 
 -- track t of a primary changes without its secondary: it is out of sync from then on
 abbrev pub parted_track : Fields → ℕ → Fields

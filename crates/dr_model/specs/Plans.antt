@@ -18,10 +18,10 @@ use Rattle.dr_model.specs.Control.{Control, Fuse, Pending, new_volume, is_volume
 use Rattle.dr_model.specs.Relations.{Choices, rest}
 use Rattle.dr_model.specs.Moves.{Relate, Withdraw, Resync, Reverse, Unstage, is_write}
 use Rattle.dr_model.specs.Messages.{started}
-use Rattle.dr_model.specs.Carry.{Entry, Next, Pass, Do, Redo, Acknowledge, redo_writes, now, check}
-use Rattle.dr_model.specs.Entries.{fields_at, is_running, running_check, subsystem, first_of, share_server, share_size, is_no_target, copies_from, targets_of, stands_in, is_any, relation_state, pair_state, is_no_secondary, takes_back, times, fetch_next, give_back}
-use Rattle.dr_model.specs.Sessions.{session_in, members_in, is_member, in_session}
-use Rattle.dr_model.specs.PairEntries.{refuse_if, make_entries, remove_entries, pause_entries, resume_entries, failover_entries, failback_entries, is_copying, tracks_to_send, sends, suspend_after, link_down, first_active, first_differing, differs_at, stands_free}
+use Rattle.dr_model.specs.Carry.{Entry, Next, Pass, Do, Redo, Acknowledge, redo_writes, now, check, entries_in, follows_at}
+use Rattle.dr_model.specs.Entries.{fields_at, is_running, running_check, subsystem, first_of, share_server, share_size, is_no_target, copies_from, targets_of, stands_in, is_any, relation_state, pair_state, secondary_state, is_no_secondary, takes_back, times, fetch_next, give_back}
+use Rattle.dr_model.specs.Sessions.{session_in, members_in, is_member, is_copy, in_session}
+use Rattle.dr_model.specs.PairEntries.{refuse_if, make_entries, remove_entries, pause_entries, resume_entries, failover_entries, failback_entries, is_copying, tracks_to_send, drain_stretches, suspend_after, link_down, first_active, first_differing, differs_at, stands_free}
 use Rattle.dr_model.specs.WriteEntries.{landing, says_written, after_write, belongs, start_entries, lift_on, freeze_entries, thaw_entries, flash_hold_on, flash_free_on}
 pub use Rattle.dr_model.specs.PlanParts.{Plan, same, none_follow, always, tables_plan, only_says, refuses, name_bytes, server_named, on_named, on_server, unless, entries_plan, is_owner, is_defined, is_named, owner_of, on_owner, on_session}
 pub use Rattle.dr_model.specs.RecoveryPlans.{decided_in, secondary_refusal, leaves_all, forbidden_unless}
@@ -35,7 +35,9 @@ use Rattle.dr_model.specs.declared.said.Said.TheVariants.{Done}
 use Rattle.dr_model.specs.declared.event.Event.{Event}
 use Rattle.dr_model.specs.declared.event.Event.TheVariants.{Server as ServerDefined, Volume as VolumeDefined, Issue, Stopped, Started, Shown}
 use Rattle.dr_model.specs.declared.state.Part.{Part}
+use Rattle.dr_model.specs.declared.state.Part.TheVariants.{Global}
 use Rattle.dr_model.specs.Layout.{kind_of}
+use Rattle.dr_model.specs.Pairs.{is_kind}
 use Rattle.dr_model.specs.declared.step.Name.{Name}
 use Rattle.dr_model.specs.declared.step.Devs.{Devs}
 use Rattle.dr_model.specs.declared.step.PairChoices.{PairChoices}
@@ -374,7 +376,7 @@ reverse_flash_plan k dev s t = entries_plan
     ++ refuse_if (restore_refusal t)
     ∷ check (is_recorded_target s t) (relation_state k t)
     ∷ check (is_lone_restore s t) (relation_state k s)
-    ∷ check (may_return s) (pair_state k s)
+    ∷ check (may_return s) (secondary_state k s)
     ∷ now (Reverse t (left_by k t)) ∷ [])
     (Done Alone)
 
@@ -501,10 +503,22 @@ thaw_plan k devs l m = on_owner (owner_of k l) (λ s. on_owner (owner_of k m) (�
 abbrev pub found_volumes : Devs → ℕ → ℕ → List Entry
 found_volumes devs a b = found_pair devs.dev a b ++ check (is_owner devs.remotedev b) (unknown OfServer) ∷ []
 
+-- a pair makes a a cascaded volume: `-cascade` stands with Global Copy alone
+abbrev pub cascades : Part → PairChoices → Bool
+cascades kind choices = is_kind Global kind && choices.cascade
+
+-- the secondary or the target of a member isn't cascaded; its session is named
+abbrev pub cascade_refusal : ℕ → Control → Option Refusal
+cascade_refusal a k = in_session (find (is_copy a) k.sessions)
+
 -- a pair is made; where nothing is to be copied, the host writes of the journal must have made both volumes the same
 abbrev pub make_pair_plan : Control → List Event → Devs → ℕ → ℕ → Part → PairChoices → Plan
 make_pair_plan k events devs a b kind choices =
-    entries_plan (found_volumes devs a b ++ make_entries k a b kind choices.full (if choices.full then None else first_differing (image_at events) (k.volume a).tracks a b)) (Done Alone)
+    entries_plan
+    (found_volumes devs a b
+    ++ (if cascades kind choices then refuse_if (cascade_refusal a) ∷ [] else [])
+    ++ make_entries k a b kind (cascades kind choices) choices.full (if choices.full then None else first_differing (image_at events) (k.volume a).tracks a b))
+    (Done Alone)
 
 -- one of two volumes is the primary of a member; its session is named
 abbrev pub member_refusal : ℕ → ℕ → Control → Option Refusal
@@ -558,15 +572,20 @@ compare_entries k contents v u =
 abbrev pub compare_plan : Control → (ℕ → ℕ → List ℕ) → ℕ → ℕ → Plan
 compare_plan k contents v u = entries_plan (compare_entries k contents v u) (Done Alone)
 
--- Tracks that are out of sync are sent, lowest first. Where the secondary's server stops, the primary is suspended.
+-- a drain is of a primary in Copy Pending, whose server is on
+abbrev pub drain_checks : Control → ℕ → List Entry
+drain_checks k a = check (is_defined a) (unknown OfVolume) ∷ running_check k a ∷ check (is_copying a) (pair_state k a) ∷ []
+
+-- Tracks that are out of sync are sent, lowest first. Where the secondary's server stops, the primary is suspended; what follows a stop at the
+-- third site stands with its stretches.
 abbrev pub drain_plan : Control → ℕ → Option ℕ → Plan
 drain_plan k a most =
     let ts : List ℕ = tracks_to_send most (k.volume a).tracks (fields_at k a).out_of_sync in
     record {
       first = same;
       told = [];
-      entries = check (is_defined a) (unknown OfVolume) ∷ running_check k a ∷ check (is_copying a) (pair_state k a) ∷ sends k.volumes a (fields_at k a).primary_partner ts;
-      follows = λ n. suspend_after a;
+      entries = drain_checks k a ++ entries_in (drain_stretches k a ts);
+      follows = follows_at (record { entries = drain_checks k a; follows = suspend_after a } ∷ drain_stretches k a ts);
       last = same;
       says = always (Done (Counted (length ts)));
     }

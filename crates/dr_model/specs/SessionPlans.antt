@@ -13,7 +13,7 @@ use Rattle.dr_model.specs.declared.said.Said.{Said}
 use Rattle.dr_model.specs.declared.said.Said.TheVariants.{Done}
 use Rattle.dr_model.specs.declared.step.Name.{Name}
 use Rattle.dr_model.specs.declared.state.Part.TheVariants.{Global}
-use Rattle.dr_model.specs.Layout.{Fields}
+use Rattle.dr_model.specs.Layout.{Fields, is_part}
 use Rattle.dr_model.specs.Refusals.{server_off, unknown}
 use Rattle.dr_model.specs.Control.{Control}
 use Rattle.dr_model.specs.Phases as phases
@@ -158,12 +158,16 @@ taken_refusal k x a =
     if is_member a x then Some (Duplicate OfVolume)
     else option_or (in_session (find (is_member a) k.sessions)) (busy x.mirror)
 
--- the server of a is off; it is no Global Copy primary; its secondary can't be reached, or isn't its own
+-- the secondary b of a member is no primary
+abbrev pub lead_refusal : ℕ → Control → Option Refusal
+lead_refusal b k = if is_part (fields_at k b).primary then Some (pair_state k b) else None
+
+-- the server of a is off; it is no Global Copy primary; its secondary can't be reached, or isn't its own, or is cascaded
 abbrev pub copy_refusal : Control → ℕ → Option Refusal
 copy_refusal k a =
     if not (is_running a k) then Some (server_off (k.volume a).server)
     else if not (is_kind Global (fields_at k a).primary) then Some (pair_state k a)
-    else send_refusal a (fields_at k a).primary_partner k
+    else option_or (send_refusal a (fields_at k a).primary_partner k) (lead_refusal (fields_at k a).primary_partner k)
 
 -- the secondary b has no target for a member; one of the three volumes has a place in a member of some session
 abbrev pub add_done : Control → ℕ → Session → Member → Plan

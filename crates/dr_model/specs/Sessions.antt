@@ -60,6 +60,10 @@ subsystem_of v = v / 256
 abbrev pub is_member : ℕ → Session → Bool
 is_member a x = list_any (λ m. m.a.0 == a) x.members
 
+-- a volume is the secondary or the target of a member
+abbrev pub is_copy : ℕ → Session → Bool
+is_copy v x = list_any (λ m. m.b.0 == v || m.c.0 == v) x.members
+
 -- a member has one of its primary volumes in the logical subsystem
 abbrev pub has_member_in : ℕ → Session → Bool
 has_member_in l x = list_any (λ m. subsystem_of m.a.0 == l) x.members

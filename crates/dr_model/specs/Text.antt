@@ -139,7 +139,7 @@ refusal_words code =
     else if nat_eq code 16 then codes "E16 unsealed" else if nat_eq code 17 then codes "E17 stale" else if nat_eq code 18 then codes "E18 decision"
     else if nat_eq code 19 then codes "E19 not identical" else if nat_eq code 20 then codes "E20 numbers spent" else if nat_eq code 21 then codes "E21 stopped"
     else if nat_eq code 22 then codes "E22 no group" else if nat_eq code 23 then codes "E23 journal full" else if nat_eq code 24 then codes "E24 not built"
-    else if nat_eq code 25 then codes "E25 old message" else []
+    else if nat_eq code 25 then codes "E25 old message" else if nat_eq code 26 then codes "E26 held" else []
 
 -- a volume in four hexadecimal digits, and a session in two, by as many of a number's lowest bits
 abbrev pub volume_digits : ℕ → List ℕ
@@ -178,6 +178,7 @@ refusal_values told code a b c =
     else if nat_eq code 21 then codes " " ++ told_name told a
     else if nat_eq code 22 then codes " " ++ decision_text a b c
     else if nat_eq code 25 then codes " " ++ decimal a
+    else if nat_eq code 26 then codes " " ++ volume_digits a
     else []
 
 -- what an answer says

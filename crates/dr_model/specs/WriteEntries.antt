@@ -4,11 +4,11 @@ use Rattle.std.specs.List.{flat_map}
 use Rattle.dr_ids.specs.Paths.{path_in}
 use Rattle.dr_model.specs.Layout.{is_part}
 use Rattle.dr_model.specs.Control.{Control, is_volume}
-use Rattle.dr_model.specs.Pairs.{held, goes_over, collides, must_restart}
+use Rattle.dr_model.specs.Pairs.{held, holds_back, goes_over, collides, must_restart, is_cascaded}
 use Rattle.dr_model.specs.Moves.{Suspend, Unsync, Mirror, LandBoth, Thaw, FlashHold, FlashFree, Lift, Restart}
 use Rattle.dr_model.specs.Carry.{Make, Redo, EndFreeze, EndThaw, Pass, Do, Entry, Stretch, follows_at, now}
 use Rattle.dr_model.specs.Entries.{fields_at, is_running, subsystem, copy_first, write_checks, land_alone}
-use Rattle.dr_model.specs.PairEntries.{send_refusal, suspend_where, flashed_refusal, store_on, strike_on, suspend_after}
+use Rattle.dr_model.specs.PairEntries.{send_refusal, send_first, suspend_running, suspend_after}
 use Rattle.dr_model.specs.declared.said.Addition.TheVariants.{Wrote}
 use Rattle.dr_model.specs.declared.said.Said.{Said}
 use Rattle.dr_model.specs.declared.said.Said.TheVariants.{Done, Held}
@@ -21,14 +21,17 @@ partner_of k v = (fields_at k v).primary_partner
 abbrev pub is_grouped : Control → ℕ → ℕ → Bool
 is_grouped k a b = unwrap_or (path_in k.paths (subsystem a) (subsystem b)) false
 
+-- secondary u stores host write n, and then it lands on v; the targets of each keep the track first
+abbrev pub mirror_and_land : List ℕ → ℕ → ℕ → ℕ → ℕ → List Entry
+mirror_and_land volumes n v t u = copy_first volumes u t ++ now (Mirror u t v n) ∷ copy_first volumes v t ++ now (LandBoth n v t) ∷ []
+
 -- host write n lands on v and on its secondary u: u stores it before it lands on v, and until then the track is out of sync
 abbrev pub land_mirrored : List ℕ → ℕ → ℕ → ℕ → ℕ → List Entry
-land_mirrored volumes n v t u =
-    now (Unsync v t)
-    ∷ copy_first volumes u t
-    ++ now (Mirror u t v n)
-    ∷ copy_first volumes v t
-    ++ now (LandBoth n v t) ∷ []
+land_mirrored volumes n v t u = now (Unsync v t) ∷ mirror_and_land volumes n v t u
+
+-- The same over a cascaded secondary u, whose own secondary is c: what the track was at u is sent on to c first, if it collides there.
+abbrev pub land_fed : List ℕ → ℕ → ℕ → ℕ → ℕ → ℕ → List Entry
+land_fed volumes n v t u c = now (Unsync v t) ∷ send_first volumes u c t ++ mirror_and_land volumes n v t u
 
 -- v can't send to its secondary: it is suspended, and where the path makes it long busy the write waits
 abbrev pub land_parted : Control → ℕ → ℕ → ℕ → List Entry
@@ -38,25 +41,18 @@ land_parted k n v t = now (Suspend v (is_grouped k v (partner_of k v))) ∷ (if 
 abbrev pub is_parted : Control → ℕ → Bool
 is_parted k v = is_some (send_refusal v (partner_of k v) k)
 
--- a write that goes to the secondary first, where that can be reached
+-- coordination holds back what the secondary of v receives
+abbrev pub is_held_back : Control → ℕ → Bool
+is_held_back k v = holds_back (fields_at k (partner_of k v))
+
+-- a write that goes to the secondary first, where that can be reached: over one that is cascaded and held it waits
 abbrev pub land_over : Control → ℕ → ℕ → ℕ → List Entry
-land_over k n v t = if is_parted k v then land_parted k n v t else land_mirrored k.volumes n v t (partner_of k v)
-
--- The secondary u of v can still be sent what a track was before a host write that collides with it; the entries of the send
--- come as long as that is so.
-abbrev pub sends_first : ℕ → ℕ → ℕ → Control → Bool
-sends_first v u t k = collides (fields_at k v) t && (not (is_some (send_refusal v u k)) && not (is_some (flashed_refusal u k)))
-
--- an entry that comes only as long as the track can be sent
-abbrev pub where_sent : ℕ → ℕ → ℕ → Entry → Entry
-where_sent v u t d k = if sends_first v u t k then d k else Pass
-
--- Track t is sent from v to its secondary u, as a drain does. Where u can't be reached, or isn't the secondary of v, v is
--- suspended, and the host write goes on; so it does where u is the source of a revertible relationship.
-abbrev pub send_first : List ℕ → ℕ → ℕ → ℕ → List Entry
-send_first volumes v u t =
-    suspend_where (send_refusal v u) v
-    ∷ map (where_sent v u t) (copy_first volumes u t ++ store_on v u t ∷ strike_on v t ∷ [])
+land_over k n v t =
+    let u : ℕ = partner_of k v in
+    if is_parted k v then land_parted k n v t
+    else if is_held_back k v then []
+    else if is_cascaded (fields_at k u) then land_fed k.volumes n v t u (partner_of k u)
+    else land_mirrored k.volumes n v t u
 
 -- what the track was is sent first, and then the write lands on the primary alone
 abbrev pub land_collided : Control → ℕ → ℕ → ℕ → List Entry
@@ -75,9 +71,9 @@ land_entries k n v t =
 abbrev pub landing : Control → ℕ → ℕ → ℕ → List Entry
 landing k n v t = write_checks k n v ++ land_entries k n v t
 
--- it waits: the volume is held, or becomes long busy since its secondary can't be reached
+-- it waits: the volume is held, or becomes long busy since its secondary can't be reached, or coordination holds its cascaded secondary
 abbrev pub waits : Control → ℕ → ℕ → Bool
-waits k v t = held (fields_at k v) || (goes_over (fields_at k v) t && (is_parted k v && is_grouped k v (partner_of k v)))
+waits k v t = held (fields_at k v) || (goes_over (fields_at k v) t && (if is_parted k v then is_grouped k v (partner_of k v) else is_held_back k v))
 
 -- the answer of a host write: it waits, or it has landed
 abbrev pub says_written : Control → ℕ → ℕ → ℕ → Said
@@ -92,12 +88,22 @@ part_running v k = if is_part (fields_at k v).primary && is_running v k then Do 
 abbrev pub part_after : ℕ → List Entry
 part_after v = part_running v ∷ []
 
--- A host write in stretches, by what follows a stop in them: of one that collides, what is sent first is followed as a send is, and the rest as
--- any host write.
+-- a host write on track t of v goes to its secondary first, and that is cascaded, and isn't held back
+abbrev pub is_fed : Control → ℕ → ℕ → Bool
+is_fed k v t = goes_over (fields_at k v) t && (not (is_parted k v) && (is_cascaded (fields_at k (partner_of k v)) && not (is_held_back k v)))
+
+-- A host write in stretches, by what follows a stop in them. Of one that collides, what is sent first is followed as a send is; of one that goes to a
+-- cascaded secondary, what that sends on first suspends it, and then v as any stop in a host write does.
 abbrev pub write_stretches : Control → ℕ → ℕ → ℕ → List Stretch
 write_stretches k n v t =
-    if not (held (fields_at k v)) && (not (goes_over (fields_at k v) t) && collides (fields_at k v) t)
-    then record { entries = write_checks k n v ++ send_first k.volumes v (partner_of k v) t; follows = suspend_after v }
+    let u : ℕ = partner_of k v in
+    if held (fields_at k v) then record { entries = landing k n v t; follows = part_after v } ∷ []
+    else if is_fed k v t
+    then record { entries = write_checks k n v ++ now (Unsync v t) ∷ []; follows = part_after v }
+    ∷ record { entries = send_first k.volumes u (partner_of k u) t; follows = suspend_running u ∷ part_running v ∷ [] }
+    ∷ record { entries = mirror_and_land k.volumes n v t u; follows = part_after v } ∷ []
+    else if not (goes_over (fields_at k v) t) && collides (fields_at k v) t
+    then record { entries = write_checks k n v ++ send_first k.volumes v u t; follows = suspend_after v }
     ∷ record { entries = land_alone k.volumes n v t; follows = part_after v } ∷ []
     else record { entries = landing k n v t; follows = part_after v } ∷ []
 

@@ -133,6 +133,7 @@ fn refused_numbers(refusal: Refusal) -> AnswerNumbers
         Refusal::JournalFull => numbered(23, 0, 0, 0),
         Refusal::NotBuilt => numbered(24, 0, 0, 0),
         Refusal::OldMessage { m } => numbered(25, m, 0, 0),
+        Refusal::Held { volume } => numbered(26, u32::from(volume.0), 0, 0),
     }
 }
 

@@ -20,10 +20,12 @@ pub enum TornWord {
     Bytes([u8; 64]),
 }
 
-/// How a pair is made: whether all tracks are to be copied, or none.
+/// How a pair is made: whether all tracks are to be copied, or none, and whether its primary is the secondary of
+/// another pair, so that it is cascaded from then on.
 #[derive(Clone, Copy)]
 pub struct PairChoices {
     pub full: bool,
+    pub cascade: bool,
 }
 
 /// One step of a script: a line's command with one operand.

@@ -5,10 +5,10 @@ use Rattle.dr_bits.specs.Membership.{lt_true, lt_false}
 use Rattle.dr_ids.specs.declared.refusal.Refusal.{Refusal}
 use Rattle.dr_ids.specs.declared.refusal.Refusal.TheVariants.{Stopped}
 use Rattle.dr_model.specs.Control.{World}
-use Rattle.dr_model.specs.Carry.{Entry, Stretch, Outcome, carry, follow, follows_at, entries_in, stopped_at}
+use Rattle.dr_model.specs.Carry.{Entry, Stretch, Outcome, carry, carry_each, follow, follows_at, entries_in, stopped_at}
 use Rattle.dr_model.specs.ReadStops.{Ends}
 use Rattle.dr_model.proofs.CarryLemmas.{carry-none, carry-append, onward}
-use Rattle.dr_moves.specs.Followed.{Follows, EndsIn}
+use Rattle.dr_moves.specs.Followed.{EndsEach, Follows, EndsIn}
 use Rattle.dr_facts.proofs.Stretches.{stopped-within, stopped-after}
 
 -- what is followed after so many entries
@@ -27,9 +27,15 @@ pub record Carried (w : World) (ss : List Stretch) (u : World) (r : Refusal) : T
   pub followed : follow middle r (follows_at ss (stopped_at w (entries_in ss))) ≡ u
 
 module _ (armed : ℕ → Bool) (exact : (u : World) (r : Option Refusal) (w : World) (ds : List Entry) → Ends armed u r w ds → carry w ds ≡ (u, r)) where
+  each-to : (v : World) (es : List Entry) (u : World) → EndsEach armed v es u → carry_each v es ≡ u
+  each-to v [] u same = sym same
+  each-to v (d ∷ ds) u h =
+      let first = h.first in
+      ap (λ (o : Outcome). carry_each o.0 ds) (exact h.middle first.refusal v (d ∷ []) first.ends) ∙ each-to h.middle ds u h.later
+
   -- what follows leads to what the plan says
   pub follows-to : (es : List Entry) (v u : World) (r : Refusal) → Follows armed v (Some r) es u → follow v r es ≡ u
-  follows-to es v u (Stopped server) so = ap (λ (o : Outcome). o.0) (exact u so.refusal v es so.ends)
+  follows-to es v u (Stopped server) each = each-to v es u each
   follows-to es v u _ same = sym same
 
   same_why : {q r : Refusal} → Some r ≡ Some q → q ≡ r

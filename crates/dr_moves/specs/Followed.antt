@@ -17,9 +17,20 @@ pub record EndsSo (armed : ℕ → Bool) (v : World) (entries : List Entry) (u :
   pub refusal : Option Refusal
   pub ends : Ends armed u refusal v entries
 
+-- The first of entries, and then those after it.
+pub record EndsFirst (armed : ℕ → Bool) (v : World) (d : Entry) (more : World → Type 0) : Type 0 where
+  pub middle : World
+  pub first : EndsSo armed v (d ∷ []) middle
+  pub later : more middle
+
+-- These entries, each also where a server stopped in one before, end in u.
+abbrev pub EndsEach : (ℕ → Bool) → World → List Entry → World → Type 0
+EndsEach armed v [] u = u ≡ v
+EndsEach armed v (d ∷ ds) u = EndsFirst armed v d (λ m. EndsEach armed m ds u)
+
 -- What follows what ended in v with that refusal leads to u: where a server stopped, these entries; else nothing.
 abbrev pub Follows : (ℕ → Bool) → World → Option Refusal → List Entry → World → Type 0
-Follows armed v (Some (Stopped s)) follows u = EndsSo armed v follows u
+Follows armed v (Some (Stopped s)) follows u = EndsEach armed v follows u
 Follows armed v _ follows u = u ≡ v
 
 -- From w the entries end with refusal r, and what follows that leads to u.

@@ -6,7 +6,7 @@ ghost use Rattle.dr_config.specs.Table.{ConfigTable};
 ghost use Rattle.dr_model.specs.Carry.{Entry};
 ghost use Rattle.dr_volume.specs.View.{Rest};
 ghost use Rattle.dr_moves.specs.Checks.{is_stop};
-ghost use Rattle.dr_moves.specs.Followed.{EndsSo, Follows, KeptBehind};
+ghost use Rattle.dr_moves.specs.Followed.{EndsEach, Follows, KeptBehind};
 ghost use Rattle.dr_moves.specs.Here.{world_seen, armed_in};
 ghost use Rattle.dr_moves.specs.Made.{IsAt};
 
@@ -17,7 +17,7 @@ use dr_plant::Plant;
 
 /// What follows the stop of a server in a plan, carried out from the state that the stop left. Why it ended is told nobody.
 ///
-/// `entries` are those of it. They ask `stands` of the configuration, and that there is `room` for
+/// `entries` are those of it, each carried out also where a further server stopped in one before. They ask `stands` of the configuration, and that there is `room` for
 /// what they tell; `leaves` is what holds of the state before them and of the one behind, and where nothing was done.
 pub trait Behind<P: Plant> {
     ghost entries: { Self → ConfigTable → List Entry };
@@ -28,12 +28,12 @@ pub trait Behind<P: Plant> {
 
     ghost room: { Self → ConfigTable → ℕ };
 
-    /// Carries the entries out behind the stop of this server.
+    /// Carries the entries out one by one behind the stop of this server.
     fn run(&self, plant: &mut P, config: &Config, journal: &mut Journal, server: ServerId)
         requires at { IsAt (P.state plant.old) config.now }
         requires stands { stands self.now config.now }
         requires room { room self.now config.now ≤ journal.old.spare }
-        ensures ends { (r : Rest) → EndsSo (armed_in (P.state plant.old)) (world_seen (P.state plant.old) config.now r journal.old.events) (entries self.now config.now) (world_seen (P.state plant.new) config.now r journal.new.events) }
+        ensures ends { (r : Rest) → EndsEach (armed_in (P.state plant.old)) (world_seen (P.state plant.old) config.now r journal.old.events) (entries self.now config.now) (world_seen (P.state plant.new) config.now r journal.new.events) }
         ensures leaves { leaves self.now (P.state plant.old) (P.state plant.new) config.now }
         ensures kept { KeptBehind (P.state plant.old) (P.state plant.new) config.now journal.old journal.new (room self.now config.now) true };
 

@@ -45,7 +45,7 @@ pub use hearing::open_attempt;
 pub use moves::Move;
 pub use options::FlashOptions;
 pub use pair_fields::{is_engaged, is_torn, with_more};
-pub use pairs::{is_quiet, is_unpaired, pair_state};
+pub use pairs::{is_cascaded, is_quiet, is_unpaired, pair_state, secondary_state};
 pub use performing::{Act, perform};
 pub use place::{server_of, tracks_of};
 pub use placing::{destage_told, place_staged};

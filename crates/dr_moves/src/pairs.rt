@@ -66,6 +66,26 @@ fn pair_seen(f: &Head) -> PairSeen
     }
 }
 
+/// How a volume's pair is seen where it is asked for as a secondary: the state of that part, if it has one.
+fn secondary_seen(f: &Head) -> PairSeen
+    ensures { result ≡ (if is_part f.now.secondary then pairs.target_seen f.now.secondary_state else if is_part f.now.primary then pairs.state_seen f.now.primary_state else seen.None) }
+{
+    if f.secondary.is_part() {
+        target_seen(f.secondary_state)
+    } else if f.primary.is_part() {
+        state_seen(f.primary_state)
+    } else {
+        PairSeen::None
+    }
+}
+
+/// Whether a volume has both parts, by its head.
+pub fn is_cascaded(f: &Head) -> bool
+    ensures { result ≡ (is_part f.now.primary && is_part f.now.secondary) }
+{
+    f.primary.is_part() && f.secondary.is_part()
+}
+
 /// The refusal that says how a volume's pair is seen, whether or not its server is on.
 pub fn pair_state<P: Plant>(plant: &P, config: &Config, v: VolumeId) -> Refusal
     requires stands { StandsFor config.now (P.state plant.now) }
@@ -77,5 +97,19 @@ pub fn pair_state<P: Plant>(plant: &P, config: &Config, v: VolumeId) -> Refusal
     Refusal::PairState {
         volume: v,
         found: pair_seen(&head),
+    }
+}
+
+/// The same where the volume is asked for as a secondary.
+pub fn secondary_state<P: Plant>(plant: &P, config: &Config, v: VolumeId) -> Refusal
+    requires stands { StandsFor config.now (P.state plant.now) }
+    requires defined { IsSome (place_of config.now v.0) }
+    ensures refusal { (r : Rest) (events : List Event) → result ≡ entries.secondary_state (world_seen (P.state plant.now) config.now r events).control v.0 }
+    ensures calm { is_stop (Some result) ≡ false }
+{
+    let head = peek_head(plant, config, v);
+    Refusal::PairState {
+        volume: v,
+        found: secondary_seen(&head),
     }
 }

@@ -8,7 +8,7 @@ use Rattle.std.proofs.lemmas.Bool.{and_parts}
 use Rattle.dr_ids.specs.declared.names.Lss.{Lss}
 use Rattle.dr_ids.specs.declared.names.SessionId.{SessionId}
 use Rattle.dr_model.specs.declared.grammar.Setting.{Setting}
-use Rattle.dr_model.specs.declared.grammar.Setting.TheVariants.{Quiet, Dev, RemoteDev, RemotePort, SourceLss, TargetLss, ConsistencyGroup, Force, PairType, Mode, Unconditional, AtSource, NoCopy, Persist, Recording, Inhibit, FreezeSource, Sequence, Fast, TargetPprc, OfLss, Members, Action, OfSession, Interval, Coordination, DrainTime}
+use Rattle.dr_model.specs.declared.grammar.Setting.TheVariants.{Quiet, Dev, RemoteDev, RemotePort, SourceLss, TargetLss, ConsistencyGroup, Force, PairType, Mode, Cascade, Unconditional, AtSource, NoCopy, Persist, Recording, Inhibit, FreezeSource, Sequence, Fast, TargetPprc, OfLss, Members, Action, OfSession, Interval, Coordination, DrainTime}
 use Rattle.dr_model.specs.declared.grammar.Options.{Options}
 use Rattle.dr_model.specs.declared.grammar.Item.{Item}
 use Rattle.dr_model.specs.LineWords.{name_word, kind_word, sequence_word}
@@ -31,6 +31,7 @@ absorb ConsistencyGroup o cur = record cur { group = o.group }
 absorb Force o cur = record cur { force = o.force }
 absorb PairType o cur = record cur { kind = o.kind }
 absorb Mode o cur = record cur { full = o.full }
+absorb Cascade o cur = record cur { cascade = o.cascade }
 absorb Unconditional o cur = record cur { unconditional = o.unconditional }
 absorb AtSource o cur = record cur { at_source = o.at_source }
 absorb NoCopy o cur = record cur { nocopy = o.nocopy }
@@ -75,6 +76,7 @@ absent ConsistencyGroup o cur e f = ap (λ x. record cur { group = x }) (e ∙ s
 absent Force o cur e f = ap (λ x. record cur { force = x }) (e ∙ sym f)
 absent PairType o cur e f = ap (λ x. record cur { kind = x }) (none_there o.kind e ∙ sym (none_there cur.kind f))
 absent Mode o cur e f = ap (λ x. record cur { full = x }) (none_there o.full e ∙ sym (none_there cur.full f))
+absent Cascade o cur e f = ap (λ x. record cur { cascade = x }) (e ∙ sym f)
 absent Unconditional o cur e f = ap (λ x. record cur { unconditional = x }) (e ∙ sym f)
 absent AtSource o cur e f = ap (λ x. record cur { at_source = x }) (e ∙ sym f)
 absent NoCopy o cur e f = ap (λ x. record cur { nocopy = x }) (e ∙ sym f)
@@ -106,6 +108,7 @@ flag_reads ConsistencyGroup o cur e f = ap (λ x. record cur { group = x }) (sym
 flag_reads Force o cur e f = ap (λ x. record cur { force = x }) (sym f)
 flag_reads PairType o cur e f = absurd (cc)
 flag_reads Mode o cur e f = absurd (cc)
+flag_reads Cascade o cur e f = ap (λ x. record cur { cascade = x }) (sym f)
 flag_reads Unconditional o cur e f = ap (λ x. record cur { unconditional = x }) (sym f)
 flag_reads AtSource o cur e f = absurd (cc)
 flag_reads NoCopy o cur e f = ap (λ x. record cur { nocopy = x }) (sym f)
@@ -206,6 +209,7 @@ value_reads PairType o cur i e f g =
 value_reads Mode o cur i e f g =
     let t = either_text (unwrap_or o.full true) (codes "full") (codes "nocp") refl refl (omega arith) (omega arith) in
     record { reads = full_reads o.full cur f; items = refl; inked = t.0; few = t.1 }
+value_reads Cascade o cur i e f g = absurd (cc)
 value_reads Unconditional o cur i e f g = absurd (cc)
 value_reads AtSource o cur i e f g =
     record { reads = ap (λ x. Some (record cur { at_source = x })) (sym f); items = refl; inked = refl; few = omega arith }

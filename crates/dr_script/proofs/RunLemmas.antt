@@ -5,7 +5,7 @@ use Rattle.std.proofs.lemmas.Grind.{common_steps}
 use Rattle.std.proofs.lemmas.Bool.{and_parts, and_from}
 use Rattle.dr_model.specs.declared.grammar.Command.{Command}
 use Rattle.dr_model.specs.declared.grammar.Setting.{Setting}
-use Rattle.dr_model.specs.declared.grammar.Setting.TheVariants.{Quiet, Dev, RemoteDev, RemotePort, SourceLss, TargetLss, ConsistencyGroup, Force, PairType, Mode, Unconditional, AtSource, NoCopy, Persist, Recording, Inhibit, FreezeSource, Sequence, Fast, TargetPprc, OfLss, Members, Action, OfSession, Interval, Coordination, DrainTime}
+use Rattle.dr_model.specs.declared.grammar.Setting.TheVariants.{Quiet, Dev, RemoteDev, RemotePort, SourceLss, TargetLss, ConsistencyGroup, Force, PairType, Mode, Cascade, Unconditional, AtSource, NoCopy, Persist, Recording, Inhibit, FreezeSource, Sequence, Fast, TargetPprc, OfLss, Members, Action, OfSession, Interval, Coordination, DrainTime}
 use Rattle.dr_model.specs.declared.grammar.Operand.{Operand}
 use Rattle.dr_model.specs.declared.grammar.Operand.TheVariants.{ServerName, OtherName, UpOrDown, AfterWord, TornMark, TornBytes, OneVolume, OtherVolume, Count, TrackNumber, Offset, WriteBytes, CountOrAll, SessionNumber, NoReply, LssNumber, VolumeRange, VolumeList, VolumePair, LssPair, EachLss, Ports, ControlPath}
 use Rattle.dr_model.specs.declared.grammar.Options.{Options}
@@ -70,6 +70,7 @@ none_absent ConsistencyGroup o i e = refl
 none_absent Force o i e = refl
 none_absent PairType o i e = refl
 none_absent Mode o i e = refl
+none_absent Cascade o i e = refl
 none_absent Unconditional o i e = refl
 none_absent AtSource o i e = refl
 none_absent NoCopy o i e = refl
@@ -99,6 +100,7 @@ none_flagged ConsistencyGroup o i e = refl
 none_flagged Force o i e = refl
 none_flagged PairType o i e = refl
 none_flagged Mode o i e = refl
+none_flagged Cascade o i e = refl
 none_flagged Unconditional o i e = refl
 none_flagged AtSource o i e = refl
 none_flagged NoCopy o i e = refl
@@ -129,6 +131,7 @@ some_given ConsistencyGroup o i e = refl
 some_given Force o i e = refl
 some_given PairType o i e = refl
 some_given Mode o i e = refl
+some_given Cascade o i e = refl
 some_given Unconditional o i e = refl
 some_given AtSource o i e = refl
 some_given NoCopy o i e = refl
@@ -176,6 +179,7 @@ option_inked ConsistencyGroup = (refl, omega arith)
 option_inked Force = (refl, omega arith)
 option_inked PairType = (refl, omega arith)
 option_inked Mode = (refl, omega arith)
+option_inked Cascade = (refl, omega arith)
 option_inked Unconditional = (refl, omega arith)
 option_inked AtSource = (refl, omega arith)
 option_inked NoCopy = (refl, omega arith)
@@ -208,6 +212,7 @@ added_few ConsistencyGroup i = omega arith
 added_few Force i = omega arith
 added_few PairType i = omega arith
 added_few Mode i = omega arith
+added_few Cascade i = omega arith
 added_few Unconditional i = omega arith
 added_few AtSource i = omega arith
 added_few NoCopy i = omega arith

@@ -1,5 +1,5 @@
 -- The line that says a step reads as that step.
-use Rattle.std.proofs.Common.{ℕ, ◌≡◌, ◌<◌, ◌≤◌, ◌+◌, ◌/◌, ◌%◌, List, [], ◌∷◌, ◌++◌, length, take, refl, ap, ◌∙◌, sym, arith, Bool, true, false, ◌&&◌, ◌||◌, cond, Option, Some, None, nat_eq, nat_lt}
+use Rattle.std.proofs.Common.{ℕ, ◌≡◌, ◌<◌, ◌≤◌, ◌+◌, ◌/◌, ◌%◌, List, [], ◌∷◌, ◌++◌, length, take, refl, ap, ◌∙◌, sym, arith, Bool, true, false, not, ◌&&◌, ◌||◌, cond, Option, Some, None, nat_eq, nat_lt}
 use Rattle.std.proofs.lemmas.Bool.Decides.{nat_tests}
 use Rattle.dr_model.specs.declared.grammar.Operand.TheVariants.{LssPair, EachLss}
 use Rattle.std.specs.Prelude.{Ok}
@@ -15,12 +15,12 @@ use Rattle.dr_model.specs.declared.step.Step.TheVariants.{Server, Volume, Link, 
 use Rattle.dr_model.specs.declared.grammar.Command.{Command}
 use Rattle.dr_model.specs.declared.grammar.Command.TheVariants.{AtServer, AtVolume, AtLink, AtStop, AtStart, AtExpire, AtIssue, AtWrite, AtApply, AtDrain, AtCopy, AtDestage, AtExchange, AtSend, AtDeliver, AtLose, AtRun, AtAbort, AtRecover, AtShow, AtCompare, AtImage, Mkpprcpath, Rmpprcpath, Mkpprc, Rmpprc, Pausepprc, Resumepprc, Failoverpprc, Failbackpprc, Freezepprc, Unfreezepprc, Lspprc, Lsflash, Mkflash, Rmflash, Resyncflash, Reverseflash, Commitflash, Revertflash, Unfreezeflash, Mksession, Chsession, Rmsession, Lssession, Showgmir, Mkgmir, Resumegmir, Pausegmir, Rmgmir}
 use Rattle.dr_model.specs.declared.grammar.Setting.{Setting}
-use Rattle.dr_model.specs.declared.grammar.Setting.TheVariants.{Quiet, Dev, RemoteDev, RemotePort, SourceLss, TargetLss, ConsistencyGroup, Force, PairType, Mode, Unconditional, AtSource, NoCopy, Persist, Recording, Inhibit, FreezeSource, Sequence, Fast, TargetPprc, OfLss, Members, Action, OfSession, Interval, Coordination, DrainTime}
+use Rattle.dr_model.specs.declared.grammar.Setting.TheVariants.{Quiet, Dev, RemoteDev, RemotePort, SourceLss, TargetLss, ConsistencyGroup, Force, PairType, Mode, Cascade, Unconditional, AtSource, NoCopy, Persist, Recording, Inhibit, FreezeSource, Sequence, Fast, TargetPprc, OfLss, Members, Action, OfSession, Interval, Coordination, DrainTime}
 use Rattle.dr_model.specs.declared.grammar.Options.{Options}
 use Rattle.dr_model.specs.declared.grammar.Saying.{Saying}
 use Rattle.dr_model.specs.LineTable.{form, command_word, commands, setting_word, settings, needed, operands, may_end_with, own_steps}
-use Rattle.dr_model.specs.LineSteps.{has, no_options, no_operands, step_of, lss_in}
-use Rattle.dr_model.specs.LineText.{settings_words, settings_fit, operand_text, operand_words, operand_fits, operands_fit, spaced, said_count, said_operands, said_text, said_fits, given, at_sign, for_item, for_session, for_lss, at_saying, pair_saying, flash_saying, session_saying, step_text, is_written}
+use Rattle.dr_model.specs.LineSteps.{has, no_options, no_operands, or_zero, step_of, lss_in}
+use Rattle.dr_model.specs.LineText.{settings_words, setting_fits, settings_fit, operand_text, operand_words, operand_fits, operands_fit, spaced, said_count, said_operands, said_text, said_fits, given, at_sign, for_item, for_session, for_lss, at_saying, pair_saying, flash_saying, session_saying, step_text, is_written}
 use Rattle.dr_model.specs.Grammar.{Reading, command_named, setting_named, is_ready, begins_comment, may_end, steps_of, line_of}
 use Rattle.dr_script.proofs.CutLemmas.{is_inked, inked-append, spaced-append, run, line_read}
 use Rattle.dr_script.proofs.TextLemmas.{upper_not}
@@ -118,7 +118,7 @@ ready AtCompare o = tt
 ready AtImage o = tt
 ready Mkpprcpath o = (refl, (refl, (refl, (refl, (refl, (refl, (refl, (refl, (refl, (refl, (refl, (refl, (refl, (refl, tt))))))))))))))
 ready Rmpprcpath o = (refl, (refl, (refl, (refl, (refl, (refl, (refl, (refl, (refl, (refl, tt))))))))))
-ready Mkpprc o = (refl, (refl, (refl, (refl, (refl, (refl, (refl, (refl, (refl, (refl, tt))))))))))
+ready Mkpprc o = (refl, (refl, (refl, (refl, (refl, (refl, (refl, (refl, (refl, (refl, (refl, (refl, tt))))))))))))
 ready Rmpprc o = (refl, (refl, (refl, (refl, (refl, (refl, (refl, (refl, (refl, (refl, tt))))))))))
 ready Pausepprc o = (refl, (refl, (refl, (refl, (refl, (refl, tt))))))
 ready Resumepprc o = (refl, (refl, (refl, (refl, (refl, (refl, (refl, (refl, tt))))))))
@@ -189,6 +189,7 @@ dash ConsistencyGroup = (_, refl)
 dash Force = (_, refl)
 dash PairType = (_, refl)
 dash Mode = (_, refl)
+dash Cascade = (_, refl)
 dash Unconditional = (_, refl)
 dash AtSource = (_, refl)
 dash NoCopy = (_, refl)
@@ -256,12 +257,37 @@ absent_name (Some n) e = absurd (cc)
 no_remote : (devs : Devs) (b : Bool) → (b && (false || is_none devs.remotedev)) ≡ true → None ≡ devs.remotedev
 no_remote devs b e = let p = and_parts b _ e in sym (absent_name devs.remotedev p.1)
 
--- that of a pair says whether all is copied
-reads-pair : (devs : Devs) (a b kind : ℕ) (full : Bool) → is_written (MakePair devs a b kind (record { full = full })) ≡ true
-    → line_of (step_text (MakePair devs a b kind (record { full = full }))) ≡ Ok (MakePair devs a b kind (record { full = full }) ∷ [])
+-- a pair that makes a cascaded volume is of Global Copy
+of-global : (o : Options) (a b : ℕ) → said_fits (for_item Mkpprc o a b) ≡ true → (not o.cascade || nat_eq (or_zero o.kind) 2) ≡ true
+unfolding settings has setting_fits form
+of-global o a b e =
+    let said = for_item Mkpprc o a b in
+    let i = said.item in
+    let p = and_parts (settings_fit (settings said.command) o i && operands_fit (said_operands said) said.operands i) _ e in
+    let q = and_parts (settings_fit (settings said.command) o i) _ p.0 in
+    let r = and_parts (not (has Quiet o) || setting_fits Quiet o i) _ q.0 in
+    let s = and_parts (not (has Dev o) || setting_fits Dev o i) _ r.1 in
+    let t = and_parts (not (has RemoteDev o) || setting_fits RemoteDev o i) _ s.1 in
+    let u = and_parts (not (has PairType o) || setting_fits PairType o i) _ t.1 in
+    let v = and_parts (not (has Mode o) || setting_fits Mode o i) _ u.1 in
+    let w = and_parts (not (has Cascade o) || setting_fits Cascade o i) _ v.1 in
+    w.0
+
+cascades-ready : (kind : ℕ) → nat_eq kind 2 ≡ true → not (true && not (nat_eq kind 2)) ≡ true
+cascades-ready kind e = ap (λ x. not (true && not x)) e
+
+-- that of a pair says whether all is copied, and whether it makes a cascaded volume
+reads-pair : (devs : Devs) (a b kind : ℕ) (full cascade : Bool) → is_written (MakePair devs a b kind (record { full = full; cascade = cascade })) ≡ true
+    → line_of (step_text (MakePair devs a b kind (record { full = full; cascade = cascade }))) ≡ Ok (MakePair devs a b kind (record { full = full; cascade = cascade }) ∷ [])
 unfolding step_text is_written at_saying pair_saying flash_saying session_saying settings needed operands has absorb absorb_operand no_options no_operands said_count operand_text may_end may_end_with steps_of own_steps step_of setting_named setting_word form
-reads-pair devs a b kind true h = told (for_item Mkpprc (record no_options { devs = devs; kind = Some kind; full = None }) a b) (MakePair devs a b kind (record { full = true })) refl refl (refl, (hex4_no (settings Mkpprc) a (58 ∷ hex4 b), (tt, tt))) h refl refl
-reads-pair devs a b kind false h = told (for_item Mkpprc (record no_options { devs = devs; kind = Some kind; full = Some false }) a b) (MakePair devs a b kind (record { full = false })) refl refl (refl, (hex4_no (settings Mkpprc) a (58 ∷ hex4 b), (tt, tt))) h refl refl
+reads-pair devs a b kind true true h =
+    let global = cascades-ready kind (of-global (record no_options { devs = devs; kind = Some kind; full = None; cascade = true }) a b h) in
+    told (for_item Mkpprc (record no_options { devs = devs; kind = Some kind; full = None; cascade = true }) a b) (MakePair devs a b kind (record { full = true; cascade = true })) refl global (refl, (hex4_no (settings Mkpprc) a (58 ∷ hex4 b), (tt, tt))) h (ap (λ x. x && true) global) refl
+reads-pair devs a b kind true false h = told (for_item Mkpprc (record no_options { devs = devs; kind = Some kind; full = None; cascade = false }) a b) (MakePair devs a b kind (record { full = true; cascade = false })) refl refl (refl, (hex4_no (settings Mkpprc) a (58 ∷ hex4 b), (tt, tt))) h refl refl
+reads-pair devs a b kind false true h =
+    let global = cascades-ready kind (of-global (record no_options { devs = devs; kind = Some kind; full = Some false; cascade = true }) a b h) in
+    told (for_item Mkpprc (record no_options { devs = devs; kind = Some kind; full = Some false; cascade = true }) a b) (MakePair devs a b kind (record { full = false; cascade = true })) refl global (refl, (hex4_no (settings Mkpprc) a (58 ∷ hex4 b), (tt, tt))) h (ap (λ x. x && true) global) refl
+reads-pair devs a b kind false false h = told (for_item Mkpprc (record no_options { devs = devs; kind = Some kind; full = Some false; cascade = false }) a b) (MakePair devs a b kind (record { full = false; cascade = false })) refl refl (refl, (hex4_no (settings Mkpprc) a (58 ∷ hex4 b), (tt, tt))) h refl refl
 
 -- the line that says a step reads as just that step
 pub reads : (step : Step) → is_written step ≡ true → line_of (step_text step) ≡ Ok (step ∷ [])
@@ -294,7 +320,7 @@ reads (MakePath devs src tgt group) h = told (for_item Mkpprcpath (record no_opt
 reads (RemovePath devs src tgt force) h =
     let n = below src tgt _ _ h in
     told (for_item Rmpprcpath (record no_options { devs = devs; force = force }) src tgt) (RemovePath devs src tgt force) refl refl (refl, (hex2_no (settings Rmpprcpath) (lss_in src) (58 ∷ hex2 (lss_in tgt)), (tt, tt))) h refl (λ j. RemovePath devs (n.0 j) (n.1 j) force ∷ [])
-reads (MakePair devs a b kind choices) h = reads-pair devs a b kind choices.full h
+reads (MakePair devs a b kind choices) h = reads-pair devs a b kind choices.full choices.cascade h
 reads (RemovePair devs a b true) h = told (for_item Rmpprc (record no_options { devs = devs; unconditional = true; at_source = true }) a b) (RemovePair devs a b true) refl refl (refl, (hex4_no (settings Rmpprc) a (58 ∷ hex4 b), (tt, tt))) h refl refl
 reads (RemovePair devs a b false) h = told (for_item Rmpprc (record no_options { devs = devs; unconditional = false; at_source = false }) a b) (RemovePair devs a b false) refl refl (refl, (hex4_no (settings Rmpprc) a (58 ∷ hex4 b), (tt, tt))) h refl refl
 reads (PausePair devs a b) h = told (for_item Pausepprc (given devs) a b) (PausePair devs a b) refl refl (refl, (hex4_no (settings Pausepprc) a (58 ∷ hex4 b), (tt, tt))) h refl refl

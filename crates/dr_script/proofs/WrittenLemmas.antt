@@ -1,6 +1,7 @@
 -- Each step that a line gives is written.
 use Rattle.std.proofs.Common.{ℕ, ◌≡◌, ◌<◌, ◌+◌, ◌^◌, List, [], ◌∷◌, take, length, map, refl, ap, ◌∙◌, arith, Bool, true, false, not, ◌&&◌, ◌||◌, cond, Option, Some, None, nat_lt, nat_le, nat_eq}
 use Rattle.std.specs.Prelude.{All, OnOk, Result, Ok, Err}
+use Rattle.std.specs.Bool.{beq}
 use Rattle.std.specs.List.{list_all}
 use Rattle.std.specs.Option.{unwrap_or, is_some, is_none}
 use Rattle.std.proofs.lemmas.Bool.Decides.{nat_tests}
@@ -14,7 +15,7 @@ use Rattle.dr_model.specs.declared.step.Step.TheVariants.{Stop, StopAfter, Excha
 use Rattle.dr_model.specs.declared.grammar.Command.{Command}
 use Rattle.dr_model.specs.declared.grammar.Command.TheVariants.{AtServer, AtVolume, AtLink, AtStop, AtStart, AtExpire, AtIssue, AtWrite, AtApply, AtDrain, AtCopy, AtDestage, AtExchange, AtSend, AtDeliver, AtLose, AtRun, AtAbort, AtRecover, AtShow, AtCompare, AtImage, Mkpprcpath, Rmpprcpath, Mkpprc, Rmpprc, Pausepprc, Resumepprc, Failoverpprc, Failbackpprc, Freezepprc, Unfreezepprc, Lspprc, Lsflash, Mkflash, Rmflash, Resyncflash, Reverseflash, Commitflash, Revertflash, Unfreezeflash, Mksession, Chsession, Rmsession, Lssession, Showgmir, Mkgmir, Resumegmir, Pausegmir, Rmgmir}
 use Rattle.dr_model.specs.declared.grammar.Setting.{Setting}
-use Rattle.dr_model.specs.declared.grammar.Setting.TheVariants.{Quiet, Dev, RemoteDev, RemotePort, SourceLss, TargetLss, ConsistencyGroup, Force, PairType, Mode, Unconditional, AtSource, NoCopy, Persist, Recording, Inhibit, FreezeSource, Sequence, Fast, TargetPprc, OfLss, Members, Action, OfSession, Interval, Coordination, DrainTime}
+use Rattle.dr_model.specs.declared.grammar.Setting.TheVariants.{Quiet, Dev, RemoteDev, RemotePort, SourceLss, TargetLss, ConsistencyGroup, Force, PairType, Mode, Cascade, Unconditional, AtSource, NoCopy, Persist, Recording, Inhibit, FreezeSource, Sequence, Fast, TargetPprc, OfLss, Members, Action, OfSession, Interval, Coordination, DrainTime}
 use Rattle.dr_model.specs.declared.grammar.Options.{Options}
 use Rattle.dr_model.specs.declared.grammar.Operands.{Operands}
 use Rattle.dr_model.specs.declared.grammar.Item.{Item}
@@ -23,7 +24,7 @@ use Rattle.dr_model.specs.LineWords.{Word, line_words}
 use Rattle.dr_model.specs.LineTable.{form, commands, settings, needed, operands, may_end_with, own_steps}
 use Rattle.dr_model.specs.LineSteps.{has, no_options, no_operands, or_zero, lss_in, step_of}
 use Rattle.dr_model.specs.LineText.{name_fits, torn_fits, setting_fits, settings_fit, operand_fits, operands_fit, takes_remote, remote_fits, said_count, said_operands, said_fits, given, for_item, for_session, for_lss, at_saying, pair_saying, flash_saying, session_saying, is_written, IsWritten}
-use Rattle.dr_model.specs.Grammar.{Reading, command_named, is_ready, read_on, may_end, item_command, no_item, own_step, item_steps, steps_of, read_words, start_of, command_read, words_read, begins_comment, line_of}
+use Rattle.dr_model.specs.Grammar.{Reading, command_named, cascades_metro, is_ready, read_on, may_end, item_command, no_item, own_step, item_steps, steps_of, read_words, start_of, command_read, words_read, begins_comment, line_of}
 use Rattle.dr_script.specs.Readings.{ReadsAs}
 use Rattle.dr_script.proofs.WrittenWordLemmas.{carry, Smalls}
 use Rattle.dr_script.proofs.WrittenReadLemmas.{or_given, OptionsSound, OperandsSound, Known, nothing_known, learned, IsFitting, start_fits, read_on_fits}
@@ -232,6 +233,7 @@ record Sound (c : Command) (o : Options) (p : Operands) : Type 0 where
   operands : OperandsSound known p
   enough : Enough c known
   given : Given c o
+  cascades : not (cascades_metro o) ≡ true
 
 item_sound : (c : Command) (o : Options) (p : Operands) → Sound c o p → Sound (item_command c) o p
 unfolding settings form
@@ -276,7 +278,7 @@ item_sound Resyncflash o p h = h
 item_sound Reverseflash o p h = h
 item_sound Commitflash o p h = h
 item_sound Revertflash o p h = h
-item_sound Mksession o p h = record { known = h.known; options = h.options; operands = h.operands; enough = h.enough; given = tt }
+item_sound Mksession o p h = record { known = h.known; options = h.options; operands = h.operands; enough = h.enough; given = tt; cascades = h.cascades }
 item_sound Chsession o p h = h
 item_sound Rmsession o p h = h
 item_sound Lssession o p h = h
@@ -291,6 +293,7 @@ record SaidSound (o : Options) (i : Item) : Type 0 where
   quiet : o.quiet ≡ false
   port : o.remote_port ≡ false
   members : (not o.members || (nat_lt i.first 65536 && nat_eq i.second i.first)) ≡ true
+  cascade : (not o.cascade || nat_eq (or_zero o.kind) 2) ≡ true
   sound : OptionsSound true o
 
 setting_sound : (s : Setting) (o : Options) (i : Item) → SaidSound o i → (not (has s o) || setting_fits s o i) ≡ true
@@ -305,6 +308,7 @@ setting_sound ConsistencyGroup o i h = or_right _ true refl
 setting_sound Force o i h = or_right _ true refl
 setting_sound PairType o i h = h.sound.kind
 setting_sound Mode o i h = or_right _ true refl
+setting_sound Cascade o i h = h.cascade
 setting_sound Unconditional o i h = or_right _ true refl
 setting_sound AtSource o i h = or_right _ true refl
 setting_sound NoCopy o i h = or_right _ true refl
@@ -359,8 +363,14 @@ exchange_written session server false s n = at_sound AtExchange (record no_opera
 member_written : (adds : Bool) (o : Options) (session volume : ℕ) → OptionsSound false o → (nat_le 1 session && nat_lt session 256) ≡ true → volume < 65536
     → is_written (cond adds (AddMember o.devs (or_zero o.lss) volume session) (RemoveMember o.devs (or_zero o.lss) volume session)) ≡ true
 unfolding is_written at_saying pair_saying flash_saying session_saying settings operands said_count may_end_with operand_fits no_operands no_options form
-member_written true o session volume h s v = said_sound (for_session Chsession (record no_options { devs = o.devs; lss = Some (or_zero o.lss); members = true; adds = Some true }) session volume) (record { quiet = refl; port = refl; members = and_from _ _ (lt-ltb _ 65536 v) ((eq-eqb volume volume refl)); sound = record { remote_ok = refl; dev = h.dev; remote = h.remote; src = refl; tgt = refl; kind = refl; sequence = refl; lss = h.lss; session = refl; cginterval = refl; coordinate = refl; drain = refl } }) (one _ s) h.remote_ok
-member_written false o session volume h s v = said_sound (for_session Chsession (record no_options { devs = o.devs; lss = Some (or_zero o.lss); members = true; adds = Some false }) session volume) (record { quiet = refl; port = refl; members = and_from _ _ (lt-ltb _ 65536 v) ((eq-eqb volume volume refl)); sound = record { remote_ok = refl; dev = h.dev; remote = h.remote; src = refl; tgt = refl; kind = refl; sequence = refl; lss = h.lss; session = refl; cginterval = refl; coordinate = refl; drain = refl } }) (one _ s) h.remote_ok
+member_written true o session volume h s v = said_sound (for_session Chsession (record no_options { devs = o.devs; lss = Some (or_zero o.lss); members = true; adds = Some true }) session volume) (record { quiet = refl; port = refl; members = and_from _ _ (lt-ltb _ 65536 v) ((eq-eqb volume volume refl)); cascade = refl; sound = record { remote_ok = refl; dev = h.dev; remote = h.remote; src = refl; tgt = refl; kind = refl; sequence = refl; lss = h.lss; session = refl; cginterval = refl; coordinate = refl; drain = refl } }) (one _ s) h.remote_ok
+member_written false o session volume h s v = said_sound (for_session Chsession (record no_options { devs = o.devs; lss = Some (or_zero o.lss); members = true; adds = Some false }) session volume) (record { quiet = refl; port = refl; members = and_from _ _ (lt-ltb _ 65536 v) ((eq-eqb volume volume refl)); cascade = refl; sound = record { remote_ok = refl; dev = h.dev; remote = h.remote; src = refl; tgt = refl; kind = refl; sequence = refl; lss = h.lss; session = refl; cginterval = refl; coordinate = refl; drain = refl } }) (one _ s) h.remote_ok
+
+-- what is of Global Copy alone is given with it, or not given
+of_global : (given global : Bool) → not (given && not global) ≡ true → (not given || global) ≡ true
+of_global true true e = refl
+of_global true false e = e
+of_global false global e = refl
 
 step_written : (c : Command) (o : Options) (p : Operands) (i : Item) → Sound c o p → (i.first < 65536) × (i.second < 65536) → is_written (step_of c o p i) ≡ true
 unfolding is_written step_of at_saying pair_saying flash_saying session_saying settings operands said_count may_end_with operand_fits no_operands no_options form
@@ -386,34 +396,34 @@ step_written AtRecover o p i h s = at_sound AtRecover (record no_operands { sess
 step_written AtShow o p i h s = at_sound AtShow (record no_operands { volume = p.volume; track = p.track }) (no_item) refl (two _ _ h.operands.volume h.operands.track)
 step_written AtCompare o p i h s = at_sound AtCompare (record no_operands { volume = p.volume; with = p.with }) (no_item) refl (two _ _ h.operands.volume h.operands.with)
 step_written AtImage o p i h s = at_sound AtImage (no_operands) (no_item) refl (refl)
-step_written Mkpprcpath o p i h s = said_sound (for_item Mkpprcpath (record no_options { devs = o.devs; src = Some (or_zero o.src); tgt = Some (or_zero o.tgt); group = o.group }) 0 0) (record { quiet = refl; port = refl; members = refl; sound = record { remote_ok = refl; dev = h.options.dev; remote = h.options.remote; src = h.options.src; tgt = h.options.tgt; kind = refl; sequence = refl; lss = refl; session = refl; cginterval = refl; coordinate = refl; drain = refl } }) (refl) (refl)
-step_written Rmpprcpath o p i h s = said_sound (for_item Rmpprcpath (record no_options { devs = o.devs; force = o.force }) (lss_in i.first) (lss_in i.second)) (record { quiet = refl; port = refl; members = refl; sound = record { remote_ok = refl; dev = h.options.dev; remote = h.options.remote; src = refl; tgt = refl; kind = refl; sequence = refl; lss = refl; session = refl; cginterval = refl; coordinate = refl; drain = refl } }) (one _ (and_from _ _ (lss_low i.first) (lss_low i.second))) (refl)
-step_written Mkpprc o p i h s = said_sound (for_item Mkpprc (record no_options { devs = o.devs; kind = Some (or_zero o.kind); full = cond (unwrap_or o.full true) None (Some false) }) i.first i.second) (record { quiet = refl; port = refl; members = refl; sound = record { remote_ok = refl; dev = h.options.dev; remote = h.options.remote; src = refl; tgt = refl; kind = or_given _ _ h.given h.options.kind; sequence = refl; lss = refl; session = refl; cginterval = refl; coordinate = refl; drain = refl } }) (one _ (and_from _ _ (lt-ltb _ 65536 s.0) (lt-ltb _ 65536 s.1))) (refl)
-step_written Rmpprc o p i h s = said_sound (for_item Rmpprc (record no_options { devs = o.devs; unconditional = o.unconditional; at_source = o.unconditional }) i.first i.second) (record { quiet = refl; port = refl; members = refl; sound = record { remote_ok = refl; dev = h.options.dev; remote = h.options.remote; src = refl; tgt = refl; kind = refl; sequence = refl; lss = refl; session = refl; cginterval = refl; coordinate = refl; drain = refl } }) (one _ (and_from _ _ (lt-ltb _ 65536 s.0) (lt-ltb _ 65536 s.1))) (refl)
-step_written Pausepprc o p i h s = said_sound (for_item Pausepprc (given o.devs) i.first i.second) (record { quiet = refl; port = refl; members = refl; sound = record { remote_ok = refl; dev = h.options.dev; remote = h.options.remote; src = refl; tgt = refl; kind = refl; sequence = refl; lss = refl; session = refl; cginterval = refl; coordinate = refl; drain = refl } }) (one _ (and_from _ _ (lt-ltb _ 65536 s.0) (lt-ltb _ 65536 s.1))) (refl)
-step_written Resumepprc o p i h s = said_sound (for_item Resumepprc (record no_options { devs = o.devs; kind = Some (or_zero o.kind) }) i.first i.second) (record { quiet = refl; port = refl; members = refl; sound = record { remote_ok = refl; dev = h.options.dev; remote = h.options.remote; src = refl; tgt = refl; kind = or_given _ _ h.given h.options.kind; sequence = refl; lss = refl; session = refl; cginterval = refl; coordinate = refl; drain = refl } }) (one _ (and_from _ _ (lt-ltb _ 65536 s.0) (lt-ltb _ 65536 s.1))) (refl)
-step_written Failoverpprc o p i h s = said_sound (for_item Failoverpprc (record no_options { devs = o.devs; kind = Some (or_zero o.kind) }) i.first i.second) (record { quiet = refl; port = refl; members = refl; sound = record { remote_ok = refl; dev = h.options.dev; remote = h.options.remote; src = refl; tgt = refl; kind = or_given _ _ h.given h.options.kind; sequence = refl; lss = refl; session = refl; cginterval = refl; coordinate = refl; drain = refl } }) (one _ (and_from _ _ (lt-ltb _ 65536 s.0) (lt-ltb _ 65536 s.1))) (refl)
-step_written Failbackpprc o p i h s = said_sound (for_item Failbackpprc (record no_options { devs = o.devs; kind = Some (or_zero o.kind) }) i.first i.second) (record { quiet = refl; port = refl; members = refl; sound = record { remote_ok = refl; dev = h.options.dev; remote = h.options.remote; src = refl; tgt = refl; kind = or_given _ _ h.given h.options.kind; sequence = refl; lss = refl; session = refl; cginterval = refl; coordinate = refl; drain = refl } }) (one _ (and_from _ _ (lt-ltb _ 65536 s.0) (lt-ltb _ 65536 s.1))) (refl)
-step_written Freezepprc o p i h s = said_sound (for_item Freezepprc (given o.devs) (lss_in i.first) (lss_in i.second)) (record { quiet = refl; port = refl; members = refl; sound = record { remote_ok = refl; dev = h.options.dev; remote = h.options.remote; src = refl; tgt = refl; kind = refl; sequence = refl; lss = refl; session = refl; cginterval = refl; coordinate = refl; drain = refl } }) (one _ (and_from _ _ (lss_low i.first) (lss_low i.second))) (refl)
-step_written Unfreezepprc o p i h s = said_sound (for_item Unfreezepprc (given o.devs) (lss_in i.first) (lss_in i.second)) (record { quiet = refl; port = refl; members = refl; sound = record { remote_ok = refl; dev = h.options.dev; remote = h.options.remote; src = refl; tgt = refl; kind = refl; sequence = refl; lss = refl; session = refl; cginterval = refl; coordinate = refl; drain = refl } }) (one _ (and_from _ _ (lss_low i.first) (lss_low i.second))) (refl)
-step_written Lspprc o p i h s = said_sound (for_item Lspprc (given o.devs) i.first i.first) (record { quiet = refl; port = refl; members = refl; sound = record { remote_ok = refl; dev = h.options.dev; remote = h.options.remote; src = refl; tgt = refl; kind = refl; sequence = refl; lss = refl; session = refl; cginterval = refl; coordinate = refl; drain = refl } }) (one _ (and_from _ _ (lt-ltb _ 65536 s.0) ((eq-eqb i.first i.first refl)))) (refl)
-step_written Lsflash o p i h s = said_sound (for_item Lsflash (given o.devs) i.first i.first) (record { quiet = refl; port = refl; members = refl; sound = record { remote_ok = refl; dev = h.options.dev; remote = h.options.remote; src = refl; tgt = refl; kind = refl; sequence = refl; lss = refl; session = refl; cginterval = refl; coordinate = refl; drain = refl } }) (one _ (and_from _ _ (lt-ltb _ 65536 s.0) ((eq-eqb i.first i.first refl)))) (h.options.remote_ok)
-step_written Mkflash o p i h s = said_sound (for_item Mkflash (record no_options { devs = o.devs; nocopy = o.nocopy; persistent = o.persistent; recorded = o.recorded; inhibited = o.inhibited; freeze = o.freeze; sequence = o.sequence }) i.first i.second) (record { quiet = refl; port = refl; members = refl; sound = record { remote_ok = refl; dev = h.options.dev; remote = h.options.remote; src = refl; tgt = refl; kind = refl; sequence = h.options.sequence; lss = refl; session = refl; cginterval = refl; coordinate = refl; drain = refl } }) (one _ (and_from _ _ (lt-ltb _ 65536 s.0) (lt-ltb _ 65536 s.1))) (h.options.remote_ok)
-step_written Resyncflash o p i h s = said_sound (for_item Resyncflash (record no_options { devs = o.devs; nocopy = o.nocopy; persistent = o.persistent; recorded = o.recorded; inhibited = o.inhibited; sequence = o.sequence }) i.first i.second) (record { quiet = refl; port = refl; members = refl; sound = record { remote_ok = refl; dev = h.options.dev; remote = h.options.remote; src = refl; tgt = refl; kind = refl; sequence = h.options.sequence; lss = refl; session = refl; cginterval = refl; coordinate = refl; drain = refl } }) (one _ (and_from _ _ (lt-ltb _ 65536 s.0) (lt-ltb _ 65536 s.1))) (h.options.remote_ok)
-step_written Rmflash o p i h s = said_sound (for_item Rmflash (record no_options { devs = o.devs; sequence = o.sequence }) i.first i.second) (record { quiet = refl; port = refl; members = refl; sound = record { remote_ok = refl; dev = h.options.dev; remote = h.options.remote; src = refl; tgt = refl; kind = refl; sequence = h.options.sequence; lss = refl; session = refl; cginterval = refl; coordinate = refl; drain = refl } }) (one _ (and_from _ _ (lt-ltb _ 65536 s.0) (lt-ltb _ 65536 s.1))) (h.options.remote_ok)
-step_written Reverseflash o p i h s = said_sound (for_item Reverseflash (record no_options { devs = o.devs; sequence = o.sequence; fast = true; tgtpprc = o.tgtpprc }) i.first i.second) (record { quiet = refl; port = refl; members = refl; sound = record { remote_ok = refl; dev = h.options.dev; remote = h.options.remote; src = refl; tgt = refl; kind = refl; sequence = h.options.sequence; lss = refl; session = refl; cginterval = refl; coordinate = refl; drain = refl } }) (one _ (and_from _ _ (lt-ltb _ 65536 s.0) (lt-ltb _ 65536 s.1))) (h.options.remote_ok)
-step_written Commitflash o p i h s = said_sound (for_item Commitflash (record no_options { devs = o.devs; sequence = o.sequence }) i.first i.first) (record { quiet = refl; port = refl; members = refl; sound = record { remote_ok = refl; dev = h.options.dev; remote = h.options.remote; src = refl; tgt = refl; kind = refl; sequence = h.options.sequence; lss = refl; session = refl; cginterval = refl; coordinate = refl; drain = refl } }) (one _ (and_from _ _ (lt-ltb _ 65536 s.0) ((eq-eqb i.first i.first refl)))) (h.options.remote_ok)
-step_written Revertflash o p i h s = said_sound (for_item Revertflash (record no_options { devs = o.devs; sequence = o.sequence }) i.first i.first) (record { quiet = refl; port = refl; members = refl; sound = record { remote_ok = refl; dev = h.options.dev; remote = h.options.remote; src = refl; tgt = refl; kind = refl; sequence = h.options.sequence; lss = refl; session = refl; cginterval = refl; coordinate = refl; drain = refl } }) (one _ (and_from _ _ (lt-ltb _ 65536 s.0) ((eq-eqb i.first i.first refl)))) (h.options.remote_ok)
-step_written Unfreezeflash o p i h s = said_sound (for_item Unfreezeflash (given o.devs) (lss_in i.first) (lss_in i.first)) (record { quiet = refl; port = refl; members = refl; sound = record { remote_ok = refl; dev = h.options.dev; remote = h.options.remote; src = refl; tgt = refl; kind = refl; sequence = refl; lss = refl; session = refl; cginterval = refl; coordinate = refl; drain = refl } }) (one _ (and_from _ _ (lss_low i.first) (eq-eqb (lss_in i.first) (lss_in i.first) refl))) (h.options.remote_ok)
-step_written Mksession o p i h s = said_sound (for_session Mksession (record no_options { devs = o.devs; lss = Some (or_zero o.lss) }) p.session 0) (record { quiet = refl; port = refl; members = refl; sound = record { remote_ok = refl; dev = h.options.dev; remote = h.options.remote; src = refl; tgt = refl; kind = refl; sequence = refl; lss = h.options.lss; session = refl; cginterval = refl; coordinate = refl; drain = refl } }) (one _ (h.operands.session h.enough)) (h.options.remote_ok)
-step_written Rmsession o p i h s = said_sound (for_session Rmsession (record no_options { devs = o.devs; lss = Some (or_zero o.lss) }) p.session 0) (record { quiet = refl; port = refl; members = refl; sound = record { remote_ok = refl; dev = h.options.dev; remote = h.options.remote; src = refl; tgt = refl; kind = refl; sequence = refl; lss = h.options.lss; session = refl; cginterval = refl; coordinate = refl; drain = refl } }) (one _ (h.operands.session h.enough)) (h.options.remote_ok)
+step_written Mkpprcpath o p i h s = said_sound (for_item Mkpprcpath (record no_options { devs = o.devs; src = Some (or_zero o.src); tgt = Some (or_zero o.tgt); group = o.group }) 0 0) (record { quiet = refl; port = refl; members = refl; cascade = refl; sound = record { remote_ok = refl; dev = h.options.dev; remote = h.options.remote; src = h.options.src; tgt = h.options.tgt; kind = refl; sequence = refl; lss = refl; session = refl; cginterval = refl; coordinate = refl; drain = refl } }) (refl) (refl)
+step_written Rmpprcpath o p i h s = said_sound (for_item Rmpprcpath (record no_options { devs = o.devs; force = o.force }) (lss_in i.first) (lss_in i.second)) (record { quiet = refl; port = refl; members = refl; cascade = refl; sound = record { remote_ok = refl; dev = h.options.dev; remote = h.options.remote; src = refl; tgt = refl; kind = refl; sequence = refl; lss = refl; session = refl; cginterval = refl; coordinate = refl; drain = refl } }) (one _ (and_from _ _ (lss_low i.first) (lss_low i.second))) (refl)
+step_written Mkpprc o p i h s = said_sound (for_item Mkpprc (record no_options { devs = o.devs; kind = Some (or_zero o.kind); full = cond (unwrap_or o.full true) None (Some false); cascade = o.cascade }) i.first i.second) (record { quiet = refl; port = refl; members = refl; cascade = of_global o.cascade (nat_eq (or_zero o.kind) 2) h.cascades; sound = record { remote_ok = refl; dev = h.options.dev; remote = h.options.remote; src = refl; tgt = refl; kind = or_given _ _ h.given h.options.kind; sequence = refl; lss = refl; session = refl; cginterval = refl; coordinate = refl; drain = refl } }) (one _ (and_from _ _ (lt-ltb _ 65536 s.0) (lt-ltb _ 65536 s.1))) (refl)
+step_written Rmpprc o p i h s = said_sound (for_item Rmpprc (record no_options { devs = o.devs; unconditional = o.unconditional; at_source = o.unconditional }) i.first i.second) (record { quiet = refl; port = refl; members = refl; cascade = refl; sound = record { remote_ok = refl; dev = h.options.dev; remote = h.options.remote; src = refl; tgt = refl; kind = refl; sequence = refl; lss = refl; session = refl; cginterval = refl; coordinate = refl; drain = refl } }) (one _ (and_from _ _ (lt-ltb _ 65536 s.0) (lt-ltb _ 65536 s.1))) (refl)
+step_written Pausepprc o p i h s = said_sound (for_item Pausepprc (given o.devs) i.first i.second) (record { quiet = refl; port = refl; members = refl; cascade = refl; sound = record { remote_ok = refl; dev = h.options.dev; remote = h.options.remote; src = refl; tgt = refl; kind = refl; sequence = refl; lss = refl; session = refl; cginterval = refl; coordinate = refl; drain = refl } }) (one _ (and_from _ _ (lt-ltb _ 65536 s.0) (lt-ltb _ 65536 s.1))) (refl)
+step_written Resumepprc o p i h s = said_sound (for_item Resumepprc (record no_options { devs = o.devs; kind = Some (or_zero o.kind) }) i.first i.second) (record { quiet = refl; port = refl; members = refl; cascade = refl; sound = record { remote_ok = refl; dev = h.options.dev; remote = h.options.remote; src = refl; tgt = refl; kind = or_given _ _ h.given h.options.kind; sequence = refl; lss = refl; session = refl; cginterval = refl; coordinate = refl; drain = refl } }) (one _ (and_from _ _ (lt-ltb _ 65536 s.0) (lt-ltb _ 65536 s.1))) (refl)
+step_written Failoverpprc o p i h s = said_sound (for_item Failoverpprc (record no_options { devs = o.devs; kind = Some (or_zero o.kind) }) i.first i.second) (record { quiet = refl; port = refl; members = refl; cascade = refl; sound = record { remote_ok = refl; dev = h.options.dev; remote = h.options.remote; src = refl; tgt = refl; kind = or_given _ _ h.given h.options.kind; sequence = refl; lss = refl; session = refl; cginterval = refl; coordinate = refl; drain = refl } }) (one _ (and_from _ _ (lt-ltb _ 65536 s.0) (lt-ltb _ 65536 s.1))) (refl)
+step_written Failbackpprc o p i h s = said_sound (for_item Failbackpprc (record no_options { devs = o.devs; kind = Some (or_zero o.kind) }) i.first i.second) (record { quiet = refl; port = refl; members = refl; cascade = refl; sound = record { remote_ok = refl; dev = h.options.dev; remote = h.options.remote; src = refl; tgt = refl; kind = or_given _ _ h.given h.options.kind; sequence = refl; lss = refl; session = refl; cginterval = refl; coordinate = refl; drain = refl } }) (one _ (and_from _ _ (lt-ltb _ 65536 s.0) (lt-ltb _ 65536 s.1))) (refl)
+step_written Freezepprc o p i h s = said_sound (for_item Freezepprc (given o.devs) (lss_in i.first) (lss_in i.second)) (record { quiet = refl; port = refl; members = refl; cascade = refl; sound = record { remote_ok = refl; dev = h.options.dev; remote = h.options.remote; src = refl; tgt = refl; kind = refl; sequence = refl; lss = refl; session = refl; cginterval = refl; coordinate = refl; drain = refl } }) (one _ (and_from _ _ (lss_low i.first) (lss_low i.second))) (refl)
+step_written Unfreezepprc o p i h s = said_sound (for_item Unfreezepprc (given o.devs) (lss_in i.first) (lss_in i.second)) (record { quiet = refl; port = refl; members = refl; cascade = refl; sound = record { remote_ok = refl; dev = h.options.dev; remote = h.options.remote; src = refl; tgt = refl; kind = refl; sequence = refl; lss = refl; session = refl; cginterval = refl; coordinate = refl; drain = refl } }) (one _ (and_from _ _ (lss_low i.first) (lss_low i.second))) (refl)
+step_written Lspprc o p i h s = said_sound (for_item Lspprc (given o.devs) i.first i.first) (record { quiet = refl; port = refl; members = refl; cascade = refl; sound = record { remote_ok = refl; dev = h.options.dev; remote = h.options.remote; src = refl; tgt = refl; kind = refl; sequence = refl; lss = refl; session = refl; cginterval = refl; coordinate = refl; drain = refl } }) (one _ (and_from _ _ (lt-ltb _ 65536 s.0) ((eq-eqb i.first i.first refl)))) (refl)
+step_written Lsflash o p i h s = said_sound (for_item Lsflash (given o.devs) i.first i.first) (record { quiet = refl; port = refl; members = refl; cascade = refl; sound = record { remote_ok = refl; dev = h.options.dev; remote = h.options.remote; src = refl; tgt = refl; kind = refl; sequence = refl; lss = refl; session = refl; cginterval = refl; coordinate = refl; drain = refl } }) (one _ (and_from _ _ (lt-ltb _ 65536 s.0) ((eq-eqb i.first i.first refl)))) (h.options.remote_ok)
+step_written Mkflash o p i h s = said_sound (for_item Mkflash (record no_options { devs = o.devs; nocopy = o.nocopy; persistent = o.persistent; recorded = o.recorded; inhibited = o.inhibited; freeze = o.freeze; sequence = o.sequence }) i.first i.second) (record { quiet = refl; port = refl; members = refl; cascade = refl; sound = record { remote_ok = refl; dev = h.options.dev; remote = h.options.remote; src = refl; tgt = refl; kind = refl; sequence = h.options.sequence; lss = refl; session = refl; cginterval = refl; coordinate = refl; drain = refl } }) (one _ (and_from _ _ (lt-ltb _ 65536 s.0) (lt-ltb _ 65536 s.1))) (h.options.remote_ok)
+step_written Resyncflash o p i h s = said_sound (for_item Resyncflash (record no_options { devs = o.devs; nocopy = o.nocopy; persistent = o.persistent; recorded = o.recorded; inhibited = o.inhibited; sequence = o.sequence }) i.first i.second) (record { quiet = refl; port = refl; members = refl; cascade = refl; sound = record { remote_ok = refl; dev = h.options.dev; remote = h.options.remote; src = refl; tgt = refl; kind = refl; sequence = h.options.sequence; lss = refl; session = refl; cginterval = refl; coordinate = refl; drain = refl } }) (one _ (and_from _ _ (lt-ltb _ 65536 s.0) (lt-ltb _ 65536 s.1))) (h.options.remote_ok)
+step_written Rmflash o p i h s = said_sound (for_item Rmflash (record no_options { devs = o.devs; sequence = o.sequence }) i.first i.second) (record { quiet = refl; port = refl; members = refl; cascade = refl; sound = record { remote_ok = refl; dev = h.options.dev; remote = h.options.remote; src = refl; tgt = refl; kind = refl; sequence = h.options.sequence; lss = refl; session = refl; cginterval = refl; coordinate = refl; drain = refl } }) (one _ (and_from _ _ (lt-ltb _ 65536 s.0) (lt-ltb _ 65536 s.1))) (h.options.remote_ok)
+step_written Reverseflash o p i h s = said_sound (for_item Reverseflash (record no_options { devs = o.devs; sequence = o.sequence; fast = true; tgtpprc = o.tgtpprc }) i.first i.second) (record { quiet = refl; port = refl; members = refl; cascade = refl; sound = record { remote_ok = refl; dev = h.options.dev; remote = h.options.remote; src = refl; tgt = refl; kind = refl; sequence = h.options.sequence; lss = refl; session = refl; cginterval = refl; coordinate = refl; drain = refl } }) (one _ (and_from _ _ (lt-ltb _ 65536 s.0) (lt-ltb _ 65536 s.1))) (h.options.remote_ok)
+step_written Commitflash o p i h s = said_sound (for_item Commitflash (record no_options { devs = o.devs; sequence = o.sequence }) i.first i.first) (record { quiet = refl; port = refl; members = refl; cascade = refl; sound = record { remote_ok = refl; dev = h.options.dev; remote = h.options.remote; src = refl; tgt = refl; kind = refl; sequence = h.options.sequence; lss = refl; session = refl; cginterval = refl; coordinate = refl; drain = refl } }) (one _ (and_from _ _ (lt-ltb _ 65536 s.0) ((eq-eqb i.first i.first refl)))) (h.options.remote_ok)
+step_written Revertflash o p i h s = said_sound (for_item Revertflash (record no_options { devs = o.devs; sequence = o.sequence }) i.first i.first) (record { quiet = refl; port = refl; members = refl; cascade = refl; sound = record { remote_ok = refl; dev = h.options.dev; remote = h.options.remote; src = refl; tgt = refl; kind = refl; sequence = h.options.sequence; lss = refl; session = refl; cginterval = refl; coordinate = refl; drain = refl } }) (one _ (and_from _ _ (lt-ltb _ 65536 s.0) ((eq-eqb i.first i.first refl)))) (h.options.remote_ok)
+step_written Unfreezeflash o p i h s = said_sound (for_item Unfreezeflash (given o.devs) (lss_in i.first) (lss_in i.first)) (record { quiet = refl; port = refl; members = refl; cascade = refl; sound = record { remote_ok = refl; dev = h.options.dev; remote = h.options.remote; src = refl; tgt = refl; kind = refl; sequence = refl; lss = refl; session = refl; cginterval = refl; coordinate = refl; drain = refl } }) (one _ (and_from _ _ (lss_low i.first) (eq-eqb (lss_in i.first) (lss_in i.first) refl))) (h.options.remote_ok)
+step_written Mksession o p i h s = said_sound (for_session Mksession (record no_options { devs = o.devs; lss = Some (or_zero o.lss) }) p.session 0) (record { quiet = refl; port = refl; members = refl; cascade = refl; sound = record { remote_ok = refl; dev = h.options.dev; remote = h.options.remote; src = refl; tgt = refl; kind = refl; sequence = refl; lss = h.options.lss; session = refl; cginterval = refl; coordinate = refl; drain = refl } }) (one _ (h.operands.session h.enough)) (h.options.remote_ok)
+step_written Rmsession o p i h s = said_sound (for_session Rmsession (record no_options { devs = o.devs; lss = Some (or_zero o.lss) }) p.session 0) (record { quiet = refl; port = refl; members = refl; cascade = refl; sound = record { remote_ok = refl; dev = h.options.dev; remote = h.options.remote; src = refl; tgt = refl; kind = refl; sequence = refl; lss = h.options.lss; session = refl; cginterval = refl; coordinate = refl; drain = refl } }) (one _ (h.operands.session h.enough)) (h.options.remote_ok)
 step_written Chsession o p i h s = member_written (unwrap_or o.adds true) o p.session i.first h.options (h.operands.session h.enough) s.0
-step_written Lssession o p i h s = said_sound (for_lss Lssession (given o.devs) p.lss) (record { quiet = refl; port = refl; members = refl; sound = record { remote_ok = refl; dev = h.options.dev; remote = h.options.remote; src = refl; tgt = refl; kind = refl; sequence = refl; lss = refl; session = refl; cginterval = refl; coordinate = refl; drain = refl } }) (one _ h.operands.lss) (h.options.remote_ok)
-step_written Showgmir o p i h s = said_sound (for_lss Showgmir (given o.devs) p.lss) (record { quiet = refl; port = refl; members = refl; sound = record { remote_ok = refl; dev = h.options.dev; remote = h.options.remote; src = refl; tgt = refl; kind = refl; sequence = refl; lss = refl; session = refl; cginterval = refl; coordinate = refl; drain = refl } }) (one _ h.operands.lss) (h.options.remote_ok)
-step_written Mkgmir o p i h s = said_sound (for_item Mkgmir (record no_options { devs = o.devs; lss = Some (or_zero o.lss); session = Some (or_zero o.session); cginterval = o.cginterval; coordinate = o.coordinate; drain = o.drain }) 0 0) (record { quiet = refl; port = refl; members = refl; sound = record { remote_ok = refl; dev = h.options.dev; remote = h.options.remote; src = refl; tgt = refl; kind = refl; sequence = refl; lss = h.options.lss; session = or_given _ _ h.given h.options.session; cginterval = h.options.cginterval; coordinate = h.options.coordinate; drain = h.options.drain } }) (refl) (h.options.remote_ok)
-step_written Resumegmir o p i h s = said_sound (for_item Resumegmir (record no_options { devs = o.devs; lss = Some (or_zero o.lss); session = Some (or_zero o.session); cginterval = o.cginterval; coordinate = o.coordinate; drain = o.drain }) 0 0) (record { quiet = refl; port = refl; members = refl; sound = record { remote_ok = refl; dev = h.options.dev; remote = h.options.remote; src = refl; tgt = refl; kind = refl; sequence = refl; lss = h.options.lss; session = or_given _ _ h.given h.options.session; cginterval = h.options.cginterval; coordinate = h.options.coordinate; drain = h.options.drain } }) (refl) (h.options.remote_ok)
-step_written Pausegmir o p i h s = said_sound (for_item Pausegmir (record no_options { devs = o.devs; lss = Some (or_zero o.lss); session = Some (or_zero o.session) }) 0 0) (record { quiet = refl; port = refl; members = refl; sound = record { remote_ok = refl; dev = h.options.dev; remote = h.options.remote; src = refl; tgt = refl; kind = refl; sequence = refl; lss = h.options.lss; session = or_given _ _ h.given h.options.session; cginterval = refl; coordinate = refl; drain = refl } }) (refl) (h.options.remote_ok)
-step_written Rmgmir o p i h s = said_sound (for_item Rmgmir (record no_options { devs = o.devs; lss = Some (or_zero o.lss); session = Some (or_zero o.session) }) 0 0) (record { quiet = refl; port = refl; members = refl; sound = record { remote_ok = refl; dev = h.options.dev; remote = h.options.remote; src = refl; tgt = refl; kind = refl; sequence = refl; lss = h.options.lss; session = or_given _ _ h.given h.options.session; cginterval = refl; coordinate = refl; drain = refl } }) (refl) (h.options.remote_ok)
+step_written Lssession o p i h s = said_sound (for_lss Lssession (given o.devs) p.lss) (record { quiet = refl; port = refl; members = refl; cascade = refl; sound = record { remote_ok = refl; dev = h.options.dev; remote = h.options.remote; src = refl; tgt = refl; kind = refl; sequence = refl; lss = refl; session = refl; cginterval = refl; coordinate = refl; drain = refl } }) (one _ h.operands.lss) (h.options.remote_ok)
+step_written Showgmir o p i h s = said_sound (for_lss Showgmir (given o.devs) p.lss) (record { quiet = refl; port = refl; members = refl; cascade = refl; sound = record { remote_ok = refl; dev = h.options.dev; remote = h.options.remote; src = refl; tgt = refl; kind = refl; sequence = refl; lss = refl; session = refl; cginterval = refl; coordinate = refl; drain = refl } }) (one _ h.operands.lss) (h.options.remote_ok)
+step_written Mkgmir o p i h s = said_sound (for_item Mkgmir (record no_options { devs = o.devs; lss = Some (or_zero o.lss); session = Some (or_zero o.session); cginterval = o.cginterval; coordinate = o.coordinate; drain = o.drain }) 0 0) (record { quiet = refl; port = refl; members = refl; cascade = refl; sound = record { remote_ok = refl; dev = h.options.dev; remote = h.options.remote; src = refl; tgt = refl; kind = refl; sequence = refl; lss = h.options.lss; session = or_given _ _ h.given h.options.session; cginterval = h.options.cginterval; coordinate = h.options.coordinate; drain = h.options.drain } }) (refl) (h.options.remote_ok)
+step_written Resumegmir o p i h s = said_sound (for_item Resumegmir (record no_options { devs = o.devs; lss = Some (or_zero o.lss); session = Some (or_zero o.session); cginterval = o.cginterval; coordinate = o.coordinate; drain = o.drain }) 0 0) (record { quiet = refl; port = refl; members = refl; cascade = refl; sound = record { remote_ok = refl; dev = h.options.dev; remote = h.options.remote; src = refl; tgt = refl; kind = refl; sequence = refl; lss = h.options.lss; session = or_given _ _ h.given h.options.session; cginterval = h.options.cginterval; coordinate = h.options.coordinate; drain = h.options.drain } }) (refl) (h.options.remote_ok)
+step_written Pausegmir o p i h s = said_sound (for_item Pausegmir (record no_options { devs = o.devs; lss = Some (or_zero o.lss); session = Some (or_zero o.session) }) 0 0) (record { quiet = refl; port = refl; members = refl; cascade = refl; sound = record { remote_ok = refl; dev = h.options.dev; remote = h.options.remote; src = refl; tgt = refl; kind = refl; sequence = refl; lss = h.options.lss; session = or_given _ _ h.given h.options.session; cginterval = refl; coordinate = refl; drain = refl } }) (refl) (h.options.remote_ok)
+step_written Rmgmir o p i h s = said_sound (for_item Rmgmir (record no_options { devs = o.devs; lss = Some (or_zero o.lss); session = Some (or_zero o.session) }) 0 0) (record { quiet = refl; port = refl; members = refl; cascade = refl; sound = record { remote_ok = refl; dev = h.options.dev; remote = h.options.remote; src = refl; tgt = refl; kind = refl; sequence = refl; lss = h.options.lss; session = or_given _ _ h.given h.options.session; cginterval = refl; coordinate = refl; drain = refl } }) (refl) (h.options.remote_ok)
 
 steps_written : (c : Command) (o : Options) (p : Operands) (items : List Item) → Sound c o p → Smalls items → All IsWritten (map (step_of c o p) items)
 steps_written c o p [] h s = All-nil IsWritten
@@ -429,8 +439,9 @@ ended_written r h e =
     let place = r.place in
     let a = and_parts (is_none place.awaited && is_ready place) _ e in
     let b = and_parts (is_none place.awaited) _ a.0 in
-    let c = and_parts (list_all (λ setting. has setting place.options) (needed place.command)) _ b.1 in
-    let s : Sound place.command place.options place.operands = record { known = learned nothing_known (take place.filled (operands place.command)); options = h.options; operands = h.operands; enough = enough place.command place.filled a.1; given = all_given place.command place.options c.0 } in
+    let d = and_parts (list_all (λ setting. has setting place.options) (needed place.command) && beq place.options.unconditional place.options.at_source) _ b.1 in
+    let c = and_parts (list_all (λ setting. has setting place.options) (needed place.command)) _ d.0 in
+    let s : Sound place.command place.options place.operands = record { known = learned nothing_known (take place.filled (operands place.command)); options = h.options; operands = h.operands; enough = enough place.command place.filled a.1; given = all_given place.command place.options c.0; cascades = d.1 } in
     All-append IsWritten (own_step place) (item_steps place r.items)
     (own_written place.command place.options place.operands (nat_eq (own_steps place.command) 0) s)
     (steps_written (item_command place.command) place.options place.operands r.items (item_sound place.command place.options place.operands s) h.items)

@@ -12,7 +12,7 @@ use Rattle.dr_ids.specs.declared.names.SessionId.{SessionId}
 use Rattle.dr_ids.specs.declared.names.VolumeId.{VolumeId}
 use Rattle.dr_model.specs.declared.grammar.Command.{Command}
 use Rattle.dr_model.specs.declared.grammar.Setting.{Setting}
-use Rattle.dr_model.specs.declared.grammar.Setting.TheVariants.{Quiet, Dev, RemoteDev, RemotePort, SourceLss, TargetLss, ConsistencyGroup, Force, PairType, Mode, Unconditional, AtSource, NoCopy, Persist, Recording, Inhibit, FreezeSource, Sequence, Fast, TargetPprc, OfLss, Members, Action, OfSession, Interval, Coordination, DrainTime}
+use Rattle.dr_model.specs.declared.grammar.Setting.TheVariants.{Quiet, Dev, RemoteDev, RemotePort, SourceLss, TargetLss, ConsistencyGroup, Force, PairType, Mode, Cascade, Unconditional, AtSource, NoCopy, Persist, Recording, Inhibit, FreezeSource, Sequence, Fast, TargetPprc, OfLss, Members, Action, OfSession, Interval, Coordination, DrainTime}
 use Rattle.dr_model.specs.declared.grammar.Operand.{Operand}
 use Rattle.dr_model.specs.declared.grammar.Operand.TheVariants.{ServerName, OtherName, UpOrDown, AfterWord, TornMark, TornBytes, OneVolume, OtherVolume, Count, TrackNumber, Offset, WriteBytes, CountOrAll, SessionNumber, NoReply, LssNumber, VolumeRange, VolumeList, VolumePair, LssPair, EachLss, Ports, ControlPath}
 use Rattle.dr_model.specs.declared.grammar.Options.{Options}
@@ -66,6 +66,7 @@ flagged_sound ConsistencyGroup t o h = record { remote_ok = h.remote_ok; dev = h
 flagged_sound Force t o h = record { remote_ok = h.remote_ok; dev = h.dev; remote = h.remote; src = h.src; tgt = h.tgt; kind = h.kind; sequence = h.sequence; lss = h.lss; session = h.session; cginterval = h.cginterval; coordinate = h.coordinate; drain = h.drain }
 flagged_sound PairType t o h = h
 flagged_sound Mode t o h = h
+flagged_sound Cascade t o h = record { remote_ok = h.remote_ok; dev = h.dev; remote = h.remote; src = h.src; tgt = h.tgt; kind = h.kind; sequence = h.sequence; lss = h.lss; session = h.session; cginterval = h.cginterval; coordinate = h.coordinate; drain = h.drain }
 flagged_sound Unconditional t o h = record { remote_ok = h.remote_ok; dev = h.dev; remote = h.remote; src = h.src; tgt = h.tgt; kind = h.kind; sequence = h.sequence; lss = h.lss; session = h.session; cginterval = h.cginterval; coordinate = h.coordinate; drain = h.drain }
 flagged_sound AtSource t o h = h
 flagged_sound NoCopy t o h = record { remote_ok = h.remote_ok; dev = h.dev; remote = h.remote; src = h.src; tgt = h.tgt; kind = h.kind; sequence = h.sequence; lss = h.lss; session = h.session; cginterval = h.cginterval; coordinate = h.coordinate; drain = h.drain }
@@ -137,6 +138,7 @@ valued_sound DrainTime word t o new allowed e h =
 valued_sound Quiet word t o new allowed e h = cc
 valued_sound ConsistencyGroup word t o new allowed e h = cc
 valued_sound Force word t o new allowed e h = cc
+valued_sound Cascade word t o new allowed e h = cc
 valued_sound Unconditional word t o new allowed e h = cc
 valued_sound NoCopy word t o new allowed e h = cc
 valued_sound Persist word t o new allowed e h = cc
@@ -158,6 +160,7 @@ setting_items_small ConsistencyGroup word items e = carry Smalls [] items (same_
 setting_items_small Force word items e = carry Smalls [] items (same_Some _ _ e) tt
 setting_items_small PairType word items e = carry Smalls [] items (same_Some _ _ e) tt
 setting_items_small Mode word items e = carry Smalls [] items (same_Some _ _ e) tt
+setting_items_small Cascade word items e = carry Smalls [] items (same_Some _ _ e) tt
 setting_items_small Unconditional word items e = carry Smalls [] items (same_Some _ _ e) tt
 setting_items_small AtSource word items e = carry Smalls [] items (same_Some _ _ e) tt
 setting_items_small NoCopy word items e = carry Smalls [] items (same_Some _ _ e) tt
@@ -372,6 +375,7 @@ takes_more ConsistencyGroup ss e = e
 takes_more Force ss e = e
 takes_more PairType ss e = e
 takes_more Mode ss e = e
+takes_more Cascade ss e = e
 takes_more Unconditional ss e = e
 takes_more AtSource ss e = e
 takes_more NoCopy ss e = e

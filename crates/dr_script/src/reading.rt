@@ -4,7 +4,7 @@ ghost use Rattle.std.specs.Prelude.{◌≡◌, ◌∷◌, [], Some, None, IfOk, 
 ghost use Rattle.std.specs.List.{list_all};
 ghost use Rattle.dr_model.specs.LineTable.{commands, settings, needed};
 ghost use Rattle.dr_model.specs.LineSteps.{has};
-ghost use Rattle.dr_model.specs.Grammar.{command_named, setting_named, setting_at, is_ready, again, next_operand, filled_after, grown, value_read, setting_read, operand_read, next_read, named_read, read_on, may_end, is_filled, start_of, is_within};
+ghost use Rattle.dr_model.specs.Grammar.{command_named, setting_named, setting_at, cascades_metro, is_ready, again, next_operand, filled_after, grown, value_read, setting_read, operand_read, next_read, named_read, read_on, may_end, is_filled, start_of, is_within};
 ghost use Rattle.dr_script.specs.Pieces.{kept};
 
 use crate::operands::{no_operands, push_operand_items, set_operand};
@@ -71,11 +71,20 @@ fn has_needed(place: &LinePlace) -> bool
     all.is_empty() || has_all(all, &place.options)
 }
 
-/// No needed option is missing, and of two that go together both were given or neither.
+/// A pair of another type than Global Copy was to make a cascaded volume.
+fn cascades_metro(options: &Options) -> bool
+    ensures { result ≡ cascades_metro options.now }
+{
+    options.cascade && options.kind.unwrap_or(0) != 2
+}
+
+/// No needed option is missing, of two that go together both were given or neither, and of two that exclude each other one at most.
 fn is_ready(place: &LinePlace) -> bool
     ensures { result ≡ is_ready place.now }
 {
-    has_needed(place) && place.options.unconditional == place.options.at_source
+    has_needed(place)
+        && place.options.unconditional == place.options.at_source
+        && !cascades_metro(&place.options)
 }
 
 fn again(operand: Option<Operand>) -> Option<Operand>

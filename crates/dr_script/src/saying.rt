@@ -346,6 +346,7 @@ fn pair_saying(step: &Step) -> Option<Saying>
                 devs,
                 kind: Some(kind),
                 full: if choices.full { None } else { Some(false) },
+                cascade: choices.cascade,
                 ..no_options()
             },
             a,

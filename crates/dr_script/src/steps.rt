@@ -138,6 +138,7 @@ pub(crate) fn step_of(command: Command, options: &Options, operands: &Operands, 
             kind: options.kind.unwrap_or(0),
             choices: PairChoices {
                 full: options.full.unwrap_or(true),
+                cascade: options.cascade,
             },
         },
         Command::Rmpprc => Step::RemovePair {

@@ -140,6 +140,7 @@ pub(crate) fn setting_word(setting: Setting) -> &'static [u8]
         Setting::Force => b"-force",
         Setting::PairType => b"-type",
         Setting::Mode => b"-mode",
+        Setting::Cascade => b"-cascade",
         Setting::Unconditional => b"-unconditional",
         Setting::AtSource => b"-at",
         Setting::NoCopy => b"-nocp",
@@ -188,6 +189,7 @@ pub(crate) fn settings(command: Command) -> &'static [Setting]
             Setting::RemoteDev,
             Setting::PairType,
             Setting::Mode,
+            Setting::Cascade,
         ],
         Command::Rmpprc => &[
             Setting::Quiet,
@@ -425,6 +427,7 @@ pub(crate) fn is_flag(setting: Setting) -> bool
         Setting::Quiet
             | Setting::ConsistencyGroup
             | Setting::Force
+            | Setting::Cascade
             | Setting::Unconditional
             | Setting::NoCopy
             | Setting::Persist

@@ -54,6 +54,19 @@ pub(crate) fn first_with_member(table: &IndexMap<u8, Session>, a: VolumeId) -> O
     None
 }
 
+// The first session of which the volume is the secondary or the target of a member.
+pub(crate) fn first_with_copy(table: &IndexMap<u8, Session>, v: VolumeId) -> Option<SessionId>
+    ensures { option_map (λ k. k.0) result ≡ option_map (λ x. x.number) (find (model.is_copy v.0) (sessions_in table.now.entries)) }
+{
+    for i in 0..table.len() {
+        let session = &table[i];
+        if session.is_copy(v) {
+            return Some(session.number());
+        }
+    }
+    None
+}
+
 // The first session in which one of the member's volumes has a place.
 pub(crate) fn first_with_place(table: &IndexMap<u8, Session>, m: &Member) -> Option<SessionId>
     ensures { option_map (λ k. k.0) result ≡ option_map (λ x. x.number) (find (model.has_place_of m.now) (sessions_in table.now.entries)) }

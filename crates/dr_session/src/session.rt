@@ -155,6 +155,13 @@ impl Session {
         self.members.iter().any(|m| m.a.0 == a.0)
     }
 
+    /// Whether the volume is the secondary or the target of a member.
+    pub(crate) fn is_copy(&self, v: VolumeId) -> bool
+        ensures { result ≡ model.is_copy v.0 self.now.session }
+    {
+        self.members.iter().any(|m| m.b.0 == v.0 || m.c.0 == v.0)
+    }
+
     /// Whether the primary volume of a member lies in the logical subsystem.
     pub(crate) fn has_member_in(&self, l: Lss) -> bool
         ensures { result ≡ model.has_member_in l.0 self.now.session }

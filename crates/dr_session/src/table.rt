@@ -10,7 +10,8 @@ ghost use Rattle.dr_master.specs.Seen.{reply_of};
 ghost use Rattle.dr_session.specs.Kept.{refusal_of};
 
 use crate::places::{
-    define, first_with_member, first_with_place, place_of, remove_at, session_numbered,
+    define, first_with_copy, first_with_member, first_with_place, place_of, remove_at,
+    session_numbered,
 };
 use crate::session::{NO_MASTER, Session};
 use dr_ids::{Fault, Kind, Lss, Member, Refusal, ServerId, SessionId, VolumeId, Which};
@@ -320,6 +321,13 @@ impl Sessions {
         ensures { option_map (λ k. k.0) result ≡ option_map (λ x. x.number) (find (model.is_member a.0) self.now.sessions) }
     {
         first_with_member(&self.table, a)
+    }
+
+    /// The session of which the volume is the secondary or the target of a member, if there is one.
+    pub fn session_with_copy(&self, v: VolumeId) -> Option<SessionId>
+        ensures { option_map (λ k. k.0) result ≡ option_map (λ x. x.number) (find (model.is_copy v.0) self.now.sessions) }
+    {
+        first_with_copy(&self.table, v)
     }
 
     /// The number of the session's last attempt, if it is defined.

@@ -1,7 +1,8 @@
 -- The epochs that begin where masters are lost, session by session.
-use Rattle.std.proofs.Common.{◌≡◌, ◌≢◌, ◌⊎◌, ℕ, ◌<◌, ◌+◌, Bool, true, false, not, ◌&&◌, ◌||◌, cond, List, [], ◌∷◌, ◌++◌, nat_eq, nat_lt, get_or, Option, Some, None, inl, inr, refl, ap, sym, ◌∙◌, arith, if◌then◌else◌}
-use Rattle.std.specs.Prelude.{◌==◌}
+use Rattle.std.proofs.Common.{◌≡◌, ◌≢◌, ◌⊎◌, ℕ, ◌<◌, ◌+◌, Bool, true, false, not, ◌&&◌, ◌||◌, cond, List, [], ◌∷◌, ◌++◌, nat_eq, nat_lt, get_or, Option, Some, None, inl, inr, refl, ap, sym, subst, ◌∙◌, arith, slice_get, if◌then◌else◌}
+use Rattle.std.specs.Prelude.{◌==◌, is_some}
 use Rattle.std.specs.List.{list_any}
+use Rattle.std.specs.Option.{option_map}
 use Rattle.std.proofs.Math.Bool.{or-false, and-false}
 use Rattle.std.proofs.lemmas.Bool.{or_parts, eq-eqb}
 use Rattle.std.proofs.lemmas.Bool.Decides.{nat_tests, eqb_tells}
@@ -9,11 +10,26 @@ use Rattle.std.proofs.lemmas.List.Folds.{list_any-append}
 use Rattle.dr_logic.specs.Tables.{at}
 use Rattle.dr_facts.proofs.Tables.{at_cases}
 use Rattle.dr_model.specs.Messages.{Flight, loses_master, loses_in, lost_since, raised}
+use Rattle.dr_model.specs.Sessions as sessions
 use Rattle.dr_model.specs.Sessions.{Session, Mirror}
+use Rattle.dr_ids.specs.declared.names.SessionId.{SessionId}
 use Rattle.dr_plant.specs.State.{PlantState}
 use Rattle.dr_volume.specs.View.{on_seen}
 
+-- there is no session, where there is no first one
+pub no-sessions : (ss : List Session) (o : Option SessionId) → option_map (λ (k : SessionId). k.0) o ≡ option_map (λ (x : Session). x.number) (slice_get ss 0) → is_some o ≡ false → ss ≡ []
+no-sessions [] o value none = refl
+no-sessions (x ∷ xs) None value none = absurd cc
+no-sessions (x ∷ xs) (Some k) value none = absurd cc
+
 module _ (before now : ℕ → Bool) where
+  -- without sessions nothing is lost, and no epoch begins
+  pub none-lost : (ss : List Session) → ss ≡ [] → ss ≡ sessions.lost_since before now ss
+  none-lost ss none = subst (λ (xs : List Session). xs ≡ sessions.lost_since before now xs) (sym none) refl
+
+  pub none-begin : (ss : List Session) (f : Flight) → ss ≡ [] → f ≡ lost_since before now ss f
+  none-begin ss f none = subst (λ (xs : List Session). f ≡ lost_since before now xs f) (sym none) refl
+
   -- what is asked of one session more
   loses-next : (s : ℕ) (ys : List Session) (x : Session) → loses_in before now s (ys ++ x ∷ []) ≡ (loses_in before now s ys || (x.number == s && loses_master before now x.mirror))
   loses-next s ys x =

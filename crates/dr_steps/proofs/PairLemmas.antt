@@ -3,6 +3,7 @@ use Rattle.std.proofs.Common.{ℕ, ◌≡◌, ◌<◌, List, [], ◌∷◌, ◌+
 use Rattle.std.specs.Prelude.{option_map, if◌then◌else◌}
 use Rattle.std.specs.Str.{bytes_eq}
 use Rattle.std.proofs.lemmas.Bool.{eqb-true, not-true}
+use Rattle.std.proofs.lemmas.List.{append-nil}
 use Rattle.dr_ids.specs.declared.refusal.Refusal.{Refusal}
 use Rattle.dr_ids.specs.declared.refusal.Refusal.TheVariants.{InSession}
 use Rattle.dr_ids.specs.declared.refusal.Kind.TheVariants.{Server as OfServer}
@@ -14,6 +15,7 @@ use Rattle.dr_model.specs.declared.event.Event.{Event}
 use Rattle.dr_model.specs.declared.said.Said.TheVariants.{Done, Refused}
 use Rattle.dr_model.specs.declared.said.Addition.TheVariants.{Alone}
 use Rattle.dr_model.specs.declared.state.Part.{Part}
+use Rattle.dr_model.specs.declared.state.Part.TheVariants.{Absent, Metro, Global}
 use Rattle.dr_model.specs.declared.step.Name.{Name}
 use Rattle.dr_model.specs.declared.step.Devs.{Devs}
 use Rattle.dr_model.specs.declared.step.PairChoices.{PairChoices}
@@ -24,8 +26,8 @@ use Rattle.dr_model.specs.Moves.{MakeSecondary, MakePrimary}
 use Rattle.dr_model.specs.Carry.{Entry, carry, check, now}
 use Rattle.dr_model.specs.Entries.{is_at, is_running, share_size, is_no_target, is_settled}
 use Rattle.dr_model.specs.Laws.{Sound}
-use Rattle.dr_model.specs.PairEntries.{make_entries, refuse_if, end_if, reach_refusal, first_differing, differs_at, two_servers, stands_free, may_follow, has_path, are_linked}
-use Rattle.dr_model.specs.Plans.{found_pair, found_volumes, member_refusal, is_owner, is_named, server_named, name_bytes, make_pair_plan}
+use Rattle.dr_model.specs.PairEntries.{make_entries, refuse_if, end_if, reach_refusal, first_differing, differs_at, two_servers, may_lead, may_follow, has_path, are_linked}
+use Rattle.dr_model.specs.Plans.{found_pair, found_volumes, cascades, cascade_refusal, member_refusal, is_owner, is_named, server_named, name_bytes, make_pair_plan}
 use Rattle.dr_model.specs.ReadStops.{Ends}
 use Rattle.dr_model.specs.Refusals.{unknown, server_off}
 use Rattle.dr_model.specs.Runs.{after_plan, said}
@@ -67,6 +69,15 @@ module _ (w : World) (devs : Devs) (a b : ℕ) where
   found-then_free None is first = λ armed u r ds ends. first armed u r (refuse_if (member_refusal a b) ∷ ds) (refuse-passes w (member_refusal a b) (sym is) armed u r ds ends)
   found-then_free (Some why) is first = λ armed ds. first armed w (Some why) (refuse_if (member_refusal a b) ∷ ds) (refuse-ends armed w (member_refusal a b) why (sym is) ds)
 
+  -- the volumes are found, and the first isn't the secondary or the target of a member, where that is asked
+  pub nowhere-apart : (ask : Bool) (why : Refusal) → Checked w (found_volumes devs a b) (Some why) → Checked w (found_volumes devs a b ++ (if ask then refuse_if (cascade_refusal a) ∷ [] else [])) (Some why)
+  nowhere-apart true why first armed ds = first armed (refuse_if (cascade_refusal a) ∷ ds)
+  nowhere-apart false why first armed ds = first armed ds
+
+  pub found-then_apart : (o : Option Refusal) → o ≡ cascade_refusal a w.control → Checked w (found_volumes devs a b) None → Checked w (found_volumes devs a b ++ refuse_if (cascade_refusal a) ∷ []) o
+  found-then_apart None is first = λ armed u r ds ends. first armed u r (refuse_if (cascade_refusal a) ∷ ds) (refuse-passes w (cascade_refusal a) (sym is) armed u r ds ends)
+  found-then_apart (Some why) is first = λ armed ds. first armed w (Some why) (refuse_if (cascade_refusal a) ∷ ds) (refuse-ends armed w (cascade_refusal a) why (sym is) ds)
+
 -- the session that a table has for a member, by its number
 pub in-session : (n : ℕ) (o : Option Session) → Some n ≡ option_map (λ (x : Session). x.number) o → Some (InSession (record { 0 = n })) ≡ in_session o
 in-session n None is = absurd cc
@@ -75,6 +86,12 @@ in-session n (Some x) is = ap in_some is
     in_some : Option ℕ → Option Refusal
     in_some None = None
     in_some (Some m) = Some (InSession (record { 0 = m }))
+
+-- a pair of a cascaded volume is of Global Copy
+pub cascades-global : (kind : Part) (choices : PairChoices) → cascades kind choices ≡ true → kind ≡ Global
+cascades-global Absent choices is = absurd cc
+cascades-global Metro choices is = absurd cc
+cascades-global Global choices is = refl
 
 -- where a check passes, what comes behind it decides
 module _ (w : World) (ds es : List Entry) where
@@ -119,13 +136,13 @@ module _ (w : World) (sound : Sound w) (a b : ℕ) (kind : Part) where
   seen-of full contents = if full then None else first_differing contents n a b
 
   -- so making a pair by what devices have is making it by what the journal says
-  pub make-alike : (full : Bool) → carry w (make_entries w.control a b kind full (seen-of full w.contents)) ≡ carry w (make_entries w.control a b kind full (seen-of full (image_at w.events)))
-  make-alike full =
+  pub make-alike : (cascade full : Bool) → carry w (make_entries w.control a b kind cascade full (seen-of full w.contents)) ≡ carry w (make_entries w.control a b kind cascade full (seen-of full (image_at w.events)))
+  make-alike cascade full =
       check-alike w _ _ (is_running a) (server_off (w.control.volume a).server) (λ on.
       refuse-alike w _ _ (reach_refusal a b) (λ reached.
       check-alike w _ _ (two_servers a b) _ (λ two.
       check-alike w _ _ (share_size a b) _ (λ size.
-      check-alike w _ _ (stands_free a) _ (λ free.
+      check-alike w _ _ (may_lead cascade a b) _ (λ leads.
       check-alike w _ _ (may_follow a b) _ (λ follows.
       check-alike w _ _ (is_no_target a) _ (λ plain_a.
       check-alike w _ _ (is_no_target b) _ (λ plain_b.
@@ -144,30 +161,39 @@ module _ (c : ConfigTable) (s u : PlantState) (h : Tables) (ev mid : List Event)
   abbrev pub after : World
   after = here u c h mid
 
-  -- the kind of the pair is what the call below takes
-  abbrev by_devices : Part → List Entry
-  by_devices kind = make_entries before.control a b kind choices.full (seen-of before sound a b kind choices.full before.contents)
+  -- the volumes are found, and the first isn't the secondary or the target of a member
+  abbrev pub front : Bool → List Entry
+  front cascade = found_volumes devs a b ++ (if cascade then refuse_if (cascade_refusal a) ∷ [] else [])
+
+  -- the kind of the pair, and whether its primary is cascaded, are what the call below takes
+  abbrev by_devices : Bool → Part → List Entry
+  by_devices cascade kind = make_entries before.control a b kind cascade choices.full (seen-of before sound a b kind choices.full before.contents)
 
   abbrev by_journal : List Entry
-  by_journal = make_entries before.control a b kind choices.full (seen-of before sound a b kind choices.full (image_at ev))
+  by_journal = make_entries before.control a b kind (cascades kind choices) choices.full (seen-of before sound a b kind choices.full (image_at ev))
 
-  made : (r : Option Refusal) (known : Part) → known ≡ kind → Checked before (found_volumes devs a b) None → Ends (armed_in s) after r before (by_devices known) → carry before (found_volumes devs a b ++ by_journal) ≡ (after, r)
-  made r known same checked ends =
-      goes-on before before (found_volumes devs a b) by_journal
-      (exact s before None before (found_volumes devs a b) pass (checked (armed_in s) before None [] (ends-none (armed_in s) before None before (record { world = refl; refusal = refl }))))
-      ∙ sym (make-alike before sound a b kind choices.full)
-      ∙ ap (λ k. carry before (by_devices k)) (sym same)
-      ∙ exact s after r before (by_devices known) pass ends
+  abbrev pub all : List Entry
+  all = front (cascades kind choices) ++ by_journal
 
-  pub make-nowhere : (why : Refusal) → Checked before (found_volumes devs a b) (Some why) → (line : ℕ) → after_plan before line (make_pair_plan before.control ev devs a b kind choices) ≡ said before line (Refused why)
-  make-nowhere why checked line =
-      entries-refused before before line (found_volumes devs a b ++ by_journal) (Done Alone) why (exact s before (Some why) before (found_volumes devs a b ++ by_journal) pass (checked (armed_in s) by_journal))
+  module _ (cascade : Bool) (asked : cascade ≡ cascades kind choices) where
+    made : (r : Option Refusal) (known : Part) → known ≡ kind → Checked before (front cascade) None → Ends (armed_in s) after r before (by_devices cascade known) → carry before all ≡ (after, r)
+    made r known same checked ends =
+        ap (λ x. carry before (front x ++ by_journal)) (sym asked)
+        ∙ goes-on before before (front cascade) by_journal
+        (exact s before None before (front cascade) pass (subst (Ends (armed_in s) before None before) (append-nil (front cascade)) (checked (armed_in s) before None [] (ends-none (armed_in s) before None before (record { world = refl; refusal = refl })))))
+        ∙ sym (make-alike before sound a b kind (cascades kind choices) choices.full)
+        ∙ (λ i. carry before (by_devices (sym asked i) (sym same i)))
+        ∙ exact s after r before (by_devices cascade known) pass ends
 
-  pub make-done : (known : Part) → known ≡ kind → Checked before (found_volumes devs a b) None → Ends (armed_in s) after None before (by_devices known) → (line : ℕ) → after_plan before line (make_pair_plan before.control ev devs a b kind choices) ≡ said after line (Done Alone)
-  make-done known same checked ends line = entries-done before after line (found_volumes devs a b ++ by_journal) (Done Alone) (made None known same checked ends)
+    pub make-nowhere : (why : Refusal) → Checked before (front cascade) (Some why) → (line : ℕ) → after_plan before line (make_pair_plan before.control ev devs a b kind choices) ≡ said before line (Refused why)
+    make-nowhere why checked line =
+        entries-refused before before line all (Done Alone) why (ap (λ x. carry before (front x ++ by_journal)) (sym asked) ∙ exact s before (Some why) before (front cascade ++ by_journal) pass (checked (armed_in s) by_journal))
 
-  pub make-refused : (r : Refusal) (known : Part) → known ≡ kind → Checked before (found_volumes devs a b) None → Ends (armed_in s) after (Some r) before (by_devices known) → (line : ℕ) → after_plan before line (make_pair_plan before.control ev devs a b kind choices) ≡ said after line (Refused r)
-  make-refused r known same checked ends line = entries-refused before after line (found_volumes devs a b ++ by_journal) (Done Alone) r (made (Some r) known same checked ends)
+    pub make-done : (known : Part) → known ≡ kind → Checked before (front cascade) None → Ends (armed_in s) after None before (by_devices cascade known) → (line : ℕ) → after_plan before line (make_pair_plan before.control ev devs a b kind choices) ≡ said after line (Done Alone)
+    make-done known same checked ends line = entries-done before after line all (Done Alone) (made None known same checked ends)
 
-  pub make-ready : (r : Option Refusal) (known : Part) → known ≡ kind → Checked before (found_volumes devs a b) None → Ends (armed_in s) after r before (by_devices known) → IsAtRest u c → ((q : ℕ) → s.read_fuse q ≡ None → u.read_fuse q ≡ None) → IsTold h ev → IsReady u c h mid
-  make-ready r known same checked ends rest unarmed told = ready-after c s u h mid pass rest unarmed (told-through h before after (found_volumes devs a b ++ by_journal) r (made r known same checked ends) told)
+    pub make-refused : (r : Refusal) (known : Part) → known ≡ kind → Checked before (front cascade) None → Ends (armed_in s) after (Some r) before (by_devices cascade known) → (line : ℕ) → after_plan before line (make_pair_plan before.control ev devs a b kind choices) ≡ said after line (Refused r)
+    make-refused r known same checked ends line = entries-refused before after line all (Done Alone) r (made (Some r) known same checked ends)
+
+    pub make-ready : (r : Option Refusal) (known : Part) → known ≡ kind → Checked before (front cascade) None → Ends (armed_in s) after r before (by_devices cascade known) → IsAtRest u c → ((q : ℕ) → s.read_fuse q ≡ None → u.read_fuse q ≡ None) → IsTold h ev → IsReady u c h mid
+    make-ready r known same checked ends rest unarmed told = ready-after c s u h mid pass rest unarmed (told-through h before after all r (made r known same checked ends) told)

@@ -102,7 +102,7 @@ written-fits (CommitFlash devs source sequence) h = owner-fits devs.dev _ (setti
 written-fits (RevertFlash devs source sequence) h = owner-fits devs.dev _ (settings-fit (for_item Revertflash (record no_options { devs = devs; sequence = sequence }) source source) h)
 written-fits (MakePath devs src tgt group) h = devs-fit devs _ (settings-fit (for_item Mkpprcpath (record no_options { devs = devs; src = Some src; tgt = Some tgt; group = group }) 0 0) h)
 written-fits (RemovePath devs src tgt force) h = devs-fit devs _ (settings-fit (for_item Rmpprcpath (record no_options { devs = devs; force = force }) src tgt) h)
-written-fits (MakePair devs a b kind choices) h = devs-fit devs _ (settings-fit (for_item Mkpprc (record no_options { devs = devs; kind = Some kind; full = cond choices.full None (Some false) }) a b) h)
+written-fits (MakePair devs a b kind choices) h = devs-fit devs _ (settings-fit (for_item Mkpprc (record no_options { devs = devs; kind = Some kind; full = cond choices.full None (Some false); cascade = choices.cascade }) a b) h)
 written-fits (RemovePair devs a b source_only) h = devs-fit devs _ (settings-fit (for_item Rmpprc (record no_options { devs = devs; unconditional = source_only; at_source = source_only }) a b) h)
 written-fits (PausePair devs a b) h = devs-fit devs _ (settings-fit (for_item Pausepprc (record no_options { devs = devs }) a b) h)
 written-fits (ResumePair devs a b kind) h = devs-fit devs _ (settings-fit (for_item Resumepprc (record no_options { devs = devs; kind = Some kind }) a b) h)

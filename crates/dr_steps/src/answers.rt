@@ -14,7 +14,7 @@ use dr_model::{Addition, Journal, Said};
 use std::alloc::AllocError;
 
 /// The room that a step needs in the journal before it begins.
-pub const STEP_EVENTS: usize = 4096;
+pub const STEP_EVENTS: usize = 8192;
 
 /// And that an image needs.
 pub const IMAGE_EVENTS: usize = 20_000;

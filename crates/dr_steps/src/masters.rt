@@ -102,6 +102,9 @@ pub fn lose_masters<P: Plant>(
     ensures flight { (s : PlantState) → ((k : ℕ) → k < 8 → get_or before.now k false ≡ s.on k)
         → flight_in flight.new ≡ messages.lost_since (on_seen s) (on_seen (P.state plant.now)) sessions.old.sessions (flight_in flight.old) }
 {
+    if sessions.session_at(0).is_none() {
+        return;
+    }
     raise_epochs(plant, before, sessions, flight);
     lose_all(plant, before, sessions);
 }

@@ -1,12 +1,20 @@
 //! The steps on the way back: a secondary is taken over, and a pair goes on the other way round.
 
-ghost use Rattle.std.specs.Prelude.{◌≡◌, ℕ, ◌≤◌, false, length};
+ghost use Rattle.std.specs.Prelude.{◌≡◌, ℕ, ◌≤◌, ◌+◌, false, length, None, IsSome};
+ghost use Rattle.dr_logic.specs.Counts.{Counted};
+ghost use Rattle.dr_config.specs.Table.{place_of};
 ghost use Rattle.dr_model.specs.Laws.{Sound};
 ghost use Rattle.dr_model.specs.Layout as part;
 ghost use Rattle.dr_model.specs.Limits.{step_events};
+ghost use Rattle.dr_model.specs.PairEntries.{failover_entries};
 ghost use Rattle.dr_model.specs.Plans as plans;
+ghost use Rattle.dr_model.specs.ReadStops.{Ends};
 ghost use Rattle.dr_model.specs.Runs.{after_plan, said};
-ghost use Rattle.dr_volume.specs.View.{track_seen};
+ghost use Rattle.dr_volume.specs.View.{Rest, track_seen};
+ghost use Rattle.dr_moves.specs.Checks.{is_stop};
+ghost use Rattle.dr_moves.specs.Fit.{RelationsFit};
+ghost use Rattle.dr_moves.specs.Here.{world_seen, refusal_of, armed_in, IsAtRest};
+ghost use Rattle.dr_gcopy.specs.Kinds.{part_of};
 ghost use Rattle.dr_steps.specs.Faults.{CountsStop};
 ghost use Rattle.dr_steps.specs.Forms.{is_plain, is_relation, is_pair, is_session, is_recovery};
 ghost use Rattle.dr_steps.specs.Here.{said_of, here, StepLeads, IsReady};
@@ -15,11 +23,15 @@ ghost use Rattle.dr_steps.specs.WellFormed.{FitsDevs, IsWellFormed};
 use crate::locate::{found_volumes, undefined_refusal};
 use crate::pairs::kind_of;
 use crate::tables::Tables;
+use dr_cascade::leave;
 use dr_config::Config;
-use dr_failover::{compare_volumes, failback, failover};
+use dr_failover::{compare_volumes, failback, failover, failover_refusal};
+use dr_gcopy::{CopyKind, part_of};
 use dr_ids::{Refusal, VolumeId};
 use dr_model::{Addition, Devs, Journal, Step};
+use dr_moves::is_cascaded;
 use dr_plant::Plant;
+use dr_volume::peek_head;
 
 /// Takes secondary b of a over: it becomes a Suspended primary of a.
 pub fn fail_over<P: Plant>(
@@ -46,10 +58,39 @@ pub fn fail_over<P: Plant>(
     if let Some(why) = found_volumes(config, devs, b, a) {
         return Err(why);
     }
-    match failover(plant, config, journal, b, a, kind_of(kind)) {
+    match take_or_leave(plant, config, journal, b, a, kind_of(kind)) {
         Ok(()) => Ok(Addition::Alone),
         Err(refusal) => Err(refusal),
     }
+}
+
+/// Takes secondary b of a over, or, where it is cascaded, leaves a.
+fn take_or_leave<P: Plant>(
+    plant: &mut P,
+    config: &Config,
+    journal: &mut Journal,
+    b: VolumeId,
+    a: VolumeId,
+    kind: CopyKind,
+) -> Result<(), Refusal>
+    requires rest { IsAtRest (P.state plant.old) config.now }
+    requires fit { RelationsFit (P.state plant.old) config.now }
+    requires defined { IsSome (place_of config.now b.0) }
+    requires room { 2 ≤ journal.old.spare }
+    ensures carried { (r : Rest) → Ends (armed_in (P.state plant.old)) (world_seen (P.state plant.new) config.now r journal.new.events) (refusal_of result) (world_seen (P.state plant.old) config.now r journal.old.events)
+        (failover_entries (world_seen (P.state plant.old) config.now r journal.old.events).control b.0 a.0 (part_of kind)) }
+    ensures rest { IsAtRest (P.state plant.new) config.now }
+    ensures unarmed { (q : ℕ) → (P.state plant.old).read_fuse q ≡ None → (P.state plant.new).read_fuse q ≡ None }
+    ensures faults { Counted (is_stop (refusal_of result)) (P.state plant.old).faults (P.state plant.new).faults }
+    ensures room { journal.old.spare ≤ journal.new.spare + 2 }
+{
+    if !is_cascaded(&peek_head(plant, config, b)) {
+        return failover(plant, config, journal, b, a, kind);
+    }
+    if let Some(why) = failover_refusal(plant, config, b, a, part_of(kind)) {
+        return Err(why);
+    }
+    leave(plant, config, journal, b)
 }
 
 /// Of two volumes that are primaries of each other x goes on as the primary, and y becomes its secondary. Where a target of y is a

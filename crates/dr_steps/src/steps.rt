@@ -1,21 +1,26 @@
 //! The steps on a track of a volume: it is shown, and host writes are issued and carried out.
 
-ghost use Rattle.std.specs.Prelude.{◌≡◌, ℕ, ◌+◌, ◌<◌, ◌≤◌, ◌^◌, true, length, take, is_some, IsSome, IfOk, OnErr, Some, None};
+ghost use Rattle.std.specs.Prelude.{◌≡◌, ℕ, ◌+◌, ◌<◌, ◌≤◌, ◌^◌, true, ◌&&◌, length, take, is_some, IsSome, IfOk, OnErr, Some, None};
 ghost use Rattle.std.specs.List.{find};
 ghost use Rattle.dr_ids.specs.declared.refusal.Refusal.{Refusal};
 ghost use Rattle.dr_plant.specs.State.{PlantState};
-ghost use Rattle.dr_config.specs.Table.{place_of};
+ghost use Rattle.dr_config.specs.Table.{place_of, StandsFor};
+ghost use Rattle.dr_host.specs.Here as seen;
 ghost use Rattle.dr_host.specs.declared.pending.Pending.{Pending};
 ghost use Rattle.dr_host.specs.Writes.{has_number};
 ghost use Rattle.dr_model.specs.declared.step.Step.{Step};
 ghost use Rattle.dr_model.specs.Laws.{Sound};
 ghost use Rattle.dr_model.specs.Plans.{track_refusal, issue_refusal};
-ghost use Rattle.dr_model.specs.WriteEntries.{says_written, write_stretches};
-ghost use Rattle.dr_volume.specs.View.{volume_seen};
+ghost use Rattle.dr_model.specs.Pairs as pairs;
+ghost use Rattle.dr_model.specs.WriteEntries.{says_written, waits, write_stretches};
+ghost use Rattle.dr_volume.specs.Plain.{plain};
+ghost use Rattle.dr_volume.specs.View.{Rest, volume_seen};
 ghost use Rattle.dr_moves.specs.Fit.{RelationsFit};
 ghost use Rattle.dr_moves.specs.Here.{refusal_of, armed_in};
 ghost use Rattle.dr_flash.specs.Views.{view_seen};
 ghost use Rattle.dr_moves.specs.Followed.{EndsIn};
+ghost use Rattle.dr_metro.specs.Syncing.{end_of};
+ghost use Rattle.dr_metro.specs.Writing.{IsDue, WroteIn};
 ghost use Rattle.dr_steps.specs.Faults.{CountsStop};
 ghost use Rattle.dr_steps.specs.Here.{here, said_of, answered_by, OnAnswer, OnSaid, OnNoMemory, OnRefused, StepLeads, IsReady, IsTold};
 ghost use Rattle.dr_steps.specs.Wants.{WantsRow};
@@ -23,13 +28,16 @@ ghost use Rattle.dr_steps.specs.Waiting.{IsIssued, PartnersFit, written_as};
 
 use crate::locate::locate;
 use crate::tables::Tables;
+use dr_cascade::cascade_write_by;
 use dr_config::Config;
 use dr_flash::read_target;
 use dr_host::{Host, Pending};
 use dr_ids::{Fault, Kind, Refusal, VolumeId, WriteId};
-use dr_metro::{WriteEnd, sync_write};
+use dr_metro::{WriteEnd, goes_over, sync_write_by};
 use dr_model::{Addition, Event, Journal, Said};
+use dr_moves::is_cascaded;
 use dr_plant::{Block, Plant};
+use dr_volume::{Fields, peek_fields, peek_head};
 
 /// What a track of a volume whose server is on reads as, where reads pass.
 fn read_running<P: Plant>(
@@ -207,7 +215,7 @@ pub fn write<P: Plant>(
     requires some { 1 ≤ write.now.len }
     requires fits { write.now.offset + write.now.len ≤ 64 }
     requires count { tables.old.host.issued + 1 < 2 ^ 32 }
-    requires room { length config.now.volumes + (length config.now.volumes + 8) ≤ journal.old.spare }
+    requires room { length config.now.volumes + (length config.now.volumes + (length config.now.volumes + 11)) ≤ journal.old.spare }
     ensures step { OnSaid result (λ a. (line : ℕ) → StepLeads (here (P.state plant.old) config.now tables.old journal.old.events) line
         (Step.Write write.now.volume.0 write.now.track write.now.offset write.now.len write.now.bytes)
         (here (P.state plant.new) config.now tables.new journal.new.events) a) }
@@ -243,7 +251,7 @@ pub fn apply<P: Plant>(
 ) -> Result<Said, Refusal>
     requires ready { IsReady (P.state plant.old) config.now tables.old journal.old.events }
     requires sound { Sound (here (P.state plant.old) config.now tables.old journal.old.events) }
-    requires room { length config.now.volumes + (length config.now.volumes + 7) ≤ journal.old.spare }
+    requires room { length config.now.volumes + (length config.now.volumes + (length config.now.volumes + 10)) ≤ journal.old.spare }
     ensures step { (line : ℕ) → StepLeads (here (P.state plant.old) config.now tables.old journal.old.events) line (Step.Apply w)
         (here (P.state plant.new) config.now tables.new journal.new.events) (answered_by result) }
     ensures ready { IsReady (P.state plant.new) config.now tables.new journal.new.events }
@@ -278,6 +286,39 @@ fn pending_write(host: &Host, w: WriteId) -> Pending
     }
 }
 
+/// Whether a host write on track t of a volume with these fields goes to its secondary first, and that is cascaded.
+fn is_fed<P: Plant>(plant: &P, config: &Config, fields: &Fields, t: u16) -> bool
+    requires stands { StandsFor config.now (P.state plant.now) }
+    requires to { pairs.goes_over (plain fields.now) t ≡ true → IsSome (place_of config.now fields.now.primary_partner.0) }
+    ensures { result ≡ (pairs.goes_over (plain fields.now) t && pairs.is_cascaded (volume_seen (P.state plant.now) config.now fields.now.primary_partner.0).fields) }
+{
+    if !goes_over(fields, t) {
+        return false;
+    }
+    is_cascaded(&peek_head(plant, config, fields.primary_partner))
+}
+
+/// Carries out a pending write on a track that is there, by the call for its volume.
+fn place_write<P: Plant>(
+    plant: &mut P,
+    config: &Config,
+    journal: &mut Journal,
+    host: &mut Host,
+    write: &Pending,
+) -> Result<WriteEnd, Refusal>
+    requires due { IsDue (P.state plant.old) config.now host.old journal.old.events write.now }
+    requires partners { PartnersFit (P.state plant.old) config.now }
+    requires room { length config.now.volumes + (length config.now.volumes + (length config.now.volumes + 9)) ≤ journal.old.spare }
+    ensures wrote { WroteIn (P.state plant.old) (P.state plant.new) config.now host.old host.new journal.old journal.new (λ k. write_stretches k write.now.w.0 write.now.volume.0 write.now.track) (length config.now.volumes + (length config.now.volumes + (length config.now.volumes + 9))) result }
+    ensures end { (r : Rest) → IfOk result (λ e. e ≡ end_of (waits (seen.here (P.state plant.old) config.now r host.old journal.old.events).control write.now.volume.0 write.now.track)) }
+{
+    let fields = peek_fields(plant, config, write.volume);
+    if is_fed(plant, config, &fields, write.track) {
+        return cascade_write_by(plant, config, journal, host, write, &fields);
+    }
+    sync_write_by(plant, config, journal, host, write, &fields)
+}
+
 /// The answer where write w was carried out.
 fn answer(w: WriteId, end: WriteEnd) -> Said
     ensures { result ≡ written_as w.0 end }
@@ -303,7 +344,7 @@ fn carry_write<P: Plant>(
     requires there { track_refusal (here (P.state plant.old) config.now tables.old journal.old.events).control write.now.volume.0 write.now.track ≡ None }
     requires fit { RelationsFit (P.state plant.old) config.now }
     requires partners { PartnersFit (P.state plant.old) config.now }
-    requires room { length config.now.volumes + (length config.now.volumes + 7) ≤ journal.old.spare }
+    requires room { length config.now.volumes + (length config.now.volumes + (length config.now.volumes + 10)) ≤ journal.old.spare }
     ensures carried { EndsIn (armed_in (P.state plant.old)) (here (P.state plant.old) config.now tables.old journal.old.events)
         (write_stretches (here (P.state plant.old) config.now tables.old journal.old.events).control write.now.w.0 write.now.volume.0 write.now.track) (here (P.state plant.new) config.now tables.new journal.new.events) (refusal_of result) }
     ensures says { IfOk result (λ a. a ≡ says_written (here (P.state plant.old) config.now tables.old journal.old.events).control write.now.w.0 write.now.volume.0 write.now.track) }
@@ -312,7 +353,7 @@ fn carry_write<P: Plant>(
     ensures issued { tables.new.host.issued ≡ tables.old.host.issued }
     ensures room { 1 ≤ journal.new.spare }
 {
-    match sync_write(plant, config, journal, &mut tables.host, write) {
+    match place_write(plant, config, journal, &mut tables.host, write) {
         Ok(end) => Ok(answer(write.w, end)),
         Err(refusal) => Err(refusal),
     }

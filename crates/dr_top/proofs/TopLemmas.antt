@@ -56,6 +56,9 @@ use Rattle.dr_laws_commits.proofs.Commits.{commits-run}
 use Rattle.dr_laws_images.proofs.Imaged.{all-read-back, last-gives-back}
 use Rattle.dr_laws_return.proofs.Sites.{alike-on}
 use Rattle.dr_laws_return.proofs.Secondaries.{secondaries-on}
+use Rattle.dr_laws_sites.proofs.FirstSite.{first-run}
+use Rattle.dr_laws_sites.proofs.CutMoments.{cuts-run}
+use Rattle.dr_laws_sites.proofs.BothLost.{lost-run}
 use Rattle.dr_laws_recovery.specs.Decided.{record_on}
 use Rattle.dr_laws_return.specs.Returned.{Returns}
 use Rattle.dr_laws_return.proofs.Compared.{compared-run}
@@ -233,6 +236,9 @@ stands-here s0 s t h ev sound ready room stops steps leads lists images =
       secondaries = subst (λ (x : World). SecondariesLackNone x (record_on x s.block) (on_device x.control s.block)) leads
           (secondaries-on steps s.on fuse s.block (subst (λ (x : World). Fits x s.on fuse s.block) (sym leads) fits) (subst (λ (x : World). HoldsTracks x s.block) (sym leads) holds));
       lack_none = λ tasks goes. lacking-run tasks;
+      from_first = λ tasks goes. first-run tasks;
+      cut_moments = λ tasks goes. cuts-run tasks;
+      both_lost = λ tasks goes. lost-run tasks w s.on fuse s.block goes fits holds;
       compared = λ tasks goes. compared-run tasks s.block (subst (λ (x : World). HoldsTracks x s.block) (sym goes) holds);
       returned = λ tasks goes. returned-here s t h ev sound is tasks goes;
       refused = λ tasks goes. refused-run tasks;

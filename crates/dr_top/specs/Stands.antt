@@ -35,6 +35,9 @@ use Rattle.dr_laws_images.specs.Imaged.{AllReadBack, LastGivesBack}
 use Rattle.dr_laws_return.specs.Sites.{SitesAlike}
 use Rattle.dr_laws_return.specs.Compared.{ComparesDevices}
 use Rattle.dr_laws_return.specs.Returned.{Returns}
+use Rattle.dr_laws_sites.specs.FirstSite.{FromFirstSite}
+use Rattle.dr_laws_sites.specs.CutMoments.{CutsAreMoments}
+use Rattle.dr_laws_sites.specs.BothLost.{BothSitesLost}
 use Rattle.dr_steps.specs.Faults.{told_stop}
 
 -- Each volume has its device, in order of definition: owned by its server, with 13 blocks and one more for each track.
@@ -58,7 +61,9 @@ pub record HasDevices (w : World) (s : PlantState) : Type 0 where
 -- devices, and a write that a secondary stored was acknowledged, or a server stopped. Where a pair is in place by the records on both devices, these
 -- contain the same on each track that isn't recorded. Where a Metro Mirror primary is Full Duplex by these records, whether or not any server
 -- runs, its secondary's device lacks no write of the primary, and has at most one more, which is pending; and so has each such secondary been
--- at each moment of the steps. What a comparison answered as the last step is what the devices contain; and if a failback and a drain after
+-- at each moment of the steps. At each of these moments a Metro Mirror secondary, cascaded or not, shows what its primary does, on each track that
+-- isn't out of sync there; each cut has its moment; and of the newest group of a session, the targets of members whose primaries were cascaded show
+-- what the first site's volumes did at the cut, on these tracks. What a comparison answered as the last step is what the devices contain; and if a failback and a drain after
 -- it were answered ok, the pair is turned round, and both devices contain what the host writes make.
 pub record Stands (steps : List Task) (world : World) (events : List Event) (s s' : PlantState) : Type 0 where
   pub leads : run steps ≡ world
@@ -93,6 +98,9 @@ pub record Stands (steps : List Task) (world : World) (events : List Event) (s s
   pub sites : SitesAlike world s'.block
   pub secondaries : SecondariesLackNone world (record_on world s'.block) (on_device world.control s'.block)
   pub lack_none : (tasks : List Task) → run tasks ≡ world → NoneIsLacking tasks
+  pub from_first : (tasks : List Task) → run tasks ≡ world → FromFirstSite tasks
+  pub cut_moments : (tasks : List Task) → run tasks ≡ world → CutsAreMoments tasks
+  pub both_lost : (tasks : List Task) → run tasks ≡ world → BothSitesLost tasks s'.block
   pub compared : (tasks : List Task) → run tasks ≡ world → ComparesDevices tasks s'.block
   pub returned : (tasks : List Task) → run tasks ≡ world → Returns tasks s'.block
   pub refused : (tasks : List Task) → run tasks ≡ world → RefusedStay tasks

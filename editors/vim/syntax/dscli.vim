@@ -7,7 +7,7 @@ syn match dscliBadCommand /^\s*\S\+/
 syn match dscliComment /^#.*/ contains=dscliCode
 syn match dscliPlan /^#sweep\>.*/
 syn region dscliImage start=/^image 1$/ end=/^end$/
-syn match dscliCode /\<\%(E01\|E02\|E03\|E04\|E05\|E06\|E07\|E08\|E09\|E10\|E11\|E12\|E13\|E14\|E15\|E16\|E17\|E18\|E19\|E20\|E21\|E22\|E23\|E25\)\>/ contained
+syn match dscliCode /\<\%(E01\|E02\|E03\|E04\|E05\|E06\|E07\|E08\|E09\|E10\|E11\|E12\|E13\|E14\|E15\|E16\|E17\|E18\|E19\|E20\|E21\|E22\|E23\|E25\|E26\)\>/ contained
 syn match dscliBadOption /\s\@1<=-\S*/ contained
 syn match dscliNumber /\s\@1<=\%(\d\+\|\x\x\+\)\ze\%(\s\|$\)/ contained
 syn match dscliVolume /\s\@1<=\%(\x\{4}\%([-,:]\x\{4}\)*\|\x\x:\x\x\)\ze\%(\s\|$\)/ contained
@@ -81,7 +81,7 @@ syn region dscliLine matchgroup=dscliCommand start=/^\s*mkgmir\ze\%(\s\|$\)/ end
 syn match dscliOption_mkgmir /\s\@1<=\%(-cginterval\|-coordinate\|-dev\|-drain\|-lss\|-quiet\|-remotedev\|-session\)\ze\%(\s\|$\)/ contained
 hi def link dscliOption_mkgmir dscliOption
 syn region dscliLine matchgroup=dscliCommand start=/^\s*mkpprc\ze\%(\s\|$\)/ end=/$/ oneline keepend contains=dscliBadOption,dscliNumber,dscliVolume,dscliPort,dscliOption_mkpprc,dscliWord_mkpprc
-syn match dscliOption_mkpprc /\s\@1<=\%(-dev\|-mode\|-quiet\|-remotedev\|-type\)\ze\%(\s\|$\)/ contained
+syn match dscliOption_mkpprc /\s\@1<=\%(-cascade\|-dev\|-mode\|-quiet\|-remotedev\|-type\)\ze\%(\s\|$\)/ contained
 hi def link dscliOption_mkpprc dscliOption
 syn match dscliWord_mkpprc /\s\@1<=\%(full\|gcp\|mmir\|nocp\)\ze\%(\s\|$\)/ contained
 hi def link dscliWord_mkpprc dscliWord

@@ -30,6 +30,7 @@ syn match dscliRefused /\%(^\d\+ \)\@<=E21 \%(stopped\)\>/
 syn match dscliRefused /\%(^\d\+ \)\@<=E22 \%(no group\)\>/
 syn match dscliRefused /\%(^\d\+ \)\@<=E23 \%(journal full\)\>/
 syn match dscliRefused /\%(^\d\+ \)\@<=E25 \%(old message\)\>/
+syn match dscliRefused /\%(^\d\+ \)\@<=E26 \%(held\)\>/
 syn match dscliState /\<\%(CommitRest\|Committing\|Coordinating\|Copy Pending\|Draining\|Finishing\|Flashing\|Full Duplex\|Idle\|Impossible\|Lost\|NoMember\|Nothing\|Releasing\|RevertAll\|RevertSome\|Reverting\|Suspended\|Target\)\>/
 hi def link dscliLineNumber LineNr
 hi def link dscliDone Statement

@@ -1,6 +1,9 @@
-use Rattle.std.proofs.Common.{◌&&◌, true, ◌≡◌, refl, sym, subst}
+use Rattle.std.proofs.Common.{◌&&◌, true, ◌≡◌, [], ◌∷◌, refl, sym, subst}
+use Rattle.std.specs.Prelude.{if◌then◌else◌}
 use Rattle.dr_model.specs.declared.state.Part.{Part}
+use Rattle.dr_model.specs.Carry.{now}
 use Rattle.dr_model.specs.Control.{Volume}
+use Rattle.dr_model.specs.Moves.{TakeOver, LeavePrimary}
 use Rattle.dr_model.specs.PairEntries.{failover_entries}
 use Rattle.dr_model.specs.Pairs.{is_secondary_of, is_kind, taken_over}
 use Rattle.dr_model.specs.ReadStops.{Ends}
@@ -19,7 +22,8 @@ returns-clause-carried g c r =
     let w = world_seen s c.args.config.now r c.args.journal.now.events in
     let u = world_seen (g.P.Plant.state c.take_over.new.plant) c.args.config.now r c.take_over.new.journal.events in
     subst (λ (k : Part). Ends (armed_in s) u (refusal_of c.take_over.result) w (failover_entries w.control c.args.b.0 c.args.a.0 k)) c.part_of.ensures.part
-    (c.in_default.ensures.checked r c.args.journal.now.events (armed_in s) u (refusal_of c.take_over.result) _ (c.take_over.ensures.carried r))
+    (c.in_default.ensures.checked r c.args.journal.now.events (armed_in s) u (refusal_of c.take_over.result) _
+    (subst (λ b. Ends (armed_in s) u (refusal_of c.take_over.result) w (now (if b then LeavePrimary c.args.b.0 else TakeOver c.args.b.0) ∷ [])) (sym c.requires.uncascaded) (c.take_over.ensures.carried r)))
 
 pub returns-clause-unchanged : goal.returns-clause-unchanged
 returns-clause-unchanged g c calm =

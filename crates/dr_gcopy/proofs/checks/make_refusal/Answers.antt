@@ -32,7 +32,7 @@ returns-in-Some-free_refusal-clause-checked g c r events armed ds =
 
 pub returns-clause-checked : goal.returns-clause-checked
 returns-clause-checked g c r events =
-    then-checked (world_seen (g.P.Plant.state c.args.plant.now) c.args.config.now r events) (running_check (world_seen (g.P.Plant.state c.args.plant.now) c.args.config.now r events).control c.args.a.0 ∷ refuse_if (reach_refusal c.args.a.0 c.args.b.0) ∷ unlike_checks c.args.a.0 c.args.b.0 ++ free_checks (world_seen (g.P.Plant.state c.args.plant.now) c.args.config.now r events).control c.args.a.0 c.args.b.0) (flash_checks (world_seen (g.P.Plant.state c.args.plant.now) c.args.config.now r events).control c.args.a.0 c.args.b.0) c.flash_refusal.result
+    then-checked (world_seen (g.P.Plant.state c.args.plant.now) c.args.config.now r events) (running_check (world_seen (g.P.Plant.state c.args.plant.now) c.args.config.now r events).control c.args.a.0 ∷ refuse_if (reach_refusal c.args.a.0 c.args.b.0) ∷ unlike_checks c.args.a.0 c.args.b.0 ++ free_checks (world_seen (g.P.Plant.state c.args.plant.now) c.args.config.now r events).control c.args.a.0 c.args.b.0 c.args.cascade) (flash_checks (world_seen (g.P.Plant.state c.args.plant.now) c.args.config.now r events).control c.args.a.0 c.args.b.0) c.flash_refusal.result
     (λ armed u r' ds more. c.in_default.ensures.checked r events armed u r' _
     (ends-clear armed u r' (world_seen (g.P.Plant.state c.args.plant.now) c.args.config.now r events) (reach_refusal c.args.a.0 c.args.b.0) _ (sym (c.in_default-reach_refusal.ensures.refusal r events))
     (c.in_default-unlike_refusal.ensures.checked (g.P.Plant.state c.args.plant.now) r events armed u r' _

@@ -1,10 +1,10 @@
-use Rattle.std.proofs.Common.{◌≡◌, ◌+◌, length, arith, refl, sym, subst, ◌∙◌, [], ◌∷◌, false}
+use Rattle.std.proofs.Common.{◌≡◌, ◌≢◌, ◌+◌, length, arith, refl, sym, subst, ◌∙◌, [], ◌∷◌, false}
 use Rattle.std.specs.Prelude.{Ok}
 use Rattle.std.specs.Result.{IfOk}
-use Rattle.dr_model.specs.Entries.{land_alone}
-use Rattle.dr_model.specs.PairEntries.{suspend_after}
-use Rattle.dr_model.specs.WriteEntries.{send_first, part_after}
-use Rattle.dr_volume.specs.View.{ids_of}
+use Rattle.dr_model.specs.PairEntries.{suspend_after, send_first}
+use Rattle.dr_model.specs.WriteEntries.{part_after}
+use Rattle.dr_model.specs.Entries.{copies_from, land_alone}
+use Rattle.dr_volume.specs.View.{ids_of, volume_seen}
 use Rattle.dr_metro.specs.Syncing.{sent_stretches}
 use Rattle.dr_metro.specs.declared.sync.WriteEnd.TheVariants.{Landed}
 use Rattle.dr_metro.proofs.WroteLemmas.{ran-told, due-still, on-still, landed-wrote, landed-end}
@@ -20,9 +20,11 @@ write_alone-requires-clause-due g c =
     let j = c.args.journal.now in
     let l = c.send_old.new.journal in
     let w = c.args.w.now in
+    let v = w.volume.0 in
+    let u = c.args.u.0 in
     let n = length t.volumes in
     let ran = c.in-Ok.ensures.ran in
-    due-still s m t h j.events l.events w ran.stays.at (ran-told s m t h j l (send_first (ids_of t.volumes) w.volume.0 c.args.u.0 w.track) (λ q. ⊥) (n + 3) (n + 2) (Ok tt) ran c.requires.due.told) c.requires.due
+    due-still s m t h j.events l.events w ran.stays.at (ran-told s m t h j l (send_first (ids_of t.volumes) w.volume.0 c.args.u.0 w.track) (λ q. (q ≢ v) × ((q ≢ u) × (copies_from u (volume_seen s t q).fields ≡ false))) (n + 3) (n + 2) (Ok tt) ran c.requires.due.told) c.requires.due
 
 pub write_alone-requires-clause-running : goal.write_alone-requires-clause-running
 write_alone-requires-clause-running g c =
@@ -52,7 +54,7 @@ returns-in-Ok-clause-wrote g c =
     let l = c.send_old.new.journal in
     let b = c.followed.ensures in
     in-as s y t h k j c.followed.new.journal (λ z. sent_stretches ids w.w.0 v w.track u) (λ z. sent_stretches ids w.w.0 v w.track u) (n + 2 + (n + 1 + 3)) (n + (n + 6)) c.landed-done.result c.followed.result (omega arith) (λ r. refl) b.result
-    (in-then s m y t h j l c.followed.new.journal (send_first ids v u w.track) (λ q. ⊥) (n + 3) (n + 2) (suspend_after v) (record { entries = land_alone ids w.w.0 v w.track; follows = part_after v } ∷ []) k (n + 1 + 3) (n + 2 + (n + 1 + 3)) c.landed-done.result (omega arith) c.in-Ok.ensures.ran
+    (in-then s m y t h j l c.followed.new.journal (send_first ids v u w.track) (λ q. (q ≢ v) × ((q ≢ u) × (copies_from u (volume_seen s t q).fields ≡ false))) (n + 3) (n + 2) (suspend_after v) (record { entries = land_alone ids w.w.0 v w.track; follows = part_after v } ∷ []) k (n + 1 + 3) (n + 2 + (n + 1 + 3)) c.landed-done.result (omega arith) c.in-Ok.ensures.ran
     (wrote-in m x y t h l c.write_alone.new.journal c.followed.new.journal k (λ z. land_alone ids w.w.0 v w.track) (part_after v) (n + 1) c.landed-done.result
     (landed-wrote c.write_alone.result c.landed-done.result c.landed-done.ensures m x t h k l c.write_alone.new.journal (λ z. land_alone ids w.w.0 v w.track) (n + 1) c.write_alone.ensures.wrote)
     (record { follows = b.follows; at = b.at; unarmed = b.unarmed; faults = b.faults; room = b.room; spare = b.spare })))
@@ -72,8 +74,9 @@ returns-in-Err-clause-wrote g c =
     let h = c.args.h.now in
     let w = c.args.w.now in
     let v = w.volume.0 in
+    let u = c.args.u.0 in
     let ids = ids_of t.volumes in
     let n = length t.volumes in
     let b = c.follow_stop.ensures in
-    in-failed s m y t h c.args.journal.now c.send_old.new.journal c.follow_stop.new.journal (send_first ids v c.args.u.0 w.track) (λ q. ⊥) (n + 3) (n + 2) (suspend_after v) (record { entries = land_alone ids w.w.0 v w.track; follows = part_after v } ∷ []) (n + (n + 6)) c.in-Err.why (omega arith) c.requires.due.told c.in-Err.ensures.ran
+    in-failed s m y t h c.args.journal.now c.send_old.new.journal c.follow_stop.new.journal (send_first ids v c.args.u.0 w.track) (λ q. (q ≢ v) × ((q ≢ u) × (copies_from u (volume_seen s t q).fields ≡ false))) (n + 3) (n + 2) (suspend_after v) (record { entries = land_alone ids w.w.0 v w.track; follows = part_after v } ∷ []) 3 (n + (n + 6)) c.in-Err.why (omega arith) c.requires.due.told c.in-Err.ensures.ran
     (record { follows = b.follows; at = record { rest = b.rest; fit = b.fit }; unarmed = b.unarmed; faults = b.faults; room = b.room; spare = b.spare })

@@ -18,8 +18,7 @@ use Rattle.dr_metro.specs.Mirroring.{Mirrors}
 use Rattle.dr_host.specs.Here.{here}
 use Rattle.dr_metro.specs.Syncing.{over_entries, sent_stretches, parts, stretches_by, waits_by, end_of}
 use Rattle.dr_moves.proofs.TurnLemmas.{ok-along}
-use Rattle.dr_metro.proofs.SyncLemmas.{held-stretches, over-stretches, sent-stretches, alone-stretches, held-waits, over-waits, here-waits, nothing-mirrored, collides-global, followed-given}
-use Rattle.dr_metro.proofs.WroteLemmas.{landed-wrote, landed-ok, landed-end}
+use Rattle.dr_metro.proofs.SyncLemmas.{held-stretches, over-stretches, sent-stretches, alone-stretches, held-waits, over-waits, here-waits, nothing-mirrored, collides-global, followed-given, ok-given}
 use Rattle.dr_metro.proofs.WroteInLemmas.{wrote-in, in-as, in-nothing}
 use Rattle.dr_metro.proofs.sync.place_write.Goals as goal
 
@@ -134,50 +133,37 @@ returns-then-collides-clause-mirrors g c =
     let meets : pairs.collides f c.args.w.now.track ≡ true = sym c.collides.ensures ∙ c.if-collides.true in
     λ metro. global_metro f.primary (collides-global f.primary _ meets) metro
 
-pub followed-requires-2-clause-at : goal.followed-requires-2-clause-at
-followed-requires-2-clause-at g c = c.write_here.ensures.wrote.at
-
-pub followed-requires-2-clause-room : goal.followed-requires-2-clause-room
-followed-requires-2-clause-room g c = let a = c.requires.room in let b = c.write_here.ensures.wrote.room in omega (arith, a, b)
+pub write_unsent-requires-clause-room : goal.write_unsent-requires-clause-room
+write_unsent-requires-clause-room g c = let a = c.requires.room in omega (arith, a)
 
 pub returns-clause-wrote : goal.returns-clause-wrote
 returns-clause-wrote g c =
     let s = g.P.Plant.state c.args.plant.now in
-    let m = g.P.Plant.state c.write_here.new.plant in
-    let x = g.P.Plant.state c.followed-2.new.plant in
+    let x = g.P.Plant.state c.write_unsent.new.plant in
     let t = c.args.config.now in
     let h = c.args.h.now in
-    let k = c.write_here.new.h in
     let w = c.args.w.now in
     let v = w.volume.0 in
     let f = plain c.args.fields.now in
     let n = length t.volumes in
     let j = c.args.journal.now in
-    let l = c.write_here.new.journal in
-    let alone = land_alone (ids_of t.volumes) w.w.0 v w.track in
-    let b = c.followed-2.ensures in
-    in-as s x t h k j c.followed-2.new.journal (λ z. record { entries = alone; follows = part_after v } ∷ []) (λ z. stretches_by z f w.w.0 v w.track) (n + 1 + 3) (n + (n + 6)) c.landed-done.result c.followed-2.result (omega arith)
-    (λ r. sym (alone-stretches (here s t r h j.events).control f w.w.0 v w.track (sym c.is_held.ensures ∙ c.if-is_held.false) (sym c.goes_over.ensures ∙ c.if-goes_over.false) (sym c.collides.ensures ∙ c.if-collides.false))) b.result
-    (wrote-in s m x t h j l c.followed-2.new.journal k (λ z. alone) (part_after v) (n + 1) c.landed-done.result
-    (landed-wrote c.write_here.result c.landed-done.result c.landed-done.ensures s m t h k j l (λ z. alone) (n + 1) c.write_here.ensures.wrote)
-    (record { follows = b.follows; at = b.at; unarmed = b.unarmed; faults = b.faults; room = b.room; spare = b.spare }))
+    let new = c.write_unsent.new in
+    in-as s x t h new.h j new.journal (λ z. record { entries = land_alone (ids_of t.volumes) w.w.0 v w.track; follows = part_after v } ∷ []) (λ z. stretches_by z f w.w.0 v w.track) (n + 4) (n + (n + 6)) c.write_unsent.result c.write_unsent.result (omega arith)
+    (λ r. sym (alone-stretches (here s t r h j.events).control f w.w.0 v w.track (sym c.is_held.ensures ∙ c.if-is_held.false) (sym c.goes_over.ensures ∙ c.if-goes_over.false) (sym c.collides.ensures ∙ c.if-collides.false))) refl c.write_unsent.ensures.wrote
 
 pub returns-clause-end : goal.returns-clause-end
 returns-clause-end g c r =
     let w = c.args.w.now in
     let k = (here (g.P.Plant.state c.args.plant.now) c.args.config.now r c.args.h.now c.args.journal.now.events).control in
-    subst (λ x. IfOk x (λ (e : WriteEnd). e ≡ end_of (waits_by k (plain c.args.fields.now) w.volume.0 w.track))) (sym c.followed-2.ensures.result)
-    (landed-end c.write_here.result c.landed-done.result c.landed-done.ensures (waits_by k (plain c.args.fields.now) w.volume.0 w.track) (here-waits k (plain c.args.fields.now) w.w.0 w.volume.0 w.track (sym c.is_held.ensures ∙ c.if-is_held.false) (sym c.goes_over.ensures ∙ c.if-goes_over.false)))
+    subst (λ b. IfOk c.write_unsent.result (λ (e : WriteEnd). e ≡ end_of b)) (sym (here-waits k (plain c.args.fields.now) w.w.0 w.volume.0 w.track (sym c.is_held.ensures ∙ c.if-is_held.false) (sym c.goes_over.ensures ∙ c.if-goes_over.false))) c.write_unsent.ensures.end
 
 pub returns-clause-mirrors : goal.returns-clause-mirrors
 returns-clause-mirrors g c = λ metro.
     let s = g.P.Plant.state c.args.plant.now in
-    let x = g.P.Plant.state c.write_here.new.plant in
+    let x = g.P.Plant.state c.write_unsent.new.plant in
     let t = c.args.config.now in
     let v = c.args.w.now.volume.0 in
     let k = c.args.w.now.track in
     let shows = c.requires.shows.fields in
-    let b = c.followed-2.ensures in
-    followed-given (λ e. e ≡ Landed) c.landed-done.result c.followed-2.result b.result _ _ (λ y. Mirrors y t v c.args.fields.now.primary_partner.0 k) b.stays
-    (ok-along c.landed-done.result (landed-ok c.write_here.result c.landed-done.result c.landed-done.ensures _ c.write_here.ensures.left) (λ is in_sync active.
+    ok-given c.write_unsent.result (λ e. e ≡ Landed) _ (ok-along c.write_unsent.result c.write_unsent.ensures.left (λ is in_sync active.
     nothing-mirrored (volume_seen s t v).tracks (volume_seen s t v).fields (volume_seen x t v).fields k is (ap (λ (y : Fields). is_metro y.primary) (sym shows) ∙ metro) (ap (λ (y : Fields). goes_over y k) (sym shows) ∙ sym c.goes_over.ensures ∙ c.if-goes_over.false) in_sync active))

@@ -1,4 +1,4 @@
-use Rattle.std.proofs.Common.{◌≡◌, ◌+◌, ◌≤◌, length, arith, true, refl, sym, ap, ◌∙◌, subst, Some, None, ◌&&◌}
+use Rattle.std.proofs.Common.{◌≡◌, true, refl, sym, ap, ◌∙◌, subst, Some, None, ◌&&◌}
 use Rattle.std.specs.Prelude.{is_some}
 use Rattle.std.proofs.lemmas.Bool.{and_parts}
 use Rattle.dr_config.proofs.Lookups.{place-of-entry, none-mapped}
@@ -14,8 +14,7 @@ use Rattle.dr_volume.specs.View.{volume_seen, on_seen}
 use Rattle.dr_steps.specs.Here.{here, rest_of, Carries}
 use Rattle.dr_steps.proofs.LocatedLemmas.{mapped_some, seen-entry}
 use Rattle.dr_steps.proofs.LandLemmas.{ready-after}
-use Rattle.dr_steps.proofs.RelationLemmas.{relations-fit}
-use Rattle.dr_steps.proofs.DrainLemmas.{partner, sends-tell, drain-nowhere, drain-off, drain-unfit, drain-done, drain-failed, drain-told}
+use Rattle.dr_steps.proofs.DrainLemmas.{drain-nowhere, drain-off, drain-unfit, drain-done, drain-failed, drain-told}
 use Rattle.dr_steps.proofs.pairs.drain_by.Goals as goal
 use Rattle.dr_volume.proofs.WorldLaws.{on-seen}
 
@@ -44,51 +43,22 @@ returns-then-not-is_copying-clause-step g c =
     let may = ap (λ (h : Head). is_part h.primary && is_pending h.primary_state) (sym c.requires.head) ∙ sym c.if-not-is_copying.ensures in
     drain-unfit s t h ev c.args.a.0 c.requires.ready.reads c.args.most e.0 e.1 runs c.pair_state.result may (c.pair_state.ensures.refusal (rest_of h ev) ev)
 
-pub drain-requires-clause-fit : goal.drain-requires-clause-fit
-drain-requires-clause-fit g c = relations-fit (g.P.Plant.state c.args.plant.now) c.args.config.now c.args.tables.now c.args.journal.now.events c.requires.sound
-
-pub drain-requires-clause-from : goal.drain-requires-clause-from
-drain-requires-clause-from g c =
+pub drain_over-requires-clause-from : goal.drain_over-requires-clause-from
+drain_over-requires-clause-from g c =
     let e = mapped_some (λ (e : VolumeEntry). e.server) _ _ c.in-Some.ensures.value in
     ap is_some (place-of-entry c.args.config.now c.args.a.0 e.0 e.1).1
 
-pub drain-requires-clause-running : goal.drain-requires-clause-running
-drain-requires-clause-running g c =
-    let s = g.P.Plant.state c.args.plant.now in let t = c.args.config.now in let h = c.args.tables.now in let ev = c.args.journal.now.events in
+pub drain_over-requires-clause-running : goal.drain_over-requires-clause-running
+drain_over-requires-clause-running g c =
+    let s = g.P.Plant.state c.args.plant.now in let t = c.args.config.now in
     let e = mapped_some (λ (e : VolumeEntry). e.server) _ _ c.in-Some.ensures.value in
     let owner : (volume_seen s t c.args.a.0).server ≡ c.in-Some.server.0 = (seen-entry s t c.args.a.0 e.0 e.1).0 ∙ e.2 in
     ap s.on owner ∙ sym c.if-not-is_on.ensures
 
-pub drain-requires-clause-to : goal.drain-requires-clause-to
-drain-requires-clause-to g c =
-    let s = g.P.Plant.state c.args.plant.now in let t = c.args.config.now in let h = c.args.tables.now in let ev = c.args.journal.now.events in
-    let may = ap (λ (h : Head). is_part h.primary && is_pending h.primary_state) (sym c.requires.head) ∙ sym c.if-not-is_copying.ensures in
-    (partner s t h ev c.args.a.0 c.requires.ready.reads c.requires.sound (and_parts _ _ may).0).0
-
-pub drain-requires-clause-primary : goal.drain-requires-clause-primary
-drain-requires-clause-primary g c =
+pub drain_over-requires-clause-primary : goal.drain_over-requires-clause-primary
+drain_over-requires-clause-primary g c =
     let may = ap (λ (h : Head). is_part h.primary && is_pending h.primary_state) (sym c.requires.head) ∙ sym c.if-not-is_copying.ensures in
     (and_parts _ _ may).0
-
-pub drain-requires-clause-two_servers : goal.drain-requires-clause-two_servers
-drain-requires-clause-two_servers g c =
-    let s = g.P.Plant.state c.args.plant.now in let t = c.args.config.now in let h = c.args.tables.now in let ev = c.args.journal.now.events in
-    let may = ap (λ (h : Head). is_part h.primary && is_pending h.primary_state) (sym c.requires.head) ∙ sym c.if-not-is_copying.ensures in
-    (partner s t h ev c.args.a.0 c.requires.ready.reads c.requires.sound (and_parts _ _ may).0).2
-
-pub drain-requires-clause-size : goal.drain-requires-clause-size
-drain-requires-clause-size g c =
-    let s = g.P.Plant.state c.args.plant.now in let t = c.args.config.now in let h = c.args.tables.now in let ev = c.args.journal.now.events in
-    let may = ap (λ (h : Head). is_part h.primary && is_pending h.primary_state) (sym c.requires.head) ∙ sym c.if-not-is_copying.ensures in
-    (partner s t h ev c.args.a.0 c.requires.ready.reads c.requires.sound (and_parts _ _ may).0).1
-
-pub drain-requires-clause-room : goal.drain-requires-clause-room
-drain-requires-clause-room g c k r u leads =
-    let s = g.P.Plant.state c.args.plant.now in let t = c.args.config.now in let h = c.args.tables.now in let ev = c.args.journal.now.events in
-    let tell : length u.events ≤ length ev + 3584 + 1 = sends-tell s t h ev c.args.a.0 c.requires.ready.reads c.requires.sound c.requires.ready.rest k r u leads in
-    let few = c.requires.few in
-    let room = c.requires.room in
-    omega (arith, tell, few, room)
 
 pub returns-in-Ok-clause-step : goal.returns-in-Ok-clause-step
 returns-in-Ok-clause-step g c =
@@ -97,16 +67,16 @@ returns-in-Ok-clause-step g c =
     let owner : (volume_seen s t c.args.a.0).server ≡ c.in-Some.server.0 = (seen-entry s t c.args.a.0 e.0 e.1).0 ∙ e.2 in
     let runs : on_seen s (volume_seen s t c.args.a.0).server ≡ true = ap (on_seen s) owner ∙ on-seen s c.in-Some.server.0 c.in-Some.ensures.defined.below ∙ sym c.if-not-is_on.ensures in
     let may = ap (λ (h : Head). is_part h.primary && is_pending h.primary_state) (sym c.requires.head) ∙ sym c.if-not-is_copying.ensures in
-    let u = here (g.P.Plant.state c.drain.new.plant) t h c.drain.new.journal.events in
+    let u = here (g.P.Plant.state c.drain_over.new.plant) t h c.drain_over.new.journal.events in
     let count = sym c.in-Ok.ensures.count ∙ sym c.from.ensures in
     subst (λ n. Carries (here s t h ev) (drain_plan (here s t h ev).control c.args.a.0 c.args.most) u (Done (Counted n))) count
-    (drain-done s t h ev c.args.a.0 c.requires.ready.reads c.args.most e.0 e.1 runs may u (c.in-Ok.ensures.carried (rest_of h ev)))
+    (drain-done s t h ev c.args.a.0 c.requires.ready.reads c.args.most e.0 e.1 runs may u c.in-Ok.ensures.carried)
 
 pub returns-in-Ok-clause-ready : goal.returns-in-Ok-clause-ready
 returns-in-Ok-clause-ready g c =
     let s = g.P.Plant.state c.args.plant.now in let t = c.args.config.now in let h = c.args.tables.now in let ev = c.args.journal.now.events in
-    let u = here (g.P.Plant.state c.drain.new.plant) t h c.drain.new.journal.events in
-    ready-after t s (g.P.Plant.state c.drain.new.plant) h c.drain.new.journal.events c.requires.ready.reads c.in-Ok.ensures.rest c.in-Ok.ensures.unarmed (drain-told s t h ev c.args.a.0 c.requires.ready.reads c.args.most u None (c.in-Ok.ensures.carried (rest_of h ev)) c.requires.ready.told)
+    let u = here (g.P.Plant.state c.drain_over.new.plant) t h c.drain_over.new.journal.events in
+    ready-after t s (g.P.Plant.state c.drain_over.new.plant) h c.drain_over.new.journal.events c.requires.ready.reads c.in-Ok.ensures.rest c.in-Ok.ensures.unarmed (drain-told s t h ev c.args.a.0 c.requires.ready.reads c.args.most u None c.in-Ok.ensures.carried c.requires.ready.told)
 
 pub returns-in-Err-clause-step : goal.returns-in-Err-clause-step
 returns-in-Err-clause-step g c =
@@ -115,10 +85,10 @@ returns-in-Err-clause-step g c =
     let owner : (volume_seen s t c.args.a.0).server ≡ c.in-Some.server.0 = (seen-entry s t c.args.a.0 e.0 e.1).0 ∙ e.2 in
     let runs : on_seen s (volume_seen s t c.args.a.0).server ≡ true = ap (on_seen s) owner ∙ on-seen s c.in-Some.server.0 c.in-Some.ensures.defined.below ∙ sym c.if-not-is_on.ensures in
     let may = ap (λ (h : Head). is_part h.primary && is_pending h.primary_state) (sym c.requires.head) ∙ sym c.if-not-is_copying.ensures in
-    drain-failed s t h ev c.args.a.0 c.requires.ready.reads c.args.most e.0 e.1 runs may (here (g.P.Plant.state c.drain.new.plant) t h c.drain.new.journal.events) c.in-Err.refusal (c.in-Err.ensures.carried (rest_of h ev))
+    drain-failed s t h ev c.args.a.0 c.requires.ready.reads c.args.most e.0 e.1 runs may (here (g.P.Plant.state c.drain_over.new.plant) t h c.drain_over.new.journal.events) c.in-Err.refusal c.in-Err.ensures.carried
 
 pub returns-in-Err-clause-ready : goal.returns-in-Err-clause-ready
 returns-in-Err-clause-ready g c =
     let s = g.P.Plant.state c.args.plant.now in let t = c.args.config.now in let h = c.args.tables.now in let ev = c.args.journal.now.events in
-    let u = here (g.P.Plant.state c.drain.new.plant) t h c.drain.new.journal.events in
-    ready-after t s (g.P.Plant.state c.drain.new.plant) h c.drain.new.journal.events c.requires.ready.reads c.in-Err.ensures.rest c.in-Err.ensures.unarmed (drain-told s t h ev c.args.a.0 c.requires.ready.reads c.args.most u (Some c.in-Err.refusal) (c.in-Err.ensures.carried (rest_of h ev)) c.requires.ready.told)
+    let u = here (g.P.Plant.state c.drain_over.new.plant) t h c.drain_over.new.journal.events in
+    ready-after t s (g.P.Plant.state c.drain_over.new.plant) h c.drain_over.new.journal.events c.requires.ready.reads c.in-Err.ensures.rest c.in-Err.ensures.unarmed (drain-told s t h ev c.args.a.0 c.requires.ready.reads c.args.most u (Some c.in-Err.refusal) c.in-Err.ensures.carried c.requires.ready.told)

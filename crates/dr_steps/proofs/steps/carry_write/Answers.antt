@@ -1,14 +1,23 @@
 use Rattle.std.proofs.Common.{◌∙◌, ap}
+use Rattle.std.specs.Prelude.{is_some}
+use Rattle.dr_config.proofs.Lookups.{place-of-entry}
 use Rattle.dr_model.specs.WriteEntries.{waits}
 use Rattle.dr_steps.specs.Faults.{is_stopped}
 use Rattle.dr_steps.specs.Here.{here, rest_of}
 use Rattle.dr_steps.specs.Waiting.{written_as}
 use Rattle.dr_steps.proofs.LandLemmas.{ready-after}
-use Rattle.dr_steps.proofs.StepLemmas.{written-end, written-calm, calm-counts}
+use Rattle.dr_steps.proofs.LocatedLemmas.{some_entry}
+use Rattle.dr_steps.proofs.StepLemmas.{written-end, written-calm, calm-counts, there-is}
 use Rattle.dr_steps.proofs.steps.carry_write.Goals as goal
 
-pub sync_write-requires-clause-to : goal.sync_write-requires-clause-to
-sync_write-requires-clause-to g c = c.requires.partners.defined c.args.write.now.volume.0
+pub place_write-requires-clause-due : goal.place_write-requires-clause-due
+place_write-requires-clause-due g c =
+    let q = c.requires in
+    let t = c.args.config.now in
+    let w = c.args.write.now in
+    let there = there-is (g.P.Plant.state c.args.plant.now) t c.args.tables.now c.args.journal.now.events w.volume.0 w.track q.there in
+    let e = some_entry _ there.0 in
+    record { at = record { rest = q.ready.rest; fit = q.fit }; told = q.ready.told; defined = ap is_some (place-of-entry t w.volume.0 e.0 e.1).1; within = there.1; fits = q.fits; found = q.found }
 
 pub returns-in-Ok-clause-says : goal.returns-in-Ok-clause-says
 returns-in-Ok-clause-says g c =
@@ -17,19 +26,21 @@ returns-in-Ok-clause-says g c =
 
 pub returns-in-Ok-clause-ready : goal.returns-in-Ok-clause-ready
 returns-in-Ok-clause-ready g c =
-    ready-after c.args.config.now (g.P.Plant.state c.args.plant.now) (g.P.Plant.state c.sync_write.new.plant) (record c.args.tables.now { host = c.sync_write.new.h }) c.sync_write.new.journal.events c.requires.ready.reads c.in-Ok.ensures.rest c.in-Ok.ensures.unarmed c.in-Ok.ensures.told
+    let e = c.in-Ok.ensures.wrote in
+    ready-after c.args.config.now (g.P.Plant.state c.args.plant.now) (g.P.Plant.state c.place_write.new.plant) (record c.args.tables.now { host = c.place_write.new.host }) c.place_write.new.journal.events c.requires.ready.reads e.at.rest e.unarmed e.told
 
 pub returns-in-Ok-clause-faults : goal.returns-in-Ok-clause-faults
 returns-in-Ok-clause-faults g c =
-    let s = g.P.Plant.state c.args.plant.now in let u = g.P.Plant.state c.sync_write.new.plant in
-    calm-counts _ s u (ap is_stopped c.answer.ensures ∙ written-calm c.args.write.now.w.0 c.in-Ok.end) c.in-Ok.ensures.faults
+    let s = g.P.Plant.state c.args.plant.now in let u = g.P.Plant.state c.place_write.new.plant in
+    calm-counts _ s u (ap is_stopped c.answer.ensures ∙ written-calm c.args.write.now.w.0 c.in-Ok.end) c.in-Ok.ensures.wrote.faults
+
+pub returns-in-Ok-clause-carried : goal.returns-in-Ok-clause-carried
+returns-in-Ok-clause-carried g c = c.in-Ok.ensures.wrote.carried (rest_of c.args.tables.now c.args.journal.now.events)
 
 pub returns-in-Err-clause-ready : goal.returns-in-Err-clause-ready
 returns-in-Err-clause-ready g c =
-    ready-after c.args.config.now (g.P.Plant.state c.args.plant.now) (g.P.Plant.state c.sync_write.new.plant) (record c.args.tables.now { host = c.sync_write.new.h }) c.sync_write.new.journal.events c.requires.ready.reads c.in-Err.ensures.rest c.in-Err.ensures.unarmed c.in-Err.ensures.told
-
-pub returns-in-Ok-clause-carried : goal.returns-in-Ok-clause-carried
-returns-in-Ok-clause-carried g c = c.in-Ok.ensures.carried (rest_of c.args.tables.now c.args.journal.now.events)
+    let e = c.in-Err.ensures.wrote in
+    ready-after c.args.config.now (g.P.Plant.state c.args.plant.now) (g.P.Plant.state c.place_write.new.plant) (record c.args.tables.now { host = c.place_write.new.host }) c.place_write.new.journal.events c.requires.ready.reads e.at.rest e.unarmed e.told
 
 pub returns-in-Err-clause-carried : goal.returns-in-Err-clause-carried
-returns-in-Err-clause-carried g c = c.in-Err.ensures.carried (rest_of c.args.tables.now c.args.journal.now.events)
+returns-in-Err-clause-carried g c = c.in-Err.ensures.wrote.carried (rest_of c.args.tables.now c.args.journal.now.events)

@@ -1,0 +1,58 @@
+use Rattle.std.proofs.Common.{◌≡◌, ◌+◌, length, sym, subst}
+use Rattle.std.specs.Result.{IfOk}
+use Rattle.dr_host.specs.Writes.{Writes}
+use Rattle.dr_host.specs.Here.{here}
+use Rattle.dr_model.specs.WriteEntries.{waits, write_stretches}
+use Rattle.dr_moves.proofs.ActedLemmas.{err-is}
+use Rattle.dr_metro.specs.Syncing.{end_of}
+use Rattle.dr_metro.specs.Writing.{IsDue, WroteIn}
+use Rattle.dr_metro.specs.declared.sync.WriteEnd.{WriteEnd}
+use Rattle.dr_metro.proofs.WroteInLemmas.{checks-failed, checks-passed}
+use Rattle.dr_cascade.proofs.writing.cascade_write_by.Goals as goal
+
+pub check_write-requires-clause-at : goal.check_write-requires-clause-at
+check_write-requires-clause-at g c = c.requires.due.at
+
+pub check_write-requires-clause-found : goal.check_write-requires-clause-found
+check_write-requires-clause-found g c = c.requires.due.found
+
+pub returns-in_err-found-clause-wrote : goal.returns-in_err-found-clause-wrote
+returns-in_err-found-clause-wrote g c =
+    let s = g.P.Plant.state c.args.plant.now in
+    let t = c.args.config.now in
+    let h = c.args.h.now in
+    let j = c.args.journal.now in
+    let w = c.args.w.now in
+    let v = w.volume.0 in
+    let n = length t.volumes in
+    let why = c.in_err-found.field-0.0 in
+    let e = c.in_err-found.ensures in
+    let new = c.check_write.new.h in
+    let due = c.requires.due in
+    subst (λ res. WroteIn s s t h new j j (λ k. write_stretches k w.w.0 v w.track) (n + (n + (n + 9))) res) (sym (err-is c.from_residual.result why c.from_residual.ensures.0 c.from_residual.ensures.1))
+    (checks-failed s s t h new j j w.w.0 v w.track (n + (n + (n + 9))) why e.calm e.ends due.at (e.told j.events due.told) e.issued)
+
+pub place_write-requires-clause-due : goal.place_write-requires-clause-due
+place_write-requires-clause-due g c =
+    subst (λ (x : Writes). IsDue (g.P.Plant.state c.args.plant.now) c.args.config.now x c.args.journal.now.events c.args.w.now) (sym c.in_ok-found.ensures.same) c.requires.due
+
+pub returns-clause-wrote : goal.returns-clause-wrote
+returns-clause-wrote g c =
+    let s = g.P.Plant.state c.args.plant.now in
+    let t = c.args.config.now in
+    let w = c.args.w.now in
+    let v = w.volume.0 in
+    let n = length t.volumes in
+    let m = g.P.Plant.state c.place_write.new.plant in
+    let new = c.place_write.new in
+    let ok = c.in_ok-found.ensures in
+    subst (λ (h : Writes). WroteIn s m t h new.h c.args.journal.now new.journal (λ k. write_stretches k w.w.0 v w.track) (n + (n + (n + 9))) c.place_write.result) ok.same
+    (checks-passed s m t c.check_write.new.h new.h c.args.journal.now new.journal w.w.0 v w.track (n + (n + (n + 9))) c.place_write.result c.requires.due.at.rest.stands c.requires.due.defined ok.running ok.free c.place_write.ensures.wrote)
+
+pub returns-clause-end : goal.returns-clause-end
+returns-clause-end g c rest =
+    let s = g.P.Plant.state c.args.plant.now in
+    let t = c.args.config.now in
+    let ev = c.args.journal.now.events in
+    let w = c.args.w.now in
+    subst (λ (h : Writes). IfOk c.place_write.result (λ (e : WriteEnd). e ≡ end_of (waits (here s t rest h ev).control w.volume.0 w.track))) c.in_ok-found.ensures.same (c.place_write.ensures.end rest)

@@ -1,0 +1,4 @@
+pub mod FirstSite
+pub mod CutMoments
+pub mod BothLost
+pub mod Example
