@@ -21,12 +21,13 @@ use crate::blocks::begin_of;
 use crate::codes::zero_block;
 use crate::decode::{below, fields_on, staged_in};
 use crate::fields::Fields;
+use crate::form::blocks_of;
 use crate::place::{FIRST_TRACK, Place, device_of, find, tell_sound};
 use dr_bits::TrackSet;
 use dr_config::Config;
 use dr_ids::VolumeId;
 use dr_plant::{Block, DeviceId, Plant, Stopped};
-use dr_record::{put, read_choice};
+use dr_record::{put_blocks, read_choice};
 
 /// The gate of a volume as it was read for a move: the volume's device, and the slot that it chooses.
 #[derive(Clone, Copy)]
@@ -297,7 +298,7 @@ pub(crate) fn rewrite<P: Plant>(
     let way = make_way(plant, device, next, carried);
     stage_next(next, carried);
     way?;
-    put(plant, device, slot, next)
+    put_blocks(plant, device, slot, &blocks_of(next))
 }
 
 /// Writes a track to its own block.
