@@ -1,5 +1,5 @@
 use Rattle.std.proofs.Common.{ℕ, ◌≡◌, ◌<◌, ◌+◌, ◌*◌, Bool, length, ◌++◌, ◌∷◌, [], true, false, not, refl, ap, sym, ◌∙◌, arith, List}
-use Rattle.dr_record.specs.Slots.{slot_of, choice, gate_of, listed, start_of, record_writes}
+use Rattle.dr_record.specs.Slots.{slot_of, gate_of, listed, start_of, record_writes}
 use Rattle.dr_record.specs.Writes.{write, after_writes}
 use Rattle.dr_record.proofs.BlocksLemmas.{same-block_writes}
 use Rattle.dr_volume.specs.declared.fields.Fields.{Fields}
@@ -7,7 +7,6 @@ use Rattle.dr_record.proofs.WritesLemmas.{err_pair, append-goes, append-stops, d
 use Rattle.dr_volume.specs.Record.{record_block}
 use Rattle.dr_volume.specs.Update.{stages, track_writes, given_way, next_record}
 use Rattle.dr_volume.proofs.RanLaws.{ran-written}
-use Rattle.dr_volume.proofs.RewriteLaws.{track-written}
 use Rattle.dr_volume.proofs.opened.rewrite.Goals as goal
 
 -- blocks at hand are written as the record's
