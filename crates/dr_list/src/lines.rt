@@ -3,7 +3,7 @@ ghost use Rattle.std.specs.Fmt.{decimal};
 ghost use Rattle.std.specs.List.{fold};
 ghost use Rattle.dr_model.specs.Text.{untold, heard, told_name, pair_text, flash_text, member_text, mirror_text, said_text, numbered, line_text, text_from};
 ghost use Rattle.dr_list.specs.At.{line_told, heard_at};
-ghost use Rattle.dr_list.specs.Numbered.{is_answer, is_of_volumes};
+ghost use Rattle.dr_list.specs.Numbered.{is_answer, is_of_volumes, is_silent};
 ghost use Rattle.dr_list.specs.Seen.{heard_seen};
 
 use crate::images::push_image_line;
@@ -188,6 +188,39 @@ fn push_event(out: &mut Vec<u8>, told: &Heard, event: &Event) -> Result<(), Allo
     }
 }
 
+/// The event prints no line and tells nothing that lines refer to, as most do.
+fn is_silent(event: &Event) -> bool
+    ensures { result ≡ is_silent event.now }
+{
+    match event {
+        Event::Server { .. }
+        | Event::Shown { .. }
+        | Event::PairLine { .. }
+        | Event::FlashLine { .. }
+        | Event::SessionLine { .. }
+        | Event::MirrorLine { .. }
+        | Event::ImageStart
+        | Event::ImageVolume { .. }
+        | Event::ImageBlock { .. }
+        | Event::ImageEnd
+        | Event::Answer { .. } => false,
+        _ => true,
+    }
+}
+
+/// Adds the line that an event prints, and hears the event.
+fn print_event(out: &mut Vec<u8>, told: &mut Heard, event: &Event) -> Result<(), AllocError>
+    ensures line { OnOk result (out.new.items ≡ out.old.items ++ line_text (heard_seen told.old) event.now) }
+    ensures told { heard_seen told.new ≡ heard (heard_seen told.old) event.now }
+{
+    if is_silent(event) {
+        return Ok(());
+    }
+    let pushed = push_event(out, told, event);
+    told.hear(event);
+    pushed
+}
+
 /// Adds the line that the event at a place prints, and hears the event.
 fn print_at(
     out: &mut Vec<u8>,
@@ -199,11 +232,7 @@ fn print_at(
     ensures told { heard_seen told.new ≡ heard_at (heard_seen told.old) (slice_get journal.now.events place) }
 {
     match journal.event(place) {
-        Some(event) => {
-            let pushed = push_event(out, told, event);
-            told.hear(event);
-            pushed
-        }
+        Some(event) => print_event(out, told, event),
         None => Ok(()),
     }
 }
