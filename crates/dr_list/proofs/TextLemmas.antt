@@ -70,6 +70,10 @@ same_at entry n s = grind (arith, common_steps)
 pub none-named : (n s : ℕ) → names_of (replicate n None) s ≡ None
 none-named n s = ap name_of (same_at None n s)
 
+-- a line with its number, in the order in which it is put together
+pub line_written : (number says : List ℕ) → number ++ (codes " " ++ (says ++ 10 ∷ [])) ≡ number ++ codes " " ++ says ++ 10 ∷ []
+line_written number says = simp append_assoc
+
 parts : (t session a b c word : List ℕ) → ((((((((t ++ session) ++ codes " ") ++ a) ++ codes ":") ++ b) ++ codes ":") ++ c) ++ codes " ") ++ word
     ≡ t ++ (session ++ (codes " " ++ (a ++ (codes ":" ++ (b ++ (codes ":" ++ (c ++ (codes " " ++ word))))))))
 parts t session a b c word = simp append_assoc

@@ -11,6 +11,7 @@ mod lines;
 mod listings;
 mod pieces;
 mod said;
+mod tail;
 mod told;
 mod values;
 

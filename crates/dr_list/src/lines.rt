@@ -12,7 +12,8 @@ use crate::listings::{
     push_pair,
 };
 use crate::pieces::{end_line, push_number};
-use crate::said::push_said;
+use crate::said::put_said;
+use crate::tail::Tail;
 use crate::told::Heard;
 use dr_model::{AnswerNumbers, Event, Journal};
 use std::alloc::{AllocError, Global};
@@ -66,7 +67,8 @@ fn push_mirror_line(
     end_line(out)
 }
 
-/// Adds the line of an answer.
+/// Adds the line of an answer, in one piece.
+#[tactic(auto, using(crate::proofs::TextLemmas::line_written))]
 fn push_answer(
     out: &mut Vec<u8>,
     told: &Heard,
@@ -75,9 +77,12 @@ fn push_answer(
 ) -> Result<(), AllocError>
     ensures { OnOk result (out.new.items ≡ out.old.items ++ numbered line (said_text (heard_seen told.now) says.code says.a says.b says.c)) }
 {
-    push_line_number(out, line)?;
-    push_said(out, told, says)?;
-    end_line(out)
+    let mut tail = Tail::new();
+    tail.word(b"\n");
+    put_said(&mut tail, told, says);
+    tail.word(b" ");
+    tail.number(line);
+    out.extend_from_slice(tail.bytes())
 }
 
 /// Adds the line of a session's member or master, or of an image.

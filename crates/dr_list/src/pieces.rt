@@ -4,7 +4,7 @@ ghost use Rattle.std.specs.Prelude.{◌≡◌, ◌≤◌, [], ◌∷◌, ◌++�
 ghost use Rattle.std.specs.List.{flat_map};
 ghost use Rattle.std.specs.Fmt.{decimal};
 ghost use Rattle.dr_ids.specs.Spelling.{hex2, hex4};
-ghost use Rattle.dr_model.specs.Text.{trimmed, track_text, volume_digits, session_digits};
+ghost use Rattle.dr_model.specs.Text.{trimmed};
 
 use dr_ids::upper_hex;
 use itoa::Buffer;
@@ -57,24 +57,8 @@ pub(crate) fn push_hex4(out: &mut Vec<u8>, n: u16) -> Result<(), AllocError>
     push_hex2(out, (n % 256) as u8)
 }
 
-/// Adds a volume behind a space: four hexadecimal digits.
-pub(crate) fn push_volume(out: &mut Vec<u8>, n: u32) -> Result<(), AllocError>
-    ensures { OnOk result (out.new.items ≡ out.old.items ++ codes " " ++ volume_digits n) }
-{
-    out.extend_from_slice(b" ")?;
-    push_hex4(out, (n % 65536) as u16)
-}
-
-/// Adds a session behind a space: two hexadecimal digits.
-pub(crate) fn push_session(out: &mut Vec<u8>, n: u32) -> Result<(), AllocError>
-    ensures { OnOk result (out.new.items ≡ out.old.items ++ codes " " ++ session_digits n) }
-{
-    out.extend_from_slice(b" ")?;
-    push_hex2(out, (n % 256) as u8)
-}
-
 /// How many bytes there are before the zeros at the end.
-fn trimmed_len(bytes: &[u8]) -> usize
+pub(crate) fn trimmed_len(bytes: &[u8]) -> usize
     ensures within { result ≤ length bytes.now }
     ensures front { take result bytes.now ≡ trimmed bytes.now }
 {
@@ -99,16 +83,4 @@ pub(crate) fn push_trimmed(out: &mut Vec<u8>, bytes: &[u8]) -> Result<(), AllocE
     ensures { OnOk result (out.new.items ≡ out.old.items ++ flat_map hex2 (trimmed bytes.now)) }
 {
     push_hex(out, &bytes[..trimmed_len(bytes)])
-}
-
-/// Adds a track as it is shown: hexadecimal without the zero bytes at its end, or a dash.
-pub(crate) fn push_track(out: &mut Vec<u8>, bytes: &[u8]) -> Result<(), AllocError>
-    ensures { OnOk result (out.new.items ≡ out.old.items ++ track_text bytes.now) }
-{
-    let len = trimmed_len(bytes);
-    if len == 0 {
-        out.push(b'-')?;
-        return Ok(());
-    }
-    push_hex(out, &bytes[..len])
 }
