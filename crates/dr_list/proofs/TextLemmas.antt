@@ -1,5 +1,5 @@
 -- Laws of the printed text.
-use Rattle.std.proofs.Common.{ℕ, zero, suc, ◌≡◌, ◌<◌, ◌≤◌, ◌+◌, ◌-◌, List, [], ◌∷◌, ◌++◌, length, get_or, take, refl, ap, ◌∙◌, sym, false, arith, nat_eq, drop, replicate, append_assoc}
+use Rattle.std.proofs.Common.{ℕ, zero, suc, ◌≡◌, ◌<◌, ◌≤◌, ◌+◌, ◌-◌, List, [], ◌∷◌, ◌++◌, length, get_or, take, refl, ap, ◌∙◌, sym, false, arith, nat_eq, drop, replicate, append_assoc, append-nil}
 use Rattle.std.proofs.lemmas.Grind.{common_steps}
 use Rattle.std.proofs.lemmas.List.{take_more, take_rest}
 use Rattle.std.specs.Prelude.{codes, slice_get, slice_index_or, Option, None}
@@ -30,6 +30,21 @@ trimmed-shorter xs len some within is =
 pub trimmed-whole : (xs : List ℕ) (len : ℕ) → 0 < len → len ≤ length xs → nat_eq (get_or xs (len - 1) 0) 0 ≡ false → take len xs ≡ trimmed (take len xs)
 trimmed-whole xs len some within is =
     last_of xs len some within ∙ sym (ap trimmed (last_of xs len some within) ∙ trimmed-kept (take (len - 1) xs) (get_or xs (len - 1) 0) is)
+
+-- so many zeros at the end
+zeros-trimmed : (xs : List ℕ) (n : ℕ) → trimmed (xs ++ replicate n 0) ≡ trimmed xs
+zeros-trimmed xs zero = ap trimmed (append-nil xs)
+zeros-trimmed xs (suc n) =
+    ap trimmed (sym (append_assoc xs (0 ∷ []) (replicate n 0))) ∙ zeros-trimmed (xs ++ 0 ∷ []) n ∙ trimmed-zero xs
+
+front_shorter : (xs : List ℕ) (len n : ℕ) → len ≤ length xs → take (length (take len xs) - n) (take len xs) ≡ take (len - n) xs
+front_shorter xs len n within = grind (arith, common_steps)
+
+-- so many zeros less at the end
+pub trimmed-fewer : (xs : List ℕ) (len n : ℕ) → len ≤ length xs → take len xs ≡ take (length (take len xs) - n) (take len xs) ++ replicate n 0
+    → trimmed (take (len - n) xs) ≡ trimmed (take len xs)
+trimmed-fewer xs len n within is =
+    sym (ap trimmed (is ∙ ap (λ front. front ++ replicate n 0) (front_shorter xs len n within)) ∙ zeros-trimmed (take (len - n) xs) n)
 
 -- the rest of the text from an event on
 text_next : (es : List Event) (i : ℕ) (told : Heard) → text_from told (drop i es) ≡ line_told told (slice_get es i) ++ text_from (heard_at told (slice_get es i)) (drop (suc i) es)

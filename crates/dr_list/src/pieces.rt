@@ -57,12 +57,24 @@ pub(crate) fn push_hex4(out: &mut Vec<u8>, n: u16) -> Result<(), AllocError>
     push_hex2(out, (n % 256) as u8)
 }
 
+/// How many bytes there are without the zeros at the end, as far as these come eight at a time, which one test sees.
+fn len_by_eights(bytes: &[u8]) -> usize
+    ensures within { result ≤ length bytes.now }
+    ensures front { trimmed (take result bytes.now) ≡ trimmed bytes.now }
+{
+    let mut len = bytes.len();
+    while bytes[..len].ends_with(&[0; 8]) {
+        len -= 8;
+    }
+    len
+}
+
 /// How many bytes there are before the zeros at the end.
 pub(crate) fn trimmed_len(bytes: &[u8]) -> usize
     ensures within { result ≤ length bytes.now }
     ensures front { take result bytes.now ≡ trimmed bytes.now }
 {
-    let mut len = bytes.len();
+    let mut len = len_by_eights(bytes);
     while len > 0 && bytes[len - 1] == 0 {
         len -= 1;
     }
