@@ -7,7 +7,6 @@ use Rattle.std.specs.List.{fold}
 use Rattle.dr_model.specs.declared.event.Event.{Event}
 use Rattle.dr_model.specs.declared.step.Name.{Name}
 use Rattle.dr_model.specs.Text.{Heard, heard, text_from, trimmed, before_trimmed}
-use Rattle.dr_model.specs.LineText.{spaced}
 use Rattle.dr_list.specs.At.{heard_at, line_told}
 use Rattle.dr_list.specs.Seen.{name_of, names_of}
 use Rattle.dr_facts.proofs.Texts.{trimmed-zero, trimmed-kept}
@@ -99,12 +98,3 @@ pub member-written : (t t1 t2 t3 t4 t5 t6 session a b c word : List ℕ) → t1 
 member-written t t1 t2 t3 t4 t5 t6 session a b c word e1 e2 e3 e4 e5 e6 =
     e6 ∙ ap (λ x. x ++ codes " " ++ word) (e5 ∙ ap (λ x. x ++ c) (e4 ∙ ap (λ x. x ++ codes ":") (e3 ∙ ap (λ x. x ++ a ++ codes ":" ++ b) (e2 ∙ ap (λ x. x ++ codes " ") e1))))
     ∙ parts t session a b c word
-
-line : (t word a b c : List ℕ) → (((((((t ++ word) ++ codes " ") ++ a) ++ codes " ") ++ b) ++ codes " ") ++ c) ++ 10 ∷ [] ≡ t ++ (word ++ spaced (a ∷ b ∷ c ∷ []) ++ 10 ∷ [])
-line t word a b c = simp append_assoc
-
--- three words behind another one, that are written in two calls
-pub words-written : (t t1 t2 t3 word a b c : List ℕ) → t1 ≡ t ++ word ++ codes " " ++ a ++ codes " " ++ b → t2 ≡ t1 ++ codes " " ++ c → t3 ≡ t2 ++ 10 ∷ []
-    → t3 ≡ t ++ (word ++ spaced (a ∷ b ∷ c ∷ []) ++ 10 ∷ [])
-words-written t t1 t2 t3 word a b c e1 e2 e3 =
-    e3 ∙ ap (λ x. x ++ 10 ∷ []) (e2 ∙ ap (λ x. x ++ codes " " ++ c) e1) ∙ line t word a b c

@@ -1,7 +1,6 @@
 //! Numbers, volumes, sessions and bytes, as lines show them.
 
 ghost use Rattle.std.specs.Prelude.{◌≡◌, ◌≤◌, [], ◌∷◌, ◌++◌, length, take, OnOk, codes};
-ghost use Rattle.std.specs.List.{flat_map};
 ghost use Rattle.std.specs.Fmt.{decimal};
 ghost use Rattle.dr_ids.specs.Spelling.{hex2, hex4};
 ghost use Rattle.dr_model.specs.Text.{trimmed};
@@ -79,20 +78,4 @@ pub(crate) fn trimmed_len(bytes: &[u8]) -> usize
         len -= 1;
     }
     len
-}
-
-fn push_hex(out: &mut Vec<u8>, bytes: &[u8]) -> Result<(), AllocError>
-    ensures { OnOk result (out.new.items ≡ out.old.items ++ flat_map hex2 bytes.now) }
-{
-    for b in bytes {
-        push_hex2(out, *b)?;
-    }
-    Ok(())
-}
-
-/// Adds bytes without the zeros at their end, two hexadecimal digits each.
-pub(crate) fn push_trimmed(out: &mut Vec<u8>, bytes: &[u8]) -> Result<(), AllocError>
-    ensures { OnOk result (out.new.items ≡ out.old.items ++ flat_map hex2 (trimmed bytes.now)) }
-{
-    push_hex(out, &bytes[..trimmed_len(bytes)])
 }

@@ -38,8 +38,7 @@ fn put_volume(tail: &mut Tail, n: u32)
     ensures text { tail.new ≡ codes " " ++ volume_digits n ++ tail.old }
     ensures short { length tail.new ≤ length tail.old + 5 }
 {
-    tail.hex2((n % 256) as u8);
-    tail.hex2((n % 65536 / 256) as u8);
+    tail.hex4((n % 65536) as u16);
     tail.word(b" ");
 }
 

@@ -3,14 +3,13 @@
 ghost use Rattle.std.specs.Prelude.{◌≡◌, ◌+◌, ◌≤◌, ◌*◌, [], ◌++◌, length, drop};
 ghost use Rattle.std.specs.List.{flat_map};
 ghost use Rattle.std.specs.Fmt.{decimal};
-ghost use Rattle.dr_ids.specs.Spelling.{hex2};
+ghost use Rattle.dr_ids.specs.Spelling.{hex2, hex4};
 
 use dr_ids::upper_hex;
 use itoa::Buffer;
 use std::marker::Model;
 
-/// How many bytes a tail has room for: the longest answer, `ok` with all digits of a track, has 143 with its line's
-/// number and its end.
+/// How many bytes a tail has room for: a block of an image takes 146 at most, and `ok` with a track 143.
 const ROOM: usize = 192;
 
 /// The end of a line. What comes before it is added in front, so it is copied once, when the line is whole.
@@ -78,6 +77,16 @@ impl Tail {
         ensures len { length self.new ≡ length self.old + 2 }
     {
         self.word(&[upper_hex(n / 16), upper_hex(n % 16)]);
+    }
+
+    /// Adds a number in front, in four upper-case hexadecimal digits.
+    pub(crate) fn hex4(&mut self, n: u16)
+        requires { length self.old + 4 ≤ 192 }
+        ensures text { self.new ≡ hex4 n ++ self.old }
+        ensures len { length self.new ≡ length self.old + 4 }
+    {
+        self.hex2((n % 256) as u8);
+        self.hex2((n / 256) as u8);
     }
 
     /// Adds bytes in front, in two upper-case hexadecimal digits each.
