@@ -84,17 +84,15 @@ same_at entry n s = grind (arith, common_steps)
 pub none-named : (n s : ℕ) → names_of (replicate n None) s ≡ None
 none-named n s = ap name_of (same_at None n s)
 
--- a line with its number, in the order in which it is put together
-pub line_written : (number says : List ℕ) → number ++ (codes " " ++ (says ++ 10 ∷ [])) ≡ number ++ codes " " ++ says ++ 10 ∷ []
-line_written number says = simp append_assoc
+flash_parts : (t a b sequence previous word flags own : List ℕ)
+    → a ++ codes ":" ++ b ++ (codes " " ++ sequence ++ (codes " " ++ previous ++ (codes " " ++ word ++ codes " " ++ flags ++ codes " " ++ own ++ t)))
+    ≡ (a ++ codes ":" ++ b ++ codes " " ++ sequence ++ codes " " ++ previous ++ codes " " ++ word ++ codes " " ++ flags ++ codes " " ++ own) ++ t
+flash_parts t a b sequence previous word flags own = simp append_assoc
 
-parts : (t session a b c word : List ℕ) → ((((((((t ++ session) ++ codes " ") ++ a) ++ codes ":") ++ b) ++ codes ":") ++ c) ++ codes " ") ++ word
-    ≡ t ++ (session ++ (codes " " ++ (a ++ (codes ":" ++ (b ++ (codes ":" ++ (c ++ (codes " " ++ word))))))))
-parts t session a b c word = simp append_assoc
-
--- a member that is written part by part
-pub member-written : (t t1 t2 t3 t4 t5 t6 session a b c word : List ℕ) → t1 ≡ t ++ session → t2 ≡ t1 ++ codes " " → t3 ≡ t2 ++ a ++ codes ":" ++ b → t4 ≡ t3 ++ codes ":" → t5 ≡ t4 ++ c → t6 ≡ t5 ++ codes " " ++ word
-    → t6 ≡ t ++ (session ++ (codes " " ++ (a ++ (codes ":" ++ (b ++ (codes ":" ++ (c ++ (codes " " ++ word))))))))
-member-written t t1 t2 t3 t4 t5 t6 session a b c word e1 e2 e3 e4 e5 e6 =
-    e6 ∙ ap (λ x. x ++ codes " " ++ word) (e5 ∙ ap (λ x. x ++ c) (e4 ∙ ap (λ x. x ++ codes ":") (e3 ∙ ap (λ x. x ++ a ++ codes ":" ++ b) (e2 ∙ ap (λ x. x ++ codes " ") e1))))
-    ∙ parts t session a b c word
+-- a relationship that is put together from its end
+pub flash-written : (t t1 t2 t3 t4 a b sequence previous word flags own : List ℕ) → t1 ≡ codes " " ++ word ++ codes " " ++ flags ++ codes " " ++ own ++ t
+    → t2 ≡ codes " " ++ previous ++ t1 → t3 ≡ codes " " ++ sequence ++ t2 → t4 ≡ a ++ codes ":" ++ b ++ t3
+    → t4 ≡ (a ++ codes ":" ++ b ++ codes " " ++ sequence ++ codes " " ++ previous ++ codes " " ++ word ++ codes " " ++ flags ++ codes " " ++ own) ++ t
+flash-written t t1 t2 t3 t4 a b sequence previous word flags own e1 e2 e3 e4 =
+    e4 ∙ ap (λ x. a ++ codes ":" ++ b ++ x) (e3 ∙ ap (λ x. codes " " ++ sequence ++ x) (e2 ∙ ap (λ x. codes " " ++ previous ++ x) e1))
+    ∙ flash_parts t a b sequence previous word flags own

@@ -33,8 +33,7 @@ fn push_image_volume(
 ) -> Result<(), AllocError>
     ensures { OnOk result (out.new.items ≡ out.old.items ++ (codes "volume" ++ spaced (hex4 volume ∷ decimal server ∷ decimal tracks ∷ []) ++ 10 ∷ [])) }
 {
-    let mut tail = Tail::new();
-    tail.word(b"\n");
+    let mut tail = Tail::end_of_line();
     tail.number(u32::from(tracks));
     tail.word(b" ");
     put_of_volume(&mut tail, b"volume", volume, u32::from(server));
@@ -51,8 +50,7 @@ fn push_image_block(
     requires { length bytes.now ≤ 64 }
     ensures { OnOk result (out.new.items ≡ out.old.items ++ (codes "block" ++ spaced (hex4 volume ∷ decimal index ∷ bytes_text (trimmed bytes.now) ∷ []) ++ 10 ∷ [])) }
 {
-    let mut tail = Tail::new();
-    tail.word(b"\n");
+    let mut tail = Tail::end_of_line();
     tail.hex(&bytes[..trimmed_len(bytes)]);
     tail.word(b" ");
     put_of_volume(&mut tail, b"block", volume, u32::from(index));

@@ -1,59 +1,29 @@
-//! Numbers, volumes, sessions and bytes, as lines show them.
+//! Words and numbers with a space before them, and how much of a track is shown.
 
-ghost use Rattle.std.specs.Prelude.{◌≡◌, ◌≤◌, [], ◌∷◌, ◌++◌, length, take, OnOk, codes};
+ghost use Rattle.std.specs.Prelude.{◌≡◌, ◌+◌, ◌≤◌, ◌++◌, length, take, codes};
 ghost use Rattle.std.specs.Fmt.{decimal};
-ghost use Rattle.dr_ids.specs.Spelling.{hex2, hex4};
 ghost use Rattle.dr_model.specs.Text.{trimmed};
 
-use dr_ids::upper_hex;
-use itoa::Buffer;
-use std::alloc::AllocError;
+use crate::tail::Tail;
 
-/// Adds a number in decimal digits.
-pub(crate) fn push_number(out: &mut Vec<u8>, n: u32) -> Result<(), AllocError>
-    ensures { OnOk result (out.new.items ≡ out.old.items ++ decimal n) }
+/// Adds a word in front, with a space before it.
+pub(crate) fn put_word(tail: &mut Tail, word: &[u8])
+    requires { (length word.now ≤ 24) × (length tail.old ≤ 128) }
+    ensures text { tail.new ≡ codes " " ++ word.now ++ tail.old }
+    ensures short { length tail.new ≤ length tail.old + 25 }
 {
-    let mut buffer = Buffer::new();
-    out.extend_from_slice(buffer.format(n).as_bytes())
+    tail.word(word);
+    tail.word(b" ");
 }
 
-/// Ends a line.
-pub(crate) fn end_line(out: &mut Vec<u8>) -> Result<(), AllocError>
-    ensures { OnOk result (out.new.items ≡ out.old.items ++ 10 ∷ []) }
+/// Adds a number in front, with a space before it.
+pub(crate) fn put_count(tail: &mut Tail, n: u32)
+    requires { length tail.old ≤ 128 }
+    ensures text { tail.new ≡ codes " " ++ decimal n ++ tail.old }
+    ensures short { length tail.new ≤ length tail.old + 11 }
 {
-    out.extend_from_slice(b"\n")
-}
-
-/// Adds a word behind a space.
-pub(crate) fn push_word(out: &mut Vec<u8>, word: &[u8]) -> Result<(), AllocError>
-    ensures { OnOk result (out.new.items ≡ out.old.items ++ codes " " ++ word.now) }
-{
-    out.extend_from_slice(b" ")?;
-    out.extend_from_slice(word)
-}
-
-/// Adds a number in decimal digits behind a space.
-pub(crate) fn push_count(out: &mut Vec<u8>, n: u32) -> Result<(), AllocError>
-    ensures { OnOk result (out.new.items ≡ out.old.items ++ codes " " ++ decimal n) }
-{
-    out.extend_from_slice(b" ")?;
-    push_number(out, n)
-}
-
-/// Adds two upper-case hexadecimal digits.
-pub(crate) fn push_hex2(out: &mut Vec<u8>, n: u8) -> Result<(), AllocError>
-    ensures { OnOk result (out.new.items ≡ out.old.items ++ hex2 n) }
-{
-    let digits = [upper_hex(n / 16), upper_hex(n % 16)];
-    out.extend_from_slice(&digits)
-}
-
-/// Adds four upper-case hexadecimal digits.
-pub(crate) fn push_hex4(out: &mut Vec<u8>, n: u16) -> Result<(), AllocError>
-    ensures { OnOk result (out.new.items ≡ out.old.items ++ hex4 n) }
-{
-    push_hex2(out, (n / 256) as u8)?;
-    push_hex2(out, (n % 256) as u8)
+    tail.number(n);
+    tail.word(b" ");
 }
 
 /// How many bytes there are without the zeros at the end, as far as these come eight at a time, which one test sees.

@@ -5,32 +5,12 @@ ghost use Rattle.std.specs.Fmt.{decimal};
 ghost use Rattle.dr_model.specs.Text.{track_text, volume_digits, session_digits, one_number, two_numbers, decision_text, group_decision, addition, link_text, refusal_words, refusal_values, said_text};
 ghost use Rattle.dr_list.specs.Seen.{heard_seen};
 
-use crate::pieces::trimmed_len;
+use crate::pieces::{put_count, put_word, trimmed_len};
 use crate::tail::Tail;
 use crate::told::Heard;
 use crate::values::{kind_word, limit_word, pair_words, phase_word, refusal_words, relation_word};
 use dr_model::AnswerNumbers;
 use std::alloc::AllocError;
-
-/// Adds a word in front, with a space before it.
-fn put_word(tail: &mut Tail, word: &[u8])
-    requires { (length word.now ≤ 24) × (length tail.old ≤ 128) }
-    ensures text { tail.new ≡ codes " " ++ word.now ++ tail.old }
-    ensures short { length tail.new ≤ length tail.old + 25 }
-{
-    tail.word(word);
-    tail.word(b" ");
-}
-
-/// Adds a number in front, with a space before it.
-fn put_count(tail: &mut Tail, n: u32)
-    requires { length tail.old ≤ 128 }
-    ensures text { tail.new ≡ codes " " ++ decimal n ++ tail.old }
-    ensures short { length tail.new ≤ length tail.old + 11 }
-{
-    tail.number(n);
-    tail.word(b" ");
-}
 
 /// Adds a volume in front, with a space before it: four hexadecimal digits.
 fn put_volume(tail: &mut Tail, n: u32)

@@ -1,6 +1,6 @@
 //! A line that is written from its end to its start.
 
-ghost use Rattle.std.specs.Prelude.{◌≡◌, ◌+◌, ◌≤◌, ◌*◌, [], ◌++◌, length, drop};
+ghost use Rattle.std.specs.Prelude.{◌≡◌, ◌+◌, ◌≤◌, ◌*◌, [], ◌∷◌, ◌++◌, length, drop};
 ghost use Rattle.std.specs.List.{flat_map};
 ghost use Rattle.std.specs.Fmt.{decimal};
 ghost use Rattle.dr_ids.specs.Spelling.{hex2, hex4};
@@ -49,6 +49,15 @@ impl Tail {
             bytes: [0; ROOM],
             start: ROOM,
         }
+    }
+
+    /// The line feed that ends a line.
+    pub(crate) fn end_of_line() -> Tail
+        ensures { result ≡ 10 ∷ [] }
+    {
+        let mut tail = Tail::new();
+        tail.word(b"\n");
+        tail
     }
 
     /// Adds a word in front.

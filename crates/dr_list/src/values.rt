@@ -81,7 +81,8 @@ pub(crate) fn pair_words(state: u32) -> &'static [u8]
 
 /// The kind of a pair.
 pub(crate) fn type_words(kind: u32) -> &'static [u8]
-    ensures { result.now ≡ words.type_words kind }
+    ensures word { result.now ≡ words.type_words kind }
+    ensures short { length result.now ≤ 24 }
 {
     match kind {
         1 => b"Metro Mirror",
@@ -92,7 +93,8 @@ pub(crate) fn type_words(kind: u32) -> &'static [u8]
 
 /// The state of a FlashCopy relationship that a listing shows; a number past the others has the last word.
 pub(crate) fn flash_word(state: u32) -> &'static [u8]
-    ensures { result.now ≡ words.flash_word state }
+    ensures word { result.now ≡ words.flash_word state }
+    ensures short { length result.now ≤ 24 }
 {
     match state {
         0 => b"Revertible",
