@@ -6,7 +6,7 @@ ghost use Rattle.std.specs.Fmt.{decimal};
 ghost use Rattle.dr_ids.specs.Spelling.{hex2, hex4};
 
 use dr_ids::upper_hex;
-use itoa::Buffer;
+use itoa::write_digits;
 use std::marker::Model;
 
 /// How many bytes a tail has room for: a block of an image takes 146 at most, and `ok` with a track 143.
@@ -75,8 +75,7 @@ impl Tail {
         ensures text { self.new ≡ decimal n ++ self.old }
         ensures len { length self.new ≤ length self.old + 10 }
     {
-        let mut buffer = Buffer::new();
-        self.word(buffer.format(n).as_bytes());
+        self.start = write_digits(u64::from(n), &mut self.bytes, self.start);
     }
 
     /// Adds a byte in front, in two upper-case hexadecimal digits.
