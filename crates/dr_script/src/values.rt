@@ -1,6 +1,6 @@
 //! What single words say: names, numbers, bytes and choices.
 
-ghost use Rattle.std.specs.Prelude.{◌≡◌, ◌<◌, ◌≤◌, ◌+◌, ◌*◌, ◌^◌, length, Some, None, IfSome, slice_index, codes};
+ghost use Rattle.std.specs.Prelude.{◌≡◌, ◌<◌, ◌≤◌, ◌+◌, ◌*◌, ◌%◌, ◌^◌, ◌&&◌, if◌then◌else◌, length, Some, None, IfSome, slice_index, codes};
 ghost use Rattle.std.specs.List.{list_all, position};
 ghost use Rattle.std.specs.Char.{is_digit};
 ghost use Rattle.std.specs.Str.{bytes_eq};
@@ -182,6 +182,39 @@ pub fn spelled_bytes(word: &[u8]) -> [u8; 64]
     bytes
 }
 
+/// The byte that two hexadecimal digits spell.
+fn read_pair(high: u8, low: u8) -> Option<u8>
+    ensures { result ≡ (if is_digit high 16 && is_digit low 16 then Some (digit_or_zero high * 16 + digit_or_zero low) else None) }
+{
+    let high = hex_value(high)?;
+    let low = hex_value(low)?;
+    Some(high * 16 + low)
+}
+
+/// The bytes that pairs of hexadecimal digits spell, with zeros behind them.
+fn read_pairs(word: &[u8]) -> Option<[u8; 64]>
+    requires even { length word.now % 2 ≡ 0 }
+    requires short { length word.now ≤ 128 }
+    ensures { result ≡ (if all_digits 16 word.now then Some (spelled_bytes word.now) else None) }
+{
+    let mut bytes = zero_block();
+    for k in 0..word.len() / 2 {
+        bytes[k] = read_pair(word[2 * k], word[2 * k + 1])?;
+    }
+    Some(bytes)
+}
+
+/// The 1 to 64 bytes that a word spells, with zeros behind them; each digit is looked at once.
+pub(crate) fn read_bytes(word: &[u8]) -> Option<[u8; 64]>
+    ensures { result ≡ (if is_hex word.now then Some (spelled_bytes word.now) else None) }
+{
+    if 2 <= word.len() && word.len() <= 128 && word.len() % 2 == 0 {
+        read_pairs(word)
+    } else {
+        None
+    }
+}
+
 /// The byte that exactly two hexadecimal digits spell.
 fn read_byte(word: &[u8]) -> Option<u8>
     ensures { result ≡ hex_word 2 word.now }
@@ -195,11 +228,7 @@ fn read_torn_bytes(word: &[u8]) -> Option<TornWord>
     ensures { result ≡ torn_bytes_word word.now }
 {
     if word.len() == 128 {
-        if are_hex_digits(word) {
-            Some(TornWord::Bytes(spelled_bytes(word)))
-        } else {
-            None
-        }
+        Some(TornWord::Bytes(read_pairs(word)?))
     } else {
         Some(TornWord::Fill(read_byte(word)?))
     }
