@@ -2,6 +2,8 @@
 use Rattle.std.proofs.Common.{ℕ, zero, suc, ◌≡◌, ◌<◌, ◌≤◌, ◌+◌, ◌-◌, ◌*◌, List, [], ◌∷◌, ◌++◌, take, drop, set, map, length, replicate, refl, ap, ◌∙◌, sym, arith, append_assoc, Bool, true, false, ◌&&◌, cond, get_or, drop-cons, Option, Some, None}
 use Rattle.std.proofs.lemmas.Grind.{common_steps}
 use Rattle.std.specs.Prelude.{slice_index}
+use Rattle.std.proofs.Math.Bool.{and_assoc}
+use Rattle.std.proofs.Math.Numerals.{suc-eq-add-one}
 use Rattle.std.proofs.lemmas.Bool.Decides.{nat_tests}
 use Rattle.std.proofs.lemmas.List.{append-nil, take_more_set, drop-drop, drop-replicate, drop-set-lt}
 use Rattle.std.proofs.lemmas.List.FromFn.{map-range_with_len_more}
@@ -67,36 +69,28 @@ whole_block word bytes k le ended front back =
     ∙ ends_in_zeros (byte_at word) (64 - k) k (λ i from lt. byte_past word i (ended i from (omega (arith, lt, le))))
     ∙ ap (λ n. map (byte_at word) (range_with_len 0 n)) (let e : k + (64 - k) ≡ 64 = omega (arith, le) in e)
 
-at_place : (xs : List ℕ) (i j : ℕ) → suc i ≡ j → i < length xs → drop i xs ≡ get_or xs i 0 ∷ drop j xs
-at_place xs i j e low = drop-cons xs i 0 low ∙ ap (λ k. get_or xs i 0 ∷ drop k xs) e
-
 -- two digits at the front of what is left of a word
 two_digits : (word : List ℕ) (k : ℕ) → 2 * k + 1 < length word
     → all_digits 16 (drop (2 * k) word) ≡ (is_digit (get_or word (2 * k) 0) 16 && (is_digit (get_or word (2 * k + 1) 0) 16 && all_digits 16 (drop (2 * (k + 1)) word)))
 unfolding all_digits
 two_digits word k low =
-    ap (list_all (λ digit. is_digit digit 16)) (at_place word (2 * k) (2 * k + 1) (omega arith) (omega arith))
-    ∙ ap (λ xs. is_digit (get_or word (2 * k) 0) 16 && list_all (λ digit. is_digit digit 16) xs) (at_place word (2 * k + 1) (2 * (k + 1)) (omega arith) low)
-
-both_digits : (a b rest : Bool) → (a && b) ≡ true → (a && (b && rest)) ≡ rest
-both_digits true true rest e = refl
-both_digits true false rest e = cc
-both_digits false b rest e = cc
-
-no_digits : (a b rest : Bool) → (a && b) ≡ false → (a && (b && rest)) ≡ false
-no_digits true true rest e = cc
-no_digits true false rest e = refl
-no_digits false b rest e = refl
+    let digits = list_all (λ digit. is_digit digit 16) in
+    let first = is_digit (get_or word (2 * k) 0) 16 in
+    let second = is_digit (get_or word (2 * k + 1) 0) 16 in
+    ap digits (drop-cons word (2 * k) 0 (omega arith))
+    ∙ ap (λ n. first && digits (drop n word)) (suc-eq-add-one (2 * k))
+    ∙ ap (λ xs. first && digits xs) (drop-cons word (2 * k + 1) 0 low)
+    ∙ ap (λ n. first && (second && digits (drop n word))) (let e : suc (2 * k + 1) ≡ 2 * (k + 1) = omega arith in e)
 
 -- what is left is digits as before, after a pair of them
 pub pair_read : (word : List ℕ) (k : ℕ) → 2 * k + 1 < length word → (is_digit (get_or word (2 * k) 0) 16 && is_digit (get_or word (2 * k + 1) 0) 16) ≡ true
     → all_digits 16 (drop (2 * k) word) ≡ all_digits 16 word → all_digits 16 (drop (2 * (k + 1)) word) ≡ all_digits 16 word
-pair_read word k low e so_far = sym (two_digits word k low ∙ both_digits (is_digit (get_or word (2 * k) 0) 16) (is_digit (get_or word (2 * k + 1) 0) 16) (all_digits 16 (drop (2 * (k + 1)) word)) e) ∙ so_far
+pair_read word k low e so_far = sym (two_digits word k low ∙ sym (and_assoc (is_digit (get_or word (2 * k) 0) 16) (is_digit (get_or word (2 * k + 1) 0) 16) (all_digits 16 (drop (2 * (k + 1)) word))) ∙ ap (λ both. both && all_digits 16 (drop (2 * (k + 1)) word)) e) ∙ so_far
 
 -- a pair that has another byte
 pub pair_odd : (word : List ℕ) (k : ℕ) → 2 * k + 1 < length word → (is_digit (get_or word (2 * k) 0) 16 && is_digit (get_or word (2 * k + 1) 0) 16) ≡ false
     → all_digits 16 (drop (2 * k) word) ≡ all_digits 16 word → all_digits 16 word ≡ false
-pair_odd word k low e so_far = sym so_far ∙ two_digits word k low ∙ no_digits (is_digit (get_or word (2 * k) 0) 16) (is_digit (get_or word (2 * k + 1) 0) 16) (all_digits 16 (drop (2 * (k + 1)) word)) e
+pair_odd word k low e so_far = sym so_far ∙ two_digits word k low ∙ sym (and_assoc (is_digit (get_or word (2 * k) 0) 16) (is_digit (get_or word (2 * k + 1) 0) 16) (all_digits 16 (drop (2 * (k + 1)) word))) ∙ ap (λ both. both && all_digits 16 (drop (2 * (k + 1)) word)) e
 
 -- nothing is left
 pub pairs_read : (word : List ℕ) (k : ℕ) → length word ≤ 2 * k → all_digits 16 (drop (2 * k) word) ≡ all_digits 16 word → all_digits 16 word ≡ true

@@ -151,37 +151,6 @@ pub fn is_hex(word: &[u8]) -> bool
     2 <= word.len() && word.len() <= 128 && word.len() % 2 == 0 && are_hex_digits(word)
 }
 
-/// The value of the digit at a place, 0 where there is none.
-fn digit_at(word: &[u8], place: usize) -> u8
-    ensures value { result ≡ digit_or_zero (slice_index word.now place) }
-    ensures below { result < 16 }
-{
-    match word.get(place) {
-        Some(digit) => hex_value(*digit).unwrap_or(0),
-        None => 0,
-    }
-}
-
-/// The byte that two digits of a word spell, 0 where there are none.
-fn byte_at(word: &[u8], k: usize) -> u8
-    requires { k < 64 }
-    ensures { result ≡ byte_at word.now k }
-{
-    digit_at(word, 2 * k) * 16 + digit_at(word, 2 * k + 1)
-}
-
-/// The bytes that a word spells, with zeros behind them.
-pub fn spelled_bytes(word: &[u8]) -> [u8; 64]
-    ensures { result ≡ spelled_bytes word.now }
-{
-    let mut bytes = zero_block();
-    let spelled = word.len().div_ceil(2).min(64);
-    for k in 0..spelled {
-        bytes[k] = byte_at(word, k);
-    }
-    bytes
-}
-
 /// The byte that two hexadecimal digits spell.
 fn read_pair(high: u8, low: u8) -> Option<u8>
     ensures { result ≡ (if is_digit high 16 && is_digit low 16 then Some (digit_or_zero high * 16 + digit_or_zero low) else None) }
