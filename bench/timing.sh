@@ -19,12 +19,12 @@ time_script() {
 microseconds_of() { # PROGRAM ANSWERS: of one run on $scratch/script
     local begin
     begin=$(date +%s%N)
-    "$1" run < "$scratch/script" > "$2"
+    "$1" ${words:-run} < "$scratch/script" > "$2" || true
     echo $((($(date +%s%N) - begin) / 1000 + 1))
 }
 
 instructions_of() { # PROGRAM: of one run on $scratch/script, by callgrind
-    valgrind --tool=callgrind --callgrind-out-file="$scratch/profile" "$1" run < "$scratch/script" 2>&1 > "$scratch/answers" | sed -n 's/.*Collected : //p'
+    valgrind --tool=callgrind --callgrind-out-file="$scratch/profile" "$1" ${words:-run} < "$scratch/script" 2>&1 > "$scratch/answers" | sed -n 's/.*Collected : //p'
 }
 
 # Runs two programs in turn on $scratch/script, compares what they print, and says the least time of each and their ratio.

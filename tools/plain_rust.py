@@ -3,7 +3,7 @@
 
 It is the same code without its contracts, built by another compiler, and not proved: contracts, ghost items and what only proofs need are
 taken out of each crate that the programs stand on, and the rest stays as it is. It takes no crate but Rust's own library: what Rattle's
-library does otherwise, and what the code uses of `clap`, `indexmap` and `itoa`, is the crate `shim`, the files of tools/plain. The scripts
+library does otherwise, and what the code uses of `clap`, `indexmap`, `itoa` and `memchr`, is the crate `shim`, the files of tools/plain. The scripts
 that the repository stores are copied along, so the folder can be moved; so are tools/explain.py and the pages that it needs. In DIR:
 
     cargo run --release -- run < examples/first-group.dscli         builds the programs, and runs a script
@@ -52,7 +52,7 @@ DROPPED_DERIVES = {"Drop", "Error"}
 RENAMED = (
     (r"\bstd::alloc\b", "shim::alloc"),
     (r"\buse std::\{env, io\};", "use shim::env;\nuse std::io;"),
-    (r"\buse (clap|indexmap|itoa)::", r"use shim::\1::"),
+    (r"\buse (clap|indexmap|itoa|memchr)::", r"use shim::\1::"),
     (r"\buse std::simd::prelude::\*", "use shim::simd::*"),
     (r"\b(vec|format)!([\[(]in )", r"shim::\1!\2"),
     (r"\.(collect|to_string)\(alloc\)", r".\1_in(alloc)"),

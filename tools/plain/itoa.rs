@@ -21,27 +21,44 @@ pub trait Integer: Copy {
     fn write(self, room: &mut [u8; MOST]) -> usize;
 }
 
-macro_rules! integer {
-    ($($number:ty)*) => {
-        $(impl Integer for $number {
-            fn write(self, room: &mut [u8; MOST]) -> usize {
-                let (mut left, mut at) = (self, MOST);
-                while left >= 10 {
-                    at -= 2;
-                    room[at..at + 2].copy_from_slice(&PAIRS[(left % 100) as usize]);
-                    left /= 100;
-                }
-                if left > 0 || at == MOST {
-                    at -= 1;
-                    room[at] = b'0' + left as u8;
-                }
-                at
-            }
-        })*
-    };
+impl Integer for u32 {
+    fn write(self, room: &mut [u8; MOST]) -> usize {
+        write_digits(u64::from(self), room, MOST)
+    }
 }
 
-integer!(u32 usize u128);
+impl Integer for usize {
+    fn write(self, room: &mut [u8; MOST]) -> usize {
+        write_digits(self as u64, room, MOST)
+    }
+}
+
+impl Integer for u128 {
+    fn write(self, room: &mut [u8; MOST]) -> usize {
+        let (mut left, mut at) = (self, MOST);
+        while left > u128::from(u64::MAX) {
+            at -= 1;
+            room[at] = b'0' + (left % 10) as u8;
+            left /= 10;
+        }
+        write_digits(left as u64, room, at)
+    }
+}
+
+/// Writes the digits so that they end at `end`, and says where they begin.
+pub fn write_digits(n: u64, room: &mut [u8], end: usize) -> usize {
+    let (mut left, mut at) = (n, end);
+    while left >= 10 {
+        at -= 2;
+        room[at..at + 2].copy_from_slice(&PAIRS[(left % 100) as usize]);
+        left /= 100;
+    }
+    if left > 0 || at == end {
+        at -= 1;
+        room[at] = b'0' + left as u8;
+    }
+    at
+}
 
 pub struct Buffer([u8; MOST]);
 

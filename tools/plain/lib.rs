@@ -1,6 +1,6 @@
 //! What Rattle's library does otherwise than Rust's, as the sources call it, over Rust's library: calls that take memory are passed an
-//! allocator and return a result, and vectors of the processor are arrays. Beside it the few calls of `clap`, `indexmap` and `itoa` that
-//! the sources make.
+//! allocator and return a result, and vectors of the processor are arrays. Beside it the few calls of `clap`, `indexmap`, `itoa` and `memchr`
+//! that the sources make.
 #![allow(clippy::new_without_default, clippy::len_without_is_empty)]
 
 pub mod alloc;
@@ -8,6 +8,7 @@ pub mod clap;
 pub mod env;
 pub mod indexmap;
 pub mod itoa;
+pub mod memchr;
 pub mod simd;
 pub mod texts;
 pub mod vec;

@@ -1,4 +1,4 @@
--- Stretches that lead on, or end all that come behind them, and those of a track that is sent to a cascaded secondary.
+-- Stretches that lead on, or end all that come after them, and those of a track that is sent to a cascaded secondary.
 use Rattle.std.specs.Prelude.{◌≡◌, ℕ, ◌≤◌, ◌+◌, Bool, List, [], ◌∷◌, ◌++◌, length, Option, None, Result, OnOk, OnErr}
 use Rattle.dr_logic.specs.Counts.{Counted}
 use Rattle.dr_ids.specs.declared.refusal.Refusal.{Refusal}

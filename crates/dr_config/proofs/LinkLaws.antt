@@ -4,6 +4,7 @@ use Rattle.std.proofs.lemmas.List.{get_or-set_other, get_or-replicate, get_or_pa
 use Rattle.std.proofs.lemmas.Grind.{get_or-set_at}
 use Rattle.std.proofs.lemmas.Bool.Decides.{nat_tests, leb_tells}
 use Rattle.dr_ids.specs.Links.{joins}
+use Rattle.dr_config.proofs.Lists.{copies}
 use Rattle.dr_config.specs.Links.{is_down, set_from, set_between, none_down, IsSquare}
 use Rattle.dr_config.specs.Table.{ConfigTable, link_up}
 use Rattle.dr_config.specs.Rules.{with_link}
@@ -75,18 +76,11 @@ square-none = record {
   ends = λ x l. ap length (get_or-replicate 8 x (replicate 8 false) [] l) ∙ length-replicate 8 false;
 }
 
--- past its end, and within it, a list of copies gives the copy
-copies : (n k : ℕ) → get_or (replicate n false) k false ≡ false
-copies n k = elim (leb_tells n k) as (λ _. get_or (replicate n false) k false ≡ false) [
-  | inl p ↦ get_or_past (replicate n false) k false (let h = p.1 in let l = length-replicate n false in omega (arith, l))
-  | inr p ↦ get_or-replicate n k false false (let h = p.1 in omega arith)
-]
-
 pub none-down : (x y : ℕ) → is_down none_down x y ≡ false
 unfolding is_down none_down
 none-down x y = elim (leb_tells 8 x) as (λ _. get_or (get_or (replicate 8 (replicate 8 false)) x []) y false ≡ false) [
   | inl p ↦ ap (λ row. get_or row y false) (get_or_past (replicate 8 (replicate 8 false)) x [] (let h = p.1 in let l = length-replicate 8 (replicate 8 false) in omega (arith, l)))
-  | inr p ↦ ap (λ row. get_or row y false) (get_or-replicate 8 x (replicate 8 false) [] (let h = p.1 in omega arith)) ∙ copies 8 y
+  | inr p ↦ ap (λ row. get_or row y false) (get_or-replicate 8 x (replicate 8 false) [] (let h = p.1 in omega arith)) ∙ copies 8 false y
 ]
 
 -- from and to what is no server of 0 to 7, links are up

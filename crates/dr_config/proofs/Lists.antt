@@ -1,5 +1,5 @@
 -- Positions and first elements of lists: under `map`, beside each other, and with one more element.
-use Rattle.std.proofs.Common.{◌≡◌, ℕ, suc, zero, ◌+◌, ◌<◌, ◌≤◌, Bool, true, false, not, cond, ◌⊎◌, inl, inr, List, [], ◌∷◌, ◌++◌, length, map, slice_get, Some, None, refl, sym, ◌∙◌, ap, subst, arith, eqb, ltb, get_or, length-append}
+use Rattle.std.proofs.Common.{◌≡◌, ℕ, suc, zero, ◌+◌, ◌<◌, ◌≤◌, Bool, true, false, not, cond, ◌⊎◌, inl, inr, List, [], ◌∷◌, ◌++◌, length, map, slice_get, Some, None, refl, sym, ◌∙◌, ap, subst, arith, eqb, ltb, get_or, replicate, length-append}
 use Rattle.std.specs.List.{position, position_or_len, prefix_len, find}
 use Rattle.std.specs.Option.{option_or}
 use Rattle.std.proofs.lemmas.List.{length-map}
@@ -73,3 +73,9 @@ element-of-push [] y (suc i) x h = absurd (none-some x h)
 element-of-push (z ∷ xs) y zero x h = inl h
 element-of-push (z ∷ xs) y (suc i) x h =
     elim (element-of-push xs y i x h) [ inl a ↦ inl a | inr b ↦ inr (omega (arith, b.0), b.1) ]
+
+-- a list of copies says the copy at its indices, and past its end where that is the default
+pub copies : {A : Type 0} (n : ℕ) (x : A) (k : ℕ) → get_or (replicate n x) k x ≡ x
+copies zero x k = refl
+copies (suc n) x zero = refl
+copies (suc n) x (suc k) = copies n x k

@@ -68,7 +68,7 @@ entry-of-new t v server tracks h =
     let same : eqb v v ≡ true = (Decides-eqb v v).1 refl in
     rw (find-push (λ (x : VolumeEntry). eqb x.id v) t.volumes e, no-entry t v h, same) refl
 
-or-none : {A : Type 0} (o : Option A) → option_or o None ≡ o
+pub or-none : {A : Type 0} (o : Option A) → option_or o None ≡ o
 or-none None = refl
 or-none (Some x) = refl
 

@@ -1,4 +1,5 @@
 pub mod Links
 pub mod Table
 pub mod Rules
+pub mod Volumes
 pub mod Kept

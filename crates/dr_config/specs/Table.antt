@@ -1,5 +1,5 @@
 -- What contracts see of a configuration, and what it says of servers, volumes and the devices below.
-use Rattle.std.specs.Prelude.{◌≡◌, ℕ, ◌+◌, ◌/◌, ◌<◌, ◌≤◌, ◌==◌, Bool, true, not, List, length, slice_get, Option, Some, option_map}
+use Rattle.std.specs.Prelude.{◌≡◌, ℕ, ◌/◌, ◌<◌, ◌≤◌, ◌==◌, Bool, true, not, List, length, slice_get, Option, Some, option_map}
 use Rattle.std.specs.List.{position, find}
 use Rattle.std.specs.Str.{bytes_eq}
 use Rattle.dr_ids.specs.Sizes.{blocks_of, most_tracks}

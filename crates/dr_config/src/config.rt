@@ -10,12 +10,10 @@ ghost use Rattle.dr_config.specs.Links.{none_down};
 ghost use Rattle.dr_config.specs.Table.{server_named, place_of, entry_of, server_of, lss_of, lss_owner, link_up, IsName, HasServer, IsSoundConfig, StandsFor};
 ghost use Rattle.dr_config.specs.Rules.{is_foreign, refusal_of, server_refusal, volume_refusal, link_refusal, contact_refusal, path_refusal, reach_refusal, with_server, with_volume, with_link, with_path_between, without_path_between};
 
-use crate::entries::{
-    Names, VolumeEntry, Volumes, add_entry, add_name, entry_of_lss, entry_of_volume, place_of_name,
-    place_of_volume,
-};
+use crate::entries::{Names, VolumeEntry, add_name, place_of_name};
 use crate::links::{Rows, is_down, none_down, set_between};
 use crate::paths::{Paths, group_of, put_path, take_path};
+use crate::volumes::Volumes;
 use dr_ids::{
     Fault, Kind, Lss, MAX_TRACKS, MOST_SERVERS, MOST_VOLUMES, Refusal, ServerId, VolumeId, Which,
     blocks_of,
@@ -37,14 +35,14 @@ pub struct Config {
 }
 
 impl Model for Config {
-    ghost use Rattle.dr_config.specs.Table.{ConfigTable};
-    ghost use Rattle.dr_config.specs.Kept.{table_of, IsKeptTable};
+    ghost use Rattle.dr_config.specs.Table.{ConfigTable, IsSoundConfig};
+    ghost use Rattle.dr_config.specs.Kept.{table_of};
 
     ghost Value = { ConfigTable };
 
     ghost view = { λ c. table_of c.servers.keys c.volumes.entries c.down c.paths.entries };
 
-    ghost invariant = { λ c. IsKeptTable c.servers.keys c.volumes.entries c.down c.paths.entries };
+    ghost invariant = { λ c. IsSoundConfig (table_of c.servers.keys c.volumes.entries c.down c.paths.entries) };
 }
 
 impl Config {
@@ -56,7 +54,7 @@ impl Config {
         Config {
             alloc,
             servers: IndexSet::new(alloc),
-            volumes: IndexMap::new(alloc),
+            volumes: Volumes::new(alloc),
             down: none_down(),
             paths: IndexMap::new(alloc),
         }
@@ -112,7 +110,7 @@ impl Config {
         }
 
         // Room is made first, so that no device is added for which there is no entry.
-        let Ok(()) = self.volumes.reserve(1) else {
+        let Ok(()) = self.volumes.reserve() else {
             return Err(Fault::NoMemory);
         };
 
@@ -125,7 +123,7 @@ impl Config {
             server: server.0,
             tracks,
         };
-        add_entry(&mut self.volumes, entry);
+        self.volumes.add(entry);
         Ok(device)
     }
 
@@ -287,7 +285,7 @@ impl Config {
     fn volume_refusal(&self, id: VolumeId, server: ServerId, tracks: u16) -> Option<Refusal>
         ensures { result ≡ volume_refusal self.now id.0 server.0 tracks }
     {
-        if place_of_volume(&self.volumes, id.0).is_some() {
+        if self.volumes.place(id.0).is_some() {
             Some(Refusal::Duplicate { kind: Kind::Volume })
         } else if self.is_foreign(id, server) {
             Some(Refusal::Duplicate { kind: Kind::Lss })
@@ -338,7 +336,7 @@ impl Config {
         ensures place { option_map (λ d. d.0) result ≡ place_of self.now v.0 }
         ensures within { IfSome result (λ d. d.0 < length self.now.volumes) }
     {
-        let place = place_of_volume(&self.volumes, v.0)?;
+        let place = self.volumes.place(v.0)?;
         Some(DeviceId(place as u16))
     }
 
@@ -347,7 +345,7 @@ impl Config {
         ensures value { option_map (λ s. s.0) result ≡ option_map (λ e. e.server) (entry_of self.now v.0) }
         ensures defined { IfSome result (λ s. HasServer self.now s.0) }
     {
-        let entry = entry_of_volume(&self.volumes, v.0)?;
+        let entry = self.volumes.get(v.0)?;
         Some(ServerId(entry.server))
     }
 
@@ -357,7 +355,7 @@ impl Config {
         ensures some { IfSome result (λ n. 1 ≤ n) }
         ensures most { IfSome result (λ n. n ≤ most_tracks) }
     {
-        let entry = entry_of_volume(&self.volumes, v.0)?;
+        let entry = self.volumes.get(v.0)?;
         Some(entry.tracks)
     }
 
@@ -366,7 +364,7 @@ impl Config {
         ensures value { option_map (λ v. v.0) result ≡ option_map (λ e. e.id) (slice_get self.now.volumes i) }
         ensures place { IfSome result (λ v. place_of self.now v.0 ≡ Some i) }
     {
-        let (_, entry) = self.volumes.get_index(i)?;
+        let entry = self.volumes.at(i)?;
         Some(VolumeId(entry.id))
     }
 
@@ -376,7 +374,7 @@ impl Config {
         ensures defined { IfSome result (λ s. HasServer self.now s.0) }
         ensures sound { IsSoundConfig self.now }
     {
-        let entry = entry_of_lss(&self.volumes, l.0)?;
+        let entry = self.volumes.first_of(l.0)?;
         Some(ServerId(entry.server))
     }
 

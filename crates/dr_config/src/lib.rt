@@ -15,6 +15,7 @@ mod config;
 mod entries;
 mod links;
 mod paths;
+mod volumes;
 
 pub use config::Config;
 pub use entries::VolumeEntry;

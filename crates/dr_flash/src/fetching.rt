@@ -28,13 +28,23 @@ use dr_ids::{Refusal, VolumeId};
 use dr_model::Journal;
 use dr_moves::{Move, lowest, rest, tracks_of};
 use dr_plant::{Block, Plant, Stopped};
-use dr_volume::{Fields, open, peek_fields, peek_head, read_track};
+use dr_volume::{open_gate, peek_fields, peek_head, peek_holds, peek_relation_at, read_track};
 
-/// Whether a volume with these fields shows its source's track t.
-fn is_shown_by_source(f: &Fields, t: u16) -> bool
-    ensures { result ≡ shows_source (plain f.now) t }
+/// The source of a target that shows its source's track t.
+fn shown_by<P: Plant>(plant: &P, config: &Config, v: VolumeId, t: u16) -> Option<VolumeId>
+    requires stands { StandsFor config.now (P.state plant.now) }
+    requires defined { IsSome (place_of config.now v.0) }
+    requires within { t < (volume_seen (P.state plant.now) config.now v.0).tracks }
+    ensures none { result ≡ None → shows_source (volume_seen (P.state plant.now) config.now v.0).fields t ≡ false }
+    ensures source { IfSome result (λ u. (shows_source (volume_seen (P.state plant.now) config.now v.0).fields t ≡ true) × (u.0 ≡ (volume_seen (P.state plant.now) config.now v.0).fields.source)) }
 {
-    f.related && !f.own.contains(t)
+    let place = config.device_of(v).unwrap();
+    let found = peek_relation_at(plant, config, place.0 as usize);
+    if found.related && !peek_holds(plant, config, v, t) {
+        Some(found.source)
+    } else {
+        None
+    }
 }
 
 /// Reads what a track of a volume shows: its own bytes where it is no target or holds the track, else its source's. Fails
@@ -55,12 +65,11 @@ pub fn read_target<P: Plant>(
     ensures bytes { OnOk result (into.new ≡ view (λ u. (volume_seen (P.state plant.old) config.now u).fields) (track_seen (P.state plant.old) config.now) v.0 t) }
     ensures same { OnErr result (into.new ≡ into.old) }
 {
-    let opened = open(plant, config, v)?;
-    if is_shown_by_source(opened.fields(), t) {
-        let source = opened.fields().source;
-        return read_track(plant, config, source, t, into);
+    open_gate(plant, config, v)?;
+    match shown_by(plant, config, v, t) {
+        Some(source) => read_track(plant, config, source, t, into),
+        None => read_track(plant, config, v, t, into),
     }
-    opened.read_track(plant, config, v, t, into)
 }
 
 /// The lowest track of n that a target which holds `own` doesn't hold.

@@ -3,7 +3,7 @@
 ghost use Rattle.std.specs.Prelude.{◌≡◌, ℕ, ◌<◌, ◌≤◌, ◌+◌, true, false, not, ◌&&◌, length, None, Some, IsSome, OnOk, OnErr, is_err};
 ghost use Rattle.std.specs.FinSet.{contains};
 ghost use Rattle.dr_logic.specs.Counts.{Counted};
-ghost use Rattle.dr_config.specs.Table.{place_of};
+ghost use Rattle.dr_config.specs.Table.{StandsFor, place_of};
 ghost use Rattle.dr_model.specs.Carry.{now};
 ghost use Rattle.dr_model.specs.Entries as entries;
 ghost use Rattle.dr_model.specs.Entries.{copies_from};
@@ -26,7 +26,7 @@ use dr_ids::{Refusal, VolumeId};
 use dr_model::Journal;
 use dr_moves::{Move, make_move_by};
 use dr_plant::Plant;
-use dr_volume::{Fields, Relation, peek_fields, peek_relation_at};
+use dr_volume::{Fields, Relation, peek_fields, peek_holds, peek_relation_at};
 
 /// Target u notes that its source's track t is about to change.
 fn note<P: Plant>(
@@ -69,7 +69,18 @@ fn is_news(f: &Fields, t: u16) -> bool
     f.recorded && !f.source_changes.contains(t)
 }
 
-/// Target u of v, which isn't restored onto it, keeps track t of v, or notes that it changes where it holds it.
+/// Whether target u holds track t and records no changes: then it keeps and notes nothing.
+fn is_done<P: Plant>(plant: &P, config: &Config, u: VolumeId, t: u16, recorded: bool) -> bool
+    requires stands { StandsFor config.now (P.state plant.now) }
+    requires defined { IsSome (place_of config.now u.0) }
+    requires within { t < (volume_seen (P.state plant.now) config.now u.0).tracks }
+    ensures { result ≡ (not recorded && contains (volume_seen (P.state plant.now) config.now u.0).fields.own t) }
+{
+    !recorded && peek_holds(plant, config, u, t)
+}
+
+/// Target u of v, which isn't restored onto it, keeps track t of v, or notes that it changes where it holds it. Its fields are
+/// decoded only if there may be something to do.
 fn keep_target<P: Plant>(
     plant: &mut P,
     config: &Config,
@@ -77,8 +88,10 @@ fn keep_target<P: Plant>(
     v: VolumeId,
     t: u16,
     u: VolumeId,
+    recorded: bool,
 ) -> Result<(), Refusal>
     requires at { IsAt (P.state plant.old) config.now }
+    requires recorded { recorded ≡ (volume_seen (P.state plant.old) config.now u.0).fields.recorded }
     requires kept { kept_for v.0 (volume_seen (P.state plant.old) config.now u.0).fields ≡ true }
     requires defined { IsSome (place_of config.now u.0) }
     requires running { (P.state plant.old).on (volume_seen (P.state plant.old) config.now v.0).server ≡ true }
@@ -86,6 +99,9 @@ fn keep_target<P: Plant>(
     requires room { 2 ≤ journal.old.spare }
     ensures kept_on { KeptOn (P.state plant.old) (P.state plant.new) config.now journal.old journal.new v.0 t u.0 result }
 {
+    if is_done(plant, config, u, t, recorded) {
+        return Ok(());
+    }
     let fields = peek_fields(plant, config, u);
     if !fields.own.contains(t) {
         let m = Move::Keep { v: u, t };
@@ -132,10 +148,11 @@ pub fn keep_on<P: Plant>(
     ensures room_left { OnOk result (journal.old.spare ≤ journal.new.spare + 1) }
     ensures spare { length journal.new.events + journal.new.spare ≡ length journal.old.events + journal.old.spare }
 {
-    if !is_kept_for(&peek_relation_at(plant, config, place), v) {
+    let found = peek_relation_at(plant, config, place);
+    if !is_kept_for(&found, v) {
         return Ok(());
     }
-    keep_target(plant, config, journal, v, t, u)
+    keep_target(plant, config, journal, v, t, u, found.recorded)
 }
 
 /// The same of the volume that was defined there, whatever it is.
@@ -155,9 +172,10 @@ pub(crate) fn keep_at<P: Plant>(
     requires room { 2 ≤ journal.old.spare }
     ensures kept_on { KeptOn (P.state plant.old) (P.state plant.new) config.now journal.old journal.new v.0 t (id_at config.now place) result }
 {
-    if !is_kept_for(&peek_relation_at(plant, config, place), v) {
+    let found = peek_relation_at(plant, config, place);
+    if !is_kept_for(&found, v) {
         return Ok(());
     }
     let u = config.volume_at(place).unwrap();
-    keep_target(plant, config, journal, v, t, u)
+    keep_target(plant, config, journal, v, t, u, found.recorded)
 }

@@ -8,7 +8,7 @@ ghost use Rattle.dr_model.specs.declared.event.Event.{Event};
 ghost use Rattle.dr_volume.specs.Head.{head_of};
 ghost use Rattle.dr_volume.specs.View.{Rest, volume_seen};
 ghost use Rattle.dr_moves.specs.Checks.{is_stop};
-ghost use Rattle.dr_flash.specs.Heads.{copies_by};
+ghost use Rattle.dr_flash.specs.Heads.{copies_by, relation_at};
 ghost use Rattle.dr_moves.specs.Here.{world_seen, refusal_of};
 ghost use Rattle.dr_flash.specs.Standing.{targets_in, any_of, relation_of, counted_by, HasNoTarget};
 ghost use Rattle.dr_flash.specs.HostWrites.{write_refusal};
@@ -16,7 +16,7 @@ ghost use Rattle.dr_flash.specs.HostWrites.{write_refusal};
 use dr_config::Config;
 use dr_ids::{Refusal, RelSeen, SessionId, VolumeId};
 use dr_plant::Plant;
-use dr_volume::{Head, Relation, peek_head, peek_relation_at};
+use dr_volume::{Head, Relation, is_target_at, peek_head, peek_relation_at};
 
 /// The targets of a volume: how many there are, and whether one of them is revertible or reversing.
 #[derive(Clone, Copy)]
@@ -44,6 +44,28 @@ fn one_more(so_far: Targets, v: VolumeId, f: &Relation) -> Targets
     }
 }
 
+/// With the volume more that was defined after so many others. If it is no target of v, no more of it is looked at.
+#[inline]
+fn with_place<P: Plant>(
+    plant: &P,
+    config: &Config,
+    place: usize,
+    v: VolumeId,
+    so_far: Targets,
+) -> Targets
+    requires few { so_far.count < 64 }
+    requires there { place < length config.now.volumes }
+    requires stands { StandsFor config.now (P.state plant.now) }
+    ensures count { result.count ≡ so_far.count + (if copies_by v.0 (relation_at (P.state plant.now) config.now place) then 1 else 0) }
+    ensures revertible { result.revertible ≡ (so_far.revertible || (copies_by v.0 (relation_at (P.state plant.now) config.now place) && (relation_at (P.state plant.now) config.now place).revertible)) }
+    ensures reversing { result.reversing ≡ (so_far.reversing || (copies_by v.0 (relation_at (P.state plant.now) config.now place) && (relation_at (P.state plant.now) config.now place).reversing)) }
+{
+    if !is_target_at(plant, config, place, v) {
+        return so_far;
+    }
+    one_more(so_far, v, &peek_relation_at(plant, config, place))
+}
+
 /// The targets of v, looked at whether or not its server is on, by what the heads of all volumes say.
 pub(crate) fn look_at_targets<P: Plant>(plant: &P, config: &Config, v: VolumeId) -> Targets
     requires stands { StandsFor config.now (P.state plant.now) }
@@ -57,7 +79,7 @@ pub(crate) fn look_at_targets<P: Plant>(plant: &P, config: &Config, v: VolumeId)
         reversing: false,
     };
     for place in 0..config.volumes() {
-        all = one_more(all, v, &peek_relation_at(plant, config, place));
+        all = with_place(plant, config, place, v, all);
     }
     all
 }

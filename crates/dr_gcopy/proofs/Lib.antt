@@ -6,8 +6,8 @@
 -- - **A loop over a set that shrinks** (`drain_to`): the invariant has the place i in the list of the begin, `drop i xs
 --   ≡ in_order n left`, and `take i xs` was sent; `next-sent`, `all-sent`, `count-sent` in `DrainLemmas.antt` of
 --   `dr_gcopy`.
--- - **Eight tracks at a time**: one group is a function of slices (`compare_group`), the first that differs is
---   `first_from` of `find` over a range, and ranges join by `find` over `++` (`FirstLemmas.antt`).
+-- - **The first number that passes a test** (`first_unlike`): a loop that returns there has the invariant that none before
+--   passes, and `first-passes`, `none-passes` of `FirstLemmas.antt` make it `find` over a range.
 -- Calls in a row that aren't all moves have one record as their clause, `Ran` of `dr_gcopy`: the entries, and what stays (`Stays`), for the
 -- volumes that it spares. Two are `ran-then`, one that failed `ran-failed`, a move `ran-made` with `stays-by`. What all of them ask is one
 -- record too (`CanPass`), with one lemma that carries it along volumes that are as they were (`can-still`). `Kept` serves where each part

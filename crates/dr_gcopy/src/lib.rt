@@ -3,7 +3,7 @@
 //!
 //! Pairs on a plant. `make_pair`, `make_as` (which may make a cascaded volume), `remove_pair`, `pause` and `resume` end as the machine's entries of their commands say,
 //! each refusal included (`carried`), and a refusal that is no stop changes nothing (`unchanged`). `difference` is the
-//! first track in which two volumes differ, found eight tracks at a time (`found`). `suspend`, `store`, `strike` and
+//! first track in which two volumes differ, found by looks after one read of each (`found`). `suspend`, `store`, `strike` and
 //! `take_over` are one move each, and `receive_track` is what a secondary does for a track that comes: its targets keep
 //! theirs first, then it stores (`carried`). `send_track` sends one track, and what follows where the secondary can't be
 //! reached or its server stops: the primary is suspended, and the call names the first server that stopped (`carried`,

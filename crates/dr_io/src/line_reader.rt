@@ -9,6 +9,7 @@ use crate::ahead::Ahead;
 use crate::kept::Front;
 use crate::limits::{SCRIPT_LIMITS, room_after};
 use crate::streams::{Failed, Source};
+use memchr::memchr;
 use std::marker::Model;
 
 /// The most bytes that a script may have.
@@ -165,7 +166,7 @@ fn answer(over: ReadingEnd) -> Result<Taken, Failed>
 fn line_end_at(bytes: &[u8]) -> Option<usize>
     ensures { result ≡ position is_line_end bytes.now }
 {
-    bytes.iter().position(|b| *b == b'\n')
+    memchr(b'\n', bytes)
 }
 
 /// Keeps the bytes ahead up to the end of the line, which is dropped; whether there is one.

@@ -51,12 +51,12 @@ unfolding after_tasks after_plan carry act turn update_keeping stopped_at image 
 is-there = refl
 
 -- an element of a list, by its place
-at-place : (us : List World) (i : ℕ) (w : World) → slice_get us i ≡ Some w → In w us
+pub at-place : (us : List World) (i : ℕ) (w : World) → slice_get us i ≡ Some w → In w us
 at-place [] i w is = absurd cc
 at-place (u ∷ us) zero w is = inl (sym (same_Some u w is))
 at-place (u ∷ us) (suc i) w is = inr (at-place us i w is)
 
-given : (o : Option World) → is_some o ≡ true → o ≡ Some (unwrap_or o nothing)
+pub given : (o : Option World) → is_some o ≡ true → o ≡ Some (unwrap_or o nothing)
 given None is = absurd cc
 given (Some w) is = refl
 
@@ -72,7 +72,7 @@ unfolding after_tasks after_plan carry act turn update_keeping stopped_at image 
 cut-told = refl
 
 -- a list that ends with an element
-ends-with : (es : List Event) (i : ℕ) (e : Event) → length es ≡ suc i → slice_get es i ≡ Some e → es ≡ take i es ++ e ∷ []
+pub ends-with : (es : List Event) (i : ℕ) (e : Event) → length es ≡ suc i → slice_get es i ≡ Some e → es ≡ take i es ++ e ∷ []
 ends-with [] i e long is = absurd cc
 ends-with (x ∷ []) zero e long is = ap (λ y. y ∷ []) (same_Some x e is)
 ends-with (x ∷ y ∷ es) zero e long is = absurd cc

@@ -18,7 +18,7 @@ pub record IsFirst (k : Control) (v a : ℕ) : Type 0 where
   pub takes : is_secondary_of v (fields_at k a) ≡ true
 
 -- On each track that the record of v doesn't have out of sync, the host writes that a holds by the journal make what v is due to show: what
--- the writes make that v holds, and one that landed on it in a stop and isn't acknowledged yet.
+-- the writes make that v holds, and those that landed on it in a stop and aren't acknowledged yet.
 pub record ShowsFirst (w : World) (v a : ℕ) : Type 0 where
   pub size : (w.control.volume a).tracks ≡ (w.control.volume v).tracks
   pub tracks : (t : ℕ) → t < (w.control.volume v).tracks → contains (fields_at w.control v).out_of_sync t ≡ false → image (histories w.events).write (lists w.events a t) ≡ due w v t

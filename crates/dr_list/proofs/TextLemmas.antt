@@ -1,5 +1,5 @@
 -- Laws of the printed text.
-use Rattle.std.proofs.Common.{ℕ, zero, suc, ◌≡◌, ◌<◌, ◌≤◌, ◌+◌, ◌-◌, List, [], ◌∷◌, ◌++◌, length, get_or, take, refl, ap, ◌∙◌, sym, false, arith, nat_eq, drop, replicate, append_assoc}
+use Rattle.std.proofs.Common.{ℕ, zero, suc, ◌≡◌, ◌<◌, ◌≤◌, ◌+◌, ◌-◌, List, [], ◌∷◌, ◌++◌, length, get_or, take, refl, ap, ◌∙◌, sym, false, arith, nat_eq, drop, replicate, append_assoc, append-nil}
 use Rattle.std.proofs.lemmas.Grind.{common_steps}
 use Rattle.std.proofs.lemmas.List.{take_more, take_rest}
 use Rattle.std.specs.Prelude.{codes, slice_get, slice_index_or, Option, None}
@@ -7,7 +7,6 @@ use Rattle.std.specs.List.{fold}
 use Rattle.dr_model.specs.declared.event.Event.{Event}
 use Rattle.dr_model.specs.declared.step.Name.{Name}
 use Rattle.dr_model.specs.Text.{Heard, heard, text_from, trimmed, before_trimmed}
-use Rattle.dr_model.specs.LineText.{spaced}
 use Rattle.dr_list.specs.At.{heard_at, line_told}
 use Rattle.dr_list.specs.Seen.{name_of, names_of}
 use Rattle.dr_facts.proofs.Texts.{trimmed-zero, trimmed-kept}
@@ -30,6 +29,21 @@ trimmed-shorter xs len some within is =
 pub trimmed-whole : (xs : List ℕ) (len : ℕ) → 0 < len → len ≤ length xs → nat_eq (get_or xs (len - 1) 0) 0 ≡ false → take len xs ≡ trimmed (take len xs)
 trimmed-whole xs len some within is =
     last_of xs len some within ∙ sym (ap trimmed (last_of xs len some within) ∙ trimmed-kept (take (len - 1) xs) (get_or xs (len - 1) 0) is)
+
+-- so many zeros at the end
+zeros-trimmed : (xs : List ℕ) (n : ℕ) → trimmed (xs ++ replicate n 0) ≡ trimmed xs
+zeros-trimmed xs zero = ap trimmed (append-nil xs)
+zeros-trimmed xs (suc n) =
+    ap trimmed (sym (append_assoc xs (0 ∷ []) (replicate n 0))) ∙ zeros-trimmed (xs ++ 0 ∷ []) n ∙ trimmed-zero xs
+
+front_shorter : (xs : List ℕ) (len n : ℕ) → len ≤ length xs → take (length (take len xs) - n) (take len xs) ≡ take (len - n) xs
+front_shorter xs len n within = grind (arith, common_steps)
+
+-- so many zeros less at the end
+pub trimmed-fewer : (xs : List ℕ) (len n : ℕ) → len ≤ length xs → take len xs ≡ take (length (take len xs) - n) (take len xs) ++ replicate n 0
+    → trimmed (take (len - n) xs) ≡ trimmed (take len xs)
+trimmed-fewer xs len n within is =
+    sym (ap trimmed (is ∙ ap (λ front. front ++ replicate n 0) (front_shorter xs len n within)) ∙ zeros-trimmed (take (len - n) xs) n)
 
 -- the rest of the text from an event on
 text_next : (es : List Event) (i : ℕ) (told : Heard) → text_from told (drop i es) ≡ line_told told (slice_get es i) ++ text_from (heard_at told (slice_get es i)) (drop (suc i) es)
@@ -70,22 +84,15 @@ same_at entry n s = grind (arith, common_steps)
 pub none-named : (n s : ℕ) → names_of (replicate n None) s ≡ None
 none-named n s = ap name_of (same_at None n s)
 
-parts : (t session a b c word : List ℕ) → ((((((((t ++ session) ++ codes " ") ++ a) ++ codes ":") ++ b) ++ codes ":") ++ c) ++ codes " ") ++ word
-    ≡ t ++ (session ++ (codes " " ++ (a ++ (codes ":" ++ (b ++ (codes ":" ++ (c ++ (codes " " ++ word))))))))
-parts t session a b c word = simp append_assoc
+flash_parts : (t a b sequence previous word flags own : List ℕ)
+    → a ++ codes ":" ++ b ++ (codes " " ++ sequence ++ (codes " " ++ previous ++ (codes " " ++ word ++ codes " " ++ flags ++ codes " " ++ own ++ t)))
+    ≡ (a ++ codes ":" ++ b ++ codes " " ++ sequence ++ codes " " ++ previous ++ codes " " ++ word ++ codes " " ++ flags ++ codes " " ++ own) ++ t
+flash_parts t a b sequence previous word flags own = simp append_assoc
 
--- a member that is written part by part
-pub member-written : (t t1 t2 t3 t4 t5 t6 session a b c word : List ℕ) → t1 ≡ t ++ session → t2 ≡ t1 ++ codes " " → t3 ≡ t2 ++ a ++ codes ":" ++ b → t4 ≡ t3 ++ codes ":" → t5 ≡ t4 ++ c → t6 ≡ t5 ++ codes " " ++ word
-    → t6 ≡ t ++ (session ++ (codes " " ++ (a ++ (codes ":" ++ (b ++ (codes ":" ++ (c ++ (codes " " ++ word))))))))
-member-written t t1 t2 t3 t4 t5 t6 session a b c word e1 e2 e3 e4 e5 e6 =
-    e6 ∙ ap (λ x. x ++ codes " " ++ word) (e5 ∙ ap (λ x. x ++ c) (e4 ∙ ap (λ x. x ++ codes ":") (e3 ∙ ap (λ x. x ++ a ++ codes ":" ++ b) (e2 ∙ ap (λ x. x ++ codes " ") e1))))
-    ∙ parts t session a b c word
-
-line : (t word a b c : List ℕ) → (((((((t ++ word) ++ codes " ") ++ a) ++ codes " ") ++ b) ++ codes " ") ++ c) ++ 10 ∷ [] ≡ t ++ (word ++ spaced (a ∷ b ∷ c ∷ []) ++ 10 ∷ [])
-line t word a b c = simp append_assoc
-
--- three words behind another one, that are written in two calls
-pub words-written : (t t1 t2 t3 word a b c : List ℕ) → t1 ≡ t ++ word ++ codes " " ++ a ++ codes " " ++ b → t2 ≡ t1 ++ codes " " ++ c → t3 ≡ t2 ++ 10 ∷ []
-    → t3 ≡ t ++ (word ++ spaced (a ∷ b ∷ c ∷ []) ++ 10 ∷ [])
-words-written t t1 t2 t3 word a b c e1 e2 e3 =
-    e3 ∙ ap (λ x. x ++ 10 ∷ []) (e2 ∙ ap (λ x. x ++ codes " " ++ c) e1) ∙ line t word a b c
+-- a relationship that is put together from its end
+pub flash-written : (t t1 t2 t3 t4 a b sequence previous word flags own : List ℕ) → t1 ≡ codes " " ++ word ++ codes " " ++ flags ++ codes " " ++ own ++ t
+    → t2 ≡ codes " " ++ previous ++ t1 → t3 ≡ codes " " ++ sequence ++ t2 → t4 ≡ a ++ codes ":" ++ b ++ t3
+    → t4 ≡ (a ++ codes ":" ++ b ++ codes " " ++ sequence ++ codes " " ++ previous ++ codes " " ++ word ++ codes " " ++ flags ++ codes " " ++ own) ++ t
+flash-written t t1 t2 t3 t4 a b sequence previous word flags own e1 e2 e3 e4 =
+    e4 ∙ ap (λ x. a ++ codes ":" ++ b ++ x) (e3 ∙ ap (λ x. codes " " ++ sequence ++ x) (e2 ∙ ap (λ x. codes " " ++ previous ++ x) e1))
+    ∙ flash_parts t a b sequence previous word flags own

@@ -2,7 +2,8 @@
 //!
 //! `text_on` is the text of a journal's events from a place on, each byte of it, in a buffer that is used again: one
 //! line, or none, for each event. It keeps in a `Heard` what the events so far have told, the names of servers and the
-//! track shown, so that it doesn't search the journal. `text` is the same from the journal's events alone. Their one
+//! track shown, so that it doesn't search the journal. A line is put together on the stack, from its end (`Tail`), and
+//! added by one call. `text` is the same from the journal's events alone. Their one
 //! error says that there was no memory. `push_said` adds what one answer says. An image's events print the text of the image (`image-printed` of `dr_facts`).
 #![tactic(auto)]
 
@@ -11,6 +12,7 @@ mod lines;
 mod listings;
 mod pieces;
 mod said;
+mod tail;
 mod told;
 mod values;
 

@@ -3,53 +3,55 @@ ghost use Rattle.std.specs.Fmt.{decimal};
 ghost use Rattle.std.specs.List.{fold};
 ghost use Rattle.dr_model.specs.Text.{untold, heard, told_name, pair_text, flash_text, member_text, mirror_text, said_text, numbered, line_text, text_from};
 ghost use Rattle.dr_list.specs.At.{line_told, heard_at};
-ghost use Rattle.dr_list.specs.Numbered.{is_answer, is_of_volumes};
+ghost use Rattle.dr_list.specs.Numbered.{is_answer, is_of_volumes, is_silent};
 ghost use Rattle.dr_list.specs.Seen.{heard_seen};
 
 use crate::images::push_image_line;
 use crate::listings::{
-    FlashNumbers, MemberNumbers, MirrorNumbers, PairNumbers, push_flash, push_member, push_mirror,
-    push_pair,
+    FlashNumbers, MemberNumbers, MirrorNumbers, PairNumbers, put_flash, put_member, put_mirror,
+    put_pair,
 };
-use crate::pieces::{end_line, push_number};
-use crate::said::push_said;
+use crate::said::put_said;
+use crate::tail::Tail;
 use crate::told::Heard;
 use dr_model::{AnswerNumbers, Event, Journal};
 use std::alloc::{AllocError, Global};
 
-/// Adds a line's number, with a space behind it.
-fn push_line_number(out: &mut Vec<u8>, line: u32) -> Result<(), AllocError>
-    ensures { OnOk result (out.new.items ≡ out.old.items ++ decimal line ++ codes " ") }
+/// Adds a line whose end is put together, with its number.
+fn push_line(out: &mut Vec<u8>, line: u32, tail: &mut Tail) -> Result<(), AllocError>
+    requires { length tail.old ≤ 181 }
+    ensures { OnOk result (out.new.items ≡ out.old.items ++ (decimal line ++ codes " " ++ tail.old)) }
 {
-    push_number(out, line)?;
-    out.extend_from_slice(b" ")
+    tail.word(b" ");
+    tail.number(line);
+    out.extend_from_slice(tail.bytes())
 }
 
 /// Adds the line of a pair.
 fn push_pair_line(out: &mut Vec<u8>, line: u32, of: PairNumbers) -> Result<(), AllocError>
     ensures { OnOk result (out.new.items ≡ out.old.items ++ numbered line (pair_text of.volume of.partner of.state of.kind of.unsent)) }
 {
-    push_line_number(out, line)?;
-    push_pair(out, of)?;
-    end_line(out)
+    let mut tail = Tail::end_of_line();
+    put_pair(&mut tail, of);
+    push_line(out, line, &mut tail)
 }
 
 /// Adds the line of a FlashCopy relationship.
 fn push_flash_line(out: &mut Vec<u8>, line: u32, of: FlashNumbers) -> Result<(), AllocError>
     ensures { OnOk result (out.new.items ≡ out.old.items ++ numbered line (flash_text of.source of.target of.sequence of.previous of.state of.flags of.own)) }
 {
-    push_line_number(out, line)?;
-    push_flash(out, of)?;
-    end_line(out)
+    let mut tail = Tail::end_of_line();
+    put_flash(&mut tail, of);
+    push_line(out, line, &mut tail)
 }
 
 /// Adds the line of a session's member.
 fn push_member_line(out: &mut Vec<u8>, line: u32, of: MemberNumbers) -> Result<(), AllocError>
     ensures { OnOk result (out.new.items ≡ out.old.items ++ numbered line (member_text of.session of.primary of.secondary of.target of.state)) }
 {
-    push_line_number(out, line)?;
-    push_member(out, of)?;
-    end_line(out)
+    let mut tail = Tail::end_of_line();
+    put_member(&mut tail, of);
+    push_line(out, line, &mut tail)
 }
 
 /// Adds the line of a session's master.
@@ -61,9 +63,9 @@ fn push_mirror_line(
 ) -> Result<(), AllocError>
     ensures { OnOk result (out.new.items ≡ out.old.items ++ numbered line (mirror_text (told_name (heard_seen told.now) of.server) of.session of.phase of.n of.paused)) }
 {
-    push_line_number(out, line)?;
-    push_mirror(out, told.name(u32::from(of.server)), of)?;
-    end_line(out)
+    let mut tail = Tail::end_of_line();
+    put_mirror(&mut tail, told.name_bytes(u32::from(of.server)), of);
+    push_line(out, line, &mut tail)
 }
 
 /// Adds the line of an answer.
@@ -75,9 +77,9 @@ fn push_answer(
 ) -> Result<(), AllocError>
     ensures { OnOk result (out.new.items ≡ out.old.items ++ numbered line (said_text (heard_seen told.now) says.code says.a says.b says.c)) }
 {
-    push_line_number(out, line)?;
-    push_said(out, told, says)?;
-    end_line(out)
+    let mut tail = Tail::end_of_line();
+    put_said(&mut tail, told, says);
+    push_line(out, line, &mut tail)
 }
 
 /// Adds the line of a session's member or master, or of an image.
@@ -124,7 +126,9 @@ fn push_session_line(out: &mut Vec<u8>, told: &Heard, event: &Event) -> Result<(
     }
 }
 
-/// Adds the line that an event prints, unless it is an answer.
+/// Adds the line that an event prints, unless it is an answer. Such lines are rare, so they stay out of the loop over
+/// events.
+#[inline(never)]
 fn push_listed(out: &mut Vec<u8>, told: &Heard, event: &Event) -> Result<(), AllocError>
     requires { is_answer event.now ≡ false }
     ensures { OnOk result (out.new.items ≡ out.old.items ++ line_text (heard_seen told.now) event.now) }
@@ -188,6 +192,39 @@ fn push_event(out: &mut Vec<u8>, told: &Heard, event: &Event) -> Result<(), Allo
     }
 }
 
+/// The event prints no line and tells nothing that lines refer to, as most do.
+fn is_silent(event: &Event) -> bool
+    ensures { result ≡ is_silent event.now }
+{
+    match event {
+        Event::Server { .. }
+        | Event::Shown { .. }
+        | Event::PairLine { .. }
+        | Event::FlashLine { .. }
+        | Event::SessionLine { .. }
+        | Event::MirrorLine { .. }
+        | Event::ImageStart
+        | Event::ImageVolume { .. }
+        | Event::ImageBlock { .. }
+        | Event::ImageEnd
+        | Event::Answer { .. } => false,
+        _ => true,
+    }
+}
+
+/// Adds the line that an event prints, and hears the event.
+fn print_event(out: &mut Vec<u8>, told: &mut Heard, event: &Event) -> Result<(), AllocError>
+    ensures line { OnOk result (out.new.items ≡ out.old.items ++ line_text (heard_seen told.old) event.now) }
+    ensures told { heard_seen told.new ≡ heard (heard_seen told.old) event.now }
+{
+    if is_silent(event) {
+        return Ok(());
+    }
+    let pushed = push_event(out, told, event);
+    told.hear(event);
+    pushed
+}
+
 /// Adds the line that the event at a place prints, and hears the event.
 fn print_at(
     out: &mut Vec<u8>,
@@ -199,11 +236,7 @@ fn print_at(
     ensures told { heard_seen told.new ≡ heard_at (heard_seen told.old) (slice_get journal.now.events place) }
 {
     match journal.event(place) {
-        Some(event) => {
-            let pushed = push_event(out, told, event);
-            told.hear(event);
-            pushed
-        }
+        Some(event) => print_event(out, told, event),
         None => Ok(()),
     }
 }

@@ -1,12 +1,13 @@
-//! What the lines of listings say, behind their numbers.
+//! What the lines of listings say after their numbers. It is put together from its end, so what stands last is put first.
 
-ghost use Rattle.std.specs.Prelude.{◌≡◌, ◌<◌, ◌++◌, OnOk, codes, if◌then◌else◌};
+ghost use Rattle.std.specs.Prelude.{◌≡◌, ◌+◌, ◌<◌, ◌≤◌, ◌++◌, codes, length, if◌then◌else◌};
+ghost use Rattle.std.specs.Fmt.{decimal};
 ghost use Rattle.dr_ids.specs.Spelling.{hex4};
-ghost use Rattle.dr_model.specs.Text.{pair_words, type_words, is_target_state, pair_text, flash_text, letter_if, flag_letters, member_text, mirror_text};
+ghost use Rattle.dr_model.specs.Text.{pair_words, type_words, is_target_state, pair_text, flash_word, flash_text, letter_if, flag_letters, member_text, mirror_text};
 
-use crate::pieces::{push_count, push_hex2, push_hex4, push_word};
+use crate::pieces::{put_count, put_word};
+use crate::tail::Tail;
 use crate::values::{flash_word, pair_words, phase_word, type_words};
-use std::alloc::AllocError;
 
 /// A pair as an event tells it: a volume and its partner, the places of its state and kind, and how many
 /// tracks are unsent.
@@ -54,27 +55,26 @@ pub(crate) struct MirrorNumbers {
     pub(crate) paused: bool,
 }
 
-/// Adds two volumes with a colon between them.
-fn push_volumes(out: &mut Vec<u8>, first: u16, second: u16) -> Result<(), AllocError>
-    ensures { OnOk result (out.new.items ≡ out.old.items ++ hex4 first ++ codes ":" ++ hex4 second) }
+/// Adds in front two volumes with a colon between them.
+fn put_volumes(tail: &mut Tail, first: u16, second: u16)
+    requires { length tail.old ≤ 128 }
+    ensures text { tail.new ≡ hex4 first ++ codes ":" ++ hex4 second ++ tail.old }
+    ensures short { length tail.new ≤ length tail.old + 9 }
 {
-    push_hex4(out, first)?;
-    out.extend_from_slice(b":")?;
-    push_hex4(out, second)
+    tail.hex4(second);
+    tail.word(b":");
+    tail.hex4(first);
 }
 
-/// Adds the volumes of a pair, its state and its kind.
-fn push_pair_state(
-    out: &mut Vec<u8>,
-    primary: u16,
-    secondary: u16,
-    of: PairNumbers,
-) -> Result<(), AllocError>
-    ensures { OnOk result (out.new.items ≡ out.old.items ++ hex4 primary ++ codes ":" ++ hex4 secondary ++ codes " " ++ pair_words of.state ++ codes " " ++ type_words of.kind) }
+/// Adds in front the volumes of a pair, its state and its kind.
+fn put_pair_state(tail: &mut Tail, primary: u16, secondary: u16, of: PairNumbers)
+    requires { length tail.old ≤ 20 }
+    ensures text { tail.new ≡ hex4 primary ++ codes ":" ++ hex4 secondary ++ codes " " ++ pair_words of.state ++ codes " " ++ type_words of.kind ++ tail.old }
+    ensures short { length tail.new ≤ length tail.old + 59 }
 {
-    push_volumes(out, primary, secondary)?;
-    push_word(out, pair_words(u32::from(of.state)))?;
-    push_word(out, type_words(u32::from(of.kind)))
+    put_word(tail, type_words(u32::from(of.kind)));
+    put_word(tail, pair_words(u32::from(of.state)));
+    put_volumes(tail, primary, secondary);
 }
 
 /// The state is that of a secondary.
@@ -84,95 +84,112 @@ fn is_target_state(state: u8) -> bool
     (3..=5).contains(&state)
 }
 
-/// Adds a pair, its primary first. A secondary doesn't know what is unsent, so a dash stands for it.
-pub(crate) fn push_pair(out: &mut Vec<u8>, of: PairNumbers) -> Result<(), AllocError>
-    ensures { OnOk result (out.new.items ≡ out.old.items ++ pair_text of.volume of.partner of.state of.kind of.unsent) }
+/// Adds a pair in front, its primary first. A secondary doesn't know what is unsent, so a dash stands for it.
+pub(crate) fn put_pair(tail: &mut Tail, of: PairNumbers)
+    requires { length tail.old ≤ 1 }
+    ensures text { tail.new ≡ pair_text of.volume of.partner of.state of.kind of.unsent ++ tail.old }
+    ensures short { length tail.new ≤ 80 }
 {
     if is_target_state(of.state) {
-        push_pair_state(out, of.partner, of.volume, of)?;
-        out.extend_from_slice(b" -")
+        tail.word(b" -");
+        put_pair_state(tail, of.partner, of.volume, of);
     } else {
-        push_pair_state(out, of.volume, of.partner, of)?;
-        push_count(out, u32::from(of.unsent))
+        put_count(tail, u32::from(of.unsent));
+        put_pair_state(tail, of.volume, of.partner, of);
     }
 }
 
-/// Adds a letter where that bit of the flags is set.
-fn push_flag(out: &mut Vec<u8>, flags: u8, flag: u8, letter: &[u8]) -> Result<(), AllocError>
-    requires { 0 < flag }
-    ensures { OnOk result (out.new.items ≡ out.old.items ++ letter_if flags flag letter.now) }
+/// Adds a letter in front if that bit of the flags is set.
+fn put_flag(tail: &mut Tail, flags: u8, flag: u8, letter: &[u8])
+    requires { (0 < flag) × (length letter.now ≤ 1) × (length tail.old ≤ 128) }
+    ensures text { tail.new ≡ letter_if flags flag letter.now ++ tail.old }
+    ensures short { length tail.new ≤ length tail.old + 1 }
+    ensures long { length tail.old ≤ length tail.new }
 {
     if flags / flag % 2 == 1 {
-        out.extend_from_slice(letter)
-    } else {
-        Ok(())
+        tail.word(letter);
     }
 }
 
-fn push_letters(out: &mut Vec<u8>, flags: u8) -> Result<(), AllocError>
-    ensures { OnOk result (out.new.items ≡ out.old.items ++ (letter_if flags 1 (codes "N") ++ letter_if flags 2 (codes "P") ++ letter_if flags 4 (codes "R") ++ letter_if flags 8 (codes "I"))) }
+fn put_letters(tail: &mut Tail, flags: u8)
+    requires { length tail.old ≤ 100 }
+    ensures text { tail.new ≡ letter_if flags 1 (codes "N") ++ letter_if flags 2 (codes "P") ++ letter_if flags 4 (codes "R") ++ letter_if flags 8 (codes "I") ++ tail.old }
+    ensures short { length tail.new ≤ length tail.old + 4 }
 {
-    push_flag(out, flags, 1, b"N")?;
-    push_flag(out, flags, 2, b"P")?;
-    push_flag(out, flags, 4, b"R")?;
-    push_flag(out, flags, 8, b"I")
+    put_flag(tail, flags, 8, b"I");
+    put_flag(tail, flags, 4, b"R");
+    put_flag(tail, flags, 2, b"P");
+    put_flag(tail, flags, 1, b"N");
 }
 
-/// Adds the flags as letters, or a dash where none is set.
-fn push_flags(out: &mut Vec<u8>, flags: u8) -> Result<(), AllocError>
-    ensures { OnOk result (out.new.items ≡ out.old.items ++ flag_letters flags) }
+/// Adds the flags in front as letters, or a dash if none is set.
+fn put_flags(tail: &mut Tail, flags: u8)
+    requires { length tail.old ≤ 100 }
+    ensures text { tail.new ≡ flag_letters flags ++ tail.old }
+    ensures short { length tail.new ≤ length tail.old + 4 }
 {
-    let start = out.len();
-    push_letters(out, flags)?;
-    if out.len() == start {
-        out.push(b'-')?;
+    let before = tail.bytes().len();
+    put_letters(tail, flags);
+    if tail.bytes().len() == before {
+        tail.word(b"-");
     }
-    Ok(())
 }
 
-/// Adds a relationship.
-pub(crate) fn push_flash(out: &mut Vec<u8>, of: FlashNumbers) -> Result<(), AllocError>
-    ensures { OnOk result (out.new.items ≡ out.old.items ++ flash_text of.source of.target of.sequence of.previous of.state of.flags of.own) }
+/// Adds in front the state of a relationship, its flags, and how many tracks its target holds.
+fn put_flash_state(tail: &mut Tail, of: FlashNumbers)
+    requires { length tail.old ≤ 1 }
+    ensures text { tail.new ≡ codes " " ++ flash_word of.state ++ codes " " ++ flag_letters of.flags ++ codes " " ++ decimal of.own ++ tail.old }
+    ensures short { length tail.new ≤ 45 }
 {
-    push_volumes(out, of.source, of.target)?;
-    push_count(out, of.sequence)?;
-    push_count(out, of.previous)?;
-    push_word(out, flash_word(u32::from(of.state)))?;
-    out.extend_from_slice(b" ")?;
-    push_flags(out, of.flags)?;
-    push_count(out, u32::from(of.own))
+    put_count(tail, u32::from(of.own));
+    put_flags(tail, of.flags);
+    tail.word(b" ");
+    put_word(tail, flash_word(u32::from(of.state)));
 }
 
-/// Adds a session's member.
-pub(crate) fn push_member(out: &mut Vec<u8>, of: MemberNumbers) -> Result<(), AllocError>
-    ensures { OnOk result (out.new.items ≡ out.old.items ++ member_text of.session of.primary of.secondary of.target of.state) }
+/// Adds a relationship in front.
+pub(crate) fn put_flash(tail: &mut Tail, of: FlashNumbers)
+    requires { length tail.old ≤ 1 }
+    ensures text { tail.new ≡ flash_text of.source of.target of.sequence of.previous of.state of.flags of.own ++ tail.old }
+    ensures short { length tail.new ≤ 80 }
 {
-    push_hex2(out, of.session)?;
-    out.extend_from_slice(b" ")?;
-    push_volumes(out, of.primary, of.secondary)?;
-    out.extend_from_slice(b":")?;
-    push_hex4(out, of.target)?;
-    push_word(out, pair_words(u32::from(of.state)))
+    put_flash_state(tail, of);
+    put_count(tail, of.previous);
+    put_count(tail, of.sequence);
+    put_volumes(tail, of.source, of.target);
+}
+
+/// Adds a session's member in front.
+pub(crate) fn put_member(tail: &mut Tail, of: MemberNumbers)
+    requires { length tail.old ≤ 1 }
+    ensures text { tail.new ≡ member_text of.session of.primary of.secondary of.target of.state ++ tail.old }
+    ensures short { length tail.new ≤ 80 }
+{
+    put_word(tail, pair_words(u32::from(of.state)));
+    tail.hex4(of.target);
+    tail.word(b":");
+    put_volumes(tail, of.primary, of.secondary);
+    tail.word(b" ");
+    tail.hex2(of.session);
 }
 
 /// The word that says whether a session's master goes on.
 fn pace_word(paused: bool) -> &'static [u8]
-    ensures { result.now ≡ (if paused then codes " paused" else codes " running") }
+    ensures word { result.now ≡ (if paused then codes " paused" else codes " running") }
+    ensures short { length result.now ≤ 8 }
 {
     if paused { b" paused" } else { b" running" }
 }
 
-/// Adds a session's master, whose server has this name.
-pub(crate) fn push_mirror(
-    out: &mut Vec<u8>,
-    name: &[u8],
-    of: MirrorNumbers,
-) -> Result<(), AllocError>
-    ensures { OnOk result (out.new.items ≡ out.old.items ++ mirror_text name.now of.session of.phase of.n of.paused) }
+/// Adds a session's master in front, whose server has this name.
+pub(crate) fn put_mirror(tail: &mut Tail, name: &[u8], of: MirrorNumbers)
+    requires { (length name.now ≤ 24) × (length tail.old ≤ 1) }
+    ensures text { tail.new ≡ mirror_text name.now of.session of.phase of.n of.paused ++ tail.old }
+    ensures short { length tail.new ≤ 80 }
 {
-    push_hex2(out, of.session)?;
-    push_word(out, name)?;
-    push_word(out, phase_word(u32::from(of.phase)))?;
-    push_count(out, of.n)?;
-    out.extend_from_slice(pace_word(of.paused))
+    tail.word(pace_word(of.paused));
+    put_count(tail, of.n);
+    put_word(tail, phase_word(u32::from(of.phase)));
+    put_word(tail, name);
+    tail.hex2(of.session);
 }

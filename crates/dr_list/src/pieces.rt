@@ -1,114 +1,51 @@
-//! Numbers, volumes, sessions and bytes, as lines show them.
+//! Words and numbers with a space before them, and how much of a track is shown.
 
-ghost use Rattle.std.specs.Prelude.{◌≡◌, ◌≤◌, [], ◌∷◌, ◌++◌, length, take, OnOk, codes};
-ghost use Rattle.std.specs.List.{flat_map};
+ghost use Rattle.std.specs.Prelude.{◌≡◌, ◌+◌, ◌≤◌, ◌++◌, length, take, codes};
 ghost use Rattle.std.specs.Fmt.{decimal};
-ghost use Rattle.dr_ids.specs.Spelling.{hex2, hex4};
-ghost use Rattle.dr_model.specs.Text.{trimmed, track_text, volume_digits, session_digits};
+ghost use Rattle.dr_model.specs.Text.{trimmed};
 
-use dr_ids::upper_hex;
-use itoa::Buffer;
-use std::alloc::AllocError;
+use crate::tail::Tail;
 
-/// Adds a number in decimal digits.
-pub(crate) fn push_number(out: &mut Vec<u8>, n: u32) -> Result<(), AllocError>
-    ensures { OnOk result (out.new.items ≡ out.old.items ++ decimal n) }
+/// Adds a word in front, with a space before it.
+pub(crate) fn put_word(tail: &mut Tail, word: &[u8])
+    requires { (length word.now ≤ 24) × (length tail.old ≤ 128) }
+    ensures text { tail.new ≡ codes " " ++ word.now ++ tail.old }
+    ensures short { length tail.new ≤ length tail.old + 25 }
 {
-    let mut buffer = Buffer::new();
-    out.extend_from_slice(buffer.format(n).as_bytes())
+    tail.word(word);
+    tail.word(b" ");
 }
 
-/// Ends a line.
-pub(crate) fn end_line(out: &mut Vec<u8>) -> Result<(), AllocError>
-    ensures { OnOk result (out.new.items ≡ out.old.items ++ 10 ∷ []) }
+/// Adds a number in front, with a space before it.
+pub(crate) fn put_count(tail: &mut Tail, n: u32)
+    requires { length tail.old ≤ 128 }
+    ensures text { tail.new ≡ codes " " ++ decimal n ++ tail.old }
+    ensures short { length tail.new ≤ length tail.old + 11 }
 {
-    out.extend_from_slice(b"\n")
+    tail.number(n);
+    tail.word(b" ");
 }
 
-/// Adds a word behind a space.
-pub(crate) fn push_word(out: &mut Vec<u8>, word: &[u8]) -> Result<(), AllocError>
-    ensures { OnOk result (out.new.items ≡ out.old.items ++ codes " " ++ word.now) }
-{
-    out.extend_from_slice(b" ")?;
-    out.extend_from_slice(word)
-}
-
-/// Adds a number in decimal digits behind a space.
-pub(crate) fn push_count(out: &mut Vec<u8>, n: u32) -> Result<(), AllocError>
-    ensures { OnOk result (out.new.items ≡ out.old.items ++ codes " " ++ decimal n) }
-{
-    out.extend_from_slice(b" ")?;
-    push_number(out, n)
-}
-
-/// Adds two upper-case hexadecimal digits.
-pub(crate) fn push_hex2(out: &mut Vec<u8>, n: u8) -> Result<(), AllocError>
-    ensures { OnOk result (out.new.items ≡ out.old.items ++ hex2 n) }
-{
-    let digits = [upper_hex(n / 16), upper_hex(n % 16)];
-    out.extend_from_slice(&digits)
-}
-
-/// Adds four upper-case hexadecimal digits.
-pub(crate) fn push_hex4(out: &mut Vec<u8>, n: u16) -> Result<(), AllocError>
-    ensures { OnOk result (out.new.items ≡ out.old.items ++ hex4 n) }
-{
-    push_hex2(out, (n / 256) as u8)?;
-    push_hex2(out, (n % 256) as u8)
-}
-
-/// Adds a volume behind a space: four hexadecimal digits.
-pub(crate) fn push_volume(out: &mut Vec<u8>, n: u32) -> Result<(), AllocError>
-    ensures { OnOk result (out.new.items ≡ out.old.items ++ codes " " ++ volume_digits n) }
-{
-    out.extend_from_slice(b" ")?;
-    push_hex4(out, (n % 65536) as u16)
-}
-
-/// Adds a session behind a space: two hexadecimal digits.
-pub(crate) fn push_session(out: &mut Vec<u8>, n: u32) -> Result<(), AllocError>
-    ensures { OnOk result (out.new.items ≡ out.old.items ++ codes " " ++ session_digits n) }
-{
-    out.extend_from_slice(b" ")?;
-    push_hex2(out, (n % 256) as u8)
-}
-
-/// How many bytes there are before the zeros at the end.
-fn trimmed_len(bytes: &[u8]) -> usize
+/// How many bytes there are without the zeros at the end, as far as these come eight at a time, which one test sees.
+fn len_by_eights(bytes: &[u8]) -> usize
     ensures within { result ≤ length bytes.now }
-    ensures front { take result bytes.now ≡ trimmed bytes.now }
+    ensures front { trimmed (take result bytes.now) ≡ trimmed bytes.now }
 {
     let mut len = bytes.len();
-    while len > 0 && bytes[len - 1] == 0 {
-        len -= 1;
+    while bytes[..len].ends_with(&[0; 8]) {
+        len -= 8;
     }
     len
 }
 
-fn push_hex(out: &mut Vec<u8>, bytes: &[u8]) -> Result<(), AllocError>
-    ensures { OnOk result (out.new.items ≡ out.old.items ++ flat_map hex2 bytes.now) }
+/// How many bytes there are before the zeros at the end.
+pub(crate) fn trimmed_len(bytes: &[u8]) -> usize
+    ensures within { result ≤ length bytes.now }
+    ensures front { take result bytes.now ≡ trimmed bytes.now }
 {
-    for b in bytes {
-        push_hex2(out, *b)?;
+    let mut len = len_by_eights(bytes);
+    while len > 0 && bytes[len - 1] == 0 {
+        len -= 1;
     }
-    Ok(())
-}
-
-/// Adds bytes without the zeros at their end, two hexadecimal digits each.
-pub(crate) fn push_trimmed(out: &mut Vec<u8>, bytes: &[u8]) -> Result<(), AllocError>
-    ensures { OnOk result (out.new.items ≡ out.old.items ++ flat_map hex2 (trimmed bytes.now)) }
-{
-    push_hex(out, &bytes[..trimmed_len(bytes)])
-}
-
-/// Adds a track as it is shown: hexadecimal without the zero bytes at its end, or a dash.
-pub(crate) fn push_track(out: &mut Vec<u8>, bytes: &[u8]) -> Result<(), AllocError>
-    ensures { OnOk result (out.new.items ≡ out.old.items ++ track_text bytes.now) }
-{
-    let len = trimmed_len(bytes);
-    if len == 0 {
-        out.push(b'-')?;
-        return Ok(());
-    }
-    push_hex(out, &bytes[..len])
+    len
 }

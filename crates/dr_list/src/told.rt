@@ -1,6 +1,6 @@
 //! What the events so far told: the names of servers, and the track that is shown.
 
-ghost use Rattle.std.specs.Prelude.{◌≡◌, ℕ, take, None};
+ghost use Rattle.std.specs.Prelude.{◌≡◌, ◌≤◌, ℕ, length, take, None};
 ghost use Rattle.std.specs.Option.{option_or, unwrap_or};
 ghost use Rattle.dr_logic.specs.Bytes.{zeros};
 ghost use Rattle.dr_model.specs.Text.{untold, heard, name_in, shown_in, told_name};
@@ -24,7 +24,8 @@ fn zero_track() -> [u8; 64]
 }
 
 fn front(bytes: &[u8], len: usize) -> &[u8]
-    ensures { result.now ≡ take len bytes.now }
+    ensures front { result.now ≡ take len bytes.now }
+    ensures within { length result.now ≤ length bytes.now }
 {
     &bytes[..len.min(bytes.len())]
 }
@@ -81,9 +82,17 @@ impl Heard {
     }
 
     /// The name of a server; empty where none of that number was defined. Of two names, the first.
-    #[tactic(auto, unfolding(crate::specs::Seen::heard_seen))]
     pub fn name(&self, server: u32) -> &[u8]
         ensures { result.now ≡ told_name (heard_seen self.now) server }
+    {
+        self.name_bytes(server)
+    }
+
+    /// The same, with how long it is at most.
+    #[tactic(auto, unfolding(crate::specs::Seen::heard_seen))]
+    pub(crate) fn name_bytes(&self, server: u32) -> &[u8]
+        ensures name { result.now ≡ told_name (heard_seen self.now) server }
+        ensures short { length result.now ≤ 24 }
     {
         match self.names.get(server as usize) {
             Some(Some(name)) => front(&name.bytes, usize::from(name.len)),
@@ -94,7 +103,8 @@ impl Heard {
     /// The track that the step at hand has shown; zeros where it has shown none.
     #[tactic(auto, unfolding(crate::specs::Seen::heard_seen))]
     pub(crate) fn shown(&self) -> &[u8]
-        ensures { result.now ≡ (heard_seen self.now).shown }
+        ensures track { result.now ≡ (heard_seen self.now).shown }
+        ensures len { length result.now ≡ 64 }
     {
         &self.shown
     }

@@ -1,11 +1,12 @@
 //! The words of answers and listings, by their numbers. Another number has no word, but where one says so.
 
-ghost use Rattle.std.specs.Prelude.{◌≡◌};
+ghost use Rattle.std.specs.Prelude.{◌≡◌, ◌≤◌, length};
 ghost use Rattle.dr_model.specs.Text as words;
 
 /// What a name was to name.
 pub(crate) fn kind_word(kind: u32) -> &'static [u8]
-    ensures { result.now ≡ words.kind_word kind }
+    ensures word { result.now ≡ words.kind_word kind }
+    ensures short { length result.now ≤ 24 }
 {
     match kind {
         0 => b"server",
@@ -23,7 +24,8 @@ pub(crate) fn kind_word(kind: u32) -> &'static [u8]
 
 /// What was at its limit.
 pub(crate) fn limit_word(limit: u32) -> &'static [u8]
-    ensures { result.now ≡ words.limit_word limit }
+    ensures word { result.now ≡ words.limit_word limit }
+    ensures short { length result.now ≤ 24 }
 {
     match limit {
         0 => b"servers",
@@ -42,7 +44,8 @@ pub(crate) fn limit_word(limit: u32) -> &'static [u8]
 
 /// The phase of a session's master; `none` where it has no master.
 pub(crate) fn phase_word(phase: u32) -> &'static [u8]
-    ensures { result.now ≡ words.phase_word phase }
+    ensures word { result.now ≡ words.phase_word phase }
+    ensures short { length result.now ≤ 24 }
 {
     match phase {
         0 => b"none",
@@ -61,7 +64,8 @@ pub(crate) fn phase_word(phase: u32) -> &'static [u8]
 
 /// The state of a volume's pair.
 pub(crate) fn pair_words(state: u32) -> &'static [u8]
-    ensures { result.now ≡ words.pair_words state }
+    ensures word { result.now ≡ words.pair_words state }
+    ensures short { length result.now ≤ 24 }
 {
     match state {
         0 => b"Copy Pending",
@@ -77,7 +81,8 @@ pub(crate) fn pair_words(state: u32) -> &'static [u8]
 
 /// The kind of a pair.
 pub(crate) fn type_words(kind: u32) -> &'static [u8]
-    ensures { result.now ≡ words.type_words kind }
+    ensures word { result.now ≡ words.type_words kind }
+    ensures short { length result.now ≤ 24 }
 {
     match kind {
         1 => b"Metro Mirror",
@@ -88,7 +93,8 @@ pub(crate) fn type_words(kind: u32) -> &'static [u8]
 
 /// The state of a FlashCopy relationship that a listing shows; a number past the others has the last word.
 pub(crate) fn flash_word(state: u32) -> &'static [u8]
-    ensures { result.now ≡ words.flash_word state }
+    ensures word { result.now ≡ words.flash_word state }
+    ensures short { length result.now ≤ 24 }
 {
     match state {
         0 => b"Revertible",
@@ -99,7 +105,8 @@ pub(crate) fn flash_word(state: u32) -> &'static [u8]
 
 /// The state of a volume's FlashCopy relationships.
 pub(crate) fn relation_word(state: u32) -> &'static [u8]
-    ensures { result.now ≡ words.relation_word state }
+    ensures word { result.now ≡ words.relation_word state }
+    ensures short { length result.now ≤ 24 }
 {
     match state {
         0 => b"revertible",
@@ -113,7 +120,8 @@ pub(crate) fn relation_word(state: u32) -> &'static [u8]
 
 /// The words that a refusal begins with, by its code.
 pub(crate) fn refusal_words(code: u8) -> &'static [u8]
-    ensures { result.now ≡ words.refusal_words code }
+    ensures word { result.now ≡ words.refusal_words code }
+    ensures short { length result.now ≤ 18 }
 {
     match code {
         1 => b"E01 syntax",

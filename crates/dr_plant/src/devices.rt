@@ -1,9 +1,9 @@
 //! The devices of a plant in memory: small steps on nested vectors.
 
-ghost use Rattle.std.specs.Prelude.{◌≡◌, ◌<◌, ◌+◌, vec_len, OnOk, OnErr, IfOk, length, replicate};
+ghost use Rattle.std.specs.Prelude.{◌≡◌, ◌<◌, ◌≤◌, ◌+◌, ◌++◌, take, drop, vec_len, OnOk, OnErr, IfOk, length, replicate};
 ghost use Rattle.dr_logic.specs.Bytes.{zeros};
 ghost use Rattle.dr_logic.specs.Tables.{at, at2};
-ghost use Rattle.dr_plant.specs.Model.{owners, sizes, contents};
+ghost use Rattle.dr_plant.specs.Model.{owners, sizes, contents, with_blocks};
 
 use crate::device::Device;
 use crate::plant::Block;
@@ -38,6 +38,27 @@ pub fn put_block(devices: &mut Vec<Device>, dev: usize, block: usize, bytes: &Bl
 {
     let device = &mut devices[dev];
     device.blocks[block] = *bytes;
+}
+
+/// Replaces blocks of a device, from one on.
+pub fn put_blocks(devices: &mut Vec<Device>, dev: usize, first: usize, from: &[Block])
+    requires device { dev < vec_len devices.old }
+    requires blocks { first + length from.now ≤ sizes devices.old.items dev }
+    ensures count { length devices.new.items ≡ length devices.old.items }
+    ensures owners { owners devices.new.items ≡ owners devices.old.items }
+    ensures sizes { sizes devices.new.items ≡ sizes devices.old.items }
+    ensures contents { contents devices.new.items ≡ with_blocks (contents devices.old.items) dev first from.now }
+{
+    let device = &mut devices[dev];
+    paste(&mut device.blocks, first, from);
+}
+
+/// Replaces elements from one on.
+fn paste(blocks: &mut Vec<Block>, first: usize, from: &[Block])
+    requires { first + length from.now ≤ vec_len blocks.old }
+    ensures { blocks.new.items ≡ take first blocks.old.items ++ from.now ++ drop (first + length from.now) blocks.old.items }
+{
+    blocks[first..first + from.len()].copy_from_slice(from);
 }
 
 /// Adds a device of blocks of zeros. Fails where there is no memory; then nothing has changed.

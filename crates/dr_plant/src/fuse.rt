@@ -1,6 +1,6 @@
 //! How fuses burn.
 
-ghost use Rattle.std.specs.Prelude.{◌≡◌};
+ghost use Rattle.std.specs.Prelude.{◌≡◌, ◌&&◌, is_none};
 ghost use Rattle.dr_plant.specs.State as state;
 
 use crate::plant::{Block, Torn, WriteFuse};
@@ -23,6 +23,13 @@ pub fn passes_read(fuse: Option<u32>) -> bool
         Some(0) => false,
         _ => true,
     }
+}
+
+/// Whether none of a server's fuses is armed.
+pub fn unarmed(write: &Option<WriteFuse>, read: &Option<u32>) -> bool
+    ensures { result ≡ (is_none write.now && is_none read.now) }
+{
+    write.is_none() && read.is_none()
 }
 
 /// Lowers a write fuse: a write was done.

@@ -10,6 +10,7 @@ use crate::device::Device;
 use crate::devices;
 use crate::fuse::{
     lower_write, lowered_read, passes_read, passes_write, started_read, started_write, torn_block,
+    unarmed,
 };
 use crate::plant::{AddFault, Block, DeviceId, Plant, Stopped, Torn, WriteFuse};
 use std::alloc::Global;
@@ -101,6 +102,16 @@ impl Plant for ModelPlant {
         lower_write(&mut self.write_fuses[owner]);
         self.read_fuses[owner] = lowered_read(self.read_fuses[owner]);
         Ok(())
+    }
+
+    fn put_blocks(&mut self, dev: DeviceId, first: u16, from: &[Block]) -> bool {
+        let dev = dev.0 as usize;
+        let owner = devices::owner_of(&self.devices, dev);
+        if !self.on[owner] || !unarmed(&self.write_fuses[owner], &self.read_fuses[owner]) {
+            return false;
+        }
+        devices::put_blocks(&mut self.devices, dev, first as usize, from);
+        true
     }
 
     fn peek(&self, dev: DeviceId, block: u16) -> Block {

@@ -1,8 +1,8 @@
 //! What a plant promises to those who read and write its devices.
 
-ghost use Rattle.std.specs.Prelude.{◌≡◌, ℕ, ◌<◌, ◌≤◌, ◌+◌, ◌↔◌, Some, is_ok, IfOk, OnOk, OnErr, IsErrOf};
+ghost use Rattle.std.specs.Prelude.{◌≡◌, ℕ, ◌<◌, ◌≤◌, ◌+◌, ◌^◌, ◌↔◌, true, false, length, Some, is_ok, is_err, IfOk, OnOk, OnErr, IsErrOf};
 ghost use Rattle.dr_logic.specs.Tables.{at};
-ghost use Rattle.dr_plant.specs.State.{PlantState, HasBlock, after_write, after_read, can_write, can_read, started, off, with_device};
+ghost use Rattle.dr_plant.specs.State.{PlantState, HasBlock, after_write, after_blocks, after_read, can_write, can_read, started, off, with_device};
 
 /// The bytes of one block.
 pub type Block = [u8; 64];
@@ -70,6 +70,35 @@ pub trait Plant {
         requires { HasBlock (state self.old) dev.0 block }
         ensures state { state self.new ≡ after_write (state self.old) dev.0 block from.now }
         ensures done { is_ok result ≡ can_write (state self.old) dev.0 };
+
+    /// Writes blocks, from a block on, as `write` does each, up to the first that fails.
+    fn write_blocks(&mut self, dev: DeviceId, first: u16, from: &[Block]) -> Result<(), Stopped>
+        requires device { dev.0 < (state self.old).count }
+        requires blocks { first + length from.now ≤ (state self.old).size dev.0 }
+        requires fits { first + length from.now < 2 ^ 16 }
+        ensures { after_blocks (state self.old) dev.0 first from.now ≡ (state self.new, is_err result) }
+    {
+        if self.put_blocks(dev, first, from) {
+            return Ok(());
+        }
+        let mut block = first;
+        for bytes in from {
+            self.write(dev, block, bytes)?;
+            block += 1;
+        }
+        Ok(())
+    }
+
+    /// Writes blocks, from a block on, in one piece, and tells whether it did: a plant may, if no write of them fails. Else
+    /// nothing has changed. `write_blocks` goes on block by block then.
+    fn put_blocks(&mut self, dev: DeviceId, first: u16, from: &[Block]) -> bool
+        requires device { dev.0 < (state self.old).count }
+        requires blocks { first + length from.now ≤ (state self.old).size dev.0 }
+        ensures done { result ≡ true → after_blocks (state self.old) dev.0 first from.now ≡ (state self.new, false) }
+        ensures same { result ≡ false → state self.new ≡ state self.old }
+    {
+        false
+    }
 
     /// A block's bytes, whether or not its owner is on. No fuse and no count changes.
     fn peek(&self, dev: DeviceId, block: u16) -> Block

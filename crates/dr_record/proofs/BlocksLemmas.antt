@@ -1,9 +1,10 @@
-use Rattle.std.proofs.Common.{ℕ, ◌≡◌, ◌≢◌, ◌<◌, ◌≤◌, ◌+◌, ◌⊎◌, inl, inr, Bool, true, false, List, ◌∷◌, refl, ap, ◌∙◌, sym, suc, zero, length, arith}
+use Rattle.std.proofs.Common.{ℕ, ◌≡◌, ◌≢◌, ◌<◌, ◌≤◌, ◌+◌, ◌⊎◌, inl, inr, Bool, true, false, List, [], ◌∷◌, refl, ap, ◌∙◌, sym, suc, zero, length, arith}
 use Rattle.std.proofs.lemmas.Bool.{cases_eq}
-use Rattle.dr_plant.specs.State.{PlantState, after_write, can_write}
+use Rattle.dr_plant.specs.State.{PlantState, after_write, after_blocks, can_write}
 use Rattle.dr_plant.proofs.StateLemmas.{other-after_write, same-after_write}
+use Rattle.dr_plant.proofs.AfterBlocks.{blocks-goes, blocks-stops, blocks-end}
 use Rattle.dr_record.specs.Writes.{write, after_writes}
-use Rattle.dr_record.specs.Slots.{block_writes}
+use Rattle.dr_record.specs.Slots.{listed, block_writes}
 use Rattle.dr_record.proofs.WritesLemmas.{goes, stops, ends}
 
 -- the i-th of the blocks is written, and the rest
@@ -20,6 +21,12 @@ rest-stops s dev start i n m f e can = ap (λ k. after_writes s dev (block_write
 pub rest-ends : (s : PlantState) (dev start i n : ℕ) (f : ℕ → List ℕ) → n ≡ 0 → after_writes s dev (block_writes start i n f) ≡ (s, false)
 unfolding block_writes
 rest-ends s dev start i n f e = ap (λ k. after_writes s dev (block_writes start i k f)) e ∙ ends s dev
+
+-- writes of the same blocks
+pub same-block_writes : (start k n : ℕ) (f g : ℕ → List ℕ) → ((i : ℕ) → i < k + n → f i ≡ g i) → block_writes start k n f ≡ block_writes start k n g
+unfolding block_writes
+same-block_writes start k zero f g same = refl
+same-block_writes start k (suc n) f g same = (λ i. write (start + k) (same k (omega arith) i) ∷ same-block_writes start (k + 1) n f g (λ j lt. same j (omega arith)) i)
 
 -- n blocks are n writes
 pub length-block_writes : (start k n : ℕ) (f : ℕ → List ℕ) → length (block_writes start k n f) ≡ n
@@ -67,4 +74,23 @@ done-block_writes s t dev start k (suc n) f h i l u =
             | inr p ↦ done-block_writes s1 t dev start (k + 1) n f r i p.0 p.1
           ]
       | false ↦ λ c. let e : true ≡ false = ap (λ (r : PlantState × Bool). r.1) (sym (stops s dev (write (start + k) (f k)) (block_writes start (k + 1) n f) c) ∙ h) in absurd (cc)
+    ] refl
+
+-- blocks written by one call are these writes
+pub laid-blocks : (s : PlantState) (dev start k : ℕ) (xs : List (List ℕ)) (f : ℕ → List ℕ) → ((i : ℕ) → i < length xs → f (k + i) ≡ listed xs i) → after_blocks s dev (start + k) xs ≡ after_writes s dev (block_writes start k (length xs) f)
+unfolding block_writes
+laid-blocks s dev start k [] f same = blocks-end s dev (start + k) ∙ sym (ends s dev)
+laid-blocks s dev start k (x ∷ xs) f same =
+    let one : x ≡ f k = sym (same 0 (omega arith)) ∙ ap f (let e : k + 0 ≡ k = omega arith in e) in
+    elim (can_write s dev) as (λ v. can_write s dev ≡ v → after_blocks s dev (start + k) (x ∷ xs) ≡ after_writes s dev (write (start + k) (f k) ∷ block_writes start (k + 1) (length xs) f)) [
+      | true ↦ λ c.
+          blocks-goes s dev (start + k) x xs c
+          ∙ ap (λ y. after_blocks (after_write s dev (start + k) y) dev (start + k + 1) xs) one
+          ∙ ap (λ b. after_blocks (after_write s dev (start + k) (f k)) dev b xs) (let e : start + k + 1 ≡ start + (k + 1) = omega arith in e)
+          ∙ laid-blocks (after_write s dev (start + k) (f k)) dev start (k + 1) xs f (λ i lt. ap f (let e : k + 1 + i ≡ k + suc i = omega arith in e) ∙ same (suc i) (omega arith))
+          ∙ sym (goes s dev (write (start + k) (f k)) (block_writes start (k + 1) (length xs) f) c)
+      | false ↦ λ c.
+          blocks-stops s dev (start + k) x xs c
+          ∙ ap (λ y. (after_write s dev (start + k) y, true)) one
+          ∙ sym (stops s dev (write (start + k) (f k)) (block_writes start (k + 1) (length xs) f) c)
     ] refl

@@ -42,6 +42,10 @@ unfoldable pub block_writes : ℕ → ℕ → ℕ → (ℕ → List ℕ) → Lis
 block_writes start k zero bytes = []
 block_writes start k (suc n) bytes = write (start + k) (bytes k) ∷ block_writes start (k + 1) n bytes
 
+-- the blocks of a list by number
+abbrev pub listed : List (List ℕ) → ℕ → List ℕ
+listed blocks i = slice_index_or blocks i []
+
 -- The writes that put a record of n blocks into a slot: its blocks in order, and then the gate.
 abbrev pub record_writes : ℕ → Bool → (ℕ → List ℕ) → List BlockWrite
 record_writes n slot bytes = block_writes (start_of n slot) 0 n bytes ++ write 0 (gate_of slot) ∷ []

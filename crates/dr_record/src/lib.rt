@@ -3,7 +3,7 @@
 //! After `put` the device chooses the old value or the new one, at every stop, whatever a torn write left
 //! (`old_or_new`); the new one where it answers Ok (`done`). Its device writes are an exact list (`writes`). No other
 //! device and no block behind the two slots changes (`elsewhere`). `read_choice` reads which slot the device chooses
-//! (`slot`), and `peek_choice` looks. A `Cell` keeps the value beside the slot: `Cell::load` gives the value that the device
+//! (`slot`), and `peek_choice` looks. `put_blocks` makes the device writes of `put` from blocks at hand. A `Cell` keeps the value beside the slot: `Cell::load` gives the value that the device
 //! chooses (`value`), and `Cell::put` puts the next one in its place.
 #![tactic(auto)]
 
@@ -14,4 +14,4 @@ mod slot;
 
 pub use cell::Cell;
 pub use form::Form;
-pub use record::{peek_choice, put, read_choice};
+pub use record::{peek_choice, put, put_blocks, read_choice};

@@ -1,13 +1,13 @@
 //! Which of a device's two records counts, and how the next one takes its place.
 
-ghost use Rattle.std.specs.Prelude.{◌≡◌, ℕ, ◌<◌, ◌≤◌, ◌+◌, ◌*◌, ◌^◌, ◌↔◌, not, is_ok, is_err, IfOk, OnOk, OnErr};
+ghost use Rattle.std.specs.Prelude.{◌≡◌, ℕ, ◌<◌, ◌≤◌, ◌+◌, ◌*◌, ◌^◌, ◌↔◌, not, length, is_ok, is_err, IfOk, OnOk, OnErr};
 ghost use Rattle.dr_plant.specs.State.{HasBlock, after_read, can_read};
 ghost use Rattle.dr_record.specs.Writes.{IsDevice, after_writes};
-ghost use Rattle.dr_record.specs.Slots.{slot_of, stored, record_writes, Chooses, IsOldOrNew, IsCutShort, SameElsewhere};
+ghost use Rattle.dr_record.specs.Slots.{slot_of, stored, listed, record_writes, Chooses, IsOldOrNew, IsCutShort, SameElsewhere};
 
 use crate::form::Form;
 use crate::slot;
-use dr_plant::{DeviceId, Plant, Stopped};
+use dr_plant::{Block, DeviceId, Plant, Stopped};
 
 /// Reads which slot a device chooses: slot 1 where it is true. Fails where the plant can't read the device.
 pub fn read_choice<P: Plant>(plant: &mut P, dev: DeviceId) -> Result<bool, Stopped>
@@ -51,4 +51,19 @@ pub fn put<P: Plant, F: Form>(
 {
     next.tell_whole();
     slot::write_record(plant, dev, !slot, next)
+}
+
+/// Writes a record whose blocks are at hand to the slot that isn't `slot`, and then the gate: the device writes of `put`. Fails at
+/// the first write that can't be done.
+pub fn put_blocks<P: Plant>(
+    plant: &mut P,
+    dev: DeviceId,
+    slot: bool,
+    blocks: &[Block],
+) -> Result<(), Stopped>
+    requires device { IsDevice (P.state plant.old) dev.0 (2 * length blocks.now + 1) }
+    requires fits { 2 * length blocks.now + 1 < 2 ^ 16 }
+    ensures writes { after_writes (P.state plant.old) dev.0 (record_writes (length blocks.now) (not slot) (listed blocks.now)) ≡ (P.state plant.new, is_err result) }
+{
+    slot::write_laid(plant, dev, !slot, blocks)
 }

@@ -1,7 +1,7 @@
 //! Reading and writing one slot, and the gate.
 
-ghost use Rattle.std.specs.Prelude.{◌≡◌, ℕ, ◌<◌, ◌≤◌, ◌+◌, ◌*◌, ◌^◌, Bool, false, is_err, IfOk, OnOk, OnErr};
-ghost use Rattle.dr_plant.specs.State.{after_read, can_read};
+ghost use Rattle.std.specs.Prelude.{◌≡◌, ℕ, ◌<◌, ◌≤◌, ◌+◌, ◌*◌, ◌^◌, Bool, false, length, is_ok, is_err, IfOk, OnOk, OnErr};
+ghost use Rattle.dr_plant.specs.State.{HasBlock, after_read, after_write, can_read, can_write};
 ghost use Rattle.dr_record.specs.Writes.{IsDevice, SameShape, after_writes};
 ghost use Rattle.dr_record.specs.Slots as slots;
 
@@ -30,7 +30,15 @@ fn start_of<F: Form>(slot: bool) -> u16
     requires { 2 * F.BLOCKS + 1 < 2 ^ 16 }
     ensures { result ≡ slots.start_of F.BLOCKS slot }
 {
-    if slot { F::BLOCKS + 1 } else { 1 }
+    begin_of(F::BLOCKS, slot)
+}
+
+/// The first block of a slot of a record of so many blocks.
+fn begin_of(blocks: u16, slot: bool) -> u16
+    requires { 2 * blocks + 1 < 2 ^ 16 }
+    ensures { result ≡ slots.start_of blocks slot }
+{
+    if slot { blocks + 1 } else { 1 }
 }
 
 /// Reads the value in a slot. Fails where the plant can't read the device.
@@ -71,6 +79,32 @@ pub fn write_slot<P: Plant, F: Form>(
     Ok(())
 }
 
+/// Writes the gate that chooses a slot.
+fn write_gate<P: Plant>(plant: &mut P, dev: DeviceId, slot: bool) -> Result<(), Stopped>
+    requires { HasBlock (P.state plant.old) dev.0 0 }
+    ensures state { P.state plant.new ≡ after_write (P.state plant.old) dev.0 0 (slots.gate_of slot) }
+    ensures done { is_ok result ≡ can_write (P.state plant.old) dev.0 }
+{
+    plant.write(dev, 0, &gate_of(slot))
+}
+
+/// Writes a record whose blocks are at hand to a slot: the blocks in order, by one call of the plant, and then the gate that
+/// chooses the slot. Fails at the first write that can't be done.
+pub fn write_laid<P: Plant>(
+    plant: &mut P,
+    dev: DeviceId,
+    slot: bool,
+    blocks: &[Block],
+) -> Result<(), Stopped>
+    requires device { IsDevice (P.state plant.old) dev.0 (2 * length blocks.now + 1) }
+    requires fits { 2 * length blocks.now + 1 < 2 ^ 16 }
+    ensures { after_writes (P.state plant.old) dev.0 (slots.record_writes (length blocks.now) slot (slots.listed blocks.now)) ≡ (P.state plant.new, is_err result) }
+{
+    let start = begin_of(blocks.len() as u16, slot);
+    plant.write_blocks(dev, start, blocks)?;
+    write_gate(plant, dev, slot)
+}
+
 /// Writes a record to a slot: the blocks of the value in order, and then the gate that chooses the
 /// slot. Fails at the first write that can't be done.
 pub fn write_record<P: Plant, F: Form>(
@@ -84,5 +118,5 @@ pub fn write_record<P: Plant, F: Form>(
     ensures { after_writes (P.state plant.old) dev.0 (slots.record_writes F.BLOCKS slot (F.blocks value.now)) ≡ (P.state plant.new, is_err result) }
 {
     write_slot(plant, dev, slot, value)?;
-    plant.write(dev, 0, &gate_of(slot))
+    write_gate(plant, dev, slot)
 }

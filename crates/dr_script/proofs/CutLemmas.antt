@@ -1,5 +1,5 @@
 -- Words that are written with single spaces read as these words.
-use Rattle.std.proofs.Common.{ℕ, suc, ◌≡◌, ◌≤◌, ◌+◌, List, [], ◌∷◌, ◌++◌, length, refl, ap, ◌∙◌, sym, arith, Bool, true, false, not, ◌&&◌, cond, Option, Some, None, append_assoc, nat_lt}
+use Rattle.std.proofs.Common.{ℕ, suc, ◌≡◌, ◌≤◌, ◌+◌, List, [], ◌∷◌, ◌++◌, length, refl, ap, ◌∙◌, sym, arith, Bool, true, false, ◌&&◌, cond, Option, Some, None, append_assoc, nat_lt}
 use Rattle.std.specs.Prelude.{Result, Ok, Err, All}
 use Rattle.std.specs.List.{list_all, slice_split}
 use Rattle.std.proofs.lemmas.Bool.Decides.{nat_tests}

@@ -1,7 +1,9 @@
 -- Words that name a command or an option, and words of a line one after another.
-use Rattle.std.proofs.Common.{ℕ, suc, ◌≡◌, ◌<◌, ◌≤◌, ◌+◌, List, [], ◌∷◌, drop, length, ap, ◌∙◌, sym, arith, Bool, true, false, cond, get_or, drop-cons, Some, None}
+use Rattle.std.proofs.Common.{ℕ, suc, ◌≡◌, ◌<◌, ◌≤◌, ◌+◌, List, [], ◌∷◌, drop, length, ap, ◌∙◌, sym, arith, Bool, true, false, cond, get_or, drop-cons, Option, Some, None, refl}
 use Rattle.std.proofs.lemmas.Grind.{common_steps}
 use Rattle.std.specs.Str.{bytes_eq}
+use Rattle.std.proofs.lemmas.Slice.Eq.{bytes_eq-Decides}
+use Rattle.std.specs.Bool.{Decides}
 use Rattle.dr_model.specs.declared.grammar.Command.{Command}
 use Rattle.dr_model.specs.declared.grammar.Command.TheVariants.{AtServer}
 use Rattle.dr_model.specs.declared.grammar.Setting.{Setting}
@@ -20,10 +22,10 @@ command_step cs word i same lt e =
     ∙ (λ j. cond (e j) (Some (get_or cs i AtServer)) (command_named (drop ((let n : suc i ≡ i + 1 = omega arith in n) j) cs) word))
 
 -- the word is the name of the command at a place
-pub command_found : (cs all : List Command) (word name : List ℕ) (i : ℕ) (same : Bool) → i < length cs → name ≡ command_word (get_or cs i AtServer) → same ≡ bytes_eq word name → same ≡ true
-    → command_named (drop i cs) word ≡ command_named cs word → cs ≡ all → Some (get_or cs i AtServer) ≡ command_named all word
-command_found cs all word name i same lt is e met so_far whole =
-    sym (sym so_far ∙ command_step cs word i true lt (sym (sym met ∙ e ∙ ap (bytes_eq word) is))) ∙ ap (λ xs. command_named xs word) whole
+pub command_found : (cs : List Command) (word name : List ℕ) (i : ℕ) (same : Bool) → i < length cs → name ≡ command_word (get_or cs i AtServer) → same ≡ bytes_eq word name → same ≡ true
+    → command_named (drop i cs) word ≡ command_named cs word → Some (get_or cs i AtServer) ≡ command_named cs word
+command_found cs word name i same lt is e met so_far =
+    sym (sym so_far ∙ command_step cs word i true lt (sym (sym met ∙ e ∙ ap (bytes_eq word) is)))
 
 -- it is not
 pub command_passed : (cs : List Command) (word name : List ℕ) (i : ℕ) (same : Bool) → i < length cs → name ≡ command_word (get_or cs i AtServer) → same ≡ bytes_eq word name → same ≡ false
@@ -31,10 +33,20 @@ pub command_passed : (cs : List Command) (word name : List ℕ) (i : ℕ) (same 
 command_passed cs word name i same lt is e differs so_far = sym (command_step cs word i false lt (sym (sym differs ∙ e ∙ ap (bytes_eq word) is))) ∙ so_far
 
 -- it is the name of none
-pub command_unknown : (cs all : List Command) (word : List ℕ) (i : ℕ) → length cs ≤ i → command_named (drop i cs) word ≡ command_named cs word → cs ≡ all → None ≡ command_named all word
+pub command_unknown : (cs : List Command) (word : List ℕ) (i : ℕ) → length cs ≤ i → command_named (drop i cs) word ≡ command_named cs word → None ≡ command_named cs word
 unfolding command_named
-command_unknown cs all word i past so_far whole =
-    sym (sym so_far ∙ ap (λ rest. command_named rest word) (let d : drop i cs ≡ [] = grind (arith, common_steps) in d)) ∙ ap (λ xs. command_named xs word) whole
+command_unknown cs word i past so_far =
+    sym (sym so_far ∙ ap (λ rest. command_named rest word) (let d : drop i cs ≡ [] = grind (arith, common_steps) in d))
+
+word_of_found : (same : Bool) (word name : List ℕ) (x c : Command) (rest : Option Command) → Decides same (word ≡ name) → name ≡ command_word x → (rest ≡ Some c → word ≡ command_word c) → cond same (Some x) rest ≡ Some c → word ≡ command_word c
+word_of_found true word name x c rest d is others found = let w : word ≡ name = d.0 refl in let s : x ≡ c = cc in w ∙ is ∙ ap command_word s
+word_of_found false word name x c rest d is others found = others found
+
+-- a word by which a command of a list was found is its name
+pub word_is : (cs : List Command) (word : List ℕ) (c : Command) → command_named cs word ≡ Some c → word ≡ command_word c
+unfolding command_named
+word_is [] word c found = absurd (cc)
+word_is (x ∷ xs) word c found = word_of_found (bytes_eq word (command_word x)) word (command_word x) x c (command_named xs word) (bytes_eq-Decides word (command_word x)) refl (word_is xs word c) found
 
 setting_step : (cs : List Setting) (word : List ℕ) (i : ℕ) (same : Bool) → i < length cs → bytes_eq word (setting_word (get_or cs i Quiet)) ≡ same
     → setting_named (drop i cs) word ≡ cond same (Some (get_or cs i Quiet)) (setting_named (drop (i + 1) cs) word)

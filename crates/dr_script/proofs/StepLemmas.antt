@@ -23,6 +23,7 @@ use Rattle.dr_model.specs.LineSteps.{has, no_options, no_operands, or_zero, step
 use Rattle.dr_model.specs.LineText.{settings_words, setting_fits, settings_fit, operand_text, operand_words, operand_fits, operands_fit, spaced, said_count, said_operands, said_text, said_fits, given, at_sign, for_item, for_session, for_lss, at_saying, pair_saying, flash_saying, session_saying, step_text, is_written}
 use Rattle.dr_model.specs.Grammar.{Reading, command_named, setting_named, is_ready, begins_comment, may_end, steps_of, line_of}
 use Rattle.dr_script.proofs.CutLemmas.{is_inked, inked-append, spaced-append, run, line_read}
+use Rattle.dr_script.proofs.ReadLemmas.{word_is}
 use Rattle.dr_script.proofs.TextLemmas.{upper_not}
 use Rattle.dr_script.proofs.OptionLemmas.{absorb}
 use Rattle.dr_script.proofs.OperandLemmas.{absorb_operand}
@@ -90,6 +91,14 @@ command_facts Mkgmir = record { inked = refl; named = refl; plain = λ rest. ref
 command_facts Resumegmir = record { inked = refl; named = refl; plain = λ rest. refl; short = omega arith; options = omega arith; operands = omega arith; own = omega arith }
 command_facts Pausegmir = record { inked = refl; named = refl; plain = λ rest. refl; short = omega arith; options = omega arith; operands = omega arith; own = omega arith }
 command_facts Rmgmir = record { inked = refl; named = refl; plain = λ rest. refl; short = omega arith; options = omega arith; operands = omega arith; own = omega arith }
+
+-- the word of a command names it
+pub named_by_word : (c : Command) → command_named commands (command_word c) ≡ Some c
+named_by_word c = (command_facts c).named
+
+-- what is found in another list of commands is found among all
+pub found_first : (cs : List Command) (word : List ℕ) (c : Command) → Some c ≡ command_named cs word → Some c ≡ command_named commands word
+found_first cs word c found = sym (ap (command_named commands) (word_is cs word c (sym found)) ∙ named_by_word c)
 
 -- the options of a command are known to it, and each is new when its turn comes
 ready : (c : Command) (o : Options) → Ready c (settings c) o no_options

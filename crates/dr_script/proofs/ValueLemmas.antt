@@ -1,11 +1,15 @@
 -- Names, bytes and numbers that words spell.
-use Rattle.std.proofs.Common.{ℕ, zero, suc, ◌≡◌, ◌<◌, ◌≤◌, ◌+◌, ◌-◌, ◌*◌, List, [], ◌∷◌, ◌++◌, take, drop, set, map, length, replicate, refl, ap, ◌∙◌, sym, arith, append_assoc}
+use Rattle.std.proofs.Common.{ℕ, zero, suc, ◌≡◌, ◌<◌, ◌≤◌, ◌+◌, ◌-◌, ◌*◌, List, [], ◌∷◌, ◌++◌, take, drop, set, map, length, replicate, refl, ap, ◌∙◌, sym, arith, append_assoc, Bool, true, false, ◌&&◌, cond, get_or, drop-cons, Option, Some, None}
 use Rattle.std.proofs.lemmas.Grind.{common_steps}
 use Rattle.std.specs.Prelude.{slice_index}
+use Rattle.std.proofs.Math.Bool.{and_assoc}
+use Rattle.std.proofs.Math.Numerals.{suc-eq-add-one}
 use Rattle.std.proofs.lemmas.Bool.Decides.{nat_tests}
 use Rattle.std.proofs.lemmas.List.{append-nil, take_more_set, drop-drop, drop-replicate, drop-set-lt}
 use Rattle.std.proofs.lemmas.List.FromFn.{map-range_with_len_more}
-use Rattle.std.specs.List.{range_with_len}
+use Rattle.std.specs.List.{range_with_len, list_all}
+use Rattle.std.specs.Char.{is_digit}
+use Rattle.dr_ids.specs.Spelling.{all_digits}
 use Rattle.dr_logic.specs.Bytes.{zeros}
 use Rattle.dr_model.specs.LineWords.{byte_at, digit_or_zero, spelled_bytes}
 use Rattle.dr_script.specs.Pieces.{empty_name}
@@ -64,3 +68,35 @@ whole_block word bytes k le ended front back =
     ∙ (λ j. front j ++ back j)
     ∙ ends_in_zeros (byte_at word) (64 - k) k (λ i from lt. byte_past word i (ended i from (omega (arith, lt, le))))
     ∙ ap (λ n. map (byte_at word) (range_with_len 0 n)) (let e : k + (64 - k) ≡ 64 = omega (arith, le) in e)
+
+-- two digits at the front of what is left of a word
+two_digits : (word : List ℕ) (k : ℕ) → 2 * k + 1 < length word
+    → all_digits 16 (drop (2 * k) word) ≡ (is_digit (get_or word (2 * k) 0) 16 && (is_digit (get_or word (2 * k + 1) 0) 16 && all_digits 16 (drop (2 * (k + 1)) word)))
+unfolding all_digits
+two_digits word k low =
+    let digits = list_all (λ digit. is_digit digit 16) in
+    let first = is_digit (get_or word (2 * k) 0) 16 in
+    let second = is_digit (get_or word (2 * k + 1) 0) 16 in
+    ap digits (drop-cons word (2 * k) 0 (omega arith))
+    ∙ ap (λ n. first && digits (drop n word)) (suc-eq-add-one (2 * k))
+    ∙ ap (λ xs. first && digits xs) (drop-cons word (2 * k + 1) 0 low)
+    ∙ ap (λ n. first && (second && digits (drop n word))) (let e : suc (2 * k + 1) ≡ 2 * (k + 1) = omega arith in e)
+
+-- what is left is digits as before, after a pair of them
+pub pair_read : (word : List ℕ) (k : ℕ) → 2 * k + 1 < length word → (is_digit (get_or word (2 * k) 0) 16 && is_digit (get_or word (2 * k + 1) 0) 16) ≡ true
+    → all_digits 16 (drop (2 * k) word) ≡ all_digits 16 word → all_digits 16 (drop (2 * (k + 1)) word) ≡ all_digits 16 word
+pair_read word k low e so_far = sym (two_digits word k low ∙ sym (and_assoc (is_digit (get_or word (2 * k) 0) 16) (is_digit (get_or word (2 * k + 1) 0) 16) (all_digits 16 (drop (2 * (k + 1)) word))) ∙ ap (λ both. both && all_digits 16 (drop (2 * (k + 1)) word)) e) ∙ so_far
+
+-- a pair that has another byte
+pub pair_odd : (word : List ℕ) (k : ℕ) → 2 * k + 1 < length word → (is_digit (get_or word (2 * k) 0) 16 && is_digit (get_or word (2 * k + 1) 0) 16) ≡ false
+    → all_digits 16 (drop (2 * k) word) ≡ all_digits 16 word → all_digits 16 word ≡ false
+pair_odd word k low e so_far = sym so_far ∙ two_digits word k low ∙ sym (and_assoc (is_digit (get_or word (2 * k) 0) 16) (is_digit (get_or word (2 * k + 1) 0) 16) (all_digits 16 (drop (2 * (k + 1)) word))) ∙ ap (λ both. both && all_digits 16 (drop (2 * (k + 1)) word)) e
+
+-- nothing is left
+pub pairs_read : (word : List ℕ) (k : ℕ) → length word ≤ 2 * k → all_digits 16 (drop (2 * k) word) ≡ all_digits 16 word → all_digits 16 word ≡ true
+unfolding all_digits
+pairs_read word k past so_far = sym so_far ∙ ap (list_all (λ digit. is_digit digit 16)) (let d : drop (2 * k) word ≡ [] = grind (arith, common_steps) in d)
+
+pub none_chosen : (b : Bool) (x : ℕ) → ◌≡◌ {A = Option ℕ} None (cond b (Some x) None) → b ≡ false
+none_chosen true x e = cc
+none_chosen false x e = refl

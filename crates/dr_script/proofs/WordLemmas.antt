@@ -1,15 +1,12 @@
 -- A line is cut at its gaps.
-use Rattle.std.proofs.Common.{ℕ, suc, ◌≡◌, ◌<◌, ◌≤◌, ◌+◌, ◌-◌, List, [], ◌∷◌, take, drop, length, refl, ap, ◌∙◌, sym, arith, Bool, true, false, not, cond, get_or, Some, None, nat_lt}
+use Rattle.std.proofs.Common.{ℕ, suc, ◌≡◌, ◌<◌, ◌≤◌, ◌+◌, ◌-◌, List, [], ◌∷◌, take, drop, length, refl, ap, ◌∙◌, sym, arith, true, false, not, cond, get_or}
 use Rattle.std.proofs.lemmas.Grind.{common_steps}
-use Rattle.std.proofs.lemmas.List.Sums.{passes_at_first, prefix_len-le-length}
+use Rattle.std.proofs.lemmas.List.Sums.{passes_at_first}
 use Rattle.std.proofs.lemmas.List.Splits.{slice_split-cons_yes, slice_split-cons_no}
-use Rattle.std.proofs.lemmas.Bool.Decides.{nat_tests}
-use Rattle.std.specs.Option.{unwrap_or}
-use Rattle.std.specs.List.{position, position_or_len, slice_split, onto_first}
+use Rattle.std.specs.List.{position_or_len, slice_split, onto_first}
 use Rattle.std.proofs.lemmas.Bool.{not-true}
 use Rattle.dr_model.specs.LineWords.{Word, is_gap, words_from, words_behind}
 use Rattle.dr_script.specs.Pieces.{is_ink}
-use Rattle.dr_logic.proofs.Lists.{to_the_end}
 
 moved : (c n : ℕ) (pieces : List (List ℕ)) → c ≡ n → words_from c pieces ≡ words_from n pieces
 moved c n pieces e = ap (λ m. words_from m pieces) e
@@ -65,14 +62,6 @@ first_word (x ∷ xs) c b =
           ∙ ap (λ k. word c (b ∷ take k (x ∷ xs)) ∷ words_from (c + 1 + (1 + n)) (slice_split is_gap (drop k (x ∷ xs)))) (sym next)
     ] refl
 
-or_len_cases : (b : Bool) (n m : ℕ) → nat_lt n m ≡ b → n ≤ m → unwrap_or (cond b (Some n) None) m ≡ n
-or_len_cases true n m e le = refl
-or_len_cases false n m e le = grind (arith, nat_tests, e)
-
--- the place of the first element that passes, or the length where none does
-pub or_len : (p : ℕ → Bool) (xs : List ℕ) → unwrap_or (position p xs) (length xs) ≡ position_or_len p xs
-or_len p xs = or_len_cases (nat_lt (position_or_len p xs) (length xs)) (position_or_len p xs) (length xs) refl (prefix_len-le-length (λ x. not (p x)) xs)
-
 pub nonempty : (xs : List ℕ) (c : ℕ) → 0 < length xs → is_gap (get_or xs 0 0) ≡ false
     → (0 < position_or_len is_gap xs) × (words_from c (slice_split is_gap xs) ≡ record { column = c; bytes = take (position_or_len is_gap xs) xs } ∷ words_from (c + position_or_len is_gap xs) (slice_split is_gap (drop (position_or_len is_gap xs) xs)))
 unfolding word
@@ -91,11 +80,11 @@ none_here : (c : ℕ) → words_from c (slice_split is_gap []) ≡ []
 unfolding words_from
 none_here c = refl
 
--- what is found behind a place, where a gap and a word stand there
-pub record Found (line : List ℕ) (at gap len : ℕ) : Type 0 where
-  pub some : 0 < len
-  pub within : at + gap + len ≤ length line
-  pub word : words_behind at line ≡ record { column = at + gap + 1; bytes = take (at + gap + len - (at + gap)) (drop (at + gap) line) } ∷ words_behind (at + gap + len) line
+-- what is found behind a place, where a word stands there
+pub record Found (line : List ℕ) (start end : ℕ) (words : List Word) : Type 0 where
+  pub some : start < end
+  pub within : end ≤ length line
+  pub word : words ≡ record { column = start + 1; bytes = take (end - start) (drop start line) } ∷ words_behind end line
 
 skipped : (line : List ℕ) (at gap : ℕ) → gap ≡ position_or_len is_ink (drop at line) → words_behind at line ≡ words_behind (at + gap) line
 unfolding words_behind
@@ -109,8 +98,11 @@ nothing_behind : (line : List ℕ) (at : ℕ) → length line ≤ at → words_b
 unfolding words_behind
 nothing_behind line at le = ap (λ xs. words_from (at + 1) (slice_split is_gap xs)) (let d : drop at line ≡ [] = grind (arith, common_steps) in d) ∙ none_here (at + 1)
 
-pub none_found : (line : List ℕ) (at gap : ℕ) → at ≤ length line → gap ≡ position_or_len is_ink (take (length line - at) (drop at line)) → at + gap ≡ length line → words_behind at line ≡ []
-none_found line at gap le e all = skipped line at gap (e ∙ ap (position_or_len is_ink) (to_the_end line at)) ∙ nothing_behind line (at + gap) (omega arith)
+skipped_to : (line : List ℕ) (at start : ℕ) → start ≡ at + position_or_len is_ink (drop at line) → words_behind at line ≡ words_behind start line
+skipped_to line at start e = skipped line at (position_or_len is_ink (drop at line)) refl ∙ ap (λ n. words_behind n line) (sym e)
+
+pub none_found : (line : List ℕ) (at start : ℕ) → start ≡ at + position_or_len is_ink (drop at line) → start ≡ length line → words_behind at line ≡ []
+none_found line at start e all = skipped_to line at start e ∙ nothing_behind line start (omega arith)
 
 word_behind : (line : List ℕ) (start len : ℕ) → start < length line → is_gap (get_or line start 0) ≡ false → len ≡ position_or_len is_gap (drop start line)
     → (0 < len) × (words_behind start line ≡ record { column = start + 1; bytes = take len (drop start line) } ∷ words_behind (start + len) line)
@@ -124,22 +116,19 @@ word_behind line start len lt ink e =
           ∙ ap (λ xs. words_from (start + len + 1) (slice_split is_gap xs)) (let d : drop len (drop start line) ≡ drop (start + len) line = grind (arith, common_steps) in d)),
     )
 
-pub found : (line : List ℕ) (at gap len : ℕ) → at ≤ length line → gap ≡ position_or_len is_ink (take (length line - at) (drop at line)) → (at + gap ≡ length line → ⊥)
-    → len ≡ position_or_len is_gap (take (length line - (at + gap)) (drop (at + gap) line)) → Found line at gap len
-found line at gap len le e some l =
-    let e' : gap ≡ position_or_len is_ink (drop at line) = e ∙ ap (position_or_len is_ink) (to_the_end line at) in
-    let l' : len ≡ position_or_len is_gap (drop (at + gap) line) = l ∙ ap (position_or_len is_gap) (to_the_end line (at + gap)) in
-    let short = prefix_len-le-length (λ x. not (is_ink x)) (drop at line) in
+pub found : (line : List ℕ) (at start end : ℕ) → at ≤ length line → start ≡ at + position_or_len is_ink (drop at line) → start ≤ length line → (start ≡ length line → ⊥)
+    → end ≡ start + position_or_len is_gap (drop start line) → end ≤ length line → Found line start end (words_behind at line)
+found line at start end le e short some f within =
+    let lt : start < length line = omega arith in
     let size : length (drop at line) ≡ length line - at = grind (arith, common_steps) in
-    let lt : at + gap < length line = omega arith in
     let ink : is_ink (get_or (drop at line) (position_or_len is_ink (drop at line)) 0) ≡ true = passes_at_first is_ink (drop at line) 0 (omega arith) in
-    let there : get_or (drop at line) gap 0 ≡ get_or line (at + gap) 0 = grind (arith, common_steps) in
-    let no : is_gap (get_or line (at + gap) 0) ≡ false = not-true (is_gap (get_or line (at + gap) 0)) (ap is_ink (sym there ∙ ap (λ n. get_or (drop at line) n 0) e') ∙ ink) in
-    let w = word_behind line (at + gap) len lt no l' in
-    let short' = prefix_len-le-length (λ x. not (is_gap x)) (drop (at + gap) line) in
-    let size' : length (drop (at + gap) line) ≡ length line - (at + gap) = grind (arith, common_steps) in
+    let there : get_or (drop at line) (position_or_len is_ink (drop at line)) 0 ≡ get_or line (at + position_or_len is_ink (drop at line)) 0 = grind (arith, common_steps) in
+    let no : is_gap (get_or line start 0) ≡ false = not-true (is_gap (get_or line start 0)) (ap is_ink (ap (λ n. get_or line n 0) e ∙ sym there) ∙ ink) in
+    let w = word_behind line start (position_or_len is_gap (drop start line)) lt no refl in
+    let long = w.0 in
+    let d : position_or_len is_gap (drop start line) ≡ end - start = omega arith in
     record {
-      some = w.0;
-      within = omega arith;
-      word = skipped line at gap e' ∙ w.1 ∙ ap (λ k. record { column = at + gap + 1; bytes = take k (drop (at + gap) line) } ∷ words_behind (at + gap + len) line) (let d : len ≡ at + gap + len - (at + gap) = omega arith in d);
+      some = omega arith;
+      within = within;
+      word = skipped_to line at start e ∙ w.1 ∙ (λ i. record { column = start + 1; bytes = take (d i) (drop start line) } ∷ words_behind (sym f i) line);
     }

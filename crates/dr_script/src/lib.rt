@@ -20,4 +20,4 @@ mod words;
 
 pub use line::{Line, read_line};
 pub use print::print_step;
-pub use values::{is_hex, read_decimal, read_name, read_torn, spelled_bytes};
+pub use values::{is_hex, read_decimal, read_name, read_torn};

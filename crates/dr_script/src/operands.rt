@@ -8,8 +8,8 @@ ghost use Rattle.dr_script.specs.Pieces.{kept};
 
 use crate::items::{push_each_lss, push_list, push_lss_pair, push_pair, push_range};
 use crate::values::{
-    are_ports, either, empty_name, is_control_path, is_hex, is_word, read_decimal, read_most,
-    read_name, read_torn, spelled_bytes, zero_block,
+    are_ports, either, empty_name, is_control_path, is_word, read_bytes, read_decimal, read_most,
+    read_name, read_torn, zero_block,
 };
 use dr_ids::{read_lss, read_number, read_session, read_volume};
 use dr_model::{Item, Name, Operand, Operands, TornWord};
@@ -55,13 +55,12 @@ pub(crate) fn no_operands() -> Operands
 fn set_bytes(word: &[u8], operands: &mut Operands) -> Option<()>
     ensures { written word.now operands.old ≡ option_map (λ _. operands.new) result }
 {
-    if is_hex(word) && usize::from(operands.offset) + word.len() / 2 <= 64 {
-        operands.len = (word.len() / 2) as u8;
-        operands.bytes = spelled_bytes(word);
-        Some(())
-    } else {
-        None
+    if 64 < usize::from(operands.offset) + word.len() / 2 {
+        return None;
     }
+    operands.bytes = read_bytes(word)?;
+    operands.len = (word.len() / 2) as u8;
+    Some(())
 }
 
 /// Sets an operand's value; `None` where the word can't stand as it.

@@ -10,8 +10,8 @@ ghost use Rattle.dr_script.specs.Pieces.{kept};
 use crate::operands::{no_operands, push_operand_items, set_operand};
 use crate::settings::{flag, has, no_options, push_setting_items, set_value};
 use crate::table::{
-    command_word, commands, is_flag, may_end_with, needed, operands, own_steps, repeats,
-    setting_word, settings,
+    COMMON_COMMANDS, command_word, commands, is_flag, may_end_with, needed, operands, own_steps,
+    repeats, setting_word, settings,
 };
 use dr_model::{Command, Item, LinePlace, Operand, Options, Setting};
 use std::alloc::AllocError;
@@ -19,17 +19,26 @@ use std::alloc::AllocError;
 /// The most steps of a line.
 const MOST_STEPS: usize = 1024;
 
-/// The command of which a word is the name.
-pub(crate) fn command_named(word: &[u8]) -> Option<Command>
-    ensures { result ≡ command_named commands word.now }
+/// The command of a list of which a word is the name.
+fn named_in(all: &[Command], word: &[u8]) -> Option<Command>
+    ensures { result ≡ command_named all.now word.now }
 {
-    let all = commands();
     for command in all {
         if word == command_word(*command) {
             return Some(*command);
         }
     }
     None
+}
+
+/// The command of which a word is the name. Most lines have one of a few, which are tried first.
+pub(crate) fn command_named(word: &[u8]) -> Option<Command>
+    ensures { result ≡ command_named commands word.now }
+{
+    match named_in(&COMMON_COMMANDS, word) {
+        Some(command) => Some(command),
+        None => named_in(commands(), word),
+    }
 }
 
 /// The option of a command of which a word is the name.

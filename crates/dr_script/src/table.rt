@@ -6,6 +6,15 @@ ghost use Rattle.dr_model.specs.LineSteps.{is_flag};
 
 use dr_model::{Command, Operand, Setting};
 
+/// The commands of most lines.
+pub(crate) const COMMON_COMMANDS: [Command; 5] = [
+    Command::AtWrite,
+    Command::AtShow,
+    Command::AtRun,
+    Command::AtDrain,
+    Command::AtIssue,
+];
+
 /// All commands.
 #[tactic(auto, unfolding(dr_model::specs::LineTable::commands))]
 pub(crate) fn commands() -> &'static [Command]

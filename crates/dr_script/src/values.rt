@@ -1,6 +1,6 @@
 //! What single words say: names, numbers, bytes and choices.
 
-ghost use Rattle.std.specs.Prelude.{◌≡◌, ◌<◌, ◌≤◌, ◌+◌, ◌*◌, ◌^◌, length, Some, None, IfSome, slice_index, codes};
+ghost use Rattle.std.specs.Prelude.{◌≡◌, ◌<◌, ◌≤◌, ◌+◌, ◌*◌, ◌%◌, ◌^◌, ◌&&◌, if◌then◌else◌, length, Some, None, IfSome, slice_index, codes};
 ghost use Rattle.std.specs.List.{list_all, position};
 ghost use Rattle.std.specs.Char.{is_digit};
 ghost use Rattle.std.specs.Str.{bytes_eq};
@@ -151,35 +151,37 @@ pub fn is_hex(word: &[u8]) -> bool
     2 <= word.len() && word.len() <= 128 && word.len() % 2 == 0 && are_hex_digits(word)
 }
 
-/// The value of the digit at a place, 0 where there is none.
-fn digit_at(word: &[u8], place: usize) -> u8
-    ensures value { result ≡ digit_or_zero (slice_index word.now place) }
-    ensures below { result < 16 }
+/// The byte that two hexadecimal digits spell.
+fn read_pair(high: u8, low: u8) -> Option<u8>
+    ensures { result ≡ (if is_digit high 16 && is_digit low 16 then Some (digit_or_zero high * 16 + digit_or_zero low) else None) }
 {
-    match word.get(place) {
-        Some(digit) => hex_value(*digit).unwrap_or(0),
-        None => 0,
-    }
+    let high = hex_value(high)?;
+    let low = hex_value(low)?;
+    Some(high * 16 + low)
 }
 
-/// The byte that two digits of a word spell, 0 where there are none.
-fn byte_at(word: &[u8], k: usize) -> u8
-    requires { k < 64 }
-    ensures { result ≡ byte_at word.now k }
-{
-    digit_at(word, 2 * k) * 16 + digit_at(word, 2 * k + 1)
-}
-
-/// The bytes that a word spells, with zeros behind them.
-pub fn spelled_bytes(word: &[u8]) -> [u8; 64]
-    ensures { result ≡ spelled_bytes word.now }
+/// The bytes that pairs of hexadecimal digits spell, with zeros behind them.
+fn read_pairs(word: &[u8]) -> Option<[u8; 64]>
+    requires even { length word.now % 2 ≡ 0 }
+    requires short { length word.now ≤ 128 }
+    ensures { result ≡ (if all_digits 16 word.now then Some (spelled_bytes word.now) else None) }
 {
     let mut bytes = zero_block();
-    let spelled = word.len().div_ceil(2).min(64);
-    for k in 0..spelled {
-        bytes[k] = byte_at(word, k);
+    for k in 0..word.len() / 2 {
+        bytes[k] = read_pair(word[2 * k], word[2 * k + 1])?;
     }
-    bytes
+    Some(bytes)
+}
+
+/// The 1 to 64 bytes that a word spells, with zeros behind them; each digit is looked at once.
+pub(crate) fn read_bytes(word: &[u8]) -> Option<[u8; 64]>
+    ensures { result ≡ (if is_hex word.now then Some (spelled_bytes word.now) else None) }
+{
+    if 2 <= word.len() && word.len() <= 128 && word.len() % 2 == 0 {
+        read_pairs(word)
+    } else {
+        None
+    }
 }
 
 /// The byte that exactly two hexadecimal digits spell.
@@ -195,11 +197,7 @@ fn read_torn_bytes(word: &[u8]) -> Option<TornWord>
     ensures { result ≡ torn_bytes_word word.now }
 {
     if word.len() == 128 {
-        if are_hex_digits(word) {
-            Some(TornWord::Bytes(spelled_bytes(word)))
-        } else {
-            None
-        }
+        Some(TornWord::Bytes(read_pairs(word)?))
     } else {
         Some(TornWord::Fill(read_byte(word)?))
     }

@@ -1,7 +1,7 @@
 //! The words of a line, one after another.
 
-ghost use Rattle.std.specs.Prelude.{◌≡◌, ◌≤◌, ◌<◌, length, not, IfSome};
-ghost use Rattle.std.specs.List.{position, position_or_len};
+ghost use Rattle.std.specs.Prelude.{◌≡◌, ◌≤◌, ◌<◌, ◌+◌, length, drop, IfSome};
+ghost use Rattle.std.specs.List.{position_or_len};
 ghost use Rattle.dr_model.specs.LineWords.{is_gap, words_behind};
 ghost use Rattle.dr_script.specs.Pieces.{is_ink, IsNext};
 
@@ -12,41 +12,37 @@ pub(crate) struct Extent {
     pub(crate) end: usize,
 }
 
-/// Spaces and tabs stand between words.
+/// Spaces and tabs stand between words. Nearly all other bytes are above both.
 fn is_gap(b: u8) -> bool
     ensures { result ≡ is_gap b }
 {
-    b == b' ' || b == b'\t'
+    b <= b' ' && (b == b' ' || b == b'\t')
 }
 
-/// Where the first byte of a word is.
-fn first_ink(rest: &[u8]) -> Option<usize>
-    ensures { result ≡ position is_ink rest.now }
+/// Where the first byte of a word stands from a place on, or where the line ends.
+fn ink_from(line: &[u8], from: usize) -> usize
+    requires { from ≤ length line.now }
+    ensures value { result ≡ from + position_or_len is_ink (drop from line.now) }
+    ensures within { result ≤ length line.now }
 {
-    rest.iter().position(|b| !is_gap(*b))
+    let mut at = from;
+    while at < line.len() && is_gap(line[at]) {
+        at += 1;
+    }
+    at
 }
 
-/// Where the first gap is.
-fn first_gap(rest: &[u8]) -> Option<usize>
-    ensures { result ≡ position is_gap rest.now }
+/// Where the first gap stands from a place on, or where the line ends.
+fn gap_from(line: &[u8], from: usize) -> usize
+    requires { from ≤ length line.now }
+    ensures value { result ≡ from + position_or_len is_gap (drop from line.now) }
+    ensures within { result ≤ length line.now }
 {
-    rest.iter().position(|b| is_gap(*b))
-}
-
-/// How many bytes stand before the first byte of a word.
-fn gap_len(rest: &[u8]) -> usize
-    ensures value { result ≡ position_or_len is_ink rest.now }
-    ensures within { result ≤ length rest.now }
-{
-    first_ink(rest).unwrap_or(rest.len())
-}
-
-/// How many bytes stand before the first gap.
-fn word_len(rest: &[u8]) -> usize
-    ensures value { result ≡ position_or_len is_gap rest.now }
-    ensures within { result ≤ length rest.now }
-{
-    first_gap(rest).unwrap_or(rest.len())
+    let mut at = from;
+    while at < line.len() && !is_gap(line[at]) {
+        at += 1;
+    }
+    at
 }
 
 /// The next word of a line behind so many of its bytes.
@@ -55,10 +51,10 @@ pub(crate) fn next_word(line: &[u8], at: usize) -> Option<Extent>
     ensures ends { IfSome result (λ w. (at ≤ w.start) × (w.start < w.end) × (w.end ≤ length line.now)) }
     ensures word { IsNext (words_behind at line.now) line.now result }
 {
-    let start = at + gap_len(&line[at..]);
+    let start = ink_from(line, at);
     if start == line.len() {
         return None;
     }
-    let end = start + word_len(&line[start..]);
+    let end = gap_from(line, start);
     Some(Extent { start, end })
 }

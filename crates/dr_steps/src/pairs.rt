@@ -95,7 +95,7 @@ fn cascades(kind: u8, choices: PairChoices) -> bool
 }
 
 /// A volume is the secondary or the target of a member, whose session is named.
-fn copy_refusal(tables: &Tables, a: VolumeId) -> Option<Refusal>
+fn cascade_refusal(tables: &Tables, a: VolumeId) -> Option<Refusal>
     ensures refusal { (x : PlantState) (t : ConfigTable) (events : List Event) → result ≡ plans.cascade_refusal a.0 (here x t tables.now events).control }
     ensures calm { is_stop result ≡ false }
 {
@@ -124,7 +124,7 @@ fn found_apart(
         return Some(why);
     }
     if cascade {
-        return copy_refusal(tables, a);
+        return cascade_refusal(tables, a);
     }
     None
 }

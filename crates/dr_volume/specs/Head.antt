@@ -1,5 +1,5 @@
 -- The head of a record: what its first block says of a volume.
-use Rattle.std.specs.Prelude.{ℕ, List}
+use Rattle.std.specs.Prelude.{ℕ, Bool, ◌&&◌, nat_eq, List}
 use Rattle.dr_model.specs.Layout as layout
 use Rattle.dr_volume.specs.declared.head.Head.{Head}
 use Rattle.dr_volume.specs.declared.head.Relation.{Relation}
@@ -40,4 +40,8 @@ head_said block = head_of (layout.fields_of 0 (λ k. block))
 
 -- what a head says of its volume as a target
 abbrev pub relation_in : Head → Relation
-relation_in h = record { related = h.related; source = h.source; revertible = h.revertible; reversing = h.reversing }
+relation_in h = record { related = h.related; source = h.source; recorded = h.recorded; revertible = h.revertible; reversing = h.reversing }
+
+-- it is a target of v
+abbrev pub copies_by : ℕ → Relation → Bool
+copies_by v r = r.related && nat_eq r.source.0 v

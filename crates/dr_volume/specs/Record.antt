@@ -1,10 +1,10 @@
 -- The six blocks of a record: how fields are written to them, and read from them.
-use Rattle.std.specs.List.{slice_index_or}
 use Rattle.std.specs.Prelude.{ℕ, false, List, [], ◌∷◌, ◌++◌, nat_eq, cond, is_some, unwrap_or, Option, None, Some, replicate, if◌then◌else◌, take, drop}
 use Rattle.std.specs.FinSet.{empty}
 use Rattle.dr_logic.specs.Bytes.{zeros}
 use Rattle.dr_bits.specs.Tracks.{IsInRange, bytes_of, of_bytes}
 use Rattle.dr_ids.specs.BigEndian.{be16_at, be32_at}
+pub use Rattle.dr_record.specs.Slots.{listed}
 use Rattle.dr_model.specs.Layout.{Blocks, byte, bit, part_of, state_of}
 use Rattle.dr_model.specs.declared.state.Part.TheVariants.{Absent}
 use Rattle.dr_model.specs.declared.state.PairState.TheVariants.{CopyPending}
@@ -135,7 +135,3 @@ pub record IsWhole (f : Fields) : Type 0 where
 abbrev pub raw_of : Blocks → Fields
 raw_of b =
     with_block (with_block (with_block (with_block (with_block (with_block no_record 0 (b 0)) 1 (b 1)) 2 (b 2)) 3 (b 3)) 4 (b 4)) 5 (b 5)
-
--- the blocks of a list by number
-abbrev pub listed : List (List ℕ) → Blocks
-listed blocks k = slice_index_or blocks k []

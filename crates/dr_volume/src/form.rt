@@ -1,7 +1,8 @@
 //! The six blocks of a record: how the fields are written to them, and read from them.
 
-ghost use Rattle.std.specs.Prelude.{◌≡◌, ◌<◌, ◌++◌, unwrap_or};
+ghost use Rattle.std.specs.Prelude.{◌≡◌, ℕ, ◌<◌, ◌++◌, unwrap_or};
 ghost use Rattle.dr_volume.specs.Codes as coded;
+ghost use Rattle.dr_record.specs.Slots.{listed};
 ghost use Rattle.dr_volume.specs.Record as lies;
 
 use crate::codes::{
@@ -116,6 +117,20 @@ impl Form for Fields {
         self.target_changes.tell_in_range();
         self.blank.tell_in_range();
     }
+}
+
+/// The six blocks of a record, in order.
+pub(crate) fn blocks_of(f: &Fields) -> [Block; 6]
+    ensures { (i : ℕ) → i < 6 → listed result i ≡ lies.record_block f.now i }
+{
+    [
+        head(f),
+        two_sets(&f.out_of_sync, &f.change_recording),
+        two_sets(&f.own, &f.previous_own),
+        two_sets(&f.source_changes, &f.target_changes),
+        two_sets(&f.blank, &TrackSet::empty()),
+        f.staged_bytes,
+    ]
 }
 
 fn codes(f: &Fields) -> [u8; 8]

@@ -5,7 +5,7 @@ ghost use Rattle.std.specs.Prelude.{◌≡◌, ◌<◌, length, IsSome, Some};
 ghost use Rattle.dr_config.specs.Table.{StandsFor, place_of};
 ghost use Rattle.dr_model.specs.Layout as layout;
 ghost use Rattle.dr_record.specs.Writes.{IsDevice};
-ghost use Rattle.dr_volume.specs.Head.{head_of, head_said, relation_in};
+ghost use Rattle.dr_volume.specs.Head.{copies_by, head_of, head_said, relation_in};
 ghost use Rattle.dr_volume.specs.Plain.{plain};
 ghost use Rattle.dr_volume.specs.View.{volume_at, volume_seen};
 
@@ -54,6 +54,7 @@ pub struct Head {
 pub struct Relation {
     pub related: bool,
     pub source: VolumeId,
+    pub recorded: bool,
     pub revertible: bool,
     pub reversing: bool,
 }
@@ -84,6 +85,18 @@ pub fn peek_relation_at<P: Plant>(plant: &P, config: &Config, place: usize) -> R
     ensures { result ≡ relation_in (head_of (volume_at (P.state plant.now) config.now (Some place)).fields) }
 {
     relation_on(plant, device_at(config, place))
+}
+
+/// Whether the volume that was defined after so many others is a FlashCopy target of v, whether or not its server is on. Of the head
+/// three bytes are looked at, and one if it is no target.
+#[inline]
+pub fn is_target_at<P: Plant>(plant: &P, config: &Config, place: usize, v: VolumeId) -> bool
+    requires there { place < length config.now.volumes }
+    requires stands { StandsFor config.now (P.state plant.now) }
+    ensures { result ≡ copies_by v.0 (relation_in (head_of (volume_at (P.state plant.now) config.now (Some place)).fields)) }
+{
+    let device = device_at(config, place);
+    is_target_on(plant, device, v)
 }
 
 /// The head of fields that are at hand.
@@ -119,6 +132,24 @@ pub fn head_by(f: &Fields) -> Head
     }
 }
 
+// Whether the head of the record that a device chooses names v as the source of its volume.
+#[inline]
+fn is_target_on<P: Plant>(plant: &P, device: DeviceId, v: VolumeId) -> bool
+    requires { IsDevice (P.state plant.now) device.0 13 }
+    ensures { result ≡ copies_by v.0 (relation_in (head_said (layout.chosen ((P.state plant.now).block device.0) 0))) }
+{
+    names_source(&first_block(plant, device), v)
+}
+
+// Whether a first block names v as the source of its volume.
+#[inline]
+#[tactic(auto, unfolding(dr_model::specs::Layout::fields_of))]
+fn names_source(block: &Block, v: VolumeId) -> bool
+    ensures { result ≡ copies_by v.0 (relation_in (head_said block.now)) }
+{
+    bit(block[5], 0) && be16(block, 12) == v.0
+}
+
 // What the head of the record that a device chooses says of its volume as a target.
 fn relation_on<P: Plant>(plant: &P, device: DeviceId) -> Relation
     requires { IsDevice (P.state plant.now) device.0 13 }
@@ -136,6 +167,7 @@ fn relation_of(block: &Block) -> Relation
     Relation {
         related,
         source: VolumeId(only_if(related, be16(block, 12), 0)),
+        recorded: flag_if(related, block[5], 3),
         revertible: flag_if(related, block[5], 5),
         reversing: flag_if(related, block[5], 6),
     }
@@ -150,6 +182,7 @@ fn head_on<P: Plant>(plant: &P, device: DeviceId) -> Head
 }
 
 // The first block of the record that a device chooses.
+#[inline]
 fn first_block<P: Plant>(plant: &P, device: DeviceId) -> Block
     requires { IsDevice (P.state plant.now) device.0 13 }
     ensures { result ≡ layout.chosen ((P.state plant.now).block device.0) 0 }

@@ -21,12 +21,13 @@ use crate::blocks::begin_of;
 use crate::codes::zero_block;
 use crate::decode::{below, fields_on, staged_in};
 use crate::fields::Fields;
+use crate::form::blocks_of;
 use crate::place::{FIRST_TRACK, Place, device_of, find, tell_sound};
 use dr_bits::TrackSet;
 use dr_config::Config;
 use dr_ids::VolumeId;
 use dr_plant::{Block, DeviceId, Plant, Stopped};
-use dr_record::{put, read_choice};
+use dr_record::{peek_choice, put_blocks, read_choice};
 
 /// The gate of a volume as it was read for a move: the volume's device, and the slot that it chooses.
 #[derive(Clone, Copy)]
@@ -77,7 +78,23 @@ pub fn open<P: Plant>(plant: &mut P, config: &Config, v: VolumeId) -> Result<Ope
     Ok(Opened { gate, fields })
 }
 
-/// The same where the volume's fields are at hand: its gate is read, and nothing else is looked at.
+/// A volume as `open` gives it, whether or not its server is on. Nothing is read.
+pub fn peek_opened<P: Plant>(plant: &P, config: &Config, v: VolumeId) -> Opened
+    requires defined { IsSome (place_of config.now v.0) }
+    requires stands { StandsFor config.now (P.state plant.now) }
+    ensures { IsOpened (P.state plant.now) config.now v.0 result }
+{
+    let place = find(config, v);
+    let slot = peek_choice(plant, place.device);
+    let fields = fields_on(plant, place);
+    let gate = Gate {
+        device: place.device,
+        slot,
+    };
+    Opened { gate, fields }
+}
+
+/// A volume as `open` gives it, whose fields are at hand: its gate is read, and nothing else is looked at.
 pub fn open_by<P: Plant>(
     plant: &mut P,
     config: &Config,
@@ -135,6 +152,24 @@ impl Opened {
             return Ok(());
         }
         plant.read(self.gate.device, FIRST_TRACK + t, into)
+    }
+
+    /// The bytes of a track, as `read_track` gives them, whether or not the server is on. Nothing is read.
+    pub fn peek_track<P: Plant>(&self, plant: &P, config: &Config, v: VolumeId, t: u16) -> Block
+        requires defined { IsSome (place_of config.now v.0) }
+        requires stands { StandsFor config.now (P.state plant.now) }
+        requires opened { IsOpened (P.state plant.now) config.now v.0 self.now }
+        requires within { t < (volume_seen (P.state plant.now) config.now v.0).tracks }
+        ensures { result ≡ track_seen (P.state plant.now) config.now v.0 t }
+    {
+        tell_sound(config);
+        if is_staged(self.fields.staged, t) {
+            return self.fields.staged_bytes;
+        }
+        if self.fields.blank.contains(t) {
+            return zero_block();
+        }
+        plant.peek(self.gate.device, FIRST_TRACK + t)
     }
 }
 
@@ -297,7 +332,7 @@ pub(crate) fn rewrite<P: Plant>(
     let way = make_way(plant, device, next, carried);
     stage_next(next, carried);
     way?;
-    put(plant, device, slot, next)
+    put_blocks(plant, device, slot, &blocks_of(next))
 }
 
 /// Writes a track to its own block.

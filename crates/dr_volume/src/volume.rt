@@ -1,13 +1,14 @@
 //! Reading a volume of the configuration from a plant.
 
 ghost use Rattle.std.specs.Prelude.{◌≡◌, ◌<◌, IsSome, IfOk, OnOk, OnErr, is_ok};
+ghost use Rattle.std.specs.FinSet.{contains};
 ghost use Rattle.dr_plant.specs.State.{after_read, can_read};
 ghost use Rattle.dr_config.specs.Table.{StandsFor, place_of};
 ghost use Rattle.dr_volume.specs.View.{volume_seen, track_seen, device_of};
 ghost use Rattle.dr_volume.specs.Volume.{Shows};
 
 use crate::blocks::begin_of;
-use crate::codes::{first_set, zero_block};
+use crate::codes::{bit, first_set, zero_block};
 use crate::decode::{fields_on, staged_in};
 use crate::fields::Fields;
 use crate::opened::{is_staged, open};
@@ -76,4 +77,17 @@ pub fn read_track<P: Plant>(
         return Ok(());
     }
     plant.read(device, FIRST_TRACK + t, into)
+}
+
+/// Whether a volume is a FlashCopy target that holds a track, whether or not its server is on. Gate, head and the block of one set
+/// are looked at.
+pub fn peek_holds<P: Plant>(plant: &P, config: &Config, v: VolumeId, t: u16) -> bool
+    requires defined { IsSome (place_of config.now v.0) }
+    requires stands { StandsFor config.now (P.state plant.now) }
+    requires within { t < (volume_seen (P.state plant.now) config.now v.0).tracks }
+    ensures { result ≡ contains (volume_seen (P.state plant.now) config.now v.0).fields.own t }
+{
+    let device = device_of(config, v);
+    let begin = begin_of(peek_choice(plant, device));
+    bit(plant.peek(device, begin)[5], 0) && first_set(&plant.peek(device, begin + 2)).contains(t)
 }

@@ -13,7 +13,7 @@ returns-then-not-is_kept_for g c =
     let t = c.args.config.now in
     let v = c.args.v.0 in
     let q = id_at t c.args.place in
-    let none : kept_for v (volume_seen s t q).fields ≡ false = kept-head s t v q c.args.place _ _ false c.requires.place c.peek_relation_at.ensures c.is_kept_for.ensures c.if-not-is_kept_for.true in
+    let none : kept_for v (volume_seen s t q).fields ≡ false = kept-head s t v q c.args.place _ _ false c.requires.place c.peek_relation_at-found.ensures c.is_kept_for.ensures c.if-not-is_kept_for.true in
     record {
       kept_on = kept-nothing s t c.args.journal.now v c.args.t q c.requires.at (λ r. passes-by s t r c.args.journal.now.events v c.args.t q none) (λ is. absurd (let never : true ≡ false = sym is ∙ none in cc));
     }

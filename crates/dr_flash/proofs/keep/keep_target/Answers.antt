@@ -1,11 +1,27 @@
-use Rattle.std.proofs.Common.{◌≡◌, true, false, not, ◌&&◌, ap, sym, ◌∙◌}
+use Rattle.std.proofs.Common.{◌≡◌, Bool, true, false, not, ◌&&◌, ap, sym, ◌∙◌}
 use Rattle.std.specs.FinSet.{contains}
+use Rattle.std.proofs.lemmas.Bool.{and_parts}
 use Rattle.dr_model.specs.Layout.{Fields}
 use Rattle.dr_model.specs.Moves.{Keep, Note}
 use Rattle.dr_volume.specs.View.{volume_seen}
 use Rattle.dr_moves.proofs.TurnLemmas.{ok-along}
 use Rattle.dr_flash.proofs.KeepLemmas.{keeps-new, keeps-noted, passes-held, kept-nothing, kept-by}
 use Rattle.dr_flash.proofs.keep.keep_target.Goals as goal
+
+pub returns-then-is_done : goal.returns-then-is_done
+returns-then-is_done g c =
+    let s = g.P.Plant.state c.args.plant.now in
+    let t = c.args.config.now in
+    let v = c.args.v.0 in
+    let k = c.args.t in
+    let q = c.args.u.0 in
+    let both = and_parts (not c.args.recorded) (contains (volume_seen s t q).fields.own k) (sym c.is_done.ensures ∙ c.if-is_done.true) in
+    let old = unrecorded c.args.recorded (volume_seen s t q).fields.recorded (not (contains (volume_seen s t q).fields.source_changes k)) both.0 c.requires.recorded in
+    record { kept_on = kept-nothing s t c.args.journal.now v k q c.requires.at (λ r. passes-held s t r c.args.journal.now.events v k q c.requires.kept both.1 old) (λ is related. both.1) }
+  where
+    unrecorded : (b r x : Bool) → not b ≡ true → b ≡ r → (r && x) ≡ false
+    unrecorded true r x clear is = absurd cc
+    unrecorded false r x clear is = ap (λ y. y && x) (sym is)
 
 pub returns-then-not-contains : goal.returns-then-not-contains
 returns-then-not-contains g c =

@@ -1,5 +1,4 @@
-use Rattle.std.proofs.Common.{◌∙◌, refl, ap}
-use Rattle.dr_plant.specs.State.{after_write}
+use Rattle.std.proofs.Common.{◌∙◌, refl}
 use Rattle.dr_record.specs.Slots as slots
 use Rattle.dr_record.proofs.WritesLemmas.{append-goes, append-stops, one_write, err_pair}
 use Rattle.dr_record.proofs.slot.write_record.Goals as goal
@@ -12,4 +11,4 @@ returns-in_err-write_slot g c =
 pub returns : goal.returns
 returns g c =
     append-goes _ _ c.args.dev.0 (slots.block_writes (slots.start_of g.F.Form.BLOCKS c.args.slot) 0 g.F.Form.BLOCKS (g.F.Form.blocks c.args.value.now)) _ c.in_ok-write_slot.ensures.writes
-    ∙ one_write _ _ c.args.dev.0 0 (slots.gate_of c.args.slot) _ (c.write.ensures.state ∙ ap (after_write (g.P.Plant.state c.write_slot.new.plant) c.args.dev.0 0) c.gate_of.ensures) c.write.ensures.done
+    ∙ one_write _ _ c.args.dev.0 0 (slots.gate_of c.args.slot) _ c.write_gate.ensures.state c.write_gate.ensures.done

@@ -1,14 +1,5 @@
-use Rattle.std.proofs.Common.{arith}
-use Rattle.dr_script.proofs.ReadLemmas.{command_found, command_passed, command_unknown}
+use Rattle.dr_script.proofs.StepLemmas.{found_first}
 use Rattle.dr_script.proofs.reading.command_named.Goals as goal
 
-pub returns-then-eq : goal.returns-then-eq
-returns-then-eq c =
-    command_found c.commands-all.result.now _ c.args.word.now c.command_word.result.now c.loop-command.command-index c.eq.result c.loop-command-test.true c.command_word.ensures c.eq.ensures c.if-eq.true c.loop-command.invariant c.commands-all.ensures
-
-pub loop-command-preserved : goal.loop-command-preserved
-loop-command-preserved c =
-    command_passed c.commands-all.result.now c.args.word.now c.command_word.result.now c.loop-command.command-index c.eq.result c.loop-command-test.true c.command_word.ensures c.eq.ensures c.if-eq.false c.loop-command.invariant
-
-pub returns : goal.returns
-returns c = command_unknown c.commands-all.result.now _ c.args.word.now c.loop-command.command-index (omega arith) c.loop-command.invariant c.commands-all.ensures
+pub returns-in-Some : goal.returns-in-Some
+returns-in-Some c = found_first _ c.args.word.now c.in-Some.command c.in-Some.ensures

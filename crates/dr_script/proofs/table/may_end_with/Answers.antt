@@ -1,4 +1,4 @@
-use Rattle.std.proofs.Common.{◌≡◌, ◌≢◌, refl, ap, sym, ◌∙◌, length}
+use Rattle.std.proofs.Common.{◌≡◌, ◌≢◌, refl, ap, ◌∙◌, length}
 use Rattle.dr_model.specs.declared.grammar.Command.{Command}
 use Rattle.dr_model.specs.declared.grammar.Command.TheVariants.{AtStop, AtExchange, Mkgmir, Resumegmir, Pausegmir, Rmgmir}
 use Rattle.dr_model.specs.LineTable.{form, operands, may_end_with}

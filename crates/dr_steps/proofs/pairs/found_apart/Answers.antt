@@ -17,11 +17,11 @@ returns-then-cascade-clause-checked c x events =
     let h = c.args.tables.now in
     let a = c.args.a.0 in
     let found = found_volumes c.args.devs.now a c.args.b.0 in
-    subst (λ b. Checked (here x t h events) (found ++ cond b (refuse_if (cascade_refusal a) ∷ []) []) c.copy_refusal.result) (sym c.if-cascade.true)
-    (found-then_apart (here x t h events) c.args.devs.now a c.args.b.0 c.copy_refusal.result (c.copy_refusal.ensures.refusal x t events) (c.in_default.ensures.checked x h events))
+    subst (λ b. Checked (here x t h events) (found ++ cond b (refuse_if (cascade_refusal a) ∷ []) []) c.cascade_refusal.result) (sym c.if-cascade.true)
+    (found-then_apart (here x t h events) c.args.devs.now a c.args.b.0 c.cascade_refusal.result (c.cascade_refusal.ensures.refusal x t events) (c.in_default.ensures.checked x h events))
 
 pub returns-then-cascade-clause-first : goal.returns-then-cascade-clause-first
-returns-then-cascade-clause-first c = on-none c.copy_refusal.result _ c.in_default.ensures.first
+returns-then-cascade-clause-first c = on-none c.cascade_refusal.result _ c.in_default.ensures.first
 
 pub returns-then-cascade-clause-second : goal.returns-then-cascade-clause-second
-returns-then-cascade-clause-second c = on-none c.copy_refusal.result _ c.in_default.ensures.second
+returns-then-cascade-clause-second c = on-none c.cascade_refusal.result _ c.in_default.ensures.second

@@ -11,4 +11,4 @@ returns g c =
     let s = g.P.Plant.state c.run_lines.new.plant in
     is-run g.S.Source.left g.K.Sink.written c.args.source.now c.run_lines.new.source c.args.sink.now c.run_lines.new.sink g.S.Source.faults g.K.Sink.faults
     c.run_lines.result (g.P.Plant.state c.args.plant.now) s c.run_lines.new.config c.run_lines.new.tables c.run_lines.new.journal.events
-    (subst IsSoundConfig c.config.view_is c.config.invariant.sound) c.run_lines.ensures.ready c.run_lines.ensures.room c.run_lines.ensures.stops c.run_lines.ensures.ran
+    (subst IsSoundConfig c.config.view_is c.config.invariant) c.run_lines.ensures.ready c.run_lines.ensures.room c.run_lines.ensures.stops c.run_lines.ensures.ran

@@ -1,22 +1,25 @@
-use Rattle.std.proofs.Common.{ℕ, true, false, not, refl, ap, sym, ◌∙◌, arith, List}
-use Rattle.dr_record.specs.Slots.{slot_of, choice, record_writes}
-use Rattle.dr_record.specs.Writes.{after_writes}
+use Rattle.std.proofs.Common.{ℕ, ◌≡◌, ◌<◌, ◌+◌, ◌*◌, Bool, length, ◌++◌, ◌∷◌, [], true, false, not, refl, ap, sym, ◌∙◌, arith, List}
+use Rattle.dr_record.specs.Slots.{slot_of, gate_of, listed, start_of, record_writes}
+use Rattle.dr_record.specs.Writes.{write, after_writes}
+use Rattle.dr_record.proofs.BlocksLemmas.{same-block_writes}
+use Rattle.dr_volume.specs.declared.fields.Fields.{Fields}
 use Rattle.dr_record.proofs.WritesLemmas.{err_pair, append-goes, append-stops, device-shape}
 use Rattle.dr_volume.specs.Record.{record_block}
 use Rattle.dr_volume.specs.Update.{stages, track_writes, given_way, next_record}
 use Rattle.dr_volume.proofs.RanLaws.{ran-written}
-use Rattle.dr_volume.proofs.RewriteLaws.{track-written}
 use Rattle.dr_volume.proofs.opened.rewrite.Goals as goal
 
-pub put-requires-clause-device : goal.put-requires-clause-device
-put-requires-clause-device g c =
-    let s = g.P.Plant.state c.args.plant.now in
-    device-shape s _ c.args.device.0 13 (ran-written s _ c.args.device.0 _ false c.in_ok-way.ensures).shape c.requires.device
+-- blocks at hand are written as the record's
+laid-record : (slot : Bool) (blocks : List (List ℕ)) (f : Fields) → length blocks ≡ 6 → ((i : ℕ) → i < 6 → listed blocks i ≡ record_block f i) → record_writes 6 slot (record_block f) ≡ record_writes (length blocks) slot (listed blocks)
+laid-record slot blocks f six is =
+    ap (λ ws. ws ++ write 0 (gate_of slot) ∷ []) (same-block_writes (start_of 6 slot) 0 6 (record_block f) (listed blocks) (λ i lt. sym (is i (omega arith))))
+    ∙ ap (λ n. record_writes n slot (listed blocks)) (sym six)
 
-pub put-requires-clause-chosen : goal.put-requires-clause-chosen
-put-requires-clause-chosen g c =
+pub put_blocks-requires-clause-device : goal.put_blocks-requires-clause-device
+put_blocks-requires-clause-device g c =
     let s = g.P.Plant.state c.args.plant.now in
-    ap (λ (b : List ℕ). choice b) ((track-written s _ c.args.device.0 (given_way c.args.carried.now (stages c.args.next.now)) false c.in_ok-way.ensures).low 0 (omega arith)) ∙ c.requires.chosen
+    let six : 2 * length c.blocks_of.result + 1 ≡ 13 = omega arith in
+    rw six (device-shape s _ c.args.device.0 13 (ran-written s _ c.args.device.0 _ false c.in_ok-way.ensures).shape c.requires.device)
 
 pub returns-in_err-way-clause-written : goal.returns-in_err-way-clause-written
 returns-in_err-way-clause-written g c =
@@ -34,4 +37,5 @@ returns-clause-written g c =
     let old = stages c.args.next.now in
     append-goes s s1 d (track_writes (given_way c.args.carried.now old)) (record_writes 6 (not (slot_of s d)) (record_block (next_record true old c.args.next.now c.args.carried.now))) c.in_ok-way.ensures
     ∙ (λ i. after_writes s1 d (record_writes 6 (not (c.requires.chosen i)) (record_block (sym c.stage_next.ensures i))))
-    ∙ c.put.ensures.writes
+    ∙ ap (after_writes s1 d) (laid-record (not c.args.slot) c.blocks_of.result _ (omega arith) c.blocks_of.ensures)
+    ∙ c.put_blocks.ensures.writes

@@ -1,28 +1,14 @@
-use Rattle.std.proofs.Common.{ℕ, ◌≡◌, ◌≤◌, ◌<◌, ◌+◌, Bool, true, false, Some, take, arith, ap, sym, subst, ◌∙◌}
+use Rattle.std.proofs.Common.{◌≡◌, ◌<◌, ◌+◌, take, arith, ap, sym, subst, ◌∙◌}
 use Rattle.std.specs.Prelude.{OnOk}
 use Rattle.std.specs.FinSet.{contains}
-use Rattle.dr_plant.specs.State.{PlantState, HasBlock}
-use Rattle.dr_config.specs.Table.{ConfigTable, IsSoundConfig, StandsFor, place_of}
+use Rattle.dr_plant.specs.State.{PlantState}
 use Rattle.dr_bits.specs.Tracks.{Tracks, of_bytes}
-use Rattle.dr_model.specs.Layout.{is_staged, slot_begin}
+use Rattle.dr_model.specs.Layout.{is_staged}
 use Rattle.dr_volume.specs.Record.{staged_in}
 use Rattle.dr_volume.specs.View.{track_seen}
-use Rattle.dr_volume.proofs.VolumeLaws.{lies-sound, device-lies, track-few}
-use Rattle.dr_volume.proofs.TrackLaws.{staged-there, blank-there, own-there, looked, looked-head}
+use Rattle.dr_volume.proofs.VolumeLaws.{lies-sound, track-few}
+use Rattle.dr_volume.proofs.TrackLaws.{slot-block, staged-there, blank-there, own-there, looked, looked-head}
 use Rattle.dr_volume.proofs.volume.read_track.Goals as goal
-
-begin-low : (slot : Bool) → slot_begin slot ≤ 7
-begin-low true = omega arith
-begin-low false = omega arith
-
--- the six blocks of a slot exist, also behind a read that passed
-slot-block : (s u : PlantState) (t : ConfigTable) (v d begin k : ℕ) (slot : Bool) → IsSoundConfig t → place_of t v ≡ Some d → StandsFor t s → u ≡ s → begin ≡ slot_begin slot → k ≤ begin + 5 → HasBlock u d k
-slot-block s u t v d begin k slot sound place stands same begins low =
-    let lies = lies-sound t v d sound place in
-    let device = device-lies s t v d lies.0 lies.1 stands in
-    let blocks = device.blocks in
-    let most : begin ≤ 7 = subst (λ n. n ≤ 7) (sym begins) (begin-low slot) in
-    subst (λ x. HasBlock x d k) (sym same) (record { device = device.device; block = omega arith })
 
 pub peek-requires : goal.peek-requires
 peek-requires g c =

@@ -12,4 +12,4 @@ returns-clause-defined c =
     let same : t ≡ c.args.self.now = c.self.view_is in
     let found : find (λ (e : VolumeEntry). eqb (lss_of e.id) c.args.l.0) t.volumes ≡ Some c.in_ok-entry.entry = search rules in
     let Defined : ConfigTable → Type 0 = λ x. HasServer x c.in_ok-entry.entry.server in
-    subst Defined same (owner-defined t c.args.l.0 c.in_ok-entry.entry c.self.invariant.sound found)
+    subst Defined same (owner-defined t c.args.l.0 c.in_ok-entry.entry c.self.invariant found)

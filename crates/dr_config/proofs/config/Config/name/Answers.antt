@@ -11,4 +11,4 @@ returns-clause-fits c =
     let read : slice_get c.self.inside.servers.keys c.args.s.0 ≡ Some c.index.result.now = rw (← c.from.ensures) c.index.ensures in
     let listed : slice_get t.names c.args.s.0 ≡ Some c.as_slice.result.now =
     rw (slice_get-map (λ (n : Vec ℕ Global). n.items) c.self.inside.servers.keys c.args.s.0, read, c.as_slice.ensures.value) refl in
-    (c.self.invariant.sound.server c.args.s.0 c.as_slice.result.now listed).name
+    (c.self.invariant.server c.args.s.0 c.as_slice.result.now listed).name

@@ -19,4 +19,4 @@ returns-clause-defined c =
     let same : t ≡ c.args.self.now = c.self.view_is in
     let place : server_named t c.args.name.now ≡ Some c.in_ok-place.place = rw (position-map (λ (n : Vec ℕ Global). n.items) (λ (n : List ℕ). bytes_eq c.args.name.now n) c.self.inside.servers.keys) (search rules) in
     let Defined : ConfigTable → Type 0 = λ x. HasServer x c.in_ok-place.place in
-    subst Defined same (named-defined t c.args.name.now c.in_ok-place.place c.self.invariant.sound place)
+    subst Defined same (named-defined t c.args.name.now c.in_ok-place.place c.self.invariant place)

@@ -10,4 +10,4 @@ returns-clause-defined c =
     let same : t ≡ c.args.self.now = c.self.view_is in
     let found : entry_of t c.args.v.0 ≡ Some c.in_ok-entry.entry = search rules in
     let Defined : ConfigTable → Type 0 = λ x. HasServer x c.in_ok-entry.entry.server in
-    subst Defined same (entry-defined t c.args.v.0 c.in_ok-entry.entry c.self.invariant.sound found)
+    subst Defined same (entry-defined t c.args.v.0 c.in_ok-entry.entry c.self.invariant found)

@@ -8,10 +8,10 @@ pub returns-clause-some : goal.returns-clause-some
 returns-clause-some c =
     let t : ConfigTable = table_of c.self.inside.servers.keys c.self.inside.volumes.entries c.self.inside.down c.self.inside.paths.entries in
     let found : entry_of t c.args.v.0 ≡ Some c.in_ok-entry.entry = search rules in
-    (entry-sized t c.args.v.0 c.in_ok-entry.entry c.self.invariant.sound found).0
+    (entry-sized t c.args.v.0 c.in_ok-entry.entry c.self.invariant found).0
 
 pub returns-clause-most : goal.returns-clause-most
 returns-clause-most c =
     let t : ConfigTable = table_of c.self.inside.servers.keys c.self.inside.volumes.entries c.self.inside.down c.self.inside.paths.entries in
     let found : entry_of t c.args.v.0 ≡ Some c.in_ok-entry.entry = search rules in
-    (entry-sized t c.args.v.0 c.in_ok-entry.entry c.self.invariant.sound found).1
+    (entry-sized t c.args.v.0 c.in_ok-entry.entry c.self.invariant found).1

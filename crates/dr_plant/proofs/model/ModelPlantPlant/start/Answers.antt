@@ -1,6 +1,5 @@
 use Rattle.std.proofs.Common.{◌∙◌, ap, arith, true, false, None, refl}
 use Rattle.dr_plant.specs.State.{started}
-use Rattle.dr_plant.specs.State as state
 use Rattle.dr_plant.specs.Model.{state_of}
 use Rattle.dr_plant.proofs.StateLemmas.{same_state}
 use Rattle.dr_plant.proofs.Tables.{each-set}

@@ -1,0 +1,13 @@
+use Rattle.std.proofs.Common.{◌≡◌, ◌≤◌, ◌+◌, ◌-◌, length, drop}
+use Rattle.std.specs.List.{position_or_len}
+use Rattle.dr_model.specs.LineWords.{is_gap}
+use Rattle.dr_script.proofs.words.gap_from.Given as goal
+
+abbrev pub invariant-loop-at : goal.invariant-loop-at
+invariant-loop-at l = record {
+  within : l.at ≤ length l.line;
+  reached : l.at + position_or_len is_gap (drop l.at l.line) ≡ l.fn.from + position_or_len is_gap (drop l.fn.from l.line);
+}
+
+abbrev pub decreases-loop-at : goal.decreases-loop-at
+decreases-loop-at l = length l.line - l.at
