@@ -1,12 +1,11 @@
 -- Blocks that are written one after another.
-use Rattle.std.proofs.Common.{ℕ, inl, inr, ◌≡◌, ◌<◌, ◌≤◌, ◌+◌, true, false, ◌&&◌, List, [], ◌∷◌, refl, ap, sym, ◌∙◌, suc, cond, length, get_or, drop}
+use Rattle.std.proofs.Common.{ℕ, ◌≡◌, ◌<◌, ◌≤◌, ◌+◌, true, false, ◌&&◌, List, [], ◌∷◌, refl, ap, sym, ◌∙◌, suc, cond, length, get_or, drop}
 use Rattle.std.proofs.Math.Seq.{drop-cons}
 use Rattle.std.proofs.Math.Numerals.{suc-eq-add-one}
 use Rattle.std.proofs.lemmas.List.{drop_all}
 use Rattle.std.specs.Prelude.{None}
-use Rattle.std.proofs.lemmas.Bool.{cases_eq}
 use Rattle.dr_logic.specs.Tables.{at, at2}
-use Rattle.dr_logic.proofs.Tables.{at_same, at_other}
+use Rattle.dr_logic.proofs.Tables.{at-itself}
 use Rattle.dr_plant.specs.State.{PlantState, after_write, after_blocks, can_write, passes_write, lowered_write, lowered_read, written}
 use Rattle.dr_plant.specs.Model.{with_blocks}
 use Rattle.dr_plant.proofs.StateLemmas.{write_can, same_state}
@@ -44,20 +43,13 @@ rest-ends s dev b i xs le = ap (after_blocks s dev b) (drop_all i xs le) ∙ blo
 abbrev pub put : PlantState → ℕ → ℕ → List (List ℕ) → PlantState
 put s dev b xs = record s { block = with_blocks s.block dev b xs }
 
--- the value that a table has already
-at-as_was : {X : Type 0} (f : ℕ → X) (k : ℕ) → at f k (f k) ≡ f
-at-as_was f k i q = elim (cases_eq q k) as (λ h. at f k (f k) q ≡ f q) [
-  | inl e ↦ ap (at f k (f k)) e ∙ at_same f k (f k) ∙ ap f (sym e)
-  | inr ne ↦ at_other f k (f k) q ne
-] i
-
 -- with no fuse armed, a write that is done replaces its block alone
 unarmed-write : (s : PlantState) (dev b : ℕ) (x : List ℕ) → can_write s dev ≡ true → s.write_fuse (s.owner dev) ≡ None → s.read_fuse (s.owner dev) ≡ None → after_write s dev b x ≡ record s { block = at2 s.block dev b x }
 unarmed-write s dev b x can write read =
     write_can s dev b x can
     ∙ same_state (written s dev b x) (record s { block = at2 s.block dev b x }) refl refl refl refl refl
-    (ap (λ f. at s.write_fuse (s.owner dev) (lowered_write f)) write ∙ ap (at s.write_fuse (s.owner dev)) (sym write) ∙ at-as_was s.write_fuse (s.owner dev))
-    (ap (λ f. at s.read_fuse (s.owner dev) (lowered_read f)) read ∙ ap (at s.read_fuse (s.owner dev)) (sym read) ∙ at-as_was s.read_fuse (s.owner dev))
+    (ap (λ f. at s.write_fuse (s.owner dev) (lowered_write f)) write ∙ ap (at s.write_fuse (s.owner dev)) (sym write) ∙ at-itself s.write_fuse (s.owner dev))
+    (ap (λ f. at s.read_fuse (s.owner dev) (lowered_read f)) read ∙ ap (at s.read_fuse (s.owner dev)) (sym read) ∙ at-itself s.read_fuse (s.owner dev))
     refl
 
 -- and so do writes of blocks
