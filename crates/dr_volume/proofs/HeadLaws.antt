@@ -4,7 +4,7 @@ use Rattle.std.specs.Prelude.{IfSome}
 use Rattle.std.proofs.lemmas.Option.{slice_get_cases}
 use Rattle.dr_ids.specs.declared.names.VolumeId.{VolumeId}
 use Rattle.dr_plant.specs.State.{PlantState}
-use Rattle.dr_record.specs.Writes.{IsDevice}
+use Rattle.dr_plant.specs.Writes.{IsDevice}
 use Rattle.dr_config.specs.Table.{ConfigTable, place_of, StandsFor}
 use Rattle.dr_config.specs.declared.entries.VolumeEntry.{VolumeEntry}
 use Rattle.dr_model.specs.Layout as layout

@@ -7,7 +7,7 @@ use Rattle.dr_logic.specs.Counts.{risen}
 use Rattle.dr_plant.specs.State.{PlantState, after_read, can_read, passes_read}
 use Rattle.dr_plant.specs.declared.plant.WriteFuse.{WriteFuse}
 use Rattle.dr_record.specs.Slots.{record_writes}
-use Rattle.dr_record.specs.Writes.{after_writes}
+use Rattle.dr_plant.specs.Writes.{after_writes}
 use Rattle.dr_config.specs.Table.{ConfigTable, StandsFor}
 use Rattle.dr_config.specs.declared.entries.VolumeEntry.{VolumeEntry}
 use Rattle.dr_model.specs.Layout as layout

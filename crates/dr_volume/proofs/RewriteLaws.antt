@@ -4,9 +4,9 @@ use Rattle.std.proofs.Common.{ℕ, ◌≡◌, ◌≢◌, ◌<◌, ◌+◌, ◌�
 use Rattle.std.proofs.lemmas.Bool.Decides.{Decides-eqb}
 use Rattle.dr_plant.specs.State.{PlantState, after_write, can_write}
 use Rattle.dr_plant.proofs.StateLemmas.{other-after_write, same-after_write}
-use Rattle.dr_record.specs.Writes.{BlockWrite, write, after_writes}
+use Rattle.dr_plant.specs.Writes.{BlockWrite, write, after_writes}
 use Rattle.dr_record.specs.Slots.{slot_of, choice, stored, Chooses, record_writes, SameElsewhere}
-use Rattle.dr_record.proofs.WritesLemmas.{goes, stops, ends, append-goes, append-stops}
+use Rattle.dr_plant.proofs.WritesLemmas.{goes, stops, ends, append-goes, append-stops}
 use Rattle.dr_record.proofs.PutLemmas.{put-done, put-old_or_new, put-elsewhere}
 use Rattle.dr_model.specs.Layout as layout
 use Rattle.dr_model.specs.Layout.{Blocks, chosen, slot_chosen, slot_begin, is_staged}

@@ -4,7 +4,7 @@ use Rattle.std.specs.Prelude.{is_some, option_map, slice_get, unwrap_or, if◌th
 use Rattle.dr_plant.specs.State.{PlantState, HasBlock}
 use Rattle.dr_record.specs.Taken.{taken_from}
 use Rattle.dr_record.specs.Slots.{Chooses, slot_of}
-use Rattle.dr_record.specs.Writes.{IsDevice}
+use Rattle.dr_plant.specs.Writes.{IsDevice}
 use Rattle.dr_config.specs.Table.{ConfigTable, place_of, entry_of, IsSoundConfig, StandsFor}
 use Rattle.dr_config.specs.declared.entries.VolumeEntry.{VolumeEntry}
 use Rattle.dr_config.proofs.Lists.{position-within}

@@ -4,7 +4,7 @@ use Rattle.std.specs.FinSet.{empty}
 use Rattle.dr_logic.specs.Bytes.{zeros}
 use Rattle.dr_bits.specs.Tracks.{IsInRange, bytes_of, of_bytes}
 use Rattle.dr_ids.specs.BigEndian.{be16_at, be32_at}
-pub use Rattle.dr_record.specs.Slots.{listed}
+pub use Rattle.dr_plant.specs.Writes.{listed}
 use Rattle.dr_model.specs.Layout.{Blocks, byte, bit, part_of, state_of}
 use Rattle.dr_model.specs.declared.state.Part.TheVariants.{Absent}
 use Rattle.dr_model.specs.declared.state.PairState.TheVariants.{CopyPending}

@@ -4,7 +4,7 @@ use Rattle.std.specs.FinSet.{contains}
 use Rattle.dr_logic.specs.Bytes.{zeros}
 use Rattle.dr_bits.specs.Tracks.{Tracks}
 use Rattle.dr_plant.specs.State.{PlantState, after_read, can_read, passes_read}
-use Rattle.dr_record.specs.Writes.{BlockWrite, write, after_writes}
+use Rattle.dr_plant.specs.Writes.{BlockWrite, write, after_writes}
 use Rattle.dr_record.specs.Slots.{record_writes}
 use Rattle.dr_config.specs.Table.{ConfigTable}
 use Rattle.dr_model.specs.Layout as layout

@@ -5,7 +5,7 @@ ghost use Rattle.std.specs.FinSet.{empty, intersection};
 ghost use Rattle.dr_ids.specs.Sizes.{most_tracks};
 ghost use Rattle.dr_bits.specs.Tracks.{of_bytes};
 ghost use Rattle.dr_model.specs.Layout as layout;
-ghost use Rattle.dr_record.specs.Writes.{IsDevice};
+ghost use Rattle.dr_plant.specs.Writes.{IsDevice};
 ghost use Rattle.dr_volume.specs.Plain as plain;
 ghost use Rattle.dr_volume.specs.Record as lies;
 ghost use Rattle.dr_volume.specs.Record.{listed, raw_of};

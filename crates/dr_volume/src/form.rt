@@ -2,7 +2,7 @@
 
 ghost use Rattle.std.specs.Prelude.{◌≡◌, ℕ, ◌<◌, ◌++◌, unwrap_or};
 ghost use Rattle.dr_volume.specs.Codes as coded;
-ghost use Rattle.dr_record.specs.Slots.{listed};
+ghost use Rattle.dr_plant.specs.Writes.{listed};
 ghost use Rattle.dr_volume.specs.Record as lies;
 
 use crate::codes::{

@@ -4,7 +4,7 @@
 ghost use Rattle.std.specs.Prelude.{◌≡◌, ◌<◌, length, IsSome, Some};
 ghost use Rattle.dr_config.specs.Table.{StandsFor, place_of};
 ghost use Rattle.dr_model.specs.Layout as layout;
-ghost use Rattle.dr_record.specs.Writes.{IsDevice};
+ghost use Rattle.dr_plant.specs.Writes.{IsDevice};
 ghost use Rattle.dr_volume.specs.Head.{copies_by, head_of, head_said, relation_in};
 ghost use Rattle.dr_volume.specs.Plain.{plain};
 ghost use Rattle.dr_volume.specs.View.{volume_at, volume_seen};

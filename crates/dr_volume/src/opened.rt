@@ -5,7 +5,7 @@ ghost use Rattle.std.specs.Prelude.{◌≡◌, ◌≢◌, ℕ, List, ◌<◌, �
 ghost use Rattle.dr_logic.specs.Counts.{risen};
 ghost use Rattle.dr_ids.specs.Sizes.{most_tracks};
 ghost use Rattle.dr_plant.specs.State.{after_read, can_read};
-ghost use Rattle.dr_record.specs.Writes.{IsDevice, after_writes};
+ghost use Rattle.dr_plant.specs.Writes.{IsDevice, after_writes};
 ghost use Rattle.dr_record.specs.Slots.{slot_of};
 ghost use Rattle.dr_config.specs.Table.{StandsFor, place_of};
 ghost use Rattle.dr_model.specs.Carry as machine;

@@ -2,7 +2,7 @@ use Rattle.std.proofs.Common.{ℕ, ◌≡◌, Bool, ap, sym, subst, ◌∙◌, n
 use Rattle.std.specs.Prelude.{is_some}
 use Rattle.dr_plant.specs.State.{PlantState, can_read}
 use Rattle.dr_record.specs.Slots.{slot_of}
-use Rattle.dr_record.specs.Writes.{IsDevice, after_writes}
+use Rattle.dr_plant.specs.Writes.{IsDevice, after_writes}
 use Rattle.dr_model.specs.Moves.{Carried}
 use Rattle.dr_config.specs.Table.{ConfigTable, StandsFor}
 use Rattle.dr_volume.specs.declared.fields.Fields.{Fields}

@@ -1,7 +1,7 @@
 use Rattle.std.proofs.Common.{ℕ, false, not, refl, sym, ap, ◌∙◌, arith, List, None, Some}
 use Rattle.dr_record.specs.Slots.{slot_of, choice, record_writes}
-use Rattle.dr_record.specs.Writes.{after_writes}
-use Rattle.dr_record.proofs.WritesLemmas.{err_pair, append-goes, append-stops, device-shape, ends}
+use Rattle.dr_plant.specs.Writes.{after_writes}
+use Rattle.dr_plant.proofs.WritesLemmas.{err_pair, append-goes, append-stops, device-shape, ends}
 use Rattle.dr_model.specs.Moves.{Carried}
 use Rattle.dr_volume.specs.Record.{record_block}
 use Rattle.dr_volume.specs.Update.{staging, track_writes, destage_writes}

@@ -3,7 +3,7 @@ use Rattle.std.specs.Prelude.{is_err, IfSome}
 use Rattle.dr_logic.specs.Counts.{risen}
 use Rattle.dr_plant.specs.State.{PlantState, after_read, can_read}
 use Rattle.dr_record.specs.Slots.{slot_of}
-use Rattle.dr_record.specs.Writes.{IsDevice, after_writes}
+use Rattle.dr_plant.specs.Writes.{IsDevice, after_writes}
 use Rattle.dr_model.specs.Moves.{Carried}
 use Rattle.dr_volume.specs.View.{volume_seen}
 use Rattle.dr_volume.specs.Update.{staged_seen, stages, update_writes, read_and_write, IsAsBefore}

@@ -1,5 +1,5 @@
 use Rattle.std.proofs.Common.{ap, sym, subst, ◌∙◌}
-use Rattle.dr_record.specs.Writes.{IsDevice}
+use Rattle.dr_plant.specs.Writes.{IsDevice}
 use Rattle.dr_model.specs.Layout as layout
 use Rattle.dr_volume.specs.Head.{head_said, relation_in}
 use Rattle.dr_volume.proofs.HeadLaws.{entry-there, device-there, head-at}

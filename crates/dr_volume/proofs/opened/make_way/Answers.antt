@@ -1,7 +1,7 @@
 use Rattle.std.proofs.Common.{ap, sym, ◌∙◌, Option, ℕ}
 use Rattle.dr_model.specs.Moves.{Carried}
-use Rattle.dr_record.specs.Writes.{after_writes}
-use Rattle.dr_record.proofs.WritesLemmas.{one_write, ends}
+use Rattle.dr_plant.specs.Writes.{after_writes}
+use Rattle.dr_plant.proofs.WritesLemmas.{one_write, ends}
 use Rattle.dr_volume.specs.Update.{track_with, track_writes}
 use Rattle.dr_volume.proofs.opened.make_way.Goals as goal
 

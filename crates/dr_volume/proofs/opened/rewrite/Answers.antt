@@ -1,9 +1,9 @@
 use Rattle.std.proofs.Common.{ℕ, ◌≡◌, ◌<◌, ◌+◌, ◌*◌, Bool, length, ◌++◌, ◌∷◌, [], true, false, not, refl, ap, sym, ◌∙◌, arith, List}
-use Rattle.dr_record.specs.Slots.{slot_of, gate_of, listed, start_of, record_writes}
-use Rattle.dr_record.specs.Writes.{write, after_writes}
-use Rattle.dr_record.proofs.BlocksLemmas.{same-block_writes}
+use Rattle.dr_record.specs.Slots.{slot_of, gate_of, start_of, record_writes}
+use Rattle.dr_plant.specs.Writes.{listed, write, after_writes}
+use Rattle.dr_plant.proofs.BlocksLemmas.{same-block_writes}
 use Rattle.dr_volume.specs.declared.fields.Fields.{Fields}
-use Rattle.dr_record.proofs.WritesLemmas.{err_pair, append-goes, append-stops, device-shape}
+use Rattle.dr_plant.proofs.WritesLemmas.{err_pair, append-goes, append-stops, device-shape}
 use Rattle.dr_volume.specs.Record.{record_block}
 use Rattle.dr_volume.specs.Update.{stages, track_writes, given_way, next_record}
 use Rattle.dr_volume.proofs.RanLaws.{ran-written}

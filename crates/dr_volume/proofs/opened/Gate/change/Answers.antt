@@ -2,7 +2,7 @@ use Rattle.std.proofs.Common.{◌<◌, ◌+◌, ap, subst, sym, refl, ◌∙◌,
 use Rattle.std.specs.Prelude.{is_err, IfSome}
 use Rattle.dr_logic.specs.Counts.{risen}
 use Rattle.dr_record.specs.Slots.{slot_of}
-use Rattle.dr_record.specs.Writes.{after_writes}
+use Rattle.dr_plant.specs.Writes.{after_writes}
 use Rattle.dr_model.specs.Moves.{Carried}
 use Rattle.dr_volume.specs.Update.{update_writes, next_record}
 use Rattle.dr_volume.proofs.RanLaws.{ran-written, on_ok, on_err}

@@ -1,5 +1,6 @@
 -- Writes to one device, one after another, until one is stopped.
-use Rattle.std.specs.Prelude.{◌≡◌, ℕ, ◌-◌, ◌≤◌, ◌<◌, Bool, true, false, List, [], ◌∷◌, if◌then◌else◌, length, Option, Some, None}
+use Rattle.std.specs.Prelude.{◌≡◌, ℕ, zero, suc, ◌+◌, ◌-◌, ◌≤◌, ◌<◌, Bool, true, false, List, [], ◌∷◌, if◌then◌else◌, length, Option, Some, None}
+use Rattle.std.specs.List.{slice_index_or}
 use Rattle.dr_logic.specs.Counts.{risen}
 use Rattle.dr_logic.specs.Tables.{at, at2}
 use Rattle.dr_plant.specs.State.{PlantState, after_write, can_write, torn_by}
@@ -13,6 +14,19 @@ pub record BlockWrite : Type 0 where
 -- a write of these bytes to a block
 abbrev pub write : ℕ → List ℕ → BlockWrite
 write block bytes = record { block = block; bytes = bytes }
+
+-- The writes of n blocks, from the k-th on, from the block start + k of a device on.
+unfoldable pub block_writes : ℕ → ℕ → ℕ → (ℕ → List ℕ) → List BlockWrite
+block_writes start k zero bytes = []
+block_writes start k (suc n) bytes = write (start + k) (bytes k) ∷ block_writes start (k + 1) n bytes
+
+-- the blocks of a list by number
+abbrev pub listed : List (List ℕ) → ℕ → List ℕ
+listed blocks i = slice_index_or blocks i []
+
+-- The writes of a list of blocks, from a block of a device on.
+abbrev pub list_writes : ℕ → List (List ℕ) → List BlockWrite
+list_writes start blocks = block_writes start 0 (length blocks) (listed blocks)
 
 -- The writes to a device in order, until one is stopped: what they leave, and whether one was stopped.
 unfoldable pub after_writes : PlantState → ℕ → List BlockWrite → PlantState × Bool

@@ -1,11 +1,12 @@
-use Rattle.std.proofs.Common.{ℕ, ◌≡◌, ◌≢◌, ◌<◌, ◌≤◌, ◌+◌, ◌⊎◌, inl, inr, Bool, true, false, List, [], ◌∷◌, refl, ap, ◌∙◌, sym, suc, zero, length, arith}
+-- Writes of blocks that stand in a row, and loops that make them.
+use Rattle.std.proofs.Common.{ℕ, ◌≡◌, ◌≢◌, ◌<◌, ◌≤◌, ◌+◌, ◌⊎◌, inl, inr, Bool, true, false, List, ◌∷◌, refl, ap, ◌∙◌, sym, suc, zero, length, arith}
 use Rattle.std.proofs.lemmas.Bool.{cases_eq}
-use Rattle.dr_plant.specs.State.{PlantState, after_write, after_blocks, can_write}
-use Rattle.dr_plant.proofs.StateLemmas.{other-after_write, same-after_write}
-use Rattle.dr_plant.proofs.AfterBlocks.{blocks-goes, blocks-stops, blocks-end}
-use Rattle.dr_record.specs.Writes.{write, after_writes}
-use Rattle.dr_record.specs.Slots.{listed, block_writes}
-use Rattle.dr_record.proofs.WritesLemmas.{goes, stops, ends}
+use Rattle.dr_logic.specs.Tables.{at2}
+use Rattle.dr_logic.proofs.Tables.{at2_same}
+use Rattle.dr_plant.specs.State.{PlantState, after_write, can_write}
+use Rattle.dr_plant.proofs.StateLemmas.{at2_other, other-after_write, same-after_write}
+use Rattle.dr_plant.specs.Writes.{write, after_writes, all_put, block_writes}
+use Rattle.dr_plant.proofs.WritesLemmas.{goes, stops, ends}
 
 -- the i-th of the blocks is written, and the rest
 pub rest-goes : (s : PlantState) (dev start i n m : ℕ) (f : ℕ → List ℕ) → n ≡ suc m → can_write s dev ≡ true → after_writes s dev (block_writes start i n f) ≡ after_writes (after_write s dev (start + i) (f i)) dev (block_writes start (i + 1) m f)
@@ -76,21 +77,23 @@ done-block_writes s t dev start k (suc n) f h i l u =
       | false ↦ λ c. let e : true ≡ false = ap (λ (r : PlantState × Bool). r.1) (sym (stops s dev (write (start + k) (f k)) (block_writes start (k + 1) n f) c) ∙ h) in absurd (cc)
     ] refl
 
--- blocks written by one call are these writes
-pub laid-blocks : (s : PlantState) (dev start k : ℕ) (xs : List (List ℕ)) (f : ℕ → List ℕ) → ((i : ℕ) → i < length xs → f (k + i) ≡ listed xs i) → after_blocks s dev (start + k) xs ≡ after_writes s dev (block_writes start k (length xs) f)
-unfolding block_writes
-laid-blocks s dev start k [] f same = blocks-end s dev (start + k) ∙ sym (ends s dev)
-laid-blocks s dev start k (x ∷ xs) f same =
-    let one : x ≡ f k = sym (same 0 (omega arith)) ∙ ap f (let e : k + 0 ≡ k = omega arith in e) in
-    elim (can_write s dev) as (λ v. can_write s dev ≡ v → after_blocks s dev (start + k) (x ∷ xs) ≡ after_writes s dev (write (start + k) (f k) ∷ block_writes start (k + 1) (length xs) f)) [
-      | true ↦ λ c.
-          blocks-goes s dev (start + k) x xs c
-          ∙ ap (λ y. after_blocks (after_write s dev (start + k) y) dev (start + k + 1) xs) one
-          ∙ ap (λ b. after_blocks (after_write s dev (start + k) (f k)) dev b xs) (let e : start + k + 1 ≡ start + (k + 1) = omega arith in e)
-          ∙ laid-blocks (after_write s dev (start + k) (f k)) dev start (k + 1) xs f (λ i lt. ap f (let e : k + 1 + i ≡ k + suc i = omega arith in e) ∙ same (suc i) (omega arith))
-          ∙ sym (goes s dev (write (start + k) (f k)) (block_writes start (k + 1) (length xs) f) c)
-      | false ↦ λ c.
-          blocks-stops s dev (start + k) x xs c
-          ∙ ap (λ y. (after_write s dev (start + k) y, true)) one
-          ∙ sym (stops s dev (write (start + k) (f k)) (block_writes start (k + 1) (length xs) f) c)
-    ] refl
+-- the blocks once these are replaced: those before the first and behind the last stay, and each of them is there
+pub all_put-outside : (block : ℕ → ℕ → List ℕ) (dev start k n : ℕ) (f : ℕ → List ℕ) (p q : ℕ) → (q < start + k) ⊎ (start + k + n ≤ q) → all_put block dev (block_writes start k n f) p q ≡ block p q
+unfolding all_put block_writes
+all_put-outside block dev start k zero f p q h = refl
+all_put-outside block dev start k (suc n) f p q h =
+    all_put-outside (at2 block dev (start + k) (f k)) dev start (k + 1) n f p q (further start k q n h)
+    ∙ at2_other block dev (start + k) (f k) p q (away (start + k) q n h)
+
+pub all_put-inside : (block : ℕ → ℕ → List ℕ) (dev start k n : ℕ) (f : ℕ → List ℕ) (i : ℕ) → k ≤ i → i < k + n → all_put block dev (block_writes start k n f) dev (start + i) ≡ f i
+unfolding all_put block_writes
+all_put-inside block dev start k zero f i l u = absurd (omega arith)
+all_put-inside block dev start k (suc n) f i l u =
+    let put = at2 block dev (start + k) (f k) in
+    elim (first_or_later i k n l u) [
+      | inl e ↦
+          let first : all_put put dev (block_writes start (k + 1) n f) dev (start + k) ≡ f k =
+          all_put-outside put dev start (k + 1) n f dev (start + k) (inl (omega arith)) ∙ at2_same block dev (start + k) (f k) in
+          ap (λ j. all_put put dev (block_writes start (k + 1) n f) dev (start + j)) e ∙ first ∙ ap f (sym e)
+      | inr p ↦ all_put-inside put dev start (k + 1) n f i p.0 p.1
+    ]

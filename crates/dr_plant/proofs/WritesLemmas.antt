@@ -1,9 +1,10 @@
+-- What writes one after another make of a plant, and what they keep.
 use Rattle.std.proofs.Common.{ℕ, ◌≡◌, ◌≢◌, Bool, true, false, List, [], ◌∷◌, ◌++◌, refl, ap, ◌∙◌, cond, sym, subst}
 use Rattle.std.specs.Prelude.{Result, Ok, Err, is_err, is_ok, IsErr}
 use Rattle.dr_logic.specs.Counts.{risen}
 use Rattle.dr_plant.specs.State.{PlantState, after_write, can_write}
 use Rattle.dr_plant.proofs.StateLemmas.{count-after_write, size-after_write, owner-after_write, apart-after_write, off-after_write, faults-after_write}
-use Rattle.dr_record.specs.Writes.{BlockWrite, write, after_writes, IsDevice, SameShape}
+use Rattle.dr_plant.specs.Writes.{BlockWrite, write, after_writes, IsDevice, SameShape}
 
 -- a write that is done, and the rest
 pub goes : (s : PlantState) (dev : ℕ) (w : BlockWrite) (ws : List BlockWrite) → can_write s dev ≡ true → after_writes s dev (w ∷ ws) ≡ after_writes (after_write s dev w.block w.bytes) dev ws

@@ -1,22 +1,19 @@
-use Rattle.std.proofs.Common.{ℕ, ◌≡◌, ◌≢◌, ◌<◌, ◌+◌, ◌-◌, ◌&&◌, Bool, true, false, List, [], ◌∷◌, ◌++◌, refl, ap, ◌∙◌, sym, cond, suc, length, arith, subst, nat_eq, take, drop, get_or, inl, inr}
+-- What becomes of a list of writes: all are done, or a fuse tears one, or the server is off.
+use Rattle.std.proofs.Common.{ℕ, ◌≡◌, ◌≢◌, ◌<◌, ◌+◌, ◌-◌, ◌&&◌, Bool, true, false, List, [], ◌∷◌, ◌++◌, refl, ap, ◌∙◌, sym, cond, suc, length, arith, subst, nat_eq, take, drop, get_or}
 use Rattle.std.specs.Prelude.{Option, Some, None}
-use Rattle.std.proofs.lemmas.Bool.{cases_eq}
 use Rattle.std.proofs.lemmas.Bool.Decides.{nat_tests}
 use Rattle.std.proofs.lemmas.Grind.{common_steps}
 use Rattle.dr_logic.specs.Tables.{at, at2}
 use Rattle.dr_plant.specs.declared.plant.WriteFuse.{WriteFuse}
 use Rattle.dr_plant.specs.State.{PlantState, can_write, written, torn, faulted, passes_write, lowered_write, lowered_read, torn_block}
 use Rattle.dr_plant.proofs.StateLemmas.{same_state, at2_apart, write_off, write_torn, write_can}
-use Rattle.dr_record.specs.Writes.{BlockWrite, after_writes, all_put, Passes, write_fuse_after, read_fuse_after, all_written, torn_after}
-use Rattle.dr_record.proofs.WritesLemmas.{goes, stops, ends}
-use Rattle.dr_logic.proofs.Tables.{at_same, at_other}
+use Rattle.dr_plant.specs.Writes.{BlockWrite, after_writes, all_put, Passes, write_fuse_after, read_fuse_after, all_written, torn_after}
+use Rattle.dr_plant.proofs.WritesLemmas.{goes, stops, ends}
+use Rattle.dr_logic.proofs.Tables.{at_same, at-itself}
 
 -- a function changed to what it is
-kept_at : {X : Type 0} (f : ℕ → X) (k : ℕ) (x : X) → x ≡ f k → (q : ℕ) → at f k x q ≡ f q
-kept_at f k x h q = elim (cases_eq q k) [ inl e ↦ ap (at f k x) e ∙ at_same f k x ∙ h ∙ ap f (sym e) | inr ne ↦ at_other f k x q ne ]
-
 at-kept : {X : Type 0} (f : ℕ → X) (k : ℕ) (x : X) → x ≡ f k → at f k x ≡ f
-at-kept f k x h i q = kept_at f k x h q i
+at-kept f k x h = ap (at f k) h ∙ at-itself f k
 
 -- a function changed twice at k
 twice : {X : Type 0} (v : Bool) (x y z : X) → cond v y (cond v x z) ≡ cond v y z
@@ -86,6 +83,18 @@ writes_pass s dev (w ∷ ws) on p =
     ∙ (λ i. (
       same_state (all_written s1 dev ws) (all_written s dev (w ∷ ws)) refl refl refl refl refl
           (write_fuses-later s.write_fuse o (length ws)) (read_fuses-later s.read_fuse o (length ws)) refl i,
+      false,
+    ))
+
+-- To a server that is on, with no fuse armed: the blocks are replaced, and nothing else.
+pub writes_unarmed : (s : PlantState) (dev : ℕ) (ws : List BlockWrite) → s.on (s.owner dev) ≡ true → s.write_fuse (s.owner dev) ≡ None → s.read_fuse (s.owner dev) ≡ None → after_writes s dev ws ≡ (record s { block = all_put s.block dev ws }, false)
+writes_unarmed s dev ws on write read =
+    let o = s.owner dev in
+    writes_pass s dev ws on (subst (Passes (length ws)) (sym write) tt)
+    ∙ (λ i. (
+      same_state (all_written s dev ws) (record s { block = all_put s.block dev ws }) refl refl refl refl refl
+          (at-kept s.write_fuse o (write_fuse_after (length ws) (s.write_fuse o)) (ap (write_fuse_after (length ws)) write ∙ sym write))
+          (at-kept s.read_fuse o (read_fuse_after (length ws) (s.read_fuse o)) (ap (read_fuse_after (length ws)) read ∙ sym read)) refl i,
       false,
     ))
 
