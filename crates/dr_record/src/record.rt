@@ -65,5 +65,5 @@ pub fn put_blocks<P: Plant>(
     requires fits { 2 * length blocks.now + 1 < 2 ^ 16 }
     ensures writes { after_writes (P.state plant.old) dev.0 (record_writes (length blocks.now) (not slot) (listed blocks.now)) ≡ (P.state plant.new, is_err result) }
 {
-    slot::write_laid(plant, dev, !slot, blocks)
+    slot::write_record_blocks(plant, dev, !slot, blocks)
 }

@@ -90,7 +90,7 @@ fn write_gate<P: Plant>(plant: &mut P, dev: DeviceId, slot: bool) -> Result<(), 
 
 /// Writes a record whose blocks are at hand to a slot: the blocks in order, by one call of the plant, and then the gate that
 /// chooses the slot. Fails at the first write that can't be done.
-pub fn write_laid<P: Plant>(
+pub fn write_record_blocks<P: Plant>(
     plant: &mut P,
     dev: DeviceId,
     slot: bool,

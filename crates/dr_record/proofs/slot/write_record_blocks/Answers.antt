@@ -3,7 +3,7 @@ use Rattle.dr_plant.specs.State.{PlantState}
 use Rattle.dr_plant.specs.Writes.{SameShape, after_writes, list_writes}
 use Rattle.dr_record.specs.Slots as slots
 use Rattle.dr_plant.proofs.WritesLemmas.{append-goes, append-stops, one_write, err_pair, device-shape, shape-after_writes}
-use Rattle.dr_record.proofs.slot.write_laid.Goals as goal
+use Rattle.dr_record.proofs.slot.write_record_blocks.Goals as goal
 
 -- the blocks' writes, where the slot begins
 blocks-written : (s : PlantState) (dev start : ℕ) (slot : Bool) (xs : List (List ℕ)) (r : PlantState × Bool) → start ≡ slots.start_of (length xs) slot → after_writes s dev (list_writes start xs) ≡ r → after_writes s dev (list_writes (slots.start_of (length xs) slot) xs) ≡ r
