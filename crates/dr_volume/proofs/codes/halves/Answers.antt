@@ -2,7 +2,7 @@ use Rattle.std.proofs.Common.{ℕ, ◌≡◌, List, ◌++◌, length, drop, sym,
 use Rattle.std.proofs.Math.Seq.{drop-length}
 use Rattle.std.proofs.lemmas.List.{take_at, drop_at, append-nil}
 use borrow.Rule.Slice.PartMut.{put_mid}
-use Rattle.dr_volume.proofs.codes.two_sets.Goals as goal
+use Rattle.dr_volume.proofs.codes.halves.Goals as goal
 
 -- a block whose second half is replaced
 two_halves : (a b z : List ℕ) → length a ≡ 32 → length z ≡ 32 → put_mid 32 32 (a ++ z) b ≡ a ++ b
@@ -14,4 +14,4 @@ two_halves a b z la lz =
 pub returns : goal.returns
 returns c =
     two_halves c.copy_from_slice.new.self c.copy_from_slice-2.new.self _ c.copy_from_slice.auto.self refl
-    ∙ (λ i. (c.copy_from_slice.ensures.after ∙ c.to_bytes.ensures) i ++ (c.copy_from_slice-2.ensures.after ∙ c.to_bytes-2.ensures) i)
+    ∙ (λ i. c.copy_from_slice.ensures.after i ++ c.copy_from_slice-2.ensures.after i)
