@@ -13,7 +13,7 @@ use Rattle.dr_laws_freezes.specs.Windows.{last_of}
 use Rattle.dr_laws_freezes.proofs.EndsInCut.{IsBehind, run-behind, last-moment}
 use Rattle.dr_laws_sites.proofs.Along.{Lasts, run-moment}
 use Rattle.dr_laws_sites.proofs.Example.{ends-with}
-use Rattle.dr_laws_windows.specs.Example.{IsStretch}
+use Rattle.dr_laws_examples.specs.Example.{IsStretch}
 
 -- the moments of steps and of later ones
 moments-more : (w : World) (xs ys : List Task) → moments_from w (xs ++ ys) ≡ moments_from w xs ++ moments_from (after_tasks w xs) ys

@@ -1,5 +1,5 @@
-use Rattle.dr_laws_windows.proofs.Freeze as freeze
-use Rattle.dr_laws_windows.proofs.an_example_of_a_freeze_window.Goals as goal
+use Rattle.dr_laws_examples.proofs.Freeze as freeze
+use Rattle.dr_laws_examples.proofs.an_example_of_a_freeze_window.Goals as goal
 
 pub returns-clause-among : goal.returns-clause-among
 returns-clause-among c = freeze.among

@@ -1,5 +1,5 @@
-use Rattle.dr_laws_windows.proofs.Flash as flash
-use Rattle.dr_laws_windows.proofs.an_example_of_a_flash_window.Goals as goal
+use Rattle.dr_laws_examples.proofs.Flash as flash
+use Rattle.dr_laws_examples.proofs.an_example_of_a_flash_window.Goals as goal
 
 pub returns-clause-among : goal.returns-clause-among
 returns-clause-among c = flash.among

@@ -32,8 +32,8 @@ use Rattle.dr_laws_freezes.specs.Moments.{worlds, worlds_each, plan_moments, par
 use Rattle.dr_laws_freezes.specs.Windows.{IsSoundWindow, is_in, is_clean, stays_with, is_back_to, is_of, acked_on, told_since, last_of, frozen, HoldsWhatCame}
 use Rattle.dr_laws_freezes.proofs.WindowSteps.{cut-run}
 use Rattle.dr_laws_sites.specs.Example.{step, unnamed}
-use Rattle.dr_laws_windows.specs.Example.{IsStretch, host_writes, second_waits, two_pairs, frozen_steps, freeze_run, frozen_set, freeze_begins, freeze_window, freeze_ends}
-use Rattle.dr_laws_windows.proofs.Stretch.{stretch-is}
+use Rattle.dr_laws_examples.specs.Example.{IsStretch, host_writes, second_waits, two_pairs, frozen_steps, freeze_run, frozen_set, freeze_begins, freeze_window, freeze_ends}
+use Rattle.dr_laws_examples.proofs.Stretch.{stretch-is}
 
 -- ---- a host write that goes over, in which a set of tracks decides
 

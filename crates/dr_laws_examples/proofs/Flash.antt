@@ -21,8 +21,8 @@ use Rattle.dr_laws_freezes.specs.Windows.{told_since, last_of}
 use Rattle.dr_laws_flashes.specs.Windows.{changes, reaches, Taken, cut_at, IsHeldPair, IsSoundWindow, LeavesOneCut}
 use Rattle.dr_laws_flashes.proofs.Windows.{flash-cut}
 use Rattle.dr_laws_sites.specs.Example.{step, unnamed}
-use Rattle.dr_laws_windows.specs.Example.{IsStretch, second_waits, four_volumes, flash_steps, flash_run, flash_set, flash_begins, flash_window, flash_ends}
-use Rattle.dr_laws_windows.proofs.Stretch.{at_place, IsThere, parted-at, stretch-is, told-at}
+use Rattle.dr_laws_examples.specs.Example.{IsStretch, second_waits, four_volumes, flash_steps, flash_run, flash_set, flash_begins, flash_window, flash_ends}
+use Rattle.dr_laws_examples.proofs.Stretch.{at_place, IsThere, parted-at, stretch-is, told-at}
 
 -- ---- the window
 
