@@ -3,6 +3,7 @@ use Rattle.std.proofs.Common.{◌≡◌, ℕ, ◌+◌, ◌<◌, Bool, true, fals
 use Rattle.std.proofs.lemmas.Option.{same_Some, slice_get_within}
 use Rattle.std.proofs.lemmas.Bool.Decides.{Decides-eqb, nat_tests}
 use Rattle.dr_logic.specs.Tables.{at}
+use Rattle.dr_ids.specs.Sizes.{blocks_of}
 use Rattle.dr_plant.specs.State.{PlantState, with_device}
 use Rattle.dr_config.specs.declared.entries.VolumeEntry.{VolumeEntry}
 use Rattle.dr_config.specs.Table.{ConfigTable, place_of, entry_of, StandsFor}
@@ -12,7 +13,7 @@ use Rattle.dr_config.proofs.Lookups.{entry-at-place}
 
 -- a device stands for an entry
 abbrev Matches : PlantState → ℕ → VolumeEntry → Type 0
-Matches s d e = (s.owner d ≡ e.server) × (s.size d ≡ 13 + e.tracks) × (e.server < 8)
+Matches s d e = (s.owner d ≡ e.server) × (s.size d ≡ blocks_of e.tracks) × (e.server < 8)
 
 at-other : (f : ℕ → ℕ) (k x q : ℕ) → q < k → at f k x q ≡ f q
 at-other f k x q h = let e : eqb q k ≡ false = grind (arith, nat_tests) in rw e refl
@@ -32,7 +33,7 @@ stands-along t s u c o z h = record {
 }
 
 -- the device of a volume
-pub device-of-volume : (t : ConfigTable) (s : PlantState) (v d : ℕ) (e : VolumeEntry) → StandsFor t s → place_of t v ≡ Some d → entry_of t v ≡ Some e → (d < s.count) × (s.owner d ≡ e.server) × (s.size d ≡ 13 + e.tracks) × (e.server < 8)
+pub device-of-volume : (t : ConfigTable) (s : PlantState) (v d : ℕ) (e : VolumeEntry) → StandsFor t s → place_of t v ≡ Some d → entry_of t v ≡ Some e → (d < s.count) × (s.owner d ≡ e.server) × (s.size d ≡ blocks_of e.tracks) × (e.server < 8)
 device-of-volume t s v d e h place entry =
     let at = entry-at-place t v d place in
     let same : at.0 ≡ e = same_Some at.0 e (sym at.2 ∙ entry) in
@@ -61,22 +62,22 @@ earlier : (s : PlantState) (server blocks d : ℕ) (e : VolumeEntry) → d < s.c
 unfolding with_device
 earlier s server blocks d e l m = (at-other s.owner s.count server d l ∙ m.0, at-other s.size s.count blocks d l ∙ m.1, m.2)
 
-last : (s : PlantState) (v server tracks d : ℕ) (e : VolumeEntry) → server < 8 → d ≡ s.count → (record { id = v; server = server; tracks = tracks }) ≡ e → Matches (with_device s server (13 + tracks)) d e
+last : (s : PlantState) (v server tracks d : ℕ) (e : VolumeEntry) → server < 8 → d ≡ s.count → (record { id = v; server = server; tracks = tracks }) ≡ e → Matches (with_device s server (blocks_of tracks)) d e
 unfolding with_device
 last s v server tracks d e low l same =
-    let P : VolumeEntry → Type 0 = λ x. Matches (with_device s server (13 + tracks)) d x in
-    subst P same (at-same s.owner s.count server d l, at-same s.size s.count (13 + tracks) d l, low)
+    let P : VolumeEntry → Type 0 = λ x. Matches (with_device s server (blocks_of tracks)) d x in
+    subst P same (at-same s.owner s.count server d l, at-same s.size s.count (blocks_of tracks) d l, low)
 
 counted : (s : PlantState) (server blocks : ℕ) → (with_device s server blocks).count ≡ s.count + 1
 unfolding with_device
 counted s server blocks = refl
 
 -- one more volume, with its device
-pub stands-with_volume : (t : ConfigTable) (s : PlantState) (v server tracks : ℕ) → server < 8 → StandsFor t s → StandsFor (with_volume t v server tracks) (with_device s server (13 + tracks))
+pub stands-with_volume : (t : ConfigTable) (s : PlantState) (v server tracks : ℕ) → server < 8 → StandsFor t s → StandsFor (with_volume t v server tracks) (with_device s server (blocks_of tracks))
 stands-with_volume t s v server tracks low h = record {
-  count = let c = counted s server (13 + tracks) in let n = h.count in let l = length-append t.volumes (record { id = v; server = server; tracks = tracks } ∷ []) in omega (arith, l);
+  count = let c = counted s server (blocks_of tracks) in let n = h.count in let l = length-append t.volumes (record { id = v; server = server; tracks = tracks } ∷ []) in omega (arith, l);
   device = λ d e p. elim (element-of-push t.volumes (record { id = v; server = server; tracks = tracks }) d e p) [
-    | inl a ↦ (let within : d < s.count = rw h.count (slice_get_within t.volumes d e a) in earlier s server (13 + tracks) d e within (h.device d e a))
+    | inl a ↦ (let within : d < s.count = rw h.count (slice_get_within t.volumes d e a) in earlier s server (blocks_of tracks) d e within (h.device d e a))
     | inr b ↦ last s v server tracks d e low (b.0 ∙ sym h.count) b.1
   ];
 }

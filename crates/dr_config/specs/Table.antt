@@ -78,7 +78,7 @@ pub record HasServer (t : ConfigTable) (s : ℕ) : Type 0 where
   pub defined : s < length t.names
   pub below : s < 8
 
--- Each volume has its device: owned by its server, with 13 blocks and one more for each track.
+-- Each volume has its device: owned by its server, with the blocks of a volume of its tracks.
 pub record StandsFor (t : ConfigTable) (s : PlantState) : Type 0 where
   pub count : s.count ≡ length t.volumes
   pub device : (d : ℕ) (e : VolumeEntry) → slice_get t.volumes d ≡ Some e → (s.owner d ≡ e.server) × (s.size d ≡ blocks_of e.tracks) × (e.server < 8)

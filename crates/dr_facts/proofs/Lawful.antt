@@ -44,6 +44,7 @@ module _ (n : ℕ) (f : Fields) (law : IsLawful n f) where
     primary = law.primary;
     secondary = law.secondary;
     relation = parted-relation e (record (fetched f t) { source_changes = noted; target_changes = rewritten }) related;
+    entries = law.entries;
   }
 
   pub low-noted : (s : Tracks) (t : ℕ) → t < n → Low n s → Low n (cond f.recorded (insert s t) s)
@@ -64,6 +65,7 @@ module _ (n : ℕ) (f : Fields) (law : IsLawful n f) where
     primary = law.primary;
     secondary = law.secondary;
     relation = λ h. false_true h related;
+    entries = law.entries;
   }
 
   -- a relationship is made
@@ -81,6 +83,7 @@ module _ (n : ℕ) (f : Fields) (law : IsLawful n f) where
     primary = law.primary;
     secondary = law.secondary;
     relation = λ h. absurd cc;
+    entries = law.entries;
   }
 
   -- or ends
@@ -98,6 +101,7 @@ module _ (n : ℕ) (f : Fields) (law : IsLawful n f) where
     primary = law.primary;
     secondary = law.secondary;
     relation = parted-relation e f related;
+    entries = law.entries;
   }
 
   pub lawful-resynced : (sequence : Option ℕ) → f.related ≡ true → IsLawful n (resynced sequence f)
@@ -114,6 +118,7 @@ module _ (n : ℕ) (f : Fields) (law : IsLawful n f) where
     primary = law.primary;
     secondary = law.secondary;
     relation = λ h. false_true h related;
+    entries = law.entries;
   }
 
   pub lawful-turned : f.related ≡ true → IsLawful n (turned f)
@@ -130,6 +135,7 @@ module _ (n : ℕ) (f : Fields) (law : IsLawful n f) where
     primary = law.primary;
     secondary = law.secondary;
     relation = λ h. false_true h related;
+    entries = law.entries;
   }
 
   pub lawful-given_up : (t : ℕ) → f.related ≡ true → IsLawful n (given_up f t)
@@ -146,6 +152,7 @@ module _ (n : ℕ) (f : Fields) (law : IsLawful n f) where
     primary = law.primary;
     secondary = law.secondary;
     relation = λ h. false_true h related;
+    entries = law.entries;
   }
 
   -- the parts in pairs change, and tracks are no longer blank
@@ -181,6 +188,7 @@ module _ (n : ℕ) (f : Fields) (law : IsLawful n f) where
     primary = primary;
     secondary = secondary;
     relation = law.relation;
+    entries = law.entries;
   }
 
   blank-less : (t : ℕ) → Low n (remove f.blank t)
@@ -314,6 +322,7 @@ module _ (n : ℕ) (f : Fields) (law : IsLawful n f) where
     primary = law.primary;
     secondary = law.secondary;
     relation = λ h. let o = law.relation h in (o.0, o.1, o.2, o.3, o.4, o.5, o.6, o.7, o.8, o.9, o.10, o.11, o.12, refl, refl);
+    entries = law.entries;
   }
 
   -- a target is flashed, the flash stays, it is taken back
@@ -331,6 +340,7 @@ module _ (n : ℕ) (f : Fields) (law : IsLawful n f) where
     primary = law.primary;
     secondary = law.secondary;
     relation = λ h. false_true h is;
+    entries = law.entries;
   }
 
   pub lawful-committed : (i : ℕ) → f.related ≡ true → IsLawful n (committed i f)
@@ -347,6 +357,7 @@ module _ (n : ℕ) (f : Fields) (law : IsLawful n f) where
     primary = law.primary;
     secondary = law.secondary;
     relation = λ h. false_true h is;
+    entries = law.entries;
   }
 
   pub lawful-reverted : (i : ℕ) → f.related ≡ true → IsLawful n (reverted i f)
@@ -363,4 +374,5 @@ module _ (n : ℕ) (f : Fields) (law : IsLawful n f) where
     primary = law.primary;
     secondary = law.secondary;
     relation = λ h. false_true h is;
+    entries = law.entries;
   }

@@ -1,11 +1,13 @@
 -- What the readers of words need on digits.
-use Rattle.std.proofs.Common.{◌≡◌, ℕ, ◌<◌, ◌≤◌, ◌+◌, ◌*◌, ◌^◌, List, [], ◌∷◌, length, take, true, false, get_or, arith, rules, Option, Some, None, if◌then◌else◌, Bool, refl, ◌==◌, ◌&&◌, nat_le}
+use Rattle.std.proofs.Common.{◌≡◌, ℕ, ◌<◌, ◌≤◌, ◌+◌, ◌*◌, ◌^◌, List, [], ◌∷◌, length, take, true, false, get_or, arith, rules, Option, Some, None, if◌then◌else◌, Bool, refl, ◌==◌, ◌&&◌, nat_le, map, sym, ap, ◌∙◌}
 use Rattle.std.proofs.Math.Nat.{pow-le-pow_left, pow-le-pow_right}
 use Rattle.std.proofs.lemmas.Bool.Decides.{nat_tests}
 use Rattle.std.proofs.lemmas.Grind.{common_steps}
 use Rattle.std.proofs.lemmas.Int.Digits.{digits_value-lt, digits_value_more, digits_more}
 use Rattle.std.proofs.lemmas.List.Folds.{list_all_at}
+use Rattle.std.proofs.lemmas.List.FromFn.{get_or-map-range_with_len}
 use Rattle.std.specs.Char.{digit_value, is_digit}
+use Rattle.std.specs.List.{range_with_len}
 use Rattle.std.specs.Str.Parse.{AllDigits, digits_value}
 use Rattle.dr_ids.specs.Spelling.{all_digits, digit_in, hex_word, number_word, spelled, up_to, upper_digit}
 
@@ -87,3 +89,30 @@ number_word_at_most most word n is =
 -- The digit that is written for a number below 16 reads back as that number.
 pub digit_in-upper_digit : (n : ℕ) → n < 16 → digit_in 16 (upper_digit n) ≡ Some n
 digit_in-upper_digit n low = grind (arith, common_steps, nat_tests)
+
+-- The table of the values of hexadecimal digits, by each byte: 255 for one that is no digit.
+abbrev value_or_255 : ℕ → ℕ
+value_or_255 c = if is_digit c 16 then digit_value c else 255
+
+unfoldable pub hex_values : List ℕ
+hex_values = map value_or_255 (range_with_len 0 256)
+
+value-small : (c : ℕ) → is_digit c 16 ≡ true → digit_value c < 16
+value-small c digit = grind (arith, common_steps, digit)
+
+-- A byte has the value that stands in the table, and none where 255 stands there.
+pub digit_in-none : (c : ℕ) → c < 256 → get_or hex_values c 0 ≡ 255 → None ≡ digit_in 16 c
+unfolding hex_values
+digit_in-none c byte none = by (is_digit c 16) (value-small c) (sym (get_or-map-range_with_len value_or_255 0 256 c c 0 byte (omega arith)) ∙ none)
+  where
+    by : (b : Bool) → (b ≡ true → digit_value c < 16) → (if b then digit_value c else 255) ≡ 255 → None ≡ (if b then Some (digit_value c) else None)
+    by true small is = let low : digit_value c < 16 = small refl in absurd (omega arith)
+    by false small is = refl
+
+pub digit_in-some : (c : ℕ) → c < 256 → (get_or hex_values c 0 ≡ 255 → ⊥) → Some (get_or hex_values c 0) ≡ digit_in 16 c
+unfolding hex_values
+digit_in-some c byte some = by (is_digit c 16) (get_or hex_values c 0) (get_or-map-range_with_len value_or_255 0 256 c c 0 byte (omega arith)) some
+  where
+    by : (b : Bool) (v : ℕ) → v ≡ (if b then digit_value c else 255) → (v ≡ 255 → ⊥) → Some v ≡ (if b then Some (digit_value c) else None)
+    by true v is some = ap Some is
+    by false v is some = absurd (some is)

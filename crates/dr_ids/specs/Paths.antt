@@ -1,5 +1,5 @@
 -- Paths from one logical subsystem to another.
-use Rattle.std.specs.Prelude.{ℕ, Bool, not, ◌&&◌, List, [], ◌∷◌, ◌++◌, map, filter, Option, Some, None, option_map, is_some, nat_eq, if◌then◌else◌}
+use Rattle.std.specs.Prelude.{ℕ, Bool, not, ◌&&◌, List, [], ◌∷◌, ◌++◌, map, filter, Option, option_map, is_some, nat_eq, if◌then◌else◌}
 use Rattle.std.specs.List.{find}
 
 -- A path goes one way. One with a consistency group holds back writes where its target can't be reached.

@@ -18,6 +18,7 @@ use Rattle.dr_image.proofs.ReadLemmas.{reads-bad, unsourced}
 use Rattle.dr_image.proofs.WordLaws.{IsBlock}
 use Rattle.dr_image.proofs.LineLaws.{IsNew, IsOpen, Came, Begun, Closed, Joined, Filled, came}
 use Rattle.dr_logic.proofs.Choices.{not_chosen}
+use Rattle.dr_ids.specs.Sizes.{blocks_of}
 use Rattle.dr_facts.proofs.Texts.{ended-append}
 
 -- the lines of volumes and of their blocks
@@ -120,7 +121,7 @@ new-volume v n = record {
   server = n.server;
   some_tracks = n.some_tracks;
   tracks = n.tracks;
-  kept = subst (λ (bs : List Kept). All (IsKept (13 + v.tracks)) bs) (sym n.blocks) (All-nil (IsKept (13 + v.tracks)));
+  kept = subst (λ (bs : List Kept). All (IsKept (blocks_of v.tracks)) bs) (sym n.blocks) (All-nil (IsKept (blocks_of v.tracks)));
   in_order = subst InOrder (sym n.blocks) (pairs_nil (λ (x : Kept) (y : Kept). x.index < y.index));
 }
 
@@ -130,7 +131,7 @@ more-volume from p w b v block fits = record {
   server = v.server;
   some_tracks = v.some_tracks;
   tracks = v.tracks;
-  kept = All-push (IsKept (13 + w.tracks)) w.blocks b v.kept (record { within = can_fill-index from p w b fits; whole = block.whole; bytes = block.bytes; some = block.some });
+  kept = All-push (IsKept (blocks_of w.tracks)) w.blocks b v.kept (record { within = can_fill-index from p w b fits; whole = block.whole; bytes = block.bytes; some = block.some });
   in_order = order-push w.blocks b v.in_order (can_fill-behind from p w b fits);
 }
 

@@ -9,6 +9,7 @@ use Rattle.std.proofs.lemmas.List.{map-append, length-map}
 use Rattle.std.proofs.lemmas.List.Elements.{All-nil, All-cons, All-head, All-tail, All-weaker}
 use Rattle.std.proofs.lemmas.List.Splits.{slice_split_at}
 use Rattle.std.proofs.lemmas.Bool.{not-true, and_parts, and_from}
+use Rattle.dr_ids.specs.Sizes.{blocks_of}
 use Rattle.dr_ids.specs.Spelling.{hex4}
 use Rattle.dr_model.specs.LineText.{bytes_text}
 use Rattle.dr_model.specs.LineWords.{◌>>=◌}
@@ -252,10 +253,10 @@ fits_in : (i done ws : List Volume) (v : Volume) (front : List Kept) (b : Kept) 
 unfolding can_fill
 fits_in i done ws v front b back from is blocks low proper =
     let ok : IsVolume v = all_mid IsVolume done v ws (subst (λ (vs : List Volume). All IsVolume vs) is proper.each) in
-    let k : IsKept (13 + v.tracks) b = all_mid (IsKept (13 + v.tracks)) front b back (subst (λ (bs : List Kept). All (IsKept (13 + v.tracks)) bs) blocks ok.kept) in
+    let k : IsKept (blocks_of v.tracks) b = all_mid (IsKept (blocks_of v.tracks)) front b back (subst (λ (bs : List Kept). All (IsKept (blocks_of v.tracks)) bs) blocks ok.kept) in
     let w = k.within in
     and_from (nat_le from (length done)) _ (grind (arith, nat_tests, low))
-    (and_from (nat_lt b.index (13 + v.tracks)) _ (grind (arith, nat_tests, w)) (order_mid front b back (subst InOrder blocks ok.in_order)))
+    (and_from (nat_lt b.index (blocks_of v.tracks)) _ (grind (arith, nat_tests, w)) (order_mid front b back (subst InOrder blocks ok.in_order)))
 
 run-one : (i done ws : List Volume) (v : Volume) → i ≡ done ++ v ∷ ws → IsSoundVolume v → AllPairs (λ x y. agrees x y ≡ true) i → (front back : List Kept) → v.blocks ≡ front ++ back
     → (s : State) → IsFilling i (done ++ partly v front ∷ map bare ws) (length done) s
@@ -388,7 +389,7 @@ proper-sound v p = record {
   volume = p.volume;
   server = (let s = p.server in omega arith);
   tracks = (let t = p.tracks in omega arith);
-  kept = All-weaker (IsKept (13 + v.tracks)) (IsKept 65536) (λ b k. let t = p.tracks in let w = k.within in record { within = omega arith; whole = k.whole; bytes = k.bytes; some = k.some }) v.blocks p.kept;
+  kept = All-weaker (IsKept (blocks_of v.tracks)) (IsKept 65536) (λ b k. let t = p.tracks in let w = k.within in record { within = omega arith; whole = k.whole; bytes = k.bytes; some = k.some }) v.blocks p.kept;
   in_order = p.in_order;
 }
 

@@ -6,6 +6,7 @@ use Rattle.std.specs.List.{slice_get, list_all}
 use Rattle.std.specs.Option.{is_some, option_map}
 use Rattle.std.proofs.lemmas.Option.{slice_get-map}
 use Rattle.std.proofs.lemmas.Bool.{and_parts}
+use Rattle.dr_ids.specs.Sizes.{blocks_of}
 use Rattle.dr_model.specs.LineWords.{◌>>=◌}
 use Rattle.dr_model.specs.PlantImage.{Kept, Volume, Placed, State, place_of, can_fill, fill, fill_at, or_bad}
 use Rattle.dr_image.specs.declared.held.Held.{Held}
@@ -54,10 +55,10 @@ pub can_fill-place : (from p : ℕ) (w : Volume) (b : Kept) → can_fill from p 
 unfolding can_fill
 can_fill-place from p w b e = let le = (and_parts (nat_le from p) _ e).0 in grind (arith, nat_tests, le)
 
-pub can_fill-index : (from p : ℕ) (w : Volume) (b : Kept) → can_fill from p w b ≡ true → b.index < 13 + w.tracks
+pub can_fill-index : (from p : ℕ) (w : Volume) (b : Kept) → can_fill from p w b ≡ true → b.index < blocks_of w.tracks
 unfolding can_fill
-can_fill-index from p w b e = let lt = (and_parts (nat_lt b.index (13 + w.tracks)) _ (and_parts (nat_le from p) _ e).1).0 in grind (arith, nat_tests, lt)
+can_fill-index from p w b e = let lt = (and_parts (nat_lt b.index (blocks_of w.tracks)) _ (and_parts (nat_le from p) _ e).1).0 in grind (arith, nat_tests, lt)
 
 pub can_fill-behind : (from p : ℕ) (w : Volume) (b : Kept) → can_fill from p w b ≡ true → list_all (λ c. nat_lt c.index b.index) w.blocks ≡ true
 unfolding can_fill
-can_fill-behind from p w b e = (and_parts (nat_lt b.index (13 + w.tracks)) _ (and_parts (nat_le from p) _ e).1).1
+can_fill-behind from p w b e = (and_parts (nat_lt b.index (blocks_of w.tracks)) _ (and_parts (nat_le from p) _ e).1).1

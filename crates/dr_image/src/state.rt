@@ -11,7 +11,7 @@ ghost use Rattle.dr_image.specs.Lines.{placed, stage_of, state_of, Takes};
 use crate::held::{Held, ImageVolume, is_behind, push_held, push_kept};
 use crate::said::{Placed, block_said, volume_said};
 use crate::words::split_word;
-use dr_ids::{MOST_VOLUMES, VolumeId};
+use dr_ids::{FIXED_BLOCKS, MOST_VOLUMES, VolumeId};
 use std::alloc::{AllocError, Global};
 
 /// What has come: nothing, volumes, blocks, the end; or a line that can't stand.
@@ -82,7 +82,9 @@ fn can_fill(from: usize, place: usize, held: &Held, block: &Placed) -> bool
     ensures { result ≡ can_fill from place (shown held.now) (placed block.now).block }
 {
     let index = block.index;
-    from <= place && index < 13 + u32::from(held.volume.tracks) && is_behind(&held.blocks, index)
+    from <= place
+        && index < u32::from(FIXED_BLOCKS) + u32::from(held.volume.tracks)
+        && is_behind(&held.blocks, index)
 }
 
 impl State {

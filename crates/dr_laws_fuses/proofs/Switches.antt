@@ -8,7 +8,7 @@ use Rattle.std.proofs.lemmas.List.Folds.{list_any-append}
 use Rattle.dr_ids.specs.declared.refusal.Refusal.TheVariants.{JournalFull}
 use Rattle.dr_ids.specs.declared.refusal.Kind.TheVariants.{Server as OfServer}
 use Rattle.dr_logic.specs.Tables.{at}
-use Rattle.dr_logic.proofs.Tables.{at_same, at_other}
+use Rattle.dr_logic.proofs.Tables.{at-itself, at_same, at_other}
 use Rattle.dr_logic.proofs.Truth.{false_true}
 use Rattle.dr_facts.proofs.Emits.{Of, Lists, by_moves, any-lists, all-told, all-stop}
 use Rattle.dr_facts.proofs.Entries.{any_world, any_reason, AllFine, Fine, fine-append, fine-flat, fine-then, fine-one, plan-kept}
@@ -200,13 +200,6 @@ module _ (s : ℕ) where
       ap (tells_stop s) (told-since w (after_task w (record { line = line; asked = Ok (Start name); listed = listed })) u.told u.is) ∙ u.none
 
 -- ---- nor does it make a device write
-
--- a table that is changed to what it is
-at-itself : {X : Type 0} (f : ℕ → X) (s : ℕ) → at f s (f s) ≡ f
-at-itself f s = fun_ext (λ q. elim (cases_eq q s) [
-  | inl e ↦ ap (at f s (f s)) e ∙ at_same f s (f s) ∙ ap f (sym e)
-  | inr ne ↦ at_other f s (f s) q ne
-])
 
 -- a server's fuse is the one that it was given last
 fuse-twice : (w : World) (s : ℕ) (f g : Option Fuse) → with_fuse (with_fuse w s f) s g ≡ with_fuse w s g

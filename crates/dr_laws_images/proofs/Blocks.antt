@@ -7,6 +7,7 @@ use Rattle.std.proofs.lemmas.Bool.{and_parts, eqb-true, eq-eqb, false_from_ne_tr
 use Rattle.std.proofs.lemmas.Bool.Decides.{nat_tests}
 use Rattle.std.proofs.lemmas.List.Elements.{All-nil, All-cons, All-append, All-weaker}
 use Rattle.dr_logic.specs.Bytes.{zeros}
+use Rattle.dr_ids.specs.Sizes.{blocks_of, track_block}
 use Rattle.dr_model.specs.Text.{trimmed}
 use Rattle.dr_model.specs.Layout.{Blocks, Fields, fields, fields_of, staged, staged_of, chosen, slot_chosen, slot_begin, physical, is_staged}
 use Rattle.dr_model.specs.PlantImage.{Kept, block_in}
@@ -82,11 +83,11 @@ unfolding staged_of
 staged-six n x = refl
 
 -- they say the same, and each of their tracks is the same
-module _ (n : ℕ) (x y : Blocks) (same : (k : ℕ) → k < 13 + n → x k ≡ y k) where
+module _ (n : ℕ) (x y : Blocks) (same : (k : ℕ) → k < blocks_of n → x k ≡ y k) where
   pub slot-same : slot_chosen x ≡ slot_chosen y
   slot-same = ap (λ (b : List ℕ). slot_chosen (λ k. b)) (same 0 (omega arith))
 
-  begin-low : (b : Bool) (k : ℕ) → k < 6 → slot_begin b + k < 13 + n
+  begin-low : (b : Bool) (k : ℕ) → k < 6 → slot_begin b + k < blocks_of n
   begin-low true k lt = omega arith
   begin-low false k lt = omega arith
 
@@ -104,4 +105,4 @@ module _ (n : ℕ) (x y : Blocks) (same : (k : ℕ) → k < 13 + n → x k ≡ y
 
   pub track-same : (t : ℕ) → t < n → physical n x t ≡ physical n y t
   unfolding physical
-  track-same t lt = λ i. cond (is_staged (staged-same i) t) (chosen-same 5 (omega arith) i) (cond (contains (let f : Fields = fields-same i in f.blank) t) zeros (same (13 + t) (omega arith) i))
+  track-same t lt = λ i. cond (is_staged (staged-same i) t) (chosen-same 5 (omega arith) i) (cond (contains (let f : Fields = fields-same i in f.blank) t) zeros (same (track_block t) (omega arith) i))

@@ -116,18 +116,18 @@ module _ (w : World) (sound : Sound w) (vs : List Volume) (all : ListsAll w vs) 
   reads-back one few = proper-reads vs (is-image one few)
 
 -- what may be listed has few lines
-images-by : (w : World) (vs : List Volume) → IsWithin w.control → (b : Bool) → ListsIf b w vs → length (image_told vs) ≤ 17282
+images-by : (w : World) (vs : List Volume) → IsWithin w.control → (b : Bool) → ListsIf b w vs → length (image_told vs) ≤ 17794
 images-by w vs within true all =
     let e : length (map (λ (v : Volume). v.volume) vs) ≡ length w.control.volumes = ap length all.volumes in
     let l : length (map (λ (v : Volume). v.volume) vs) ≡ length vs = length-map vs (λ v. v.volume) in
     let few = within.volumes in
     image-few vs (omega arith) (All-weaker (IsListed w) IsVolume (λ v h. h.proper) vs all.each)
-images-by w vs within false none = subst (λ us. length (image_told us) ≤ 17282) (sym none) (omega arith)
+images-by w vs within false none = subst (λ us. length (image_told us) ≤ 17794) (sym none) (omega arith)
 
-pub images-short : (w : World) (t : Task) → IsWithin w.control → Lists w t → length (image_told t.listed) ≤ 17282
+pub images-short : (w : World) (t : Task) → IsWithin w.control → Lists w t → length (image_told t.listed) ≤ 17794
 images-short w t within lists = by (own_course t.asked) lists
   where
-    by : (o : Option OwnCourse) → ListsBy w t.listed o → length (image_told t.listed) ≤ 17282
+    by : (o : Option OwnCourse) → ListsBy w t.listed o → length (image_told t.listed) ≤ 17794
     by (Some Devices) all = images-by w t.listed within (has_room_for image_events w.events) all
     by None none = images-by w t.listed within false none
     by (Some (Groups s n)) none = images-by w t.listed within false none

@@ -14,6 +14,7 @@ use Rattle.dr_model.specs.Listed.{ListsAll, listing, listing_of}
 use Rattle.dr_model.specs.Offline.{volume_in, record_of, track_of, size_of, volumes_in, records_in, contents_in}
 use Rattle.dr_facts.proofs.Lists.{Image, any-some, some-any, is-met, found, not-found, from-map, to-map}
 use Rattle.dr_logic.proofs.Truth.{false_true}
+use Rattle.dr_ids.specs.Sizes.{blocks_of}
 use Rattle.dr_laws_images.specs.GivesBack.{GivesBack, IsWhole}
 use Rattle.dr_laws_images.proofs.Blocks.{kept-reads, fields-same, track-same}
 use Rattle.dr_laws_images.proofs.Proper.{of-all, is-listed, its-record}
@@ -150,8 +151,8 @@ module _ (k : Control) (device : ℕ → Blocks) (whole : IsWhole k device) (sou
   its-listing = listed-volume k.volumes
 
   -- its blocks are the first ones of the device
-  same-blocks : (v : ℕ) → In v k.volumes → (j : ℕ) → j < 13 + (k.volume v).tracks → device_blocks (listing_of k device v) j ≡ device (device_of k v) j
-  same-blocks v h = kept-reads (13 + (k.volume v).tracks) (device (device_of k v)) (λ j lt. whole v j h lt)
+  same-blocks : (v : ℕ) → In v k.volumes → (j : ℕ) → j < blocks_of (k.volume v).tracks → device_blocks (listing_of k device v) j ≡ device (device_of k v) j
+  same-blocks v h = kept-reads (blocks_of (k.volume v).tracks) (device (device_of k v)) (λ j lt. whole v j h lt)
 
   abbrev here : ℕ → Fields
   here v = fields (k.volume v).tracks (device (device_of k v))

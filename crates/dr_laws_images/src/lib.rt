@@ -24,10 +24,10 @@ ghost use Rattle.dr_laws_images.specs.Unbuilt.{NoneUnbuilt};
 ghost use Rattle.dr_laws_images.specs.GivesBack.{GivesBack, IsWhole};
 ghost use Rattle.dr_laws_images.specs.Imaged.{IsImaged, AllReadBack, LastGivesBack};
 
-/// In a world within its limits, an image that lists as it may tells at most 17,282 events: of 64 volumes a line and at most 269 blocks each,
+/// In a world within its limits, an image that lists as it may tells at most 17,794 events: of 64 volumes a line and at most 277 blocks each,
 /// between a first line and a last.
 pub fn images_are_short()
-    ensures { (w : World) (t : Task) → IsWithin w.control → Lists w t → length (image_told t.listed) ≤ 17282 }
+    ensures { (w : World) (t : Task) → IsWithin w.control → Lists w t → length (image_told t.listed) ≤ 17794 }
 {}
 
 /// In every run no volume is defined twice, and the volumes of a logical subsystem are on one server.

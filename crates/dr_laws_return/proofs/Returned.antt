@@ -84,7 +84,7 @@ module _ (w : World) (line : ℕ) (a : Addition) (ds : List Entry) where
 
 -- ---- the pair, step by step
 
-bare-none : (s : Tracks) → ((t : ℕ) → contains s t ≡ false) → is_bare s ≡ true
+pub bare-none : (s : Tracks) → ((t : ℕ) → contains s t ≡ false) → is_bare s ≡ true
 bare-none s none = let few : len s ≤ 0 = len-low 0 s (λ t h. false_true (none t) h) in let e : len s ≡ 0 = omega (arith, few) in eq-eqb (len s) 0 e
 
 metro-of : (k p : Part) → is_kind k p ≡ true → is_metro k ≡ true → is_metro p ≡ true

@@ -2,3 +2,4 @@ pub mod Sites
 pub mod Compared
 pub mod Returned
 pub mod Drains
+pub mod DrainsExample

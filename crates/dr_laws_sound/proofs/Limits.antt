@@ -103,7 +103,7 @@ fits-says w line p a is lt =
 all-proper : (w : World) (vs : List ListedVolume) → All (IsListed w) vs → All IsVolume vs
 all-proper w vs each k d low = (each k d low).proper
 
-listed-few : (w : World) (vs : List ListedVolume) → length w.control.volumes ≤ most_volumes → ListsAll w vs → length (image_told vs) ≤ 17282
+listed-few : (w : World) (vs : List ListedVolume) → length w.control.volumes ≤ most_volumes → ListsAll w vs → length (image_told vs) ≤ 17794
 listed-few w vs few lists =
     let e : length vs ≡ length w.control.volumes = sym (length-map vs (λ (v : ListedVolume). v.volume)) ∙ ap length lists.volumes in
     image-few vs (omega arith) (all-proper w vs lists.each)
@@ -112,7 +112,7 @@ image-fits : (w : World) (line : ℕ) (vs : List ListedVolume) → IsWithin w.co
     → length (after_plan w line (cond room (image_plan vs) (refuses JournalFull))).events ≤ most_events
 image-fits w line vs h lt false is lists = fits-says w line _ (Refused JournalFull) refl lt
 image-fits w line vs h lt true is lists =
-    let few : length (image_told vs) ≤ 17282 = listed-few w vs h.volumes lists in
+    let few : length (image_told vs) ≤ 17794 = listed-few w vs h.volumes lists in
     let room : length w.events + image_events ≤ most_events = grind (arith, nat_tests, is) in
     let told : length (w.events ++ image_told vs) ≡ length w.events + length (image_told vs) = length-append w.events (image_told vs) in
     let said : length ((w.events ++ image_told vs) ++ answer line (Done Alone) ∷ []) ≡ length (w.events ++ image_told vs) + 1 = length-append (w.events ++ image_told vs) (answer line (Done Alone) ∷ []) in

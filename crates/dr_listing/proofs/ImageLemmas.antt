@@ -9,7 +9,7 @@ use Rattle.std.proofs.lemmas.List.Folds.{flat_map-map}
 use Rattle.std.proofs.lemmas.List.Elements.{All-map}
 use Rattle.std.proofs.lemmas.Option.{slice_get-map, same_Some}
 use Rattle.dr_bits.specs.Membership.{lt_true}
-use Rattle.dr_ids.specs.Sizes.{blocks_of, most_tracks}
+use Rattle.dr_ids.specs.Sizes.{blocks_of, most_tracks, record_blocks}
 use Rattle.dr_ids.specs.declared.names.ServerId.{ServerId}
 use Rattle.dr_ids.specs.declared.names.VolumeId.{VolumeId}
 use Rattle.dr_plant.specs.State.{PlantState, HasBlock}
@@ -127,9 +127,9 @@ module _ (s : PlantState) (t : ConfigTable) (r : Rest) (sound : IsSoundConfig t)
       let whole = subst (λ (b : Blocks). (k : ℕ) → k < blocks_of (volume_seen s t v).tracks → IsBlock (b k)) (ap s.block (device-placed t v d place)) readable.blocks in
       let wide = subst (λ (b : Blocks). (k : ℕ) → k < blocks_of (volume_seen s t v).tracks → IsBlock (b k)) (sym blocks) whole in
       let n : ℕ = blocks_of (volume_seen s t v).tracks in
-      let e13 : 13 ≤ n = omega arith in
+      let fits : record_blocks ≤ n = omega arith in
       let same : Agree n (device_blocks x) (s.block d) = (λ k low. same-block n k (s.block (device_of (control_seen s t r) v)) wide low ∙ ap (λ (b : Blocks). b k) blocks) in
-      let head : Agree 13 (device_blocks x) (s.block d) = (λ k low. same k (omega (arith, low))) in
+      let head : Agree record_blocks (device_blocks x) (s.block d) = (λ k low. same k (omega (arith, low))) in
       let low = stands.device d e is in
       let size = sound.volume d e is in
       record {

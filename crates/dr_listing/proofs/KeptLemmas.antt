@@ -8,6 +8,7 @@ use Rattle.std.proofs.lemmas.List.Quantifiers.{all_pairs_push}
 use Rattle.std.proofs.lemmas.List.{append-nil, map-append}
 use Rattle.dr_logic.specs.Bytes.{zeros}
 use Rattle.std.proofs.lemmas.Bool.Decides.{eqb_tells}
+use Rattle.dr_ids.specs.Sizes.{blocks_of, record_blocks, track_block}
 use Rattle.dr_facts.proofs.Tables.{IsOrNot}
 use Rattle.dr_model.specs.declared.event.Event.TheVariants.{ImageBlock}
 use Rattle.dr_model.specs.Layout as layout
@@ -143,10 +144,10 @@ abbrev pub Agree : ℕ → Blocks → Blocks → Type 0
 Agree n x y = (k : ℕ) → k < n → x k ≡ y k
 
 -- the slot and its blocks
-pub slot-agrees : (x y : Blocks) → Agree 13 x y → slot_chosen x ≡ slot_chosen y
+pub slot-agrees : (x y : Blocks) → Agree record_blocks x y → slot_chosen x ≡ slot_chosen y
 slot-agrees x y same = ap (λ bytes. layout.bit (layout.byte bytes 0) 0) (same 0 (omega arith))
 
-pub chosen-agrees : (x y : Blocks) (k : ℕ) → Agree 13 x y → k < 6 → chosen x k ≡ chosen y k
+pub chosen-agrees : (x y : Blocks) (k : ℕ) → Agree record_blocks x y → k < 6 → chosen x k ≡ chosen y k
 chosen-agrees x y k same low = ap (λ s. x (slot_begin s + k)) (slot-agrees x y same) ∙ by (slot_chosen y)
   where
     by : (s : Bool) → x (slot_begin s + k) ≡ y (slot_begin s + k)
@@ -165,7 +166,7 @@ fields-five : (n : ℕ) (x : Blocks) → layout.fields_of n x ≡ layout.fields_
 unfolding layout.fields_of five
 fields-five n x = refl
 
-pub fields-agree : (n : ℕ) (x y : Blocks) → Agree 13 x y → fields n x ≡ fields n y
+pub fields-agree : (n : ℕ) (x y : Blocks) → Agree record_blocks x y → fields n x ≡ fields n y
 fields-agree n x y same =
     let e : (k : ℕ) → k < 6 → chosen x k ≡ chosen y k = (λ k low. chosen-agrees x y k same low) in
     fields-five n (chosen x)
@@ -176,14 +177,14 @@ staged-five : (n : ℕ) (x : Blocks) → layout.staged_of n x ≡ layout.staged_
 unfolding layout.staged_of
 staged-five n x = refl
 
-pub staged-agrees : (n : ℕ) (x y : Blocks) → Agree 13 x y → staged n x ≡ staged n y
+pub staged-agrees : (n : ℕ) (x y : Blocks) → Agree record_blocks x y → staged n x ≡ staged n y
 staged-agrees n x y same = staged-five n (chosen x) ∙ ap (λ b. layout.staged_of n (λ k. b)) (chosen-agrees x y 0 same (omega arith)) ∙ sym (staged-five n (chosen y))
 
 -- and what a track contains
-pub physical-agrees : (n t : ℕ) (x y : Blocks) → Agree (13 + n) x y → t < n → physical n x t ≡ physical n y t
+pub physical-agrees : (n t : ℕ) (x y : Blocks) → Agree (blocks_of n) x y → t < n → physical n x t ≡ physical n y t
 unfolding physical
 physical-agrees n t x y same low =
-    let head : Agree 13 x y = (λ k l. same k (omega (arith, l))) in
-    let own : x (13 + t) ≡ y (13 + t) = same (13 + t) (omega (arith, low)) in
+    let head : Agree record_blocks x y = (λ k l. same k (omega (arith, l))) in
+    let own : x (track_block t) ≡ y (track_block t) = same (track_block t) (omega (arith, low)) in
     let kept : chosen x 5 ≡ chosen y 5 = chosen-agrees x y 5 head (omega arith) in
     (λ i. if is_staged (staged-agrees n x y head i) t then kept i else if contains (fields-agree n x y head i).blank t then zeros else own i)

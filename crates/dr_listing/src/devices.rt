@@ -18,8 +18,8 @@ use dr_ids::{VolumeId, blocks_of};
 use dr_model::{Event, Journal};
 use dr_plant::{DeviceId, Plant};
 
-/// The most lines that an image has: the first and the last, and for each of 64 volumes one, with one for each of 269 blocks.
-pub const IMAGE_LINES: usize = 2 + 64 * (1 + 269);
+/// The most lines that an image has: the first and the last, and for each of 64 volumes one, with one for each of 277 blocks.
+pub const IMAGE_LINES: usize = 2 + 64 * (1 + 277);
 
 /// The line of a volume.
 fn volume_line(config: &Config, v: VolumeId) -> Event

@@ -1,5 +1,5 @@
 -- A choice between something and nothing.
-use Rattle.std.proofs.Common.{ℕ, ◌≡◌, refl, Bool, true, false, cond, Some, None, ap}
+use Rattle.std.proofs.Common.{◌≡◌, refl, Bool, true, false, cond, Some, None, ap}
 
 pub not_chosen : {A : Type 0} (b : Bool) (n : A) → cond b (Some n) None ≡ None → b ≡ false
 not_chosen true n e = cc

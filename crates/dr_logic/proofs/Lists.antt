@@ -1,8 +1,11 @@
 -- Facts on lists that the library lacks.
-use Rattle.std.proofs.Common.{ℕ, ◌≡◌, ◌-◌, List, take, drop, length, arith, [], ◌∷◌, refl, ap, ◌∙◌, Bool, false, cond, true, suc, ◌≤◌, ◌+◌, sym, Some, slice_get, zero, filter, not}
+use Rattle.std.proofs.Common.{ℕ, ◌≡◌, ◌-◌, List, take, drop, length, arith, [], ◌∷◌, refl, ap, ◌∙◌, Bool, false, cond, true, suc, ◌≤◌, ◌+◌, sym, ◌<◌, Some, None, slice_get, slice_index, zero, filter, not, nat_lt}
 use Rattle.std.proofs.lemmas.Grind.{common_steps}
 use Rattle.std.proofs.lemmas.List.{take_all}
-use Rattle.std.specs.List.{position_or_len, slice_split, onto_first, range_with_len}
+use Rattle.std.proofs.lemmas.List.Sums.{position_or_len_is}
+use Rattle.std.proofs.lemmas.Bool.Decides.{nat_tests}
+use Rattle.std.proofs.lemmas.Bool.{false_from_ne_true}
+use Rattle.std.specs.List.{position, position_or_len, slice_split, onto_first, range_with_len}
 use Rattle.std.specs.Str.{bytes_eq}
 use Rattle.std.proofs.lemmas.Slice.Eq.{bytes_eq-Decides}
 use Rattle.std.proofs.lemmas.List.Splits.{slice_split-cons_no}
@@ -54,3 +57,16 @@ filter-shorter f (x ∷ xs) = let le : length (cond (f x) (x ∷ filter f xs) (f
     by : (b : Bool) → length (filter f xs) ≤ length xs → length (cond b (x ∷ filter f xs) (filter f xs)) ≤ length xs + 1
     by true le = omega arith
     by false le = omega arith
+
+-- where a test first passes is its position, and it has none where no element passes
+pub position-first : (p : ℕ → Bool) (xs : List ℕ) (k : ℕ) → k < length xs → ((j : ℕ) → j < k → p (slice_index xs j) ≡ true → ⊥) → p (slice_index xs k) ≡ true → Some k ≡ position p xs
+position-first p xs k within before passes =
+    let at : position_or_len p xs ≡ k = position_or_len_is p xs k 0 (omega arith) (λ j lt. false_from_ne_true _ (before j lt)) (λ lt. passes) in
+    let there : true ≡ nat_lt (position_or_len p xs) (length xs) = grind (arith, nat_tests, at, within) in
+    ap Some (sym at) ∙ ap (λ b. cond b (Some (position_or_len p xs)) None) there
+
+pub position-none : (p : ℕ → Bool) (xs : List ℕ) → ((j : ℕ) → j < length xs → p (slice_index xs j) ≡ true → ⊥) → None ≡ position p xs
+position-none p xs none =
+    let all : position_or_len p xs ≡ length xs = position_or_len_is p xs (length xs) 0 (omega arith) (λ j lt. false_from_ne_true _ (none j lt)) (λ lt. absurd (omega arith)) in
+    let past : false ≡ nat_lt (position_or_len p xs) (length xs) = grind (arith, nat_tests, all) in
+    ap (λ b. cond b (Some (position_or_len p xs)) None) past

@@ -1,5 +1,5 @@
 -- Facts on truth values that the library lacks.
-use Rattle.std.proofs.Common.{◌≡◌, Bool, true, false, ◌||◌, refl, ◌&&◌, sym, ◌∙◌}
+use Rattle.std.proofs.Common.{◌≡◌, Bool, true, false, ◌||◌, refl, ◌&&◌}
 
 -- no truth value is both
 pub false_true : {P : Type 0} {b : Bool} → b ≡ false → b ≡ true → P

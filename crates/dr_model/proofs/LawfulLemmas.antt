@@ -1,14 +1,30 @@
 -- Lawful fields stay lawful.
-use Rattle.std.proofs.Common.{ℕ, ◌≡◌, true, false, refl, rules}
+use Rattle.std.proofs.Common.{ℕ, ◌≡◌, true, false, refl, rules, arith, Option, None, Some, inl, inr}
+use Rattle.std.proofs.lemmas.List.{get_or-replicate, get_or_past}
+use Rattle.std.proofs.lemmas.Bool.{cases_order}
 use Rattle.std.proofs.lemmas.Bool.Decides.{nat_tests}
 use Rattle.std.specs.Cmp.{unsigned_tied}
 use Rattle.std.specs.FinSet.{contains, empty, remove, members}
 use Rattle.std.specs.Ordering.{nat_cmp}
-use Rattle.dr_model.specs.Layout.{Tracks, Fields, no_fields}
-use Rattle.dr_model.specs.Lawful.{Low, HasSets, IsLawful}
+use Rattle.dr_model.specs.Layout.{Tracks, Fields, no_fields, free_entries, entry_at}
+use Rattle.dr_model.specs.Lawful.{Low, HasSets, HasEntries, IsLawful}
 
 pub low-empty : (n : ℕ) → Low n empty
 low-empty n t h = absurd (let e : contains {R = nat_cmp} empty t ≡ false = grind (members, rules) in cc)
+
+-- no entry is used
+none_used : (k : ℕ) → entry_at free_entries k ≡ None
+none_used k = elim (cases_order k 8) [
+  | inl e ↦ get_or_past free_entries k None (omega (arith, e))
+  | inr o ↦ elim o [ inl low ↦ get_or-replicate 8 k None None low | inr high ↦ get_or_past free_entries k None (omega (arith, high)) ]
+]
+
+pub has-free : (n : ℕ) → HasEntries n free_entries
+has-free n = record {
+  eight = refl;
+  low = λ k t h. absurd (let none = none_used k in cc);
+  apart = λ j k t h g. absurd (let none = none_used j in cc);
+}
 
 -- a volume that has nothing
 pub lawful-no_fields : (n : ℕ) → IsLawful n no_fields
@@ -25,6 +41,7 @@ lawful-no_fields n = record {
   primary = λ absent. (refl, refl, refl, refl, refl, refl, refl);
   secondary = λ absent. (refl, refl, refl);
   relation = λ absent. (refl, refl, refl, refl, refl, refl, refl, refl, refl, refl, refl, refl, refl, refl, refl);
+  entries = has-free n;
 }
 
 pub removed : (s : Tracks) (t q : ℕ) → contains (remove s t) q ≡ true → contains s q ≡ true
@@ -45,4 +62,5 @@ lawful-filled n f t law = record {
   primary = law.primary;
   secondary = law.secondary;
   relation = law.relation;
+  entries = law.entries;
 }

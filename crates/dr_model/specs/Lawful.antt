@@ -1,7 +1,7 @@
--- The fields that a volume may have, fact by fact: tracks that it has, and nothing of what is absent.
-use Rattle.std.specs.Prelude.{◌≡◌, ℕ, ◌<◌, true, false}
+-- The fields that a volume may have, fact by fact: tracks that it has, in entries each but once, and nothing of what is absent.
+use Rattle.std.specs.Prelude.{◌≡◌, ℕ, ◌<◌, true, false, Some, length}
 use Rattle.std.specs.FinSet.{contains, empty}
-use Rattle.dr_model.specs.Layout.{Tracks, Fields, is_part}
+use Rattle.dr_model.specs.Layout.{Tracks, Entries, Fields, entry_at, is_part}
 use Rattle.dr_model.specs.declared.state.PairState.TheVariants.{CopyPending}
 
 -- each track of a set is below n
@@ -21,6 +21,12 @@ pub record SetsLow (n : ℕ) (out_of_sync change_recording own previous_own sour
 -- each set of fields has only tracks below n
 abbrev pub HasSets : ℕ → Fields → Type 0
 HasSets n f = SetsLow n f.out_of_sync f.change_recording f.own f.previous_own f.source_changes f.target_changes f.blank
+
+-- The entries of a volume with n tracks: eight, and each that is used names another of its tracks.
+pub record HasEntries (n : ℕ) (es : Entries) : Type 0 where
+  pub eight : length es ≡ 8
+  pub low : (k t : ℕ) → entry_at es k ≡ Some t → t < n
+  pub apart : (j k t : ℕ) → entry_at es j ≡ Some t → entry_at es k ≡ Some t → j ≡ k
 
 -- nothing of a primary but the attempt
 abbrev pub NoPrimary : Fields → Type 0
@@ -46,3 +52,4 @@ pub record IsLawful (n : ℕ) (f : Fields) : Type 0 where
   pub primary : is_part f.primary ≡ false → NoPrimary f
   pub secondary : is_part f.secondary ≡ false → NoSecondary f
   pub relation : f.related ≡ false → NoRelation f
+  pub entries : HasEntries n f.entries

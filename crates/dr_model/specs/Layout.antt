@@ -1,11 +1,13 @@
--- How a volume lies on its device: the control record in two slots behind a gate, then the tracks.
--- Reading is total: every content of the blocks gives fields.
-use Rattle.std.specs.Prelude.{ℕ, ◌+◌, ◌/◌, ◌%◌, ◌^◌, Bool, true, false, ◌&&◌, List, filter, nat_eq, nat_lt, Option, Some, None, if◌then◌else◌, drop, take}
-use Rattle.std.specs.List.{slice_index_or, range_with_len}
+-- How a volume lies on its device: the control record in two slots behind a gate, then the tracks, then the side blocks.
+-- Reading is total: every content of the blocks gives fields. What a slot says is one thing, what that means for a volume of so
+-- many tracks another.
+use Rattle.std.specs.Prelude.{ℕ, ◌+◌, ◌*◌, ◌/◌, ◌%◌, ◌^◌, Bool, true, false, ◌&&◌, not, List, filter, map, nat_eq, nat_lt, Option, Some, None, if◌then◌else◌, drop, take, replicate}
+use Rattle.std.specs.List.{slice_index_or, range_with_len, list_any}
 use Rattle.std.specs.Ordering.{nat_cmp}
 use Rattle.std.specs.FinSet.{FinSet, contains, empty, from_list}
 use Rattle.dr_logic.specs.Bytes.{zeros}
 use Rattle.dr_ids.specs.BigEndian.{be16_at, be32_at}
+use Rattle.dr_ids.specs.Sizes.{track_block}
 use Rattle.dr_model.specs.declared.state.Part.{Part}
 use Rattle.dr_model.specs.declared.state.Part.TheVariants.{Absent, Metro, Global}
 use Rattle.dr_model.specs.declared.state.PairState.{PairState}
@@ -15,8 +17,13 @@ use Rattle.dr_model.specs.declared.state.PairState.TheVariants.{CopyPending, Ful
 abbrev pub Tracks : Type 0
 Tracks = FinSet nat_cmp
 
+-- the entries of a volume's side blocks, lowest first: each is free, or names the track whose earlier bytes its side block has
+abbrev pub Entries : Type 0
+Entries = List (Option ℕ)
+
 -- the fields of a volume's control record, as sets and numbers: its part as a primary, its part as a secondary, its FlashCopy
--- relationship as a target, whether a flash hold lets its host writes wait, which stands in no part, and the tracks that are blank
+-- relationship as a target, whether a flash hold lets its host writes wait, which stands in no part, the tracks that are blank, and
+-- its entries
 pub record Fields : Type 0 where
   pub primary : Part
   pub primary_state : PairState
@@ -50,6 +57,7 @@ pub record Fields : Type 0 where
   pub floor : ℕ
   pub flash_hold : Bool
   pub blank : Tracks
+  pub entries : Entries
 
 -- a device's blocks by number
 abbrev pub Blocks : Type 0
@@ -89,22 +97,67 @@ stands_in bytes t = bit (byte bytes (t / 8)) (t % 8)
 unfoldable pub set_of : ℕ → List ℕ → Tracks
 set_of tracks bytes = from_list (filter (stands_in bytes) (range_with_len 0 tracks))
 
--- a block has two sets: the first one in its first 32 bytes
-abbrev pub first_set : ℕ → List ℕ → Tracks
-first_set tracks block = set_of tracks (take 32 block)
+-- track t is the one that is named
+abbrev pub is_track : Option ℕ → ℕ → Bool
+is_track None t = false
+is_track (Some s) t = nat_eq t s
 
--- and the second one behind
-abbrev pub second_set : ℕ → List ℕ → Tracks
-second_set tracks block = set_of tracks (drop 32 block)
+-- an entry is free if the volume hasn't its track, or a lower entry names it too
+abbrev pub entry_kept : ℕ → Entries → Option ℕ → Option ℕ
+entry_kept tracks lower None = None
+entry_kept tracks lower (Some t) = if nat_lt t tracks && not (list_any (λ e. is_track e t) lower) then Some t else None
+
+-- entry k, free past the end
+abbrev pub entry_at : Entries → ℕ → Option ℕ
+entry_at es k = slice_index_or es k None
+
+-- what entries mean for a volume with that many tracks
+unfoldable pub entries_of : ℕ → Entries → Entries
+entries_of tracks said = map (λ k. entry_kept tracks (take k said) (entry_at said k)) (range_with_len 0 8)
+
+-- no entry is used
+abbrev pub free_entries : Entries
+free_entries = replicate 8 None
 
 -- what is absent reads as zero
 abbrev pub only_if : {X : Type 0} → Bool → X → X → X
 only_if there x zero = if there then x else zero
 
--- the fields that the six blocks of a slot give
-unfoldable pub fields_of : ℕ → Blocks → Fields
-fields_of tracks slot =
-    let head : List ℕ = slot 0 in
+-- entry k that a block says: if bit k of byte 32 is 1, it names the track of two bytes from byte 34 + 2 k on
+abbrev pub entry_in : List ℕ → ℕ → Option ℕ
+entry_in block k = if bit (byte block 32) k then Some (be16_at block (34 + 2 * k)) else None
+
+-- what a slot says: its head, the bytes of seven sets, and eight entries
+pub record Said : Type 0 where
+  pub head : List ℕ
+  pub out_of_sync : List ℕ
+  pub change_recording : List ℕ
+  pub own : List ℕ
+  pub previous_own : List ℕ
+  pub source_changes : List ℕ
+  pub target_changes : List ℕ
+  pub blank : List ℕ
+  pub entries : Entries
+
+-- six blocks say it so: after the head two sets a block, each in 32 bytes; after the blank tracks the entries; the last block has the
+-- staged bytes
+abbrev pub said_by : Blocks → Said
+said_by slot = record {
+  head = slot 0;
+  out_of_sync = take 32 (slot 1);
+  change_recording = drop 32 (slot 1);
+  own = take 32 (slot 2);
+  previous_own = drop 32 (slot 2);
+  source_changes = take 32 (slot 3);
+  target_changes = drop 32 (slot 3);
+  blank = take 32 (slot 4);
+  entries = map (entry_in (slot 4)) (range_with_len 0 8);
+}
+
+-- what that means for a volume with that many tracks
+abbrev pub fields_said : ℕ → Said → Fields
+fields_said tracks said =
+    let head : List ℕ = said.head in
     let first : Part = part_of (byte head 0) in
     let second : Part = part_of (byte head 3) in
     let source : Bool = bit (byte head 5) 0 in
@@ -116,8 +169,8 @@ fields_of tracks slot =
       long_busy = is_part first && bit (byte head 2) 1;
       recording = is_part first && bit (byte head 2) 2;
       attempt = be32_at head 16;
-      out_of_sync = only_if (is_part first) (first_set tracks (slot 1)) empty;
-      change_recording = only_if (is_part first) (second_set tracks (slot 1)) empty;
+      out_of_sync = only_if (is_part first) (set_of tracks said.out_of_sync) empty;
+      change_recording = only_if (is_part first) (set_of tracks said.change_recording) empty;
       secondary = second;
       secondary_state = only_if (is_part second) (state_of (byte head 4)) CopyPending;
       secondary_partner = only_if (is_part second) (be16_at head 10) 0;
@@ -128,10 +181,10 @@ fields_of tracks slot =
       persistent = source && bit (byte head 5) 2;
       recorded = source && bit (byte head 5) 3;
       inhibited = source && bit (byte head 5) 4;
-      own = only_if source (first_set tracks (slot 2)) empty;
-      previous_own = only_if source (second_set tracks (slot 2)) empty;
-      source_changes = only_if source (first_set tracks (slot 3)) empty;
-      target_changes = only_if source (second_set tracks (slot 3)) empty;
+      own = only_if source (set_of tracks said.own) empty;
+      previous_own = only_if source (set_of tracks said.previous_own) empty;
+      source_changes = only_if source (set_of tracks said.source_changes) empty;
+      target_changes = only_if source (set_of tracks said.target_changes) empty;
       sequence = only_if source (be32_at head 24) 0;
       previous_sequence = only_if source (be32_at head 28) 0;
       revertible = source && bit (byte head 5) 5;
@@ -140,8 +193,13 @@ fields_of tracks slot =
       session = only_if source (byte head 6) 0;
       floor = be32_at head 32;
       flash_hold = bit (byte head 2) 3;
-      blank = first_set tracks (slot 4);
+      blank = set_of tracks said.blank;
+      entries = entries_of tracks said.entries;
     }
+
+-- the fields that the six blocks of a slot give
+unfoldable pub fields_of : ℕ → Blocks → Fields
+fields_of tracks slot = fields_said tracks (said_by slot)
 
 -- the track that a slot stages, where it says so and the volume has that track
 unfoldable pub staged_of : ℕ → Blocks → Option ℕ
@@ -170,16 +228,15 @@ staged tracks blocks = staged_of tracks (chosen blocks)
 
 -- track t is the one that is staged
 abbrev pub is_staged : Option ℕ → ℕ → Bool
-is_staged None t = false
-is_staged (Some s) t = nat_eq t s
+is_staged staged t = is_track staged t
 
 -- a track: the staged bytes where it is staged, zeros where it is blank, else its own block
 unfoldable pub physical : ℕ → Blocks → ℕ → List ℕ
 physical tracks blocks t =
     if is_staged (staged tracks blocks) t then chosen blocks 5
-    else if contains (fields tracks blocks).blank t then zeros else blocks (13 + t)
+    else if contains (fields tracks blocks).blank t then zeros else blocks (track_block t)
 
--- the fields of a volume that has no pair, no relationship and no blank track, as a device of zeros gives them
+-- the fields of a volume that has no pair, no relationship, no blank track and no used entry, as a device of zeros gives them
 abbrev pub no_fields : Fields
 no_fields = record {
   primary = Absent;
@@ -214,4 +271,5 @@ no_fields = record {
   floor = 0;
   flash_hold = false;
   blank = empty;
+  entries = free_entries;
 }

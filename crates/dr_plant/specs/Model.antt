@@ -1,8 +1,7 @@
 -- The state of a plant in memory.
-use Rattle.std.specs.Prelude.{ℕ, ◌+◌, List, [], ◌∷◌, Option, Some, None, slice_get, length, false}
+use Rattle.std.specs.Prelude.{ℕ, List, Option, Some, None, slice_get, length, false}
 use Rattle.std.specs.List.{slice_index_or}
 use Rattle.dr_logic.specs.Bytes.{zeros}
-use Rattle.dr_logic.specs.Tables.{at2}
 use Rattle.dr_plant.specs.State.{PlantState}
 use Rattle.dr_plant.specs.declared.device.Device.{Device}
 use Rattle.dr_plant.specs.declared.model.ModelPlant.{ModelPlant}
@@ -33,11 +32,6 @@ sizes ds d = size_of (slice_get ds d)
 -- The blocks of each device.
 abbrev pub contents : List Device → ℕ → ℕ → List ℕ
 contents ds d b = device_block (slice_get ds d) b
-
--- These blocks from block b of a device on, and all others as they were.
-unfoldable pub with_blocks : (ℕ → ℕ → List ℕ) → ℕ → ℕ → List (List ℕ) → ℕ → ℕ → List ℕ
-with_blocks block dev b [] = block
-with_blocks block dev b (bytes ∷ more) = with_blocks (at2 block dev b bytes) dev (b + 1) more
 
 -- The value of each server, and none past the last.
 abbrev pub each : {X : Type 0} → X → List X → ℕ → X

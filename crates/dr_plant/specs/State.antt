@@ -1,5 +1,5 @@
 -- What a plant is at one moment, and what each call makes of it.
-use Rattle.std.specs.Prelude.{◌≡◌, ℕ, ◌<◌, ◌≤◌, ◌+◌, ◌-◌, ◌^◌, min, Bool, true, false, ◌&&◌, ◌==◌, if◌then◌else◌, List, [], ◌∷◌, Option, Some, None}
+use Rattle.std.specs.Prelude.{◌≡◌, ℕ, ◌<◌, ◌≤◌, ◌+◌, ◌-◌, ◌^◌, min, Bool, true, false, ◌&&◌, ◌==◌, if◌then◌else◌, List, Option, Some, None}
 use Rattle.dr_logic.specs.Counts.{risen}
 use Rattle.dr_logic.specs.Bytes.{zeros}
 use Rattle.dr_logic.specs.Tables.{at, at2}
@@ -100,13 +100,6 @@ torn s dev b = record s {
 unfoldable pub after_write : PlantState → ℕ → ℕ → List ℕ → PlantState
 after_write s dev b bytes =
     if s.on (s.owner dev) then (if passes_write (s.write_fuse (s.owner dev)) then written s dev b bytes else torn s dev b) else faulted s
-
--- Writes of blocks, from block b on, until one is stopped: what they leave, and whether one was stopped.
-unfoldable pub after_blocks : PlantState → ℕ → ℕ → List (List ℕ) → PlantState × Bool
-after_blocks s dev b [] = (s, false)
-after_blocks s dev b (bytes ∷ more) =
-    if can_write s dev then after_blocks (after_write s dev b bytes) dev (b + 1) more
-    else (after_write s dev b bytes, true)
 
 -- A read: where it can't be done the owner is off, and a fault is counted.
 unfoldable pub after_read : PlantState → ℕ → PlantState

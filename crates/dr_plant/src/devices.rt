@@ -3,7 +3,8 @@
 ghost use Rattle.std.specs.Prelude.{◌≡◌, ◌<◌, ◌≤◌, ◌+◌, ◌++◌, take, drop, vec_len, OnOk, OnErr, IfOk, length, replicate};
 ghost use Rattle.dr_logic.specs.Bytes.{zeros};
 ghost use Rattle.dr_logic.specs.Tables.{at, at2};
-ghost use Rattle.dr_plant.specs.Model.{owners, sizes, contents, with_blocks};
+ghost use Rattle.dr_plant.specs.Model.{owners, sizes, contents};
+ghost use Rattle.dr_plant.specs.Writes.{all_put, list_writes};
 
 use crate::device::Device;
 use crate::plant::Block;
@@ -47,7 +48,7 @@ pub fn put_blocks(devices: &mut Vec<Device>, dev: usize, first: usize, from: &[B
     ensures count { length devices.new.items ≡ length devices.old.items }
     ensures owners { owners devices.new.items ≡ owners devices.old.items }
     ensures sizes { sizes devices.new.items ≡ sizes devices.old.items }
-    ensures contents { contents devices.new.items ≡ with_blocks (contents devices.old.items) dev first from.now }
+    ensures contents { contents devices.new.items ≡ all_put (contents devices.old.items) dev (list_writes first from.now) }
 {
     let device = &mut devices[dev];
     paste(&mut device.blocks, first, from);

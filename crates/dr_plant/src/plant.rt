@@ -2,7 +2,8 @@
 
 ghost use Rattle.std.specs.Prelude.{◌≡◌, ℕ, ◌<◌, ◌≤◌, ◌+◌, ◌^◌, ◌↔◌, true, false, length, Some, is_ok, is_err, IfOk, OnOk, OnErr, IsErrOf};
 ghost use Rattle.dr_logic.specs.Tables.{at};
-ghost use Rattle.dr_plant.specs.State.{PlantState, HasBlock, after_write, after_blocks, after_read, can_write, can_read, started, off, with_device};
+ghost use Rattle.dr_plant.specs.State.{PlantState, HasBlock, after_write, after_read, can_write, can_read, started, off, with_device};
+ghost use Rattle.dr_plant.specs.Writes.{after_writes, list_writes};
 
 /// The bytes of one block.
 pub type Block = [u8; 64];
@@ -76,7 +77,7 @@ pub trait Plant {
         requires device { dev.0 < (state self.old).count }
         requires blocks { first + length from.now ≤ (state self.old).size dev.0 }
         requires fits { first + length from.now < 2 ^ 16 }
-        ensures { after_blocks (state self.old) dev.0 first from.now ≡ (state self.new, is_err result) }
+        ensures { after_writes (state self.old) dev.0 (list_writes first from.now) ≡ (state self.new, is_err result) }
     {
         if self.put_blocks(dev, first, from) {
             return Ok(());
@@ -94,7 +95,7 @@ pub trait Plant {
     fn put_blocks(&mut self, dev: DeviceId, first: u16, from: &[Block]) -> bool
         requires device { dev.0 < (state self.old).count }
         requires blocks { first + length from.now ≤ (state self.old).size dev.0 }
-        ensures done { result ≡ true → after_blocks (state self.old) dev.0 first from.now ≡ (state self.new, false) }
+        ensures done { result ≡ true → after_writes (state self.old) dev.0 (list_writes first from.now) ≡ (state self.new, false) }
         ensures same { result ≡ false → state self.new ≡ state self.old }
     {
         false

@@ -1,18 +1,17 @@
-use Rattle.std.proofs.Common.{ℕ, ◌≡◌, ◌≢◌, ◌<◌, ◌≤◌, ◌+◌, ◌*◌, ◌⊎◌, inl, inr, Bool, true, false, not, List, [], ◌∷◌, ◌++◌, refl, ap, ◌∙◌, sym, cond, suc, zero, length, arith, subst, nat_eq, length-append}
+use Rattle.std.proofs.Common.{ℕ, ◌≡◌, ◌≢◌, ◌<◌, ◌≤◌, ◌+◌, ◌*◌, ◌⊎◌, inl, inr, Bool, true, false, not, List, [], ◌∷◌, ◌++◌, refl, ap, ◌∙◌, sym, cond, length, arith, subst, nat_eq, length-append}
 use Rattle.std.specs.Prelude.{Some, None, ◌↔◌}
 use Rattle.std.proofs.lemmas.Bool.{cases_order}
 use Rattle.std.proofs.lemmas.Bool.Decides.{nat_tests}
-use Rattle.dr_logic.specs.Tables.{at2}
 use Rattle.dr_plant.specs.declared.plant.WriteFuse.{WriteFuse}
 use Rattle.dr_plant.specs.State.{PlantState, after_write, can_write, torn_by}
-use Rattle.dr_plant.proofs.StateLemmas.{at2_other, other-after_write, same-after_write}
+use Rattle.dr_plant.proofs.StateLemmas.{other-after_write, same-after_write}
 use Rattle.dr_record.specs.Taken.{taken_from}
-use Rattle.dr_record.specs.Writes.{BlockWrite, write, after_writes, all_put, Passes, torn_after, SameShape}
-use Rattle.dr_record.specs.Slots.{choice, slot_of, gate_of, start_of, stored, Chooses, IsOldOrNew, block_writes, record_writes, torn_choice, slot_when_stopped, IsCutShort, SameElsewhere}
+use Rattle.dr_plant.specs.Writes.{BlockWrite, write, block_writes, after_writes, Passes, all_put, torn_after, SameShape}
+use Rattle.dr_record.specs.Slots.{choice, slot_of, gate_of, start_of, stored, Chooses, IsOldOrNew, record_writes, torn_choice, slot_when_stopped, IsCutShort, SameElsewhere}
 use Rattle.dr_record.proofs.TakenLemmas.{taken_same}
-use Rattle.dr_record.proofs.WritesLemmas.{goes, stops, ends, append-goes, append-stops, shape-after_writes, apart-after_writes, off-after_writes, faults-after_writes}
-use Rattle.dr_record.proofs.BlocksLemmas.{outside-block_writes, done-block_writes, length-block_writes}
-use Rattle.dr_record.proofs.WriteLists.{writes_pass, writes_torn, writes_torn_at, writes_off}
+use Rattle.dr_plant.proofs.WritesLemmas.{goes, stops, ends, append-goes, append-stops, shape-after_writes, apart-after_writes, off-after_writes, faults-after_writes}
+use Rattle.dr_plant.proofs.BlocksLemmas.{all_put-outside, outside-block_writes, done-block_writes, length-block_writes}
+use Rattle.dr_plant.proofs.WriteLists.{writes_pass, writes_torn, writes_torn_at, writes_off}
 use Rattle.dr_logic.proofs.Tables.{at2_same}
 
 -- How the writes of a record went: stopped in its blocks, or those are all done and the gate is written.
@@ -154,13 +153,6 @@ torn_choice-other n f gate ne = let e : nat_eq f.after n ≡ false = grind (arit
 torn_choice-gate : (n : ℕ) (f : WriteFuse) (gate : List ℕ) → f.after ≡ n → torn_choice n (Some f) gate ≡ choice (torn_by f.torn gate)
 torn_choice-gate n f gate h = let e : nat_eq f.after n ≡ true = grind (arith, nat_tests) in ap (λ v. cond v (choice (torn_by f.torn gate)) (choice gate)) e
 
--- the blocks of a record leave the gate
-all_put-gate : (block : ℕ → ℕ → List ℕ) (dev start k n : ℕ) (f : ℕ → List ℕ) → 0 < start → all_put block dev (block_writes start k n f) dev 0 ≡ block dev 0
-unfolding all_put block_writes
-all_put-gate block dev start k zero f h = refl
-all_put-gate block dev start k (suc n) f h =
-    all_put-gate (at2 block dev (start + k) (f k)) dev start (k + 1) n f h ∙ at2_other block dev (start + k) (f k) dev 0 (λ e. absurd (omega arith))
-
 -- a record has one write more than blocks
 length-record : (n : ℕ) (slot : Bool) (f : ℕ → List ℕ) → length (record_writes n slot f) ≡ n + 1
 length-record n slot f = length-append (block_writes (start_of n slot) 0 n f) (write 0 (gate_of slot) ∷ []) ∙ ap (λ k. k + 1) (length-block_writes (start_of n slot) 0 n f)
@@ -175,7 +167,7 @@ stopped-fuse s t dev n slot fs f on fuse h =
       | inl e ↦
           let u = torn_after s dev blocks 0 f in
           let is = writes_torn s dev blocks gate [] f on fuse (e ∙ sym many) in
-          let kept = all_put-gate s.block dev (start_of n slot) 0 n fs (start-above n slot) in
+          let kept = all_put-outside s.block dev (start_of n slot) 0 n fs dev 0 (let z = start-above n slot in inl (omega arith)) in
           ap (λ (r : PlantState × Bool). slot_of r.0 dev) (sym h ∙ is)
           ∙ ap choice (at2_same (all_put s.block dev blocks) dev 0 (torn_by f.torn (all_put s.block dev blocks dev 0)) ∙ ap (torn_by f.torn) kept)
           ∙ sym (torn_choice-gate n f (s.block dev 0) e)

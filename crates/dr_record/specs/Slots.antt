@@ -1,11 +1,11 @@
 -- A record of n blocks in two slots of a device, and the gate that chooses one of them.
-use Rattle.std.specs.Prelude.{◌≡◌, ◌≢◌, ℕ, zero, suc, ◌+◌, ◌%◌, ◌≤◌, ◌⊎◌, Bool, false, not, nat_eq, List, [], ◌∷◌, ◌++◌, if◌then◌else◌, Option, Some, None, replicate}
+use Rattle.std.specs.Prelude.{◌≡◌, ◌≢◌, ℕ, ◌+◌, ◌%◌, ◌≤◌, ◌⊎◌, Bool, false, not, nat_eq, List, [], ◌∷◌, ◌++◌, if◌then◌else◌, Option, Some, None, replicate}
 use Rattle.std.specs.List.{slice_index_or}
 use Rattle.dr_logic.specs.Counts.{risen}
 use Rattle.dr_plant.specs.State.{PlantState, torn_by}
 use Rattle.dr_plant.specs.declared.plant.WriteFuse.{WriteFuse}
+use Rattle.dr_plant.specs.Writes.{BlockWrite, write, block_writes, SameShape}
 use Rattle.dr_record.specs.Taken.{taken_from}
-use Rattle.dr_record.specs.Writes.{BlockWrite, write, SameShape}
 
 -- The slot that a gate chooses: slot 1 (true) where bit 0 of its first byte is set, else slot 0 (false).
 abbrev pub choice : List ℕ → Bool
@@ -36,15 +36,6 @@ pub record Chooses {F : Type 0} (taken : F → ℕ → List ℕ → F) (n : ℕ)
 abbrev pub IsOldOrNew : {F : Type 0} → (F → ℕ → List ℕ → F) → ℕ → F → PlantState → ℕ → Bool → F → F → Type 0
 IsOldOrNew taken n fresh s dev slot old new =
     Chooses taken n fresh s dev slot old ⊎ Chooses taken n fresh s dev (not slot) new
-
--- The writes of n blocks, from the k-th on, from the block start + k of a device on.
-unfoldable pub block_writes : ℕ → ℕ → ℕ → (ℕ → List ℕ) → List BlockWrite
-block_writes start k zero bytes = []
-block_writes start k (suc n) bytes = write (start + k) (bytes k) ∷ block_writes start (k + 1) n bytes
-
--- the blocks of a list by number
-abbrev pub listed : List (List ℕ) → ℕ → List ℕ
-listed blocks i = slice_index_or blocks i []
 
 -- The writes that put a record of n blocks into a slot: its blocks in order, and then the gate.
 abbrev pub record_writes : ℕ → Bool → (ℕ → List ℕ) → List BlockWrite

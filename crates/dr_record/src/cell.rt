@@ -2,7 +2,7 @@
 
 ghost use Rattle.std.specs.Prelude.{◌≡◌, ℕ, ◌<◌, ◌≤◌, ◌+◌, ◌*◌, ◌^◌, ◌↔◌, not, is_ok, is_err, IfOk, OnOk, OnErr};
 ghost use Rattle.dr_plant.specs.State.{HasBlock, after_read, can_read};
-ghost use Rattle.dr_record.specs.Writes.{IsDevice, after_writes};
+ghost use Rattle.dr_plant.specs.Writes.{IsDevice, after_writes};
 ghost use Rattle.dr_record.specs.Slots.{slot_of, record_writes, Chooses, IsOldOrNew, IsCutShort, SameElsewhere};
 
 use crate::form::Form;

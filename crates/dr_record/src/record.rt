@@ -2,8 +2,8 @@
 
 ghost use Rattle.std.specs.Prelude.{◌≡◌, ℕ, ◌<◌, ◌≤◌, ◌+◌, ◌*◌, ◌^◌, ◌↔◌, not, length, is_ok, is_err, IfOk, OnOk, OnErr};
 ghost use Rattle.dr_plant.specs.State.{HasBlock, after_read, can_read};
-ghost use Rattle.dr_record.specs.Writes.{IsDevice, after_writes};
-ghost use Rattle.dr_record.specs.Slots.{slot_of, stored, listed, record_writes, Chooses, IsOldOrNew, IsCutShort, SameElsewhere};
+ghost use Rattle.dr_plant.specs.Writes.{IsDevice, after_writes, listed};
+ghost use Rattle.dr_record.specs.Slots.{slot_of, stored, record_writes, Chooses, IsOldOrNew, IsCutShort, SameElsewhere};
 
 use crate::form::Form;
 use crate::slot;
@@ -65,5 +65,5 @@ pub fn put_blocks<P: Plant>(
     requires fits { 2 * length blocks.now + 1 < 2 ^ 16 }
     ensures writes { after_writes (P.state plant.old) dev.0 (record_writes (length blocks.now) (not slot) (listed blocks.now)) ≡ (P.state plant.new, is_err result) }
 {
-    slot::write_laid(plant, dev, !slot, blocks)
+    slot::write_record_blocks(plant, dev, !slot, blocks)
 }

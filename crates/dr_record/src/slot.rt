@@ -2,7 +2,7 @@
 
 ghost use Rattle.std.specs.Prelude.{◌≡◌, ℕ, ◌<◌, ◌≤◌, ◌+◌, ◌*◌, ◌^◌, Bool, false, length, is_ok, is_err, IfOk, OnOk, OnErr};
 ghost use Rattle.dr_plant.specs.State.{HasBlock, after_read, after_write, can_read, can_write};
-ghost use Rattle.dr_record.specs.Writes.{IsDevice, SameShape, after_writes};
+ghost use Rattle.dr_plant.specs.Writes.{IsDevice, SameShape, after_writes, block_writes, listed};
 ghost use Rattle.dr_record.specs.Slots as slots;
 
 use crate::form::Form;
@@ -69,7 +69,7 @@ pub fn write_slot<P: Plant, F: Form>(
 ) -> Result<(), Stopped>
     requires device { IsDevice (P.state plant.old) dev.0 (2 * F.BLOCKS + 1) }
     requires fits { 2 * F.BLOCKS + 1 < 2 ^ 16 }
-    ensures writes { after_writes (P.state plant.old) dev.0 (slots.block_writes (slots.start_of F.BLOCKS slot) 0 F.BLOCKS (F.blocks value.now)) ≡ (P.state plant.new, is_err result) }
+    ensures writes { after_writes (P.state plant.old) dev.0 (block_writes (slots.start_of F.BLOCKS slot) 0 F.BLOCKS (F.blocks value.now)) ≡ (P.state plant.new, is_err result) }
     ensures shape { SameShape (P.state plant.old) (P.state plant.new) }
 {
     let start = start_of::<F>(slot);
@@ -90,7 +90,7 @@ fn write_gate<P: Plant>(plant: &mut P, dev: DeviceId, slot: bool) -> Result<(), 
 
 /// Writes a record whose blocks are at hand to a slot: the blocks in order, by one call of the plant, and then the gate that
 /// chooses the slot. Fails at the first write that can't be done.
-pub fn write_laid<P: Plant>(
+pub fn write_record_blocks<P: Plant>(
     plant: &mut P,
     dev: DeviceId,
     slot: bool,
@@ -98,7 +98,7 @@ pub fn write_laid<P: Plant>(
 ) -> Result<(), Stopped>
     requires device { IsDevice (P.state plant.old) dev.0 (2 * length blocks.now + 1) }
     requires fits { 2 * length blocks.now + 1 < 2 ^ 16 }
-    ensures { after_writes (P.state plant.old) dev.0 (slots.record_writes (length blocks.now) slot (slots.listed blocks.now)) ≡ (P.state plant.new, is_err result) }
+    ensures { after_writes (P.state plant.old) dev.0 (slots.record_writes (length blocks.now) slot (listed blocks.now)) ≡ (P.state plant.new, is_err result) }
 {
     let start = begin_of(blocks.len() as u16, slot);
     plant.write_blocks(dev, start, blocks)?;

@@ -10,6 +10,7 @@ use Rattle.std.proofs.lemmas.List.{length-map}
 use Rattle.std.proofs.lemmas.List.Concat.{flat_map-cons}
 use Rattle.std.proofs.lemmas.List.FromFn.{get_or-map-range_with_len, length-map-range_with_len}
 use Rattle.dr_logic.specs.Bytes.{zeros}
+use Rattle.dr_ids.specs.Sizes.{blocks_of, track_block}
 use Rattle.dr_ids.specs.declared.refusal.Decision.{Decision}
 use Rattle.dr_model.specs.Decisions.{decision, numbers_in}
 use Rattle.dr_model.specs.Groups.{In}
@@ -65,17 +66,17 @@ past-end (x ∷ xs) zero d le = absurd (omega arith)
 past-end (x ∷ xs) (suc k) d le = past-end xs k d (omega arith)
 
 -- a track's own block, also where there is no such track
-own-block : (w : Volume) → All (IsKept (13 + w.tracks)) w.blocks → (t : ℕ) → get_or (map (device_blocks w) (range_with_len 0 (13 + w.tracks))) (13 + t) zeros ≡ device_blocks w (13 + t)
-own-block w kept t = by (cases_Bool (nat_lt t w.tracks))
+own-block : (w : Volume) → All (IsKept (blocks_of w.tracks)) w.blocks → (t : ℕ) → get_or (map (device_blocks w) (range_with_len 0 (blocks_of w.tracks))) (track_block t) zeros ≡ device_blocks w (track_block t)
+own-block w kept t = by (cases_Bool (nat_lt (track_block t) (blocks_of w.tracks)))
   where
-    by : (nat_lt t w.tracks ≡ true) ⊎ (nat_lt t w.tracks ≡ false) → get_or (map (device_blocks w) (range_with_len 0 (13 + w.tracks))) (13 + t) zeros ≡ device_blocks w (13 + t)
+    by : (nat_lt (track_block t) (blocks_of w.tracks) ≡ true) ⊎ (nat_lt (track_block t) (blocks_of w.tracks) ≡ false) → get_or (map (device_blocks w) (range_with_len 0 (blocks_of w.tracks))) (track_block t) zeros ≡ device_blocks w (track_block t)
     by (inl e) =
-        let lt : t < w.tracks = grind (arith, nat_tests, e) in
-        get_or-map-range_with_len (device_blocks w) 0 (13 + w.tracks) (13 + t) (13 + t) zeros (omega arith) (let z : 0 + (13 + t) ≡ 13 + t = omega arith in z)
+        let lt : track_block t < blocks_of w.tracks = grind (arith, nat_tests, e) in
+        get_or-map-range_with_len (device_blocks w) 0 (blocks_of w.tracks) (track_block t) (track_block t) zeros (omega arith) (let z : 0 + (track_block t) ≡ track_block t = omega arith in z)
     by (inr e) =
-        let le : w.tracks ≤ t = grind (arith, nat_tests, e) in
-        let len : length (map (device_blocks w) (range_with_len 0 (13 + w.tracks))) ≡ 13 + w.tracks = length-map-range_with_len (device_blocks w) 0 (13 + w.tracks) in
-        past-end (map (device_blocks w) (range_with_len 0 (13 + w.tracks))) (13 + t) zeros (omega arith) ∙ sym (block-past w.blocks (13 + w.tracks) (13 + t) kept (omega arith))
+        let le : blocks_of w.tracks ≤ track_block t = grind (arith, nat_tests, e) in
+        let len : length (map (device_blocks w) (range_with_len 0 (blocks_of w.tracks))) ≡ blocks_of w.tracks = length-map-range_with_len (device_blocks w) 0 (blocks_of w.tracks) in
+        past-end (map (device_blocks w) (range_with_len 0 (blocks_of w.tracks))) (track_block t) zeros (omega arith) ∙ sym (block-past w.blocks (blocks_of w.tracks) (track_block t) kept (omega arith))
 
 staged-or : (o : Option ℕ) (t : ℕ) (bytes x y : List ℕ) → x ≡ y → (if is_staged o t then only_if (is_some o) bytes zeros else x) ≡ (if is_staged o t then bytes else y)
 staged-or None t bytes x y e = e

@@ -4,7 +4,7 @@ use Rattle.std.specs.Prelude.{is_some}
 use Rattle.std.specs.List.{range_with_len}
 use Rattle.std.proofs.lemmas.List.FromFn.{get_or-map-range_with_len}
 use Rattle.dr_logic.specs.Bytes.{zeros}
-use Rattle.dr_ids.specs.Sizes.{most_tracks, blocks_of}
+use Rattle.dr_ids.specs.Sizes.{blocks_of, most_tracks, record_blocks}
 use Rattle.dr_model.specs.Layout as layout
 use Rattle.dr_model.specs.Layout.{Blocks, chosen, only_if}
 use Rattle.dr_volume.specs.Plain.{plain, normal}
@@ -14,7 +14,7 @@ use Rattle.dr_volume.proofs.RewriteLaws.{record-low}
 use Rattle.dr_report.specs.declared.device.Device.{Device}
 use Rattle.dr_report.specs.Known.{known, known_on}
 
-module _ (b c : Blocks) (low : (q : ℕ) → q < 13 → c q ≡ b q) (n : ℕ) where
+module _ (b c : Blocks) (low : (q : ℕ) → q < record_blocks → c q ≡ b q) (n : ℕ) where
   fields-same : n ≤ most_tracks → layout.fields n c ≡ layout.fields n b
   fields-same few = sym (plain-normal n (chosen c) few) ∙ ap (λ r. plain (normal n r)) (record-low b c low) ∙ plain-normal n (chosen b) few
 
@@ -32,8 +32,8 @@ pub read-known : (b : Blocks) (d : Device) → d.volume.tracks ≤ most_tracks �
     → known d ≡ known_on d.volume.volume.0 d.volume.tracks b
 read-known b d few blocks f s sb =
     let n : ℕ = d.volume.tracks in
-    let low : (q : ℕ) → q < 13 → listed d.blocks.items q ≡ b q =
-    λ q lt. ap (λ (xs : List (List ℕ)). get_or xs q []) blocks ∙ get_or-map-range_with_len b 0 (13 + n) q q [] (omega arith) (let z : 0 + q ≡ q = omega arith in z) in
+    let low : (q : ℕ) → q < record_blocks → listed d.blocks.items q ≡ b q =
+    λ q lt. ap (λ (xs : List (List ℕ)). get_or xs q []) blocks ∙ get_or-map-range_with_len b 0 (blocks_of n) q q [] (omega arith) (let z : 0 + q ≡ q = omega arith in z) in
     λ i. record {
       volume = d.volume.volume.0;
       tracks = n;

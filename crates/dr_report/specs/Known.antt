@@ -3,7 +3,7 @@ use Rattle.std.specs.Prelude.{ℕ, ◌+◌, Bool, not, List, map, nat_eq, Option
 use Rattle.std.specs.FinSet.{contains}
 use Rattle.std.specs.List.{find, range_with_len, slice_index_or}
 use Rattle.dr_logic.specs.Bytes.{zeros}
-use Rattle.dr_ids.specs.Sizes.{blocks_of}
+use Rattle.dr_ids.specs.Sizes.{blocks_of, track_block}
 use Rattle.dr_model.specs.Layout as layout
 use Rattle.dr_model.specs.Layout.{Blocks, is_staged, only_if, chosen}
 use Rattle.dr_model.specs.PlantImage.{Volume, device_blocks}
@@ -61,7 +61,7 @@ known_at vs place v = known_on v.volume.0 v.tracks (block_at vs place)
 abbrev pub track_in : Known → ℕ → List ℕ
 track_in k t =
     if is_staged k.staged t then k.staged_bytes
-    else if contains k.fields.blank t then zeros else slice_index_or k.blocks (13 + t) zeros
+    else if contains k.fields.blank t then zeros else slice_index_or k.blocks (track_block t) zeros
 
 -- a track of a volume, if there is one
 abbrev pub track_of : Option Known → ℕ → List ℕ

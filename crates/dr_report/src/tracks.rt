@@ -8,13 +8,10 @@ ghost use Rattle.dr_volume.specs.Plain.{plain};
 
 use crate::decided::goes_back;
 use crate::device::Device;
-use dr_ids::VolumeId;
+use dr_ids::{FIRST_TRACK, VolumeId};
 use dr_image::zero_block;
 use dr_plant::Block;
 use dr_volume::Fields;
-
-/// The first block of a device that is a track.
-const FIRST_TRACK: usize = 13;
 
 /// The volume of that number, where there is one.
 pub fn find_device(devices: &[Device], volume: VolumeId) -> Option<&Device>
@@ -35,7 +32,7 @@ fn track_in(device: &Device, t: u16) -> Block
     if device.fields.blank.contains(t) {
         return zero_block();
     }
-    match device.blocks.get(FIRST_TRACK + usize::from(t)) {
+    match device.blocks.get(usize::from(FIRST_TRACK) + usize::from(t)) {
         Some(block) => *block,
         None => zero_block(),
     }

@@ -10,3 +10,4 @@ pub mod Kinds
 pub mod Table
 pub mod Strip
 pub mod Report
+pub mod Json

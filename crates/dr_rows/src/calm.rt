@@ -43,19 +43,19 @@ impl CalmStep {
         }
     }
 
-    fn line(&self) -> usize
+    pub(crate) fn line(&self) -> usize
         ensures { result ≡ self.now.line }
     {
         self.line
     }
 
-    fn text(&self) -> &[u8]
+    pub(crate) fn text(&self) -> &[u8]
         ensures { result.now ≡ self.now.text }
     {
         self.text.bytes()
     }
 
-    fn says(&self) -> &[u8]
+    pub(crate) fn says(&self) -> &[u8]
         ensures { result.now ≡ self.now.says }
     {
         self.says.bytes()
@@ -108,7 +108,7 @@ impl Calm {
         self.steps
     }
 
-    fn told(&self) -> &[CalmStep]
+    pub(crate) fn told(&self) -> &[CalmStep]
         ensures { result.now ≡ self.now.told }
     {
         &self.told
@@ -164,7 +164,7 @@ fn announced_word(announced: bool) -> &'static [u8]
 }
 
 /// The refusal of the step was announced.
-fn was_announced(plan: &SweepPlan, step: &CalmStep) -> bool
+pub(crate) fn was_announced(plan: &SweepPlan, step: &CalmStep) -> bool
     ensures { result ≡ was_announced plan.now step.now }
 {
     step.was_refused() && is_announced(plan, step.line() as u128)

@@ -1,16 +1,15 @@
 //! The cells of a row.
 
 ghost use Rattle.std.specs.Prelude.{◌≡◌, ◌++◌, nat_eq, codes, find, OnOk, IfOk};
-ghost use Rattle.dr_ids.specs.Spelling.{hex2};
 ghost use Rattle.std.specs.List.{flat_map, list_any};
 ghost use Rattle.std.specs.Option.{option_copied};
 ghost use Rattle.dr_rows.specs.Outcome.{groups_in, is_refused};
 ghost use Rattle.dr_rows.specs.Cells.{listed, group_said, decision_said, group_cell, decision_cell, no_group, kind_of, kind, quoted, server_name, name_at, use_name, torn_cell, phase_said, members_said, write_said, newest_cell, more_said, least_cell, broken_cell, refused_count, first_refused_cell, is_named, names_uses, use_head};
 ghost use Rattle.dr_model.specs.Text.{one_number, two_numbers, decision_text, phase_word};
 
-use crate::pieces::{push_number, push_sum, push_write};
+use crate::pieces::{push_hex, push_number, push_sum, push_write};
 use crate::row::{Answer, Loss, Members, Row, SessionPhase, gives_group, is_refused};
-use dr_ids::{Text, upper_hex};
+use dr_ids::Text;
 use dr_lost::Broken;
 use dr_model::Name;
 use dr_plan::{SweepPlan, Torn, Use, name_bytes};
@@ -277,18 +276,11 @@ fn phase_word(phase: u8) -> &'static [u8]
     }
 }
 
-/// Adds a session in two hexadecimal digits.
-fn push_session(text: &mut Text, session: u8) -> Result<(), AllocError>
-    ensures { OnOk result (text.new ≡ text.old ++ hex2 session) }
-{
-    text.append(&[upper_hex(session / 16), upper_hex(session % 16)])
-}
-
 /// Adds a session and the phase of its master.
 pub fn push_phase(text: &mut Text, p: SessionPhase) -> Result<(), AllocError>
     ensures { OnOk result (text.new ≡ text.old ++ phase_said p) }
 {
-    push_session(text, p.session)?;
+    push_hex(text, p.session)?;
     text.append(b":")?;
     text.append(phase_word(p.phase))
 }
@@ -420,7 +412,7 @@ pub(crate) fn refused_count(answers: &[Answer]) -> usize
 }
 
 /// The first refusal.
-fn first_refused(answers: &[Answer]) -> Option<&Answer>
+pub(crate) fn first_refused(answers: &[Answer]) -> Option<&Answer>
     ensures { option_copied result ≡ find is_refused answers.now }
 {
     answers.iter().find(|a| is_refused(**a))

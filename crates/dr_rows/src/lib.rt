@@ -2,7 +2,7 @@
 //!
 //! A `Row` says what one point of a plan came to (`Outcome`), with a `Loss` for each use, and a `Calm` what the run without a disaster did.
 //! `heading` and `push_row` are the lines of a table with commas (`row_lines`), `has_finding` says whether something is a finding, `report`
-//! is the report on the calm run and all rows. Each text is a definition of the plan, the calm run and the rows: `Line.antt` has those of a row,
+//! is the report on the calm run and all rows, and `json_text` is what tools read (`Json.antt`). Each text is a definition of the plan, the calm run and the rows: `Line.antt` has those of a row,
 //! `Report.antt` that of the report with its parts, the calm run (`Calm.antt`), the table (`Table.antt`), the disasters (`Kinds.antt`), the
 //! recovery (`Refusals.antt`) and the strip (`Strip.antt`). Of the report's parts those are public that a chart shows too: the rows of a
 //! disaster, how many there are of which sort, the worst of them with its words, and the names of servers, uses, steps and phases.
@@ -13,6 +13,8 @@ mod calm;
 mod cells;
 mod disasters;
 mod findings;
+mod json;
+mod json_pieces;
 mod line;
 mod pieces;
 mod places;
@@ -32,6 +34,7 @@ pub use disasters::{
     servers_of, short_count,
 };
 pub use findings::{asks_recovery, has_finding};
+pub use json::json_text;
 pub use line::{disaster_of, heading, push_row, writes_before};
 pub use pieces::{push_number, push_total};
 pub use places::{differs, most_lost};

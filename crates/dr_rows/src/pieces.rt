@@ -2,9 +2,10 @@
 
 ghost use Rattle.std.specs.Prelude.{◌≡◌, ◌++◌, ◌+◌, OnOk};
 ghost use Rattle.std.specs.Fmt.{decimal};
+ghost use Rattle.dr_ids.specs.Spelling.{hex2};
 ghost use Rattle.dr_rows.specs.Cells.{write_said};
 
-use dr_ids::Text;
+use dr_ids::{Text, upper_hex};
 use itoa::Buffer;
 use std::alloc::AllocError;
 
@@ -36,6 +37,13 @@ pub(crate) fn push_counted(text: &mut Text, place: usize) -> Result<(), AllocErr
     ensures { OnOk result (text.new ≡ text.old ++ decimal (place + 1)) }
 {
     push_sum(text, place, 1)
+}
+
+/// Adds a byte in two hexadecimal digits.
+pub(crate) fn push_hex(text: &mut Text, byte: u8) -> Result<(), AllocError>
+    ensures { OnOk result (text.new ≡ text.old ++ hex2 byte) }
+{
+    text.append(&[upper_hex(byte / 16), upper_hex(byte % 16)])
 }
 
 /// Adds a write by its number.

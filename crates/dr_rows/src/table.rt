@@ -11,7 +11,7 @@ use dr_plan::SweepPlan;
 use std::alloc::{AllocError, Global};
 
 /// A column of numbers.
-fn is_number(column: usize) -> bool
+pub(crate) fn is_number(column: usize) -> bool
     ensures { result ≡ is_number column }
 {
     column == 2 || column == 3 || column == 4 || column == 10 || column == 11 || column == 12

@@ -75,7 +75,7 @@ impl Cells {
 }
 
 /// The name of a column.
-fn column_name(column: usize) -> &'static [u8]
+pub(crate) fn column_name(column: usize) -> &'static [u8]
     ensures { result.now ≡ column_name column }
 {
     match column {

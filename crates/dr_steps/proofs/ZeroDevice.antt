@@ -1,5 +1,5 @@
 -- A device of zeros: what a volume that was just defined shows.
-use Rattle.std.proofs.Common.{ℕ, ◌≡◌, ◌≤◌, ◌^◌, ◌/◌, ◌%◌, List, get_or, replicate, refl, ap, ◌∙◌, arith, inl, inr, Bool, true, false, cond, nat_eq, nat_lt, Some, None, length}
+use Rattle.std.proofs.Common.{take, ℕ, ◌≡◌, ◌≤◌, ◌^◌, ◌/◌, ◌%◌, List, get_or, replicate, refl, ap, ◌∙◌, arith, inl, inr, Bool, true, false, cond, nat_eq, nat_lt, Some, None, length}
 use Rattle.std.proofs.Math.Nat.{zero-div}
 use Rattle.std.proofs.lemmas.List.{get_or-replicate, get_or_past, length-replicate, take-replicate}
 use Rattle.std.proofs.lemmas.Bool.Decides.{leb_tells}
@@ -7,7 +7,7 @@ use Rattle.std.specs.List.{range_with_len}
 use Rattle.std.specs.FinSet.{empty, from_list, contains}
 use Rattle.dr_logic.specs.Bytes.{zeros}
 use Rattle.dr_model.specs.Control.{new_volume}
-use Rattle.dr_model.specs.Layout.{Blocks, byte, bit, stands_in, set_of, first_set, slot_chosen, fields_of, staged_of, physical, fields, staged, no_fields, chosen, is_staged}
+use Rattle.dr_model.specs.Layout.{Blocks, byte, bit, stands_in, set_of, slot_chosen, fields_of, entries_of, staged_of, physical, fields, staged, no_fields, chosen, is_staged}
 use Rattle.dr_config.specs.declared.entries.VolumeEntry.{VolumeEntry}
 use Rattle.dr_volume.specs.View.{volume_on, track_on}
 use Rattle.dr_logic.proofs.Lists.{filter-none}
@@ -36,7 +36,7 @@ set-zeros : (n tracks : ℕ) → set_of tracks (replicate n 0) ≡ empty
 unfolding set_of
 set-zeros n tracks = ap from_list (filter-none (stands_in (replicate n 0)) (range_with_len 0 tracks) (none-stand n))
 
-first-zeros : (tracks : ℕ) → first_set tracks zeros ≡ empty
+first-zeros : (tracks : ℕ) → set_of tracks (take 32 zeros) ≡ empty
 unfolding zeros
 first-zeros tracks = ap (set_of tracks) (take-replicate 32 64 0 (omega arith)) ∙ set-zeros 32 tracks
 
@@ -48,7 +48,7 @@ pub slot-zeros : slot_chosen zero_blocks ≡ false
 slot-zeros = ap (λ n. bit n 0) (byte-of-zero 0) ∙ bit-zero 0
 
 pub fields-zeros : (tracks : ℕ) → fields tracks zero_blocks ≡ no_fields
-unfolding fields_of zeros
+unfolding fields_of entries_of zeros
 fields-zeros tracks i = record no_fields { blank = first-zeros tracks i }
 
 pub staged-zeros : (tracks : ℕ) → staged tracks zero_blocks ≡ None

@@ -23,7 +23,7 @@ use Rattle.dr_sweep.proofs.FirstLemmas.{nobody}
 use Rattle.dr_sweep.proofs.PartLemmas.{of-parts}
 use Rattle.dr_words.specs.declared.sweep.PlanLine.{PlanLine}
 use Rattle.dr_words.specs.declared.sweep.SweepCommand.{SweepCommand}
-use Rattle.dr_words.specs.declared.sweep.SweepCommand.TheVariants.{Report as OnReport, Rows as OnRows, Picture as OnPicture, CutScript, GapScript}
+use Rattle.dr_words.specs.declared.sweep.SweepCommand.TheVariants.{Report as OnReport, Rows as OnRows, Picture as OnPicture, Json as OnJson, CutScript, GapScript}
 use Rattle.dr_words.specs.declared.sweep.TornBytes.{TornBytes}
 
 nothing_tried : Tried
@@ -56,6 +56,7 @@ pub asked-in : (plan : Sweep) (command : SweepCommand) → AsksOf plan (asked_of
 asked-in plan OnReport = tt
 asked-in plan OnRows = tt
 asked-in plan OnPicture = tt
+asked-in plan OnJson = tt
 asked-in plan (CutScript disaster line server write torn) = by (cut_of plan disaster line server write torn) refl
   where
     by : (o : Option NamedPoint) → cut_of plan disaster line server write torn ≡ o → AsksOf plan (Script o)

@@ -7,6 +7,7 @@ use Rattle.dr_plan.specs.declared.points.Torn.{Torn}
 use Rattle.dr_plan.specs.declared.points.Torn.TheVariants.{Unchanged, Zeros, Ones}
 use Rattle.dr_plan.specs.Sweep.{Sweep, Tried}
 use Rattle.dr_rows.specs.Calm.{Calm}
+use Rattle.dr_rows.specs.Json.{json_text}
 use Rattle.dr_rows.specs.Line.{heading, row_lines}
 use Rattle.dr_rows.specs.Outcome.{Outcome}
 use Rattle.dr_rows.specs.Report.{report}
@@ -18,10 +19,10 @@ use Rattle.dr_sweep.specs.declared.printing.Asked.TheVariants.{Rows, Script}
 use Rattle.dr_sweep.specs.declared.printing.NamedPoint.{NamedPoint}
 use Rattle.dr_sweep.specs.declared.printing.NamedPoint.TheVariants.{Cut, Gap}
 use Rattle.dr_sweep.specs.declared.printing.View.{View}
-use Rattle.dr_sweep.specs.declared.printing.View.TheVariants.{Report, Table, Picture}
+use Rattle.dr_sweep.specs.declared.printing.View.TheVariants.{Report, Table, Picture, Json}
 use Rattle.dr_words.specs.declared.sweep.PlanLine.{PlanLine}
 use Rattle.dr_words.specs.declared.sweep.SweepCommand.{SweepCommand}
-use Rattle.dr_words.specs.declared.sweep.SweepCommand.TheVariants.{Report as OnReport, Rows as OnRows, Picture as OnPicture, CutScript, GapScript}
+use Rattle.dr_words.specs.declared.sweep.SweepCommand.TheVariants.{Report as OnReport, Rows as OnRows, Picture as OnPicture, Json as OnJson, CutScript, GapScript}
 use Rattle.dr_words.specs.declared.sweep.TornBytes.{TornBytes}
 use Rattle.dr_words.specs.declared.sweep.TornBytes.TheVariants.{Unchanged as Stays, Zeros as Fills0, Ones as Fills1}
 
@@ -34,6 +35,7 @@ abbrev pub says : View → Sweep → Sweep → Calm → List Outcome → List �
 says Report plan tried calm rows = report plan tried calm rows
 says Table plan tried calm rows = rows_text tried rows
 says Picture plan tried calm rows = picture tried rows
+says Json plan tried calm rows = json_text plan tried calm rows
 
 -- the place of what is counted from 1
 abbrev pub place_of : ℕ → Option ℕ
@@ -76,6 +78,7 @@ abbrev pub asked_of : Sweep → SweepCommand → Asked
 asked_of plan OnReport = Rows Report
 asked_of plan OnRows = Rows Table
 asked_of plan OnPicture = Rows Picture
+asked_of plan OnJson = Rows Json
 asked_of plan (CutScript disaster line server write torn) = Script (cut_of plan disaster line server write torn)
 asked_of plan (GapScript disaster line) = Script (gap_of plan disaster line)
 

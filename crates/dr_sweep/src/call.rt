@@ -30,7 +30,7 @@ use dr_words::{SweepCommand, sweep_command_of};
 use std::alloc::{AllocError, Global};
 
 const USAGE: &[u8] =
-    b"usage: sweep [rows | picture | script LINE[.PART] SERVER WRITE TORN [DISASTER] | script LINE[.PART] gap [DISASTER]]\n";
+    b"usage: sweep [rows | picture | json | script LINE[.PART] SERVER WRITE TORN [DISASTER] | script LINE[.PART] gap [DISASTER]]\n";
 
 /// Puts a text, and ends so if the sink took all of it.
 fn put_text<K: Sink>(sink: &mut K, text: &[u8], ending: Ending) -> Ending
@@ -244,8 +244,8 @@ pub fn usage<K: Sink>(sink: &mut K) -> Ending
 }
 
 /// Carries out the command that the words name: reads a plan from the source, tries its disasters at each device write of its tried lines, and
-/// prints to the sink a report, a table, or a picture; or prints the script of one point. How far it is, it tells `progress`, and what fails
-/// there is passed over. For any other words the usage line is printed, and the source is left alone.
+/// prints to the sink a report, a table, a picture, or all that tools read; or prints the script of one point. How far it is, it tells
+/// `progress`, and what fails there is passed over. For any other words the usage line is printed, and the source is left alone.
 pub fn sweep<S: Source, K: Sink, Q: Sink>(
     alloc: Global,
     words: &[String],

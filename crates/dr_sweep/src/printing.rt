@@ -7,7 +7,7 @@ use crate::reach::server_of;
 use dr_chart::picture;
 use dr_ids::Text;
 use dr_plan::{SweepPlan, Torn, Tried};
-use dr_rows::{Calm, Row, heading, push_row, report};
+use dr_rows::{Calm, Row, heading, json_text, push_row, report};
 use dr_words::{PlanLine, SweepCommand, TornBytes};
 use std::alloc::{AllocError, Global};
 
@@ -32,6 +32,8 @@ pub(crate) enum View {
     Table,
     /// A picture.
     Picture,
+    /// Plan, calm run, table and rows, as JSON.
+    Json,
 }
 
 /// A point by the words that name it. All places are counted from 0.
@@ -76,6 +78,7 @@ pub(crate) fn says(
         View::Report => report(alloc, plan, tried, calm, rows),
         View::Table => rows_text(alloc, tried, rows),
         View::Picture => picture(alloc, tried, rows),
+        View::Json => json_text(alloc, plan, tried, calm, rows),
     }
 }
 
@@ -170,6 +173,7 @@ pub(crate) fn asked_of(plan: &SweepPlan, command: &SweepCommand) -> Asked
         SweepCommand::Report => Asked::Rows(View::Report),
         SweepCommand::Rows => Asked::Rows(View::Table),
         SweepCommand::Picture => Asked::Rows(View::Picture),
+        SweepCommand::Json => Asked::Rows(View::Json),
         SweepCommand::CutScript {
             disaster,
             line,

@@ -25,9 +25,12 @@ use Rattle.dr_model.specs.Runs.{Task, run}
 use Rattle.dr_model.specs.Layout.{physical}
 use Rattle.dr_model.specs.Laws.{Sound}
 use Rattle.dr_laws_sound.proofs.Agree.{fits-sound}
+use Rattle.dr_laws_sound.proofs.Steps.{sound-run}
 use Rattle.dr_laws_sound.proofs.Acknowledged.{acked-run}
 use Rattle.dr_laws_sound.specs.Showing.{ShowsDevices}
+use Rattle.dr_laws_sound.proofs.Places.{lone-run}
 use Rattle.dr_laws_sound.proofs.RefusedRuns.{refused-run}
+use Rattle.dr_laws_sound.proofs.Restores.{calm-run}
 use Rattle.dr_laws_sound.proofs.Shows.{shown-run}
 use Rattle.dr_laws_freezes.specs.Windows.{EndsInCut}
 use Rattle.dr_laws_freezes.specs.Secondaries.{SecondariesLackNone}
@@ -41,6 +44,8 @@ use Rattle.dr_laws_flashes.proofs.EndsInCut.{ends-in-flash-cut}
 use Rattle.dr_laws_recovery.specs.Recovered.{HoldsTracks}
 use Rattle.dr_laws_recovery.specs.Stored.{StoredAtCuts}
 use Rattle.dr_laws_recovery.proofs.Stored.{stored-run}
+use Rattle.dr_laws_recovery.proofs.Recovers.{recover-keeps}
+use Rattle.dr_laws_recovery.proofs.TakenFirst.{takes-first}
 use Rattle.dr_laws_recovery.proofs.Seals.{seals-on}
 use Rattle.dr_laws_recovery.proofs.Decided.{decides-on}
 use Rattle.dr_laws_recovery.proofs.ClosesAlong.{closed-run}
@@ -49,6 +54,8 @@ use Rattle.dr_laws_recovery.proofs.KeepsWrites.{keeps-run}
 use Rattle.dr_laws_recovery.proofs.TakenAt.{holds-run}
 use Rattle.dr_laws_recovery.proofs.GroupsFound.{found-run}
 use Rattle.dr_laws_recovery.proofs.RunsFormed.{formed-run}
+use Rattle.dr_laws_progress.proofs.Causes.{recoveries-answer}
+use Rattle.dr_laws_progress.proofs.Twice.{recovers-twice}
 use Rattle.dr_laws_orders.proofs.Arrivals.{below-refused}
 use Rattle.dr_laws_orders.proofs.StaysOld.{before-run}
 use Rattle.dr_laws_orders.proofs.Older.{leaves-run}
@@ -61,6 +68,7 @@ use Rattle.dr_laws_sites.proofs.CutMoments.{cuts-run}
 use Rattle.dr_laws_sites.proofs.BothLost.{lost-run}
 use Rattle.dr_laws_recovery.specs.Decided.{record_on}
 use Rattle.dr_laws_return.specs.Returned.{Returns}
+use Rattle.dr_laws_return.proofs.DrainAnswers.{drains-or-stops, second-drains}
 use Rattle.dr_laws_return.proofs.Compared.{compared-run}
 use Rattle.dr_laws_return.proofs.Returned.{returned-run}
 use Rattle.dr_model.specs.ClosedCuts.{ClosedCuts}
@@ -71,6 +79,7 @@ use Rattle.dr_model.specs.Limits.{most_events}
 use Rattle.dr_steps.specs.Faults.{told_stop}
 use Rattle.dr_model.specs.Listed.{ListsAlong, ImagesDevices}
 use Rattle.dr_top.specs.Outcome.{IsRun}
+use Rattle.dr_top.specs.Moments.{RecoveriesRepeat}
 use Rattle.dr_top.specs.Stands.{HasDevices, Stands}
 use Rattle.dr_top.specs.Reports.{RanBy}
 use Rattle.dr_top.proofs.ReachLemmas.{reached-sound}
@@ -193,6 +202,12 @@ module _ (s : PlantState) (t : ConfigTable) (h : Tables) (ev : List Event) (soun
     size = λ d v at. let l = listed s t h ev sound d v at in (stands.device d l.0 l.1).1 ∙ ap (λ (x : Volume). blocks_of x.tracks) (sym (volume-placed s t v d l.0 l.2 l.1));
   }
 
+recoveries-repeat : (tasks : List Task) → RecoveriesRepeat tasks
+recoveries-repeat tasks = record {
+  keeps = λ r s. recover-keeps (run tasks) (sound-run tasks) s r;
+  takes_over = λ s x found. takes-first (run tasks) (sound-run tasks) s x found;
+}
+
 -- how steps stand that led to what the plant shows
 pub stands-here : (s0 s : PlantState) (t : ConfigTable) (h : Tables) (ev : List Event) → IsSoundConfig t → IsReady s t h ev → length ev ≤ most_events → Counted (told_stop ev) s0.faults s.faults
     → (steps : List Task) → run steps ≡ here s t h ev → ListsAlong nothing steps → ImagesDevices nothing steps s.block → Stands steps (here s t h ev) ev s0 s
@@ -225,10 +240,17 @@ stands-here s0 s t h ev sound ready room stops steps leads lists images =
       acknowledged = λ tasks goes. acked-run tasks;
       formed = λ tasks goes. formed-run tasks;
       found = λ tasks goes. found-run tasks;
-      fenced = below-refused w.control;
-      settled = λ tasks goes. before-run tasks;
-      older = λ tasks goes. leaves-run tasks;
-      commits = λ tasks goes. commits-run tasks;
+      fenced = λ tasks goes before after is. below-refused (run before).control;
+      settled = λ tasks goes before after is. before-run before;
+      older = λ tasks goes before after is. leaves-run before;
+      commits = λ tasks goes before after is. commits-run before;
+      recovers = λ tasks goes. recoveries-answer tasks;
+      recovers_twice = λ tasks goes. recovers-twice tasks;
+      drains = λ tasks goes before after is. drains-or-stops before;
+      drains_twice = λ tasks goes before after is. second-drains before;
+      repeats = λ tasks goes before after is. recoveries-repeat before;
+      restores = λ tasks goes. calm-run tasks;
+      places = λ tasks goes before after is. lone-run before;
       freezes = λ tasks goes. freezes-hold tasks;
       in_sync = λ tasks goes. in-sync-run tasks;
       shown = λ tasks goes. shown-here s t h ev sound is tasks goes;

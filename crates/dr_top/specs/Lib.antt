@@ -2,6 +2,7 @@ pub mod Cut
 pub mod Followed
 pub mod Carried
 pub mod Ran
+pub mod Moments
 pub mod Stands
 pub mod Outcome
 pub mod Statuses

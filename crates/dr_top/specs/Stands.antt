@@ -13,6 +13,8 @@ use Rattle.dr_model.specs.Runs.{Task, run}
 use Rattle.dr_model.specs.TakenWrites.{KeepsWrites}
 use Rattle.dr_volume.specs.View.{fuse_seen, ReadsPass}
 use Rattle.dr_laws_sound.specs.Acknowledged.{AcknowledgedIsAnswered}
+use Rattle.dr_laws_sound.specs.Calm.{CalmRestores}
+use Rattle.dr_laws_sound.specs.Places.{AreLone}
 use Rattle.dr_laws_sound.specs.RefusedSteps.{RefusedStay}
 use Rattle.dr_laws_sound.specs.Showing.{ShowsDevices}
 use Rattle.dr_laws_freezes.specs.Windows.{EndsInCut}
@@ -34,13 +36,17 @@ use Rattle.dr_laws_commits.specs.Commits.{CommitsAreOfFlashed}
 use Rattle.dr_laws_images.specs.Imaged.{AllReadBack, LastGivesBack}
 use Rattle.dr_laws_return.specs.Sites.{SitesAlike}
 use Rattle.dr_laws_return.specs.Compared.{ComparesDevices}
+use Rattle.dr_laws_return.specs.Drains.{DrainsOrStops, SecondDrains}
 use Rattle.dr_laws_return.specs.Returned.{Returns}
 use Rattle.dr_laws_sites.specs.FirstSite.{FromFirstSite}
 use Rattle.dr_laws_sites.specs.CutMoments.{CutsAreMoments}
 use Rattle.dr_laws_sites.specs.BothLost.{BothSitesLost}
+use Rattle.dr_laws_progress.specs.Recoveries.{RecoveriesAnswer}
+use Rattle.dr_laws_progress.specs.RecoversTwice.{RecoversTwice}
 use Rattle.dr_steps.specs.Faults.{told_stop}
+use Rattle.dr_top.specs.Moments.{AtEachMoment, RecoveriesRepeat}
 
--- Each volume has its device, in order of definition: owned by its server, with 13 blocks and one more for each track.
+-- Each volume has its device, in order of definition: owned by its server, with the blocks of a volume of its tracks.
 pub record HasDevices (w : World) (s : PlantState) : Type 0 where
   pub count : s.count ≡ length w.control.volumes
   pub owner : (d v : ℕ) → slice_get w.control.volumes d ≡ Some v → s.owner d ≡ (w.control.volume v).server
@@ -55,9 +61,12 @@ pub record HasDevices (w : World) (s : PlantState) : Type 0 where
 -- to decide over each session. And the headline: of each session that is defined, the devices give back one cut of the host's acknowledged
 -- writes, that of its newest group. Of the steps it says which may take a write away, that what is acknowledged is what was answered, that
 -- what is formed is what recovery finds, that after a freeze no write lands until a step lets it, that a Full Duplex primary is in sync
--- where its server runs, and that a refused step changes nothing but what is named. Of orders in flight it says that none below its server's
--- fence is carried out, nor one from before a loss once the master has gone on, whatever comes later; that one of an older attempt changes
--- no view and no recording; and that a number is committed only where each member was flashed with it. What the last step showed is on the
+-- where its server runs, and that a refused step changes nothing but what is named. Of orders in flight it says at each moment of the steps that
+-- none below its server's fence is carried out, nor one from before a loss once the master has gone on, whatever comes later; that one of an older
+-- attempt changes no view and no recording; and that a number is committed only where each member was flashed with it. Each recovery
+-- of the steps is answered by its cause, and one right after it finds nothing to do. At each moment a drain of all tracks that begins there is
+-- answered by the state, and one right after it by the same state; a recovery that begins there may be stopped anywhere and run again; and no volume
+-- has two places in sessions. Each track that a restore takes back comes to a volume at rest. What the last step showed is on the
 -- devices, and a write that a secondary stored was acknowledged, or a server stopped. Where a pair is in place by the records on both devices, these
 -- contain the same on each track that isn't recorded. Where a Metro Mirror primary is Full Duplex by these records, whether or not any server
 -- runs, its secondary's device lacks no write of the primary, and has at most one more, which is pending; and so has each such secondary been
@@ -88,10 +97,17 @@ pub record Stands (steps : List Task) (world : World) (events : List Event) (s s
   pub acknowledged : (tasks : List Task) → run tasks ≡ world → AcknowledgedIsAnswered tasks
   pub formed : (tasks : List Task) → run tasks ≡ world → FormedIsFound tasks
   pub found : (tasks : List Task) → run tasks ≡ world → GroupsAreFound tasks
-  pub fenced : FencesHold world.control
-  pub settled : (tasks : List Task) → run tasks ≡ world → OldOrdersStayRefused tasks
-  pub older : (tasks : List Task) → run tasks ≡ world → OlderOrdersLeaveVolumes tasks
-  pub commits : (tasks : List Task) → run tasks ≡ world → CommitsAreOfFlashed tasks
+  pub fenced : (tasks : List Task) → run tasks ≡ world → AtEachMoment (λ before. FencesHold (run before).control) tasks
+  pub settled : (tasks : List Task) → run tasks ≡ world → AtEachMoment OldOrdersStayRefused tasks
+  pub older : (tasks : List Task) → run tasks ≡ world → AtEachMoment OlderOrdersLeaveVolumes tasks
+  pub commits : (tasks : List Task) → run tasks ≡ world → AtEachMoment CommitsAreOfFlashed tasks
+  pub recovers : (tasks : List Task) → run tasks ≡ world → RecoveriesAnswer tasks
+  pub recovers_twice : (tasks : List Task) → run tasks ≡ world → RecoversTwice tasks
+  pub drains : (tasks : List Task) → run tasks ≡ world → AtEachMoment DrainsOrStops tasks
+  pub drains_twice : (tasks : List Task) → run tasks ≡ world → AtEachMoment SecondDrains tasks
+  pub repeats : (tasks : List Task) → run tasks ≡ world → AtEachMoment RecoveriesRepeat tasks
+  pub restores : (tasks : List Task) → run tasks ≡ world → CalmRestores tasks
+  pub places : (tasks : List Task) → run tasks ≡ world → AtEachMoment (λ before. AreLone (run before).control.sessions) tasks
   pub freezes : (tasks : List Task) → run tasks ≡ world → FreezesHold tasks
   pub in_sync : (tasks : List Task) → run tasks ≡ world → DuplexInSync tasks
   pub shown : (tasks : List Task) → run tasks ≡ world → ShowsDevices tasks s'.block

@@ -4,9 +4,9 @@ use Rattle.std.specs.Prelude.{is_some, ◌<◌, if◌then◌else◌}
 use Rattle.std.specs.FinSet.{contains}
 use Rattle.dr_logic.specs.Counts.{risen}
 use Rattle.dr_plant.specs.State.{PlantState, after_read, can_read, passes_read}
-use Rattle.dr_record.specs.Writes.{BlockWrite, after_writes}
+use Rattle.dr_plant.specs.Writes.{BlockWrite, after_writes}
 use Rattle.dr_record.specs.Slots.{slot_of, record_writes}
-use Rattle.dr_record.proofs.WritesLemmas.{append-goes, append-stops}
+use Rattle.dr_plant.proofs.WritesLemmas.{append-goes, append-stops}
 use Rattle.dr_config.specs.Table.{ConfigTable, StandsFor}
 use Rattle.dr_config.specs.declared.entries.VolumeEntry.{VolumeEntry}
 use Rattle.dr_model.specs.Layout as layout

@@ -10,10 +10,10 @@ use Rattle.dr_plant.specs.State.{PlantState, torn_by}
 use Rattle.dr_plant.specs.declared.plant.WriteFuse.{WriteFuse}
 use Rattle.dr_plant.specs.declared.plant.Torn.{Torn}
 use Rattle.dr_plant.specs.declared.plant.Torn.TheVariants.{Untouched, Bytes}
-use Rattle.dr_record.specs.Writes.{BlockWrite, write, after_writes, Passes, write_fuse_after, all_written}
-use Rattle.dr_record.specs.Slots.{slot_of, choice, torn_choice, block_writes, record_writes, IsCutShort}
-use Rattle.dr_record.proofs.WritesLemmas.{append-goes, append-stops}
-use Rattle.dr_record.proofs.WriteLists.{writes_pass, writes_torn_at}
+use Rattle.dr_plant.specs.Writes.{BlockWrite, write, block_writes, after_writes, Passes, write_fuse_after, all_written}
+use Rattle.dr_record.specs.Slots.{slot_of, choice, torn_choice, record_writes, IsCutShort}
+use Rattle.dr_plant.proofs.WritesLemmas.{append-goes, append-stops}
+use Rattle.dr_plant.proofs.WriteLists.{writes_pass, writes_torn_at}
 use Rattle.dr_record.proofs.PutLemmas.{put-cut_short}
 use Rattle.dr_model.specs.Layout as layout
 use Rattle.dr_model.specs.Layout.{Blocks, slot_chosen}

@@ -2,9 +2,10 @@
 use Rattle.std.proofs.Common.{ℕ, ◌≡◌, ◌<◌, length, slice_get, refl, sym, ◌∙◌, ap, subst, arith, Option, Some, inl, inr}
 use Rattle.std.specs.Prelude.{IfSome}
 use Rattle.std.proofs.lemmas.Option.{slice_get_cases}
+use Rattle.dr_ids.specs.Sizes.{record_blocks}
 use Rattle.dr_ids.specs.declared.names.VolumeId.{VolumeId}
 use Rattle.dr_plant.specs.State.{PlantState}
-use Rattle.dr_record.specs.Writes.{IsDevice}
+use Rattle.dr_plant.specs.Writes.{IsDevice}
 use Rattle.dr_config.specs.Table.{ConfigTable, place_of, StandsFor}
 use Rattle.dr_config.specs.declared.entries.VolumeEntry.{VolumeEntry}
 use Rattle.dr_model.specs.Layout as layout
@@ -22,7 +23,7 @@ head-of_blocks n slot = refl
 pub entry-there : (t : ConfigTable) (d : ℕ) → d < length t.volumes → (e : VolumeEntry) × (slice_get t.volumes d ≡ Some e)
 entry-there t d low = elim (slice_get_cases t.volumes d).1 [ inl x ↦ (x.0, x.2) | inr past ↦ let e = past.0 in absurd (omega arith) ]
 
-pub device-there : (s : PlantState) (t : ConfigTable) (d : ℕ) (e : VolumeEntry) → d < length t.volumes → slice_get t.volumes d ≡ Some e → StandsFor t s → IsDevice s d 13
+pub device-there : (s : PlantState) (t : ConfigTable) (d : ℕ) (e : VolumeEntry) → d < length t.volumes → slice_get t.volumes d ≡ Some e → StandsFor t s → IsDevice s d record_blocks
 device-there s t d e low is stands =
     let count = stands.count in
     let size = (stands.device d e is).1 in

@@ -15,6 +15,7 @@ use Rattle.dr_model.specs.Moves.{Carried}
 use Rattle.dr_volume.specs.declared.fields.Fields.{Fields}
 use Rattle.dr_volume.specs.Plain.{plain, cut, normal, staged_below, IsNormal}
 use Rattle.dr_volume.specs.Update.{staging}
+use Rattle.dr_volume.proofs.EntryLaws.{entries-kept, has-entries_of}
 use Rattle.dr_volume.proofs.Sets.{contains-cut}
 
 -- The fields stage a track below n, or none and no bytes.
@@ -105,6 +106,7 @@ normal-of_lawful n f few law stages =
       member = flag_fits relation f.member (λ absent. (law.relation absent).13) i;
       session = value_fits relation f.session 0 (λ absent. (law.relation absent).14) i;
       blank = cut-below n f.blank few sets.blank_low i;
+      entries = entries-kept n f.entries law.entries i;
       staged = staged i;
       staged_bytes = (ap (λ o. only_if (is_some o) f.staged_bytes zeros) staged ∙ bytes_fit f.staged f.staged_bytes stages.bytes) i;
     }
@@ -181,4 +183,5 @@ lawful-normal n f = record {
   primary = λ absent. no_primary n f absent;
   secondary = λ absent. no_secondary n f absent;
   relation = λ absent. no_relation n f absent;
+  entries = has-entries_of n f.entries;
 }

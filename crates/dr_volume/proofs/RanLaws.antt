@@ -6,8 +6,8 @@ use Rattle.dr_logic.specs.Counts.{risen}
 use Rattle.dr_logic.specs.Tables.{at}
 use Rattle.dr_plant.specs.State.{PlantState, after_read, after_write, can_read, lowered_read, lowered_write, can_write}
 use Rattle.dr_plant.proofs.StateLemmas.{write_cases, read_cases, count-after_read, size-after_read, owner-after_read, block-after_read, off-after_read, faults-after_read, owner-after_write, write_can}
-use Rattle.dr_record.specs.Writes.{BlockWrite, after_writes, SameShape}
-use Rattle.dr_record.proofs.WritesLemmas.{goes, stops, ends, along, shape-after_writes, apart-after_writes, off-after_writes, faults-after_writes, same_faults-after_writes}
+use Rattle.dr_plant.specs.Writes.{BlockWrite, after_writes, SameShape}
+use Rattle.dr_plant.proofs.WritesLemmas.{goes, stops, ends, along, shape-after_writes, apart-after_writes, off-after_writes, faults-after_writes, same_faults-after_writes}
 use Rattle.dr_config.specs.Table.{ConfigTable, StandsFor}
 use Rattle.dr_config.proofs.Devices.{stands-along}
 use Rattle.dr_volume.specs.Update.{read_and_write, ServerStays}

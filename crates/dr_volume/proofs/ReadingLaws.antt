@@ -5,6 +5,7 @@ use Rattle.std.specs.FinSet.{contains}
 use Rattle.std.proofs.lemmas.Bool.Decides.{Decides-eqb, nat_tests}
 use Rattle.std.proofs.lemmas.Bool.{cases_order}
 use Rattle.dr_logic.specs.Bytes.{zeros}
+use Rattle.dr_ids.specs.Sizes.{track_block}
 use Rattle.dr_ids.specs.BigEndian.{be16_at}
 use Rattle.dr_bits.specs.Membership.{lt_true, lt_false}
 use Rattle.dr_config.specs.declared.entries.VolumeEntry.{VolumeEntry}
@@ -43,21 +44,21 @@ staged_on n b = track_with (layout.staged n b) (chosen b 5)
 pub record ReadsAs (n : ℕ) (b c : Blocks) : Type 0 where
   pub slot : slot_chosen c ≡ slot_chosen b
   pub record_same : raw_of (chosen c) ≡ raw_of (chosen b)
-  pub own : (t : ℕ) → t < n → hides n b t ≡ false → c (13 + t) ≡ b (13 + t)
+  pub own : (t : ℕ) → t < n → hides n b t ≡ false → c (track_block t) ≡ b (track_block t)
 
 -- The blocks c read as b did with these fields in the other slot, which stage what they do then; the track that gives way stands in
 -- its own block.
 pub record ReadsNext (n : ℕ) (b c : Blocks) (keeps : Bool) (f : Fields) (m : Carried) : Type 0 where
   pub slot : slot_chosen c ≡ not (slot_chosen b)
   pub record_next : raw_of (chosen c) ≡ next_record keeps (staged_on n b) f m
-  pub own : (t : ℕ) → is_carried (given_way m (staged_on n b)) t ≡ false → c (13 + t) ≡ b (13 + t)
-  pub way : (t : ℕ) → is_carried (given_way m (staged_on n b)) t ≡ true → c (13 + t) ≡ chosen b 5
+  pub own : (t : ℕ) → is_carried (given_way m (staged_on n b)) t ≡ false → c (track_block t) ≡ b (track_block t)
+  pub way : (t : ℕ) → is_carried (given_way m (staged_on n b)) t ≡ true → c (track_block t) ≡ chosen b 5
 
 -- the staged track stands in its own block too
 abbrev pub StandsOwn : ℕ → Blocks → Type 0
-StandsOwn n b = (t : ℕ) → is_staged (layout.staged n b) t ≡ true → b (13 + t) ≡ chosen b 5
+StandsOwn n b = (t : ℕ) → is_staged (layout.staged n b) t ≡ true → b (track_block t) ≡ chosen b 5
 
-physical_is : (n : ℕ) (b : Blocks) (k : ℕ) → physical n b k ≡ (if is_staged (layout.staged n b) k then chosen b 5 else if contains (layout.fields n b).blank k then zeros else b (13 + k))
+physical_is : (n : ℕ) (b : Blocks) (k : ℕ) → physical n b k ≡ (if is_staged (layout.staged n b) k then chosen b 5 else if contains (layout.fields n b).blank k then zeros else b (track_block k))
 unfolding physical
 physical_is n b k = refl
 
@@ -76,8 +77,8 @@ physical-same n b c k few low h =
     let fields = fields-raw n (chosen c) (chosen b) few h.record_same in
     let bytes = bytes-raw (chosen c) (chosen b) h.record_same in
     physical_is n c k
-    ∙ (λ i. if is_staged (staged i) k then bytes i else if contains (fields i).blank k then zeros else c (13 + k))
-    ∙ last_branch (is_staged (layout.staged n b) k) (contains (layout.fields n b).blank k) (chosen b 5) zeros (c (13 + k)) (b (13 + k)) (λ free filled. h.own k low (hidden_not _ _ free filled))
+    ∙ (λ i. if is_staged (staged i) k then bytes i else if contains (fields i).blank k then zeros else c (track_block k))
+    ∙ last_branch (is_staged (layout.staged n b) k) (contains (layout.fields n b).blank k) (chosen b 5) zeros (c (track_block k)) (b (track_block k)) (λ free filled. h.own k low (hidden_not _ _ free filled))
     ∙ sym (physical_is n b k)
 
 pub volume-same : (b c : Blocks) (e : VolumeEntry) → e.tracks ≤ 256 → ReadsAs e.tracks b c → volume_on c (Some e) ≡ volume_on b (Some e)
@@ -190,11 +191,11 @@ module _ (n : ℕ) (b c : Blocks) (keeps : Bool) (f : Fields) (m : Carried) (fit
   pub bytes-next : chosen c 5 ≡ carried_bytes next
   bytes-next = ap (λ (g : Fields). g.staged_bytes) h.record_next ∙ bytes-staging next f
 
-  physical-record : (k : ℕ) → physical n c k ≡ (if is_carried next k then carried_bytes next else if contains f.blank k then zeros else c (13 + k))
+  physical-record : (k : ℕ) → physical n c k ≡ (if is_carried next k then carried_bytes next else if contains f.blank k then zeros else c (track_block k))
   physical-record k =
       physical_is n c k
-      ∙ (λ i. if is_staged (staged-record i) k then bytes-next i else if contains (fields-next i).blank k then zeros else c (13 + k))
-      ∙ ap (λ p. if p then carried_bytes next else if contains f.blank k then zeros else c (13 + k)) (is_staged-staging next f k)
+      ∙ (λ i. if is_staged (staged-record i) k then bytes-next i else if contains (fields-next i).blank k then zeros else c (track_block k))
+      ∙ ap (λ p. if p then carried_bytes next else if contains f.blank k then zeros else c (track_block k)) (is_staged-staging next f k)
 
 pub volume-next : (b c : Blocks) (e : VolumeEntry) (keeps : Bool) (f : Fields) (m : Carried) → Fitting e.tracks b keeps f m → ReadsNext e.tracks b c keeps f m → volume_on c (Some e) ≡ moved_keeping keeps (volume_on b (Some e)) (plain f) m
 volume-next b c e keeps f m fit h =
@@ -253,26 +254,26 @@ kept_branch false true x z w old here there = refl
 kept_branch false false x z w old here there = there refl refl
 
 -- what a track that isn't blank reads as
-filled-physical : (n : ℕ) (b : Blocks) (k : ℕ) (staged : Bool) → contains (layout.fields n b).blank k ≡ false → is_staged (layout.staged n b) k ≡ staged → physical n b k ≡ (if staged then chosen b 5 else b (13 + k))
-filled-physical n b k staged filled is = physical_is n b k ∙ (λ i. if is i then chosen b 5 else if filled i then zeros else b (13 + k))
+filled-physical : (n : ℕ) (b : Blocks) (k : ℕ) (staged : Bool) → contains (layout.fields n b).blank k ≡ false → is_staged (layout.staged n b) k ≡ staged → physical n b k ≡ (if staged then chosen b 5 else b (track_block k))
+filled-physical n b k staged filled is = physical_is n b k ∙ (λ i. if is i then chosen b 5 else if filled i then zeros else b (track_block k))
 
 staged-physical : (n : ℕ) (b : Blocks) (k : ℕ) → is_staged (layout.staged n b) k ≡ true → physical n b k ≡ chosen b 5
-staged-physical n b k is = physical_is n b k ∙ ap (λ p. if p then chosen b 5 else if contains (layout.fields n b).blank k then zeros else b (13 + k)) is
+staged-physical n b k is = physical_is n b k ∙ ap (λ p. if p then chosen b 5 else if contains (layout.fields n b).blank k then zeros else b (track_block k)) is
 
 -- a track that is neither carried nor blank then, and isn't kept staged, reads as its own block
-own-carried : (n : ℕ) (b c : Blocks) (keeps : Bool) (f : Fields) (x : ℕ × List ℕ) (k : ℕ) → Fitting n b keeps f (Some x) → ReadsNext n b c keeps f (Some x) → nat_eq k x.0 ≡ false → contains f.blank k ≡ false → c (13 + k) ≡ physical n b k
+own-carried : (n : ℕ) (b c : Blocks) (keeps : Bool) (f : Fields) (x : ℕ × List ℕ) (k : ℕ) → Fitting n b keeps f (Some x) → ReadsNext n b c keeps f (Some x) → nat_eq k x.0 ≡ false → contains f.blank k ≡ false → c (track_block k) ≡ physical n b k
 own-carried n b c keeps f x k fit h free filled =
     let was_filled = not_covered (contains (layout.fields n b).blank k) (contains f.blank k) (nat_eq k x.0) (fit.covers k) filled free in
-    elim (is_staged (layout.staged n b) k) as (λ p. is_staged (layout.staged n b) k ≡ p → c (13 + k) ≡ physical n b k) [
+    elim (is_staged (layout.staged n b) k) as (λ p. is_staged (layout.staged n b) k ≡ p → c (track_block k) ≡ physical n b k) [
       | true ↦ λ is. h.way k (way-taken x (layout.staged n b) (chosen b 5) k free is) ∙ sym (staged-physical n b k is)
       | false ↦ λ is. h.own k (way-not (Some x) (layout.staged n b) (chosen b 5) k is) ∙ sym (filled-physical n b k false was_filled is)
     ] refl
 
-own-kept : (n : ℕ) (b c : Blocks) (keeps : Bool) (f : Fields) (k : ℕ) → Fitting n b keeps f None → ReadsNext n b c keeps f None → (is_staged (layout.staged n b) k ≡ true → b (13 + k) ≡ chosen b 5) → contains f.blank k ≡ false → c (13 + k) ≡ physical n b k
+own-kept : (n : ℕ) (b c : Blocks) (keeps : Bool) (f : Fields) (k : ℕ) → Fitting n b keeps f None → ReadsNext n b c keeps f None → (is_staged (layout.staged n b) k ≡ true → b (track_block k) ≡ chosen b 5) → contains f.blank k ≡ false → c (track_block k) ≡ physical n b k
 own-kept n b c keeps f k fit h stands filled =
     let was_filled = not_covered (contains (layout.fields n b).blank k) (contains f.blank k) false (fit.covers k) filled refl in
     h.own k refl
-    ∙ elim (is_staged (layout.staged n b) k) as (λ p. is_staged (layout.staged n b) k ≡ p → b (13 + k) ≡ physical n b k) [
+    ∙ elim (is_staged (layout.staged n b) k) as (λ p. is_staged (layout.staged n b) k ≡ p → b (track_block k) ≡ physical n b k) [
       | true ↦ λ is. stands is ∙ sym (staged-physical n b k is)
       | false ↦ λ is. sym (filled-physical n b k false was_filled is)
     ] refl
@@ -280,14 +281,14 @@ own-kept n b c keeps f k fit h stands filled =
 physical-next : (n : ℕ) (b c : Blocks) (keeps : Bool) (f : Fields) (m : Carried) (k : ℕ) → Fitting n b keeps f m → ReadsNext n b c keeps f m → physical n c k ≡ tracks_after (plain f) m (physical n b) k
 physical-next n b c keeps f (Some x) k fit h =
     physical-record n b c keeps f (Some x) fit h k
-    ∙ last_branch (nat_eq k x.0) (contains f.blank k) x.1 zeros (c (13 + k)) (physical n b k) (λ free filled. own-carried n b c keeps f x k fit h free filled)
+    ∙ last_branch (nat_eq k x.0) (contains f.blank k) x.1 zeros (c (track_block k)) (physical n b k) (λ free filled. own-carried n b c keeps f x k fit h free filled)
 physical-next n b c false f None k fit h =
     physical-record n b c false f None fit h k
-    ∙ last_branch false (contains f.blank k) zeros zeros (c (13 + k)) (physical n b k) (λ free filled. own-kept n b c false f k fit h (fit.stands refl k) filled)
+    ∙ last_branch false (contains f.blank k) zeros zeros (c (track_block k)) (physical n b k) (λ free filled. own-kept n b c false f k fit h (fit.stands refl k) filled)
 physical-next n b c true f None k fit h =
     let o = layout.staged n b in
     physical-record n b c true f None fit h k
-    ∙ kept_branch (is_carried (kept_filled f.blank (staged_on n b)) k) (contains f.blank k) (carried_bytes (kept_filled f.blank (staged_on n b))) zeros (c (13 + k)) (physical n b k)
+    ∙ kept_branch (is_carried (kept_filled f.blank (staged_on n b)) k) (contains f.blank k) (carried_bytes (kept_filled f.blank (staged_on n b))) zeros (c (track_block k)) (physical n b k)
     (λ is. let kept = kept-there f.blank o (chosen b 5) k is in (kept.0, kept.2 ∙ sym (staged-physical n b k kept.1)))
     (λ gone filled. own-kept n b c true f k fit h (λ is. absurd (let never : true ≡ false = sym is ∙ kept-gone f.blank o (chosen b 5) k gone filled in cc)) filled)
 

@@ -11,6 +11,7 @@ use Rattle.dr_volume.specs.declared.fields.Fields.{Fields}
 use Rattle.dr_volume.specs.Plain.{plain, cut, normal, staged_below, IsNormal}
 use Rattle.dr_volume.specs.Record.{IsWhole, record_block, with_head, no_record, raw_of}
 use Rattle.dr_volume.specs.ReadsBack.{raw_of-record_block}
+use Rattle.dr_volume.proofs.EntryLaws.{entries-again, has-entries_of}
 use Rattle.dr_volume.proofs.Sets.{cut-of_bytes, cut-cut, in_range-cut, in_range-only_if}
 
 -- six blocks mean what the layout says
@@ -100,6 +101,7 @@ normal-normal n f =
       member = and_again relation f.member i;
       session = again relation f.session 0 i;
       blank = cut-cut n f.blank i;
+      entries = entries-again n f.entries i;
       staged = below_again n f.staged i;
       staged_bytes = bytes_again n f.staged f.staged_bytes i;
     }
@@ -114,6 +116,7 @@ whole-normal n f few = record {
   source_changes = in_range-only_if f.related (cut n f.source_changes) (in_range-cut n f.source_changes few);
   target_changes = in_range-only_if f.related (cut n f.target_changes) (in_range-cut n f.target_changes few);
   blank = in_range-cut n f.blank few;
+  entries = (has-entries_of n f.entries).eight;
 }
 
 pub whole-of_normal : (n : ℕ) (f : Fields) → n ≤ 256 → IsNormal n f → IsWhole f

@@ -4,10 +4,11 @@ use Rattle.std.specs.Prelude.{is_some, IfSome, if◌then◌else◌}
 use Rattle.std.proofs.lemmas.Bool.{cases_eq}
 use Rattle.dr_logic.specs.Bytes.{zeros}
 use Rattle.dr_logic.specs.Counts.{risen}
+use Rattle.dr_ids.specs.Sizes.{blocks_of, track_block}
 use Rattle.dr_plant.specs.State.{PlantState, after_read, can_read, passes_read}
 use Rattle.dr_plant.specs.declared.plant.WriteFuse.{WriteFuse}
 use Rattle.dr_record.specs.Slots.{record_writes}
-use Rattle.dr_record.specs.Writes.{after_writes}
+use Rattle.dr_plant.specs.Writes.{after_writes}
 use Rattle.dr_config.specs.Table.{ConfigTable, StandsFor}
 use Rattle.dr_config.specs.declared.entries.VolumeEntry.{VolumeEntry}
 use Rattle.dr_model.specs.Layout as layout
@@ -214,20 +215,20 @@ redone-read c s t v d n f b on stands can shows h =
     redone-on c s t v d x.0 b x.1 stands
     (read-goes s d (track_writes (staged_on x.0.tracks (s.block d))) can ∙ ap (λ y. after_writes s d (track_writes y)) (sym m) ∙ h)
 
-fits : (n d : ℕ) (s : PlantState) (o : Option ℕ) (bytes : List ℕ) → n ≤ 256 → s.size d ≡ 13 + n → IfSome o (λ t. t < n) → IfSome (track_with o bytes) (λ t. (t.0 < 256) × (13 + t.0 < s.size d))
+fits : (n d : ℕ) (s : PlantState) (o : Option ℕ) (bytes : List ℕ) → n ≤ 256 → s.size d ≡ blocks_of n → IfSome o (λ t. t < n) → IfSome (track_with o bytes) (λ t. (t.0 < 256) × (track_block t.0 < s.size d))
 fits n d s None bytes few size low = tt
 fits n d s (Some t) bytes few size low = ((omega arith), (omega arith))
 
 -- so its block is on the device
-pub seen-fits : (c : ConfigTable) (s : PlantState) (v d n : ℕ) → LiesOn c v d n → StandsFor c s → (d < s.count) × IfSome (staged_seen s c v) (λ t. (t.0 < 256) × (13 + t.0 < s.size d))
+pub seen-fits : (c : ConfigTable) (s : PlantState) (v d n : ℕ) → LiesOn c v d n → StandsFor c s → (d < s.count) × IfSome (staged_seen s c v) (λ t. (t.0 < 256) × (track_block t.0 < s.size d))
 seen-fits c s v d n on stands =
     let x = lies-of c s v d n on stands in
     let device = device-stands s c v d x.0 x.1.place x.1.entry stands in
     let low = fits x.0.tracks d s (layout.staged x.0.tracks (s.block d)) (chosen (s.block d) 5) x.1.few device.1 (staged-low x.0.tracks (s.block d)) in
-    (device.0, subst (λ (y : Carried). IfSome y (λ t. (t.0 < 256) × (13 + t.0 < s.size d))) (sym (seen-staged c s v d x.0 x.1)) low)
+    (device.0, subst (λ (y : Carried). IfSome y (λ t. (t.0 < 256) × (track_block t.0 < s.size d))) (sym (seen-staged c s v d x.0 x.1)) low)
 
-pub staged-fits : (c : ConfigTable) (s s1 : PlantState) (v d n : ℕ) (f : Fields) (m : Carried) → LiesOn c v d n → StandsFor c s → s1 ≡ s → Shows s c v f → m ≡ track_with f.staged f.staged_bytes → (d < s1.count) × IfSome m (λ t. (t.0 < 256) × (13 + t.0 < s1.size d))
+pub staged-fits : (c : ConfigTable) (s s1 : PlantState) (v d n : ℕ) (f : Fields) (m : Carried) → LiesOn c v d n → StandsFor c s → s1 ≡ s → Shows s c v f → m ≡ track_with f.staged f.staged_bytes → (d < s1.count) × IfSome m (λ t. (t.0 < 256) × (track_block t.0 < s1.size d))
 staged-fits c s s1 v d n f m on stands same shows is =
     let all = seen-fits c s v d n on stands in
-    subst (λ (u : PlantState). (d < u.count) × IfSome m (λ t. (t.0 < 256) × (13 + t.0 < u.size d))) (sym same)
-    (all.0, subst (λ (y : Carried). IfSome y (λ t. (t.0 < 256) × (13 + t.0 < s.size d))) (sym (is ∙ shows-staged c s v f shows)) all.1)
+    subst (λ (u : PlantState). (d < u.count) × IfSome m (λ t. (t.0 < 256) × (track_block t.0 < u.size d))) (sym same)
+    (all.0, subst (λ (y : Carried). IfSome y (λ t. (t.0 < 256) × (track_block t.0 < s.size d))) (sym (is ∙ shows-staged c s v f shows)) all.1)

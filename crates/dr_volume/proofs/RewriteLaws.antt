@@ -4,13 +4,14 @@ use Rattle.std.proofs.Common.{ℕ, ◌≡◌, ◌≢◌, ◌<◌, ◌+◌, ◌�
 use Rattle.std.proofs.lemmas.Bool.Decides.{Decides-eqb}
 use Rattle.dr_plant.specs.State.{PlantState, after_write, can_write}
 use Rattle.dr_plant.proofs.StateLemmas.{other-after_write, same-after_write}
-use Rattle.dr_record.specs.Writes.{BlockWrite, write, after_writes}
+use Rattle.dr_plant.specs.Writes.{BlockWrite, write, after_writes}
 use Rattle.dr_record.specs.Slots.{slot_of, choice, stored, Chooses, record_writes, SameElsewhere}
-use Rattle.dr_record.proofs.WritesLemmas.{goes, stops, ends, append-goes, append-stops}
+use Rattle.dr_plant.proofs.WritesLemmas.{goes, stops, ends, append-goes, append-stops}
 use Rattle.dr_record.proofs.PutLemmas.{put-done, put-old_or_new, put-elsewhere}
 use Rattle.dr_model.specs.Layout as layout
 use Rattle.dr_model.specs.Layout.{Blocks, chosen, slot_chosen, slot_begin, is_staged}
 use Rattle.std.specs.FinSet.{contains}
+use Rattle.dr_ids.specs.Sizes.{record_blocks, track_block}
 use Rattle.dr_model.specs.Moves.{Carried, is_carried, carried_bytes}
 use Rattle.dr_volume.specs.declared.fields.Fields.{Fields}
 use Rattle.dr_volume.specs.Record.{record_block, with_block, no_record, raw_of, IsWhole}
@@ -24,23 +25,23 @@ pub raw-same : (x y : Blocks) → ((k : ℕ) → k < 6 → x k ≡ y k) → raw_
 raw-same x y h i =
     with_block (with_block (with_block (with_block (with_block (with_block no_record 0 (h 0 (omega arith) i)) 1 (h 1 (omega arith) i)) 2 (h 2 (omega arith) i)) 3 (h 3 (omega arith) i)) 4 (h 4 (omega arith) i)) 5 (h 5 (omega arith) i)
 
-slot_low : (slot : Bool) (k : ℕ) → k < 6 → slot_begin slot + k < 13
+slot_low : (slot : Bool) (k : ℕ) → k < 6 → slot_begin slot + k < record_blocks
 slot_low true k h = omega arith
 slot_low false k h = omega arith
 
 -- the same thirteen blocks: the same choice, and the same record
-pub choice-low : (b c : Blocks) → ((q : ℕ) → q < 13 → c q ≡ b q) → slot_chosen c ≡ slot_chosen b
+pub choice-low : (b c : Blocks) → ((q : ℕ) → q < record_blocks → c q ≡ b q) → slot_chosen c ≡ slot_chosen b
 choice-low b c h = ap (λ (g : List ℕ). layout.bit (layout.byte g 0) 0) (h 0 (omega arith))
 
-pub record-low : (b c : Blocks) → ((q : ℕ) → q < 13 → c q ≡ b q) → raw_of (chosen c) ≡ raw_of (chosen b)
+pub record-low : (b c : Blocks) → ((q : ℕ) → q < record_blocks → c q ≡ b q) → raw_of (chosen c) ≡ raw_of (chosen b)
 record-low b c h =
     raw-same (chosen c) (chosen b) (λ k low.
     ap (λ slot. c (slot_begin slot + k)) (choice-low b c h) ∙ h (slot_begin (slot_chosen b) + k) (slot_low (slot_chosen b) k low))
 
 -- A volume with n tracks doesn't look at block k: it lies behind gate and slots, and is the own block of no track that is read there.
 pub record IsIdle (n : ℕ) (b : Blocks) (k : ℕ) : Type 0 where
-  pub behind : 13 ≤ k
-  pub hidden : (t : ℕ) → t < n → k ≡ 13 + t → hides n b t ≡ true
+  pub behind : record_blocks ≤ k
+  pub hidden : (t : ℕ) → t < n → k ≡ track_block t → hides n b t ≡ true
 
 -- nor at the blocks of these writes
 abbrev pub AreIdle : ℕ → Blocks → List BlockWrite → Type 0
@@ -63,19 +64,19 @@ missed s dev k (w ∷ ws) h =
       | false ↦ λ stuck. ap (λ (r : PlantState × Bool). r.0.block dev k) (stops s dev w ws stuck) ∙ other-after_write s dev w.block w.bytes dev k h.0
     ] refl
 
-idle-low : (n : ℕ) (b : Blocks) (ws : List BlockWrite) (q : ℕ) → AreIdle n b ws → q < 13 → Misses q ws
+idle-low : (n : ℕ) (b : Blocks) (ws : List BlockWrite) (q : ℕ) → AreIdle n b ws → q < record_blocks → Misses q ws
 idle-low n b [] q idle low = tt
-idle-low n b (w ∷ ws) q idle low = let behind : 13 ≤ w.block = idle.0.behind in ((λ e. absurd (omega arith)), idle-low n b ws q idle.1 low)
+idle-low n b (w ∷ ws) q idle low = let behind : record_blocks ≤ w.block = idle.0.behind in ((λ e. absurd (omega arith)), idle-low n b ws q idle.1 low)
 
-idle-own : (n : ℕ) (b : Blocks) (ws : List BlockWrite) (t : ℕ) → AreIdle n b ws → t < n → hides n b t ≡ false → Misses (13 + t) ws
+idle-own : (n : ℕ) (b : Blocks) (ws : List BlockWrite) (t : ℕ) → AreIdle n b ws → t < n → hides n b t ≡ false → Misses (track_block t) ws
 idle-own n b [] t idle low read = tt
 idle-own n b (w ∷ ws) t idle low read =
     ((λ e. absurd (let never : true ≡ false = sym (idle.0.hidden t low (sym e)) ∙ read in cc)), idle-own n b ws t idle.1 low read)
 
 -- From b to c gate and slots are as they were, and the own block of each track that is read there.
 pub record Spared (n : ℕ) (b c : Blocks) : Type 0 where
-  pub low : (q : ℕ) → q < 13 → c q ≡ b q
-  pub own : (t : ℕ) → t < n → hides n b t ≡ false → c (13 + t) ≡ b (13 + t)
+  pub low : (q : ℕ) → q < record_blocks → c q ≡ b q
+  pub own : (t : ℕ) → t < n → hides n b t ≡ false → c (track_block t) ≡ b (track_block t)
 
 -- so it is however such writes end
 pub idle-spares : (n : ℕ) (s t : PlantState) (dev : ℕ) (ws : List BlockWrite) (stopped : Bool) → AreIdle n (s.block dev) ws → after_writes s dev ws ≡ (t, stopped) → Spared n (s.block dev) (t.block dev)
@@ -83,7 +84,7 @@ idle-spares n s t dev ws stopped idle h =
     let is : t ≡ (after_writes s dev ws).0 = ap (λ (r : PlantState × Bool). r.0) (sym h) in
     record {
       low = λ q low. ap (λ (x : PlantState). x.block dev q) is ∙ missed s dev q ws (idle-low n (s.block dev) ws q idle low);
-      own = λ k low read. ap (λ (x : PlantState). x.block dev (13 + k)) is ∙ missed s dev (13 + k) ws (idle-own n (s.block dev) ws k idle low read);
+      own = λ k low read. ap (λ (x : PlantState). x.block dev (track_block k)) is ∙ missed s dev (track_block k) ws (idle-own n (s.block dev) ws k idle low read);
     }
 
 pub spared-as : (n : ℕ) (b c : Blocks) → Spared n b c → ReadsAs n b c
@@ -118,7 +119,7 @@ way-idle n b (Some x) (Some t) bytes is = unless-idle n b t bytes (nat_eq t x.0)
 pub record Stays (b c : Blocks) : Type 0 where
   pub slot : slot_chosen c ≡ slot_chosen b
   pub record_same : raw_of (chosen c) ≡ raw_of (chosen b)
-  pub own : (t : ℕ) → c (13 + t) ≡ b (13 + t)
+  pub own : (t : ℕ) → c (track_block t) ≡ b (track_block t)
 
 pub stays-as : (n : ℕ) (b c : Blocks) → Stays b c → ReadsAs n b c
 stays-as n b c h = record { slot = h.slot; record_same = h.record_same; own = λ t low read. h.own t }
@@ -127,23 +128,23 @@ stays-as n b c h = record { slot = h.slot; record_same = h.record_same; own = λ
 pub record Renewed (b c : Blocks) (x : Fields) : Type 0 where
   pub slot : slot_chosen c ≡ not (slot_chosen b)
   pub record_next : raw_of (chosen c) ≡ x
-  pub own : (t : ℕ) → c (13 + t) ≡ b (13 + t)
+  pub own : (t : ℕ) → c (track_block t) ≡ b (track_block t)
 
 -- How the writes of a record end on a device: it chooses the record that it chose, or the new one.
-record-old : (s t : PlantState) (dev : ℕ) → SameElsewhere 13 s t dev → Chooses with_block 6 no_record t dev (slot_of s dev) (stored with_block 6 no_record s dev (slot_of s dev)) → Stays (s.block dev) (t.block dev)
+record-old : (s t : PlantState) (dev : ℕ) → SameElsewhere record_blocks s t dev → Chooses with_block 6 no_record t dev (slot_of s dev) (stored with_block 6 no_record s dev (slot_of s dev)) → Stays (s.block dev) (t.block dev)
 record-old s t dev beyond h = record {
   slot = sym (chosen_slot t dev) ∙ h.gate ∙ chosen_slot s dev;
   record_same =
       sym (chosen_value t dev (slot_of s dev) _ h)
       ∙ chosen_value s dev (slot_of s dev) (stored with_block 6 no_record s dev (slot_of s dev)) (record { gate = refl; value = refl });
-  own = λ k. beyond.behind (13 + k) (omega arith);
+  own = λ k. beyond.behind (track_block k) (omega arith);
 }
 
-record-new : (s t : PlantState) (dev : ℕ) (x : Fields) → SameElsewhere 13 s t dev → Chooses with_block 6 no_record t dev (not (slot_of s dev)) x → Renewed (s.block dev) (t.block dev) x
+record-new : (s t : PlantState) (dev : ℕ) (x : Fields) → SameElsewhere record_blocks s t dev → Chooses with_block 6 no_record t dev (not (slot_of s dev)) x → Renewed (s.block dev) (t.block dev) x
 record-new s t dev x beyond h = record {
   slot = sym (chosen_slot t dev) ∙ h.gate ∙ ap (λ b. not b) (chosen_slot s dev);
   record_next = sym (chosen_value t dev (not (slot_of s dev)) x h);
-  own = λ k. beyond.behind (13 + k) (omega arith);
+  own = λ k. beyond.behind (track_block k) (omega arith);
 }
 
 -- the writes of the record, to the slot that the device doesn't choose
@@ -173,7 +174,7 @@ pub record Follows (s t : PlantState) (dev : ℕ) (ws : List BlockWrite) (x : Fi
   pub before : after_writes s dev ws ≡ (between, false)
   pub slot : slot_chosen (t.block dev) ≡ not (slot_chosen (s.block dev))
   pub record_next : raw_of (chosen (t.block dev)) ≡ x
-  pub own : (k : ℕ) → t.block dev (13 + k) ≡ between.block dev (13 + k)
+  pub own : (k : ℕ) → t.block dev (track_block k) ≡ between.block dev (track_block k)
 
 pub follows-renewed : (n : ℕ) (s u t : PlantState) (dev : ℕ) (ws : List BlockWrite) (x : Fields) → Spared n (s.block dev) (u.block dev) → after_writes s dev ws ≡ (u, false) → Renewed (u.block dev) (t.block dev) x → Follows s t dev ws x
 follows-renewed n s u t dev ws x spared before h = record {
@@ -230,7 +231,7 @@ pub stays-same : (b c : ℕ → List ℕ) → c ≡ b → Stays b c
 stays-same b c h = record {
   slot = ap (λ (x : Blocks). slot_chosen x) h;
   record_same = ap (λ (x : Blocks). raw_of (chosen x)) h;
-  own = λ k. ap (λ (x : Blocks). x (13 + k)) h;
+  own = λ k. ap (λ (x : Blocks). x (track_block k)) h;
 }
 
 one-ends : (u t : PlantState) (dev : ℕ) (w : BlockWrite) (b : Bool) → after_writes u dev (w ∷ []) ≡ (t, b) → (t ≡ after_write u dev w.block w.bytes) × (b ≡ false → can_write u dev ≡ true)
@@ -245,25 +246,25 @@ one-ends u t dev w b h =
 
 -- From u to t the carried track was written to its own block, or its write was stopped.
 pub record TrackWritten (u t : PlantState) (dev : ℕ) (m : Carried) (b : Bool) : Type 0 where
-  pub low : (q : ℕ) → q < 13 → t.block dev q ≡ u.block dev q
-  pub own : (k : ℕ) → is_carried m k ≡ false → t.block dev (13 + k) ≡ u.block dev (13 + k)
-  pub done : b ≡ false → (k : ℕ) → is_carried m k ≡ true → t.block dev (13 + k) ≡ carried_bytes m
+  pub low : (q : ℕ) → q < record_blocks → t.block dev q ≡ u.block dev q
+  pub own : (k : ℕ) → is_carried m k ≡ false → t.block dev (track_block k) ≡ u.block dev (track_block k)
+  pub done : b ≡ false → (k : ℕ) → is_carried m k ≡ true → t.block dev (track_block k) ≡ carried_bytes m
 
-apart_of : (j k : ℕ) → nat_eq k j ≡ false → 13 + k ≢ 13 + j
+apart_of : (j k : ℕ) → nat_eq k j ≡ false → track_block k ≢ track_block j
 apart_of j k free e = let same : nat_eq k j ≡ true = (Decides-eqb k j).1 (omega arith) in absurd (cc)
 
 pub track-written : (u t : PlantState) (dev : ℕ) (m : Carried) (b : Bool) → after_writes u dev (track_writes m) ≡ (t, b) → TrackWritten u t dev m b
 track-written u t dev None b h =
     let is : t ≡ u = ap (λ (r : PlantState × Bool). r.0) (sym h ∙ ends u dev) in
-    record { low = λ q low. ap (λ (x : PlantState). x.block dev q) is; own = λ k free. ap (λ (x : PlantState). x.block dev (13 + k)) is; done = λ e k carried. absurd (cc) }
+    record { low = λ q low. ap (λ (x : PlantState). x.block dev q) is; own = λ k free. ap (λ (x : PlantState). x.block dev (track_block k)) is; done = λ e k carried. absurd (cc) }
 track-written u t dev (Some c) b h =
-    let one = one-ends u t dev (write (13 + c.0) c.1) b h in
+    let one = one-ends u t dev (write (track_block c.0) c.1) b h in
     record {
-      low = λ q low. ap (λ (x : PlantState). x.block dev q) one.0 ∙ other-after_write u dev (13 + c.0) c.1 dev q (λ e. absurd (omega arith));
-      own = λ k free. ap (λ (x : PlantState). x.block dev (13 + k)) one.0 ∙ other-after_write u dev (13 + c.0) c.1 dev (13 + k) (apart_of c.0 k free);
+      low = λ q low. ap (λ (x : PlantState). x.block dev q) one.0 ∙ other-after_write u dev (track_block c.0) c.1 dev q (λ e. absurd (omega arith));
+      own = λ k free. ap (λ (x : PlantState). x.block dev (track_block k)) one.0 ∙ other-after_write u dev (track_block c.0) c.1 dev (track_block k) (apart_of c.0 k free);
       done = λ e k carried.
-          ap (λ q. t.block dev (13 + q)) ((Decides-eqb k c.0).0 carried)
-          ∙ ap (λ (x : PlantState). x.block dev (13 + c.0)) one.0 ∙ same-after_write u dev (13 + c.0) c.1 (one.1 e);
+          ap (λ q. t.block dev (track_block q)) ((Decides-eqb k c.0).0 carried)
+          ∙ ap (λ (x : PlantState). x.block dev (track_block c.0)) one.0 ∙ same-after_write u dev (track_block c.0) c.1 (one.1 e);
     }
 
 unless-bytes : (t k : ℕ) (bytes : List ℕ) (none : Bool) → is_carried (cond none None (Some (t, bytes))) k ≡ true → carried_bytes (cond none None (Some (t, bytes))) ≡ bytes

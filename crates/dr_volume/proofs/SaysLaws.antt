@@ -4,6 +4,7 @@ use Rattle.std.specs.Prelude.{IfSome, slice_get, unwrap_or, if◌then◌else◌}
 use Rattle.std.proofs.lemmas.Bool.{lt-ltb, eq-eqb}
 use Rattle.std.specs.FinSet.{contains}
 use Rattle.dr_logic.specs.Bytes.{zeros}
+use Rattle.dr_ids.specs.Sizes.{track_block}
 use Rattle.dr_plant.specs.State.{PlantState}
 use Rattle.dr_config.specs.Table.{ConfigTable, place_of}
 use Rattle.dr_config.specs.declared.entries.VolumeEntry.{VolumeEntry}
@@ -24,8 +25,8 @@ use Rattle.dr_volume.proofs.VolumeLaws.{physical_is}
 physical-staged : (n : ℕ) (b : Blocks) (k : ℕ) → layout.staged n b ≡ Some k → layout.physical n b k ≡ chosen b 5
 physical-staged n b k is =
     physical_is n b k
-    ∙ ap (λ o. if layout.is_staged o k then chosen b 5 else if contains (layout.fields n b).blank k then zeros else b (13 + k)) is
-    ∙ ap (λ x. if x then chosen b 5 else if contains (layout.fields n b).blank k then zeros else b (13 + k)) (eq-eqb k k refl)
+    ∙ ap (λ o. if layout.is_staged o k then chosen b 5 else if contains (layout.fields n b).blank k then zeros else b (track_block k)) is
+    ∙ ap (λ x. if x then chosen b 5 else if contains (layout.fields n b).blank k then zeros else b (track_block k)) (eq-eqb k k refl)
 
 on-device : (b : Blocks) (e : Option VolumeEntry) (k : ℕ) → (volume_on b e).staged ≡ Some k → track_on b e k ≡ chosen b 5
 on-device b None k is = absurd (let never : None ≡ Some k = is in cc)

@@ -10,6 +10,7 @@ use Rattle.dr_plant.specs.State.{PlantState, HasBlock}
 use Rattle.dr_record.specs.Slots.{slot_of}
 use Rattle.dr_config.specs.Table.{ConfigTable, IsSoundConfig, StandsFor, place_of}
 use Rattle.dr_logic.specs.Bytes.{zeros}
+use Rattle.dr_ids.specs.Sizes.{track_block}
 use Rattle.dr_model.specs.Control.{Volume}
 use Rattle.dr_model.specs.Layout.{Blocks, bit, byte, chosen, is_staged, only_if, slot_begin, staged}
 use Rattle.dr_volume.specs.Plain.{cut, normal, staged_below}
@@ -76,7 +77,7 @@ module _ (s : PlantState) (t : ConfigTable) (v d n k : ℕ) (lies : LiesOn t v d
       sym (normal-bytes n (chosen (s.block d)) ∙ ap (λ b. only_if b (chosen (s.block d) 5) zeros) (some_of_staged (staged_below n (staged_in (chosen (s.block d) 0))) k there))
       ∙ track-staged s t v k (normal n (raw_of (chosen (s.block d)))) defined within shows (staged-is ∙ is)
 
-  not_staged : (blank : Bool) → is_staged (staged_in (chosen (s.block d) 0)) k ≡ false → contains (of_bytes (take 32 (chosen (s.block d) 4))) k ≡ blank → (if blank then zeros else s.block d (13 + k)) ≡ track_seen s t v k
+  not_staged : (blank : Bool) → is_staged (staged_in (chosen (s.block d) 0)) k ≡ false → contains (of_bytes (take 32 (chosen (s.block d) 4))) k ≡ blank → (if blank then zeros else s.block d (track_block k)) ≡ track_seen s t v k
   not_staged blank is set =
       let e = entry t v d n lies in
       track-not_staged s t v d k e.0 (normal n (raw_of (chosen (s.block d)))) blank lies.place e.1 within shows (staged-is ∙ is)
@@ -85,7 +86,7 @@ module _ (s : PlantState) (t : ConfigTable) (v d n k : ℕ) (lies : LiesOn t v d
   pub blank-there : is_staged (staged_in (chosen (s.block d) 0)) k ≡ false → contains (of_bytes (take 32 (chosen (s.block d) 4))) k ≡ true → zeros ≡ track_seen s t v k
   blank-there is set = not_staged true is set
 
-  pub own-there : is_staged (staged_in (chosen (s.block d) 0)) k ≡ false → contains (of_bytes (take 32 (chosen (s.block d) 4))) k ≡ false → s.block d (13 + k) ≡ track_seen s t v k
+  pub own-there : is_staged (staged_in (chosen (s.block d) 0)) k ≡ false → contains (of_bytes (take 32 (chosen (s.block d) 4))) k ≡ false → s.block d (track_block k) ≡ track_seen s t v k
   own-there is set = not_staged false is set
 
   pub held-there : contains (volume_seen s t v).fields.own k ≡ (bit (byte (chosen (s.block d) 0) 5) 0 && contains (of_bytes (take 32 (chosen (s.block d) 2))) k)

@@ -8,9 +8,9 @@ use Rattle.dr_logic.specs.Tables.{at}
 use Rattle.dr_plant.specs.State.{PlantState, after_read, can_read, passes_read, faulted}
 use Rattle.dr_plant.specs.declared.plant.WriteFuse.{WriteFuse}
 use Rattle.dr_plant.proofs.StateLemmas.{read_stopped, block-after_read, write_fuse-after_read}
-use Rattle.dr_record.specs.Writes.{BlockWrite, after_writes}
+use Rattle.dr_plant.specs.Writes.{BlockWrite, after_writes}
 use Rattle.dr_record.specs.Slots.{slot_of}
-use Rattle.dr_record.proofs.WriteLists.{writes_off}
+use Rattle.dr_plant.proofs.WriteLists.{writes_off}
 use Rattle.dr_config.specs.Table.{ConfigTable, StandsFor}
 use Rattle.dr_config.specs.declared.entries.VolumeEntry.{VolumeEntry}
 use Rattle.dr_model.specs.Layout as layout

@@ -4,7 +4,7 @@ use Rattle.std.specs.Prelude.{is_some, option_map, slice_get, unwrap_or, if◌th
 use Rattle.dr_plant.specs.State.{PlantState, HasBlock}
 use Rattle.dr_record.specs.Taken.{taken_from}
 use Rattle.dr_record.specs.Slots.{Chooses, slot_of}
-use Rattle.dr_record.specs.Writes.{IsDevice}
+use Rattle.dr_plant.specs.Writes.{IsDevice}
 use Rattle.dr_config.specs.Table.{ConfigTable, place_of, entry_of, IsSoundConfig, StandsFor}
 use Rattle.dr_config.specs.declared.entries.VolumeEntry.{VolumeEntry}
 use Rattle.dr_config.proofs.Lists.{position-within}
@@ -15,6 +15,7 @@ use Rattle.dr_model.specs.Layout as layout
 use Rattle.dr_model.specs.Layout.{Blocks, chosen, slot_chosen, slot_begin, only_if}
 use Rattle.std.specs.FinSet.{contains}
 use Rattle.dr_logic.specs.Bytes.{zeros}
+use Rattle.dr_ids.specs.Sizes.{blocks_of, record_blocks, track_block}
 use Rattle.dr_bits.specs.Membership.{lt_true}
 use Rattle.dr_volume.specs.declared.fields.Fields.{Fields}
 use Rattle.dr_model.specs.Lawful.{IsLawful}
@@ -80,7 +81,7 @@ pub track-placed : (s : PlantState) (t : ConfigTable) (v d k : ℕ) (e : VolumeE
 track-placed s t v d k e place is = ap (λ o. track_at s t o k) place ∙ ap (λ o. track_on (s.block d) o k) is
 
 -- the device exists, with its blocks
-pub device-stands : (s : PlantState) (t : ConfigTable) (v d : ℕ) (e : VolumeEntry) → place_of t v ≡ Some d → slice_get t.volumes d ≡ Some e → StandsFor t s → (d < s.count) × (s.size d ≡ 13 + e.tracks)
+pub device-stands : (s : PlantState) (t : ConfigTable) (v d : ℕ) (e : VolumeEntry) → place_of t v ≡ Some d → slice_get t.volumes d ≡ Some e → StandsFor t s → (d < s.count) × (s.size d ≡ blocks_of e.tracks)
 device-stands s t v d e place is stands =
     let within = position-within (λ (x : VolumeEntry). nat_eq x.id v) t.volumes d place in
     let count = stands.count in
@@ -119,7 +120,7 @@ shows-normal s t v d n f lies is =
     }
 
 -- A track that is staged reads as the staged bytes, else one that is blank as zeros, else as its own block.
-pub physical_is : (n : ℕ) (b : Blocks) (k : ℕ) → layout.physical n b k ≡ (if layout.is_staged (layout.staged n b) k then chosen b 5 else if contains (layout.fields n b).blank k then zeros else b (13 + k))
+pub physical_is : (n : ℕ) (b : Blocks) (k : ℕ) → layout.physical n b k ≡ (if layout.is_staged (layout.staged n b) k then chosen b 5 else if contains (layout.fields n b).blank k then zeros else b (track_block k))
 unfolding layout.physical
 physical_is n b k = refl
 
@@ -146,29 +147,29 @@ track-staged s t v k f defined within shows staged =
     ∙ ap (λ d. chosen (s.block d) 5) (device-placed t v at.0 at.2)
     ∙ sym (seen_track s t v at.0 k at.1 at.2 at.3 within
     ∙ physical_is at.1.tracks b k
-    ∙ ap (λ there. if there then chosen b 5 else if contains (layout.fields at.1.tracks b).blank k then zeros else b (13 + k)) (ap (λ q. layout.is_staged q k) (sym o) ∙ staged))
+    ∙ ap (λ there. if there then chosen b 5 else if contains (layout.fields at.1.tracks b).blank k then zeros else b (track_block k)) (ap (λ q. layout.is_staged q k) (sym o) ∙ staged))
 
-pub track-not_staged : (s : PlantState) (t : ConfigTable) (v d k : ℕ) (e : VolumeEntry) (f : Fields) (blank : Bool) → place_of t v ≡ Some d → slice_get t.volumes d ≡ Some e → k < (volume_seen s t v).tracks → Shows s t v f → layout.is_staged f.staged k ≡ false → contains f.blank k ≡ blank → (if blank then zeros else s.block d (13 + k)) ≡ track_seen s t v k
+pub track-not_staged : (s : PlantState) (t : ConfigTable) (v d k : ℕ) (e : VolumeEntry) (f : Fields) (blank : Bool) → place_of t v ≡ Some d → slice_get t.volumes d ≡ Some e → k < (volume_seen s t v).tracks → Shows s t v f → layout.is_staged f.staged k ≡ false → contains f.blank k ≡ blank → (if blank then zeros else s.block d (track_block k)) ≡ track_seen s t v k
 track-not_staged s t v d k e f blank place is within shows staged there =
     let b : Blocks = s.block d in
     let o = seen_staged s t v d e f place is shows in
     let g : f.blank ≡ (layout.fields e.tracks b).blank = ap (λ (x : layout.Fields). x.blank) shows.fields ∙ ap (λ (w : Volume). w.fields.blank) (volume-placed s t v d e place is) in
     sym (seen_track s t v d k e place is within
     ∙ physical_is e.tracks b k
-    ∙ ap (λ q. if q then chosen b 5 else if contains (layout.fields e.tracks b).blank k then zeros else b (13 + k)) (ap (λ q. layout.is_staged q k) (sym o) ∙ staged)
-    ∙ ap (λ q. if q then zeros else b (13 + k)) (ap (λ x. contains x k) (sym g) ∙ there))
+    ∙ ap (λ q. if q then chosen b 5 else if contains (layout.fields e.tracks b).blank k then zeros else b (track_block k)) (ap (λ q. layout.is_staged q k) (sym o) ∙ staged)
+    ∙ ap (λ q. if q then zeros else b (track_block k)) (ap (λ x. contains x k) (sym g) ∙ there))
 
 pub track-blank : (s : PlantState) (t : ConfigTable) (v k : ℕ) (f : Fields) → is_some (place_of t v) ≡ true → k < (volume_seen s t v).tracks → Shows s t v f → layout.is_staged f.staged k ≡ false → contains f.blank k ≡ true → zeros ≡ track_seen s t v k
 track-blank s t v k f defined within shows staged there = let at = placed t v defined in track-not_staged s t v at.0 k at.1 f true at.2 at.3 within shows staged there
 
 -- a track's own block exists
-pub own-block : (s : PlantState) (t : ConfigTable) (v d k : ℕ) → is_some (place_of t v) ≡ true → StandsFor t s → d ≡ device_of t v → k < (volume_seen s t v).tracks → HasBlock s d (13 + k)
+pub own-block : (s : PlantState) (t : ConfigTable) (v d k : ℕ) → is_some (place_of t v) ≡ true → StandsFor t s → d ≡ device_of t v → k < (volume_seen s t v).tracks → HasBlock s d (track_block k)
 own-block s t v d k defined stands is within =
     let at = placed t v defined in
     let low : k < at.1.tracks = subst (λ m. k < m) (ap (λ (w : Volume). w.tracks) (volume-placed s t v at.0 at.1 at.2 at.3)) within in
     let device = device-stands s t v at.0 at.1 at.2 at.3 stands in
     let size = device.1 in
-    subst (λ q. HasBlock s q (13 + k)) (sym (is ∙ device-placed t v at.0 at.2)) (record { device = device.0; block = omega arith })
+    subst (λ q. HasBlock s q (track_block k)) (sym (is ∙ device-placed t v at.0 at.2)) (record { device = device.0; block = omega arith })
 
 -- in a sound configuration a volume has at most 256 tracks
 pub lies-sound : (t : ConfigTable) (v d : ℕ) → IsSoundConfig t → place_of t v ≡ Some d → (n : ℕ) × LiesOn t v d n
@@ -190,7 +191,7 @@ lies-opened t v d sound defined is =
     lies-sound t v d sound (at.2 ∙ ap (λ q. Some q) (sym (is ∙ device-placed t v at.0 at.2)))
 
 -- a volume's device has its record, and room for each track
-pub device-lies : (s : PlantState) (t : ConfigTable) (v d n : ℕ) → LiesOn t v d n → StandsFor t s → IsDevice s d 13
+pub device-lies : (s : PlantState) (t : ConfigTable) (v d n : ℕ) → LiesOn t v d n → StandsFor t s → IsDevice s d record_blocks
 device-lies s t v d n lies stands =
     let e = entry t v d n lies in
     let device = device-stands s t v d e.0 lies.place e.1 stands in

@@ -8,7 +8,7 @@ use Rattle.dr_logic.specs.Tables.{at}
 use Rattle.dr_bits.specs.Membership.{lt_true}
 use Rattle.dr_plant.specs.State.{PlantState}
 use Rattle.dr_plant.specs.declared.plant.WriteFuse.{WriteFuse}
-use Rattle.dr_record.specs.Writes.{write_fuse_after}
+use Rattle.dr_plant.specs.Writes.{write_fuse_after}
 use Rattle.dr_config.specs.Table.{ConfigTable}
 use Rattle.dr_model.specs.Control.{World}
 use Rattle.dr_model.specs.Layout as layout

@@ -4,7 +4,7 @@ use Rattle.std.specs.FinSet.{empty, intersection}
 use Rattle.dr_logic.specs.Bytes.{zeros}
 use Rattle.dr_bits.specs.Tracks.{Tracks, first}
 use Rattle.dr_model.specs.Layout as layout
-use Rattle.dr_model.specs.Layout.{is_part, only_if}
+use Rattle.dr_model.specs.Layout.{is_part, only_if, entries_of}
 use Rattle.dr_model.specs.declared.state.PairState.TheVariants.{CopyPending}
 use Rattle.dr_volume.specs.declared.fields.Fields.{Fields}
 
@@ -43,6 +43,7 @@ plain f = record {
   floor = f.floor;
   flash_hold = f.flash_hold;
   blank = f.blank;
+  entries = f.entries;
 }
 
 -- the tracks of a set that are below n
@@ -60,6 +61,10 @@ with_cut_sets n f = record f {
   target_changes = cut n f.target_changes;
   blank = cut n f.blank;
 }
+
+-- no entry names a track from n on, nor one that a lower entry names
+abbrev pub with_kept_entries : ℕ → Fields → Fields
+with_kept_entries n f = record f { entries = entries_of n f.entries }
 
 -- a volume that is no primary has nothing of one but the attempt
 abbrev pub with_primary : Fields → Fields
@@ -115,7 +120,7 @@ with_staged n f = record f {
 
 -- what the fields mean for a volume with n tracks, and nothing else
 unfoldable pub normal : ℕ → Fields → Fields
-normal n f = with_staged n (with_relation (with_secondary (with_primary (with_cut_sets n f))))
+normal n f = with_staged n (with_relation (with_secondary (with_primary (with_kept_entries n (with_cut_sets n f)))))
 
 -- the fields are their own normal form
 abbrev pub IsNormal : ℕ → Fields → Type 0

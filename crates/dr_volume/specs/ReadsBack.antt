@@ -1,19 +1,20 @@
 -- What is written of fields reads as those fields.
-use Rattle.std.proofs.Common.{ℕ, ◌≡◌, ◌<◌, ◌+◌, ◌*◌, ◌/◌, ◌%◌, Bool, false, List, [], ◌∷◌, ◌++◌, get_or, take, drop, arith, ◌∙◌, ap, refl, nat_eq, cond, Option, None, Some}
-use Rattle.std.specs.Prelude.{is_some, unwrap_or, if◌then◌else◌}
-use Rattle.std.specs.FinSet.{empty}
-use Rattle.std.proofs.lemmas.List.{take_at, drop_at}
+use Rattle.std.proofs.Common.{ℕ, ◌≡◌, ◌<◌, ◌+◌, ◌*◌, ◌/◌, ◌%◌, Bool, false, List, [], ◌∷◌, ◌++◌, get_or, take, drop, arith, ◌∙◌, ap, sym, refl, nat_eq, cond, Option, None, Some}
+use Rattle.std.specs.Prelude.{is_some, unwrap_or, if◌then◌else◌, map, length, ◌-◌}
+use Rattle.std.specs.List.{range_with_len}
+use Rattle.std.proofs.lemmas.List.{take_at, drop_at, get_or-append_right}
+use Rattle.std.proofs.lemmas.List.FromFn.{fill_by_all, get_or-map-range_with_len}
 use Rattle.dr_bits.specs.Tracks.{Tracks, IsInRange, of_bytes, bytes_of}
 use Rattle.dr_bits.proofs.Bytes.{number_of-bit, of_bytes-bytes_of, length-bytes_of}
 use Rattle.dr_record.specs.Taken.{taken_from}
-use Rattle.dr_model.specs.Layout.{part_of, state_of, bit}
+use Rattle.dr_model.specs.Layout.{Entries, part_of, state_of, bit, entry_at, entry_in}
 use Rattle.dr_model.specs.declared.state.Part.{Part}
 use Rattle.dr_model.specs.declared.state.Part.TheVariants.{Absent, Metro, Global}
 use Rattle.dr_model.specs.declared.state.PairState.{PairState}
 use Rattle.dr_model.specs.declared.state.PairState.TheVariants.{CopyPending, FullDuplex, Suspended}
 use Rattle.dr_volume.specs.declared.fields.Fields.{Fields}
 use Rattle.dr_volume.specs.Codes.{code_of_part, code_of_state, flags_byte}
-use Rattle.dr_volume.specs.Record.{IsWhole, record_block, head_of, with_block, with_head, no_record, raw_of}
+use Rattle.dr_volume.specs.Record.{IsWhole, track_named, entry_bytes, record_block, head_of, with_block, with_head, no_record, raw_of}
 
 -- of parts
 part_back : (p : Part) → part_of (code_of_part p) ≡ p
@@ -44,13 +45,45 @@ staged_back : (o : Option ℕ) → (if nat_eq (cond (is_some o) 1 0) 1 then Some
 staged_back None = refl
 staged_back (Some t) = ap (λ n. Some n) (back16 t)
 
--- of the first of two sets
-first_back : (s t : Tracks) → IsInRange s → of_bytes (take 32 (bytes_of s ++ bytes_of t)) ≡ s
-first_back s t in_s = ap (λ bytes. of_bytes bytes) (take_at (bytes_of s) (bytes_of t) 32 (length-bytes_of s)) ∙ of_bytes-bytes_of s in_s
+-- of the first of two sets, or of a set with other bytes after it
+set_back : (s : Tracks) (rest : List ℕ) → IsInRange s → of_bytes (take 32 (bytes_of s ++ rest)) ≡ s
+set_back s rest in_s = ap (λ bytes. of_bytes bytes) (take_at (bytes_of s) rest 32 (length-bytes_of s)) ∙ of_bytes-bytes_of s in_s
 
--- and of the second
+-- of the second of two sets
 second_back : (s t : Tracks) → IsInRange t → of_bytes (drop 32 (bytes_of s ++ bytes_of t)) ≡ t
 second_back s t in_t = ap (λ bytes. of_bytes bytes) (drop_at (bytes_of s) (bytes_of t) 32 (length-bytes_of s)) ∙ of_bytes-bytes_of t in_t
+
+-- bytes of the second half of a block
+behind : (s : Tracks) (rest : List ℕ) (k : ℕ) → get_or (bytes_of s ++ rest) (32 + k) 0 ≡ get_or rest k 0
+behind s rest k = get_or-append_right (bytes_of s) rest 32 (32 + k) 0 (length-bytes_of s) (omega arith) ∙ ap (λ n. get_or rest n 0) (let e : 32 + k - 32 ≡ k = omega arith in e)
+
+-- of one entry
+entry_back : (flag : Bool) (n : ℕ) (e : Option ℕ) → flag ≡ is_some e → n ≡ unwrap_or e 0 → (if flag then Some n else None) ≡ e
+entry_back flag n None flag_is n_is = ap (λ b. if b then Some n else None) flag_is
+entry_back flag n (Some t) flag_is n_is = ap (λ b. if b then Some n else None) flag_is ∙ ap (λ x. Some x) n_is
+
+-- of one entry in a block, if its two bytes are those of its track
+entry_in_back : (s : Tracks) (es : Entries) (k : ℕ) → k < 8 → get_or (entry_bytes es) (2 + 2 * k) 0 * 256 + get_or (entry_bytes es) (3 + 2 * k) 0 ≡ track_named es k
+    → entry_in (bytes_of s ++ entry_bytes es) k ≡ entry_at es k
+entry_in_back s es k low named =
+    let used : List Bool = map (λ k. is_some (entry_at es k)) (range_with_len 0 8) in
+    let high = ap (λ n. get_or (bytes_of s ++ entry_bytes es) n 0) (let e : 34 + 2 * k ≡ 32 + (2 + 2 * k) = omega arith in e) ∙ behind s (entry_bytes es) (2 + 2 * k) in
+    let next = ap (λ n. get_or (bytes_of s ++ entry_bytes es) n 0) (let e : 34 + 2 * k + 1 ≡ 32 + (3 + 2 * k) = omega arith in e) ∙ behind s (entry_bytes es) (3 + 2 * k) in
+    entry_back _ _ (entry_at es k)
+    (ap (λ b. bit b k) (behind s (entry_bytes es) 0) ∙ flag_back used k low ∙ get_or-map-range_with_len (λ k. is_some (entry_at es k)) 0 8 (0 + k) k false (omega arith) (omega arith))
+    ((λ i. high i * 256 + next i) ∙ named)
+
+-- of all entries
+entries_back : (s : Tracks) (es : Entries) → length es ≡ 8 → map (entry_in (bytes_of s ++ entry_bytes es)) (range_with_len 0 8) ≡ es
+entries_back s es eight =
+    (λ i. at 0 (omega arith) (back16 (track_named es 0)) i ∷ at 1 (omega arith) (back16 (track_named es 1)) i
+    ∷ at 2 (omega arith) (back16 (track_named es 2)) i ∷ at 3 (omega arith) (back16 (track_named es 3)) i
+    ∷ at 4 (omega arith) (back16 (track_named es 4)) i ∷ at 5 (omega arith) (back16 (track_named es 5)) i
+    ∷ at 6 (omega arith) (back16 (track_named es 6)) i ∷ at 7 (omega arith) (back16 (track_named es 7)) i ∷ [])
+    ∙ sym (fill_by_all (entry_at es) es 8 None eight (λ k low. refl))
+  where
+    at : (k : ℕ) → k < 8 → get_or (entry_bytes es) (2 + 2 * k) 0 * 256 + get_or (entry_bytes es) (3 + 2 * k) 0 ≡ track_named es k → entry_in (bytes_of s ++ entry_bytes es) k ≡ entry_at es k
+    at = entry_in_back s es
 
 -- of all fields of a record
 pub raw_of-record_block : (f : Fields) → IsWhole f → raw_of (record_block f) ≡ f
@@ -66,7 +99,7 @@ raw_of-record_block f whole =
       long_busy = flag_back first 1 (omega arith) i;
       recording = flag_back first 2 (omega arith) i;
       attempt = back32 f.attempt i;
-      out_of_sync = first_back f.out_of_sync f.change_recording whole.out_of_sync i;
+      out_of_sync = set_back f.out_of_sync (bytes_of f.change_recording) whole.out_of_sync i;
       change_recording = second_back f.out_of_sync f.change_recording whole.change_recording i;
       secondary = part_back f.secondary i;
       secondary_state = state_back f.secondary_state i;
@@ -78,9 +111,9 @@ raw_of-record_block f whole =
       persistent = flag_back relation 2 (omega arith) i;
       recorded = flag_back relation 3 (omega arith) i;
       inhibited = flag_back relation 4 (omega arith) i;
-      own = first_back f.own f.previous_own whole.own i;
+      own = set_back f.own (bytes_of f.previous_own) whole.own i;
       previous_own = second_back f.own f.previous_own whole.previous_own i;
-      source_changes = first_back f.source_changes f.target_changes whole.source_changes i;
+      source_changes = set_back f.source_changes (bytes_of f.target_changes) whole.source_changes i;
       target_changes = second_back f.source_changes f.target_changes whole.target_changes i;
       sequence = back32 f.sequence i;
       previous_sequence = back32 f.previous_sequence i;
@@ -89,7 +122,8 @@ raw_of-record_block f whole =
       member = flag_back relation 7 (omega arith) i;
       floor = back32 f.floor i;
       flash_hold = flag_back first 3 (omega arith) i;
-      blank = first_back f.blank empty whole.blank i;
+      blank = set_back f.blank (entry_bytes f.entries) whole.blank i;
+      entries = entries_back f.blank f.entries whole.entries i;
       staged = staged_back f.staged i;
     }
 

@@ -1,11 +1,12 @@
 -- The six blocks of a record: how fields are written to them, and read from them.
-use Rattle.std.specs.Prelude.{ℕ, false, List, [], ◌∷◌, ◌++◌, nat_eq, cond, is_some, unwrap_or, Option, None, Some, replicate, if◌then◌else◌, take, drop}
+use Rattle.std.specs.Prelude.{ℕ, false, List, [], ◌∷◌, ◌++◌, nat_eq, cond, is_some, unwrap_or, Option, None, Some, replicate, map, length, ◌≡◌, if◌then◌else◌, take, drop}
+use Rattle.std.specs.List.{range_with_len}
 use Rattle.std.specs.FinSet.{empty}
 use Rattle.dr_logic.specs.Bytes.{zeros}
 use Rattle.dr_bits.specs.Tracks.{IsInRange, bytes_of, of_bytes}
 use Rattle.dr_ids.specs.BigEndian.{be16_at, be32_at}
-pub use Rattle.dr_record.specs.Slots.{listed}
-use Rattle.dr_model.specs.Layout.{Blocks, byte, bit, part_of, state_of}
+pub use Rattle.dr_plant.specs.Writes.{listed}
+use Rattle.dr_model.specs.Layout.{Blocks, Entries, byte, bit, part_of, state_of, entry_at, entry_in, free_entries}
 use Rattle.dr_model.specs.declared.state.Part.TheVariants.{Absent}
 use Rattle.dr_model.specs.declared.state.PairState.TheVariants.{CopyPending}
 use Rattle.dr_volume.specs.declared.fields.Fields.{Fields}
@@ -27,14 +28,32 @@ head_of f =
     ++ four_bytes f.attempt ++ four_bytes f.seal ++ four_bytes f.sequence ++ four_bytes f.previous_sequence ++ four_bytes f.floor
     ++ replicate 28 0
 
--- block i of the record: the head, seven sets in pairs, and the staged bytes
+-- the track that entry k names, zero if it is free
+abbrev pub track_named : Entries → ℕ → ℕ
+track_named es k = unwrap_or (entry_at es k) 0
+
+-- a bit for each used entry
+abbrev pub entry_flags : Entries → ℕ
+entry_flags es = flags_byte (map (λ k. is_some (entry_at es k)) (range_with_len 0 8))
+
+-- the tracks that entries name, in two bytes each
+abbrev pub entry_tracks : Entries → List ℕ
+entry_tracks es =
+    two_bytes (track_named es 0) ++ two_bytes (track_named es 1) ++ two_bytes (track_named es 2) ++ two_bytes (track_named es 3)
+    ++ two_bytes (track_named es 4) ++ two_bytes (track_named es 5) ++ two_bytes (track_named es 6) ++ two_bytes (track_named es 7)
+
+-- the entries in 32 bytes
+abbrev pub entry_bytes : Entries → List ℕ
+entry_bytes es = entry_flags es ∷ 0 ∷ entry_tracks es ++ replicate 14 0
+
+-- block i of the record: the head, six sets in pairs, the blank tracks with the entries, and the staged bytes
 abbrev pub record_block : Fields → ℕ → List ℕ
 record_block f i =
     if nat_eq i 0 then head_of f
     else if nat_eq i 1 then bytes_of f.out_of_sync ++ bytes_of f.change_recording
     else if nat_eq i 2 then bytes_of f.own ++ bytes_of f.previous_own
     else if nat_eq i 3 then bytes_of f.source_changes ++ bytes_of f.target_changes
-    else if nat_eq i 4 then bytes_of f.blank ++ bytes_of empty
+    else if nat_eq i 4 then bytes_of f.blank ++ entry_bytes f.entries
     else f.staged_bytes
 
 -- the track that a head says is staged
@@ -79,10 +98,10 @@ with_block f i b =
     else if nat_eq i 1 then record f { out_of_sync = of_bytes (take 32 b); change_recording = of_bytes (drop 32 b) }
     else if nat_eq i 2 then record f { own = of_bytes (take 32 b); previous_own = of_bytes (drop 32 b) }
     else if nat_eq i 3 then record f { source_changes = of_bytes (take 32 b); target_changes = of_bytes (drop 32 b) }
-    else if nat_eq i 4 then record f { blank = of_bytes (take 32 b) }
+    else if nat_eq i 4 then record f { blank = of_bytes (take 32 b); entries = map (entry_in b) (range_with_len 0 8) }
     else record f { staged_bytes = b }
 
--- the fields of a volume that has no pair, no relationship, and no track that is blank or staged
+-- the fields of a volume that has no pair, no relationship, no track that is blank or staged, and no used entry
 unfoldable pub no_record : Fields
 no_record = record {
   primary = Absent;
@@ -117,11 +136,12 @@ no_record = record {
   floor = 0;
   flash_hold = false;
   blank = empty;
+  entries = free_entries;
   staged = None;
   staged_bytes = zeros;
 }
 
--- each set is one of tracks below 256
+-- each set is one of tracks below 256, and the entries are eight
 pub record IsWhole (f : Fields) : Type 0 where
   pub out_of_sync : IsInRange f.out_of_sync
   pub change_recording : IsInRange f.change_recording
@@ -130,6 +150,7 @@ pub record IsWhole (f : Fields) : Type 0 where
   pub source_changes : IsInRange f.source_changes
   pub target_changes : IsInRange f.target_changes
   pub blank : IsInRange f.blank
+  pub entries : length f.entries ≡ 8
 
 -- the fields that six blocks give, read one after another
 abbrev pub raw_of : Blocks → Fields

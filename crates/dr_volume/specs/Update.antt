@@ -2,9 +2,10 @@
 use Rattle.std.specs.Prelude.{◌≡◌, ℕ, ◌+◌, Bool, true, false, ◌||◌, List, [], ◌∷◌, ◌++◌, Option, Some, None, if◌then◌else◌, ◌≢◌, nat_eq}
 use Rattle.std.specs.FinSet.{contains}
 use Rattle.dr_logic.specs.Bytes.{zeros}
+use Rattle.dr_ids.specs.Sizes.{track_block}
 use Rattle.dr_bits.specs.Tracks.{Tracks}
 use Rattle.dr_plant.specs.State.{PlantState, after_read, can_read, passes_read}
-use Rattle.dr_record.specs.Writes.{BlockWrite, write, after_writes}
+use Rattle.dr_plant.specs.Writes.{BlockWrite, write, after_writes}
 use Rattle.dr_record.specs.Slots.{record_writes}
 use Rattle.dr_config.specs.Table.{ConfigTable}
 use Rattle.dr_model.specs.Layout as layout
@@ -51,7 +52,7 @@ given_way (Some c) (Some o) = if nat_eq o.0 c.0 then None else Some o
 -- a track is written to its own block
 abbrev pub track_writes : Carried → List BlockWrite
 track_writes None = []
-track_writes (Some c) = write (13 + c.0) c.1 ∷ []
+track_writes (Some c) = write (track_block c.0) c.1 ∷ []
 
 -- the fields that a move writes, where that was staged
 abbrev pub next_record : Bool → Carried → Fields → Carried → Fields

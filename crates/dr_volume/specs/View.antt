@@ -1,6 +1,7 @@
 -- The state of the machine that a plant and its configuration show.
 use Rattle.std.specs.Prelude.{◌≡◌, ℕ, ◌<◌, Bool, true, List, Option, Some, None, slice_get, nat_lt, unwrap_or, map, if◌then◌else◌}
 use Rattle.dr_logic.specs.Bytes.{zeros}
+use Rattle.dr_ids.specs.Sizes.{side_block}
 use Rattle.dr_plant.specs.State.{PlantState}
 use Rattle.dr_plant.specs.declared.plant.WriteFuse.{WriteFuse}
 use Rattle.dr_plant.specs.declared.plant.Torn.{Torn}
@@ -77,6 +78,20 @@ volume_seen s t v = volume_at s t (place_of t v)
 -- track k of volume v as its device shows it
 abbrev pub track_seen : PlantState → ConfigTable → ℕ → ℕ → List ℕ
 track_seen s t v k = track_at s t (place_of t v) k
+
+-- the side block of an entry, if such a volume is there
+abbrev pub saved_on : Blocks → Option VolumeEntry → ℕ → List ℕ
+saved_on blocks None k = zeros
+saved_on blocks (Some e) k = blocks (side_block e.tracks k)
+
+-- the side block of an entry on a device, if there is one
+abbrev pub saved_at : PlantState → ConfigTable → Option ℕ → ℕ → List ℕ
+saved_at s t None k = zeros
+saved_at s t (Some d) k = saved_on (s.block d) (slice_get t.volumes d) k
+
+-- the side block of entry k of volume v, as its device has it
+abbrev pub saved_seen : PlantState → ConfigTable → ℕ → ℕ → List ℕ
+saved_seen s t v k = saved_at s t (place_of t v) k
 
 -- the volumes, in order of definition
 abbrev pub ids_of : List VolumeEntry → List ℕ

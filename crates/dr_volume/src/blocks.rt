@@ -2,7 +2,7 @@
 
 ghost use Rattle.std.specs.Prelude.{◌≡◌, ◌≤◌, ◌+◌, ◌<◌, length, is_some};
 ghost use Rattle.dr_logic.specs.Bytes.{zeros};
-ghost use Rattle.dr_ids.specs.Sizes.{most_tracks};
+ghost use Rattle.dr_ids.specs.Sizes.{blocks_of, most_tracks};
 ghost use Rattle.dr_model.specs.Layout as layout;
 ghost use Rattle.dr_model.specs.Lawful.{IsLawful};
 ghost use Rattle.dr_volume.specs.Plain.{plain};
@@ -16,7 +16,7 @@ use dr_plant::Block;
 /// The fields of a volume with so many tracks, from all blocks of its device.
 pub fn from_blocks(tracks: u16, blocks: &[Block]) -> Fields
     requires few { tracks ≤ most_tracks }
-    requires sized { length blocks.now ≡ 13 + tracks }
+    requires sized { length blocks.now ≡ blocks_of tracks }
     ensures fields { plain result ≡ layout.fields tracks (listed blocks.now) }
     ensures staged { result.staged ≡ layout.staged tracks (listed blocks.now) }
     ensures staged_bytes { result.staged_bytes ≡ layout.only_if (is_some (layout.staged tracks (listed blocks.now))) (layout.chosen (listed blocks.now) 5) zeros }

@@ -2,9 +2,9 @@
 
 ghost use Rattle.std.specs.Prelude.{◌≡◌, ◌≢◌, ℕ, ◌<◌, ◌≤◌, ◌+◌, not, false, None, is_some, IsSome, IfSome, IfOk, OnOk, OnErr, is_err, ◌⊎◌};
 ghost use Rattle.dr_logic.specs.Counts.{risen};
-ghost use Rattle.dr_ids.specs.Sizes.{most_tracks};
+ghost use Rattle.dr_ids.specs.Sizes.{most_tracks, record_blocks, track_block};
 ghost use Rattle.dr_config.specs.Table.{StandsFor, place_of};
-ghost use Rattle.dr_record.specs.Writes.{IsDevice, after_writes};
+ghost use Rattle.dr_plant.specs.Writes.{IsDevice, after_writes};
 ghost use Rattle.dr_record.specs.Slots.{slot_of};
 ghost use Rattle.dr_model.specs.Carry as machine;
 ghost use Rattle.dr_model.specs.Lawful.{IsLawful};
@@ -120,9 +120,9 @@ fn unstage<P: Plant>(
     old: &Option<(u16, Block)>,
     fields: &mut Fields,
 ) -> Result<(), Stopped>
-    requires device { IsDevice (P.state plant.old) device.0 13 }
+    requires device { IsDevice (P.state plant.old) device.0 record_blocks }
     requires chosen { slot_of (P.state plant.old) device.0 ≡ slot }
-    requires track { IfSome old.now (λ t. (t.0 < most_tracks) × (13 + t.0 < (P.state plant.old).size device.0)) }
+    requires track { IfSome old.now (λ t. (t.0 < most_tracks) × (track_block t.0 < (P.state plant.old).size device.0)) }
     ensures { after_writes (P.state plant.old) device.0 (destage_writes (not (slot_of (P.state plant.old) device.0)) old.now fields.old) ≡ (P.state plant.new, is_err result) }
 {
     match old {

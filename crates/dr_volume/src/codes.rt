@@ -80,9 +80,16 @@ pub fn four_bytes(n: u32) -> [u8; 4]
 pub fn two_sets(first: &TrackSet, second: &TrackSet) -> Block
     ensures { result ≡ bytes_of first.now ++ bytes_of second.now }
 {
+    halves(&first.to_bytes(), &second.to_bytes())
+}
+
+/// Two halves as one block.
+pub fn halves(first: &[u8; 32], second: &[u8; 32]) -> Block
+    ensures { result ≡ first.now ++ second.now }
+{
     let mut block = [0; 64];
-    block[..32].copy_from_slice(&first.to_bytes());
-    block[32..].copy_from_slice(&second.to_bytes());
+    block[..32].copy_from_slice(first);
+    block[32..].copy_from_slice(second);
     block
 }
 

@@ -2,16 +2,17 @@
 
 ghost use Rattle.std.specs.Prelude.{◌≡◌, ◌<◌, ◌≤◌, ◌+◌, length, take, drop};
 ghost use Rattle.std.specs.FinSet.{empty, intersection};
-ghost use Rattle.dr_ids.specs.Sizes.{most_tracks};
+ghost use Rattle.dr_ids.specs.Sizes.{most_tracks, record_blocks};
 ghost use Rattle.dr_bits.specs.Tracks.{of_bytes};
 ghost use Rattle.dr_model.specs.Layout as layout;
-ghost use Rattle.dr_record.specs.Writes.{IsDevice};
+ghost use Rattle.dr_plant.specs.Writes.{IsDevice};
 ghost use Rattle.dr_volume.specs.Plain as plain;
 ghost use Rattle.dr_volume.specs.Record as lies;
 ghost use Rattle.dr_volume.specs.Record.{listed, raw_of};
 
 use crate::blocks::slot_begin;
 use crate::codes::{first_set, only_if, second_set, zero_block};
+use crate::entries::entries_on;
 use crate::fields::Fields;
 use crate::head::head_in;
 use crate::place::Place;
@@ -22,7 +23,7 @@ use dr_plant::{Block, Plant};
 /// The fields of the volume that lies there, whether or not its server is on.
 pub(crate) fn fields_on<P: Plant>(plant: &P, place: Place) -> Fields
     requires few { place.tracks ≤ most_tracks }
-    requires device { IsDevice (P.state plant.now) place.device.0 13 }
+    requires device { IsDevice (P.state plant.now) place.device.0 record_blocks }
     ensures { result ≡ plain.normal place.tracks (raw_of (layout.chosen ((P.state plant.now).block place.device.0))) }
 {
     let device = place.device;
@@ -82,6 +83,7 @@ pub(crate) fn fields_in(tracks: u16, slot: &[Block]) -> Fields
         floor: head.floor,
         flash_hold: head.flash_hold,
         blank: first_if(true, &slot[4], &kept),
+        entries: entries_on(tracks, &slot[4]),
         staged,
         staged_bytes: only_if(staged.is_some(), slot[5], zero_block()),
     }

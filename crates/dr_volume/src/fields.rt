@@ -9,8 +9,11 @@ use dr_ids::VolumeId;
 use dr_model::{PairState, Part};
 use dr_plant::Block;
 
+/// The entries of a volume's side blocks, lowest first: each is free, or names a track.
+pub type Entries = [Option<u16>; 8];
+
 /// What a volume's control record says: its part in a pair as a primary and as a secondary, its
-/// FlashCopy relationship as a target, its flash hold, and the track that the last update staged.
+/// FlashCopy relationship as a target, its flash hold, its entries, and the track that the last update staged.
 #[derive(Clone, Copy)]
 pub struct Fields {
     /// The volume's part as a primary; where it is absent, so are the fields up to
@@ -54,6 +57,8 @@ pub struct Fields {
     pub flash_hold: bool,
     /// The tracks that read as zeros.
     pub blank: TrackSet,
+    /// The tracks whose earlier bytes stand in the side blocks, each in that of its entry.
+    pub entries: Entries,
     /// The track whose bytes stand in the record and not in its own place.
     pub staged: Option<u16>,
     /// The bytes of the staged track, zeros where none is staged.

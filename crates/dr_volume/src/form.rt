@@ -2,7 +2,7 @@
 
 ghost use Rattle.std.specs.Prelude.{◌≡◌, ℕ, ◌<◌, ◌++◌, unwrap_or};
 ghost use Rattle.dr_volume.specs.Codes as coded;
-ghost use Rattle.dr_record.specs.Slots.{listed};
+ghost use Rattle.dr_plant.specs.Writes.{listed};
 ghost use Rattle.dr_volume.specs.Record as lies;
 
 use crate::codes::{
@@ -10,6 +10,7 @@ use crate::codes::{
     two_bytes, two_sets, zero_block,
 };
 use crate::decode::staged_in;
+use crate::entries::{entries_in, set_and_entries};
 use crate::fields::Fields;
 use dr_bits::{TrackSet, byte_at};
 use dr_ids::{VolumeId, be16, be32};
@@ -35,8 +36,8 @@ impl Form for Fields {
 
     ghost reads_back = { read_back };
 
-    /// The fields of a volume that has no pair, no relationship, and no track that is blank or
-    /// staged.
+    /// The fields of a volume that has no pair, no relationship, no track that is blank or staged,
+    /// and no used entry.
     #[tactic(auto, unfolding(crate::specs::Record::no_record))]
     fn blank() -> Self {
         Fields {
@@ -72,6 +73,7 @@ impl Form for Fields {
             floor: 0,
             flash_hold: false,
             blank: TrackSet::empty(),
+            entries: [None; 8],
             staged: None,
             staged_bytes: zero_block(),
         }
@@ -83,7 +85,7 @@ impl Form for Fields {
             1 => two_sets(&self.out_of_sync, &self.change_recording),
             2 => two_sets(&self.own, &self.previous_own),
             3 => two_sets(&self.source_changes, &self.target_changes),
-            4 => two_sets(&self.blank, &TrackSet::empty()),
+            4 => set_and_entries(&self.blank, &self.entries),
             _ => self.staged_bytes,
         }
     }
@@ -103,7 +105,10 @@ impl Form for Fields {
                 self.source_changes = first_set(from);
                 self.target_changes = second_set(from);
             }
-            4 => self.blank = first_set(from),
+            4 => {
+                self.blank = first_set(from);
+                self.entries = entries_in(from);
+            }
             _ => self.staged_bytes = *from,
         }
     }
@@ -128,7 +133,7 @@ pub(crate) fn blocks_of(f: &Fields) -> [Block; 6]
         two_sets(&f.out_of_sync, &f.change_recording),
         two_sets(&f.own, &f.previous_own),
         two_sets(&f.source_changes, &f.target_changes),
-        two_sets(&f.blank, &TrackSet::empty()),
+        set_and_entries(&f.blank, &f.entries),
         f.staged_bytes,
     ]
 }

@@ -2,9 +2,10 @@
 //! what of it a look at all volumes wants.
 
 ghost use Rattle.std.specs.Prelude.{◌≡◌, ◌<◌, length, IsSome, Some};
+ghost use Rattle.dr_ids.specs.Sizes.{record_blocks};
 ghost use Rattle.dr_config.specs.Table.{StandsFor, place_of};
 ghost use Rattle.dr_model.specs.Layout as layout;
-ghost use Rattle.dr_record.specs.Writes.{IsDevice};
+ghost use Rattle.dr_plant.specs.Writes.{IsDevice};
 ghost use Rattle.dr_volume.specs.Head.{copies_by, head_of, head_said, relation_in};
 ghost use Rattle.dr_volume.specs.Plain.{plain};
 ghost use Rattle.dr_volume.specs.View.{volume_at, volume_seen};
@@ -135,7 +136,7 @@ pub fn head_by(f: &Fields) -> Head
 // Whether the head of the record that a device chooses names v as the source of its volume.
 #[inline]
 fn is_target_on<P: Plant>(plant: &P, device: DeviceId, v: VolumeId) -> bool
-    requires { IsDevice (P.state plant.now) device.0 13 }
+    requires { IsDevice (P.state plant.now) device.0 record_blocks }
     ensures { result ≡ copies_by v.0 (relation_in (head_said (layout.chosen ((P.state plant.now).block device.0) 0))) }
 {
     names_source(&first_block(plant, device), v)
@@ -152,7 +153,7 @@ fn names_source(block: &Block, v: VolumeId) -> bool
 
 // What the head of the record that a device chooses says of its volume as a target.
 fn relation_on<P: Plant>(plant: &P, device: DeviceId) -> Relation
-    requires { IsDevice (P.state plant.now) device.0 13 }
+    requires { IsDevice (P.state plant.now) device.0 record_blocks }
     ensures { result ≡ relation_in (head_said (layout.chosen ((P.state plant.now).block device.0) 0)) }
 {
     relation_of(&first_block(plant, device))
@@ -175,7 +176,7 @@ fn relation_of(block: &Block) -> Relation
 
 // The head of the record that a device chooses.
 fn head_on<P: Plant>(plant: &P, device: DeviceId) -> Head
-    requires { IsDevice (P.state plant.now) device.0 13 }
+    requires { IsDevice (P.state plant.now) device.0 record_blocks }
     ensures { result ≡ head_said (layout.chosen ((P.state plant.now).block device.0) 0) }
 {
     head_in(&first_block(plant, device))
@@ -184,7 +185,7 @@ fn head_on<P: Plant>(plant: &P, device: DeviceId) -> Head
 // The first block of the record that a device chooses.
 #[inline]
 fn first_block<P: Plant>(plant: &P, device: DeviceId) -> Block
-    requires { IsDevice (P.state plant.now) device.0 13 }
+    requires { IsDevice (P.state plant.now) device.0 record_blocks }
     ensures { result ≡ layout.chosen ((P.state plant.now).block device.0) 0 }
 {
     let begin = slot_begin(&plant.peek(device, 0));

@@ -10,14 +10,15 @@
 //! then stages none by a move (`written`, `exact`), and says whether one was staged (`answer`). `load`,
 //! `peek_fields` and `from_blocks` give the fields of the layout (`shows`, `fields`), and they are lawful (`lawful`);
 //! `peek_head` and `peek_head_at` give their head, which is all but the sets of tracks, and `peek_relation_at` what the head
-//! says of a target; `slot` gives the chosen slot, `read_track` the track's bytes (`bytes`); where it fails, what they were
-//! to go into is as before (`same`).
+//! says of a target; `slot` gives the chosen slot, `read_track` the track's bytes and `read_beside` those of a side block (`bytes`); if one
+//! fails, what they were to go into is as before (`same`).
 #![tactic(auto)]
 
 mod blocks;
 mod change;
 mod codes;
 mod decode;
+mod entries;
 mod fields;
 mod form;
 mod head;
@@ -28,7 +29,7 @@ mod volume;
 pub use blocks::from_blocks;
 pub use change::{destage, redo, update};
 pub use dr_model::{PairState, Part};
-pub use fields::{Fields, is_held};
+pub use fields::{Entries, Fields, is_held};
 pub use head::{Head, Relation, head_by, is_target_at, peek_head, peek_head_at, peek_relation_at};
 pub use opened::{Gate, Opened, open, open_by, open_gate, peek_opened};
-pub use volume::{load, peek_fields, peek_holds, read_track, slot};
+pub use volume::{load, peek_fields, peek_holds, read_beside, read_track, slot};

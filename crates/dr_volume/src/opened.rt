@@ -3,9 +3,9 @@
 
 ghost use Rattle.std.specs.Prelude.{◌≡◌, ◌≢◌, ℕ, List, ◌<◌, ◌≤◌, ◌+◌, not, true, false, None, IsSome, IfSome, IfOk, OnOk, OnErr, is_ok, is_err, ◌⊎◌, if◌then◌else◌};
 ghost use Rattle.dr_logic.specs.Counts.{risen};
-ghost use Rattle.dr_ids.specs.Sizes.{most_tracks};
+ghost use Rattle.dr_ids.specs.Sizes.{most_tracks, record_blocks, track_block};
 ghost use Rattle.dr_plant.specs.State.{after_read, can_read};
-ghost use Rattle.dr_record.specs.Writes.{IsDevice, after_writes};
+ghost use Rattle.dr_plant.specs.Writes.{IsDevice, after_writes};
 ghost use Rattle.dr_record.specs.Slots.{slot_of};
 ghost use Rattle.dr_config.specs.Table.{StandsFor, place_of};
 ghost use Rattle.dr_model.specs.Carry as machine;
@@ -22,10 +22,10 @@ use crate::codes::zero_block;
 use crate::decode::{below, fields_on, staged_in};
 use crate::fields::Fields;
 use crate::form::blocks_of;
-use crate::place::{FIRST_TRACK, Place, device_of, find, tell_sound};
+use crate::place::{Place, device_of, find, tell_sound};
 use dr_bits::TrackSet;
 use dr_config::Config;
-use dr_ids::VolumeId;
+use dr_ids::{VolumeId, track_block};
 use dr_plant::{Block, DeviceId, Plant, Stopped};
 use dr_record::{peek_choice, put_blocks, read_choice};
 
@@ -151,7 +151,7 @@ impl Opened {
             *into = zero_block();
             return Ok(());
         }
-        plant.read(self.gate.device, FIRST_TRACK + t, into)
+        plant.read(self.gate.device, track_block(t), into)
     }
 
     /// The bytes of a track, as `read_track` gives them, whether or not the server is on. Nothing is read.
@@ -169,7 +169,7 @@ impl Opened {
         if self.fields.blank.contains(t) {
             return zero_block();
         }
-        plant.peek(self.gate.device, FIRST_TRACK + t)
+        plant.peek(self.gate.device, track_block(t))
     }
 }
 
@@ -234,7 +234,7 @@ pub(crate) fn is_staged(staged: Option<u16>, t: u16) -> bool
 /// The track that the slot of a volume stages, with its bytes.
 pub(crate) fn staged_on<P: Plant>(plant: &P, place: Place, slot: bool) -> Option<(u16, Block)>
     requires few { place.tracks ≤ most_tracks }
-    requires device { IsDevice (P.state plant.now) place.device.0 13 }
+    requires device { IsDevice (P.state plant.now) place.device.0 record_blocks }
     requires chosen { slot_of (P.state plant.now) place.device.0 ≡ slot }
     ensures { result ≡ track_with (layout.staged place.tracks ((P.state plant.now).block place.device.0)) (layout.chosen ((P.state plant.now).block place.device.0) 5) }
 {
@@ -305,11 +305,11 @@ fn make_way<P: Plant>(
     carried: &Option<(u16, Block)>,
 ) -> Result<(), Stopped>
     requires device { device.0 < (P.state plant.old).count }
-    requires track { IfSome (stages fields.now) (λ t. (t.0 < most_tracks) × (13 + t.0 < (P.state plant.old).size device.0)) }
+    requires track { IfSome (stages fields.now) (λ t. (t.0 < most_tracks) × (track_block t.0 < (P.state plant.old).size device.0)) }
     ensures { after_writes (P.state plant.old) device.0 (track_writes (given_way carried.now (stages fields.now))) ≡ (P.state plant.new, is_err result) }
 {
     match giving_way(carried, fields.staged) {
-        Some(t) => plant.write(device, FIRST_TRACK + t, &fields.staged_bytes),
+        Some(t) => plant.write(device, track_block(t), &fields.staged_bytes),
         None => Ok(()),
     }
 }
@@ -323,9 +323,9 @@ pub(crate) fn rewrite<P: Plant>(
     next: &mut Fields,
     carried: &Option<(u16, Block)>,
 ) -> Result<(), Stopped>
-    requires device { IsDevice (P.state plant.old) device.0 13 }
+    requires device { IsDevice (P.state plant.old) device.0 record_blocks }
     requires chosen { slot_of (P.state plant.old) device.0 ≡ slot }
-    requires track { IfSome (stages next.old) (λ t. (t.0 < most_tracks) × (13 + t.0 < (P.state plant.old).size device.0)) }
+    requires track { IfSome (stages next.old) (λ t. (t.0 < most_tracks) × (track_block t.0 < (P.state plant.old).size device.0)) }
     ensures staged { next.new ≡ next_record true (stages next.old) next.old carried.now }
     ensures written { after_writes (P.state plant.old) device.0 (update_writes (not (slot_of (P.state plant.old) device.0)) (stages next.old) next.old carried.now) ≡ (P.state plant.new, is_err result) }
 {
@@ -342,11 +342,11 @@ pub(crate) fn write_track<P: Plant>(
     carried: &Option<(u16, Block)>,
 ) -> Result<(), Stopped>
     requires device { device.0 < (P.state plant.old).count }
-    requires track { IfSome carried.now (λ t. (t.0 < most_tracks) × (13 + t.0 < (P.state plant.old).size device.0)) }
+    requires track { IfSome carried.now (λ t. (t.0 < most_tracks) × (track_block t.0 < (P.state plant.old).size device.0)) }
     ensures { after_writes (P.state plant.old) device.0 (track_writes carried.now) ≡ (P.state plant.new, is_err result) }
 {
     match carried {
-        Some(track) => plant.write(device, FIRST_TRACK + track.0, &track.1),
+        Some(track) => plant.write(device, track_block(track.0), &track.1),
         None => Ok(()),
     }
 }

@@ -8,9 +8,6 @@ use dr_config::Config;
 use dr_ids::VolumeId;
 use dr_plant::DeviceId;
 
-/// The block of a device in which track 0 lies, behind the gate and the two slots.
-pub(crate) const FIRST_TRACK: u16 = 13;
-
 // Where a volume lies: its device, and how many tracks it has.
 #[derive(Clone, Copy)]
 pub(crate) struct Place {

@@ -4,7 +4,7 @@ ghost use Rattle.std.specs.Prelude.{◌≡◌, ◌<◌, IsSome, IfOk, OnOk, OnEr
 ghost use Rattle.std.specs.FinSet.{contains};
 ghost use Rattle.dr_plant.specs.State.{after_read, can_read};
 ghost use Rattle.dr_config.specs.Table.{StandsFor, place_of};
-ghost use Rattle.dr_volume.specs.View.{volume_seen, track_seen, device_of};
+ghost use Rattle.dr_volume.specs.View.{volume_seen, track_seen, saved_seen, device_of};
 ghost use Rattle.dr_volume.specs.Volume.{Shows};
 
 use crate::blocks::begin_of;
@@ -12,9 +12,9 @@ use crate::codes::{bit, first_set, zero_block};
 use crate::decode::{fields_on, staged_in};
 use crate::fields::Fields;
 use crate::opened::{is_staged, open};
-use crate::place::{FIRST_TRACK, device_of, find};
+use crate::place::{device_of, find, tell_sound};
 use dr_config::Config;
-use dr_ids::VolumeId;
+use dr_ids::{VolumeId, side_block, track_block};
 use dr_plant::{Block, Plant, Stopped};
 use dr_record::{peek_choice, read_choice};
 
@@ -76,7 +76,29 @@ pub fn read_track<P: Plant>(
         *into = zero_block();
         return Ok(());
     }
-    plant.read(device, FIRST_TRACK + t, into)
+    plant.read(device, track_block(t), into)
+}
+
+/// Reads the side block of an entry, counted from 0, of a volume: what stands in it, whether or not the entry is used. Nothing else
+/// is looked at. Fails if the plant can't read the device; then `into` is as before.
+pub fn read_beside<P: Plant>(
+    plant: &mut P,
+    config: &Config,
+    v: VolumeId,
+    entry: u8,
+    into: &mut Block,
+) -> Result<(), Stopped>
+    requires defined { IsSome (place_of config.now v.0) }
+    requires stands { StandsFor config.now (P.state plant.old) }
+    requires entry { entry < 8 }
+    ensures state { P.state plant.new ≡ after_read (P.state plant.old) (device_of config.now v.0) }
+    ensures done { is_ok result ≡ can_read (P.state plant.old) (device_of config.now v.0) }
+    ensures bytes { OnOk result (into.new ≡ saved_seen (P.state plant.old) config.now v.0 entry) }
+    ensures same { OnErr result (into.new ≡ into.old) }
+{
+    let place = find(config, v);
+    tell_sound(config);
+    plant.read(place.device, side_block(place.tracks, entry), into)
 }
 
 /// Whether a volume is a FlashCopy target that holds a track, whether or not its server is on. Gate, head and the block of one set

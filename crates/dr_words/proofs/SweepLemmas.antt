@@ -13,7 +13,7 @@ use Rattle.dr_words.specs.Line.{is_option}
 use Rattle.dr_words.specs.Sweep.{has_option, point_said, sweep_command_of}
 use Rattle.dr_words.specs.SweepLine.{has_form, is_point, met_command, sweep_line}
 use Rattle.dr_words.specs.declared.sweep.SweepCommand.{SweepCommand}
-use Rattle.dr_words.specs.declared.sweep.SweepCommand.TheVariants.{Report, Rows, Picture}
+use Rattle.dr_words.specs.declared.sweep.SweepCommand.TheVariants.{Report, Rows, Picture, Json}
 use Rattle.dr_words.proofs.LineLemmas.{no_dashes, no_hyphen}
 
 pub sweep_is_simple : is_simple sweep_line ≡ true
@@ -34,6 +34,10 @@ rows_taken = (refl, refl)
 picture_taken : IsTakenFor (codes "picture" ∷ []) (Some Picture)
 unfolding clap_on_literals
 picture_taken = (refl, refl)
+
+json_taken : IsTakenFor (codes "json" ∷ []) (Some Json)
+unfolding clap_on_literals
+json_taken = (refl, refl)
 
 -- Two to five words of which none begins with a hyphen are values of `script`.
 two_taken : (a b : Text) → is_option a ≡ false → is_option b ≡ false → IsTakenFor (codes "script" ∷ a ∷ b ∷ []) (point_said (a ∷ b ∷ []))
@@ -97,13 +101,16 @@ no_point (a ∷ b ∷ c ∷ d ∷ e ∷ f ∷ rest) other = refl
 -- Clap takes words that have a command's form for the command that they name.
 pub taken_for : (words : List (String Global)) → has_form words ≡ true → IsTakenFor (map string_bytes words) (sweep_command_of words)
 taken_for [] form = none_taken
-taken_for (name ∷ []) form = go (bytes_eq (string_bytes name) (codes "rows")) refl (bytes_eq (string_bytes name) (codes "picture")) refl form
+taken_for (name ∷ []) form =
+    go (bytes_eq (string_bytes name) (codes "rows")) refl (bytes_eq (string_bytes name) (codes "picture")) refl (bytes_eq (string_bytes name) (codes "json")) refl form
   where
     go : (r : Bool) → bytes_eq (string_bytes name) (codes "rows") ≡ r → (p : Bool) → bytes_eq (string_bytes name) (codes "picture") ≡ p
-        → (r || p) ≡ true → IsTakenFor (map string_bytes (name ∷ [])) (sweep_command_of (name ∷ []))
-    go true rows p picture form = rw rows (subst (λ w. IsTakenFor (w ∷ []) (Some Rows)) (sym (same_bytes (string_bytes name) (codes "rows") rows)) rows_taken)
-    go false rows true picture form = rw (rows, picture) (subst (λ w. IsTakenFor (w ∷ []) (Some Picture)) (sym (same_bytes (string_bytes name) (codes "picture") picture)) picture_taken)
-    go false rows false picture form = false_true refl form
+        → (j : Bool) → bytes_eq (string_bytes name) (codes "json") ≡ j → ((r || p) || j) ≡ true → IsTakenFor (map string_bytes (name ∷ [])) (sweep_command_of (name ∷ []))
+    go true rows p picture j json form = rw rows (subst (λ w. IsTakenFor (w ∷ []) (Some Rows)) (sym (same_bytes (string_bytes name) (codes "rows") rows)) rows_taken)
+    go false rows true picture j json form = rw (rows, picture) (subst (λ w. IsTakenFor (w ∷ []) (Some Picture)) (sym (same_bytes (string_bytes name) (codes "picture") picture)) picture_taken)
+    go false rows false picture true json form =
+        rw (rows, picture, json) (subst (λ w. IsTakenFor (w ∷ []) (Some Json)) (sym (same_bytes (string_bytes name) (codes "json") json)) json_taken)
+    go false rows false picture false json form = false_true refl form
 taken_for (name ∷ first ∷ rest) form = go (has_option (first ∷ rest)) refl (and_parts _ _ both.1)
   where
     both : (bytes_eq (string_bytes name) (codes "script") ≡ true) × (is_point (first ∷ rest) ≡ true)
@@ -123,7 +130,10 @@ taken_for (name ∷ first ∷ rest) form = go (has_option (first ∷ rest)) refl
 -- Words of another form name no command.
 pub formless_sweep : (words : List (String Global)) → has_form words ≡ false → sweep_command_of words ≡ None
 formless_sweep [] form = false_true form refl
-formless_sweep (name ∷ []) form = let p = or_parts (bytes_eq (string_bytes name) (codes "rows")) (bytes_eq (string_bytes name) (codes "picture")) form in rw (p.0, p.1) refl
+formless_sweep (name ∷ []) form =
+    let p = or_parts (bytes_eq (string_bytes name) (codes "rows") || bytes_eq (string_bytes name) (codes "picture")) (bytes_eq (string_bytes name) (codes "json")) form in
+    let q = or_parts (bytes_eq (string_bytes name) (codes "rows")) (bytes_eq (string_bytes name) (codes "picture")) p.0 in
+    rw (q.0, q.1, p.1) refl
 formless_sweep (name ∷ first ∷ rest) form = go (bytes_eq (string_bytes name) (codes "script")) refl (has_option (first ∷ rest)) refl form
   where
     plain_form : (b : Bool) → (b && not false) ≡ false → b ≡ false

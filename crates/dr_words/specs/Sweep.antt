@@ -7,7 +7,7 @@ use Rattle.dr_ids.specs.Spelling.{number_word}
 use Rattle.dr_words.specs.Line.{is_option}
 use Rattle.dr_words.specs.declared.sweep.PlanLine.{PlanLine}
 use Rattle.dr_words.specs.declared.sweep.SweepCommand.{SweepCommand}
-use Rattle.dr_words.specs.declared.sweep.SweepCommand.TheVariants.{Report, Rows, Picture, CutScript, GapScript}
+use Rattle.dr_words.specs.declared.sweep.SweepCommand.TheVariants.{Report, Rows, Picture, Json, CutScript, GapScript}
 use Rattle.dr_words.specs.declared.sweep.TornBytes.{TornBytes}
 use Rattle.dr_words.specs.declared.sweep.TornBytes.TheVariants.{Unchanged, Zeros, Ones}
 
@@ -69,10 +69,14 @@ point_said words = None
 abbrev pub has_option : List (String Global) → Bool
 has_option words = list_any (λ (word : String Global). is_option (string_bytes word)) words
 
--- No words are the report; one is `rows` or `picture`; `script` has the words of a point after it, of which none begins with a
+-- No words are the report; one is `rows`, `picture` or `json`; `script` has the words of a point after it, of which none begins with a
 -- hyphen. No other words name a command.
 abbrev pub sweep_command_of : List (String Global) → Option SweepCommand
 sweep_command_of [] = Some Report
-sweep_command_of (name ∷ []) = if bytes_eq (string_bytes name) (codes "rows") then Some Rows else if bytes_eq (string_bytes name) (codes "picture") then Some Picture else None
+sweep_command_of (name ∷ []) =
+    if bytes_eq (string_bytes name) (codes "rows") then Some Rows
+    else if bytes_eq (string_bytes name) (codes "picture") then Some Picture
+    else if bytes_eq (string_bytes name) (codes "json") then Some Json
+    else None
 sweep_command_of (name ∷ rest) =
     if bytes_eq (string_bytes name) (codes "script") then (if has_option rest then None else point_said (map string_bytes rest)) else None

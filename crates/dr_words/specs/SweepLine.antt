@@ -5,11 +5,11 @@ use Rattle.std.specs.declared.alloc.Global.{Global}
 use Rattle.clap.specs.Words.{App, Row, Rule, Text, all_of, new_app, new_rule, with_rule, with_subcommand}
 use Rattle.dr_words.specs.Sweep.{has_option, point_said}
 use Rattle.dr_words.specs.declared.sweep.SweepCommand.{SweepCommand}
-use Rattle.dr_words.specs.declared.sweep.SweepCommand.TheVariants.{Report, Rows, Picture}
+use Rattle.dr_words.specs.declared.sweep.SweepCommand.TheVariants.{Report, Rows, Picture, Json}
 
 -- the word names what is printed on all points
 abbrev pub is_view : Text → Bool
-is_view name = bytes_eq name (codes "rows") || bytes_eq name (codes "picture")
+is_view name = bytes_eq name (codes "rows") || bytes_eq name (codes "picture") || bytes_eq name (codes "json")
 
 -- two to five words, of which none begins with a hyphen
 abbrev pub is_point : List (String Global) → Bool
@@ -35,10 +35,10 @@ bare_sweep = record (new_app (codes "sweep")) {
   };
 }
 
--- the command line: nothing, or `rows`, `picture` and `script`
+-- the command line: nothing, or `rows`, `picture`, `json` and `script`
 abbrev pub sweep_line : App
 sweep_line =
-    with_subcommand (with_subcommand (with_subcommand bare_sweep (new_app (codes "rows")).top) (new_app (codes "picture")).top)
+    with_subcommand (with_subcommand (with_subcommand (with_subcommand bare_sweep (new_app (codes "rows")).top) (new_app (codes "picture")).top) (new_app (codes "json")).top)
     (with_rule (new_app (codes "script")) point_rule).top
 
 -- the command in what was found for `script`
@@ -47,7 +47,11 @@ point_in rows = option_and_then point_said (all_of (codes "point") rows)
 
 -- the command of a subcommand's name and of what was found for it
 abbrev pub named_command : Text → List Row → Option SweepCommand
-named_command name rows = if bytes_eq name (codes "rows") then Some Rows else if bytes_eq name (codes "picture") then Some Picture else point_in rows
+named_command name rows =
+    if bytes_eq name (codes "rows") then Some Rows
+    else if bytes_eq name (codes "picture") then Some Picture
+    else if bytes_eq name (codes "json") then Some Json
+    else point_in rows
 
 -- the command of the subcommand that was met; the report where there was none
 abbrev pub met_command : Option (Text × List Row) → Option SweepCommand

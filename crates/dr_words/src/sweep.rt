@@ -40,6 +40,8 @@ pub enum SweepCommand {
     Rows,
     /// Draws what is lost at each point.
     Picture,
+    /// Prints the plan, the calm run, the table and the rows as one JSON object.
+    Json,
     /// Prints the script of a point in a tried step: after that many device writes in it one of that server is cut short.
     CutScript {
         disaster: u32,
@@ -55,8 +57,8 @@ pub enum SweepCommand {
     },
 }
 
-/// The command that the words name, without the program's own name: no words, `rows`, `picture`, or `script` with the words
-/// of a point; `None` for all other words. Fails only where memory is wanting.
+/// The command that the words name, without the program's own name: no words, `rows`, `picture`, `json`, or `script` with
+/// the words of a point; `None` for all other words. Fails only where memory is wanting.
 pub fn sweep_command_of(alloc: Global, words: &[String]) -> Result<Option<SweepCommand>, AllocError>
     ensures { IfOk result (λ command. command ≡ sweep_command_of words.now) }
 {
@@ -85,7 +87,7 @@ fn has_form(words: &[String]) -> bool
 fn is_view(name: &str) -> bool
     ensures { result ≡ is_view name.now }
 {
-    name == "rows" || name == "picture"
+    name == "rows" || name == "picture" || name == "json"
 }
 
 /// Whether these are two to five words of which none begins with a hyphen: `clap` would read that as an option or as `--`.
@@ -124,6 +126,8 @@ fn named_command(
         Ok(Some(SweepCommand::Rows))
     } else if name == "picture" {
         Ok(Some(SweepCommand::Picture))
+    } else if name == "json" {
+        Ok(Some(SweepCommand::Json))
     } else {
         point_in(alloc, values)
     }

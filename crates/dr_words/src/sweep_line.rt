@@ -8,12 +8,13 @@ use std::alloc::{AllocError, Global};
 /// The id of the words of a point in the matches of `script`.
 pub const POINT: &str = "point";
 
-/// The command line of the program of sweeps: no subcommand or one of three, and neither help nor options.
+/// The command line of the program of sweeps: no subcommand or one of four, and neither help nor options.
 pub fn sweep_line<'a>(alloc: Global) -> Result<Command<'a>, AllocError>
     ensures { IfOk result (λ line. app_of line ≡ sweep_line) }
 {
     let line = bare_sweep(alloc).subcommand(Command::new(alloc, "rows"))?;
     let line = line.subcommand(Command::new(alloc, "picture"))?;
+    let line = line.subcommand(Command::new(alloc, "json"))?;
     with_script(alloc, line)
 }
 

@@ -1,6 +1,5 @@
 use Rattle.std.proofs.Common.{◌≡◌, ◌-◌}
-use Rattle.dr_record.specs.Writes.{after_writes, SameShape}
-use Rattle.dr_record.specs.Slots.{block_writes}
+use Rattle.dr_plant.specs.Writes.{after_writes, block_writes, SameShape}
 use Rattle.dr_record.proofs.slot.write_slot.Given as goal
 
 abbrev pub invariant-loop-i : goal.invariant-loop-i

@@ -1,8 +1,9 @@
 use Rattle.std.proofs.Common.{ℕ, ◌≡◌, Bool, ap, sym, subst, ◌∙◌, not, refl, true, false, rules}
 use Rattle.std.specs.Prelude.{is_some}
+use Rattle.dr_ids.specs.Sizes.{record_blocks}
 use Rattle.dr_plant.specs.State.{PlantState, can_read}
 use Rattle.dr_record.specs.Slots.{slot_of}
-use Rattle.dr_record.specs.Writes.{IsDevice, after_writes}
+use Rattle.dr_plant.specs.Writes.{IsDevice, after_writes}
 use Rattle.dr_model.specs.Moves.{Carried}
 use Rattle.dr_config.specs.Table.{ConfigTable, StandsFor}
 use Rattle.dr_volume.specs.declared.fields.Fields.{Fields}
@@ -39,7 +40,7 @@ returns-in_err-slot g c =
 
 pub unstage-requires-clause-device : goal.unstage-requires-clause-device
 unstage-requires-clause-device g c =
-    subst (λ y. IsDevice y c.find-place.result.device.0 13) (sym c.in_ok-slot.ensures.same)
+    subst (λ y. IsDevice y c.find-place.result.device.0 record_blocks) (sym c.in_ok-slot.ensures.same)
     (device-lies (g.P.Plant.state c.args.plant.now) c.args.config.now c.args.v.0 _ _ c.find-place.ensures c.requires.stands)
 
 pub unstage-requires-clause-track : goal.unstage-requires-clause-track

@@ -3,7 +3,7 @@ use Rattle.std.specs.Prelude.{is_err}
 use Rattle.dr_logic.specs.Counts.{risen}
 use Rattle.dr_plant.specs.State.{after_read, can_read}
 use Rattle.dr_plant.proofs.StateLemmas.{read_done}
-use Rattle.dr_record.specs.Writes.{after_writes}
+use Rattle.dr_plant.specs.Writes.{after_writes}
 use Rattle.dr_volume.specs.Update.{track_writes}
 use Rattle.dr_volume.proofs.VolumeLaws.{device-placed}
 use Rattle.dr_volume.proofs.RanLaws.{on_ok, on_err}

@@ -1,7 +1,8 @@
 use Rattle.std.proofs.Common.{ℕ, false, not, refl, sym, ap, ◌∙◌, arith, List, None, Some}
+use Rattle.dr_ids.specs.Sizes.{record_blocks}
 use Rattle.dr_record.specs.Slots.{slot_of, choice, record_writes}
-use Rattle.dr_record.specs.Writes.{after_writes}
-use Rattle.dr_record.proofs.WritesLemmas.{err_pair, append-goes, append-stops, device-shape, ends}
+use Rattle.dr_plant.specs.Writes.{after_writes}
+use Rattle.dr_plant.proofs.WritesLemmas.{err_pair, append-goes, append-stops, device-shape, ends}
 use Rattle.dr_model.specs.Moves.{Carried}
 use Rattle.dr_volume.specs.Record.{record_block}
 use Rattle.dr_volume.specs.Update.{staging, track_writes, destage_writes}
@@ -21,7 +22,7 @@ returns-in_err-write_track-in-Some g c =
 pub put-requires-clause-device : goal.put-requires-clause-device
 put-requires-clause-device g c =
     let s = g.P.Plant.state c.args.plant.now in
-    device-shape s _ c.args.device.0 13 (ran-written s _ c.args.device.0 _ false c.in_ok-write_track-in-Some.ensures).shape c.requires.device
+    device-shape s _ c.args.device.0 record_blocks (ran-written s _ c.args.device.0 _ false c.in_ok-write_track-in-Some.ensures).shape c.requires.device
 
 pub put-requires-clause-chosen : goal.put-requires-clause-chosen
 put-requires-clause-chosen g c =

@@ -1,9 +1,10 @@
 use Rattle.std.proofs.Common.{◌≡◌, ◌<◌, ◌+◌, ap, sym, subst, ◌∙◌, not, cond, inl, refl, true, false, rules}
 use Rattle.std.specs.Prelude.{is_err, IfSome}
 use Rattle.dr_logic.specs.Counts.{risen}
+use Rattle.dr_ids.specs.Sizes.{record_blocks, track_block}
 use Rattle.dr_plant.specs.State.{PlantState, after_read, can_read}
 use Rattle.dr_record.specs.Slots.{slot_of}
-use Rattle.dr_record.specs.Writes.{IsDevice, after_writes}
+use Rattle.dr_plant.specs.Writes.{IsDevice, after_writes}
 use Rattle.dr_model.specs.Moves.{Carried}
 use Rattle.dr_volume.specs.View.{volume_seen}
 use Rattle.dr_volume.specs.Update.{staged_seen, stages, update_writes, read_and_write, IsAsBefore}
@@ -48,7 +49,7 @@ returns-in_err-slot g c =
 
 pub rewrite-requires-clause-device : goal.rewrite-requires-clause-device
 rewrite-requires-clause-device g c =
-    subst (λ y. IsDevice y c.find-place.result.device.0 13) (sym c.in_ok-slot.ensures.same)
+    subst (λ y. IsDevice y c.find-place.result.device.0 record_blocks) (sym c.in_ok-slot.ensures.same)
     (device-lies (g.P.Plant.state c.args.plant.now) c.args.config.now c.args.v.0 _ _ c.find-place.ensures c.requires.stands)
 
 pub rewrite-requires-clause-track : goal.rewrite-requires-clause-track
@@ -60,8 +61,8 @@ rewrite-requires-clause-track g c =
     let x = lies-of table s v d _ c.find-place.ensures c.requires.stands in
     let old = staged-looked table s _ v d _ x.0 _ c.find-place.ensures x.1 c.in_ok-slot.ensures.same c.staged_on-old.ensures in
     let is = ap stages c.stage.ensures ∙ staging-stages c.staged_on-old.result c.args.next.now in
-    subst (λ (y : PlantState). IfSome (stages c.stage.new.fields) (λ t. (t.0 < 256) × (13 + t.0 < y.size d))) (sym c.in_ok-slot.ensures.same)
-    (subst (λ (m : Carried). IfSome m (λ t. (t.0 < 256) × (13 + t.0 < s.size d))) (seen-staged table s v d x.0 x.1 ∙ sym old ∙ sym is)
+    subst (λ (y : PlantState). IfSome (stages c.stage.new.fields) (λ t. (t.0 < 256) × (track_block t.0 < y.size d))) (sym c.in_ok-slot.ensures.same)
+    (subst (λ (m : Carried). IfSome m (λ t. (t.0 < 256) × (track_block t.0 < s.size d))) (seen-staged table s v d x.0 x.1 ∙ sym old ∙ sym is)
     (seen-fits table s v d _ c.find-place.ensures c.requires.stands).1)
 
 pub returns : goal.returns

@@ -1,5 +1,6 @@
 use Rattle.std.proofs.Common.{ap, sym, subst, ◌∙◌}
-use Rattle.dr_record.specs.Writes.{IsDevice}
+use Rattle.dr_ids.specs.Sizes.{record_blocks}
+use Rattle.dr_plant.specs.Writes.{IsDevice}
 use Rattle.dr_model.specs.Layout as layout
 use Rattle.dr_volume.specs.Head.{head_said}
 use Rattle.dr_volume.proofs.HeadLaws.{entry-there, device-there, head-at}
@@ -9,7 +10,7 @@ pub head_on-requires : goal.head_on-requires
 head_on-requires g c =
     let s = g.P.Plant.state c.args.plant.now in
     let e = entry-there c.args.config.now c.args.place c.requires.there in
-    subst (λ d. IsDevice s d 13) (sym c.device_at.ensures) (device-there s c.args.config.now c.args.place e.0 c.requires.there e.1 c.requires.stands)
+    subst (λ d. IsDevice s d record_blocks) (sym c.device_at.ensures) (device-there s c.args.config.now c.args.place e.0 c.requires.there e.1 c.requires.stands)
 
 pub returns : goal.returns
 returns g c =

@@ -1,9 +1,10 @@
 use Rattle.std.proofs.Common.{ℕ, ◌≡◌, ◌<◌, ◌+◌, ◌*◌, Bool, length, ◌++◌, ◌∷◌, [], true, false, not, refl, ap, sym, ◌∙◌, arith, List}
-use Rattle.dr_record.specs.Slots.{slot_of, gate_of, listed, start_of, record_writes}
-use Rattle.dr_record.specs.Writes.{write, after_writes}
-use Rattle.dr_record.proofs.BlocksLemmas.{same-block_writes}
+use Rattle.dr_ids.specs.Sizes.{record_blocks}
+use Rattle.dr_record.specs.Slots.{slot_of, gate_of, start_of, record_writes}
+use Rattle.dr_plant.specs.Writes.{write, after_writes, listed}
+use Rattle.dr_plant.proofs.BlocksLemmas.{same-block_writes}
 use Rattle.dr_volume.specs.declared.fields.Fields.{Fields}
-use Rattle.dr_record.proofs.WritesLemmas.{err_pair, append-goes, append-stops, device-shape}
+use Rattle.dr_plant.proofs.WritesLemmas.{err_pair, append-goes, append-stops, device-shape}
 use Rattle.dr_volume.specs.Record.{record_block}
 use Rattle.dr_volume.specs.Update.{stages, track_writes, given_way, next_record}
 use Rattle.dr_volume.proofs.RanLaws.{ran-written}
@@ -19,7 +20,7 @@ pub put_blocks-requires-clause-device : goal.put_blocks-requires-clause-device
 put_blocks-requires-clause-device g c =
     let s = g.P.Plant.state c.args.plant.now in
     let six : 2 * length c.blocks_of.result + 1 ≡ 13 = omega arith in
-    rw six (device-shape s _ c.args.device.0 13 (ran-written s _ c.args.device.0 _ false c.in_ok-way.ensures).shape c.requires.device)
+    rw six (device-shape s _ c.args.device.0 record_blocks (ran-written s _ c.args.device.0 _ false c.in_ok-way.ensures).shape c.requires.device)
 
 pub returns-in_err-way-clause-written : goal.returns-in_err-way-clause-written
 returns-in_err-way-clause-written g c =

@@ -1,13 +1,14 @@
-use Rattle.std.proofs.Common.{ap, ◌∙◌}
+use Rattle.std.proofs.Common.{ap, sym, ◌∙◌, [], ◌∷◌}
 use Rattle.dr_model.specs.Moves.{Carried}
-use Rattle.dr_record.specs.Writes.{after_writes}
-use Rattle.dr_record.proofs.WritesLemmas.{one_write, ends}
+use Rattle.dr_plant.specs.Writes.{write, after_writes}
+use Rattle.dr_plant.proofs.WritesLemmas.{one_write, ends}
 use Rattle.dr_volume.specs.Update.{track_writes}
 use Rattle.dr_volume.proofs.opened.write_track.Goals as goal
 
 pub returns-in-Some : goal.returns-in-Some
 returns-in-Some g c =
     ap (λ (m : Carried). after_writes (g.P.Plant.state c.args.plant.now) c.args.device.0 (track_writes m)) c.in-Some.is
+    ∙ ap (λ n. after_writes (g.P.Plant.state c.args.plant.now) c.args.device.0 (write n c.in-Some.track.1 ∷ [])) (sym c.track_block.ensures)
     ∙ one_write (g.P.Plant.state c.args.plant.now) _ c.args.device.0 _ _ c.write.result c.write.ensures.state c.write.ensures.done
 
 pub returns-in-None : goal.returns-in-None

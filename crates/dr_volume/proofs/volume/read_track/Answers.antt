@@ -1,6 +1,7 @@
 use Rattle.std.proofs.Common.{◌≡◌, ◌<◌, ◌+◌, take, arith, ap, sym, subst, ◌∙◌}
 use Rattle.std.specs.Prelude.{OnOk}
 use Rattle.std.specs.FinSet.{contains}
+use Rattle.dr_ids.specs.Sizes.{track_block}
 use Rattle.dr_plant.specs.State.{PlantState}
 use Rattle.dr_bits.specs.Tracks.{Tracks, of_bytes}
 use Rattle.dr_model.specs.Layout.{is_staged}
@@ -54,8 +55,8 @@ returns-then-contains-clause-bytes g c =
     (ap (λ o. is_staged o c.args.t) (sym head) ∙ sym c.is_staged.ensures ∙ c.if-is_staged.false)
     (ap (λ (x : Tracks). contains x c.args.t) (sym blank) ∙ sym c.contains.ensures.found ∙ c.if-contains.true)
 
-pub overflow_add-t : goal.overflow_add-t
-overflow_add-t g c =
+pub track_block-requires : goal.track_block-requires
+track_block-requires g c =
     let low : c.args.t < 256 = track-few (g.P.Plant.state c.args.plant.now) c.args.config.now c.args.v.0 c.args.t c.device_of-device.ensures.sound c.requires.defined c.requires.within in
     omega arith
 
@@ -69,8 +70,9 @@ returns-clause-bytes g c =
     let lies = lies-sound c.args.config.now c.args.v.0 d c.device_of-device.ensures.sound c.device_of-device.ensures.place in
     let head = c.staged_in.ensures ∙ ap staged_in (c.peek.ensures ∙ looked-head s _ d _ _ same begins slot) in
     let blank = c.first_set.ensures ∙ ap (λ b. of_bytes (take 32 b)) (c.peek-2.ensures ∙ looked s _ d 4 _ _ same begins slot) in
-    let own : (g.P.Plant.state c.read_choice.new.plant).block d (13 + c.args.t) ≡ track_seen s c.args.config.now c.args.v.0 c.args.t =
-    ap (λ (u : PlantState). u.block d (13 + c.args.t)) same
+    let own : (g.P.Plant.state c.read_choice.new.plant).block d c.track_block.result ≡ track_seen s c.args.config.now c.args.v.0 c.args.t =
+    ap (λ n. (g.P.Plant.state c.read_choice.new.plant).block d n) c.track_block.ensures
+    ∙ ap (λ (u : PlantState). u.block d (track_block c.args.t)) same
     ∙ own-there s c.args.config.now c.args.v.0 d lies.0 c.args.t lies.1 c.requires.within
     (ap (λ o. is_staged o c.args.t) (sym head) ∙ sym c.is_staged.ensures ∙ c.if-is_staged.false)
     (ap (λ (x : Tracks). contains x c.args.t) (sym blank) ∙ sym c.contains.ensures.found ∙ c.if-contains.false) in

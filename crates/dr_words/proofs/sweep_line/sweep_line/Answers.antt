@@ -10,4 +10,6 @@ returns c =
     c.in_ok-line.ensures.shape (search rules) ∙ ap₂ with_subcommand c.bare_sweep.ensures (ap (λ (a : App). a.top) c.new.ensures.app) in
     let second_is : app_of c.in_ok-line-2.line ≡ with_subcommand (with_subcommand bare_sweep (new_app (codes "rows")).top) (new_app (codes "picture")).top =
     c.in_ok-line-2.ensures.shape (search rules) ∙ ap₂ with_subcommand first_is (ap (λ (a : App). a.top) c.new-2.ensures.app) in
-    IfOk-weaker c.with_script.result _ _ (λ line is. is ∙ ap (λ (a : App). with_subcommand a (with_rule (new_app (codes "script")) point_rule).top) second_is) c.with_script.ensures
+    let third_is : app_of c.in_ok-line-3.line ≡ with_subcommand (with_subcommand (with_subcommand bare_sweep (new_app (codes "rows")).top) (new_app (codes "picture")).top) (new_app (codes "json")).top =
+    c.in_ok-line-3.ensures.shape (search rules) ∙ ap₂ with_subcommand second_is (ap (λ (a : App). a.top) c.new-3.ensures.app) in
+    IfOk-weaker c.with_script.result _ _ (λ line is. is ∙ ap (λ (a : App). with_subcommand a (with_rule (new_app (codes "script")) point_rule).top) third_is) c.with_script.ensures

@@ -1,5 +1,6 @@
 use Rattle.std.proofs.Common.{◌≡◌, ◌<◌, ◌≤◌, ◌+◌, ℕ, Bool, true, false, List, ap, sym, ◌∙◌, arith, Some, None}
 use Rattle.std.specs.Prelude.{if◌then◌else◌}
+use Rattle.dr_ids.specs.Sizes.{blocks_of}
 use Rattle.dr_model.specs.PlantImage.{Volume, Placed, Filling, State, can_fill, fill, fill_at, with_block}
 use Rattle.dr_image.specs.declared.held.Held.{Held}
 use Rattle.dr_image.specs.Shown.{shown, all_shown}
@@ -34,7 +35,7 @@ overflow_cast-said c =
     let p : ℕ = c.in-Some.place in
     let few : (shown held).tracks ≤ 256 = all_got (λ (v : Volume). v.tracks ≤ 256) (all_shown c.args.self.now.volumes.items) p (shown held) c.requires.tracks
     (got c.args.self.now.volumes.items p held (let w = c.in-Some.ensures.within in omega arith) c.index.ensures) in
-    let below : c.args.said.now.index < 13 + (shown held).tracks = can_fill-index c.args.self.now.place p (shown held) (placed c.args.said.now).block (sym c.if-not-can_fill.ensures) in
+    let below : c.args.said.now.index < blocks_of (shown held).tracks = can_fill-index c.args.self.now.place p (shown held) (placed c.args.said.now).block (sym c.if-not-can_fill.ensures) in
     omega arith
 
 pub returns : goal.returns

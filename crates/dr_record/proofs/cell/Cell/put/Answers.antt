@@ -1,6 +1,6 @@
 use Rattle.std.proofs.Common.{◌∙◌, refl, not, true, false}
 use Rattle.std.specs.Prelude.{Result, Ok, Err, OnErr}
-use Rattle.dr_record.proofs.WritesLemmas.{err_pair}
+use Rattle.dr_plant.proofs.WritesLemmas.{err_pair}
 use Rattle.dr_record.proofs.PutLemmas.{put-done, put-old_or_new, put-slot, put-elsewhere, put-cut_short}
 use Rattle.dr_record.proofs.cell.Cell.put.Goals as goal
 

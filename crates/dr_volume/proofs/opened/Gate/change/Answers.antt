@@ -1,8 +1,9 @@
 use Rattle.std.proofs.Common.{◌<◌, ◌+◌, ap, subst, sym, refl, ◌∙◌, true, not, cond}
 use Rattle.std.specs.Prelude.{is_err, IfSome}
 use Rattle.dr_logic.specs.Counts.{risen}
+use Rattle.dr_ids.specs.Sizes.{track_block}
 use Rattle.dr_record.specs.Slots.{slot_of}
-use Rattle.dr_record.specs.Writes.{after_writes}
+use Rattle.dr_plant.specs.Writes.{after_writes}
 use Rattle.dr_model.specs.Moves.{Carried}
 use Rattle.dr_volume.specs.Update.{update_writes, next_record}
 use Rattle.dr_volume.proofs.RanLaws.{ran-written, on_ok, on_err}
@@ -25,7 +26,7 @@ rewrite-requires-clause-track g c =
     let s = g.P.Plant.state c.args.plant.now in
     let d = c.args.self.now.device.0 in
     let lies = lies-opened c.args.config.now c.args.v.0 d c.tell_sound.ensures c.requires.defined c.requires.gate.device in
-    subst (λ (m : Carried). IfSome m (λ t. (t.0 < 256) × (13 + t.0 < s.size d))) (sym c.requires.staged)
+    subst (λ (m : Carried). IfSome m (λ t. (t.0 < 256) × (track_block t.0 < s.size d))) (sym c.requires.staged)
     (seen-fits c.args.config.now s c.args.v.0 d lies.0 lies.1 c.requires.stands).1
 
 pub returns : goal.returns
