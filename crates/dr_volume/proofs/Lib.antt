@@ -22,6 +22,7 @@
 --   `let`.
 -- - **A device of zeros** (`ZeroDevice.antt`): it shows no fields, nothing staged, slot 0 and tracks of zeros.
 pub mod Sets
+pub mod PackedLaws
 pub mod EntryLaws
 pub mod RecordLaws
 pub mod LawfulLaws
