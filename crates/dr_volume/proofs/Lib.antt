@@ -24,6 +24,7 @@
 pub mod Sets
 pub mod PackedLaws
 pub mod EntryLaws
+pub mod TakenLaws
 pub mod RecordLaws
 pub mod LawfulLaws
 pub mod VolumeLaws
@@ -40,4 +41,5 @@ pub mod UnreadLaws
 pub mod OpenedLaws
 pub mod HeadLaws
 pub mod TrackLaws
+pub mod SavingLaws
 pub mod SaysLaws

@@ -25,6 +25,7 @@ mod form;
 mod head;
 mod opened;
 mod place;
+mod saving;
 mod volume;
 
 pub use blocks::from_blocks;
