@@ -1,56 +1,56 @@
--- What a move leaves of the entries of side blocks: no kind takes one into use, or frees one.
-use Rattle.std.proofs.Common.{◌≡◌, refl, sym, subst}
-use Rattle.dr_model.specs.Layout.{Entries}
+-- The entries of side blocks that a move leaves follow those of the volume before it: one is taken at most, and none names another track.
+use Rattle.std.specs.Prelude.{if◌then◌else◌}
+use Rattle.dr_model.specs.Layout.{with_entry, free_entries}
 use Rattle.dr_model.specs.Lawful.{EntriesFollow}
+use Rattle.dr_model.specs.Pairs.{is_engaged, saves_track}
 use Rattle.dr_model.specs.Control.{Volume}
 use Rattle.dr_model.specs.Moves.{Move, Land, Overwrite, Keep, Note, Relate, Withdraw, Fetch, Resync, Reverse, Restore, Release, Store, Strike, Suspend, MakeSecondary, MakePrimary, DropPrimary, DropSecondary, Follow, Resume, TakeOver, LeavePrimary, FallBack, Yield, Unsync, Mirror, LandBoth, Thaw, FlashHold, FlashFree, Lift, Restart, Hold, Free, Seal, Finish, RaiseAttempt, RaiseFloor, Leave, Flash, Commit, Revert, Unstage, fields_left}
-use Rattle.dr_volume.proofs.TakenLaws.{follows-same}
+use Rattle.dr_model.proofs.EntryLemmas.{follows-same, follows-free, follows-without, follows-with, follows-if}
 
-pub entries-left : (m : Move) (u : Volume) → (fields_left m u).entries ≡ u.fields.entries
-entries-left (Land w v t) u = refl
-entries-left (Overwrite w v t) u = refl
-entries-left (Keep v t) u = refl
-entries-left (Note v t) u = refl
-entries-left (Relate v s choices) u = refl
-entries-left (Withdraw v) u = refl
-entries-left (Fetch v t) u = refl
-entries-left (Resync v sequence) u = refl
-entries-left (Reverse v left) u = refl
-entries-left (Restore v t from) u = refl
-entries-left (Release v t) u = refl
-entries-left (Store v t from last) u = refl
-entries-left (Strike v t last) u = refl
-entries-left (Suspend v busy) u = refl
-entries-left (MakeSecondary v a kind state) u = refl
-entries-left (MakePrimary v b kind state full) u = refl
-entries-left (DropPrimary v) u = refl
-entries-left (DropSecondary v) u = refl
-entries-left (Follow v state) u = refl
-entries-left (Resume v state) u = refl
-entries-left (TakeOver v) u = refl
-entries-left (LeavePrimary v) u = refl
-entries-left (FallBack v more state) u = refl
-entries-left (Yield v a kind state) u = refl
-entries-left (Unsync v t) u = refl
-entries-left (Mirror v t from w) u = refl
-entries-left (LandBoth w v t) u = refl
-entries-left (Thaw v) u = refl
-entries-left (FlashHold v) u = refl
-entries-left (FlashFree v) u = refl
-entries-left (Lift v) u = refl
-entries-left (Restart v) u = refl
-entries-left (Hold v s n first) u = refl
-entries-left (Free v) u = refl
-entries-left (Seal v a s n) u = refl
-entries-left (Finish v n) u = refl
-entries-left (RaiseAttempt v n) u = refl
-entries-left (RaiseFloor v n) u = refl
-entries-left (Leave v a s) u = refl
-entries-left (Flash v from a s n) u = refl
-entries-left (Commit v a s n) u = refl
-entries-left (Revert v a s n) u = refl
-entries-left (Unstage v) u = refl
+follows-void : (u : Volume) → EntriesFollow u.fields.entries (if is_engaged u.fields then free_entries else u.fields.entries)
+follows-void u = follows-if (is_engaged u.fields) free_entries u.fields.entries (follows-free u.fields.entries)
 
--- so those of the next fields follow those of the volume
 pub entries-follow : (m : Move) (u : Volume) → EntriesFollow u.fields.entries (fields_left m u).entries
-entries-follow m u = subst (λ (es : Entries). EntriesFollow u.fields.entries es) (sym (entries-left m u)) (follows-same u.fields.entries)
+entries-follow (Land w v t) u = follows-if (saves_track u.fields t) (with_entry u.fields.entries t) u.fields.entries (follows-with t u.fields.entries)
+entries-follow (Overwrite w v t) u = follows-same u.fields.entries
+entries-follow (Keep v t) u = follows-same u.fields.entries
+entries-follow (Note v t) u = follows-same u.fields.entries
+entries-follow (Relate v s choices) u = follows-same u.fields.entries
+entries-follow (Withdraw v) u = follows-same u.fields.entries
+entries-follow (Fetch v t) u = follows-same u.fields.entries
+entries-follow (Resync v sequence) u = follows-same u.fields.entries
+entries-follow (Reverse v left) u = follows-same u.fields.entries
+entries-follow (Restore v t from) u = follows-same u.fields.entries
+entries-follow (Release v t) u = follows-same u.fields.entries
+entries-follow (Store v t from last) u = follows-if (saves_track u.fields t) (with_entry u.fields.entries t) u.fields.entries (follows-with t u.fields.entries)
+entries-follow (Strike v t last) u = follows-without t u.fields.entries
+entries-follow (Suspend v busy) u = follows-void u
+entries-follow (MakeSecondary v a kind state) u = follows-same u.fields.entries
+entries-follow (MakePrimary v b kind state full) u = follows-free u.fields.entries
+entries-follow (DropPrimary v) u = follows-free u.fields.entries
+entries-follow (DropSecondary v) u = follows-same u.fields.entries
+entries-follow (Follow v state) u = follows-same u.fields.entries
+entries-follow (Resume v state) u = follows-same u.fields.entries
+entries-follow (TakeOver v) u = follows-free u.fields.entries
+entries-follow (LeavePrimary v) u = follows-same u.fields.entries
+entries-follow (FallBack v more state) u = follows-void u
+entries-follow (Yield v a kind state) u = follows-free u.fields.entries
+entries-follow (Unsync v t) u = follows-same u.fields.entries
+entries-follow (Mirror v t from w) u = follows-if (saves_track u.fields t) (with_entry u.fields.entries t) u.fields.entries (follows-with t u.fields.entries)
+entries-follow (LandBoth w v t) u = follows-same u.fields.entries
+entries-follow (Thaw v) u = follows-same u.fields.entries
+entries-follow (FlashHold v) u = follows-same u.fields.entries
+entries-follow (FlashFree v) u = follows-same u.fields.entries
+entries-follow (Lift v) u = follows-if u.fields.coordination free_entries u.fields.entries (follows-free u.fields.entries)
+entries-follow (Restart v) u = follows-void u
+entries-follow (Hold v s n first) u = follows-same u.fields.entries
+entries-follow (Free v) u = follows-same u.fields.entries
+entries-follow (Seal v a s n) u = follows-same u.fields.entries
+entries-follow (Finish v n) u = follows-void u
+entries-follow (RaiseAttempt v n) u = follows-same u.fields.entries
+entries-follow (RaiseFloor v n) u = follows-same u.fields.entries
+entries-follow (Leave v a s) u = follows-same u.fields.entries
+entries-follow (Flash v from a s n) u = follows-same u.fields.entries
+entries-follow (Commit v a s n) u = follows-same u.fields.entries
+entries-follow (Revert v a s n) u = follows-same u.fields.entries
+entries-follow (Unstage v) u = follows-same u.fields.entries

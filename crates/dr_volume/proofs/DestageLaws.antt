@@ -26,7 +26,8 @@ use Rattle.dr_volume.proofs.VolumeLaws.{device-placed, tracks-of, shows-normal}
 use Rattle.dr_volume.proofs.RecordLaws.{plain-normal}
 use Rattle.dr_volume.proofs.LawfulLaws.{lawful-normal}
 use Rattle.dr_volume.proofs.ReadingLaws.{fields-raw, staged_on, track_of, saving_on}
-use Rattle.dr_volume.proofs.TakenLaws.{follows-same, taken-same}
+use Rattle.dr_model.proofs.EntryLemmas.{follows-same}
+use Rattle.dr_volume.proofs.TakenLaws.{taken-same}
 use Rattle.dr_volume.proofs.RanLaws.{Ran, ran, ran-written, ran-stands, read-goes, read-stops}
 use Rattle.dr_volume.proofs.RewriteLaws.{Spared, record-low, record-behind}
 use Rattle.dr_volume.proofs.SeenLaws.{Lies, lies-of, seen, others-stay}

@@ -1,7 +1,7 @@
 -- The laws of entries: what they mean for a volume is lawful, and lawful entries mean themselves.
-use Rattle.std.proofs.Common.{ℕ, zero, suc, [], ◌∷◌, ◌≡◌, ◌≤◌, ◌<◌, Bool, true, false, not, ◌&&◌, List, take, length, get_or, sym, ◌∙◌, ap, refl, subst, arith, nat_lt, Option, None, Some, ◌⊎◌, inl, inr}
-use Rattle.std.specs.Prelude.{if◌then◌else◌, min, map}
-use Rattle.std.specs.List.{list_any, range_with_len, Any}
+use Rattle.std.proofs.Common.{ℕ, zero, suc, [], ◌∷◌, ◌≡◌, ◌<◌, Bool, true, false, not, ◌&&◌, take, length, get_or, sym, ◌∙◌, ap, refl, subst, arith, nat_lt, Option, None, Some, inl, inr}
+use Rattle.std.specs.Prelude.{if◌then◌else◌}
+use Rattle.std.specs.List.{list_any}
 use Rattle.std.proofs.lemmas.Bool.{cases_order, eq-eqb, ltb-true}
 use Rattle.std.proofs.lemmas.Bool.Decides.{Decides-eqb}
 use Rattle.std.proofs.lemmas.List.{get_or-take, get_or_past, length-take}

@@ -1,5 +1,5 @@
 -- The laws of entries as they are kept: a bit for each that is used, and the track that each names.
-use Rattle.std.proofs.Common.{ℕ, zero, suc, [], ◌∷◌, ◌++◌, ◌≡◌, ◌≢◌, ◌<◌, ◌+◌, ◌-◌, not, ◌&&◌, ◌||◌, cond, w8, Bool, true, false, List, map, length, get_or, sym, ◌∙◌, ap, refl, arith, nat_eq, nat_lt, Option, None, Some, inl, inr}
+use Rattle.std.proofs.Common.{ℕ, zero, suc, [], ◌∷◌, ◌++◌, ◌≡◌, ◌≢◌, ◌<◌, ◌+◌, ◌-◌, not, ◌&&◌, ◌||◌, cond, w8, Bool, true, false, List, map, length, get_or, set, sym, ◌∙◌, ap, refl, arith, nat_eq, nat_lt, Option, None, Some, inl, inr}
 use Rattle.std.specs.Prelude.{is_none, is_some, unwrap_or, min, bit_and, if◌then◌else◌}
 use Rattle.std.specs.Int.{bit_at, bit_not, trailing_zeros}
 use Rattle.std.specs.List.{list_all, list_any, position, position_or_len, range_with_len}
@@ -8,9 +8,10 @@ use Rattle.std.proofs.lemmas.Bool.Decides.{eqb_tells, nat_tests}
 use Rattle.std.proofs.lemmas.Nat.Bits.{bit_at_and, bit_at_not, bit_at-lt, bit_at-trailing_zeros}
 use Rattle.std.proofs.lemmas.List.FromFn.{fill_by_all, get_or-map-range_with_len, length-map-range_with_len}
 use Rattle.dr_bits.specs.Numbers.{number_of_below}
+use Rattle.dr_bits.proofs.WordLaws.{and_bit}
 use Rattle.dr_bits.specs.Tracks.{number_of}
 use Rattle.dr_logic.proofs.Lists.{position-first}
-use Rattle.dr_model.specs.Layout.{Entries, bit, entry_at, entry_taken, entry_of, is_taken, is_track}
+use Rattle.dr_model.specs.Layout.{Entries, bit, entry_at, entry_taken, entry_of, is_taken, is_track, with_entry, without_entry}
 use Rattle.dr_volume.specs.Codes.{flags_byte, two_bytes}
 use Rattle.dr_volume.specs.Record.{track_bytes, same_tracks}
 use Rattle.dr_volume.specs.Packed.{track_named, entry_flags, entry_held, entries_held, IsPacked, packed, bit-flags, some-held, entry_back, entry_flags-held, track_named-held}
@@ -72,11 +73,8 @@ tracks-held p is =
     at k low = sym (track_named-held p is k low)
 
 -- a bit of two bytes is set if it is in both
-both-set : (x y : ℕ) → x < 2 → y < 2 → nat_eq (min x y) 1 ≡ (nat_eq x 1 && nat_eq y 1)
-both-set x y low_x low_y = grind (arith, nat_tests)
-
 bit-and : (a b k : ℕ) → bit (bit_and a b) k ≡ (bit a k && bit b k)
-bit-and a b k = ap (λ n. nat_eq n 1) (bit_at_and a b k) ∙ both-set (bit_at a k) (bit_at b k) (bit_at-lt a k) (bit_at-lt b k)
+bit-and a b k = ap (λ n. nat_eq n 1) (bit_at_and a b k) ∙ and_bit (bit_at a k) (bit_at b k) (bit_at-lt a k) (bit_at-lt b k)
 
 -- and of the other bits of a byte, if it isn't set there
 not-set : (x : ℕ) → x < 2 → nat_eq (1 - x) 1 ≡ not (nat_eq x 1)
@@ -146,3 +144,36 @@ lowest-bit n some low =
   where
     place : (k : ℕ) → k < 8 → get_or (range_with_len 0 8) k 0 ≡ k
     place k within = get_or-map-range_with_len (λ k. k) 0 8 k k 0 within (omega arith)
+
+-- the lowest free entry names a track
+lowest-at : {X : Type 0} (p : X → Bool) (xs : List X) (k : ℕ) → Some k ≡ position p xs → position_or_len p xs ≡ k
+lowest-at p xs k is = grind (arith, nat_tests)
+
+set-lowest : (es : Entries) (t : ℕ) → set es (position_or_len (λ e. is_none e) es) (Some t) ≡ with_entry es t
+set-lowest [] t = refl
+set-lowest (None ∷ es) t = refl
+set-lowest (Some s ∷ es) t =
+    let n : ℕ = position_or_len (λ e. is_none e) es in
+    ap (λ k. set (Some s ∷ es) k (Some t)) (let e : 1 + n ≡ suc n = omega arith in e) ∙ ap (λ l. Some s ∷ l) (set-lowest es t)
+
+pub names-lowest : (es : Entries) (k t : ℕ) → Some k ≡ position (λ e. is_none e) es → set es k (Some t) ≡ with_entry es t
+names-lowest es k t is = ap (λ n. set es n (Some t)) (sym (lowest-at (λ e. is_none e) es k is)) ∙ set-lowest es t
+
+-- if none is free, they stay
+all-used : (es : Entries) (t : ℕ) → list_any (λ e. is_none e) es ≡ false → es ≡ with_entry es t
+all-used [] t h = refl
+all-used (None ∷ es) t h = absurd (cc)
+all-used (Some s ∷ es) t h = ap (λ l. Some s ∷ l) (all-used es t h)
+
+pub none-lowest : (es : Entries) (t : ℕ) → None ≡ position (λ e. is_none e) es → es ≡ with_entry es t
+none-lowest es t is = all-used es t (sym (there-any (λ e. is_none e) es) ∙ ap (λ o. is_some o) (sym is))
+
+-- and if none is used, none is freed
+pub none-freed : (es : Entries) (t : ℕ) → list_all (λ e. is_none e) es ≡ true → es ≡ without_entry es t
+none-freed [] t h = refl
+none-freed (None ∷ es) t h = ap (λ l. None ∷ l) (none-freed es t h)
+none-freed (Some s ∷ es) t h = absurd (cc)
+
+-- eight entries, one by one
+pub one-by-one : (es : Entries) → length es ≡ 8 → es ≡ map (entry_at es) (range_with_len 0 8)
+one-by-one es eight = fill_by_all (entry_at es) es 8 None eight (λ k low. refl)

@@ -1,5 +1,5 @@
 -- What is read of a volume depends on the gate's choice, the record in the chosen slot and the tracks' own blocks.
-use Rattle.std.proofs.Common.{ℕ, ◌≡◌, ◌≤◌, ◌<◌, ◌+◌, Bool, true, false, not, ◌||◌, List, sym, ◌∙◌, ap, refl, nat_lt, nat_eq, Option, None, Some, ◌⊎◌, inl, inr, arith, ◌&&◌}
+use Rattle.std.proofs.Common.{ℕ, ◌≡◌, ◌≤◌, ◌<◌, Bool, true, false, not, ◌||◌, List, sym, ◌∙◌, ap, refl, nat_lt, nat_eq, Option, None, Some, ◌⊎◌, inl, inr, arith, ◌&&◌}
 use Rattle.std.specs.Prelude.{if◌then◌else◌, IfSome, is_some, unwrap_or}
 use Rattle.std.specs.FinSet.{contains}
 use Rattle.std.proofs.lemmas.Bool.Decides.{Decides-eqb, nat_tests}

@@ -1,5 +1,5 @@
 -- Writing a staged track to its own place, as the machine sees it.
-use Rattle.std.proofs.Common.{ℕ, ◌≡◌, ◌≢◌, ◌≤◌, ◌<◌, ◌+◌, ◌++◌, Bool, true, false, not, arith, List, length, refl, sym, ◌∙◌, ap, subst, cond, inl, inr, Option, None, Some}
+use Rattle.std.proofs.Common.{ℕ, ◌≡◌, ◌≢◌, ◌≤◌, ◌<◌, ◌++◌, Bool, true, false, not, arith, List, length, refl, sym, ◌∙◌, ap, subst, cond, inl, inr, Option, None, Some}
 use Rattle.std.specs.Prelude.{is_some, IfSome, if◌then◌else◌}
 use Rattle.std.proofs.lemmas.Bool.{cases_eq}
 use Rattle.dr_logic.specs.Bytes.{zeros}

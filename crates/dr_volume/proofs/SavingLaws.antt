@@ -1,5 +1,5 @@
 -- The laws of what a move saves, by what is looked at before it.
-use Rattle.std.proofs.Common.{ℕ, ◌≡◌, ◌<◌, ◌+◌, Bool, true, false, List, map, length, refl, sym, ◌∙◌, ap, subst, arith, Option, None, Some}
+use Rattle.std.proofs.Common.{ℕ, ◌≡◌, ◌<◌, ◌+◌, Bool, true, false, List, map, refl, sym, ◌∙◌, ap, subst, arith, Option, None, Some}
 use Rattle.std.specs.Prelude.{is_none, IfSome, unwrap_or}
 use Rattle.std.specs.List.{list_all, range_with_len}
 use Rattle.std.proofs.lemmas.List.Folds.{list_all_at}
@@ -11,7 +11,7 @@ use Rattle.dr_model.specs.Control.{Volume}
 use Rattle.dr_model.specs.Layout as layout
 use Rattle.dr_model.specs.Layout.{Blocks, Entries, chosen, slot_begin, entry_at, entry_in, entry_taken, entries_of}
 use Rattle.dr_model.specs.Lawful.{HasEntries}
-use Rattle.dr_volume.specs.View.{volume_seen, track_seen, device_of}
+use Rattle.dr_volume.specs.View.{volume_seen, track_seen}
 use Rattle.dr_volume.specs.Volume.{LiesOn}
 use Rattle.dr_volume.specs.Update.{side_for, saving, saving_seen}
 use Rattle.dr_volume.proofs.VolumeLaws.{entry, volume-placed, device-stands}

@@ -1,6 +1,5 @@
 -- The laws of the entry that a track has, and of the one that a change of entries takes into use.
-use Rattle.std.proofs.Common.{ℕ, ◌≡◌, ◌<◌, Bool, true, false, List, length, get_or, zip, sym, ◌∙◌, ap, refl, subst, arith, Option, None, Some}
-use Rattle.std.specs.Prelude.{is_none, is_some, min, ◌&&◌}
+use Rattle.std.proofs.Common.{ℕ, ◌≡◌, true, false, length, zip, sym, ◌∙◌, ap, refl, arith, Option, None, Some}
 use Rattle.std.specs.List.{list_any}
 use Rattle.std.proofs.lemmas.Bool.Decides.{Decides-eqb}
 use Rattle.std.proofs.lemmas.Bool.{eq-eqb}
@@ -58,13 +57,7 @@ taken-is old next same follows k t free used = elim (entry_taken old next) as (�
   | Some j ↦ λ is. let x = taken-some old next j is in ap (λ q. Some q) (follows.one j k x.1.0 t x.0 x.1.1 free used)
 ] refl
 
--- entries that stay follow themselves, and take none into use
-pub follows-same : (es : Entries) → EntriesFollow es es
-follows-same es = record {
-  same = λ k t u was is. let e : Some u ≡ Some t = sym is ∙ was in cc;
-  one = λ j k t u free is other there. absurd (let never : None ≡ Some t = sym free ∙ is in cc);
-}
-
+-- entries that stay take none into use
 pub taken-same : (es : Entries) → entry_taken es es ≡ None
 taken-same es = elim (entry_taken es es) as (λ o. entry_taken es es ≡ o → o ≡ None) [
   | None ↦ λ none. refl

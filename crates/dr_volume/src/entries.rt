@@ -1,6 +1,6 @@
 //! The entries of a volume's side blocks; how they are written in a block, after the blank tracks, and read from it.
 
-ghost use Rattle.std.specs.Prelude.{◌≡◌, ℕ, Bool, ◌<◌, ◌++◌, length, map, take, is_none};
+ghost use Rattle.std.specs.Prelude.{◌≡◌, ℕ, Bool, ◌<◌, ◌++◌, length, map, take, is_none, None, if◌then◌else◌};
 ghost use Rattle.std.specs.List.{range_with_len, list_any, list_all, position, slice_index_or};
 ghost use Rattle.dr_bits.specs.Tracks.{bytes_of};
 ghost use Rattle.dr_model.specs.Layout as layout;
@@ -92,11 +92,46 @@ impl Entries {
         self.entry_of(t).is_some()
     }
 
+    /// The lowest free entry names the track `t`, if one is free.
+    pub fn take(&mut self, t: u16)
+        ensures { self.new ≡ layout.with_entry self.old t }
+    {
+        let mut all = self.unpacked();
+        name_lowest(&mut all, t);
+        *self = pack(&all);
+    }
+
+    /// The entry that names the track `t` is free; the others stay. If no entry is used, one byte is looked at.
+    pub fn free_track(&mut self, t: u16)
+        ensures { self.new ≡ layout.without_entry self.old t }
+    {
+        if !self.are_free() {
+            *self = pack(&without_track(&self.unpacked(), t));
+        }
+    }
+
     /// Says that there are eight entries. Does nothing.
     pub fn tell_eight(&self)
         ensures { length self.now ≡ 8 }
     {
         let _ = &self.used;
+    }
+
+    // All eight, one by one.
+    fn unpacked(&self) -> [Option<u16>; 8]
+        ensures { result ≡ self.now }
+    {
+        self.tell_eight();
+        [
+            self.get(0),
+            self.get(1),
+            self.get(2),
+            self.get(3),
+            self.get(4),
+            self.get(5),
+            self.get(6),
+            self.get(7),
+        ]
     }
 
     // The entries that are used, as bits.
@@ -223,6 +258,45 @@ fn tracks(entries: &[Option<u16>; 8]) -> [u16; 8]
         entries[6].unwrap_or(0),
         entries[7].unwrap_or(0),
     ]
+}
+
+// The lowest of these that is free.
+fn lowest_free(entries: &[Option<u16>; 8]) -> Option<usize>
+    ensures { result ≡ position (λ e. is_none e) entries.now }
+{
+    entries.iter().position(|entry| entry.is_none())
+}
+
+// The lowest that is free names the track, if one is free.
+fn name_lowest(entries: &mut [Option<u16>; 8], t: u16)
+    ensures { entries.new ≡ layout.with_entry entries.old t }
+{
+    if let Some(k) = lowest_free(entries) {
+        entries[k] = Some(t);
+    }
+}
+
+// These entries, less the one that names the track.
+fn without_track(entries: &[Option<u16>; 8], t: u16) -> [Option<u16>; 8]
+    ensures { result ≡ layout.without_entry entries.now t }
+{
+    [
+        less(entries[0], t),
+        less(entries[1], t),
+        less(entries[2], t),
+        less(entries[3], t),
+        less(entries[4], t),
+        less(entries[5], t),
+        less(entries[6], t),
+        less(entries[7], t),
+    ]
+}
+
+// An entry, free if it names the track.
+fn less(entry: Option<u16>, t: u16) -> Option<u16>
+    ensures { result ≡ (if layout.is_track entry t then None else entry) }
+{
+    if is_staged(entry, t) { None } else { entry }
 }
 
 /// What the entries that a block says mean for a volume with that many tracks. If none is used, one byte is looked at.

@@ -12,7 +12,7 @@
 //! `peek_head` and `peek_head_at` give their head, which is all but the sets of tracks, and `peek_relation_at` what the head
 //! says of a target; `slot` gives the chosen slot, `read_track` the track's bytes and `read_beside` those of a side block (`bytes`); if one
 //! fails, what they were to go into is as before (`same`). `Entries` are the eight entries in 18 bytes: `free`, `get`, `are_free`,
-//! `taken`, `entry_of` and `names` look at them.
+//! `taken`, `entry_of` and `names` look at them; `take` and `free_track` change them.
 #![tactic(auto)]
 
 mod blocks;

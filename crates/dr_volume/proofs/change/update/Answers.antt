@@ -1,4 +1,4 @@
-use Rattle.std.proofs.Common.{ℕ, List, Option, ◌≡◌, ◌<◌, ◌+◌, ap, sym, subst, ◌∙◌, not, cond, inl, refl, true, false, rules}
+use Rattle.std.proofs.Common.{ℕ, List, Option, ◌≡◌, ◌<◌, ap, sym, subst, ◌∙◌, not, cond, inl, refl, true, false, rules}
 use Rattle.std.specs.Prelude.{is_err, IfSome}
 use Rattle.dr_logic.specs.Counts.{risen}
 use Rattle.dr_ids.specs.Sizes.{record_blocks, track_block}

@@ -1,7 +1,6 @@
-use Rattle.std.proofs.Common.{◌≡◌, ◌<◌, ap, sym, subst, refl, ◌∙◌, take}
+use Rattle.std.proofs.Common.{◌<◌, ap, sym, subst, refl, ◌∙◌, take}
 use Rattle.std.specs.FinSet.{contains}
 use Rattle.dr_bits.specs.Tracks.{Tracks, of_bytes}
-use Rattle.dr_ids.specs.Sizes.{track_block}
 use Rattle.dr_model.specs.Layout.{is_staged}
 use Rattle.dr_volume.specs.Record.{staged_in}
 use Rattle.dr_volume.specs.View.{volume_seen}

@@ -1,4 +1,4 @@
-use Rattle.std.proofs.Common.{◌≡◌, ◌<◌, ◌+◌, Option, None, Some, ap, sym, subst, ◌∙◌, arith}
+use Rattle.std.proofs.Common.{◌≡◌, ◌<◌, ◌+◌, None, Some, ap, sym, subst, ◌∙◌, arith}
 use Rattle.dr_record.specs.Slots.{slot_of}
 use Rattle.dr_model.specs.Layout.{Entries, entry_taken}
 use Rattle.dr_volume.specs.View.{volume_seen, track_seen}

@@ -1,5 +1,5 @@
-use Rattle.std.proofs.Common.{ℕ, List, Option, [], ◌∷◌, ap, ◌∙◌}
-use Rattle.dr_plant.specs.Writes.{write, after_writes}
+use Rattle.std.proofs.Common.{ℕ, List, Option, ap, ◌∙◌}
+use Rattle.dr_plant.specs.Writes.{after_writes}
 use Rattle.dr_plant.proofs.WritesLemmas.{one_write, ends}
 use Rattle.dr_volume.specs.Update.{side_writes}
 use Rattle.dr_volume.proofs.saving.write_side.Goals as goal

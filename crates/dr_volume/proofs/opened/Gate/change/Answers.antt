@@ -1,4 +1,4 @@
-use Rattle.std.proofs.Common.{ℕ, List, Option, ◌<◌, ◌+◌, ap, subst, sym, refl, ◌∙◌, true, not, cond}
+use Rattle.std.proofs.Common.{ℕ, List, Option, ◌<◌, ap, subst, sym, refl, ◌∙◌, true, not, cond}
 use Rattle.std.specs.Prelude.{is_err, IfSome}
 use Rattle.dr_logic.specs.Counts.{risen}
 use Rattle.dr_ids.specs.Sizes.{track_block}
