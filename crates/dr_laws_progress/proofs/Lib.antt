@@ -2,8 +2,18 @@
 -- its plan. `Taken.antt`: at the end of a recovery all secondaries are taken over, and their servers run.
 -- - each answer has its cause: `recoveries-answer` (`Causes.antt`)
 -- - a second recovery finds nothing to do: `recovers-twice` (`Twice.antt`)
+-- - at each moment of a run the pair of each member stands in one of three ways: `has-pair-ways`, `pair-ways-run` (`PairRuns.antt`)
+-- **The three ways.** `PairMoves.antt`: what each kind of move that changes a part is asked (`Fair`), and that the ways stay then; `PairPlans.antt`:
+-- entries whose acts come so (`Goes`), and with them all moments of a plan; `PairSteps.antt`: the plans that make, end or turn a pair, by what their
+-- checks say; `PairCases.antt`: every plan. The sessions of a plan's begin stay the measure (`Stand`): of what is told of a volume in its checks
+-- the later acts may rely on what goes by sessions alone (`IsFree`).
 pub mod OneStep
 pub mod Course
 pub mod Causes
 pub mod Taken
 pub mod Twice
+pub mod PairMoves
+pub mod PairPlans
+pub mod PairSteps
+pub mod PairCases
+pub mod PairRuns

@@ -1,2 +1,3 @@
 pub mod Recoveries
 pub mod RecoversTwice
+pub mod PairWays
