@@ -7,6 +7,12 @@
 -- entries whose acts come so (`Goes`), and with them all moments of a plan; `PairSteps.antt`: the plans that make, end or turn a pair, by what their
 -- checks say; `PairCases.antt`: every plan. The sessions of a plan's begin stay the measure (`Stand`): of what is told of a volume in its checks
 -- the later acts may rely on what goes by sessions alone (`IsFree`).
+-- - the lines of the way home are answered ok, and lead to the pair in place: `goes-home` (`HomeRuns.antt`), and of a member `member-goes-home`
+--   (`HomeMembers.antt`)
+-- **The way home.** Entries whose checks pass go to their end or stop (`GoesTo`), one `move-goes` for each move (`HomeSteps.antt`); what a drain
+-- keeps goes along its acts (`HomeDrains.antt`), and its answer is the row of `dr_laws_return`. That the next line's premise holds is one lemma for all
+-- lines (`open-stays` of `HomeKept.antt`): of relationships it asks that each is as it was, or was plain and is (`Kin`), since a target that isn't persistent may
+-- end with the last track that it keeps. `then-leads` puts a line before those after it.
 pub mod OneStep
 pub mod Course
 pub mod Causes
@@ -17,3 +23,9 @@ pub mod PairPlans
 pub mod PairSteps
 pub mod PairCases
 pub mod PairRuns
+pub mod HomeKept
+pub mod HomeSteps
+pub mod HomeDrains
+pub mod HomeRuns
+pub mod HomeMembers
+pub mod HomeExample

@@ -4,8 +4,7 @@ use Rattle.std.proofs.lemmas.Bool.{and_parts, eqb-true}
 use Rattle.dr_ids.specs.declared.names.Member.{Member}
 use Rattle.dr_model.specs.declared.event.Event.{Event}
 use Rattle.dr_model.specs.declared.said.Said.{Said}
-use Rattle.dr_model.specs.declared.state.Part.{Part}
-use Rattle.dr_model.specs.declared.state.Part.TheVariants.{Absent, Metro, Global}
+use Rattle.dr_model.specs.declared.state.Part.TheVariants.{Global}
 use Rattle.dr_model.specs.declared.step.Devs.{Devs}
 use Rattle.dr_model.specs.declared.step.Step.{Step}
 use Rattle.dr_model.specs.declared.step.Step.TheVariants.{MakePair, RemovePair, Failover, Failback, AddMember}
@@ -41,7 +40,7 @@ use Rattle.dr_laws_sound.proofs.DoesPlans.{Entered, case-does}
 use Rattle.dr_laws_sound.proofs.FitsPairs.{its-first}
 use Rattle.dr_laws_sound.proofs.Parts.{Ending, OnePlan, Imaged}
 use Rattle.dr_laws_progress.specs.PairWays.{AsAdded, BothLead, TurnedRound}
-use Rattle.dr_laws_progress.proofs.PairMoves.{Way, Ways, IsFree, free-owes, changed-ways, AllAmong, Stand, members-changed, among-changed, FairAct}
+use Rattle.dr_laws_progress.proofs.PairMoves.{is-global, Way, Ways, IsFree, free-owes, changed-ways, AllAmong, Stand, members-changed, among-changed, FairAct}
 use Rattle.dr_laws_progress.proofs.PairPlans.{WaysIn, stand-ways, goes-none, from-goes, each-fine, PlanStands, plan-stands}
 use Rattle.dr_laws_progress.proofs.PairSteps.{begins-stand, make-goes, remove-goes, failover-goes, failback-goes}
 
@@ -133,11 +132,6 @@ module _ (w : World) (sound : Sound w) (ways : WaysIn w) (line : ℕ) where
     abbrev us : List Session
     us = record x { members = m ∷ [] } ∷ ss
 
-    kind-is : (p : Part) → is_kind Global p ≡ true → p ≡ Global
-    kind-is Global h = refl
-    kind-is Metro h = absurd cc
-    kind-is Absent h = absurd cc
-
     checks : (is_kind Global (fields_at k a).primary ≡ true) × ((send_refusal a b k ≡ None) × (lead_refusal b k ≡ None))
     checks =
         let global = passed (is_kind Global (fields_at k a).primary) (pair_state k a) _ (passed (is_running a k) (server_off (k.volume a).server) _ joins.copies).1 in
@@ -157,7 +151,7 @@ module _ (w : World) (sound : Sound w) (ways : WaysIn w) (line : ℕ) where
     to-b = choose_some (is_part (fields_at k a).primary) b (global-part (fields_at k a).primary checks.0)
 
     global : (fields_at k a).primary ≡ Global
-    global = kind-is (fields_at k a).primary checks.0
+    global = is-global (fields_at k a).primary checks.0
 
     new-apart : a ≢ b
     new-apart is = (sound.rows.parts.secondary a b to-b).apart (ap (λ j. (k.volume j).server) is)

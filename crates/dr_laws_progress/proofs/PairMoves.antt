@@ -4,10 +4,10 @@ use Rattle.std.proofs.lemmas.Bool.Decides.{eqb_tells}
 use Rattle.dr_logic.specs.Tables.{at}
 use Rattle.dr_ids.specs.declared.names.Member.{Member}
 use Rattle.dr_model.specs.declared.state.Part.{Part}
-use Rattle.dr_model.specs.declared.state.Part.TheVariants.{Global}
+use Rattle.dr_model.specs.declared.state.Part.TheVariants.{Absent, Metro, Global}
 use Rattle.dr_model.specs.declared.state.PairState.{PairState}
 use Rattle.dr_model.specs.Layout.{Fields, is_part}
-use Rattle.dr_model.specs.Pairs.{no_secondary, taken_over, yielded}
+use Rattle.dr_model.specs.Pairs.{is_kind, no_secondary, taken_over, yielded}
 use Rattle.dr_model.specs.Control.{Fuse, Volume, World}
 use Rattle.dr_model.specs.Sessions.{Session, changed, begun}
 use Rattle.dr_model.specs.Moves.{Move, MakeSecondary, MakePrimary, DropPrimary, DropSecondary, TakeOver, LeavePrimary, Yield, Hold, target, fields_left, keeps_staged, moved_keeping}
@@ -23,6 +23,11 @@ use Rattle.dr_laws_progress.specs.PairWays.{sides, CopiesWith, PairWay, AsAdded,
 -- a part in Global Copy is one
 pub copies-part : (p : Part) (to v : ℕ) → CopiesWith p to v → is_part p ≡ true
 copies-part p to v c = ap is_part c.0
+
+pub is-global : (p : Part) → is_kind Global p ≡ true → p ≡ Global
+is-global Global h = refl
+is-global Metro h = absurd cc
+is-global Absent h = absurd cc
 
 -- the way in which the primary and the secondary of a member stand
 abbrev pub Way : (ℕ → Volume) → Member → Type 0

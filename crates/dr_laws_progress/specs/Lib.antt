@@ -1,3 +1,5 @@
 pub mod Recoveries
 pub mod RecoversTwice
 pub mod PairWays
+pub mod Home
+pub mod HomeExample

@@ -1,12 +1,25 @@
 //! Laws on what recoveries come to and on the way home, over every script and every stop: each answer of a recovery has its cause, a second one has
-//! nothing to do, and the pair of each member stands in one of three ways. Its functions do nothing: each names a law by its contract.
+//! nothing to do, the pair of each member stands in one of three ways, and the lines of the way home are answered ok. Its functions do nothing: each
+//! names a law by its contract.
 #![tactic(auto)]
 
-ghost use Rattle.std.specs.Prelude.{List};
+ghost use Rattle.std.specs.Prelude.{◌≡◌, ℕ, true, List, None};
+ghost use Rattle.dr_ids.specs.declared.names.Member.{Member};
+ghost use Rattle.dr_model.specs.declared.said.Addition.TheVariants.{Alone};
+ghost use Rattle.dr_ids.specs.declared.refusal.PairSeen.TheVariants.{TargetFullDuplex};
+ghost use Rattle.dr_ids.specs.declared.refusal.Refusal.TheVariants.{PairState};
+ghost use Rattle.dr_model.specs.declared.said.Said.TheVariants.{Done, Refused};
+ghost use Rattle.dr_model.specs.Sessions.{Session};
+ghost use Rattle.dr_model.specs.Groups.{In};
+ghost use Rattle.dr_model.specs.PairEntries.{leads_to, belongs_to};
+ghost use Rattle.dr_model.specs.Plans.{yield_refusal};
 ghost use Rattle.dr_model.specs.Runs.{Task, run};
+ghost use Rattle.dr_laws_sound.specs.Acknowledged.{said_in};
 ghost use Rattle.dr_laws_progress.specs.Recoveries.{RecoveriesAnswer};
 ghost use Rattle.dr_laws_progress.specs.RecoversTwice.{RecoversTwice};
 ghost use Rattle.dr_laws_progress.specs.PairWays.{PairWays, HasPairWays};
+ghost use Rattle.dr_laws_progress.specs.Home.{HomeLines, IsSuspended, AnswersThen, LeadsBack, LeadsHome, GoesHome, MayGoHome, MemberGoesHome, RefusesCascaded};
+ghost use Rattle.dr_laws_progress.specs.HomeExample.{two_sites, after_recovery, after_turn, after_pause, resume, three_sites, turn_cascaded, lines_home, its_member, its_session};
 
 /// These are all answers of an `@recover` in a run, each with its cause. It is refused if the journal has no room for a step, if no session has
 /// that number, or if the server of a member's secondary is off, the first of which it names; then it changes nothing. It is refused if such a
@@ -24,7 +37,7 @@ pub fn a_second_recovery_finds_nothing_to_do()
     ensures { (tasks : List Task) → RecoversTwice tasks }
 {}
 
-/// At each moment of a run, and where it ends, the primary and the secondary of each member stand in one of three ways by their records, and in
+/// At each moment of a run, and as it ends, the primary and the secondary of each member stand in one of three ways by their records, and in
 /// no two of them at once. Either the primary leads to the secondary, which is its own, and no primary, as the member was added. Or each is a primary of
 /// the other, as a takeover leaves it. Or the pair is turned round: the secondary leads to the primary, which is its own, and no primary, as
 /// a failback leaves it. All these parts are Global Copy. In the first two ways the primary may be the Metro Mirror secondary of a first site,
@@ -32,4 +45,44 @@ pub fn a_second_recovery_finds_nothing_to_do()
 pub fn the_pair_of_each_member_stands_in_one_of_three_ways()
     ensures moments { (tasks : List Task) → HasPairWays tasks }
     ensures runs { (tasks : List Task) → PairWays (run tasks).control }
+{}
+
+/// The way home after any run, of two volumes that lead to each other, as a takeover leaves the pair of a member. Its premise: both servers are on,
+/// each volume can be reached from the other, neither is the source of a relationship that is reversing or revertible, and no session has something to
+/// do with their targets. Then five lines are answered ok, one after another: the failback to the first site's volume, a drain, the failover
+/// of that volume, the failback from it, and a drain. Each drain sends as many tracks as are out of sync as it begins. After the last line the
+/// pair is in place, in Copy Pending. From a pair that is turned round the first line falls away; if it is Suspended, a resume stands in its place.
+/// The last two lines are answered ok from the same states as all five, and give up what was written at the second site. A line is refused only
+/// by the stop of a server on which a fuse was armed as the first one began. Of a line for which the journal has no room nothing is said.
+///
+/// For a member the premise is this. The servers of its primary and of its session's secondaries are on, and each of its primary and secondary can
+/// be reached from the other. Neither is the source of such a relationship, and it is decided over its session that nothing is to be done, as after
+/// a recovery. No target of its primary is a member's, so no other session counts. A cascaded primary isn't led home: the first line is
+/// refused, since that volume is a secondary.
+pub fn the_way_home_is_answered_ok()
+    ensures pairs { (tasks : List Task) (a b : ℕ) (l : HomeLines a b) → GoesHome tasks a b l }
+    ensures members { (tasks : List Task) (s : ℕ) (x : Session) (m : Member) → MayGoHome (run tasks).control s x m → (l : HomeLines m.a.0 m.b.0) → MemberGoesHome tasks m l }
+    ensures yields { (tasks : List Task) (x : Session) (m : Member) → In x (run tasks).control.sessions → In m x.members → yield_refusal m.a.0 (run tasks).control ≡ None }
+    ensures cascaded { (tasks : List Task) → RefusesCascaded tasks }
+{}
+
+/// An example: two sites and a session with one member. When that was added, its primary leads to its secondary. After a recovery each is a primary of
+/// the other, and after the first line of the way home the pair is turned round: so each of the three ways comes. After the recovery the premise of the way
+/// home is met, and neither server has a fuse. The first line is answered ok, and this is what the law gives of all five. It is met also as the pair is
+/// turned round, and as that is paused: from there a resume leads on. And one of three sites, whose primary is cascaded: there the first line is refused.
+pub fn an_example_of_the_way_home()
+    ensures added { leads_to 4096 8192 (run two_sites).control ≡ true }
+    ensures added_follows { belongs_to 4096 8192 (run two_sites).control ≡ true }
+    ensures taken { leads_to 4096 8192 (run after_recovery).control ≡ true }
+    ensures taken_back { leads_to 8192 4096 (run after_recovery).control ≡ true }
+    ensures turned { leads_to 8192 4096 (run after_turn).control ≡ true }
+    ensures turned_follows { belongs_to 8192 4096 (run after_turn).control ≡ true }
+    ensures may { MayGoHome (run after_recovery).control 1 its_session its_member }
+    ensures unarmed { ((run after_recovery).control.fuse 0 ≡ None) × ((run after_recovery).control.fuse 1 ≡ None) }
+    ensures first { said_in (run after_recovery) lines_home.turn ≡ Done Alone }
+    ensures goes { LeadsHome (run after_recovery) (run after_recovery) 4096 8192 lines_home }
+    ensures goes_back { LeadsBack (run after_turn) (run after_turn) 4096 8192 lines_home }
+    ensures paused { IsSuspended (run after_pause).control 8192 }
+    ensures goes_on { AnswersThen (run after_pause) (run after_pause) resume.task (Done Alone) (λ u. LeadsBack (run after_pause) u 4096 8192 lines_home) }
+    ensures cascaded { said_in (run three_sites) turn_cascaded ≡ Refused (PairState (record { 0 = 8192 }) TargetFullDuplex) }
 {}
