@@ -13,6 +13,11 @@
 -- keeps goes along its acts (`HomeDrains.antt`), and its answer is the row of `dr_laws_return`. That the next line's premise holds is one lemma for all
 -- lines (`open-stays` of `HomeKept.antt`): of relationships it asks that each is as it was, or was plain and is (`Kin`), since a target that isn't persistent may
 -- end with the last track that it keeps. `then-leads` puts a line before those after it.
+-- - an abort is answered by the state: `aborts-answer` (`Aborts.antt`)
+-- - so is an exchange that asks for a report, a revert or a finish: `exchanges-answer` (`Exchanges.antt`). Its entries leave what such an order asks of
+--   places, so they end by the state as it begins, or a server stops (`Endings.antt`)
+-- - such exchanges lead to Idle, each by one order: `leads-to-idle` (`ToIdle.antt`, `OrdersLeft.antt`); an abort leaves its orders: `aborts-lead-on`
+--   (`GivenUp.antt`)
 pub mod OneStep
 pub mod Course
 pub mod Causes
@@ -29,3 +34,9 @@ pub mod HomeDrains
 pub mod HomeRuns
 pub mod HomeMembers
 pub mod HomeExample
+pub mod Aborts
+pub mod Endings
+pub mod Exchanges
+pub mod OrdersLeft
+pub mod ToIdle
+pub mod GivenUp

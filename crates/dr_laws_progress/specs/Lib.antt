@@ -3,3 +3,5 @@ pub mod RecoversTwice
 pub mod PairWays
 pub mod Home
 pub mod HomeExample
+pub mod Aborts
+pub mod ToIdle

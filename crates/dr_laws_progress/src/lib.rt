@@ -1,6 +1,6 @@
-//! Laws on what recoveries come to and on the way home, over every script and every stop: each answer of a recovery has its cause, a second one has
-//! nothing to do, the pair of each member stands in one of three ways, and the lines of the way home are answered ok. Its functions do nothing: each
-//! names a law by its contract.
+//! Laws on what comes to its end, over every script and every stop. Each answer of a recovery has its cause, and a second one has nothing to do. The
+//! pair of each member stands in one of three ways, and the lines of the way home are answered ok. An attempt that is given up comes to Idle, by as many
+//! orders as its state says. Its functions do nothing: each names a law by its contract.
 #![tactic(auto)]
 
 ghost use Rattle.std.specs.Prelude.{◌≡◌, ℕ, true, List, None};
@@ -15,6 +15,8 @@ ghost use Rattle.dr_model.specs.PairEntries.{leads_to, belongs_to};
 ghost use Rattle.dr_model.specs.Plans.{yield_refusal};
 ghost use Rattle.dr_model.specs.Runs.{Task, run};
 ghost use Rattle.dr_laws_sound.specs.Acknowledged.{said_in};
+ghost use Rattle.dr_laws_progress.specs.Aborts.{AbortsAnswer};
+ghost use Rattle.dr_laws_progress.specs.ToIdle.{ExchangesAnswer, ExchangesLeadToIdle, AbortsLeadOn};
 ghost use Rattle.dr_laws_progress.specs.Recoveries.{RecoveriesAnswer};
 ghost use Rattle.dr_laws_progress.specs.RecoversTwice.{RecoversTwice};
 ghost use Rattle.dr_laws_progress.specs.PairWays.{PairWays, HasPairWays};
@@ -85,4 +87,35 @@ pub fn an_example_of_the_way_home()
     ensures paused { IsSuspended (run after_pause).control 8192 }
     ensures goes_on { AnswersThen (run after_pause) (run after_pause) resume.task (Done Alone) (λ u. LeadsBack (run after_pause) u 4096 8192 lines_home) }
     ensures cascaded { said_in (run three_sites) turn_cascaded ≡ Refused (PairState (record { 0 = 8192 }) TargetFullDuplex) }
+{}
+
+/// An abort is answered by the state in which it begins, and all answers stand here. It is refused if the journal has no room for a step,
+/// or no session has that number. It is refused if the session has no master, or one in a phase that can't be aborted, or the master's server is
+/// off. Else it is answered ok, with the phase in which the attempt is given up. No fuse keeps it from that, since no device is written. Then each server of the
+/// session's members is owed the order of that phase, and nothing but the tables of sessions and of messages has changed.
+pub fn an_abort_answers_by_the_state()
+    ensures { (tasks : List Task) → AbortsAnswer tasks }
+{}
+
+/// An exchange in a phase that ends an attempt, Lost, Reverting or Finishing, is answered by the state in which it begins. It is refused if its
+/// master or server is off, they aren't linked, or the server isn't owed its order. For a member on that server a report is refused if the secondary
+/// can't be reached, and a revert also if it isn't the primary's; a finish isn't refused. No pair has to be in Copy Pending, and no target is asked.
+/// Else it is answered ok, with the phase then, or a server stopped in it on which a fuse was armed.
+pub fn an_exchange_that_ends_an_attempt_answers_by_the_state()
+    ensures { (tasks : List Task) → ExchangesAnswer tasks }
+{}
+
+/// An attempt that is given up comes to Idle, by as many orders as are counted when it begins. Let the master's server and the session's primary
+/// servers be on and linked; and unless it is Finishing, let each secondary be reached, and be the primary's. Pairs may be Suspended, and targets may
+/// be gone. Then exchanges with servers that are owed a report, a revert or a finish are all answered ok, as long as no server stops in one. Each
+/// leaves one order less, and once none is left the master is Idle. Nothing is said of the commits that follow if a lost master's reports decide to
+/// commit the rest.
+pub fn exchanges_lead_to_idle()
+    ensures { (tasks : List Task) → ExchangesLeadToIdle tasks }
+{}
+
+/// An abort of such an attempt is answered ok, and leaves it so. For each of the master's servers it leaves one order if the attempt was Coordinating,
+/// Releasing or Draining, two if it was Flashing, and three if it was Committing.
+pub fn an_abort_leaves_its_orders()
+    ensures { (tasks : List Task) → AbortsLeadOn tasks }
 {}
