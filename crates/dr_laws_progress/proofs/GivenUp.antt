@@ -18,7 +18,8 @@ use Rattle.dr_model.specs.Plans.{has_room}
 use Rattle.dr_model.specs.Runs.{Task, after_task, run}
 use Rattle.dr_laws_sound.specs.Acknowledged.{said_in}
 use Rattle.dr_laws_progress.specs.Aborts.{abort_by_phase, abort_by_master, abort_by_session}
-use Rattle.dr_laws_progress.specs.ToIdle.{SamePlaces, asks_secondaries, CanEnd, orders_in, orders_left, GivesUp, AbortsLeadOn}
+use Rattle.dr_laws_progress.specs.Exchanges.{SamePlaces}
+use Rattle.dr_laws_progress.specs.ToIdle.{asks_secondaries, CanEnd, orders_in, orders_left, GivesUp, AbortsLeadOn}
 use Rattle.dr_laws_progress.proofs.Aborts.{answers, given, control-is}
 use Rattle.dr_laws_progress.proofs.Endings.{send-same}
 use Rattle.dr_laws_progress.proofs.OrdersLeft.{is-among, count-all}

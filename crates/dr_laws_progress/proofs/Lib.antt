@@ -14,9 +14,11 @@
 -- lines (`open-stays` of `HomeKept.antt`): of relationships it asks that each is as it was, or was plain and is (`Kin`), since a target that isn't persistent may
 -- end with the last track that it keeps. `then-leads` puts a line before those after it.
 -- - an abort is answered by the state: `aborts-answer` (`Aborts.antt`)
--- - so is an exchange that asks for a report, a revert or a finish: `exchanges-answer` (`Exchanges.antt`). Its entries leave what such an order asks of
---   places, so they end by the state as it begins, or a server stops (`Endings.antt`)
--- - such exchanges lead to Idle, each by one order: `leads-to-idle` (`ToIdle.antt`, `OrdersLeft.antt`); an abort leaves its orders: `aborts-lead-on`
+-- - so is an exchange, in each phase: `exchanges-answer` (`Exchanges.antt`)
+-- **Exchanges.** The entries of an order leave what it asks for: places, and the members that it hasn't come to (`IsAs`, `Untouched` of `Endings.antt`).
+-- So they end by the first refusal of the state as it begins, or a server stops: one lemma for each work (`OrderEnds.antt`). A refusal that names a
+-- target says how that is seen, which goes by all relationships; so a flash or a commit owes that no other member's target is its source.
+-- - those that end an attempt lead to Idle, each by one order: `leads-to-idle` (`ToIdle.antt`, `OrdersLeft.antt`); an abort leaves its orders: `aborts-lead-on`
 --   (`GivenUp.antt`)
 pub mod OneStep
 pub mod Course
@@ -36,6 +38,7 @@ pub mod HomeMembers
 pub mod HomeExample
 pub mod Aborts
 pub mod Endings
+pub mod OrderEnds
 pub mod Exchanges
 pub mod OrdersLeft
 pub mod ToIdle

@@ -1,4 +1,4 @@
--- Exchanges with servers that are owed an order which ends an attempt lead to Idle, by that many orders.
+-- Exchanges with servers that are owed an order which ends an attempt lead to Idle, by just that many orders.
 use Rattle.std.proofs.Common.{ℕ, suc, ◌≡◌, ◌≢◌, ◌+◌, ◌⊎◌, inl, inr, refl, ap, sym, ◌∙◌, subst, arith, Bool, true, false, cond, not, ◌||◌, ◌==◌, List, [], ◌∷◌, length, Some, None, option_map}
 use Rattle.std.specs.List.{list_any}
 use Rattle.std.specs.Option.{option_or}
@@ -31,7 +31,8 @@ use Rattle.dr_facts.proofs.Refusals.{none-both}
 use Rattle.dr_laws_sessions.proofs.Changes.{session-found}
 use Rattle.dr_laws_sound.specs.Acknowledged.{said_in}
 use Rattle.dr_laws_sound.proofs.Steps.{sound-run, sound-task}
-use Rattle.dr_laws_progress.specs.ToIdle.{is_ending, member_refusal, first_refusal, asking_refusal, reply_in, master_after, said_by, SamePlaces, ExchangeEnds, ExchangeEndsOrStops, asks_secondaries, CanEnd, owed_servers, orders_in, orders_left, AsksOwed, AllAskOwed, IsOk, LeadsOn, ExchangesLeadToIdle}
+use Rattle.dr_laws_progress.specs.Exchanges.{member_refusal, first_refusal, asking_refusal, reply_in, session_begun, master_begun, master_after, said_by, SamePlaces, ExchangeEnds, ExchangeEndsOrStops}
+use Rattle.dr_laws_progress.specs.ToIdle.{is_ending, asks_secondaries, CanEnd, owed_servers, orders_in, orders_left, AsksOwed, AllAskOwed, IsOk, LeadsOn, ExchangesLeadToIdle}
 use Rattle.dr_laws_progress.proofs.Endings.{send-same}
 use Rattle.dr_laws_progress.proofs.Exchanges.{exchange-answers}
 use Rattle.dr_laws_progress.proofs.OrdersLeft.{in-among, once-servers, one-less, finish-less, revert-less, report-less}
@@ -200,20 +201,31 @@ module _ (w : World) (sound : Sound w) (s : ℕ) (c : CanEnd w.control s) where
         reached = ap (λ b. cond b None (Some (server_off q))) there.0
 
     -- no member refuses it
-    member-free : (p : PhaseName) (m : Member) → (asks_secondaries p ≡ true → send_refusal m.a.0 m.b.0 k ≡ None) → member_refusal p m k ≡ None
-    member-free phase.Lost m sends = (none-both (reach_refusal m.a.0 m.b.0 k) _ (sends refl)).0
-    member-free phase.Reverting m sends = sends refl
-    member-free p m sends = refl
+    member-free : (p : PhaseName) → is_ending p ≡ true → (m : Member) → (asks_secondaries p ≡ true → send_refusal m.a.0 m.b.0 k ≡ None) → member_refusal p r.master.number m k ≡ None
+    member-free phase.Lost e m sends = (none-both (reach_refusal m.a.0 m.b.0 k) _ (sends refl)).0
+    member-free phase.Reverting e m sends = sends refl
+    member-free phase.Finishing e m sends = refl
+    member-free p e m sends = absurd cc
 
-    first-free : (p : PhaseName) (ms : List Member) → ((m : Member) → In m ms → member_refusal p m k ≡ None) → first_refusal p ms k ≡ None
+    first-free : (p : PhaseName) (ms : List Member) → ((m : Member) → In m ms → member_refusal p r.master.number m k ≡ None) → first_refusal p r.master.number ms k ≡ None
     first-free p [] free = refl
     first-free p (m ∷ ms) free = λ i. option_or (free m (inl refl) i) (first-free p ms (λ n h. free n (inr h)) i)
 
     free : asking_refusal k x r q ≡ None
-    free = λ i. option_or (master-free i) (first-free r.master.phase (members_on q x.members) (λ m h. member-free r.master.phase m (λ asks. c.secondaries asks m (from-filter (is_on q) x.members m h).0)) i)
+    free = λ i. option_or (master-free i) (first-free r.master.phase (members_on q x.members) (λ m h. member-free r.master.phase ending m (λ asks. c.secondaries asks m (from-filter (is_on q) x.members m h).0)) i)
 
     abbrev then : Master
-    then = master_after k s x r q
+    then = phases.taken r.master q (reply_in r.master.phase s (members_on q x.members) k)
+
+    -- no attempt begins
+    goes-so : (p : PhaseName) → is_ending p ≡ true → (master_begun p r.master ≡ r.master) × (session_begun p x ≡ x)
+    goes-so phase.Lost e = (refl, refl)
+    goes-so phase.Reverting e = (refl, refl)
+    goes-so phase.Finishing e = (refl, refl)
+    goes-so p e = absurd cc
+
+    then-is : master_after k s x r q ≡ then
+    then-is = ap (λ (m : Master). phases.taken m q (reply_in r.master.phase s (members_on q x.members) k)) (goes-so r.master.phase ending).0
 
     -- no server stops, so it ends so
     unstopped : (said : Said) → ((z : ℕ) → said ≢ Refused (stopped z)) → ExchangeEndsOrStops w (after_task w t) s x r q said → ExchangeEnds w (after_task w t) s x r q said
@@ -221,10 +233,10 @@ module _ (w : World) (sound : Sound w) (s : ℕ) (c : CanEnd w.control s) where
     unstopped said kept ends = ends
 
     ends : ExchangeEnds w (after_task w t) s x r q (said_in w t)
-    ends = unstopped (said_in w t) a.kept (exchange-answers w t s q a.name x r a.asked a.room c.found c.has_master a.named ending)
+    ends = unstopped (said_in w t) a.kept (exchange-answers w sound t s q a.name x r a.asked a.room c.found c.has_master a.named)
 
     is-ok : IsOk (said_in w t)
-    is-ok = record { phase = then.phase; number = then.number; is = ends.answer ∙ ap (λ o. said_by o then) free }
+    is-ok = record { phase = then.phase; number = then.number; is = ends.answer ∙ (λ i. said_by (free i) (then-is i)) }
 
     goes-on : GoesOn r.master q s (members_on q x.members) k r.master
     goes-on = reply-late r.master q s (members_on q x.members) k r.master.phase refl ending
@@ -232,7 +244,7 @@ module _ (w : World) (sound : Sound w) (s : ℕ) (c : CanEnd w.control s) where
     pub can-end : CanEnd (after_task w t).control s
     can-end = let p : SamePlaces k (after_task w t).control = ends.places free in record {
       session = with_master (λ m. then) x;
-      found = ends.taken free;
+      found = ends.taken free ∙ (λ i. Some (with_master (λ m. then-is i) ((goes-so r.master.phase ending).1 i)));
       mirror = record r { master = then };
       has_master = ap (option_map (λ (z : Mirror). record z { master = then })) c.has_master;
       master_on = ap (λ (on : ℕ → Bool). on r.server) p.on ∙ c.master_on;

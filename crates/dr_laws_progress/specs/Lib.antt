@@ -3,5 +3,6 @@ pub mod RecoversTwice
 pub mod PairWays
 pub mod Home
 pub mod HomeExample
+pub mod Exchanges
 pub mod Aborts
 pub mod ToIdle

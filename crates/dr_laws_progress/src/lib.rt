@@ -16,7 +16,8 @@ ghost use Rattle.dr_model.specs.Plans.{yield_refusal};
 ghost use Rattle.dr_model.specs.Runs.{Task, run};
 ghost use Rattle.dr_laws_sound.specs.Acknowledged.{said_in};
 ghost use Rattle.dr_laws_progress.specs.Aborts.{AbortsAnswer};
-ghost use Rattle.dr_laws_progress.specs.ToIdle.{ExchangesAnswer, ExchangesLeadToIdle, AbortsLeadOn};
+ghost use Rattle.dr_laws_progress.specs.Exchanges.{ExchangesAnswer};
+ghost use Rattle.dr_laws_progress.specs.ToIdle.{ExchangesLeadToIdle, AbortsLeadOn};
 ghost use Rattle.dr_laws_progress.specs.Recoveries.{RecoveriesAnswer};
 ghost use Rattle.dr_laws_progress.specs.RecoversTwice.{RecoversTwice};
 ghost use Rattle.dr_laws_progress.specs.PairWays.{PairWays, HasPairWays};
@@ -89,19 +90,22 @@ pub fn an_example_of_the_way_home()
     ensures cascaded { said_in (run three_sites) turn_cascaded ≡ Refused (PairState (record { 0 = 8192 }) TargetFullDuplex) }
 {}
 
-/// An abort is answered by the state in which it begins, and all answers stand here. It is refused if the journal has no room for a step,
-/// or no session has that number. It is refused if the session has no master, or one in a phase that can't be aborted, or the master's server is
-/// off. Else it is answered ok, with the phase in which the attempt is given up. No fuse keeps it from that, since no device is written. Then each server of the
+/// An abort is answered by the state in which it begins, and all answers stand here. It is refused if the journal has no room for a step, if no
+/// session has that number, if the session has no master or one in a phase that can't be aborted, and if the master's server is off. Else it is
+/// answered ok, with the phase in which the attempt is given up. No fuse keeps it from that, since no device is written. Then each server of the
 /// session's members is owed the order of that phase, and nothing but the tables of sessions and of messages has changed.
 pub fn an_abort_answers_by_the_state()
     ensures { (tasks : List Task) → AbortsAnswer tasks }
 {}
 
-/// An exchange in a phase that ends an attempt, Lost, Reverting or Finishing, is answered by the state in which it begins. It is refused if its
-/// master or server is off, they aren't linked, or the server isn't owed its order. For a member on that server a report is refused if the secondary
-/// can't be reached, and a revert also if it isn't the primary's; a finish isn't refused. No pair has to be in Copy Pending, and no target is asked.
-/// Else it is answered ok, with the phase then, or a server stopped in it on which a fuse was armed.
-pub fn an_exchange_that_ends_an_attempt_answers_by_the_state()
+/// An exchange is answered by the state in which it begins, in each phase. It is refused if its master or server is off, they aren't linked, or the
+/// server isn't owed its order; in Idle if the master is paused, the server has no member, or no number is left. Then the members on that server are
+/// looked at, in order, and it is refused for the first that refuses the phase's order. A hold asks for the pair, and that its number isn't stale, which
+/// it never is in Idle. A release and a seal ask that the primary records the attempt, and a seal for the secondary, if nothing is left to send. A flash
+/// and a commit ask for the secondary and for the target; a report asks whether the secondary can be reached, a revert whether it is the
+/// primary's, too, and a finish asks for nothing. What the order does for one member changes none of that for another. Else the exchange is answered
+/// ok, with the phase then, or a server stopped in it on which a fuse was armed.
+pub fn an_exchange_answers_by_the_state()
     ensures { (tasks : List Task) → ExchangesAnswer tasks }
 {}
 
