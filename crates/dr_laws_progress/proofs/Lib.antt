@@ -18,6 +18,7 @@
 -- **Exchanges.** The entries of an order leave what it asks for: places, and the members that it hasn't come to (`IsAs`, `Untouched` of `Endings.antt`).
 -- So they end by the first refusal of the state as it begins, or a server stops: one lemma for each work (`OrderEnds.antt`). A refusal that names a
 -- target says how that is seen, which goes by all relationships; so a flash or a commit owes that no other member's target is its source.
+-- - if groups can be formed, only what the attempt asks refuses one: `refused-by-attempt` (`CanForm.antt`)
 -- - those that end an attempt lead to Idle, each by one order: `leads-to-idle` (`ToIdle.antt`, `OrdersLeft.antt`); an abort leaves its orders: `aborts-lead-on`
 --   (`GivenUp.antt`)
 pub mod OneStep
@@ -40,6 +41,7 @@ pub mod Aborts
 pub mod Endings
 pub mod OrderEnds
 pub mod Exchanges
+pub mod CanForm
 pub mod OrdersLeft
 pub mod ToIdle
 pub mod GivenUp

@@ -54,11 +54,12 @@ reply_in phase.Lost s ms k = phases.Reported (shown_by_members s ms k)
 reply_in phase.Draining s ms k = reply_after s phases.Seal ms k
 reply_in p s ms k = phases.Done
 
--- the session, and its master, as the reply comes: in Idle the next attempt has begun by then
+-- the session as the reply comes: in Idle the next attempt has begun by then
 abbrev pub session_begun : PhaseName → Session → Session
 session_begun phase.Idle x = begun x
 session_begun p x = x
 
+-- and its master
 abbrev pub master_begun : PhaseName → Master → Master
 master_begun phase.Idle m = phases.begun m
 master_begun p m = m

@@ -6,3 +6,5 @@ pub mod HomeExample
 pub mod Exchanges
 pub mod Aborts
 pub mod ToIdle
+pub mod CanForm
+pub mod CanFormExample

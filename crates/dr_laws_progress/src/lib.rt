@@ -1,6 +1,6 @@
 //! Laws on what comes to its end, over every script and every stop. Each answer of a recovery has its cause, and a second one has nothing to do. The
-//! pair of each member stands in one of three ways, and the lines of the way home are answered ok. An attempt that is given up comes to Idle, by as many
-//! orders as its state says. Its functions do nothing: each names a law by its contract.
+//! pair of each member stands in one of three ways, and the lines of the way home are answered ok. An exchange is answered by the state, in each phase.
+//! An attempt that is given up comes to Idle, by as many orders as its state says. Its functions do nothing: each names a law by its contract.
 #![tactic(auto)]
 
 ghost use Rattle.std.specs.Prelude.{◌≡◌, ℕ, true, List, None};
@@ -16,7 +16,9 @@ ghost use Rattle.dr_model.specs.Plans.{yield_refusal};
 ghost use Rattle.dr_model.specs.Runs.{Task, run};
 ghost use Rattle.dr_laws_sound.specs.Acknowledged.{said_in};
 ghost use Rattle.dr_laws_progress.specs.Aborts.{AbortsAnswer};
-ghost use Rattle.dr_laws_progress.specs.Exchanges.{ExchangesAnswer};
+ghost use Rattle.dr_laws_progress.specs.Exchanges.{ExchangesAnswer, asking_refusal};
+ghost use Rattle.dr_laws_progress.specs.CanForm.{CanForm, RefusedByAttempt};
+ghost use Rattle.dr_laws_progress.specs.CanFormExample.{held_once, its_mirror, begun_session};
 ghost use Rattle.dr_laws_progress.specs.ToIdle.{ExchangesLeadToIdle, AbortsLeadOn};
 ghost use Rattle.dr_laws_progress.specs.Recoveries.{RecoveriesAnswer};
 ghost use Rattle.dr_laws_progress.specs.RecoversTwice.{RecoversTwice};
@@ -107,6 +109,20 @@ pub fn an_abort_answers_by_the_state()
 /// ok, with the phase then, or a server stopped in it on which a fuse was armed.
 pub fn an_exchange_answers_by_the_state()
     ensures { (tasks : List Task) → ExchangesAnswer tasks }
+{}
+
+/// When groups can be formed: there is a member, the master's server is on and linked to each other primary server, and each member is reached, in
+/// place, and with a fit target. Then an exchange that may be asked by phase is refused for what the attempt asks, and for nothing else. A hold is
+/// refused for a primary that was held for the attempt, and lost it; a release and a seal for one that doesn't record it. A flash or a commit is refused
+/// for a target that can't be flashed for it, or wasn't. In Idle, and in phases that end an attempt, nothing is refused.
+pub fn only_the_attempt_refuses_an_exchange()
+    ensures { (tasks : List Task) → RefusedByAttempt tasks }
+{}
+
+/// An example: two sites and a session with one member, whose master has held it and is Releasing. Groups can be formed, and the release isn't refused.
+pub fn an_example_of_a_session_that_forms()
+    ensures forms { CanForm (run held_once).control 1 }
+    ensures free { asking_refusal (run held_once).control begun_session its_mirror 0 ≡ None }
 {}
 
 /// An attempt that is given up comes to Idle, by as many orders as are counted when it begins. Let the master's server and the session's primary
