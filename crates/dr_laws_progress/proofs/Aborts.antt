@@ -26,7 +26,7 @@ use Rattle.dr_laws_sound.proofs.RefusedSteps.{lost-stays}
 use Rattle.dr_laws_progress.proofs.OneStep.{refusal-answers}
 use Rattle.dr_laws_progress.specs.Aborts.{abort_by_phase, abort_by_master, abort_by_session, abort_says, IsAborted, AbortAnswers, AbortsAnswer}
 
--- where an attempt is given up each server is owed the order of the phase that begins
+-- as an attempt is given up each server is owed the order of the phase that begins
 owed-all : (q p : PhaseName) (servers : List ℕ) → phases.aborted_phase q ≡ Some p → phases.owed_first p servers ≡ servers
 owed-all phase.Coordinating p servers e = ap (λ p. phases.owed_first p servers) (sym (same_Some _ _ e))
 owed-all phase.Releasing p servers e = ap (λ p. phases.owed_first p servers) (sym (same_Some _ _ e))

@@ -1,4 +1,4 @@
--- Exchanges with servers that are owed an order which ends an attempt lead to Idle, by just that many orders.
+-- Exchanges with servers that are owed an order which ends an attempt lead to Idle, by that many orders.
 use Rattle.std.proofs.Common.{ℕ, suc, ◌≡◌, ◌≢◌, ◌+◌, ◌⊎◌, inl, inr, refl, ap, sym, ◌∙◌, subst, arith, Bool, true, false, cond, not, ◌||◌, ◌==◌, List, [], ◌∷◌, length, Some, None, option_map}
 use Rattle.std.specs.List.{list_any}
 use Rattle.std.specs.Option.{option_or}

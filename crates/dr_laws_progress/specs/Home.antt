@@ -163,6 +163,10 @@ pub record MemberGoesHome (tasks : List Task) (m : Member) (l : HomeLines m.a.0 
   pub turned : belongs_to m.b.0 m.a.0 (run tasks).control ≡ true → is_copying m.b.0 (run tasks).control ≡ true → LeadsBack (run tasks) (run tasks) m.a.0 m.b.0 l
   pub suspended : belongs_to m.b.0 m.a.0 (run tasks).control ≡ true → IsSuspended (run tasks).control m.b.0 → (r : ResumeLine m.b.0 m.a.0) → AnswersThen (run tasks) (run tasks) r.task (Done Alone) (λ u. LeadsBack (run tasks) u m.a.0 m.b.0 l)
 
+-- so does each member that may, after any run
+abbrev pub MembersGoHome : List Task → Type 0
+MembersGoHome tasks = (s : ℕ) (x : Session) (m : Member) → MayGoHome (run tasks).control s x m → (l : HomeLines m.a.0 m.b.0) → MemberGoesHome tasks m l
+
 -- Each is a primary of the other, and the member's primary is cascaded: then the first line of the way home is refused, since that one is a secondary.
 abbrev pub RefusesCascaded : List Task → Type 0
 RefusesCascaded tasks =

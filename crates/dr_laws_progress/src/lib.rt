@@ -23,7 +23,7 @@ ghost use Rattle.dr_laws_progress.specs.ToIdle.{ExchangesLeadToIdle, AbortsLeadO
 ghost use Rattle.dr_laws_progress.specs.Recoveries.{RecoveriesAnswer};
 ghost use Rattle.dr_laws_progress.specs.RecoversTwice.{RecoversTwice};
 ghost use Rattle.dr_laws_progress.specs.PairWays.{PairWays, HasPairWays};
-ghost use Rattle.dr_laws_progress.specs.Home.{HomeLines, IsSuspended, AnswersThen, LeadsBack, LeadsHome, GoesHome, MayGoHome, MemberGoesHome, RefusesCascaded};
+ghost use Rattle.dr_laws_progress.specs.Home.{HomeLines, IsSuspended, AnswersThen, LeadsBack, LeadsHome, GoesHome, MayGoHome, MembersGoHome, RefusesCascaded};
 ghost use Rattle.dr_laws_progress.specs.HomeExample.{two_sites, after_recovery, after_turn, after_pause, resume, three_sites, turn_cascaded, lines_home, its_member, its_session};
 
 /// These are all answers of an `@recover` in a run, each with its cause. It is refused if the journal has no room for a step, if no session has
@@ -66,7 +66,7 @@ pub fn the_pair_of_each_member_stands_in_one_of_three_ways()
 /// refused, since that volume is a secondary.
 pub fn the_way_home_is_answered_ok()
     ensures pairs { (tasks : List Task) (a b : ℕ) (l : HomeLines a b) → GoesHome tasks a b l }
-    ensures members { (tasks : List Task) (s : ℕ) (x : Session) (m : Member) → MayGoHome (run tasks).control s x m → (l : HomeLines m.a.0 m.b.0) → MemberGoesHome tasks m l }
+    ensures members { (tasks : List Task) → MembersGoHome tasks }
     ensures yields { (tasks : List Task) (x : Session) (m : Member) → In x (run tasks).control.sessions → In m x.members → yield_refusal m.a.0 (run tasks).control ≡ None }
     ensures cascaded { (tasks : List Task) → RefusesCascaded tasks }
 {}
@@ -92,9 +92,9 @@ pub fn an_example_of_the_way_home()
     ensures cascaded { said_in (run three_sites) turn_cascaded ≡ Refused (PairState (record { 0 = 8192 }) TargetFullDuplex) }
 {}
 
-/// An abort is answered by the state in which it begins, and all answers stand here. It is refused if the journal has no room for a step, if no
-/// session has that number, if the session has no master or one in a phase that can't be aborted, and if the master's server is off. Else it is
-/// answered ok, with the phase in which the attempt is given up. No fuse keeps it from that, since no device is written. Then each server of the
+/// An abort is answered by the state in which it begins, and all answers stand here. It is refused if the journal has no room for a step,
+/// or no session has that number. It is refused if the session has no master, or one in a phase that can't be aborted, or the master's server is
+/// off. Else it is answered ok, with the phase in which the attempt is given up. No fuse keeps it from that, since no device is written. Then each server of the
 /// session's members is owed the order of that phase, and nothing but the tables of sessions and of messages has changed.
 pub fn an_abort_answers_by_the_state()
     ensures { (tasks : List Task) → AbortsAnswer tasks }
