@@ -21,7 +21,7 @@ CHAPTERS = [
                      " Seals Windows Moments Table Laws Held TakenWrites Stored Formed BothLost CutMoments"),
     ("Orders that travel", "Arrivals OldOrders OlderNumbers Commits Flashed Flights Attempts Calm"),
     ("Pairs, freezes and answers", "Sites FirstSite Compared Returned Frozen InSync Secondaries Acknowledged RefusedSteps Showing Stops"),
-    ("Listings and images", "Listings Listed PlantImage LineText Recovery Offline Found Pieces Imaged GivesBack"),
+    ("Listings and images", "Listings Listing Listed PlantImage LineText Recovery Offline Found Pieces Imaged GivesBack"),
     ("Devices", "State Layout BigEndian Control Paths Links Views"),
     ("Journal and lists", "Histories Contents Tables Answers Refusals"),
     ("Moves", "Moves Carry Relations Pairs"),

@@ -4,10 +4,11 @@
     tools/check_sweep.py SWEEP DRSIM PLAN..
     tools/check_sweep.py --report|--rows DRSIM PLAN
 
-The first form compares the report, the rows, the exit status, and the script of each row with what `SWEEP` says. Of a text that is no plan
-it works out the first bad line and the reason. The second form prints the report or the rows that it has made, and ends with their status.
-How a row is made is told in `sweep_rows.py`, what is read of a plan in `plan_text.py`, and what an `@run` comes to in `sweep_parts.py`. Exit status
-1 where something differs, 2 where a plan can't be taken: a track has more than 64 writes, or a run depends on what the hosts write.
+The first form compares the report, the rows, the exit status, and the script of each row with what `SWEEP` says, and what it says of the plan
+side by side with itself, and of the plan before it side by side with this one. Of a text that is no plan it works out the first bad line and the
+reason. The second form prints the report or the rows that it has made, and ends with their status.
+How a row is made is told in `sweep_rows.py`, what is read of a plan in `plan_text.py`, what an `@run` comes to in `sweep_parts.py`, and what is said of
+two plans in `sweep_compare.py`. Exit status 1 where something differs, 2 where a plan can't be taken: a track has more than 64 writes, or a run depends on what the hosts write.
 """
 import os
 import subprocess
@@ -18,6 +19,7 @@ from itertools import zip_longest
 
 sys.dont_write_bytecode = True
 from plan_text import BadPlan, lines_of, read_plan, text_of
+from sweep_compare import compared
 from sweep_parts import taken_apart
 from sweep_report import Calm, Report
 from sweep_rows import HEADING, Rows
@@ -31,7 +33,7 @@ class Made:
     """What a plan comes to: its report, its rows as text, the status, and the rows themselves."""
 
     def __init__(self, drsim, text):
-        self.found = []
+        self.found, self.by_report = [], None
         try:
             plan = read_plan(lines_of(text), drsim.steps(text))
         except BadPlan as bad:
@@ -41,13 +43,20 @@ class Made:
         tried = taken_apart(plan, drsim)
         self.by_plan = Rows(tried, drsim)
         self.found = self.by_plan.all(os.cpu_count())
-        report = Report(tried, self.by_plan, self.found, Calm(plan, drsim))
-        self.report, self.status = report.text(), int(report.has_finding())
+        self.by_report = Report(tried, self.by_plan, self.found, Calm(plan, drsim))
+        self.report, self.status = self.by_report.text(), int(self.by_report.has_finding())
         self.rows = "".join(line + "\n" for line in [HEADING, *(line for row in self.found for line in self.by_plan.lines(row))])
 
     def scripts(self):
         """Of each row the words that show its script, and that script."""
         return [(self.by_plan.words(row.point), text_of(row.script).decode("latin-1")) for row in self.found]
+
+    def beside(self, other):
+        """What is said of this plan and of another one, and the status; the first of both that is no plan is told."""
+        for letter, made in (("A", self), ("B", other)):
+            if made.status == NO_PLAN:
+                return f"{letter}: {made.report}", NO_PLAN
+        return compared(self.by_report, other.by_report), max(self.status, other.status)
 
 
 def differences(sweep, path, words, text, status):
@@ -64,17 +73,19 @@ def differences(sweep, path, words, text, status):
                 yield f"`{name}`, line {number}: {line}\n  and not: {wanted}"
 
 
-def check(sweep, drsim, path):
-    """Compares all that is said of a plan, and prints what differs; how much that is."""
+def check(sweep, drsim, path, before):
+    """Compares all that is said of a plan, and of the one before it side by side with this one, and prints what differs; how much that is, and the plan."""
     begun = time.monotonic()
     with open(path, "rb") as file:
         made = Made(drsim, file.read())
+    pairs = [(path, made), *before]
     calls = [([], made.report, made.status), (["rows"], made.rows, made.status), *((words, script, 0) for words, script in made.scripts())]
+    calls += [(["compare", other, path], *that.beside(made)) for other, that in pairs]
     with ThreadPoolExecutor(os.cpu_count()) as pool:
         found = [text for texts in pool.map(lambda call: list(differences(sweep, path, *call)), calls) for text in texts]
     print("".join(text + "\n" for text in found[:MOST_TOLD]), end="")
     print(f"{path}: {len(made.found)} points, {len(found)} differences, {time.monotonic() - begun:.0f} s", flush=True)
-    return len(found)
+    return len(found), [(path, made)]
 
 
 def main(words):
@@ -85,8 +96,11 @@ def main(words):
         return made.status
     if len(words) < 3 or words[0].startswith("-"):
         sys.exit(__doc__)
-    drsim = Drsim(words[1])
-    return int(sum(check(words[0], drsim, path) for path in words[2:]) > 0)
+    drsim, before, differ = Drsim(words[1]), [], 0
+    for path in words[2:]:
+        count, before = check(words[0], drsim, path, before)
+        differ += count
+    return int(differ > 0)
 
 
 if __name__ == "__main__":

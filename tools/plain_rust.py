@@ -50,7 +50,7 @@ DROPPED_DERIVES = {"Drop", "Error"}
 
 # What Rust calls otherwise.
 RENAMED = (
-    (r"\bstd::alloc\b", "shim::alloc"),
+    (r"\bstd::(alloc|fs)\b", r"shim::\1"),
     (r"\buse std::\{env, io\};", "use shim::env;\nuse std::io;"),
     (r"\buse (clap|indexmap|itoa|memchr)::", r"use shim::\1::"),
     (r"\buse std::simd::prelude::\*", "use shim::simd::*"),
@@ -240,6 +240,10 @@ def stored_runs():
         plan = ROOT / "examples" / "sweeps" / f"{picture.stem}.plan"
         drawn = (plan, picture, plan.with_suffix(".words"), plan.with_suffix(".status"))
         sweeps.append(Stored(f"{picture.stem}_picture", drawn, "examples/sweeps", "picture"))
+    folder = "examples/sweeps"
+    practice = [ROOT / folder / f"{name}.plan" for name in ("practice-on-the-group", "practice-on-the-secondaries")]
+    both = (practice[0], ROOT / folder / "practice-compared.txt", practice[0].with_suffix(".words"), practice[0].with_suffix(".status"))
+    sweeps.append(Stored("practice_compared", both, folder, "\n".join(["compare", *(f"{folder}/{plan.name}" for plan in practice)])))
     yield "sweeps", "sweep", sweeps
     for program in PROGRAMS:
         files = [ROOT / "crates" / program / name for name in ("stdin", "stdout", "args", "status")]

@@ -13,6 +13,14 @@ COLUMNS = [("lost at once", False), ("use", False), ("points", True), ("most los
            ("group", False), ("decision", False), ("shown by", False), ("broken", True), ("no group", True), ("fewer members", True), ("first finding", False)]
 
 
+def aligned(rows, numbers):
+    """The lines of a table: numbers stand at the right of their column, and text at the left."""
+    widths = [max(map(len, column)) for column in zip(*rows)]
+    for row in rows:
+        cells = [cell.rjust(wide) if number else cell.ljust(wide) for cell, wide, number in zip(row, widths, numbers, strict=True)]
+        yield "  ".join(cells).rstrip(" ")
+
+
 @dataclass
 class CalmStep:
     """A step of the calm run: the number of its line in the plan, the line that it is, and its answer."""
@@ -69,12 +77,12 @@ class Calm:
             text = self.plan.setup[number - 1] if number <= len(self.plan.setup) else steps[0].text
             yield f"  {number} {text}: not refused (announced)"
 
-    def has_finding(self):
+    def finding_count(self):
         def mistaken(pairs):
             unwritten = [second not in self.written for _, second in pairs]
             return all(unwritten) or any(missing and first in self.written for missing, (first, _) in zip(unwritten, pairs))
 
-        return any(s.refused and s.line not in self.plan.announced for s in self.steps) or any(mistaken(use.pairs) for use in self.plan.uses)
+        return sum(s.refused and s.line not in self.plan.announced for s in self.steps) + sum(mistaken(use.pairs) for use in self.plan.uses)
 
 
 class Report:
@@ -101,12 +109,9 @@ class Report:
     # ---- the table
 
     def table(self):
-        """A row for each disaster and use; numbers stand at the right of their column, and text at the left."""
+        """A row for each disaster and use."""
         cells = [[name for name, _ in COLUMNS], *(self.cells(disaster, which) for disaster, which, _ in self.each())]
-        widths = [max(map(len, column)) for column in zip(*cells)]
-        for row in cells:
-            aligned = [cell.rjust(wide) if number else cell.ljust(wide) for cell, wide, (_, number) in zip(row, widths, COLUMNS)]
-            yield "  ".join(aligned).rstrip(" ")
+        return aligned(cells, [number for _, number in COLUMNS])
 
     def cells(self, disaster, which):
         rows, use = self.of(disaster), self.plan.uses[which]
@@ -232,6 +237,10 @@ class Report:
     def is_finding(self, row):
         return any(self.finding_kind(row, which) for which in range(len(self.plan.uses)))
 
+    def finding_count(self):
+        """How many there are: in the calm run, lines of the recovery that are never ok, and rows."""
+        never = sum(self.is_answered(place) and not self.kept_at(place) and not self.is_announced(place) for place in range(1, len(self.plan.recovery) + 1))
+        return self.calm.finding_count() + never + sum(map(self.is_finding, self.found))
+
     def has_finding(self):
-        never = any(self.is_answered(place) and not self.kept_at(place) and not self.is_announced(place) for place in range(1, len(self.plan.recovery) + 1))
-        return self.calm.has_finding() or never or any(map(self.is_finding, self.found))
+        return self.finding_count() > 0

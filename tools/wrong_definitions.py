@@ -23,7 +23,7 @@ from pathlib import Path
 TOP = Path(__file__).resolve().parent.parent
 CRATES = (
     "dr_logic dr_ids dr_model dr_facts dr_laws_sessions dr_laws_attempts dr_laws_messages dr_laws_cuts dr_laws_closed "
-    "dr_laws_targets dr_laws_sound dr_laws_fuses dr_laws_freezes dr_laws_flashes dr_laws_recovery dr_laws_orders dr_laws_commits dr_laws_return dr_laws_progress"
+    "dr_laws_targets dr_laws_sound dr_laws_fuses dr_laws_freezes dr_laws_flashes dr_laws_recovery dr_laws_orders dr_laws_commits dr_laws_return dr_laws_progress dr_laws_answers"
 ).split()
 # What counts events, lists what is told of which kind, or says how a definition is cut into parts: no law.
 TECHNICAL = re.compile(r"Costs|Spends|EntryLengths|Counting|Limits|Texts|Cases|Does|Journal|Emits")

@@ -6,6 +6,7 @@
 pub mod alloc;
 pub mod clap;
 pub mod env;
+pub mod fs;
 pub mod indexmap;
 pub mod itoa;
 pub mod memchr;

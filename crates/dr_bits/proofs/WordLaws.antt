@@ -104,7 +104,7 @@ remove_bit words t four low = bits_of_is (without_bit words t) (remove (bits_of 
     (λ k _. clear_bit words t k (omega arith) ∙ sym (contains-remove_tracks (bits_of words) t k ∙ ap (λ b. not (nat_eq k t) && b) (contains-bits_of words k)))
     (in_range-remove (bits_of words) t (in_range-bits_of words four))
 
-and_bit : (x y : ℕ) → x < 2 → y < 2 → nat_eq (min x y) 1 ≡ (nat_eq x 1 && nat_eq y 1)
+pub and_bit : (x y : ℕ) → x < 2 → y < 2 → nat_eq (min x y) 1 ≡ (nat_eq x 1 && nat_eq y 1)
 and_bit x y a b = grind (arith, nat_tests)
 
 pub keep_bits : (a b : List ℕ) → length a ≡ 4 → length b ≡ 4 → bits_of (zip2 bit_and a b) ≡ intersection (bits_of a) (bits_of b)

@@ -56,7 +56,7 @@ pub passed-none : (s : PlantState) (c : ConfigTable) (l place : ℕ) → frees_f
 passed-none s c l place none =
     let all : length c.volumes ≤ place = let e = simp (length-map, length-drop) at (ap length none) in omega (arith, e) in
     record {
-      before = λ v low. record { volume = refl; tracks = refl };
-      others = λ v out. record { volume = refl; tracks = refl };
+      before = λ v low. record { volume = refl; tracks = refl; saved = refl };
+      others = λ v out. record { volume = refl; tracks = refl; saved = refl };
       released = λ _ v d is le so. let e = entry-at-place c v d is in let low = slice_get_within c.volumes d e.0 e.1 in absurd (omega (arith, low, le, all));
     }

@@ -1,7 +1,8 @@
 -- The panels of a picture, and what they share.
-use Rattle.std.specs.Prelude.{ℕ, ◌-◌, ◌*◌, Bool, true, false, List, [], ◌∷◌, ◌++◌, length, map, filter, fold, take, max, min, nat_eq, nat_lt, codes, if◌then◌else◌}
+use Rattle.std.specs.Prelude.{ℕ, ◌-◌, ◌*◌, Bool, ◌||◌, true, false, List, [], ◌∷◌, ◌++◌, length, map, filter, fold, take, max, min, nat_eq, nat_lt, codes, if◌then◌else◌}
 use Rattle.std.specs.List.{flat_map, list_any, range_with_len}
 use Rattle.dr_plan.specs.Sweep.{Sweep}
+use Rattle.dr_rows.specs.Compare.{Swept}
 use Rattle.dr_rows.specs.Kinds.{rows_of}
 use Rattle.dr_rows.specs.Outcome.{Outcome}
 use Rattle.dr_rows.specs.Places.{most_lost}
@@ -53,9 +54,17 @@ label plan stretch = place_name (gap_place plan stretch) ++ codes " " ++ stretch
 abbrev pub longest : Sweep → ℕ
 longest plan = fold max 0 (map (λ stretch. length (label plan stretch)) (range_with_len 0 (stretches plan)))
 
--- the scale of all panels, and how deep their labels go: six units a byte
+-- the scale of a plan's panels, if that many writes are lost at most, and how deep their labels go, if the longest has so many bytes: six units a byte
+abbrev pub framed : Sweep → ℕ → ℕ → Frame
+framed plan most longest = record { most = most; stretches = stretches plan; depth = 6 * max 20 (min 56 longest) }
+
+-- the same by what the plan's rows lose, and by its own labels
 abbrev pub frame_of : Sweep → List Outcome → Frame
-frame_of plan rows = record { most = highest plan rows; stretches = stretches plan; depth = 6 * max 20 (min 56 (longest plan)) }
+frame_of plan rows = framed plan (highest plan rows) (longest plan)
+
+-- those of one of two plans, at the scale of both
+abbrev pub shared_frame : Swept → Swept → Sweep → Frame
+shared_frame a b plan = framed plan (max (highest a.plan a.rows) (highest b.plan b.rows)) (max (longest a.plan) (longest b.plan))
 
 -- ---- which colours and bars occur
 
@@ -99,3 +108,7 @@ marks = Group 1 ∷ Group 2 ∷ Group 3 ∷ Group 4 ∷ Group 5 ∷ Group 0 ∷ 
 -- those that occur
 abbrev pub occurring : List Panel → List Mark
 occurring panels = filter (occurs panels) marks
+
+-- those that occur in the panels of one plan or of another
+abbrev pub occurring_in_both : List Panel → List Panel → List Mark
+occurring_in_both panels others = filter (λ mark. occurs panels mark || occurs others mark) marks

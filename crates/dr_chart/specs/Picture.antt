@@ -5,11 +5,12 @@ use Rattle.std.specs.List.{flat_map, range_with_len, slice_get}
 use Rattle.std.specs.Option.{option_map_or}
 use Rattle.dr_plan.specs.Sweep.{Sweep}
 use Rattle.dr_rows.specs.declared.row.SessionPhase.{SessionPhase}
+use Rattle.dr_rows.specs.Compare.{Swept}
 use Rattle.dr_rows.specs.Cells.{no_group, phase_said, use_head}
 use Rattle.dr_rows.specs.Findings.{asks_recovery, has_no_group}
 use Rattle.dr_rows.specs.Kinds.{lost_at_once, rows_of, servers_of, worst_line}
 use Rattle.dr_rows.specs.Outcome.{Outcome, is_broken, lacks_members}
-use Rattle.dr_chart.specs.Panels.{Panel, frame_of, label, occurring, panels}
+use Rattle.dr_chart.specs.Panels.{Panel, frame_of, label, occurring, occurring_in_both, panels, shared_frame}
 use Rattle.dr_chart.specs.declared.columns.Column.{Column}
 use Rattle.dr_chart.specs.declared.columns.Mark.{Mark}
 use Rattle.dr_chart.specs.declared.columns.Mark.TheVariants.{Group, NoGroup, NoSession, Torn, Broken, Short}
@@ -199,9 +200,9 @@ stretches_text plan f columns = flat_map (stretch_at plan f columns) (range_with
 unfoldable pub bold_text : List ℕ → List ℕ → List ℕ
 bold_text first second = codes "<text x='60' y='14' font-size='13' font-weight='bold'>" ++ escaped first ++ escaped second ++ text_end
 
--- the disaster's servers, and the use
-abbrev pub servers_text : Sweep → ℕ → ℕ → List ℕ
-servers_text plan disaster which = bold_text (lost_at_once (servers_of plan disaster)) (use_head plan which)
+-- the disaster's servers, and the use; a name stands before them, which is empty if one plan is drawn
+abbrev pub servers_text : List ℕ → Sweep → ℕ → ℕ → List ℕ
+servers_text name plan disaster which = bold_text (name ++ lost_at_once (servers_of plan disaster)) (use_head plan which)
 
 -- how many rows there are, and how many of them are broken, have no group, and have members that don't count
 unfoldable pub counts_text : ℕ → ℕ → ℕ → ℕ → List ℕ
@@ -222,8 +223,8 @@ abbrev pub worst_text : Sweep → ℕ → List Outcome → List ℕ
 worst_text plan which rows = plain_text (worst_line plan which rows)
 
 -- the head of a panel
-abbrev pub head_text : Sweep → Bool → ℕ → ℕ → List Outcome → List ℕ
-head_text plan asks disaster which rows = servers_text plan disaster which ++ counts_of asks which rows ++ worst_text plan which rows
+abbrev pub head_text : List ℕ → Sweep → Bool → ℕ → ℕ → List Outcome → List ℕ
+head_text name plan asks disaster which rows = servers_text name plan disaster which ++ counts_of asks which rows ++ worst_text plan which rows
 
 -- a line across the panel, with a number
 unfoldable pub line_text : ℕ → ℕ → ℕ → List ℕ
@@ -264,12 +265,12 @@ abbrev pub drawn : Sweep → Frame → List Column → List ℕ
 drawn plan f columns = axes_text f ++ columns_text f columns ++ phases_text f columns ++ stretches_text plan f columns
 
 -- a head and what is drawn below it
-abbrev pub filled : Sweep → Bool → Frame → ℕ → ℕ → List Column → List Outcome → List ℕ
-filled plan asks f disaster which columns rows = head_text plan asks disaster which rows ++ drawn plan f columns
+abbrev pub filled : List ℕ → Sweep → Bool → Frame → ℕ → ℕ → List Column → List Outcome → List ℕ
+filled name plan asks f disaster which columns rows = head_text name plan asks disaster which rows ++ drawn plan f columns
 
 -- a panel, with the rows of its disaster
-abbrev pub panel_text : Sweep → Bool → List Outcome → Frame → Panel → List ℕ
-panel_text plan asks rows f panel = filled plan asks f panel.disaster panel.which panel.columns (rows_of panel.disaster rows)
+abbrev pub panel_text : List ℕ → Sweep → Bool → List Outcome → Frame → Panel → List ℕ
+panel_text name plan asks rows f panel = filled name plan asks f panel.disaster panel.which panel.columns (rows_of panel.disaster rows)
 
 -- the begin of what is moved down by that
 unfoldable pub moved : ℕ → List ℕ
@@ -280,8 +281,8 @@ unfoldable pub moved_end : List ℕ
 moved_end = codes "</g>" ++ 10 ∷ []
 
 -- the panel with that number, in its place
-abbrev pub panel_at : Sweep → Bool → List Outcome → Frame → ℕ → Panel → List ℕ
-panel_at plan asks rows f place panel = moved (top f place) ++ panel_text plan asks rows f panel ++ moved_end
+abbrev pub panel_at : List ℕ → Sweep → Bool → List Outcome → Frame → ℕ → Panel → List ℕ
+panel_at name plan asks rows f place panel = moved (top f place) ++ panel_text name plan asks rows f panel ++ moved_end
 
 -- ---- the legend
 
@@ -331,7 +332,7 @@ title_text =
 -- panels, and a legend of the marks that occur in them
 abbrev pub panels_text : Sweep → Bool → List Outcome → Frame → List Panel → List Mark → List ℕ
 panels_text plan asks rows f panels found =
-    begin_text (width f.stretches) (top f (length panels) + 18 * length found + 16) ++ title_text ++ numbered (panel_at plan asks rows f) 0 panels
+    begin_text (width f.stretches) (top f (length panels) + 18 * length found + 16) ++ title_text ++ numbered (panel_at [] plan asks rows f) 0 panels
     ++ numbered (mark_at (top f (length panels))) 0 found ++ (codes "</svg>" ++ 10 ∷ [])
 
 -- the same with those marks
@@ -341,3 +342,26 @@ drawn_panels plan asks rows panels = panels_text plan asks rows (frame_of plan r
 -- the picture of a plan's rows: a panel for each disaster and use
 abbrev pub picture : Sweep → List Outcome → List ℕ
 picture plan rows = drawn_panels plan (asks_recovery plan) rows (panels plan (asks_recovery plan) rows)
+
+-- ---- two plans
+
+-- the panels of a plan, of which so many stand above, each headed with a name
+abbrev pub named_panels : List ℕ → Sweep → List Outcome → Frame → ℕ → List Panel → List ℕ
+named_panels name plan rows f above panels = numbered (panel_at (name ++ codes ": ") plan (asks_recovery plan) rows f) above panels
+
+-- the panels of one plan and then of another, each by its name and in its frame, and a legend of the marks that occur in them
+abbrev pub both_text : List ℕ → Swept → Frame → List Panel → List ℕ → Swept → Frame → List Panel → List Mark → List ℕ
+both_text name a f panels other b g others found =
+    begin_text (max (width f.stretches) (width g.stretches)) (top f (length panels + length others) + 18 * length found + 16) ++ title_text
+    ++ named_panels name a.plan a.rows f 0 panels ++ named_panels other b.plan b.rows g (length panels) others
+    ++ numbered (mark_at (top f (length panels + length others))) 0 found ++ (codes "</svg>" ++ 10 ∷ [])
+
+-- the same with those marks, at the scale of both
+abbrev pub drawn_both : List ℕ → Swept → List Panel → List ℕ → Swept → List Panel → List ℕ
+drawn_both name a panels other b others =
+    both_text name a (shared_frame a b a.plan) panels other b (shared_frame a b b.plan) others (occurring_in_both panels others)
+
+-- the picture of two sweeps: all panels of the first one and then all of the second, each headed with the name of its file
+abbrev pub compared_picture : List ℕ → Swept → List ℕ → Swept → List ℕ
+compared_picture name a other b =
+    drawn_both name a (panels a.plan (asks_recovery a.plan) a.rows) other b (panels b.plan (asks_recovery b.plan) b.rows)

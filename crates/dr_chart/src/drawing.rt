@@ -1,6 +1,6 @@
 //! The picture of a plan's rows.
 
-ghost use Rattle.std.specs.Prelude.{◌≡◌, ◌++◌, ◌+◌, ◌*◌, length, map, OnOk, IfOk, ℕ};
+ghost use Rattle.std.specs.Prelude.{◌≡◌, [], ◌++◌, ◌+◌, ◌*◌, ◌<◌, ◌^◌, length, map, OnOk, IfOk, ℕ};
 ghost use Rattle.dr_chart.specs.Columns.{InOrder, columns};
 ghost use Rattle.dr_chart.specs.Picture.{begin_text, title_text, drawn, filled, panel_text, moved, moved_end, panel_at, panels_text, drawn_panels, numbered, picture};
 ghost use Rattle.dr_rows.specs.Findings.{asks_recovery};
@@ -22,7 +22,7 @@ use std::alloc::{AllocError, Global};
 
 /// Adds the begin of a picture of that size.
 #[tactic(auto, unfolding(crate::specs::Picture::begin_text))]
-fn push_begin(text: &mut Text, wide: u128, high: u128) -> Result<(), AllocError>
+pub(crate) fn push_begin(text: &mut Text, wide: u128, high: u128) -> Result<(), AllocError>
     ensures { OnOk result (text.new ≡ text.old ++ begin_text wide high) }
 {
     text.append(b"<svg xmlns='http://www.w3.org/2000/svg'")?;
@@ -33,7 +33,7 @@ fn push_begin(text: &mut Text, wide: u128, high: u128) -> Result<(), AllocError>
 
 /// The ground and the title.
 #[tactic(auto, unfolding(crate::specs::Picture::title_text))]
-fn title() -> &'static [u8]
+pub(crate) fn title() -> &'static [u8]
     ensures { result.now ≡ title_text }
 {
     b"\
@@ -58,44 +58,51 @@ fn push_drawn(
     push_stretches(alloc, text, plan, frame, columns)
 }
 
+/// What is drawn of a plan: its rows in a frame, and a name at the head of each panel, which is empty if one plan is drawn.
+#[derive(Clone, Copy)]
+pub(crate) struct Sheet<'a> {
+    pub(crate) name: &'a [u8],
+    pub(crate) plan: &'a SweepPlan,
+    /// Whether its recovery asks for a group.
+    pub(crate) asks: bool,
+    pub(crate) rows: &'a [Row],
+    pub(crate) frame: Frame,
+}
+
 /// Adds a head and what is drawn below it.
 fn push_filled(
     alloc: Global,
     text: &mut Text,
-    plan: &SweepPlan,
-    asks: bool,
-    frame: Frame,
+    sheet: Sheet<'_>,
     panel: &Panel,
     rows: &[&Row],
 ) -> Result<(), AllocError>
-    ensures { OnOk result (text.new ≡ text.old ++ filled plan.now asks frame panel.now.disaster panel.now.which panel.now.columns (map (λ row. row.now) rows.now)) }
+    ensures { OnOk result (text.new ≡ text.old ++ filled sheet.entry.name.now sheet.entry.plan.now sheet.entry.asks sheet.entry.frame panel.now.disaster panel.now.which panel.now.columns (map (λ row. row.now) rows.now)) }
 {
     push_head(
         alloc,
         text,
-        plan,
-        asks,
+        sheet.name,
+        sheet.plan,
+        sheet.asks,
         panel.disaster(),
         panel.which(),
         rows,
     )?;
-    push_drawn(alloc, text, plan, frame, panel.columns())
+    push_drawn(alloc, text, sheet.plan, sheet.frame, panel.columns())
 }
 
 /// Adds a panel, with the rows of its disaster.
 fn push_panel(
     alloc: Global,
     text: &mut Text,
-    plan: &SweepPlan,
-    asks: bool,
-    rows: &[Row],
-    frame: Frame,
+    sheet: Sheet<'_>,
     panel: &Panel,
 ) -> Result<(), AllocError>
-    ensures { OnOk result (text.new ≡ text.old ++ panel_text plan.now asks rows.now frame panel.now) }
+    ensures { OnOk result (text.new ≡ text.old ++ panel_text sheet.entry.name.now sheet.entry.plan.now sheet.entry.asks sheet.entry.rows.now sheet.entry.frame panel.now) }
 {
-    let here = rows_of(alloc, rows, panel.disaster())?;
-    push_filled(alloc, text, plan, asks, frame, panel, &here)
+    let here = rows_of(alloc, sheet.rows, panel.disaster())?;
+    push_filled(alloc, text, sheet, panel, &here)
 }
 
 /// Adds the begin of what is moved down by that.
@@ -119,34 +126,30 @@ fn push_moved_end(text: &mut Text) -> Result<(), AllocError>
 fn push_panel_at(
     alloc: Global,
     text: &mut Text,
-    plan: &SweepPlan,
-    asks: bool,
-    rows: &[Row],
-    frame: Frame,
-    place: usize,
+    sheet: Sheet<'_>,
+    place: u128,
     panel: &Panel,
 ) -> Result<(), AllocError>
-    ensures { OnOk result (text.new ≡ text.old ++ panel_at plan.now asks rows.now frame place panel.now) }
+    requires { place < 2 ^ 66 }
+    ensures { OnOk result (text.new ≡ text.old ++ panel_at sheet.entry.name.now sheet.entry.plan.now sheet.entry.asks sheet.entry.rows.now sheet.entry.frame place panel.now) }
 {
-    push_moved(text, top(frame, place))?;
-    push_panel(alloc, text, plan, asks, rows, frame, panel)?;
+    push_moved(text, top(sheet.frame, place))?;
+    push_panel(alloc, text, sheet, panel)?;
     push_moved_end(text)
 }
 
-/// Adds panels by their numbers.
-fn push_numbered(
+/// Adds panels, of which so many stand above, by their numbers.
+pub(crate) fn push_numbered(
     alloc: Global,
     text: &mut Text,
-    plan: &SweepPlan,
-    asks: bool,
-    rows: &[Row],
-    frame: Frame,
+    sheet: Sheet<'_>,
+    above: usize,
     panels: &[Panel],
 ) -> Result<(), AllocError>
-    ensures { OnOk result (text.new ≡ text.old ++ numbered (panel_at plan.now asks rows.now frame) 0 panels.now) }
+    ensures { OnOk result (text.new ≡ text.old ++ numbered (panel_at sheet.entry.name.now sheet.entry.plan.now sheet.entry.asks sheet.entry.rows.now sheet.entry.frame) above panels.now) }
 {
-    for (place, panel) in panels.iter().enumerate() {
-        push_panel_at(alloc, text, plan, asks, rows, frame, place, panel)?;
+    for (i, panel) in panels.iter().enumerate() {
+        push_panel_at(alloc, text, sheet, above as u128 + i as u128, panel)?;
     }
     Ok(())
 }
@@ -154,24 +157,19 @@ fn push_numbered(
 /// Panels, and a legend of the marks that occur in them.
 fn panels_text(
     alloc: Global,
-    plan: &SweepPlan,
-    asks: bool,
-    rows: &[Row],
-    frame: Frame,
+    sheet: Sheet<'_>,
     panels: &[Panel],
     found: &[Mark],
 ) -> Result<Text, AllocError>
-    ensures { IfOk result (λ text. text ≡ panels_text plan.now asks rows.now frame panels.now found.now) }
+    requires { sheet.name.now ≡ [] }
+    ensures { IfOk result (λ text. text ≡ panels_text sheet.entry.plan.now sheet.entry.asks sheet.entry.rows.now sheet.entry.frame panels.now found.now) }
 {
-    let below = top(frame, panels.len());
+    let below = top(sheet.frame, panels.len() as u128);
+    let high = below + 18 * found.len() as u128 + 16;
     let mut text = Text::new(alloc);
-    push_begin(
-        &mut text,
-        width(frame.stretches),
-        below + 18 * found.len() as u128 + 16,
-    )?;
+    push_begin(&mut text, width(sheet.frame.stretches), high)?;
     text.append(title())?;
-    push_numbered(alloc, &mut text, plan, asks, rows, frame, panels)?;
+    push_numbered(alloc, &mut text, sheet, 0, panels)?;
     push_legend(&mut text, below, found)?;
     text.append(b"</svg>\n")?;
     Ok(text)
@@ -189,7 +187,14 @@ fn drawn_panels(
 {
     let found = occurring(alloc, panels)?;
     let frame = frame_of(alloc, plan, rows)?;
-    panels_text(alloc, plan, asks, rows, frame, panels, &found)
+    let sheet = Sheet {
+        name: b"",
+        plan,
+        asks,
+        rows,
+        frame,
+    };
+    panels_text(alloc, sheet, panels, &found)
 }
 
 /// The picture of a plan's rows: a panel for each disaster and use, whose columns are in the order of line, part and place. Fails if there is

@@ -23,17 +23,19 @@ fn push_bold(text: &mut Text, first: &[u8], second: &[u8]) -> Result<(), AllocEr
     push_text_end(text)
 }
 
-/// Adds the disaster's servers, and the use.
+/// Adds the disaster's servers after a name, and the use.
 fn push_servers(
     alloc: Global,
     text: &mut Text,
+    name: &[u8],
     plan: &SweepPlan,
     disaster: usize,
     which: usize,
 ) -> Result<(), AllocError>
-    ensures { OnOk result (text.new ≡ text.old ++ servers_text plan.now disaster which) }
+    ensures { OnOk result (text.new ≡ text.old ++ servers_text name.now plan.now disaster which) }
 {
     let mut servers = Text::new(alloc);
+    servers.append(name)?;
     push_lost_at_once(&mut servers, servers_of(plan, disaster))?;
     let mut named = Text::new(alloc);
     push_use_head(&mut named, plan, which)?;
@@ -109,15 +111,16 @@ fn push_worst_text(
 pub(crate) fn push_head(
     alloc: Global,
     text: &mut Text,
+    name: &[u8],
     plan: &SweepPlan,
     asks: bool,
     disaster: usize,
     which: usize,
     rows: &[&Row],
 ) -> Result<(), AllocError>
-    ensures { OnOk result (text.new ≡ text.old ++ head_text plan.now asks disaster which (map (λ row. row.now) rows.now)) }
+    ensures { OnOk result (text.new ≡ text.old ++ head_text name.now plan.now asks disaster which (map (λ row. row.now) rows.now)) }
 {
-    push_servers(alloc, text, plan, disaster, which)?;
+    push_servers(alloc, text, name, plan, disaster, which)?;
     push_counts_of(text, asks, which, rows)?;
     push_worst_text(alloc, text, plan, which, rows)
 }

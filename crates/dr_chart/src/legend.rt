@@ -2,7 +2,7 @@
 
 ghost use Rattle.std.specs.Prelude.{◌≡◌, ◌++◌, ◌∷◌, [], ◌+◌, ◌*◌, ◌<◌, ◌^◌, filter, IfOk, OnOk};
 ghost use Rattle.std.specs.List.{list_any};
-ghost use Rattle.dr_chart.specs.Panels.{is_group, is_no_group, is_no_session, is_torn, has_mark, occurs, occurring};
+ghost use Rattle.dr_chart.specs.Panels.{is_group, is_no_group, is_no_session, is_torn, has_mark, occurs, occurring, occurring_in_both};
 ghost use Rattle.dr_chart.specs.Picture.{group_words, mark_words, entry_text, mark_at, numbered};
 
 use crate::columns::{Column, Mark};
@@ -99,6 +99,21 @@ pub(crate) fn occurring(alloc: Global, panels: &[Panel]) -> Result<Vec<Mark>, Al
         .iter()
         .copied()
         .filter(|mark| occurs(*mark, panels))
+        .collect(alloc)
+}
+
+/// The marks that occur in the panels of one plan or of another.
+pub(crate) fn occurring_in_both(
+    alloc: Global,
+    panels: &[Panel],
+    others: &[Panel],
+) -> Result<Vec<Mark>, AllocError>
+    ensures { IfOk result (λ found. found.items ≡ occurring_in_both panels.now others.now) }
+{
+    MARKS
+        .iter()
+        .copied()
+        .filter(|mark| occurs(*mark, panels) || occurs(*mark, others))
         .collect(alloc)
 }
 

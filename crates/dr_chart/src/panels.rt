@@ -1,12 +1,12 @@
 //! The panels of a picture, and what they share.
 
 ghost use Rattle.std.specs.Prelude.{◌≡◌, ◌++◌, max, IfOk, OnOk, length};
-ghost use Rattle.dr_chart.specs.Panels.{panel_of, disaster_panels, panels, highest, cut_short, stretch_text, label, longest, frame_of};
+ghost use Rattle.dr_chart.specs.Panels.{panel_of, disaster_panels, panels, highest, cut_short, stretch_text, label, longest, framed, frame_of, shared_frame};
 
 use crate::columns::{Column, columns, stretches};
 use dr_ids::Text;
 use dr_plan::SweepPlan;
-use dr_rows::{Row, gap_place, most_lost, push_place_name, rows_of, step_text};
+use dr_rows::{Row, Swept, gap_place, most_lost, push_place_name, rows_of, step_text};
 use std::alloc::{AllocError, Global};
 use std::marker::Model;
 
@@ -181,14 +181,50 @@ fn longest(alloc: Global, plan: &SweepPlan) -> Result<usize, AllocError>
     Ok(most)
 }
 
-/// The scale of all panels, and how deep their labels go.
+/// The scale of a plan's panels, if that many writes are lost at most, and how deep their labels go, if the longest has so many bytes.
+fn framed(plan: &SweepPlan, most: usize, longest: usize) -> Frame
+    ensures { result ≡ framed plan.now most longest }
+{
+    let longest = longest.min(56).max(20);
+    Frame {
+        most,
+        stretches: stretches(plan),
+        depth: 6 * longest as u32,
+    }
+}
+
+/// The same by what the plan's rows lose, and by its own labels.
 pub(crate) fn frame_of(alloc: Global, plan: &SweepPlan, rows: &[Row]) -> Result<Frame, AllocError>
     ensures { IfOk result (λ f. f ≡ frame_of plan.now rows.now) }
 {
-    let longest = longest(alloc, plan)?.min(56).max(20);
-    Ok(Frame {
-        most: highest(plan, rows),
-        stretches: stretches(plan),
-        depth: 6 * longest as u32,
-    })
+    let longest = longest(alloc, plan)?;
+    Ok(framed(plan, highest(plan, rows), longest))
+}
+
+/// The most writes that are lost in a row of a sweep.
+fn highest_in(swept: &Swept) -> usize
+    ensures { result ≡ highest swept.now.plan swept.now.rows }
+{
+    highest(swept.plan(), swept.rows())
+}
+
+/// How long the longest label of a sweep's plan is.
+fn longest_in(alloc: Global, swept: &Swept) -> Result<usize, AllocError>
+    ensures { IfOk result (λ n. n ≡ longest swept.now.plan) }
+{
+    longest(alloc, swept.plan())
+}
+
+/// The frame of one of two plans, at the scale of both.
+pub(crate) fn shared_frame(
+    alloc: Global,
+    first: &Swept,
+    second: &Swept,
+    plan: &SweepPlan,
+) -> Result<Frame, AllocError>
+    ensures { IfOk result (λ f. f ≡ shared_frame first.now second.now plan.now) }
+{
+    let most = larger(highest_in(first), highest_in(second));
+    let longest = larger(longest_in(alloc, first)?, longest_in(alloc, second)?);
+    Ok(framed(plan, most, longest))
 }

@@ -114,9 +114,10 @@ fn height(frame: Frame) -> u64
 }
 
 /// Where the panel with that number begins.
-pub(crate) fn top(frame: Frame, place: usize) -> u128
+pub(crate) fn top(frame: Frame, place: u128) -> u128
+    requires { place < 2 ^ 66 }
     ensures is { result ≡ top frame place }
-    ensures few { result < 2 ^ 98 }
+    ensures few { result < 2 ^ 100 }
 {
-    40 + u128::from(height(frame)) * place as u128
+    40 + u128::from(height(frame)) * place
 }

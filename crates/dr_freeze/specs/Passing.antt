@@ -27,6 +27,6 @@ pub passed-none : (x : Change) (s : PlantState) (c : ConfigTable) (l m place : �
 passed-none x s c l m place none =
     let all : length c.volumes ≤ place = let e = simp (length-map, length-drop) at (ap length none) in omega (arith, e) in
     record {
-      before = λ v low. record { volume = refl; tracks = refl };
+      before = λ v low. record { volume = refl; tracks = refl; saved = refl };
       changed = λ _ v d is le so. let e = entry-at-place c v d is in let low = slice_get_within c.volumes d e.0 e.1 in absurd (omega (arith, low, le, all));
     }

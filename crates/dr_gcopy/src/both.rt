@@ -206,7 +206,7 @@ impl<P: Plant> Entries<P, Nothing> for Moves {
         }
     }
 
-    ghost none_left = { λ x s y c none q na nb. record { volume = refl; tracks = refl } };
+    ghost none_left = { λ x s y c none q na nb. record { volume = refl; tracks = refl; saved = refl } };
 }
 
 /// Carries out the two moves of a command on the pair of a and b. Fails where a server stops in one or goes off at a read.

@@ -56,7 +56,7 @@ impl<P: Plant> Behind<P> for Suspended {
         suspend_running(plant, config, journal, self.0);
     }
 
-    ghost leaves_all = { λ x s c q ne. record { volume = refl; tracks = refl } };
+    ghost leaves_all = { λ x s c q ne. record { volume = refl; tracks = refl; saved = refl } };
 }
 
 /// What follows where primary a was refused so: after the stop of a server it is suspended, where its own still runs.

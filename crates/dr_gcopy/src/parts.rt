@@ -97,11 +97,3 @@ pub(crate) fn is_last(f: &Fields, t: u16) -> bool
     left.remove(t);
     left.len() == 0
 }
-
-/// Whether track t of a volume with these fields collides with what comes to it: a Global Copy primary records, and the track is still out of
-/// sync, so that its secondary hasn't what it was as the primary began to.
-pub fn collides(f: &Fields, t: u16) -> bool
-    ensures { result ≡ pairs.collides (plain f.now) t }
-{
-    f.primary.is_global() && (f.recording && f.out_of_sync.contains(t))
-}

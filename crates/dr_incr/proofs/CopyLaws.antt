@@ -7,7 +7,7 @@ use Rattle.dr_plant.specs.State.{PlantState}
 use Rattle.dr_config.specs.Table.{ConfigTable}
 use Rattle.dr_model.specs.Layout.{Fields}
 use Rattle.dr_model.specs.Control.{Volume}
-use Rattle.dr_model.specs.Moves.{Carried, moved, tracks_after}
+use Rattle.dr_model.specs.Moves.{Carried, moved, tracks_after, saved_after}
 use Rattle.dr_model.specs.Relations.{resynced}
 use Rattle.dr_model.specs.Views.{shows_source}
 use Rattle.dr_model.specs.declared.event.Event.{Event}
@@ -66,4 +66,5 @@ pub moved-after : (s v u : PlantState) (c : ConfigTable) (t : ℕ) (f : Volume �
 moved-after s v u c t f m same is = record {
   volume = is.volume ∙ (λ i. moved (same.volume i) (f (same.volume i)) m);
   tracks = is.tracks ∙ (λ i. tracks_after (f (same.volume i)) m (same.tracks i));
+  saved = is.saved ∙ (λ i. saved_after (same.volume i).fields.entries (f (same.volume i)).entries (same.tracks i) (same.saved i));
 }

@@ -1,5 +1,5 @@
 -- The example of old orders, carried out.
-use Rattle.std.proofs.Common.{◌≡◌, ◌<◌, inl, refl, ap, sym, ◌∙◌, subst, arith, true, cond, [], ◌∷◌, ◌++◌}
+use Rattle.std.proofs.Common.{◌≡◌, ◌<◌, inl, refl, ap, sym, ◌∙◌, subst, arith, true, cond, List, [], ◌∷◌, ◌++◌, drop}
 use Rattle.dr_logic.specs.Bytes.{zeros}
 use Rattle.dr_ids.specs.declared.refusal.Refusal.TheVariants.{OldMessage, JournalFull}
 use Rattle.dr_model.specs.declared.said.Addition.TheVariants.{Posted}
@@ -22,13 +22,17 @@ use Rattle.dr_model.specs.Views.{view}
 use Rattle.dr_laws_sound.proofs.Agree.{view-image}
 use Rattle.dr_laws_sound.proofs.Steps.{sound-run}
 use Rattle.dr_laws_sound.proofs.Journal.{run-more}
-use Rattle.dr_model.specs.Runs.{after_plan, after_task, after_tasks, run}
+use Rattle.dr_model.specs.Runs.{Task, after_plan, after_task, after_tasks, run}
 use Rattle.dr_laws_sound.specs.Acknowledged.{said_in}
 use Rattle.dr_laws_orders.specs.OldOrders.{IsFromBefore, StaysRefused}
 use Rattle.dr_laws_orders.specs.OlderNumbers.{IsOlder, LeavesVolumes}
+use Rattle.dr_laws_orders.specs.SettledLosses.{IsSettled, StaysSettled, IsFencedOff}
+use Rattle.dr_laws_orders.proofs.SettledLosses.{settled-run}
+use Rattle.dr_model.specs.Forming.{phase_in}
+use Rattle.dr_ids.specs.declared.refusal.PhaseName.TheVariants.{Lost}
 use Rattle.dr_laws_orders.proofs.StaysOld.{before-run}
 use Rattle.dr_laws_orders.proofs.Older.{leaves-run}
-use Rattle.dr_laws_examples.specs.Orders.{settles, old_orders, arrives, the_member, settled_session, next_session, hold_order, revert_order}
+use Rattle.dr_laws_examples.specs.Orders.{loses, settles, reverts, asks, old_orders, arrives, the_member, settled_session, next_session, hold_order, revert_order}
 
 -- ---- the master has settled what was left open
 
@@ -103,3 +107,41 @@ shows_on =
     ap (λ (w : World). view (fields_at w.control) w.contents 4096 0) (run-more old_orders (arrives 2) ∙ delivers (run old_orders) room-is)
     ∙ ((leaves.after 1 4096).shows 0
     ∙ shows)
+
+-- ---- the loss that is settled
+
+pub lost : phase_in (run loses).control 1 ≡ Lost
+unfolding decided decision zeros after_tasks after_plan carry act redo turn update_keeping stopped_at image histories changed servers_where
+lost = refl
+
+-- what holds of none of some steps, of the first, of the first two, and so on
+abbrev Fronts : (List Task → Type 0) → List Task → Type 0
+Fronts P [] = P []
+Fronts P (t ∷ ts) = P [] × Fronts (λ us. P (t ∷ us)) ts
+
+-- the first of some steps
+abbrev first_or : Task → List Task → Task
+first_or t [] = t
+first_or t (u ∷ us) = u
+
+each-front : (P : List Task → Type 0) (ts : List Task) → Fronts P ts → (first rest : List Task) → ts ≡ first ++ rest → P first
+each-front P [] fronts [] rest e = fronts
+each-front P [] fronts (u ∷ first) rest e = absurd cc
+each-front P (t ∷ ts) fronts [] rest e = fronts.0
+each-front P (t ∷ ts) fronts (u ∷ first) rest e = subst (λ t. P (t ∷ first)) (ap (first_or t) e) (each-front (λ us. P (t ∷ us)) ts fronts.1 first rest (ap (drop 1) e))
+
+pub stays_settled : StaysSettled (after_task (run loses) asks) reverts 1
+unfolding decided decision zeros after_tasks after_plan carry act redo turn update_keeping stopped_at image histories changed servers_where
+stays_settled = each-front (λ ts. IsSettled (phase_in (after_tasks (after_task (run loses) asks) ts).control 1)) reverts
+    (record { kept = λ e. cc; busy = λ e. cc }, (record { kept = λ e. cc; busy = λ e. cc }, record { kept = λ e. cc; busy = λ e. cc }))
+
+pub fenced_off : IsFencedOff (after_tasks (after_task (run loses) asks) reverts).control 1
+fenced_off = settled-run (loses ++ asks ∷ reverts) loses reverts [] asks 1 refl lost stays_settled
+
+pub epochs : ((run loses).control.flight.epoch 1 ≡ 2) × ((run loses).control.flight.fence 1 0 ≡ 0)
+unfolding decided decision zeros after_tasks after_plan carry act redo turn update_keeping stopped_at image histories changed servers_where
+epochs = (refl, refl)
+
+pub fence : (after_tasks (after_task (run loses) asks) reverts).control.flight.fence 1 0 ≡ 2
+unfolding decided decision zeros after_tasks after_plan carry act redo turn update_keeping stopped_at image histories changed servers_where
+fence = refl

@@ -1,3 +1,4 @@
 pub mod Example
 pub mod WayHome
 pub mod Orders
+pub mod ToIdle

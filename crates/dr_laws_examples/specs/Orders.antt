@@ -30,10 +30,17 @@ sends = step (Send 1 (named 65))
 abbrev pub asks : Task
 asks = step (Exchange 1 (named 65) true)
 
--- The master begins attempt 1 by an order to hold, which stays in flight. Its server is stopped and started. A then reports, and since nothing was
--- flashed the master reverts.
+-- The master begins attempt 1 by an order to hold, which stays in flight. Its server is stopped and started, so that the master is Lost.
+abbrev pub loses : List Task
+loses = with_session ++ sends ∷ step (Stop (named 66)) ∷ step (Start (named 66)) ∷ []
+
+-- A then reports, and since nothing was flashed the master reverts.
 abbrev pub settles : List Task
-settles = with_session ++ sends ∷ step (Stop (named 66)) ∷ step (Start (named 66)) ∷ asks ∷ []
+settles = loses ++ asks ∷ []
+
+-- The order to revert is sent, and an exchange reverts: the master finishes.
+abbrev pub reverts : List Task
+reverts = sends ∷ asks ∷ []
 
 -- Then the order to revert is sent, and stays in flight. The exchanges after it revert, end the attempt, and begin attempt 2, for which 1000 is
 -- held.

@@ -1,6 +1,6 @@
 //! Examples: runs that meet all that a law asks of a script, and what the law gives of each. There is one with a sound freeze window, one with a
-//! sound flash window, one with the way home, comparisons and a track that is shown, and one with orders that come late. Its functions do nothing:
-//! each names its runs.
+//! sound flash window, one with the way home, comparisons and a track that is shown, one with orders that come late, one with a loss that is
+//! settled, and some that come to Idle. Its functions do nothing: each names its runs.
 #![tactic(auto)]
 
 ghost use Rattle.std.specs.Prelude.{◌≡◌, ℕ, Bool, true, [], ◌∷◌, ◌++◌, Option};
@@ -21,7 +21,9 @@ ghost use Rattle.dr_laws_flashes.specs.Windows.{IsSoundWindow as IsSoundFlashWin
 ghost use Rattle.dr_model.specs.Layout.{Blocks};
 ghost use Rattle.dr_model.specs.Control.{Fuse};
 ghost use Rattle.dr_model.specs.Fits.{Fits, on_device};
-ghost use Rattle.dr_model.specs.Runs.{run};
+ghost use Rattle.dr_model.specs.Runs.{after_task, after_tasks, run};
+ghost use Rattle.dr_model.specs.Forming.{phase_in};
+ghost use Rattle.dr_ids.specs.declared.refusal.PhaseName.TheVariants as phase;
 ghost use Rattle.dr_model.specs.Answers.{answer};
 ghost use Rattle.dr_model.specs.MessagePlans.{deliver_plan};
 ghost use Rattle.dr_laws_sound.specs.Acknowledged.{said_in};
@@ -30,8 +32,11 @@ ghost use Rattle.dr_laws_recovery.specs.Recovered.{HoldsTracks};
 ghost use Rattle.dr_laws_return.specs.Compared.{AreSame, DifferFirst};
 ghost use Rattle.dr_laws_return.specs.Returned.{IsReturned};
 ghost use Rattle.dr_laws_orders.specs.OldOrders.{IsFromBefore, StaysRefused};
+ghost use Rattle.dr_laws_orders.specs.SettledLosses.{StaysSettled, IsFencedOff};
 ghost use Rattle.dr_laws_orders.specs.OlderNumbers.{IsOlder, LeavesVolumes};
-ghost use Rattle.dr_laws_examples.specs.Orders.{settles, old_orders, arrives, settled_session, hold_order, revert_order};
+ghost use Rattle.dr_laws_examples.specs.Orders.{loses, settles, reverts, asks, old_orders, arrives, settled_session, hold_order, revert_order};
+ghost use Rattle.dr_laws_examples.specs.ToIdle.{three, begins, gives_up, master_in_phase};
+ghost use Rattle.dr_laws_progress.specs.ToIdle.{CanEnd, AllAskOwed, LeadsOn, GivesUp};
 ghost use Rattle.dr_laws_examples.specs.WayHome.{taken_over, fails_back, drains, way_home, compares, compared_home, compared_apart, shows, shown_home};
 ghost use Rattle.dr_laws_examples.specs.Example.{IsStretch, second_waits, freeze_run, frozen_set, freeze_begins, freeze_window, freeze_ends, flash_run, flash_set, flash_begins, flash_window, flash_ends};
 
@@ -118,4 +123,27 @@ pub fn an_example_of_old_orders()
     ensures records { (fields_at (run old_orders).control 4096).recording ≡ true }
     ensures records_on { (fields_at (run (old_orders ++ arrives 2 ∷ [])).control 4096).recording ≡ true }
     ensures shows_on { view (fields_at (run (old_orders ++ arrives 2 ∷ [])).control) (run (old_orders ++ arrives 2 ∷ [])).contents 4096 0 ≡ laid 0 (97 ∷ []) zeros }
+{}
+
+/// An example of a loss that is settled, in the same run. Its master is Lost in epoch 2, and A, which has the member, has reported in none. A's
+/// report is the last one, so the master reverts; then the order to revert is sent, and an exchange reverts. By the law A is fenced off, in epoch 2.
+pub fn an_example_of_a_settled_loss()
+    ensures lost { phase_in (run loses).control 1 ≡ phase.Lost }
+    ensures before { ((run loses).control.flight.epoch 1 ≡ 2) × ((run loses).control.flight.fence 1 0 ≡ 0) }
+    ensures settled { StaysSettled (after_task (run loses) asks) reverts 1 }
+    ensures fenced { IsFencedOff (after_tasks (after_task (run loses) asks) reverts).control 1 }
+    ensures fence { (after_tasks (after_task (run loses) asks) reverts).control.flight.fence 1 0 ≡ 2 }
+{}
+
+/// An example of ways to Idle. In the run with a lost master the session can be ended: three orders are left for its one server, a report, a revert
+/// and a finish. Three exchanges ask for them, so by the law all are answered ok, and the master is Idle then. In another run attempt 1 has begun,
+/// and the session can be ended, too: by the law an abort leaves one order, and after one exchange the master is Idle.
+pub fn an_example_of_ways_to_idle()
+    ensures ends { CanEnd (run loses).control 1 }
+    ensures asked { AllAskOwed (run loses) three 1 }
+    ensures leads { LeadsOn (run loses) three 1 (master_in_phase phase.Lost).master }
+    ensures idle { phase_in (after_tasks (run loses) three).control 1 ≡ phase.Idle }
+    ensures begun { CanEnd (run begins).control 1 }
+    ensures given { (c : CanEnd (run begins).control 1) → GivesUp (run begins) gives_up 1 c phase.Finishing }
+    ensures again { phase_in (after_tasks (run begins) (gives_up ∷ asks ∷ [])).control 1 ≡ phase.Idle }
 {}

@@ -192,11 +192,7 @@ module _ (w : World) (sound : Sound w) (s n : ℕ) (d : Decision) (x : Session) 
 
     pub ended-after : (line : ℕ) → HasEnded (masters_lost w (after_plan w line p)) s n
     unfolding after_plan
-    ended-after line = subst (λ (k : Control). HasEnded (record {
-      control = losing w.control.on k;
-      contents = (masters_lost w (after_plan w line p)).contents;
-      events = (masters_lost w (after_plan w line p)).events;
-    }) s n) (sym (ended-control p last-is (stop_place w p) o none))
+    ended-after line = subst (λ (k : Control). HasEnded (record (masters_lost w (after_plan w line p)) { control = losing w.control.on k }) s n) (sym (ended-control p last-is (stop_place w p) o none))
         (record { number = number-is; on = on-is })
 
 -- ---- any recovery

@@ -207,12 +207,12 @@ module _ (u : ℕ) where
       held-by true = leave-refuse _ _ made
       held-by false = made
 
-  module _ (w : World) (contents : ℕ → ℕ → List ℕ) (events : List Event) (e : AlikeEvents u w.events events) (line : ℕ) where
+  module _ (w : World) (contents saved : ℕ → ℕ → List ℕ) (events : List Event) (e : AlikeEvents u w.events events) (line : ℕ) where
     abbrev k : Control
     k = w.control
 
     abbrev g : World
-    g = record { control = k; contents = contents; events = events }
+    g = record { control = k; contents = contents; saved = saved; events = events }
 
     a : Alike u w g
     a = record { control = refl; events = e }
@@ -302,29 +302,29 @@ module _ (u : ℕ) where
   -- ---- any step
 
   module _ (told-none : (k : Control) (line : ℕ) (step : Step) → issues step ≡ false → NoIssue (plan_of k [] line step).told) where
-    step-alike : (w : World) (contents : ℕ → ℕ → List ℕ) (events : List Event) → AlikeEvents u w.events events → (line : ℕ) (asked : Result Step ℕ) (listed : List Volume) → HoldsSame w asked
-        → AlikeTask w (record { control = w.control; contents = contents; events = events }) (record { line = line; asked = asked; listed = listed })
-    step-alike w contents events e line (Err column) listed h = record {
+    step-alike : (w : World) (contents saved : ℕ → ℕ → List ℕ) (events : List Event) → AlikeEvents u w.events events → (line : ℕ) (asked : Result Step ℕ) (listed : List Volume) → HoldsSame w asked
+        → AlikeTask w (record { control = w.control; contents = contents; saved = saved; events = events }) (record { line = line; asked = asked; listed = listed })
+    step-alike w contents saved events e line (Err column) listed h = record {
       other = record { line = line; asked = Err column; listed = listed };
-      alike = same-answered w (record { control = w.control; contents = contents; events = events }) (record { control = refl; events = e }) line (refuses (Syntax column)) refl;
+      alike = same-answered w (record { control = w.control; contents = contents; saved = saved; events = events }) (record { control = refl; events = e }) line (refuses (Syntax column)) refl;
     }
-    step-alike w contents events e line (Ok (Run s n)) listed h = record { other = record { line = line; asked = Ok (Run s n); listed = listed }; alike = run-alike w contents events e line s n }
-    step-alike w contents events e line (Ok (Compare v x)) listed h = record { other = wrong line; alike = compare-alike w contents events e line v x }
-    step-alike w contents events e line (Ok Image) listed h = record { other = record { line = line; asked = Ok Image; listed = listed }; alike = image-alike w contents events e line listed }
-    step-alike w contents events e line (Ok (MakePair devs x y n choices)) listed h = pair-by w contents events e line listed devs x y n choices h _ refl
-    step-alike w contents events e line (Ok (Show v t)) listed h = record { other = record { line = line; asked = Ok (Show v t); listed = listed }; alike = show-alike w contents events e line v t }
-    step-alike w contents events e line (Ok (Issue v t offset len bytes)) listed h = record {
+    step-alike w contents saved events e line (Ok (Run s n)) listed h = record { other = record { line = line; asked = Ok (Run s n); listed = listed }; alike = run-alike w contents saved events e line s n }
+    step-alike w contents saved events e line (Ok (Compare v x)) listed h = record { other = wrong line; alike = compare-alike w contents saved events e line v x }
+    step-alike w contents saved events e line (Ok Image) listed h = record { other = record { line = line; asked = Ok Image; listed = listed }; alike = image-alike w contents saved events e line listed }
+    step-alike w contents saved events e line (Ok (MakePair devs x y n choices)) listed h = pair-by w contents saved events e line listed devs x y n choices h _ refl
+    step-alike w contents saved events e line (Ok (Show v t)) listed h = record { other = record { line = line; asked = Ok (Show v t); listed = listed }; alike = show-alike w contents saved events e line v t }
+    step-alike w contents saved events e line (Ok (Issue v t offset len bytes)) listed h = record {
       other = record { line = line; asked = Ok (Issue v t 0 1 (mark u (w.control.issued + 1))); listed = listed };
-      alike = issue-alike w contents events e line v t offset len bytes (issue_done w.control v t) (λ offset len bytes. refl) refl;
+      alike = issue-alike w contents saved events e line v t offset len bytes (issue_done w.control v t) (λ offset len bytes. refl) refl;
     }
-    step-alike w contents events e line (Ok (Write v t offset len bytes)) listed h = record {
+    step-alike w contents saved events e line (Ok (Write v t offset len bytes)) listed h = record {
       other = record { line = line; asked = Ok (Write v t 0 1 (mark u (w.control.issued + 1))); listed = listed };
-      alike = issue-alike w contents events e line v t offset len bytes (write_done w.control v t) (λ offset len bytes. refl) refl;
+      alike = issue-alike w contents saved events e line v t offset len bytes (write_done w.control v t) (λ offset len bytes. refl) refl;
     }
-    step-alike w contents events e line (Ok step) listed h = record {
+    step-alike w contents saved events e line (Ok step) listed h = record {
       other = record { line = line; asked = Ok step; listed = listed };
-      alike = by-plan w (record { control = w.control; contents = contents; events = events }) (record { control = refl; events = e }) line (λ k. plan_of k [] line step) (told-none w.control line step refl);
+      alike = by-plan w (record { control = w.control; contents = contents; saved = saved; events = events }) (record { control = refl; events = e }) line (λ k. plan_of k [] line step) (told-none w.control line step refl);
     }
 
     pub task-alike : (w g : World) (t : Task) → Alike u w g → HoldsSame w t.asked → AlikeTask w g t
-    task-alike w g t a h = by-control u (λ g. AlikeTask w g t) w g a (λ contents events e. step-alike w contents events e t.line t.asked t.listed h)
+    task-alike w g t a h = by-control u (λ g. AlikeTask w g t) w g a (λ contents saved events e. step-alike w contents saved events e t.line t.asked t.listed h)

@@ -60,4 +60,4 @@ module _ (u : ℕ) where
       ∙ ap (λ (c : Cuts). list_any (nat_eq u) (c.held (fields_at g.control m.c.0).sequence m.a.0 t)) p.cuts
 
   pub holds-as-cut : (w g : World) → Alike u w g → TargetsShowCuts g → list_any (issues_it u) w.events ≡ true → HoldsAsCut w w
-  holds-as-cut w g a shows issued = subst (λ (k : Control). HoldsAsCut w (record { control = k; contents = g.contents; events = g.events })) a.control (holds-alike w g a.events shows issued)
+  holds-as-cut w g a shows issued = subst (λ (k : Control). HoldsAsCut w (record g { control = k })) a.control (holds-alike w g a.events shows issued)

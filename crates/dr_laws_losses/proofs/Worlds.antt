@@ -12,7 +12,7 @@ use Rattle.dr_model.specs.Histories.{Write, histories}
 use Rattle.dr_model.specs.Layout.{Fields}
 use Rattle.dr_model.specs.Control.{Control, Fuse, Volume, World}
 use Rattle.dr_model.specs.Moves.{Move, Land, Overwrite, Keep, Fetch, Restore, Store, Mirror, LandBoth, Hold, Carried, settled, settled_in_stop, target, next_fields, carried, told, told_in_stop, landed, keeps_staged, moved_keeping, updated_keeping}
-use Rattle.dr_model.specs.Carry.{lower, burnt, Act, Make, OpenAttempt, Redo, Acknowledge, Drop, EndFreeze, EndThaw, EndRecovery, Next, Pass, Do, End, Entry, Turn, Outcome, Ended, ended, gives_way, gate_at, writes, counts_by, pass, equal, spent, off, update_keeping, finished, cut_short, turn, redo, redo_writes, act, attempt_begun, opened_by, continue, go, carry, follow, stopped_turn, stopped_next, stopped_at, carry_each}
+use Rattle.dr_model.specs.Carry.{lower, burnt, Act, Make, OpenAttempt, Redo, Acknowledge, Drop, EndFreeze, EndThaw, EndRecovery, Next, Pass, Do, End, Entry, Turn, Outcome, Ended, ended, gives_way, saves, gate_at, writes, counts_by, pass, equal, spent, off, update_keeping, finished, cut_short, turn, redo, redo_writes, act, attempt_begun, opened_by, continue, go, carry, follow, stopped_turn, stopped_next, stopped_at, carry_each}
 use Rattle.dr_model.specs.Sessions.{changed, begun as attempted}
 use Rattle.dr_model.specs.PlanParts.{Plan}
 use Rattle.dr_model.specs.Carried.{begun, finish, carried_out, said, after_plan, losing, masters_lost, stop_place}
@@ -28,7 +28,7 @@ record SameTrack (c d : Carried) : Type 0 where
   gate : (v : Volume) (f : Fields) → gate_at v f d ≡ gate_at v f c
 
 some-same : (t : ℕ) (x y : List ℕ) → SameTrack (Some (t, x)) (Some (t, y))
-some-same t x y = record { moved = λ keeps v f. refl; gate = λ v f. ap (λ b. cond b 7 6) (by v.staged) }
+some-same t x y = record { moved = λ keeps v f. refl; gate = λ v f. ap (λ b. cond b 7 6 + cond (saves v.fields.entries f.entries) 1 0) (by v.staged) }
   where
     by : (o : Option ℕ) → gives_way o (Some (t, y)) ≡ gives_way o (Some (t, x))
     by None = refl
@@ -65,12 +65,12 @@ module _ (u : ℕ) where
 
   -- ---- acts
 
-  module _ (w : World) (contents : ℕ → ℕ → List ℕ) (events : List Event) (a : AlikeEvents u w.events events) where
+  module _ (w : World) (contents saved : ℕ → ℕ → List ℕ) (events : List Event) (a : AlikeEvents u w.events events) where
     abbrev k : Control
     k = w.control
 
     abbrev g : World
-    g = record { control = k; contents = contents; events = events }
+    g = record { control = k; contents = contents; saved = saved; events = events }
 
     same-here : Alike w g
     same-here = record { control = refl; events = a }
@@ -170,11 +170,11 @@ module _ (u : ℕ) where
     act-other (EndRecovery s n) = record { world = record { control = refl; events = told-both w g (Recovered s n ∷ []) a refl }; stop = refl }
 
   -- what holds of worlds with the same control state holds of alike ones
-  pub by-control : (P : World → Type 0) (w g : World) → Alike w g → ((contents : ℕ → ℕ → List ℕ) (events : List Event) → AlikeEvents u w.events events → P (record { control = w.control; contents = contents; events = events })) → P g
-  by-control P w g a each = subst (λ (k : Control). P (record { control = k; contents = g.contents; events = g.events })) (sym a.control) (each g.contents g.events a.events)
+  pub by-control : (P : World → Type 0) (w g : World) → Alike w g → ((contents saved : ℕ → ℕ → List ℕ) (events : List Event) → AlikeEvents u w.events events → P (record { control = w.control; contents = contents; saved = saved; events = events })) → P g
+  by-control P w g a each = subst (λ (k : Control). P (record { control = k; contents = g.contents; saved = g.saved; events = g.events })) (sym a.control) (each g.contents g.saved g.events a.events)
 
   act-alike : (w g : World) → Alike w g → (d : Act) → AlikeTurn (act w d) (act g d)
-  act-alike w g a d = by-control (λ g. AlikeTurn (act w d) (act g d)) w g a (λ contents events e. act-other w contents events e d)
+  act-alike w g a d = by-control (λ g. AlikeTurn (act w d) (act g d)) w g a (λ contents saved events e. act-other w contents saved events e d)
 
   -- ---- entries
 

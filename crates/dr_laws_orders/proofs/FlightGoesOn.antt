@@ -72,7 +72,7 @@ goes-left i l x f = by (is_only l x)
     by false = goes-same f
 
 -- a fence rises
-goes-heard : (i server epoch : ℕ) (work : phases.Work) (f : Flight) → FlightGoesOn f (messages.heard i server epoch work f)
+pub goes-heard : (i server epoch : ℕ) (work : phases.Work) (f : Flight) → FlightGoesOn f (messages.heard i server epoch work f)
 goes-heard i server epoch phases.Report f = let s = goes-same f in record { made = s.made; starts = s.starts; epochs = s.epochs; fences = at2_cases (λ t x (y : ℕ). f.fence t x ≤ y) f.fence i server (max (f.fence i server) epoch) (omega arith) (λ t x ne. omega arith); messages = s.messages }
 goes-heard i server epoch work f = goes-same f
 
@@ -112,23 +112,23 @@ counts-leaves w (OpenAttempt v s n) = λ f. refl
 counts-leaves w a = tt
 
 -- however an act ends
-act-leaves : (w : World) (a : Act) → Leaves w (act w a).0
+pub act-leaves : (w : World) (a : Act) → Leaves w (act w a).0
 act-leaves w a = act-cases w a (λ t. Leaves w t.0) (λ d off. refl) (done-leaves w a) (counts-leaves w a) (λ d f. refl)
 
 -- so any entries leave it
-abbrev Any : World → Act → Type 0
-Any w a = Unit {0}
+abbrev pub any_act : World → Act → Type 0
+any_act w a = Unit {0}
 
-any-next : (w : World) (x : Next) → Fine any_world Any any_reason w x
+any-next : (w : World) (x : Next) → Fine any_world any_act any_reason w x
 any-next w Pass = tt
 any-next w (End r) = tt
 any-next w (Do a) = tt
 
-any-fine : (ds : List Entry) → AllFine any_world Any any_reason ds
-any-fine [] = fine-none any_world Any any_reason
-any-fine (d ∷ ds) = fine-then any_world Any any_reason d ds (λ w k. any-next w (d w.control)) (any-fine ds)
+pub any-fine : (ds : List Entry) → AllFine any_world any_act any_reason ds
+any-fine [] = fine-none any_world any_act any_reason
+any-fine (d ∷ ds) = fine-then any_world any_act any_reason d ds (λ w k. any-next w (d w.control)) (any-fine ds)
 
-any-each : (ds : List Entry) → EachFine any_world Any any_reason ds
+any-each : (ds : List Entry) → EachFine any_world any_act any_reason ds
 any-each [] = tt
 any-each (d ∷ ds) = (any-fine (d ∷ []), any-each ds)
 
@@ -141,7 +141,7 @@ record Going (k : Control) (p : Plan) : Type 0 where
 
 -- it is carried out; its masters are lost as it is answered, or as the next one begins
 carried-goes : (w : World) (p : Plan) → Going w.control p → FlightGoesOn w.control.flight (carried_out w p).0.control.flight
-carried-goes w p g = plan-kept any_world Any any_reason (λ v. FlightGoesOn w.control.flight v.control.flight) (λ v j. tt) (λ v a any j. subst (FlightGoesOn w.control.flight) (sym (act-leaves v a)) j) w p
+carried-goes w p g = plan-kept any_world any_act any_reason (λ v. FlightGoesOn w.control.flight v.control.flight) (λ v j. tt) (λ v a any j. subst (FlightGoesOn w.control.flight) (sym (act-leaves v a)) j) w p
     g.first (any-fine p.entries) (λ s. any-each (p.follows s)) (λ v j. goes-then _ _ _ j (g.last v.control))
 
 answered-goes : (w : World) (line : ℕ) (p : Plan) → Going w.control p → FlightGoesOn w.control.flight (masters_lost w (after_plan w line p)).control.flight

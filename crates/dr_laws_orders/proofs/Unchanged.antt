@@ -3,7 +3,7 @@ use Rattle.std.proofs.Common.{ℕ, max, ◌≡◌, ◌≤◌, refl, ap, sym, ◌
 use Rattle.std.specs.FinSet.{contains, union, empty}
 use Rattle.dr_logic.specs.Bytes.{zeros}
 use Rattle.dr_logic.specs.Tables.{at}
-use Rattle.dr_model.specs.Layout.{Tracks, Fields}
+use Rattle.dr_model.specs.Layout.{Tracks, Fields, free_entries}
 use Rattle.dr_model.specs.Control.{Volume, World, Fuse}
 use Rattle.dr_model.specs.Pairs.{is_engaged, voided, past_attempt, with_floor}
 use Rattle.dr_model.specs.Views.{shows_source}
@@ -27,6 +27,7 @@ void-nothing f a c quiet loose = λ i. record f {
   recording = sym quiet i;
   out_of_sync = cond (engaged i) (union f.out_of_sync f.change_recording) f.out_of_sync;
   change_recording = cond (engaged i) empty f.change_recording;
+  entries = cond (engaged i) free_entries f.entries;
   attempt = a;
   floor = c;
 }

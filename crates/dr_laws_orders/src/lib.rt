@@ -15,13 +15,16 @@ ghost use Rattle.dr_model.specs.declared.said.Said.TheVariants.{Refused};
 ghost use Rattle.dr_model.specs.Groups.{In};
 ghost use Rattle.dr_model.specs.Attempts.{phase_of};
 ghost use Rattle.dr_model.specs.Flights.{IsFenced};
-ghost use Rattle.dr_model.specs.Runs.{Task, after_tasks};
+ghost use Rattle.dr_model.specs.Runs.{Task, after_task, after_tasks};
+ghost use Rattle.dr_ids.specs.declared.refusal.PhaseName.TheVariants.{Lost};
+ghost use Rattle.dr_model.specs.Forming.{phase_in};
 ghost use Rattle.dr_model.specs.Laws.{Sound, FlightCounted};
 ghost use Rattle.dr_laws_attempts.specs.Example.{now};
 ghost use Rattle.dr_laws_recovery.specs.Example.{tells};
 ghost use Rattle.dr_laws_orders.specs.Arrivals.{IsOrderAt, IsBelowFence, IsRefused, FencesHold, MayArrive};
 ghost use Rattle.dr_laws_orders.specs.FlightGoesOn.{FlightGoesOn};
 ghost use Rattle.dr_laws_orders.specs.OldOrders.{IsFromBefore, StaysRefused, OldOrdersStayRefused};
+ghost use Rattle.dr_laws_orders.specs.SettledLosses.{StaysSettled, IsFencedOff, SettledLossesAreFenced};
 ghost use Rattle.dr_laws_orders.specs.OlderNumbers.{IsOlder, LeavesVolumes, OlderOrdersLeaveVolumes};
 ghost use Rattle.dr_laws_orders.specs.Example.{order, fenced};
 
@@ -49,6 +52,14 @@ pub fn counts_and_fences_never_fall()
 pub fn orders_from_before_a_loss_stay_refused()
     ensures worlds { (w : World) (x : Session) (m : Message) → Sound w → FlightCounted w → In x w.control.sessions → IsFenced (phase_of x.mirror) → IsFromBefore w.control x m → StaysRefused w m.number }
     ensures runs { (tasks : List Task) → OldOrdersStayRefused tasks }
+{}
+
+/// A loss that is settled is fenced. If a master is Lost as a step of a run begins, and neither Lost nor Idle as it ends, each server of its
+/// session's members has reported since the loss: its fence is the session's epoch, so that it carries out no order from before. So it stays over
+/// whatever steps come, until the master is Idle or Lost again.
+pub fn a_settled_loss_is_fenced()
+    ensures worlds { (w : World) (t : Task) (more : List Task) (s : ℕ) → Sound w → phase_in w.control s ≡ Lost → StaysSettled (after_task w t) more s → IsFencedOff (after_tasks (after_task w t) more).control s }
+    ensures runs { (tasks : List Task) → SettledLossesAreFenced tasks }
 {}
 
 /// An order of an older attempt than its session's last changes no view and no recording. Wherever its delivery comes to, where servers stop or

@@ -33,6 +33,11 @@ none-off k (m ∷ ms) on =
     ap (λ b. option_map (λ (m : Member). server_off (k.volume m.b.0).server) (cond (not b) (Some m) (find (λ (m : Member). not (is_running m.b.0 k)) ms))) (on m (inl refl))
     ∙ none-off k ms (λ q h. on q (inr h))
 
+-- a plan that is nothing but a refusal answers that
+pub refusal-answers : (w : World) (r : Refusal) → part_answer (record { world = w; plan = refuses r }) ≡ Refused r
+unfolding carry
+refusal-answers w r = refl
+
 -- ---- the step, by its plan
 
 module _ (w : World) (t : Task) (s : ℕ) (asked : t.asked ≡ Ok (Recover s)) where
@@ -49,13 +54,8 @@ module _ (w : World) (t : Task) (s : ℕ) (asked : t.asked ≡ Ok (Recover s)) w
   planned : has_room w.events ≡ true → plan w.control w.events t.line (Ok (Recover s)) ≡ recover_plan w.control s
   planned room = ap (λ b. cond b (recover_plan w.control s) (refuses JournalFull)) room
 
-  -- one that is nothing but a refusal answers that
-  of-refusal : (r : Refusal) → part_answer (part (refuses r)) ≡ Refused r
-  unfolding carry
-  of-refusal r = refl
-
   says-refused : (r : Refusal) → plan w.control w.events t.line (Ok (Recover s)) ≡ refuses r → said_in w t ≡ Refused r
-  says-refused r is = ap part_answer (part-is (refuses r) is) ∙ of-refusal r
+  says-refused r is = ap part_answer (part-is (refuses r) is) ∙ refusal-answers w r
 
   pub says-full : has_room w.events ≡ false → said_in w t ≡ Refused JournalFull
   says-full room = says-refused JournalFull (full room)

@@ -85,13 +85,14 @@ module _ (w : World) (s : Sound w) (on : ℕ → Bool) (fuse : ℕ → Option Fu
         (λ q h. let c = counts-so (record { sequence = q; revertible = false }) h in c.sequence ∙ share.same c.one (among _ c) c.counted (sym c.revertible))
         e
 
+  -- if no session has the number, no target counts in it
+  pub none-shown : session_in k.sessions n ≡ None → (r : Shown) → In r (shown_on w device n) → ⊥
+  none-shown none r h = let c = counts-so r h in none-numbered k.sessions n c.session none c.listed c.number
+
   pub decides-by : (o : Option Session) → session_in k.sessions n ≡ o → (a b : ℕ) → decision (shown_on w device n) ≢ Impossible a b
   decides-by (Some x) found a b e = possible x found a b e
   decides-by None none a b e =
-      never-impossible (shown_on w device n) 0 0 a b (λ q h. absurd (empty (record { sequence = q; revertible = true }) h)) (λ q h. absurd (empty (record { sequence = q; revertible = false }) h)) e
-    where
-      empty : (r : Shown) → In r (shown_on w device n) → ⊥
-      empty r h = let c = counts-so r h in none-numbered k.sessions n c.session none c.listed c.number
+      never-impossible (shown_on w device n) 0 0 a b (λ q h. absurd (none-shown none (record { sequence = q; revertible = true }) h)) (λ q h. absurd (none-shown none (record { sequence = q; revertible = false }) h)) e
 
 pub decides-on : (tasks : List Task) (w : World) (on : ℕ → Bool) (fuse : ℕ → Option Fuse) (device : ℕ → Blocks) → run tasks ≡ w → Fits w on fuse device → DecidesOn w device
 decides-on tasks w on fuse device leads fits s a b = decides-by w (subst Sound leads (sound-run tasks)) on fuse device fits s (session_in w.control.sessions s) refl a b

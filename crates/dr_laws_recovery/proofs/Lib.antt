@@ -16,7 +16,8 @@
 -- - what a recovery answers is the newest group, before and after it: `found-run` (`GroupsFound.antt`); so is the number of an `@run`'s
 --   answer: `formed-run` (`RunsFormed.antt`), turn by turn from the commit of one member on (`LastStands`)
 -- - the headline: by devices that fit, recovery gives the cut of the newest group: `headline-on` (read off the laws),
---   `headline-run` (`Headline.antt`, `HeadlineAlong.antt`)
+--   `headline-run` (`Headline.antt`, `HeadlineAlong.antt`); a number without a session gives nothing, since what counts is the target of a
+--   member of a session that is defined: `no-session-run` (`NoSession.antt`)
 -- - exchanges and deliveries leave the target of a member whose secondary was taken over, and what a recovery makes of a session while
 --   all of its are; a recovery touches none before: `leaves-exchange`, `leaves-delivery`, `leaves-turn`, `exchange-keeps`,
 --   `delivery-keeps`, `takes-first`
@@ -88,6 +89,7 @@ pub mod Emptied
 pub mod TurnsEnd
 pub mod Stored
 pub mod OnTracks
+pub mod NoSession
 pub mod Headline
 pub mod HeadlineAlong
 pub mod Takes

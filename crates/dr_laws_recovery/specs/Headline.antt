@@ -1,14 +1,14 @@
 -- The headline: what the devices of a plant give back of each session, after the rules of commit and revert, is one cut of the host's
--- acknowledged writes, that of the newest group.
-use Rattle.std.specs.Prelude.{◌≡◌, ◌≢◌, ◌<◌, ℕ, List, [], Some}
+-- acknowledged writes, that of the newest group; and of a number without a session they give back nothing.
+use Rattle.std.specs.Prelude.{◌≡◌, ◌≢◌, ◌<◌, ℕ, List, [], Some, None}
 use Rattle.dr_ids.specs.declared.names.Member.{Member}
-use Rattle.dr_ids.specs.declared.refusal.Decision.TheVariants.{Impossible}
+use Rattle.dr_ids.specs.declared.refusal.Decision.TheVariants.{NoMember, Impossible}
 use Rattle.dr_model.specs.Layout.{Blocks}
 use Rattle.dr_model.specs.Decisions.{decision}
 use Rattle.dr_model.specs.Histories.{histories, lists}
 use Rattle.dr_model.specs.Contents.{image}
 use Rattle.dr_model.specs.Control.{World}
-use Rattle.dr_model.specs.Sessions.{Session}
+use Rattle.dr_model.specs.Sessions.{Session, session_in}
 use Rattle.dr_model.specs.Groups.{In}
 use Rattle.dr_model.specs.Cuts.{CutAt}
 use Rattle.dr_model.specs.ClosedCuts.{InGroup, ClosedCuts}
@@ -52,3 +52,14 @@ pub record GivesNewest (tasks : List Task) (w : World) (device : ℕ → Blocks)
 -- each session that is defined, where a run's steps lead to
 abbrev pub Headline : List Task → (ℕ → Blocks) → Type 0
 Headline tasks device = (x : Session) → In x (run tasks).control.sessions → GivesNewest tasks (run tasks) device x
+
+-- Of session number s nothing is given: nothing counts in it by the devices, so that there is nothing to decide, no volume remains, and
+-- there is no group.
+pub record GivesNothing (w : World) (device : ℕ → Blocks) (s : ℕ) : Type 0 where
+  pub decides : decision (shown_on w device s) ≡ NoMember
+  pub remaining : (recovered_on w device s).remaining ≡ []
+  pub group : (recovered_on w device s).group ≡ None
+
+-- each number of which no session is defined at the end of a run, be it that the session was removed, whatever groups it had, or that none was made
+abbrev pub NoSessionNoGroup : List Task → (ℕ → Blocks) → Type 0
+NoSessionNoGroup tasks device = (s : ℕ) → session_in (run tasks).control.sessions s ≡ None → GivesNothing (run tasks) device s

@@ -47,10 +47,10 @@ ghost use Rattle.dr_laws_sound.specs.Turning.{Leaves};
 ghost use Rattle.dr_laws_recovery.specs.Emptied.{IsEmptied, EqualAfter};
 ghost use Rattle.dr_laws_recovery.specs.BothViews.{IsRevertible, Settles, set_aside};
 ghost use Rattle.dr_laws_recovery.specs.Decided.{DecidesAfter};
-ghost use Rattle.dr_laws_recovery.specs.Example.{says, tells, taken, restoring};
+ghost use Rattle.dr_laws_recovery.specs.Example.{says, tells, taken, restoring, removed};
 ghost use Rattle.dr_model.specs.Recovery.{decided_over};
 ghost use Rattle.dr_laws_recovery.specs.Recovered.{recovered_in, recovered_on, SameRecovery, KeepsRecovery, HasRecovered, TellsRecovery, HoldsTracks};
-ghost use Rattle.dr_laws_recovery.specs.Headline.{Headline};
+ghost use Rattle.dr_laws_recovery.specs.Headline.{Headline, NoSessionNoGroup};
 ghost use Rattle.dr_laws_recovery.specs.Held.{HoldsAll};
 ghost use Rattle.dr_laws_recovery.specs.Stored.{StoredAtCuts};
 ghost use Rattle.dr_laws_recovery.specs.Formed.{FormedIsFound, GroupsAreFound};
@@ -102,6 +102,13 @@ pub fn writes_stay_but_for_these_steps()
 /// restore; and the cuts are closed. Where no group was committed, none is given; and what is to be done is never impossible to decide.
 pub fn targets_hold_one_cut()
     ensures { (tasks : List Task) (on : ℕ → Bool) (fuse : ℕ → Option Fuse) (device : ℕ → Blocks) → Fits (run tasks) on fuse device → HoldsTracks (run tasks) device → Headline tasks device }
+{}
+
+/// No session, no group. At the end of each run, a number of which no session is defined gives nothing, by what the devices of a plant say that
+/// fits the run's world: no target counts in it, so there is nothing to decide, no volume remains, and there is no group. So it is once a session
+/// was removed, whatever groups, stops, recoveries and messages it had before.
+pub fn a_session_that_is_gone_gives_nothing()
+    ensures { (tasks : List Task) (on : ℕ → Bool) (fuse : ℕ → Option Fuse) (device : ℕ → Blocks) → Fits (run tasks) on fuse device → NoSessionNoGroup tasks device }
 {}
 
 /// At the end of each run, what recovery would decide over a session is possible: by what the devices of a plant say that fits the run's
@@ -201,6 +208,16 @@ pub fn an_example_recovers()
     ensures commits { says taken (settle_plan taken None lets_commit 5) ≡ Done Alone }
     ensures commits_told { tells taken (settle_plan taken None lets_commit 5) ≡ Committed 7 1 4 6 ∷ [] }
     ensures forbidden { says taken (settle_plan taken None lets_revert 5) ≡ Refused (Forbidden (CommitRest 1)) }
+{}
+
+/// The example of the phases, removed: after an attempt that was committed on both targets its session gives group 1. Its members, its master and
+/// its logical subsystem are removed then. No session of that number is defined, and no target counts in it, though both keep number 1.
+pub fn an_example_is_removed()
+    ensures before { decided_over (fields_at over) over.volumes 7 ≡ Nothing 1 }
+    ensures none { session_in (removed over).sessions 7 ≡ None }
+    ensures after { decided_over (fields_at (removed over)) (removed over).volumes 7 ≡ NoMember }
+    ensures first { (fields_at (removed over) 3).sequence ≡ 1 }
+    ensures second { (fields_at (removed over) 6).sequence ≡ 1 }
 {}
 
 /// The example of the phases: a drain takes from the secondary that the primary names, and not from the primary; groups take from each

@@ -49,9 +49,8 @@ module _ (w : World) (s : Sound w) (v server tracks : ℕ) (here : server < leng
   ps = w.control.pending
 
   abbrev pub with_volume : World
-  with_volume = record {
+  with_volume = record w {
     control = record w.control { volumes = w.control.volumes ++ v ∷ []; volume = at w.control.volume v (new_volume server tracks) };
-    contents = w.contents;
     events = w.events ++ VolumeDefined v server tracks ∷ [];
   }
 

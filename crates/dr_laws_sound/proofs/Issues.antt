@@ -35,7 +35,7 @@ module _ (w : World) (s : Sound w) (v t offset len : ℕ) (bytes : List ℕ) (de
   written = record { volume = v; track = t; offset = offset; bytes = take len bytes }
 
   abbrev pub issued : World
-  issued = record { control = with_pending v t w.control; contents = w.contents; events = w.events ++ Issue n v t offset len bytes ∷ [] }
+  issued = record w { control = with_pending v t w.control; events = w.events ++ Issue n v t offset len bytes ∷ [] }
 
   issued-lists : histories issued.events ≡ record h { write = at h.write n written }
   issued-lists = histories-append w.events (Issue n v t offset len bytes ∷ [])

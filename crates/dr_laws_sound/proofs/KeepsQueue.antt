@@ -164,10 +164,10 @@ module _ (starts : Option ℕ) (w : World) (old : Queue starts w) where
   }
 
   -- later events, with the queue as it then stands
-  queue-by : (k : Control) (es : List Event) (contents : ℕ → ℕ → List ℕ) → AllQuiet n es → k.issued ≡ w.control.issued
+  queue-by : (k : Control) (es : List Event) (x : World) → AllQuiet n es → k.issued ≡ w.control.issued
       → ((write : ℕ → Write) → write ≡ (histories w.events).write → AllPending (Waits starts k write) k.pending) → Apart k.pending → Lone (servers k) k.pending
-      → Queue starts (record { control = k; contents = contents; events = w.events ++ es })
-  queue-by k es contents quiet issued each apart lone =
+      → Queue starts (record x { control = k; events = w.events ++ es })
+  queue-by k es x quiet issued each apart lone =
       let same : histories (w.events ++ es) ≡ fold after_event (histories w.events) es = histories-append w.events es in
       record {
         each = each (histories (w.events ++ es)).write (ap (λ (h : Histories). h.write) same ∙ write-fold n _ es quiet);
@@ -177,11 +177,11 @@ module _ (starts : Option ℕ) (w : World) (old : Queue starts w) where
       }
 
   -- the same queue, with servers that may have gone off
-  pub queue-same : (k : Control) (es : List Event) (contents : ℕ → ℕ → List ℕ) → AllQuiet n es → k.pending ≡ w.control.pending → k.issued ≡ w.control.issued → k.volumes ≡ w.control.volumes
+  pub queue-same : (k : Control) (es : List Event) (x : World) → AllQuiet n es → k.pending ≡ w.control.pending → k.issued ≡ w.control.issued → k.volumes ≡ w.control.volumes
       → ((v : ℕ) → servers k v ≡ servers w.control v) → ((v : ℕ) → sizes k v ≡ sizes w.control v) → ((j : ℕ) → w.control.on j ≡ false → k.on j ≡ false)
-      → Queue starts (record { control = k; contents = contents; events = w.events ++ es })
-  queue-same k es contents quiet ps issued volumes server size off =
-      queue-by k es contents quiet issued
+      → Queue starts (record x { control = k; events = w.events ++ es })
+  queue-same k es x quiet ps issued volumes server size off =
+      queue-by k es x quiet issued
       (λ write same. subst (AllPending (Waits starts k write)) (sym ps) (each-on (waits-on k write issued volumes same server size off) w.control.pending old.each))
       (subst Apart (sym ps) old.apart) (subst (Lone (servers k)) (sym ps) (lone-on (servers w.control) (servers k) server w.control.pending old.lone))
 
@@ -250,7 +250,7 @@ module _ (starts : Option ℕ) (w : World) (old : Queue starts w) where
   pub queue-done : (m : Move) (f : Option Fuse) → Ready w m → Queue starts (done w m f)
   queue-done m f ready =
       let k : Control = (done w m f).control in
-      queue-by k (told m (w.control.volume (target m))) (done w m f).contents (told-quiet m ready) refl
+      queue-by k (told m (w.control.volume (target m))) (done w m f) (told-quiet m ready) refl
       (λ write same. settled-waits k write (waits-on k write refl refl same (same-server m f) (same-size m f) (λ j h. h)) m) (settled-apart m).0
       (lone-on (servers w.control) (servers k) (same-server m f) _ (settled-apart m).1)
 
@@ -258,6 +258,6 @@ module _ (starts : Option ℕ) (w : World) (old : Queue starts w) where
   queue-stop m f ready =
       let k : Control = (done_in_stop w m f).control in
       let u : Volume = w.control.volume (target m) in
-      queue-by k (told_in_stop m u ++ Stopped u.server (landed m) ∷ []) (done_in_stop w m f).contents (of-append (Quiet n) (told_in_stop m u) _ (stop-quiet m ready) (tt, tt)) refl
+      queue-by k (told_in_stop m u ++ Stopped u.server (landed m) ∷ []) (done_in_stop w m f) (of-append (Quiet n) (told_in_stop m u) _ (stop-quiet m ready) (tt, tt)) refl
       (λ write same. stop-waits k write (waits-on k write refl refl same (same-server m f) (same-size m f) (goes-off w.control.on u.server)) m ready (off-here m f))
       (stop-apart m ready).0 (lone-on (servers w.control) (servers k) (same-server m f) _ (stop-apart m ready).1)

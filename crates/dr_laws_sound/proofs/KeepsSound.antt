@@ -117,7 +117,7 @@ module _ (starts : Option ℕ) where
   -- events that change no list, one server more, other links and paths, and servers that may have gone off
   pub sound-told : (w : World) (servers : List (List ℕ)) (on : ℕ → Bool) (fuse : ℕ → Option Fuse) (link : ℕ → ℕ → Bool) (paths : List Path) (es : List Event) → histories (w.events ++ es) ≡ histories w.events → AllQuiet (w.control.issued + 1) es
       → ((j : ℕ) → w.control.on j ≡ false → on j ≡ false) → Housed (record w.control { servers = servers }) → SoundBut starts w
-      → SoundBut starts (record { control = record w.control { servers = servers; on = on; fuse = fuse; link = link; paths = paths }; contents = w.contents; events = w.events ++ es })
+      → SoundBut starts (record w { control = record w.control { servers = servers; on = on; fuse = fuse; link = link; paths = paths }; events = w.events ++ es })
   sound-told w servers on fuse link paths es same quiet off housed s = record {
     rows = rows-told w es same s.rows;
     targets = record { once = s.targets.once; few = s.targets.few };
@@ -126,7 +126,7 @@ module _ (starts : Option ℕ) where
     housed = housed;
     attempts = s.attempts;
     flights = s.flights;
-    queue = queue-same starts w s.queue (record w.control { servers = servers; on = on; fuse = fuse; link = link; paths = paths }) es w.contents quiet refl refl refl (λ v. refl) (λ v. refl) off;
+    queue = queue-same starts w s.queue (record w.control { servers = servers; on = on; fuse = fuse; link = link; paths = paths }) es w quiet refl refl refl (λ v. refl) (λ v. refl) off;
   }
 
   pub sound-not : (w : World) (x : ℕ) (f : Option Fuse) → SoundBut starts w → SoundBut starts (not_done w x f)

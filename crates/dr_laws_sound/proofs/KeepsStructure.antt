@@ -174,6 +174,7 @@ module _ (write : ℕ → Write) (T : Table) (old : Structure T) where
           floor = g.floor;
           flash_hold = g.flash_hold;
           blank = g.blank;
+          entries = g.entries;
         }) (carried_on write m T);
         bytes = next_bytes write m T;
         due = next_due write m T;

@@ -15,7 +15,7 @@ use Rattle.dr_model.specs.Histories.{Write, Histories, histories, after_event}
 use Rattle.dr_model.specs.Control.{Control, Pending, Volume, Fuse, World, is_volume}
 use Rattle.dr_model.specs.Layout.{Tracks}
 use Rattle.dr_model.specs.Relations.{rest, is_bare, turned, given_up}
-use Rattle.dr_model.specs.Moves.{Move, Land, Overwrite, Keep, Relate, Withdraw, Fetch, Resync, Reverse, Restore, Release, Store, Suspend, Mirror, LandBoth, Hold, Flash, Commit, Revert, target, told, told_in_stop, landed, settled, settled_in_stop, tracks_after, Lift, keeps_staged, moved_keeping}
+use Rattle.dr_model.specs.Moves.{Move, Land, Overwrite, Keep, Relate, Withdraw, Fetch, Resync, Reverse, Restore, Release, Store, Suspend, Mirror, LandBoth, Hold, Flash, Commit, Revert, target, told, told_in_stop, landed, settled, settled_in_stop, tracks_after, saved_after, Lift, keeps_staged, moved_keeping}
 use Rattle.dr_model.specs.Table.{table, waiting, due, due_by, aside, aside_by}
 use Rattle.dr_model.specs.Rows.{emptied, next_row, next_due, next_aside, next_bytes, after}
 use Rattle.dr_model.specs.Laws.{servers, Structure, Blank, Queue, Waits, AllPending}
@@ -59,6 +59,7 @@ changed w m on fuse ps es =
     record {
       control = record w.control { volume = at w.control.volume x (moved_keeping (keeps_staged m) u (next_of w m) (carried_in w m)); on = on; fuse = fuse; pending = ps };
       contents = at w.contents x (tracks_after (next_of w m) (carried_in w m) (w.contents x));
+      saved = at w.saved x (saved_after u.fields.entries (next_of w m).entries (w.contents x) (w.saved x));
       events = es;
     }
 

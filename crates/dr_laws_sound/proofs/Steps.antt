@@ -69,7 +69,7 @@ holds-tables w first told a s = holds-moves w (tables_plan first told a) s (over
 holds-told : (w : World) (servers : List (List ℕ)) (on : ℕ → Bool) (fuse : ℕ → Option Fuse) (link : ℕ → ℕ → Bool) (paths : List Path) (told : List Event) (a : Said) → Housed (record w.control { servers = servers }) → Sound w → histories (w.events ++ told) ≡ histories w.events → AllQuiet (w.control.issued + 1) told
     → ((j : ℕ) → w.control.on j ≡ false → on j ≡ false) → (first : Control → Control) → first w.control ≡ record w.control { servers = servers; on = on; fuse = fuse; link = link; paths = paths } → StepHolds w (tables_plan first told a)
 holds-told w servers on fuse link paths told a housed s lists quiet off first is =
-    holds-tables w first told a (subst (λ k. Sound (record { control = k; contents = w.contents; events = w.events ++ told })) (sym is) (sound-told None w servers on fuse link paths told lists quiet off housed s))
+    holds-tables w first told a (subst (λ k. Sound (record w { control = k; events = w.events ++ told })) (sym is) (sound-told None w servers on fuse link paths told lists quiet off housed s))
 
 -- nothing is told, and no server goes off
 holds-quiet : (w : World) (fuse : ℕ → Option Fuse) (link : ℕ → ℕ → Bool) (paths : List Path) (a : Said) → Sound w → (first : Control → Control) → first w.control ≡ record w.control { fuse = fuse; link = link; paths = paths } → StepHolds w (tables_plan first [] a)

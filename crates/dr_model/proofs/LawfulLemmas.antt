@@ -1,5 +1,5 @@
 -- Lawful fields stay lawful.
-use Rattle.std.proofs.Common.{ℕ, ◌≡◌, true, false, refl, rules, arith, Option, None, Some, inl, inr}
+use Rattle.std.proofs.Common.{ℕ, ◌≡◌, true, false, refl, rules, arith, None, inl, inr}
 use Rattle.std.proofs.lemmas.List.{get_or-replicate, get_or_past}
 use Rattle.std.proofs.lemmas.Bool.{cases_order}
 use Rattle.std.proofs.lemmas.Bool.Decides.{nat_tests}
@@ -13,7 +13,7 @@ pub low-empty : (n : ℕ) → Low n empty
 low-empty n t h = absurd (let e : contains {R = nat_cmp} empty t ≡ false = grind (members, rules) in cc)
 
 -- no entry is used
-none_used : (k : ℕ) → entry_at free_entries k ≡ None
+pub none_used : (k : ℕ) → entry_at free_entries k ≡ None
 none_used k = elim (cases_order k 8) [
   | inl e ↦ get_or_past free_entries k None (omega (arith, e))
   | inr o ↦ elim o [ inl low ↦ get_or-replicate 8 k None None low | inr high ↦ get_or_past free_entries k None (omega (arith, high)) ]

@@ -1,4 +1,4 @@
--- Read first: `CarryLemmas.antt`: how an update ends, and a plan entry by entry; `Images.antt`, `LawfulLemmas.antt`; `Asking.antt`,
+-- Read first: `CarryLemmas.antt`: how an update ends, and a plan entry by entry; `Images.antt`, `LawfulLemmas.antt`, `EntryLemmas.antt`; `Asking.antt`,
 -- `Overlay.antt` for `image_of`.
 -- - Histories one event further: `histories-push`, `histories-append`; images: `image-push`, `image-issue` (a write that
 --   is issued later changes no image) in `Images.antt`.
@@ -14,3 +14,4 @@ pub mod GrammarChecks
 pub mod LawfulLemmas
 pub mod MemoryLemmas
 pub mod StagedChecks
+pub mod EntryLemmas

@@ -1,12 +1,12 @@
 -- Moves carried out on servers that may stop within any device write. No plan says what a stop leaves: this does.
-use Rattle.std.specs.Prelude.{ℕ, ◌+◌, ◌-◌, Bool, true, false, not, List, [], ◌∷◌, ◌++◌, filter, length, Option, Some, None, nat_eq, nat_lt, nat_le, if◌then◌else◌}
+use Rattle.std.specs.Prelude.{ℕ, ◌+◌, ◌-◌, Bool, true, false, not, List, [], ◌∷◌, ◌++◌, filter, length, Option, Some, None, is_some, nat_eq, nat_lt, nat_le, if◌then◌else◌}
 use Rattle.dr_logic.specs.Tables.{at}
 use Rattle.dr_ids.specs.Paths.{without_path}
 use Rattle.dr_ids.specs.declared.refusal.Refusal.{Refusal}
 use Rattle.dr_ids.specs.declared.refusal.Refusal.TheVariants.{Stopped as StoppedIn}
 use Rattle.dr_model.specs.Refusals.{stopped}
 use Rattle.dr_model.specs.Histories.{histories}
-use Rattle.dr_model.specs.Layout.{Fields, byte, bit}
+use Rattle.dr_model.specs.Layout.{Fields, Entries, entry_taken, byte, bit}
 use Rattle.dr_model.specs.Control.{Control, Fuse, Volume, World}
 use Rattle.dr_model.specs.Sessions.{changed, begun}
 use Rattle.dr_model.specs.Moves.{Move, Hold, Carried, target, next_fields, carried, told, told_in_stop, landed, settled, settled_in_stop, keeps_staged, updated_keeping, is_other}
@@ -17,10 +17,14 @@ abbrev pub gives_way : Option ℕ → Carried → Bool
 gives_way (Some t) (Some c) = not (nat_eq t c.0)
 gives_way _ _ = false
 
--- how many blocks a move writes before the gate's, by the volume as it was, its next fields and what is carried: the staged track's own
--- block where it gives way, then the six of the slot that isn't chosen
+-- a move saves a track: it takes an entry into use
+abbrev pub saves : Entries → Entries → Bool
+saves old next = is_some (entry_taken old next)
+
+-- how many blocks a move writes before the gate's, by the volume as it was, its next fields and what is carried: a side block if it
+-- saves a track, the staged track's own block if that gives way, then the six of the slot that isn't chosen
 abbrev pub gate_at : Volume → Fields → Carried → ℕ
-gate_at v f c = if gives_way v.staged c then 7 else 6
+gate_at v f c = (if gives_way v.staged c then 7 else 6) + (if saves v.fields.entries f.entries then 1 else 0)
 
 -- a move writes these blocks, and then the gate
 abbrev pub writes : Volume → Fields → Carried → ℕ

@@ -68,12 +68,14 @@ no_control = record {
 abbrev pub is_volume : Control → ℕ → Bool
 is_volume k v = list_any (nat_eq v) k.volumes
 
--- control, what each track contains, and the journal
+-- control, what each track contains, what is saved of each track that an entry of its volume names (zeros of any other), and the
+-- journal
 pub record World : Type 0 where
   pub control : Control
   pub contents : ℕ → ℕ → List ℕ
+  pub saved : ℕ → ℕ → List ℕ
   pub events : List Event
 
 -- before the first step
 abbrev pub nothing : World
-nothing = record { control = no_control; contents = λ v t. zeros; events = [] }
+nothing = record { control = no_control; contents = λ v t. zeros; saved = λ v t. zeros; events = [] }

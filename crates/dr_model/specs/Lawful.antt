@@ -1,5 +1,5 @@
 -- The fields that a volume may have, fact by fact: tracks that it has, in entries each but once, and nothing of what is absent.
-use Rattle.std.specs.Prelude.{◌≡◌, ℕ, ◌<◌, true, false, Some, length}
+use Rattle.std.specs.Prelude.{◌≡◌, ℕ, ◌<◌, true, false, None, Some, length}
 use Rattle.std.specs.FinSet.{contains, empty}
 use Rattle.dr_model.specs.Layout.{Tracks, Entries, Fields, entry_at, is_part}
 use Rattle.dr_model.specs.declared.state.PairState.TheVariants.{CopyPending}
@@ -27,6 +27,11 @@ pub record HasEntries (n : ℕ) (es : Entries) : Type 0 where
   pub eight : length es ≡ 8
   pub low : (k t : ℕ) → entry_at es k ≡ Some t → t < n
   pub apart : (j k t : ℕ) → entry_at es j ≡ Some t → entry_at es k ≡ Some t → j ≡ k
+
+-- The entries of a volume's next fields: one that was used names the same track still, if it is used, and at most one is taken into use.
+pub record EntriesFollow (old next : Entries) : Type 0 where
+  pub same : (k t u : ℕ) → entry_at old k ≡ Some t → entry_at next k ≡ Some u → u ≡ t
+  pub one : (j k t u : ℕ) → entry_at old j ≡ None → entry_at next j ≡ Some t → entry_at old k ≡ None → entry_at next k ≡ Some u → j ≡ k
 
 -- nothing of a primary but the attempt
 abbrev pub NoPrimary : Fields → Type 0

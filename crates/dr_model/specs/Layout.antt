@@ -1,8 +1,8 @@
 -- How a volume lies on its device: the control record in two slots behind a gate, then the tracks, then the side blocks.
 -- Reading is total: every content of the blocks gives fields. What a slot says is one thing, what that means for a volume of so
 -- many tracks another.
-use Rattle.std.specs.Prelude.{ℕ, ◌+◌, ◌*◌, ◌/◌, ◌%◌, ◌^◌, Bool, true, false, ◌&&◌, not, List, filter, map, nat_eq, nat_lt, Option, Some, None, if◌then◌else◌, drop, take, replicate}
-use Rattle.std.specs.List.{slice_index_or, range_with_len, list_any}
+use Rattle.std.specs.Prelude.{ℕ, ◌+◌, ◌*◌, ◌/◌, ◌%◌, ◌^◌, Bool, true, false, ◌&&◌, not, List, [], ◌∷◌, filter, map, nat_eq, nat_lt, Option, Some, None, is_none, is_some, if◌then◌else◌, drop, take, replicate}
+use Rattle.std.specs.List.{slice_index_or, range_with_len, list_any, position, zip}
 use Rattle.std.specs.Ordering.{nat_cmp}
 use Rattle.std.specs.FinSet.{FinSet, contains, empty, from_list}
 use Rattle.dr_logic.specs.Bytes.{zeros}
@@ -102,14 +102,40 @@ abbrev pub is_track : Option ℕ → ℕ → Bool
 is_track None t = false
 is_track (Some s) t = nat_eq t s
 
+-- these entries name track t
+abbrev pub names : Entries → ℕ → Bool
+names es t = list_any (λ e. is_track e t) es
+
 -- an entry is free if the volume hasn't its track, or a lower entry names it too
 abbrev pub entry_kept : ℕ → Entries → Option ℕ → Option ℕ
 entry_kept tracks lower None = None
-entry_kept tracks lower (Some t) = if nat_lt t tracks && not (list_any (λ e. is_track e t) lower) then Some t else None
+entry_kept tracks lower (Some t) = if nat_lt t tracks && not (names lower t) then Some t else None
 
 -- entry k, free past the end
 abbrev pub entry_at : Entries → ℕ → Option ℕ
 entry_at es k = slice_index_or es k None
+
+-- the lowest entry that names track t
+abbrev pub entry_of : Entries → ℕ → Option ℕ
+entry_of es t = position (λ e. is_track e t) es
+
+-- the lowest free entry names track t, if one is free
+abbrev pub with_entry : Entries → ℕ → Entries
+with_entry [] t = []
+with_entry (None ∷ es) t = Some t ∷ es
+with_entry (Some s ∷ es) t = Some s ∷ with_entry es t
+
+-- the entry that names track t is free
+abbrev pub without_entry : Entries → ℕ → Entries
+without_entry es t = map (λ e. if is_track e t then None else e) es
+
+-- an entry, as it was and as it is next: it is taken into use
+abbrev pub is_taken : Option ℕ × Option ℕ → Bool
+is_taken e = is_none e.0 && is_some e.1
+
+-- the lowest entry that is taken into use where entries are followed by these
+abbrev pub entry_taken : Entries → Entries → Option ℕ
+entry_taken old next = position is_taken (zip old next)
 
 -- what entries mean for a volume with that many tracks
 unfoldable pub entries_of : ℕ → Entries → Entries

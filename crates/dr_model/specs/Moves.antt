@@ -1,12 +1,12 @@
 -- The catalogue of moves. A move updates the control record of one volume, done or not done as a whole,
 -- and may carry one track to it. Each kind is a constructor, with a row in each of the tables below.
-use Rattle.std.specs.Prelude.{ℕ, Bool, true, false, not, List, [], ◌∷◌, ◌++◌, map, filter, Option, Some, None, nat_eq, if◌then◌else◌}
+use Rattle.std.specs.Prelude.{ℕ, Bool, true, false, not, List, [], ◌∷◌, ◌++◌, map, filter, Option, Some, None, is_some, nat_eq, if◌then◌else◌}
 use Rattle.std.specs.FinSet.{contains}
 use Rattle.dr_logic.specs.Bytes.{zeros}
 use Rattle.dr_logic.specs.Tables.{at}
 use Rattle.dr_model.specs.Histories.{Write}
 use Rattle.dr_model.specs.Contents.{with_write}
-use Rattle.dr_model.specs.Layout.{Tracks, Fields}
+use Rattle.dr_model.specs.Layout.{Tracks, Entries, Fields, entry_at, entry_of}
 use Rattle.dr_model.specs.declared.state.Part.{Part}
 use Rattle.dr_model.specs.declared.state.PairState.{PairState}
 use Rattle.dr_model.specs.Pairs.{altered, written, held_for, freed, sealed, past_attempt, with_attempt, with_floor, no_member, is_suspended, suspended, made_secondary, made_primary, no_primary, no_secondary, received, struck, resumed, taken_over, unsynced, mirrored, synced, thawed, flash_held, flash_freed, lifted, restarted, fallen_back, yielded}
@@ -335,11 +335,22 @@ carried_bytes (Some c) = c.1
 abbrev pub tracks_after : Fields → Carried → (ℕ → List ℕ) → ℕ → List ℕ
 tracks_after f c old t = if is_carried c t then carried_bytes c else if contains f.blank t then zeros else old t
 
+-- what is saved of track t, by the entry that names it then: what was, if the entry was used, else the track as it was; zeros if
+-- none names it
+abbrev pub saved_by : Option ℕ → Entries → (ℕ → List ℕ) → (ℕ → List ℕ) → ℕ → List ℕ
+saved_by None old tracks saved t = zeros
+saved_by (Some k) old tracks saved t = if is_some (entry_at old k) then saved t else tracks t
+
+-- what is saved of a volume's tracks where its entries are followed by these, by the tracks and what was saved of them before
+abbrev pub saved_after : Entries → Entries → (ℕ → List ℕ) → (ℕ → List ℕ) → ℕ → List ℕ
+saved_after old next tracks saved t = saved_by (entry_of next t) old tracks saved t
+
 -- a world after a volume got these fields and this track, and kept what was staged, or didn't
 abbrev pub updated_keeping : Bool → World → ℕ → Fields → Carried → World
 updated_keeping keeps w v f c = record w {
   control = record w.control { volume = at w.control.volume v (moved_keeping keeps (w.control.volume v) f c) };
   contents = at w.contents v (tracks_after f c (w.contents v));
+  saved = at w.saved v (saved_after (w.control.volume v).fields.entries f.entries (w.contents v) (w.saved v));
 }
 
 -- a world after a move of any kind but that one

@@ -7,7 +7,7 @@ use Rattle.dr_model.specs.declared.state.Part.{Part}
 use Rattle.dr_model.specs.declared.state.Part.TheVariants.{Absent, Metro, Global}
 use Rattle.dr_model.specs.declared.state.PairState.{PairState}
 use Rattle.dr_model.specs.declared.state.PairState.TheVariants.{CopyPending, FullDuplex, Suspended}
-use Rattle.dr_model.specs.Layout.{Tracks, Fields, is_part}
+use Rattle.dr_model.specs.Layout.{Tracks, Fields, is_part, names, with_entry, without_entry, free_entries}
 use Rattle.dr_model.specs.Relations.{all_tracks, is_bare}
 
 -- the secondary of a primary, and the primary of a secondary
@@ -101,17 +101,26 @@ parted_track f t = record f { out_of_sync = if is_part f.primary then insert f.o
 abbrev pub altered : Fields → ℕ → Fields
 altered f t = record (parted_track f t) { blank = remove f.blank t }
 
--- A host write lands on track t of a volume. Of a primary that records, the track has changed since it began to; of any other
--- primary it is out of sync.
+-- a write on track t collides: a Global Copy primary records, and still has to send what the track was as it began to
+abbrev pub collides : Fields → ℕ → Bool
+collides f t = is_kind Global f.primary && (f.recording && contains f.out_of_sync t)
+
+-- what the track was is to be saved: no entry has it yet
+abbrev pub saves_track : Fields → ℕ → Bool
+saves_track f t = collides f t && not (names f.entries t)
+
+-- New bytes come to track t of a volume. Of a primary that records, the track has changed since it began to, and what it was is saved by
+-- the lowest free entry, if it is still to be sent; of any other primary it is out of sync.
 abbrev pub written : Fields → ℕ → Fields
 written f t = record f {
   out_of_sync = if is_part f.primary && not f.recording then insert f.out_of_sync t else f.out_of_sync;
   change_recording = if is_part f.primary && f.recording then insert f.change_recording t else f.change_recording;
   blank = remove f.blank t;
+  entries = if saves_track f t then with_entry f.entries t else f.entries;
 }
 
--- A void: what changed while it recorded is out of sync too, and it neither records nor is held by coordination. So
--- nothing changes where it does neither.
+-- A void: what changed while it recorded is out of sync too, no entry is used, and it neither records nor is held by coordination. So
+-- nothing changes if it does neither.
 abbrev pub is_engaged : Fields → Bool
 is_engaged f = f.recording || f.coordination
 
@@ -122,6 +131,7 @@ voided f = record f {
   recording = false;
   out_of_sync = if is_engaged f then union f.out_of_sync f.change_recording else f.out_of_sync;
   change_recording = if is_engaged f then empty else f.change_recording;
+  entries = if is_engaged f then free_entries else f.entries;
 }
 
 -- a primary is Suspended; a long busy state, where it is set, stays
@@ -148,6 +158,7 @@ made_primary n b kind state full f = record f {
   recording = false;
   out_of_sync = if full then all_tracks n else empty;
   change_recording = empty;
+  entries = free_entries;
 }
 
 -- a part is taken away; of a primary the attempt stays
@@ -161,6 +172,7 @@ no_primary f = record f {
   recording = false;
   out_of_sync = empty;
   change_recording = empty;
+  entries = free_entries;
 }
 
 -- a secondary no more
@@ -176,9 +188,14 @@ is_last f t = is_metro f.primary && is_bare (remove f.out_of_sync t)
 abbrev pub received : Bool → Fields → ℕ → Fields
 received last f t = record (written f t) { seal = 0; secondary_state = if last then FullDuplex else f.secondary_state }
 
--- the secondary has stored track t; with the last one of a Metro Mirror pair the primary is Full Duplex
+-- the secondary has stored track t, and the entry that names it is free; with the last one of a Metro Mirror pair the primary is Full
+-- Duplex
 abbrev pub struck : Bool → Fields → ℕ → Fields
-struck last f t = record f { out_of_sync = remove f.out_of_sync t; primary_state = if last then FullDuplex else f.primary_state }
+struck last f t = record f {
+  out_of_sync = remove f.out_of_sync t;
+  primary_state = if last then FullDuplex else f.primary_state;
+  entries = without_entry f.entries t;
+}
 
 -- a pair that goes on
 abbrev pub next_state : Fields → PairState
@@ -224,6 +241,7 @@ lifted f = record f {
   recording = if f.coordination then false else f.recording;
   out_of_sync = if f.coordination then union f.out_of_sync f.change_recording else f.out_of_sync;
   change_recording = if f.coordination then empty else f.change_recording;
+  entries = if f.coordination then free_entries else f.entries;
 }
 
 -- A stop within a host write left a Metro Mirror pair Full Duplex with a track out of sync.
@@ -237,10 +255,6 @@ must_restart f = is_engaged f || is_torn f
 -- a volume goes on: what it recorded is void, and a torn pair is in Copy Pending
 abbrev pub restarted : Fields → Fields
 restarted f = record (voided f) { primary_state = if is_torn f then CopyPending else f.primary_state }
-
--- a host write on track t collides: a Global Copy primary records, and still has to send what the track was as it began to
-abbrev pub collides : Fields → ℕ → Bool
-collides f t = is_kind Global f.primary && (f.recording && contains f.out_of_sync t)
 
 -- a primary records attempt n
 abbrev pub records : ℕ → Fields → Bool
@@ -286,6 +300,7 @@ taken_over f = record (no_secondary f) {
   recording = false;
   out_of_sync = empty;
   change_recording = empty;
+  entries = free_entries;
 }
 
 -- A primary is voided, and these tracks are out of sync too; it has this state. Its long busy state stays.

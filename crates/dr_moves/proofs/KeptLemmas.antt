@@ -86,7 +86,7 @@ kept-then s m u c old mid new a b most {counts = counts} res first second room =
     along (Err e) on = tt
 
 pub before-then : (s t u : PlantState) (c : ConfigTable) (q : ℕ) → IsAsBefore s t c q → IsAsBefore t u c q → IsAsBefore s u c q
-before-then s t u c q a b = record { volume = b.volume ∙ a.volume; tracks = b.tracks ∙ a.tracks }
+before-then s t u c q a b = record { volume = b.volume ∙ a.volume; tracks = b.tracks ∙ a.tracks; saved = b.saved ∙ a.saved }
 
 -- no fuse is armed later that wasn't
 pub wider-armed : (s u : PlantState) → ((q : ℕ) → s.read_fuse q ≡ None → u.read_fuse q ≡ None) → (q : ℕ) → armed_in u q ≡ true → armed_in s q ≡ true

@@ -28,6 +28,7 @@ pub mod MoveTracks
 pub mod AsideLemmas
 pub mod TurnMade
 pub mod KeptLemmas
+pub mod SideLemmas
 pub mod ChangeLemmas
 pub mod TurnLemmas
 pub mod GateLemmas

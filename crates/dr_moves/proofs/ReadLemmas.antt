@@ -11,7 +11,7 @@ use Rattle.dr_model.specs.declared.event.Event.TheVariants.{Stopped}
 use Rattle.dr_model.specs.Control.{Volume, World}
 use Rattle.dr_model.specs.Refusals.{stopped}
 use Rattle.dr_model.specs.ReadStops.{GoesOff}
-use Rattle.dr_volume.specs.View.{Rest, volume_seen, track_seen, device_of, on_seen}
+use Rattle.dr_volume.specs.View.{Rest, volume_seen, track_seen, saved_seen, device_of, on_seen}
 use Rattle.dr_volume.specs.Update.{IsAsBefore}
 use Rattle.dr_volume.proofs.UpdateLaws.{server-seen}
 use Rattle.dr_volume.proofs.UnreadLaws.{Unread, unread, lies-at}
@@ -54,4 +54,4 @@ rest-same c s u rest stands same = record {
 }
 
 pub before-same : (c : ConfigTable) (s u : PlantState) → u ≡ s → (q : ℕ) → IsAsBefore s u c q
-before-same c s u is q = record { volume = ap (λ (x : PlantState). volume_seen x c q) is; tracks = ap (λ (x : PlantState). track_seen x c q) is }
+before-same c s u is q = record { volume = ap (λ (x : PlantState). volume_seen x c q) is; tracks = ap (λ (x : PlantState). track_seen x c q) is; saved = ap (λ (x : PlantState). saved_seen x c q) is }

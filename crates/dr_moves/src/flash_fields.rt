@@ -3,6 +3,7 @@
 ghost use Rattle.std.specs.Prelude.{◌≡◌, ◌≤◌, ◌<◌, true, if◌then◌else◌};
 ghost use Rattle.std.specs.FinSet.{difference, insert};
 ghost use Rattle.dr_ids.specs.Sizes.{most_tracks};
+ghost use Rattle.dr_model.specs.Layout.{with_entry};
 ghost use Rattle.dr_model.specs.Pairs as pairs;
 ghost use Rattle.dr_model.specs.Relations as relations;
 ghost use Rattle.dr_volume.specs.Plain.{plain};
@@ -10,10 +11,11 @@ ghost use Rattle.dr_volume.specs.Update.{stages};
 ghost use Rattle.dr_moves.specs.Options.{choices};
 
 use crate::options::FlashOptions;
+use crate::pair_fields::collides;
 use crate::sets::{is_whole, rest};
 use dr_bits::TrackSet;
 use dr_ids::VolumeId;
-use dr_volume::Fields;
+use dr_volume::{Entries, Fields};
 
 /// The fields of a volume that is a target no more.
 fn parted(f: &mut Fields)
@@ -70,8 +72,24 @@ pub fn altered(f: &mut Fields, t: u16)
     f.blank.remove(t);
 }
 
-/// A volume on whose track t a host write landed: of a primary that records the track has changed since it began to, of
-/// any other primary it is out of sync.
+// Whether what track t was is to be saved as new bytes come to it.
+fn saves_track(f: &Fields, t: u16) -> bool
+    ensures { result ≡ pairs.saves_track (plain f.now) t }
+{
+    collides(f, t) && !f.entries.names(t)
+}
+
+/// The lowest free entry names track t, if it is to.
+fn take_if(there: bool, entries: &mut Entries, t: u16)
+    ensures { entries.new ≡ (if there then with_entry entries.old t else entries.old) }
+{
+    if there {
+        entries.take(t);
+    }
+}
+
+/// A volume to whose track t new bytes came: of a primary that records the track has changed since it began to, and the lowest free
+/// entry names it, if what it was is still to be sent; of any other primary it is out of sync.
 pub fn written(f: &mut Fields, t: u16)
     requires { t < most_tracks }
     ensures fields { plain f.new ≡ pairs.written (plain f.old) t }
@@ -79,6 +97,7 @@ pub fn written(f: &mut Fields, t: u16)
 {
     let first = f.primary.is_part();
     let recording = f.recording;
+    take_if(saves_track(f, t), &mut f.entries, t);
     insert_if(first && !recording, &mut f.out_of_sync, t);
     insert_if(first && recording, &mut f.change_recording, t);
     f.blank.remove(t);

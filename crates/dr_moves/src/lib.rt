@@ -44,7 +44,7 @@ pub use following::{Behind, follow};
 pub use hearing::open_attempt;
 pub use moves::Move;
 pub use options::FlashOptions;
-pub use pair_fields::{is_engaged, is_torn, with_more};
+pub use pair_fields::{collides, is_engaged, is_torn, with_more};
 pub use pairs::{is_cascaded, is_quiet, is_unpaired, pair_state, secondary_state};
 pub use performing::{Act, perform};
 pub use place::{server_of, tracks_of};

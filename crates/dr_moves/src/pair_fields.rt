@@ -4,6 +4,7 @@ ghost use Rattle.std.specs.Prelude.{◌≡◌, ◌≤◌, ◌<◌, ◌||◌, ◌
 ghost use Rattle.std.specs.FinSet.{union, empty};
 ghost use Rattle.dr_ids.specs.Sizes.{most_tracks};
 ghost use Rattle.dr_model.specs.declared.state.PairState.TheVariants.{FullDuplex, CopyPending};
+ghost use Rattle.dr_model.specs.Layout.{free_entries};
 ghost use Rattle.dr_model.specs.Pairs as pairs;
 ghost use Rattle.dr_model.specs.Relations.{all_tracks};
 ghost use Rattle.dr_volume.specs.Plain.{plain};
@@ -13,7 +14,7 @@ use crate::flash_fields::written;
 use dr_bits::TrackSet;
 use dr_ids::VolumeId;
 use dr_model::{PairState, Part};
-use dr_volume::Fields;
+use dr_volume::{Entries, Fields};
 
 /// A volume that becomes the secondary of `a`.
 pub fn made_secondary(a: VolumeId, kind: Part, state: PairState, f: &mut Fields)
@@ -52,6 +53,7 @@ pub fn made_primary(n: u16, b: VolumeId, kind: Part, state: PairState, full: boo
     f.recording = false;
     f.out_of_sync = first_tracks(n, full);
     f.change_recording = TrackSet::empty();
+    f.entries = Entries::free();
 }
 
 /// A volume that is a primary no more. Its attempt stays.
@@ -67,6 +69,7 @@ pub fn no_primary(f: &mut Fields)
     f.recording = false;
     f.out_of_sync = TrackSet::empty();
     f.change_recording = TrackSet::empty();
+    f.entries = Entries::free();
 }
 
 /// A volume that is a secondary no more.
@@ -110,7 +113,16 @@ pub fn taken_over(f: &mut Fields)
     f.recording = false;
     f.out_of_sync = TrackSet::empty();
     f.change_recording = TrackSet::empty();
+    f.entries = Entries::free();
     no_secondary(f);
+}
+
+/// Whether track t of a volume with these fields collides with what comes to it: a Global Copy primary records, and the track is still out of
+/// sync, so that its secondary hasn't what it was as the primary began to.
+pub fn collides(f: &Fields, t: u16) -> bool
+    ensures { result ≡ pairs.collides (plain f.now) t }
+{
+    f.primary.is_global() && (f.recording && f.out_of_sync.contains(t))
 }
 
 /// Whether a primary records changes, or is held by coordination.
@@ -120,18 +132,19 @@ pub fn is_engaged(f: &Fields) -> bool
     f.recording || f.coordination
 }
 
-/// Where what was recorded counts, it is out of sync too, and nothing is recorded.
+/// If what was recorded counts, it is out of sync too, nothing is recorded, and no entry is used.
 pub(crate) fn count_recorded(counts: bool, f: &mut Fields)
-    ensures fields { f.new ≡ record f.old { out_of_sync = if counts then union f.old.out_of_sync f.old.change_recording else f.old.out_of_sync; change_recording = if counts then empty else f.old.change_recording } }
+    ensures fields { f.new ≡ record f.old { out_of_sync = if counts then union f.old.out_of_sync f.old.change_recording else f.old.out_of_sync; change_recording = if counts then empty else f.old.change_recording; entries = if counts then free_entries else f.old.entries } }
     ensures stages { stages f.new ≡ stages f.old }
 {
     if counts {
         f.out_of_sync.union(&f.change_recording);
         f.change_recording = TrackSet::empty();
+        f.entries = Entries::free();
     }
 }
 
-/// A primary after a void: what changed while it recorded is out of sync too, and it neither records nor is held by
+/// A primary after a void: what changed while it recorded is out of sync too, no entry is used, and it neither records nor is held by
 /// coordination.
 pub(crate) fn voided(f: &mut Fields)
     ensures fields { plain f.new ≡ pairs.voided (plain f.old) }
@@ -207,12 +220,13 @@ pub fn received(last: bool, f: &mut Fields, t: u16)
     f.secondary_state = state_after(last, f.secondary_state);
 }
 
-/// A primary whose track t is out of sync no more, maybe the last one.
+/// A primary whose track t is out of sync no more, maybe the last one; the entry that names it is free.
 pub fn struck(last: bool, f: &mut Fields, t: u16)
     ensures fields { plain f.new ≡ pairs.struck last (plain f.old) t }
     ensures stages { stages f.new ≡ stages f.old }
 {
     f.out_of_sync.remove(t);
+    f.entries.free_track(t);
     f.primary_state = state_after(last, f.primary_state);
 }
 

@@ -1,5 +1,5 @@
 -- Which rows are findings, and what else is one.
-use Rattle.std.specs.Prelude.{ℕ, Bool, ◌+◌, ◌&&◌, ◌||◌, true, false, not, List, [], ◌∷◌, length, nat_eq, nat_lt, Option, Some, None, is_some, Result, Ok, Err, if◌then◌else◌}
+use Rattle.std.specs.Prelude.{ℕ, Bool, ◌+◌, ◌&&◌, ◌||◌, true, false, not, List, [], ◌∷◌, length, count_by, nat_eq, nat_lt, Option, Some, None, is_some, Result, Ok, Err, if◌then◌else◌}
 use Rattle.std.specs.List.{flat_map, list_any, range_with_len, slice_get, slice_index_or}
 use Rattle.std.specs.Option.{option_map_or}
 use Rattle.dr_model.specs.declared.step.Step.{Step}
@@ -8,7 +8,7 @@ use Rattle.dr_model.specs.Grammar.{line_of}
 use Rattle.dr_plan.specs.Sweep.{Sweep}
 use Rattle.dr_rows.specs.declared.row.Answer.{Answer}
 use Rattle.dr_rows.specs.Outcome.{Outcome, Loss, gives_group, has_group, lacks_members}
-use Rattle.dr_rows.specs.Calm.{Calm, is_announced, is_calm_finding}
+use Rattle.dr_rows.specs.Calm.{Calm, is_announced, is_calm_finding, is_mistaken, is_unannounced}
 use Rattle.dr_rows.specs.Refusals.{answers_line, keeps_line}
 
 -- the step is an `@recover`
@@ -99,3 +99,17 @@ has_never_kept plan rows = list_any (is_never_kept plan rows) (range_with_len 0 
 -- the calm run, a line of the recovery or a row is a finding
 abbrev pub has_finding : Sweep → Calm → List Outcome → Bool
 has_finding plan calm rows = is_calm_finding plan calm || has_never_kept plan rows || list_any (is_finding plan (wanted plan)) rows
+
+-- ---- how many there are
+
+-- of the calm run: the steps that are refused without an announcement, and the uses that are mistaken
+abbrev pub calm_count : Sweep → Calm → ℕ
+calm_count plan calm = count_by (is_unannounced plan) calm.told + count_by (is_mistaken calm) plan.uses
+
+-- the lines of the recovery that are ok or held at no point
+abbrev pub never_kept_count : Sweep → List Outcome → ℕ
+never_kept_count plan rows = count_by (is_never_kept plan rows) (range_with_len 0 (length plan.recovery))
+
+-- all: those, and the rows that are findings
+abbrev pub finding_count : Sweep → Calm → List Outcome → ℕ
+finding_count plan calm rows = calm_count plan calm + never_kept_count plan rows + count_by (is_finding plan (wanted plan)) rows

@@ -8,6 +8,7 @@ pub mod Findings
 pub mod Places
 pub mod Kinds
 pub mod Table
+pub mod Compare
 pub mod Strip
 pub mod Report
 pub mod Json

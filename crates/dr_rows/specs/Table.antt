@@ -1,5 +1,5 @@
 -- The table at the head of a report: a row for each disaster and use, and its cells as wide as the widest of their column.
-use Rattle.std.specs.Prelude.{ℕ, ◌-◌, Bool, ◌||◌, List, [], ◌∷◌, ◌++◌, length, map, fold, find, max, count_by, nat_eq, replicate, codes, if◌then◌else◌}
+use Rattle.std.specs.Prelude.{ℕ, ◌-◌, Bool, ◌||◌, List, [], ◌∷◌, ◌++◌, length, map, fold, find, max, count_by, nat_eq, nat_lt, replicate, codes, if◌then◌else◌}
 use Rattle.std.specs.Fmt.{decimal}
 use Rattle.std.specs.List.{flat_map, range_with_len, slice_index_or}
 use Rattle.std.specs.Option.{option_map_or}
@@ -12,6 +12,8 @@ use Rattle.dr_rows.specs.Outcome.{Outcome, broken_at, is_broken, lacks_members, 
 use Rattle.dr_rows.specs.Cells.{broken_cell, decision_cell, group_cell, listed, phase_said, use_name}
 use Rattle.dr_rows.specs.Findings.{has_no_group, is_above, is_finding_for, lacks_group, wanted}
 use Rattle.dr_rows.specs.Kinds.{loses_most, rows_of, servers_of}
+use Rattle.dr_rows.specs.declared.table.Layout.{Layout}
+use Rattle.dr_rows.specs.declared.table.Layout.TheVariants.{OfReport, OfTwoPlans}
 use Rattle.dr_rows.specs.Places.{most_lost}
 use Rattle.dr_rows.specs.Words.{gap_place, place_name, point_words, step_place}
 
@@ -114,22 +116,40 @@ width rows column = fold (λ n cells. max n (length (cell_in column cells))) 0 r
 abbrev pub blanks : ℕ → List ℕ → List ℕ
 blanks wide cell = replicate (wide - length cell) 32
 
--- a cell in that width: a number stands at the right, and another one at the left
-abbrev pub aligned : ℕ → ℕ → List ℕ → List ℕ
-aligned wide column cell = if is_number column then blanks wide cell ++ cell else cell ++ blanks wide cell
+-- a column of numbers: of a report's table those above, and in the table of two plans each after the first two
+abbrev pub is_number_in : Layout → ℕ → Bool
+is_number_in OfReport column = is_number column
+is_number_in OfTwoPlans column = nat_lt 1 column
+
+-- a cell in that width, and no blanks after it: a number stands at the right
+abbrev pub at_right : Layout → ℕ → ℕ → List ℕ → List ℕ
+at_right layout wide column cell = if is_number_in layout column then blanks wide cell ++ cell else cell
+
+-- the blanks after it: another one stands at the left
+abbrev pub blanks_after : Layout → ℕ → ℕ → List ℕ → List ℕ
+blanks_after layout wide column cell = if is_number_in layout column then [] else blanks wide cell
+
+-- a cell in that width, before the next one
+abbrev pub aligned : Layout → ℕ → ℕ → List ℕ → List ℕ
+aligned layout wide column cell = at_right layout wide column cell ++ blanks_after layout wide column cell ++ codes "  "
 
 -- the cell of a row in a column, before the next one
-abbrev pub column_said : List (List (List ℕ)) → List (List ℕ) → ℕ → List ℕ
-column_said rows cells column = aligned (width rows column) column (cell_in column cells) ++ codes "  "
+abbrev pub column_said : Layout → List (List (List ℕ)) → List (List ℕ) → ℕ → List ℕ
+column_said layout rows cells column = aligned layout (width rows column) column (cell_in column cells)
+
+-- the last one of a row
+abbrev pub last_said : Layout → List (List (List ℕ)) → List (List ℕ) → ℕ → List ℕ
+last_said layout rows cells column = at_right layout (width rows column) column (cell_in column cells)
 
 -- the line of a row; no blanks stand at its end
-unfoldable pub table_line : List (List (List ℕ)) → List (List ℕ) → List ℕ
-table_line rows cells = flat_map (column_said rows cells) (range_with_len 0 (column_count - 1)) ++ cell_in (column_count - 1) cells ++ 10 ∷ []
+unfoldable pub table_line : Layout → List (List (List ℕ)) → List (List ℕ) → List ℕ
+table_line layout rows cells =
+    flat_map (column_said layout rows cells) (range_with_len 0 (length cells - 1)) ++ last_said layout rows cells (length cells - 1) ++ 10 ∷ []
 
 -- the lines of all rows
-abbrev pub lines_of : List (List (List ℕ)) → List ℕ
-lines_of rows = flat_map (table_line rows) rows
+abbrev pub lines_of : Layout → List (List (List ℕ)) → List ℕ
+lines_of layout rows = flat_map (table_line layout rows) rows
 
 -- the table of a plan and its rows
 unfoldable pub table_told : Sweep → Bool → List Outcome → List ℕ
-table_told plan asks rows = lines_of (table plan asks rows)
+table_told plan asks rows = lines_of OfReport (table plan asks rows)

@@ -1,9 +1,10 @@
 //! The calm run: the set-up and all tried steps, without a disaster.
 
-ghost use Rattle.std.specs.Prelude.{◌≡◌, ◌++◌, ◌-◌, ◌≤◌, [], length, count_by, find, nat_eq, OnOk};
+ghost use Rattle.std.specs.Prelude.{◌≡◌, ◌++◌, ◌-◌, ◌<◌, ◌≤◌, ◌^◌, [], length, count_by, find, nat_eq, OnOk};
 ghost use Rattle.std.specs.List.{flat_map, list_all, list_any, slice_index_or};
 ghost use Rattle.std.specs.Option.{option_copied};
 ghost use Rattle.dr_rows.specs.Calm.{is_announced, was_held, was_refused, wrote, calm_head, announced_word, was_announced, numbered, step_line, step_said, is_refusal_at, tried_text, line_text, unrefused_line, is_unrefused, unrefused_said, line_said, lines_said, use_word, but_on, first_word, pair_line, pair_said, pairs_said, calm_told, is_unannounced, is_unwritten, is_turned, is_mistaken, is_calm_finding};
+ghost use Rattle.dr_rows.specs.Findings.{calm_count};
 
 use crate::pieces::push_number;
 use dr_ids::Text;
@@ -489,4 +490,27 @@ pub(crate) fn is_calm_finding(plan: &SweepPlan, calm: &Calm) -> bool
     ensures { result ≡ is_calm_finding plan.now calm.now }
 {
     any_unannounced(plan, calm.told()) || any_mistaken(calm, plan.uses())
+}
+
+/// How many refusals of some steps aren't announced.
+fn unannounced_count(plan: &SweepPlan, told: &[CalmStep]) -> usize
+    ensures { result ≡ count_by (is_unannounced plan.now) told.now }
+{
+    told.iter()
+        .filter(|step| is_unannounced(plan, step))
+        .count()
+}
+
+fn mistaken_count(calm: &Calm, uses: &[Use]) -> usize
+    ensures { result ≡ count_by (is_mistaken calm.now) uses.now }
+{
+    uses.iter().filter(|of| is_mistaken(calm, of)).count()
+}
+
+/// How many refusals of the calm run aren't announced, and how many uses are mistaken.
+pub(crate) fn calm_count(plan: &SweepPlan, calm: &Calm) -> u128
+    ensures is { result ≡ calm_count plan.now calm.now }
+    ensures few { result < 2 ^ 65 }
+{
+    unannounced_count(plan, calm.told()) as u128 + mistaken_count(calm, plan.uses()) as u128
 }

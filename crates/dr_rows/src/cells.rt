@@ -234,7 +234,7 @@ pub(crate) fn torn_cell(torn: Torn) -> &'static [u8]
 }
 
 /// The use at a place has this name.
-fn name_at(plan: &SweepPlan, which: usize) -> Option<Name>
+pub(crate) fn name_at(plan: &SweepPlan, which: usize) -> Option<Name>
     ensures { result ≡ name_at plan.now which }
 {
     match plan.uses().get(which) {

@@ -1,11 +1,11 @@
 //! Which rows are findings, and what else is one.
 
-ghost use Rattle.std.specs.Prelude.{◌≡◌, ◌++◌, ◌<◌, length, nat_eq, IfOk, OnOk};
+ghost use Rattle.std.specs.Prelude.{◌≡◌, ◌++◌, ◌<◌, length, count_by, nat_eq, IfOk, OnOk};
 ghost use Rattle.std.specs.List.{list_any};
-ghost use Rattle.dr_rows.specs.Findings.{is_recovery, recovers, asks_recovery, has_no_group, is_above, is_bad, is_announced_at, wants_group, wanted_at, wanted, is_of_one, is_ungrouped, lacks_group, is_finding, is_bad_at, is_finding_for, is_never_kept, has_never_kept, has_finding};
+ghost use Rattle.dr_rows.specs.Findings.{is_recovery, recovers, asks_recovery, has_no_group, is_above, is_bad, is_announced_at, wants_group, wanted_at, wanted, is_of_one, is_ungrouped, lacks_group, is_finding, is_bad_at, is_finding_for, is_never_kept, has_never_kept, has_finding, never_kept_count, finding_count};
 ghost use Rattle.dr_rows.specs.Refusals.{keeps_line};
 
-use crate::calm::{Calm, is_announced, is_calm_finding};
+use crate::calm::{Calm, calm_count, is_announced, is_calm_finding};
 use crate::recovery::{is_answered, keeps_line};
 use crate::row::{Answer, Loss, Row, gives_group};
 use dr_ids::{Fault, Text};
@@ -227,5 +227,40 @@ pub fn has_finding(
         is_calm_finding(plan, calm)
             || has_never_kept(plan, rows)
             || any_finding(plan, &numbers, rows),
+    )
+}
+
+/// How many lines of the recovery are ok or held at no point.
+fn never_kept_count(plan: &SweepPlan, rows: &[Row]) -> usize
+    ensures { result ≡ never_kept_count plan.now rows.now }
+{
+    (0..plan.recovery().len())
+        .filter(|place| is_never_kept(plan, rows, *place))
+        .count()
+}
+
+/// How many rows are findings.
+fn finding_rows(plan: &SweepPlan, numbers: &[u128], rows: &[Row]) -> usize
+    ensures { result ≡ count_by (is_finding plan.now numbers.now) rows.now }
+{
+    rows.iter()
+        .filter(|row| is_finding(plan, numbers, row))
+        .count()
+}
+
+/// How many findings there are: in the calm run, lines of the recovery and rows. Fails where there is no memory.
+pub(crate) fn finding_count(
+    alloc: Global,
+    plan: &SweepPlan,
+    calm: &Calm,
+    rows: &[Row],
+) -> Result<u128, AllocError>
+    ensures { IfOk result (λ n. n ≡ finding_count plan.now calm.now rows.now) }
+{
+    let numbers = wanted(alloc, plan)?;
+    Ok(
+        calm_count(plan, calm)
+            + never_kept_count(plan, rows) as u128
+            + finding_rows(plan, &numbers, rows) as u128,
     )
 }

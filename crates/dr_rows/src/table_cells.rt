@@ -1,6 +1,6 @@
 //! The cells of the table at the head of a report.
 
-ghost use Rattle.std.specs.Prelude.{ℕ, ◌≡◌, [], ◌∷◌, ◌++◌, map, find, OnOk, IfOk};
+ghost use Rattle.std.specs.Prelude.{ℕ, ◌≡◌, [], ◌∷◌, ◌++◌, length, map, find, OnOk, IfOk};
 ghost use Rattle.std.specs.Fmt.{decimal};
 ghost use Rattle.std.specs.List.{range_with_len};
 ghost use Rattle.std.specs.Option.{option_copied};
@@ -47,7 +47,7 @@ impl Model for Cells {
 
 impl Cells {
     /// No cells.
-    fn new(alloc: Global) -> Cells
+    pub(crate) fn new(alloc: Global) -> Cells
         ensures { result ≡ [] }
     {
         Cells {
@@ -55,8 +55,15 @@ impl Cells {
         }
     }
 
+    /// How many there are.
+    pub(crate) fn len(&self) -> usize
+        ensures { result ≡ length self.now }
+    {
+        self.cells.len()
+    }
+
     /// Adds a cell.
-    fn add(&mut self, cell: Text) -> Result<(), AllocError>
+    pub(crate) fn add(&mut self, cell: Text) -> Result<(), AllocError>
         ensures { OnOk result (self.new ≡ self.old ++ cell ∷ []) }
     {
         self.cells.push(cell)?;
@@ -98,7 +105,7 @@ pub(crate) fn column_name(column: usize) -> &'static [u8]
 }
 
 /// Adds a cell of these bytes.
-fn add_bytes(alloc: Global, cells: &mut Cells, bytes: &[u8]) -> Result<(), AllocError>
+pub(crate) fn add_bytes(alloc: Global, cells: &mut Cells, bytes: &[u8]) -> Result<(), AllocError>
     ensures { OnOk result (cells.new ≡ cells.old ++ bytes.now ∷ []) }
 {
     let mut text = Text::new(alloc);
@@ -107,7 +114,7 @@ fn add_bytes(alloc: Global, cells: &mut Cells, bytes: &[u8]) -> Result<(), Alloc
 }
 
 /// The names of all columns.
-fn column_names(alloc: Global) -> Result<Cells, AllocError>
+pub(crate) fn column_names(alloc: Global) -> Result<Cells, AllocError>
     ensures { IfOk result (λ cells. cells ≡ column_names) }
 {
     let mut cells = Cells::new(alloc);
@@ -376,7 +383,7 @@ fn add_counts(
 
 /// The cells of the rows of a disaster, for the use at a place.
 #[tactic(auto, unfolding(crate::specs::Table::use_cells))]
-fn use_cells(
+pub(crate) fn use_cells(
     alloc: Global,
     plan: &SweepPlan,
     asks: bool,

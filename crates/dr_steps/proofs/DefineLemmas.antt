@@ -33,7 +33,7 @@ use Rattle.dr_ids.specs.declared.refusal.Kind.TheVariants as kind
 use Rattle.dr_ids.specs.declared.refusal.Which.TheVariants as limit
 use Rattle.dr_model.specs.Runs.{after_plan, said}
 use Rattle.dr_model.proofs.CarryLemmas.{plan-refuses, plan-tables}
-use Rattle.dr_volume.specs.View.{on_seen, fuses_seen, volume_seen, track_seen, volume_at, track_at, track_on, ids_of}
+use Rattle.dr_volume.specs.View.{on_seen, fuses_seen, volume_seen, track_seen, saved_seen, volume_at, track_at, saved_at, track_on, saved_on, ids_of}
 use Rattle.dr_volume.specs.View as view
 use Rattle.dr_volume.proofs.VolumeLaws.{volume-placed, track-placed}
 use Rattle.dr_ids.specs.declared.refusal.Fault.{Fault}
@@ -45,7 +45,7 @@ use Rattle.dr_metro.proofs.ToldLemmas.{told-push}
 use Rattle.dr_steps.proofs.LocatedLemmas.{is_volume-here}
 use Rattle.dr_steps.proofs.StopLemmas.{known-server}
 use Rattle.dr_steps.specs.declared.tables.Tables.{Tables}
-use Rattle.dr_steps.proofs.ZeroDevice.{zero_blocks, volume-zeros, track-zeros}
+use Rattle.dr_steps.proofs.ZeroDevice.{zero_blocks, volume-zeros, track-zeros, saved-zeros}
 use Rattle.dr_logic.proofs.Tables.{at_same, at_other}
 
 -- a list with one more has what it had, and then that
@@ -199,20 +199,20 @@ module _ (s : PlantState) (t : ConfigTable) (v server n : ℕ) (stands : StandsF
   entry-old : (d : ℕ) → d < length t.volumes → slice_get t'.volumes d ≡ slice_get t.volumes d
   entry-old d lt = slice_get-front t.volumes (entry ∷ []) d lt
 
-  at-old : (d : ℕ) → d < length t.volumes → (volume_at s' t' (Some d) ≡ volume_at s t (Some d)) × ((q : ℕ) → track_at s' t' (Some d) q ≡ track_at s t (Some d) q)
+  at-old : (d : ℕ) → d < length t.volumes → (volume_at s' t' (Some d) ≡ volume_at s t (Some d)) × ((q : ℕ) → track_at s' t' (Some d) q ≡ track_at s t (Some d) q) × ((q : ℕ) → saved_at s' t' (Some d) q ≡ saved_at s t (Some d) q)
   at-old d lt =
       let same = block-old s server (blocks_of n) d (λ e. let count = stands.count in absurd (omega (arith, lt, e, count))) in
-      ((λ i. view.volume_on (same i) (entry-old d lt i)), λ q i. track_on (same i) (entry-old d lt i) q)
+      ((λ i. view.volume_on (same i) (entry-old d lt i)), λ q i. track_on (same i) (entry-old d lt i) q, λ q i. saved_on (same i) (entry-old d lt i) q)
 
-  old-by : (o : Option ℕ) (u : ℕ) → place_of t u ≡ o → (volume_at s' t' o ≡ volume_at s t o) × ((q : ℕ) → track_at s' t' o q ≡ track_at s t o q)
-  old-by None u is = (refl, λ q. refl)
+  old-by : (o : Option ℕ) (u : ℕ) → place_of t u ≡ o → (volume_at s' t' o ≡ volume_at s t o) × ((q : ℕ) → track_at s' t' o q ≡ track_at s t o q) × ((q : ℕ) → saved_at s' t' o q ≡ saved_at s t o q)
+  old-by None u is = (refl, λ q. refl, λ q. refl)
   old-by (Some d) u is = at-old d (position-within (λ (e : VolumeEntry). nat_eq e.id u) t.volumes d is)
 
-  old : (u : ℕ) → u ≢ v → (volume_seen s' t' u ≡ volume_seen s t u) × ((q : ℕ) → track_seen s' t' u q ≡ track_seen s t u q)
+  old : (u : ℕ) → u ≢ v → (volume_seen s' t' u ≡ volume_seen s t u) × ((q : ℕ) → track_seen s' t' u q ≡ track_seen s t u q) × ((q : ℕ) → saved_seen s' t' u q ≡ saved_seen s t u q)
   old u ne =
       let stays = place-of-other t v u server n (λ e. ne (sym e)) in
       let by = old-by (place_of t u) u refl in
-      (ap (volume_at s' t') stays ∙ by.0, λ q. ap (λ o. track_at s' t' o q) stays ∙ by.1 q)
+      (ap (volume_at s' t') stays ∙ by.0, λ q. ap (λ o. track_at s' t' o q) stays ∙ by.1 q, λ q. ap (λ o. saved_at s' t' o q) stays ∙ by.2 q)
 
   volume-now : (u : ℕ) → at (volume_seen s t) v (new_volume server n) u ≡ volume_seen s' t' u
   volume-now u = elim (eqb_tells u v) as (λ _. at (volume_seen s t) v (new_volume server n) u ≡ volume_seen s' t' u) [
@@ -227,6 +227,15 @@ module _ (s : PlantState) (t : ConfigTable) (v server n : ℕ) (stands : StandsF
   track-now u q = elim (eqb_tells u v) as (λ _. track_seen s t u q ≡ track_seen s' t' u q) [
     | inl p ↦ ap (λ x. track_seen s t x q) p.1 ∙ ap (λ o. track_at s t o q) free ∙ sym (track-new q) ∙ ap (λ x. track_seen s' t' x q) (sym p.1)
     | inr p ↦ sym ((old u p.1).1 q)
+  ]
+
+  saved-new : (q : ℕ) → saved_seen s' t' v q ≡ zeros
+  saved-new q = ap (λ o. saved_at s' t' o q) placed-new ∙ ap (λ o. saved_on (s'.block (length t.volumes)) o q) entry-new ∙ ap (λ b. saved_on b (Some entry) q) blocks-new ∙ saved-zeros entry q
+
+  saved-now : (u q : ℕ) → saved_seen s t u q ≡ saved_seen s' t' u q
+  saved-now u q = elim (eqb_tells u v) as (λ _. saved_seen s t u q ≡ saved_seen s' t' u q) [
+    | inl p ↦ ap (λ x. saved_seen s t x q) p.1 ∙ ap (λ o. saved_at s t o q) free ∙ sym (saved-new q) ∙ ap (λ x. saved_seen s' t' x q) (sym p.1)
+    | inr p ↦ sym ((old u p.1).2 q)
   ]
 
   ids-now : ids_of t.volumes ++ v ∷ [] ≡ ids_of t'.volumes
@@ -252,6 +261,7 @@ module _ (s : PlantState) (t : ConfigTable) (v server n : ℕ) (stands : StandsF
       volume = λ u. volume-now u i;
     };
     contents = λ u q. track-now u q i;
+    saved = λ u q. saved-now u q i;
     events = sym told i;
   }
 

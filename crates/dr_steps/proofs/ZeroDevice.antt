@@ -7,9 +7,9 @@ use Rattle.std.specs.List.{range_with_len}
 use Rattle.std.specs.FinSet.{empty, from_list, contains}
 use Rattle.dr_logic.specs.Bytes.{zeros}
 use Rattle.dr_model.specs.Control.{new_volume}
-use Rattle.dr_model.specs.Layout.{Blocks, byte, bit, stands_in, set_of, slot_chosen, fields_of, entries_of, staged_of, physical, fields, staged, no_fields, chosen, is_staged}
+use Rattle.dr_model.specs.Layout.{Blocks, Fields, entry_of, byte, bit, stands_in, set_of, slot_chosen, fields_of, entries_of, staged_of, physical, fields, staged, no_fields, chosen, is_staged}
 use Rattle.dr_config.specs.declared.entries.VolumeEntry.{VolumeEntry}
-use Rattle.dr_volume.specs.View.{volume_on, track_on}
+use Rattle.dr_volume.specs.View.{volume_on, track_on, saved_on, side_in}
 use Rattle.dr_logic.proofs.Lists.{filter-none}
 
 -- the blocks of a device that was just added
@@ -76,3 +76,7 @@ track-either false n k = refl
 -- and each of its tracks is zeros
 pub track-zeros : (e : VolumeEntry) (k : ℕ) → track_on zero_blocks (Some e) k ≡ zeros
 track-zeros e k = track-either (nat_lt k e.tracks) e.tracks k
+
+-- nothing is saved of a track
+pub saved-zeros : (e : VolumeEntry) (k : ℕ) → saved_on zero_blocks (Some e) k ≡ zeros
+saved-zeros e k = ap (λ (f : Fields). side_in zero_blocks e.tracks (entry_of f.entries k)) (fields-zeros e.tracks)

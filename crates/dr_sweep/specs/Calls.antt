@@ -37,7 +37,7 @@ use Rattle.dr_words.specs.declared.sweep.SweepCommand.{SweepCommand}
 
 -- the usage line, with its line feed
 abbrev pub usage_line : List ℕ
-usage_line = codes "usage: sweep [rows | picture | json | script LINE[.PART] SERVER WRITE TORN [DISASTER] | script LINE[.PART] gap [DISASTER]]" ++ 10 ∷ []
+usage_line = codes "usage: sweep [rows | picture | json | script LINE[.PART] SERVER WRITE TORN [DISASTER] | script LINE[.PART] gap [DISASTER] | compare [picture] A B]" ++ 10 ∷ []
 
 -- what is put of a text that is no plan
 abbrev pub bad_line_text : ℕ → Reason → List ℕ

@@ -13,3 +13,4 @@ pub mod Ending
 pub mod Printing
 pub mod Apart
 pub mod Calls
+pub mod Compare

@@ -30,10 +30,10 @@ use dr_words::{SweepCommand, sweep_command_of};
 use std::alloc::{AllocError, Global};
 
 const USAGE: &[u8] =
-    b"usage: sweep [rows | picture | json | script LINE[.PART] SERVER WRITE TORN [DISASTER] | script LINE[.PART] gap [DISASTER]]\n";
+    b"usage: sweep [rows | picture | json | script LINE[.PART] SERVER WRITE TORN [DISASTER] | script LINE[.PART] gap [DISASTER] | compare [picture] A B]\n";
 
 /// Puts a text, and ends so if the sink took all of it.
-fn put_text<K: Sink>(sink: &mut K, text: &[u8], ending: Ending) -> Ending
+pub(crate) fn put_text<K: Sink>(sink: &mut K, text: &[u8], ending: Ending) -> Ending
     requires { is_write_fault ending ≡ false }
     ensures { Puts K.written sink.old sink.new K.faults text.now ending result }
 {
@@ -45,9 +45,9 @@ fn put_text<K: Sink>(sink: &mut K, text: &[u8], ending: Ending) -> Ending
 
 /// A text to be put, and how a call ends that has put it.
 #[derive(Drop)]
-struct Reply {
-    text: Text,
-    ending: Ending,
+pub(crate) struct Reply {
+    pub(crate) text: Text,
+    pub(crate) ending: Ending,
 }
 
 /// What is put of the calm run of a plan, and of the rows of the one that is tried.
@@ -90,7 +90,7 @@ fn put_rows<K: Sink>(
 }
 
 /// What the calm run of a plan comes to.
-fn calm_run(alloc: Global, plan: &SweepPlan) -> Result<Calm, PointFault>
+pub(crate) fn calm_run(alloc: Global, plan: &SweepPlan) -> Result<Calm, PointFault>
     ensures calm { IfOk result (IsCalm plan.now) }
     ensures fails { IfErr result (FailsOn (calm_script plan.now)) }
 {
@@ -182,7 +182,7 @@ fn answer_plan<K: Sink, Q: Sink>(
 }
 
 /// What is put of a text that is no plan.
-fn bad_line_text(alloc: Global, line: usize, reason: &Reason) -> Result<Text, AllocError>
+pub(crate) fn bad_line_text(alloc: Global, line: usize, reason: &Reason) -> Result<Text, AllocError>
     ensures { IfOk result (λ text. text ≡ bad_line_text line reason.now) }
 {
     let mut text = Text::new(alloc);

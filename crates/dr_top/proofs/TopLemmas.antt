@@ -50,15 +50,25 @@ use Rattle.dr_laws_recovery.proofs.Seals.{seals-on}
 use Rattle.dr_laws_recovery.proofs.Decided.{decides-on}
 use Rattle.dr_laws_recovery.proofs.ClosesAlong.{closed-run}
 use Rattle.dr_laws_recovery.proofs.HeadlineAlong.{headline-run}
+use Rattle.dr_laws_recovery.proofs.NoSession.{no-session-run}
 use Rattle.dr_laws_recovery.proofs.KeepsWrites.{keeps-run}
 use Rattle.dr_laws_recovery.proofs.TakenAt.{holds-run}
 use Rattle.dr_laws_recovery.proofs.GroupsFound.{found-run}
 use Rattle.dr_laws_recovery.proofs.RunsFormed.{formed-run}
+use Rattle.dr_laws_answers.proofs.Listing.{listed-run}
 use Rattle.dr_laws_progress.proofs.Causes.{recoveries-answer}
 use Rattle.dr_laws_progress.proofs.Twice.{recovers-twice}
+use Rattle.dr_laws_progress.proofs.PairRuns.{has-pair-ways}
+use Rattle.dr_laws_progress.proofs.HomeMembers.{member-goes-home}
+use Rattle.dr_laws_progress.proofs.Aborts.{aborts-answer}
+use Rattle.dr_laws_progress.proofs.GivenUp.{aborts-lead-on}
+use Rattle.dr_laws_progress.proofs.Exchanges.{exchanges-answer}
+use Rattle.dr_laws_progress.proofs.CanForm.{refused-by-attempt}
+use Rattle.dr_laws_progress.proofs.ToIdle.{leads-to-idle}
 use Rattle.dr_laws_orders.proofs.Arrivals.{below-refused}
 use Rattle.dr_laws_orders.proofs.StaysOld.{before-run}
 use Rattle.dr_laws_orders.proofs.Older.{leaves-run}
+use Rattle.dr_laws_orders.proofs.SettledLosses.{settled-run}
 use Rattle.dr_laws_commits.proofs.Commits.{commits-run}
 use Rattle.dr_laws_images.proofs.Imaged.{all-read-back, last-gives-back}
 use Rattle.dr_laws_return.proofs.Sites.{alike-on}
@@ -244,6 +254,8 @@ stands-here s0 s t h ev sound ready room stops steps leads lists images =
       settled = λ tasks goes before after is. before-run before;
       older = λ tasks goes before after is. leaves-run before;
       commits = λ tasks goes before after is. commits-run before;
+      gone = λ tasks goes. no-session-run tasks s.on fuse s.block (subst (λ (x : World). Fits x s.on fuse s.block) (sym goes) fits);
+      settled_losses = λ tasks goes. settled-run tasks;
       recovers = λ tasks goes. recoveries-answer tasks;
       recovers_twice = λ tasks goes. recovers-twice tasks;
       drains = λ tasks goes before after is. drains-or-stops before;
@@ -251,9 +263,17 @@ stands-here s0 s t h ev sound ready room stops steps leads lists images =
       repeats = λ tasks goes before after is. recoveries-repeat before;
       restores = λ tasks goes. calm-run tasks;
       places = λ tasks goes before after is. lone-run before;
+      pair_ways = λ tasks goes. has-pair-ways tasks;
+      home = λ tasks goes before after is. member-goes-home before;
+      aborts = λ tasks goes before after is. aborts-answer before;
+      gives_up = λ tasks goes before after is. aborts-lead-on before;
+      exchanges = λ tasks goes before after is. exchanges-answer before;
+      forms = λ tasks goes before after is. refused-by-attempt before;
+      to_idle = λ tasks goes before after is. leads-to-idle before;
       freezes = λ tasks goes. freezes-hold tasks;
       in_sync = λ tasks goes. in-sync-run tasks;
       shown = λ tasks goes. shown-here s t h ev sound is tasks goes;
+      listed = λ tasks goes. listed-run tasks s.on fuse s.block (subst (λ (x : World). Fits x s.on fuse s.block) (sym goes) fits);
       sites = alike-on w s.on fuse s.block is fits;
       secondaries = subst (λ (x : World). SecondariesLackNone x (record_on x s.block) (on_device x.control s.block)) leads
           (secondaries-on steps s.on fuse s.block (subst (λ (x : World). Fits x s.on fuse s.block) (sym leads) fits) (subst (λ (x : World). HoldsTracks x s.block) (sym leads) holds));

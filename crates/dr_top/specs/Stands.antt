@@ -24,13 +24,14 @@ use Rattle.dr_laws_freezes.specs.Secondaries.{SecondariesLackNone, NoneIsLacking
 use Rattle.dr_laws_flashes.specs.Windows.{EndsInFlashCut}
 use Rattle.dr_laws_recovery.specs.Seals.{SealsOn}
 use Rattle.dr_laws_recovery.specs.Decided.{DecidesOn, record_on}
-use Rattle.dr_laws_recovery.specs.Headline.{Headline}
+use Rattle.dr_laws_recovery.specs.Headline.{Headline, NoSessionNoGroup}
 use Rattle.dr_laws_recovery.specs.Formed.{FormedIsFound, GroupsAreFound}
 use Rattle.dr_laws_recovery.specs.Held.{HoldsAll}
 use Rattle.dr_laws_recovery.specs.Stored.{StoredAtCuts}
 use Rattle.dr_laws_recovery.specs.Recovered.{HoldsTracks}
 use Rattle.dr_laws_orders.specs.Arrivals.{FencesHold}
 use Rattle.dr_laws_orders.specs.OldOrders.{OldOrdersStayRefused}
+use Rattle.dr_laws_orders.specs.SettledLosses.{SettledLossesAreFenced}
 use Rattle.dr_laws_orders.specs.OlderNumbers.{OlderOrdersLeaveVolumes}
 use Rattle.dr_laws_commits.specs.Commits.{CommitsAreOfFlashed}
 use Rattle.dr_laws_images.specs.Imaged.{AllReadBack, LastGivesBack}
@@ -41,8 +42,15 @@ use Rattle.dr_laws_return.specs.Returned.{Returns}
 use Rattle.dr_laws_sites.specs.FirstSite.{FromFirstSite}
 use Rattle.dr_laws_sites.specs.CutMoments.{CutsAreMoments}
 use Rattle.dr_laws_sites.specs.BothLost.{BothSitesLost}
+use Rattle.dr_laws_answers.specs.Listing.{ListsDevices}
 use Rattle.dr_laws_progress.specs.Recoveries.{RecoveriesAnswer}
 use Rattle.dr_laws_progress.specs.RecoversTwice.{RecoversTwice}
+use Rattle.dr_laws_progress.specs.PairWays.{HasPairWays}
+use Rattle.dr_laws_progress.specs.Home.{MembersGoHome}
+use Rattle.dr_laws_progress.specs.Aborts.{AbortsAnswer}
+use Rattle.dr_laws_progress.specs.Exchanges.{ExchangesAnswer}
+use Rattle.dr_laws_progress.specs.CanForm.{RefusedByAttempt}
+use Rattle.dr_laws_progress.specs.ToIdle.{ExchangesLeadToIdle, AbortsLeadOn}
 use Rattle.dr_steps.specs.Faults.{told_stop}
 use Rattle.dr_top.specs.Moments.{AtEachMoment, RecoveriesRepeat}
 
@@ -59,15 +67,18 @@ pub record HasDevices (w : World) (s : PlantState) : Type 0 where
 -- secondaries contain the cut, and where a sound flash window does, the targets show theirs; each secondary that is sealed contains its
 -- own; the cuts of the group of each attempt are closed, and hold all that they should; and by what the devices say alone, it is possible
 -- to decide over each session. And the headline: of each session that is defined, the devices give back one cut of the host's acknowledged
--- writes, that of its newest group. Of the steps it says which may take a write away, that what is acknowledged is what was answered, that
+-- writes, that of its newest group; and of a number without a session they give back nothing. Of the steps it says which may take a write away, that what is acknowledged is what was answered, that
 -- what is formed is what recovery finds, that after a freeze no write lands until a step lets it, that a Full Duplex primary is in sync
 -- where its server runs, and that a refused step changes nothing but what is named. Of orders in flight it says at each moment of the steps that
 -- none below its server's fence is carried out, nor one from before a loss once the master has gone on, whatever comes later; that one of an older
--- attempt changes no view and no recording; and that a number is committed only where each member was flashed with it. Each recovery
+-- attempt changes no view and no recording; that a number is committed only where each member was flashed with it; and that a loss which is
+-- settled is fenced at each primary server until the master is Idle or Lost again. Each recovery
 -- of the steps is answered by its cause, and one right after it finds nothing to do. At each moment a drain of all tracks that begins there is
 -- answered by the state, and one right after it by the same state; a recovery that begins there may be stopped anywhere and run again; and no volume
--- has two places in sessions. Each track that a restore takes back comes to a volume at rest. What the last step showed is on the
--- devices, and a write that a secondary stored was acknowledged, or a server stopped. Where a pair is in place by the records on both devices, these
+-- has two places in sessions. At each moment the pair of each member stands in one of three ways, and the lines that lead it home from there are answered
+-- ok; an abort is answered by the state, and so is an exchange in each phase; if groups can be formed, nothing but the attempt refuses one; and reports,
+-- reverts and finishes lead to Idle, by as many as the state says. Each track that a restore takes back comes to a volume at rest. What the last step showed is on the
+-- devices, and so is what it listed, and a write that a secondary stored was acknowledged, or a server stopped. Where a pair is in place by the records on both devices, these
 -- contain the same on each track that isn't recorded. Where a Metro Mirror primary is Full Duplex by these records, whether or not any server
 -- runs, its secondary's device lacks no write of the primary, and has at most one more, which is pending; and so has each such secondary been
 -- at each moment of the steps. At each of these moments a Metro Mirror secondary, cascaded or not, shows what its primary does, on each track that
@@ -101,6 +112,8 @@ pub record Stands (steps : List Task) (world : World) (events : List Event) (s s
   pub settled : (tasks : List Task) → run tasks ≡ world → AtEachMoment OldOrdersStayRefused tasks
   pub older : (tasks : List Task) → run tasks ≡ world → AtEachMoment OlderOrdersLeaveVolumes tasks
   pub commits : (tasks : List Task) → run tasks ≡ world → AtEachMoment CommitsAreOfFlashed tasks
+  pub gone : (tasks : List Task) → run tasks ≡ world → NoSessionNoGroup tasks s'.block
+  pub settled_losses : (tasks : List Task) → run tasks ≡ world → SettledLossesAreFenced tasks
   pub recovers : (tasks : List Task) → run tasks ≡ world → RecoveriesAnswer tasks
   pub recovers_twice : (tasks : List Task) → run tasks ≡ world → RecoversTwice tasks
   pub drains : (tasks : List Task) → run tasks ≡ world → AtEachMoment DrainsOrStops tasks
@@ -108,9 +121,17 @@ pub record Stands (steps : List Task) (world : World) (events : List Event) (s s
   pub repeats : (tasks : List Task) → run tasks ≡ world → AtEachMoment RecoveriesRepeat tasks
   pub restores : (tasks : List Task) → run tasks ≡ world → CalmRestores tasks
   pub places : (tasks : List Task) → run tasks ≡ world → AtEachMoment (λ before. AreLone (run before).control.sessions) tasks
+  pub pair_ways : (tasks : List Task) → run tasks ≡ world → HasPairWays tasks
+  pub home : (tasks : List Task) → run tasks ≡ world → AtEachMoment MembersGoHome tasks
+  pub aborts : (tasks : List Task) → run tasks ≡ world → AtEachMoment AbortsAnswer tasks
+  pub gives_up : (tasks : List Task) → run tasks ≡ world → AtEachMoment AbortsLeadOn tasks
+  pub exchanges : (tasks : List Task) → run tasks ≡ world → AtEachMoment ExchangesAnswer tasks
+  pub forms : (tasks : List Task) → run tasks ≡ world → AtEachMoment RefusedByAttempt tasks
+  pub to_idle : (tasks : List Task) → run tasks ≡ world → AtEachMoment ExchangesLeadToIdle tasks
   pub freezes : (tasks : List Task) → run tasks ≡ world → FreezesHold tasks
   pub in_sync : (tasks : List Task) → run tasks ≡ world → DuplexInSync tasks
   pub shown : (tasks : List Task) → run tasks ≡ world → ShowsDevices tasks s'.block
+  pub listed : (tasks : List Task) → run tasks ≡ world → ListsDevices tasks s'.block
   pub sites : SitesAlike world s'.block
   pub secondaries : SecondariesLackNone world (record_on world s'.block) (on_device world.control s'.block)
   pub lack_none : (tasks : List Task) → run tasks ≡ world → NoneIsLacking tasks

@@ -10,9 +10,10 @@ use Rattle.dr_plant.proofs.WritesLemmas.{append-goes, append-stops}
 use Rattle.dr_config.specs.Table.{ConfigTable, StandsFor}
 use Rattle.dr_config.specs.declared.entries.VolumeEntry.{VolumeEntry}
 use Rattle.dr_model.specs.Layout as layout
-use Rattle.dr_model.specs.Layout.{chosen}
+use Rattle.dr_model.specs.Layout.{chosen, entry_taken}
+use Rattle.dr_model.specs.Lawful.{EntriesFollow}
 use Rattle.dr_model.specs.Control.{Volume}
-use Rattle.dr_model.specs.Moves.{moved_keeping, tracks_after}
+use Rattle.dr_model.specs.Moves.{moved_keeping, tracks_after, saved_after}
 use Rattle.dr_model.specs.Carry as machine
 use Rattle.dr_model.specs.Carry.{Ended}
 use Rattle.dr_volume.specs.declared.fields.Fields.{Fields}
@@ -20,11 +21,13 @@ use Rattle.dr_volume.specs.Plain.{plain, normal}
 use Rattle.dr_volume.specs.Record.{raw_of, record_block}
 use Rattle.dr_volume.specs.View.{Rest, world, volume_seen, device_of}
 use Rattle.dr_volume.specs.Volume.{LiesOn, Shows}
-use Rattle.dr_volume.specs.Update.{track_with, staging, track_writes, destage_writes, read_and_write, staged_seen, fields_seen, unstaged, destaged, IsAsBefore, IsMovedKeeping, IsDestaged, OthersStay, ServerStays, EndsAs, after_reading}
+use Rattle.dr_volume.specs.Update.{track_with, staging, side_for, track_writes, writes_keeping, destage_writes, read_and_write, staged_seen, fields_seen, unstaged, destaged, IsAsBefore, IsMovedKeeping, IsDestaged, OthersStay, ServerStays, EndsAs, after_reading}
 use Rattle.dr_volume.proofs.VolumeLaws.{device-placed, tracks-of, shows-normal}
 use Rattle.dr_volume.proofs.RecordLaws.{plain-normal}
 use Rattle.dr_volume.proofs.LawfulLaws.{lawful-normal}
-use Rattle.dr_volume.proofs.ReadingLaws.{fields-raw, staged_on}
+use Rattle.dr_volume.proofs.ReadingLaws.{fields-raw, staged_on, track_of, saving_on}
+use Rattle.dr_model.proofs.EntryLemmas.{follows-same}
+use Rattle.dr_volume.proofs.TakenLaws.{taken-same}
 use Rattle.dr_volume.proofs.RanLaws.{Ran, ran, ran-written, ran-stands, read-goes, read-stops}
 use Rattle.dr_volume.proofs.RewriteLaws.{Spared, record-low, record-behind}
 use Rattle.dr_volume.proofs.SeenLaws.{Lies, lies-of, seen, others-stay}
@@ -81,25 +84,32 @@ module _ (c : ConfigTable) (s u t : PlantState) (v d : ℕ) (e : VolumeEntry) (b
       within = tt;
       covers = λ k. covers-all (contains (layout.fields n (u.block d)).blank k) (contains f.blank k) (ap (λ (g : layout.Fields). contains g.blank k) fields-then);
       stands = λ no_one. redo-stands s u d n first;
+      follows = subst (λ (g : layout.Fields). EntriesFollow g.entries f.entries) (sym fields-then) (follows-same f.entries);
     };
   }
 
   stands-then : StandsFor c u
   stands-then = ran-stands c s u d false frame stands
 
+  saves-none : saving_on n (u.block d) f ≡ None
+  saves-none = ap (λ o. side_for n f.entries (track_of n (u.block d)) o) (ap (λ (g : layout.Fields). entry_taken g.entries f.entries) fields-then ∙ taken-same f.entries)
+
   run-then : Run u t d n false f None b
-  run-then = ap (after_writes u d) (sym (record-behind n s u d (staging None f) spared)) ∙ last
+  run-then =
+      ap (λ side. after_writes u d (writes_keeping false (not (slot_of u d)) side (staged_on n (u.block d)) f None)) saves-none
+      ∙ ap (after_writes u d) (sym (record-behind n s u d (staging None f) spared)) ∙ last
 
   pub changed-then : Changed c u t v false f None b
   changed-then = changed c u t v d e false f None b stands-then task-then run-then
 
 before-then : (c : ConfigTable) (s u t : PlantState) (v : ℕ) → IsAsBefore s u c v → IsAsBefore u t c v → IsAsBefore s t c v
-before-then c s u t v h k = record { volume = k.volume ∙ h.volume; tracks = k.tracks ∙ h.tracks }
+before-then c s u t v h k = record { volume = k.volume ∙ h.volume; tracks = k.tracks ∙ h.tracks; saved = k.saved ∙ h.saved }
 
 moved-then : (c : ConfigTable) (s u t : PlantState) (v : ℕ) (f : layout.Fields) → IsAsBefore s u c v → f ≡ (volume_seen s c v).fields → IsMovedKeeping false u t c v f None → IsMovedKeeping false s t c v (volume_seen s c v).fields None
 moved-then c s u t v f h is k = record {
   volume = k.volume ∙ (λ i. moved_keeping false (h.volume i) (is i) None);
   tracks = k.tracks ∙ (λ i. tracks_after (is i) None (h.tracks i));
+  saved = k.saved ∙ (λ i. saved_after (h.volume i).fields.entries (is i).entries (h.tracks i) (h.saved i));
 }
 
 unstaged-stopped : (o : Option ℕ) (v : ℕ) (e : Ended) → e.stopped ≡ true → unstaged o v e ≡ e

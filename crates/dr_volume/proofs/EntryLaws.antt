@@ -1,7 +1,7 @@
 -- The laws of entries: what they mean for a volume is lawful, and lawful entries mean themselves.
-use Rattle.std.proofs.Common.{ℕ, zero, suc, [], ◌∷◌, ◌≡◌, ◌≤◌, ◌<◌, Bool, true, false, not, ◌&&◌, List, take, length, get_or, sym, ◌∙◌, ap, refl, subst, arith, nat_lt, Option, None, Some, ◌⊎◌, inl, inr}
-use Rattle.std.specs.Prelude.{if◌then◌else◌, min, map}
-use Rattle.std.specs.List.{list_any, range_with_len, Any}
+use Rattle.std.proofs.Common.{ℕ, zero, suc, [], ◌∷◌, ◌≡◌, ◌<◌, Bool, true, false, not, ◌&&◌, take, length, get_or, sym, ◌∙◌, ap, refl, subst, arith, nat_lt, Option, None, Some, inl, inr}
+use Rattle.std.specs.Prelude.{if◌then◌else◌}
+use Rattle.std.specs.List.{list_any}
 use Rattle.std.proofs.lemmas.Bool.{cases_order, eq-eqb, ltb-true}
 use Rattle.std.proofs.lemmas.Bool.Decides.{Decides-eqb}
 use Rattle.std.proofs.lemmas.List.{get_or-take, get_or_past, length-take}
@@ -12,14 +12,14 @@ use Rattle.dr_model.specs.Layout.{Entries, entry_at, entry_kept, entries_of, is_
 use Rattle.dr_model.specs.Lawful.{HasEntries}
 
 -- an entry of a list names its track within it
-entry-within : (es : Entries) (k t : ℕ) → entry_at es k ≡ Some t → k < length es
+pub entry-within : (es : Entries) (k t : ℕ) → entry_at es k ≡ Some t → k < length es
 entry-within es k t is = elim (cases_order k (length es)) [
   | inl e ↦ absurd (let none = get_or_past es k None (omega (arith, e)) in cc)
   | inr o ↦ elim o [ inl low ↦ low | inr high ↦ absurd (let none = get_or_past es k None (omega (arith, high)) in cc) ]
 ]
 
 -- the default doesn't matter then
-get_or_default : (es : Entries) (j t : ℕ) → entry_at es j ≡ Some t → get_or es j (Some t) ≡ Some t
+pub get_or_default : (es : Entries) (j t : ℕ) → entry_at es j ≡ Some t → get_or es j (Some t) ≡ Some t
 get_or_default [] j t is = refl
 get_or_default (e ∷ es) zero t is = is
 get_or_default (e ∷ es) (suc j) t is = get_or_default es j t is

@@ -1,6 +1,6 @@
 -- How writes end by the write fuse of their server: all of them pass, or one is cut short.
 use Rattle.std.proofs.Common.{ℕ, ◌≡◌, ◌+◌, ◌-◌, ◌++◌, cond, ◌≤◌, ◌<◌, ◌/◌, ◌%◌, ◌^◌, ◌⊎◌, inl, inr, Bool, true, false, not, List, [], length, refl, sym, ◌∙◌, ap, subst, arith, nat_eq, nat_le, Option, None, Some}
-use Rattle.std.specs.Prelude.{if◌then◌else◌}
+use Rattle.std.specs.Prelude.{if◌then◌else◌, is_some}
 use Rattle.std.proofs.lemmas.Bool.{cases_order}
 use Rattle.std.proofs.lemmas.List.{length-append}
 use Rattle.std.proofs.lemmas.Bool.Decides.{Decides-eqb, nat_tests}
@@ -16,13 +16,13 @@ use Rattle.dr_plant.proofs.WritesLemmas.{append-goes, append-stops}
 use Rattle.dr_plant.proofs.WriteLists.{writes_pass, writes_torn_at}
 use Rattle.dr_record.proofs.PutLemmas.{put-cut_short}
 use Rattle.dr_model.specs.Layout as layout
-use Rattle.dr_model.specs.Layout.{Blocks, slot_chosen}
+use Rattle.dr_model.specs.Layout.{Blocks, Entries, slot_chosen, entry_taken}
 use Rattle.dr_model.specs.Moves.{Carried}
 use Rattle.dr_model.specs.Carry as machine
 use Rattle.dr_volume.specs.declared.fields.Fields.{Fields}
 use Rattle.dr_volume.specs.Record.{record_block, IsWhole}
 use Rattle.dr_volume.specs.View.{fuse_seen, torn_seen}
-use Rattle.dr_volume.specs.Update.{track_with, given_way, track_writes}
+use Rattle.dr_volume.specs.Update.{track_with, given_way, track_writes, side_for, saving, side_writes}
 use Rattle.dr_volume.proofs.VolumeLaws.{chosen_slot}
 use Rattle.dr_volume.proofs.ReadingLaws.{ReadsAs}
 use Rattle.dr_volume.proofs.RewriteLaws.{AreIdle, Spared, idle-spares, spared-as, spared-slot, Stays, Renewed, Follows, follows-renewed, reads-stayed, record_part, record-behind, record-ends}
@@ -68,15 +68,31 @@ writes-cut s t dev ws g b on fuse low h =
     }
 
 -- how many writes a move has
+length-side : (side : Option (ℕ × List ℕ)) → length (side_writes side) ≡ (if is_some side then 1 else 0)
+length-side None = refl
+length-side (Some x) = refl
+
+some-side : (n : ℕ) (next : Entries) (bytes : ℕ → List ℕ) (o : Option ℕ) → is_some (side_for n next bytes o) ≡ is_some o
+some-side n next bytes None = refl
+some-side n next bytes (Some k) = refl
+
 unless-way : (t : ℕ) (bytes : List ℕ) (same : Bool) → length (track_writes (cond same None (Some (t, bytes)))) + 6 ≡ (if not same then 7 else 6)
 unless-way t bytes true = refl
 unless-way t bytes false = refl
 
-pub length-way : (m : Carried) (o : Option ℕ) (bytes : List ℕ) → length (track_writes (given_way m (track_with o bytes))) + 6 ≡ (if machine.gives_way o m then 7 else 6)
+length-way : (m : Carried) (o : Option ℕ) (bytes : List ℕ) → length (track_writes (given_way m (track_with o bytes))) + 6 ≡ (if machine.gives_way o m then 7 else 6)
 length-way None None bytes = refl
 length-way None (Some t) bytes = refl
 length-way (Some x) None bytes = refl
 length-way (Some x) (Some t) bytes = unless-way t bytes (nat_eq t x.0)
+
+pub length-before : (n : ℕ) (old next : Entries) (bytes : ℕ → List ℕ) (m : Carried) (o : Option ℕ) (staged : List ℕ)
+    → length (side_writes (saving n old next bytes) ++ track_writes (given_way m (track_with o staged))) + 6 ≡ (if machine.gives_way o m then 7 else 6) + (if machine.saves old next then 1 else 0)
+length-before n old next bytes m o staged =
+    let all = length-append (side_writes (saving n old next bytes)) (track_writes (given_way m (track_with o staged))) in
+    let side = length-side (saving n old next bytes) ∙ ap (λ b. if b then 1 else 0) (some-side n next bytes (entry_taken old next)) in
+    let way = length-way m o staged in
+    omega (arith, all, side, way)
 
 pub length-part : (slot : Bool) (x : Fields) → length (record_writes 6 slot (record_block x)) ≡ 7
 unfolding block_writes

@@ -17,12 +17,15 @@
 -- - **No proof reads the writes block by block**: `ReadsAs` and `ReadsNext` say that slot, record and tracks are as
 --   before, or are the next. What comes before the record is any list of writes to blocks that the volume doesn't look at (`AreIdle` in
 --   `RewriteLaws.antt`): however they end, what is read stays (`idle-spares`). A fuse splits there: in them nothing is done
---   (`cut-in_idle`); behind them `put-cut_short` tells the slot (`cut-in_record`). A move that writes more blocks first owes that they are idle.
+--   (`cut-in_idle`); behind them `put-cut_short` tells the slot (`cut-in_record`). A move that writes more blocks first owes that they are idle
+--   (`before-idle`), and what they hold then (`reads-next`, `saved-next`).
 -- - **An array in a tuple by value** isn't covered by the borrow checker: match on `&carried`, and bind the array by
 --   `let`.
 -- - **A device of zeros** (`ZeroDevice.antt`): it shows no fields, nothing staged, slot 0 and tracks of zeros.
 pub mod Sets
+pub mod PackedLaws
 pub mod EntryLaws
+pub mod TakenLaws
 pub mod RecordLaws
 pub mod LawfulLaws
 pub mod VolumeLaws
@@ -39,4 +42,5 @@ pub mod UnreadLaws
 pub mod OpenedLaws
 pub mod HeadLaws
 pub mod TrackLaws
+pub mod SavingLaws
 pub mod SaysLaws

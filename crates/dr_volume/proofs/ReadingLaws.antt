@@ -1,24 +1,26 @@
 -- What is read of a volume depends on the gate's choice, the record in the chosen slot and the tracks' own blocks.
-use Rattle.std.proofs.Common.{ℕ, ◌≡◌, ◌≤◌, ◌<◌, ◌+◌, Bool, true, false, not, ◌||◌, List, sym, ◌∙◌, ap, refl, nat_lt, nat_eq, Option, None, Some, ◌⊎◌, inl, inr, arith, ◌&&◌}
-use Rattle.std.specs.Prelude.{if◌then◌else◌, IfSome}
+use Rattle.std.proofs.Common.{ℕ, ◌≡◌, ◌≤◌, ◌<◌, Bool, true, false, not, ◌||◌, List, sym, ◌∙◌, ap, refl, nat_lt, nat_eq, Option, None, Some, ◌⊎◌, inl, inr, arith, ◌&&◌}
+use Rattle.std.specs.Prelude.{if◌then◌else◌, IfSome, is_some, unwrap_or}
 use Rattle.std.specs.FinSet.{contains}
 use Rattle.std.proofs.lemmas.Bool.Decides.{Decides-eqb, nat_tests}
 use Rattle.std.proofs.lemmas.Bool.{cases_order}
 use Rattle.dr_logic.specs.Bytes.{zeros}
-use Rattle.dr_ids.specs.Sizes.{track_block}
+use Rattle.dr_ids.specs.Sizes.{track_block, side_block}
 use Rattle.dr_ids.specs.BigEndian.{be16_at}
 use Rattle.dr_bits.specs.Membership.{lt_true, lt_false}
 use Rattle.dr_config.specs.declared.entries.VolumeEntry.{VolumeEntry}
 use Rattle.dr_model.specs.Layout as layout
-use Rattle.dr_model.specs.Layout.{Blocks, chosen, slot_chosen, is_staged, fields_of, staged_of, physical, only_if}
+use Rattle.dr_model.specs.Layout.{Blocks, chosen, slot_chosen, is_staged, fields_of, staged_of, physical, only_if, entry_at, entry_of, entry_taken}
 use Rattle.dr_model.specs.Control.{Volume}
-use Rattle.dr_model.specs.Moves.{Carried, is_carried, carried_bytes, staged_after, moved_keeping, tracks_after}
+use Rattle.dr_model.specs.Moves.{Carried, is_carried, carried_bytes, staged_after, moved_keeping, tracks_after, saved_after, saved_by}
 use Rattle.dr_volume.specs.declared.fields.Fields.{Fields}
-use Rattle.dr_model.specs.Lawful.{IsLawful}
+use Rattle.dr_model.specs.Lawful.{IsLawful, HasEntries, EntriesFollow}
 use Rattle.dr_volume.specs.Plain.{plain, normal, IsNormal}
 use Rattle.dr_volume.specs.Record.{raw_of}
-use Rattle.dr_volume.specs.View.{volume_on, track_on}
-use Rattle.dr_volume.specs.Update.{track_with, staging, kept_filled, staged_next, given_way, next_record, Covers}
+use Rattle.dr_volume.specs.View.{volume_on, track_on, saved_on, side_in}
+use Rattle.dr_volume.specs.Update.{track_with, staging, saving, side_for, kept_filled, staged_next, given_way, next_record, Covers}
+use Rattle.dr_volume.proofs.EntryLaws.{has-entries_of}
+use Rattle.dr_volume.proofs.TakenLaws.{entry_of-names, entry_of-is, taken-is}
 use Rattle.dr_volume.proofs.LawfulLaws.{normal-staging}
 use Rattle.dr_volume.proofs.RecordLaws.{plain-normal, staged-normal}
 
@@ -40,19 +42,35 @@ hides n b t = is_staged (layout.staged n b) t || contains (layout.fields n b).bl
 abbrev pub staged_on : ℕ → Blocks → Carried
 staged_on n b = track_with (layout.staged n b) (chosen b 5)
 
--- The blocks c read as b do: the same choice, the same record, and the own block of each track that is read there.
+-- the entries of a device
+abbrev pub entries_on : ℕ → Blocks → layout.Entries
+entries_on n b = (layout.fields n b).entries
+
+-- a track of a device that the volume has
+abbrev pub track_of : ℕ → Blocks → ℕ → List ℕ
+track_of n b t = if nat_lt t n then physical n b t else zeros
+
+-- what a move of a device saves that is given these fields
+abbrev pub saving_on : ℕ → Blocks → Fields → Option (ℕ × List ℕ)
+saving_on n b f = saving n (entries_on n b) f.entries (track_of n b)
+
+-- The blocks c read as b do: the same choice, the same record, the own block of each track that is read there, and the side block of each
+-- entry that is used.
 pub record ReadsAs (n : ℕ) (b c : Blocks) : Type 0 where
   pub slot : slot_chosen c ≡ slot_chosen b
   pub record_same : raw_of (chosen c) ≡ raw_of (chosen b)
   pub own : (t : ℕ) → t < n → hides n b t ≡ false → c (track_block t) ≡ b (track_block t)
+  pub side : (k t : ℕ) → entry_at (entries_on n b) k ≡ Some t → c (side_block n k) ≡ b (side_block n k)
 
 -- The blocks c read as b did with these fields in the other slot, which stage what they do then; the track that gives way stands in
--- its own block.
+-- its own block, and what is saved in the side block of the entry that is taken into use.
 pub record ReadsNext (n : ℕ) (b c : Blocks) (keeps : Bool) (f : Fields) (m : Carried) : Type 0 where
   pub slot : slot_chosen c ≡ not (slot_chosen b)
   pub record_next : raw_of (chosen c) ≡ next_record keeps (staged_on n b) f m
-  pub own : (t : ℕ) → is_carried (given_way m (staged_on n b)) t ≡ false → c (track_block t) ≡ b (track_block t)
+  pub own : (t : ℕ) → t < n → is_carried (given_way m (staged_on n b)) t ≡ false → c (track_block t) ≡ b (track_block t)
   pub way : (t : ℕ) → is_carried (given_way m (staged_on n b)) t ≡ true → c (track_block t) ≡ chosen b 5
+  pub side : (k t : ℕ) → entry_at (entries_on n b) k ≡ Some t → c (side_block n k) ≡ b (side_block n k)
+  pub saved : (q : ℕ × List ℕ) → saving_on n b f ≡ Some q → c q.0 ≡ q.1
 
 -- the staged track stands in its own block too
 abbrev pub StandsOwn : ℕ → Blocks → Type 0
@@ -100,6 +118,15 @@ track-same b c e k few h = elim (below_or_not k e.tracks) [
       let past = lt_false k e.tracks high in
       ap (λ p. if p then physical e.tracks c k else zeros) past ∙ sym (ap (λ p. if p then physical e.tracks b k else zeros) past)
 ]
+
+-- and so does what is saved
+pub saved-same : (b c : Blocks) (e : VolumeEntry) (t : ℕ) → e.tracks ≤ 256 → ReadsAs e.tracks b c → saved_on c (Some e) t ≡ saved_on b (Some e) t
+saved-same b c e t few h =
+    ap (λ (f : layout.Fields). side_in c e.tracks (entry_of f.entries t)) (fields-raw e.tracks (chosen c) (chosen b) few h.record_same)
+    ∙ elim (entry_of (entries_on e.tracks b) t) as (λ o. entry_of (entries_on e.tracks b) t ≡ o → side_in c e.tracks o ≡ side_in b e.tracks o) [
+      | None ↦ λ none. refl
+      | Some k ↦ λ is. h.side k t (entry_of-names (entries_on e.tracks b) t k is)
+    ] refl
 
 pub plain-staging : (m : Carried) (f : Fields) → plain (staging m f) ≡ plain f
 plain-staging None f = refl
@@ -156,6 +183,7 @@ pub record Fitting (n : ℕ) (b : Blocks) (keeps : Bool) (f : Fields) (m : Carri
   pub lawful : IsLawful n (plain f)
   pub within : IfSome m (λ t. t.0 < n)
   pub covers : Covers (layout.fields n b).blank f.blank m
+  pub follows : EntriesFollow (entries_on n b) f.entries
   pub stands : keeps ≡ false → StandsOwn n b
 
 -- the record that is written is its own normal form
@@ -172,7 +200,7 @@ module _ (n : ℕ) (b c : Blocks) (keeps : Bool) (f : Fields) (m : Carried) (fit
   is_normal : IsNormal n (next_record keeps (staged_on n b) f m)
   is_normal = next-normal n b keeps f m fit.few fit.lawful fit.within
 
-  fields-next : layout.fields n c ≡ plain f
+  pub fields-next : layout.fields n c ≡ plain f
   fields-next =
       sym (plain-normal n (chosen c) fit.few)
       ∙ ap (λ g. plain (normal n g)) h.record_next
@@ -261,36 +289,36 @@ staged-physical : (n : ℕ) (b : Blocks) (k : ℕ) → is_staged (layout.staged 
 staged-physical n b k is = physical_is n b k ∙ ap (λ p. if p then chosen b 5 else if contains (layout.fields n b).blank k then zeros else b (track_block k)) is
 
 -- a track that is neither carried nor blank then, and isn't kept staged, reads as its own block
-own-carried : (n : ℕ) (b c : Blocks) (keeps : Bool) (f : Fields) (x : ℕ × List ℕ) (k : ℕ) → Fitting n b keeps f (Some x) → ReadsNext n b c keeps f (Some x) → nat_eq k x.0 ≡ false → contains f.blank k ≡ false → c (track_block k) ≡ physical n b k
-own-carried n b c keeps f x k fit h free filled =
+own-carried : (n : ℕ) (b c : Blocks) (keeps : Bool) (f : Fields) (x : ℕ × List ℕ) (k : ℕ) → Fitting n b keeps f (Some x) → ReadsNext n b c keeps f (Some x) → k < n → nat_eq k x.0 ≡ false → contains f.blank k ≡ false → c (track_block k) ≡ physical n b k
+own-carried n b c keeps f x k fit h low free filled =
     let was_filled = not_covered (contains (layout.fields n b).blank k) (contains f.blank k) (nat_eq k x.0) (fit.covers k) filled free in
     elim (is_staged (layout.staged n b) k) as (λ p. is_staged (layout.staged n b) k ≡ p → c (track_block k) ≡ physical n b k) [
       | true ↦ λ is. h.way k (way-taken x (layout.staged n b) (chosen b 5) k free is) ∙ sym (staged-physical n b k is)
-      | false ↦ λ is. h.own k (way-not (Some x) (layout.staged n b) (chosen b 5) k is) ∙ sym (filled-physical n b k false was_filled is)
+      | false ↦ λ is. h.own k low (way-not (Some x) (layout.staged n b) (chosen b 5) k is) ∙ sym (filled-physical n b k false was_filled is)
     ] refl
 
-own-kept : (n : ℕ) (b c : Blocks) (keeps : Bool) (f : Fields) (k : ℕ) → Fitting n b keeps f None → ReadsNext n b c keeps f None → (is_staged (layout.staged n b) k ≡ true → b (track_block k) ≡ chosen b 5) → contains f.blank k ≡ false → c (track_block k) ≡ physical n b k
-own-kept n b c keeps f k fit h stands filled =
+own-kept : (n : ℕ) (b c : Blocks) (keeps : Bool) (f : Fields) (k : ℕ) → Fitting n b keeps f None → ReadsNext n b c keeps f None → k < n → (is_staged (layout.staged n b) k ≡ true → b (track_block k) ≡ chosen b 5) → contains f.blank k ≡ false → c (track_block k) ≡ physical n b k
+own-kept n b c keeps f k fit h low stands filled =
     let was_filled = not_covered (contains (layout.fields n b).blank k) (contains f.blank k) false (fit.covers k) filled refl in
-    h.own k refl
+    h.own k low refl
     ∙ elim (is_staged (layout.staged n b) k) as (λ p. is_staged (layout.staged n b) k ≡ p → b (track_block k) ≡ physical n b k) [
       | true ↦ λ is. stands is ∙ sym (staged-physical n b k is)
       | false ↦ λ is. sym (filled-physical n b k false was_filled is)
     ] refl
 
-physical-next : (n : ℕ) (b c : Blocks) (keeps : Bool) (f : Fields) (m : Carried) (k : ℕ) → Fitting n b keeps f m → ReadsNext n b c keeps f m → physical n c k ≡ tracks_after (plain f) m (physical n b) k
-physical-next n b c keeps f (Some x) k fit h =
+physical-next : (n : ℕ) (b c : Blocks) (keeps : Bool) (f : Fields) (m : Carried) (k : ℕ) → Fitting n b keeps f m → ReadsNext n b c keeps f m → k < n → physical n c k ≡ tracks_after (plain f) m (physical n b) k
+physical-next n b c keeps f (Some x) k fit h low =
     physical-record n b c keeps f (Some x) fit h k
-    ∙ last_branch (nat_eq k x.0) (contains f.blank k) x.1 zeros (c (track_block k)) (physical n b k) (λ free filled. own-carried n b c keeps f x k fit h free filled)
-physical-next n b c false f None k fit h =
+    ∙ last_branch (nat_eq k x.0) (contains f.blank k) x.1 zeros (c (track_block k)) (physical n b k) (λ free filled. own-carried n b c keeps f x k fit h low free filled)
+physical-next n b c false f None k fit h low =
     physical-record n b c false f None fit h k
-    ∙ last_branch false (contains f.blank k) zeros zeros (c (track_block k)) (physical n b k) (λ free filled. own-kept n b c false f k fit h (fit.stands refl k) filled)
-physical-next n b c true f None k fit h =
+    ∙ last_branch false (contains f.blank k) zeros zeros (c (track_block k)) (physical n b k) (λ free filled. own-kept n b c false f k fit h low (fit.stands refl k) filled)
+physical-next n b c true f None k fit h low =
     let o = layout.staged n b in
     physical-record n b c true f None fit h k
     ∙ kept_branch (is_carried (kept_filled f.blank (staged_on n b)) k) (contains f.blank k) (carried_bytes (kept_filled f.blank (staged_on n b))) zeros (c (track_block k)) (physical n b k)
     (λ is. let kept = kept-there f.blank o (chosen b 5) k is in (kept.0, kept.2 ∙ sym (staged-physical n b k kept.1)))
-    (λ gone filled. own-kept n b c true f k fit h (λ is. absurd (let never : true ≡ false = sym is ∙ kept-gone f.blank o (chosen b 5) k gone filled in cc)) filled)
+    (λ gone filled. own-kept n b c true f k fit h low (λ is. absurd (let never : true ≡ false = sym is ∙ kept-gone f.blank o (chosen b 5) k gone filled in cc)) filled)
 
 -- no track past the end is carried
 not_past : (n : ℕ) (m : Carried) (k : ℕ) → IfSome m (λ t. t.0 < n) → n ≤ k → is_carried m k ≡ false
@@ -307,7 +335,7 @@ track-next b c e keeps f m k fit h =
       | inl low ↦
           let is : nat_lt k e.tracks ≡ true = lt_true k e.tracks low in
           ap (λ p. if p then physical e.tracks c k else zeros) is
-          ∙ physical-next e.tracks b c keeps f m k fit h
+          ∙ physical-next e.tracks b c keeps f m k fit h low
           ∙ ap (λ p. if is_carried m k then carried_bytes m else if contains f.blank k then zeros else if p then physical e.tracks b k else zeros) (sym is)
       | inr high ↦
           let is : nat_lt k e.tracks ≡ false = lt_false k e.tracks high in
@@ -316,3 +344,35 @@ track-next b c e keeps f m k fit h =
           ∙ sym ((λ i. if free i then carried_bytes m else if contains f.blank k then zeros else if is i then physical e.tracks b k else zeros)
           ∙ zeros_either (contains f.blank k))
     ]
+
+-- the entries of a device are lawful
+pub entries-lawful : (n : ℕ) (b : Blocks) → HasEntries n (entries_on n b)
+unfolding layout.fields_of
+entries-lawful n b = has-entries_of n _
+
+-- the track of an entry that is taken into use
+track-taken : (n : ℕ) (b : Blocks) (f : Fields) (k t : ℕ) → entry_at f.entries k ≡ Some t → entry_taken (entries_on n b) f.entries ≡ Some k → saving_on n b f ≡ Some (side_block n k, track_of n b t)
+track-taken n b f k t names is =
+    ap (λ o. side_for n f.entries (track_of n b) o) is ∙ ap (λ (o : Option ℕ). Some (side_block n k, track_of n b (unwrap_or o 0))) names
+
+-- what the side block of a track's entry has after a move: what it had, if that was used, else the track as it was
+saved-entry : (n : ℕ) (b c : Blocks) (keeps : Bool) (f : Fields) (m : Carried) (k t : ℕ) → Fitting n b keeps f m → ReadsNext n b c keeps f m → entry_at f.entries k ≡ Some t
+    → c (side_block n k) ≡ (if is_some (entry_at (entries_on n b) k) then side_in b n (entry_of (entries_on n b) t) else track_of n b t)
+saved-entry n b c keeps f m k t fit h names = elim (entry_at (entries_on n b) k) as (λ o. entry_at (entries_on n b) k ≡ o → c (side_block n k) ≡ (if is_some o then side_in b n (entry_of (entries_on n b) t) else track_of n b t)) [
+  | None ↦ λ free.
+      let taken = taken-is (entries_on n b) f.entries ((entries-lawful n b).eight ∙ sym fit.lawful.entries.eight) fit.follows k t free names in
+      h.saved (side_block n k, track_of n b t) (track-taken n b f k t names taken)
+  | Some q ↦ λ used.
+      let same : t ≡ q = fit.follows.same k q t used names in
+      let named : entry_at (entries_on n b) k ≡ Some t = used ∙ ap (λ x. Some x) (sym same) in
+      h.side k q used ∙ sym (ap (λ o. side_in b n o) (entry_of-is n (entries_on n b) (entries-lawful n b) k t named))
+] refl
+
+pub saved-next : (b c : Blocks) (e : VolumeEntry) (keeps : Bool) (f : Fields) (m : Carried) (t : ℕ) → Fitting e.tracks b keeps f m → ReadsNext e.tracks b c keeps f m
+    → saved_on c (Some e) t ≡ saved_after (entries_on e.tracks b) f.entries (track_on b (Some e)) (saved_on b (Some e)) t
+saved-next b c e keeps f m t fit h =
+    ap (λ (g : layout.Fields). side_in c e.tracks (entry_of g.entries t)) (fields-next e.tracks b c keeps f m fit h)
+    ∙ elim (entry_of f.entries t) as (λ o. entry_of f.entries t ≡ o → side_in c e.tracks o ≡ saved_by o (entries_on e.tracks b) (track_on b (Some e)) (saved_on b (Some e)) t) [
+      | None ↦ λ none. refl
+      | Some k ↦ λ is. saved-entry e.tracks b c keeps f m k t fit h (entry_of-names f.entries t k is)
+    ] refl

@@ -1,5 +1,5 @@
 -- Writing a staged track to its own place, as the machine sees it.
-use Rattle.std.proofs.Common.{ℕ, ◌≡◌, ◌≢◌, ◌≤◌, ◌<◌, ◌+◌, ◌++◌, Bool, true, false, not, arith, List, length, refl, sym, ◌∙◌, ap, subst, cond, inl, inr, Option, None, Some}
+use Rattle.std.proofs.Common.{ℕ, ◌≡◌, ◌≢◌, ◌≤◌, ◌<◌, ◌++◌, Bool, true, false, not, arith, List, length, refl, sym, ◌∙◌, ap, subst, cond, inl, inr, Option, None, Some}
 use Rattle.std.specs.Prelude.{is_some, IfSome, if◌then◌else◌}
 use Rattle.std.proofs.lemmas.Bool.{cases_eq}
 use Rattle.dr_logic.specs.Bytes.{zeros}
@@ -21,7 +21,7 @@ use Rattle.dr_volume.specs.declared.fields.Fields.{Fields}
 use Rattle.dr_volume.specs.Record.{record_block}
 use Rattle.dr_volume.specs.View.{Rest, world, volume_seen, device_of, fuse_seen}
 use Rattle.dr_volume.specs.Volume.{LiesOn, Shows}
-use Rattle.dr_volume.specs.Update.{track_with, stages, staging, staged_next, given_way, track_writes, update_writes, read_and_write, staged_seen, IsAsBefore, OthersStay, ServerStays, EndsAs, after_reading}
+use Rattle.dr_volume.specs.Update.{track_with, stages, staging, staged_next, given_way, track_writes, update_writes, read_and_write, staged_seen, IsAsBefore, OthersStay, ServerStays, EndsAs, after_reading, side_writes}
 use Rattle.dr_volume.proofs.VolumeLaws.{device-placed, device-stands, tracks-of}
 use Rattle.dr_volume.proofs.ReadingLaws.{staged-raw, bytes-raw, staged_on, staged-low, StandsOwn}
 use Rattle.dr_volume.proofs.RanLaws.{ran, ran-stands, read-goes, read-stops}
@@ -201,11 +201,12 @@ blank-staging : (o : Carried) (f : Fields) → (staging o f).blank ≡ f.blank
 blank-staging None f = refl
 blank-staging (Some c) f = refl
 
-pub restaged : (slot : Bool) (o m : Carried) (f : Fields) → update_writes slot (stages (staging o f)) (staging o f) m ≡ update_writes slot o f m
-restaged slot o m f =
-    ap (λ x. update_writes slot x (staging o f) m) (staging-stages o f)
-    ∙ ap (λ b. track_writes (given_way m o) ++ record_writes 6 slot (record_block (staging (staged_next true b m o) (staging o f)))) (blank-staging o f)
-    ∙ ap (λ g. track_writes (given_way m o) ++ record_writes 6 slot (record_block g)) (restaging (staged_next true f.blank m o) o f)
+pub restaged : (slot : Bool) (side : Option (ℕ × List ℕ)) (o m : Carried) (f : Fields) → update_writes slot side (stages (staging o f)) (staging o f) m ≡ update_writes slot side o f m
+restaged slot side o m f =
+    let ws = side_writes side ++ track_writes (given_way m o) in
+    ap (λ x. update_writes slot side x (staging o f) m) (staging-stages o f)
+    ∙ ap (λ b. ws ++ record_writes 6 slot (record_block (staging (staged_next true b m o) (staging o f)))) (blank-staging o f)
+    ∙ ap (λ g. ws ++ record_writes 6 slot (record_block g)) (restaging (staged_next true f.blank m o) o f)
 
 -- the work again where it could
 pub redone-read : (c : ConfigTable) (s t : PlantState) (v d n : ℕ) (f : Fields) (b : Bool) → LiesOn c v d n → StandsFor c s → can_read s d ≡ true → Shows s c v f → after_writes s d (track_writes (track_with f.staged f.staged_bytes)) ≡ (t, b) → Redone c s t v b

@@ -21,20 +21,20 @@ use Rattle.dr_model.specs.Carry as machine
 use Rattle.dr_model.specs.Carry.{Ended, ended}
 use Rattle.dr_model.specs.ReadStops.{shut}
 use Rattle.dr_volume.specs.declared.fields.Fields.{Fields}
-use Rattle.dr_model.specs.Lawful.{IsLawful}
+use Rattle.dr_model.specs.Lawful.{IsLawful, EntriesFollow}
 use Rattle.dr_volume.specs.Plain.{plain}
 use Rattle.dr_volume.specs.Record.{IsWhole}
 use Rattle.dr_volume.specs.View.{Rest, world, volume_seen, device_of, fuse_seen, torn_seen}
 use Rattle.dr_volume.specs.Volume.{LiesOn}
-use Rattle.dr_volume.specs.Update.{track_with, track_writes, given_way, next_record, writes_keeping, staged_seen, Covers, IsAsBefore, IsMovedKeeping, OthersStay, EndsAs, ServerStays, after_reading}
+use Rattle.dr_volume.specs.Update.{track_with, next_record, saving, writes_keeping, saving_seen, staged_seen, Covers, IsAsBefore, IsMovedKeeping, OthersStay, EndsAs, ServerStays, after_reading}
 use Rattle.dr_volume.proofs.VolumeLaws.{device-placed, chosen_slot}
 use Rattle.dr_volume.proofs.RecordLaws.{whole-of_normal}
-use Rattle.dr_volume.proofs.ReadingLaws.{ReadsNext, Fitting, staged_on, next-normal}
+use Rattle.dr_volume.proofs.ReadingLaws.{ReadsNext, Fitting, staged_on, entries_on, track_of, saving_on, next-normal}
 use Rattle.dr_volume.proofs.RanLaws.{ran-written, ran-stands}
-use Rattle.dr_volume.proofs.RewriteLaws.{AreIdle, way-idle, Outcome, writes-end, reads-next, stays-as, stays-same}
-use Rattle.dr_volume.proofs.FuseLaws.{Passed, Cut, CutEnds, writes-passed, below_number, writes-cut, length-way, length-behind, move-cut}
+use Rattle.dr_volume.proofs.RewriteLaws.{AreIdle, writes_before, before-idle, Outcome, writes-end, reads-next, stays-as, stays-same}
+use Rattle.dr_volume.proofs.FuseLaws.{Passed, Cut, CutEnds, writes-passed, below_number, writes-cut, length-before, length-behind, move-cut}
 use Rattle.dr_volume.proofs.WorldLaws.{shown, world-still, world-spent, world-off, on-at, fuses-same, shown-before, shown-moved, fuse-seen, on-seen, update-off, update-passed, update-cut_short}
-use Rattle.dr_volume.proofs.SeenLaws.{Lies, lies-of, seen, is-before, is-moved, others-stay}
+use Rattle.dr_volume.proofs.SeenLaws.{Lies, lies-of, seen, track-seen, is-before, is-moved, others-stay}
 use Rattle.dr_logic.proofs.Tables.{at_same, at_other}
 
 -- What is asked of a move, as it lies on the device.
@@ -42,8 +42,8 @@ pub record Task (c : ConfigTable) (s : PlantState) (v d : ℕ) (e : VolumeEntry)
   pub lies : Lies c s v d e
   pub fits : Fitting e.tracks (s.block d) keeps f m
 
-pub task : (c : ConfigTable) (s : PlantState) (v d n : ℕ) (f : Fields) (m : Carried) → LiesOn c v d n → StandsFor c s → IsLawful (volume_seen s c v).tracks (plain f) → IfSome m (λ t. t.0 < (volume_seen s c v).tracks) → Covers (volume_seen s c v).fields.blank f.blank m → (e : VolumeEntry) × Task c s v d e true f m
-task c s v d n f m on stands lawful within covers =
+pub task : (c : ConfigTable) (s : PlantState) (v d n : ℕ) (f : Fields) (m : Carried) → LiesOn c v d n → StandsFor c s → IsLawful (volume_seen s c v).tracks (plain f) → IfSome m (λ t. t.0 < (volume_seen s c v).tracks) → Covers (volume_seen s c v).fields.blank f.blank m → EntriesFollow (volume_seen s c v).fields.entries f.entries → (e : VolumeEntry) × Task c s v d e true f m
+task c s v d n f m on stands lawful within covers follows =
     let x = lies-of c s v d n on stands in
     let is = seen c s v d x.0 x.1 s in (
       x.0,
@@ -54,14 +54,15 @@ task c s v d n f m on stands lawful within covers =
           lawful = subst (λ (w : Volume). IsLawful w.tracks (plain f)) is lawful;
           within = subst (λ (w : Volume). IfSome m (λ t. t.0 < w.tracks)) is within;
           covers = subst (λ (w : Volume). Covers w.fields.blank f.blank m) is covers;
+          follows = subst (λ (w : Volume). EntriesFollow w.fields.entries f.entries) is follows;
           stands = λ no_one. absurd (cc);
         };
       },
     )
 
--- the track that gives way is written, then this record
-abbrev before : PlantState → ℕ → ℕ → Carried → List BlockWrite
-before s d n m = track_writes (given_way m (staged_on n (s.block d)))
+-- what is saved is written, and the track that gives way, then this record
+abbrev before : PlantState → ℕ → ℕ → Fields → Carried → List BlockWrite
+before s d n f m = writes_before n (s.block d) f m
 
 abbrev pub record_of : PlantState → ℕ → ℕ → Bool → Fields → Carried → Fields
 record_of s d n keeps f m = next_record keeps (staged_on n (s.block d)) f m
@@ -73,26 +74,30 @@ whole c s v d e keeps f m k =
 
 -- the move was carried out
 abbrev pub Run : PlantState → PlantState → ℕ → ℕ → Bool → Fields → Carried → Bool → Type 0
-Run s t d n keeps f m b = after_writes s d (writes_keeping keeps (not (slot_of s d)) (staged_on n (s.block d)) f m) ≡ (t, b)
+Run s t d n keeps f m b = after_writes s d (writes_keeping keeps (not (slot_of s d)) (saving_on n (s.block d) f) (staged_on n (s.block d)) f m) ≡ (t, b)
 
-idle-before : (s : PlantState) (d n : ℕ) (m : Carried) → AreIdle n (s.block d) (before s d n m)
-idle-before s d n m = way-idle n (s.block d) m (layout.staged n (s.block d)) (chosen (s.block d) 5) refl
+idle-before : (s : PlantState) (d n : ℕ) (f : Fields) (m : Carried) → AreIdle n (s.block d) (before s d n f m)
+idle-before s d n f m = before-idle n (s.block d) f m
 
-outcome : (c : ConfigTable) (s t : PlantState) (v d : ℕ) (e : VolumeEntry) (keeps : Bool) (f : Fields) (m : Carried) (b : Bool) → Task c s v d e keeps f m → Run s t d e.tracks keeps f m b → Outcome e.tracks s t d (before s d e.tracks m) (record_of s d e.tracks keeps f m) b
+outcome : (c : ConfigTable) (s t : PlantState) (v d : ℕ) (e : VolumeEntry) (keeps : Bool) (f : Fields) (m : Carried) (b : Bool) → Task c s v d e keeps f m → Run s t d e.tracks keeps f m b → Outcome e.tracks s t d (before s d e.tracks f m) (record_of s d e.tracks keeps f m) b
 outcome c s t v d e keeps f m b k run =
-    writes-end e.tracks s t d (before s d e.tracks m) (record_of s d e.tracks keeps f m) b (whole c s v d e keeps f m k) (idle-before s d e.tracks m) run
+    writes-end e.tracks s t d (before s d e.tracks f m) (record_of s d e.tracks keeps f m) b (whole c s v d e keeps f m k) (idle-before s d e.tracks f m) run
+
+-- what the move saves, on the device
+pub saving-lies : (c : ConfigTable) (s : PlantState) (v d : ℕ) (e : VolumeEntry) → Lies c s v d e → (f : Fields) → saving_seen s c v f.entries ≡ saving_on e.tracks (s.block d) f
+saving-lies c s v d e lies f i = saving (seen c s v d e lies s i).tracks (seen c s v d e lies s i).fields.entries f.entries (λ q. track-seen c s v d e lies s q i)
 
 -- what is done is the next record
 pub done-next : (c : ConfigTable) (s t : PlantState) (v d : ℕ) (e : VolumeEntry) (keeps : Bool) (f : Fields) (m : Carried) → Task c s v d e keeps f m → Run s t d e.tracks keeps f m false → ReadsNext e.tracks (s.block d) (t.block d) keeps f m
 done-next c s t v d e keeps f m k run = reads-next e.tracks s t d keeps f m ((outcome c s t v d e keeps f m false k run).done refl)
 
 -- how many writes it has
-gate-is : (c : ConfigTable) (s : PlantState) (v d : ℕ) (e : VolumeEntry) (f : Fields) (m : Carried) → Lies c s v d e → length (before s d e.tracks m) + 6 ≡ machine.gate_at (volume_seen s c v) (plain f) m
+gate-is : (c : ConfigTable) (s : PlantState) (v d : ℕ) (e : VolumeEntry) (f : Fields) (m : Carried) → Lies c s v d e → length (before s d e.tracks f m) + 6 ≡ machine.gate_at (volume_seen s c v) (plain f) m
 gate-is c s v d e f m lies =
-    length-way m (layout.staged e.tracks (s.block d)) (chosen (s.block d) 5) ∙ ap (λ (w : Volume). machine.gate_at w (plain f) m) (sym (seen c s v d e lies s))
+    length-before e.tracks (entries_on e.tracks (s.block d)) f.entries (track_of e.tracks (s.block d)) m (layout.staged e.tracks (s.block d)) (chosen (s.block d) 5) ∙ ap (λ (w : Volume). machine.gate_at w (plain f) m) (sym (seen c s v d e lies s))
 
-many : (c : ConfigTable) (s : PlantState) (v d : ℕ) (e : VolumeEntry) (keeps : Bool) (f : Fields) (m : Carried) → Lies c s v d e → length (writes_keeping keeps (not (slot_of s d)) (staged_on e.tracks (s.block d)) f m) ≡ machine.writes (volume_seen s c v) (plain f) m
-many c s v d e keeps f m lies = length-behind (before s d e.tracks m) (not (slot_of s d)) (record_of s d e.tracks keeps f m) ∙ ap (λ k. k + 1) (gate-is c s v d e f m lies)
+many : (c : ConfigTable) (s : PlantState) (v d : ℕ) (e : VolumeEntry) (keeps : Bool) (f : Fields) (m : Carried) → Lies c s v d e → length (writes_keeping keeps (not (slot_of s d)) (saving_on e.tracks (s.block d) f) (staged_on e.tracks (s.block d)) f m) ≡ machine.writes (volume_seen s c v) (plain f) m
+many c s v d e keeps f m lies = length-behind (before s d e.tracks f m) (not (slot_of s d)) (record_of s d e.tracks keeps f m) ∙ ap (λ k. k + 1) (gate-is c s v d e f m lies)
 
 -- the owner of a device that can't be read
 pub read-off : (s : PlantState) (d : ℕ) → s.on (s.owner d) ≡ false → can_read s d ≡ false
@@ -114,8 +119,8 @@ idle c s v d e lies =
 still : (s t : PlantState) (d n : ℕ) (keeps : Bool) (f : Fields) (m : Carried) (b : Bool) → s.on (s.owner d) ≡ false → Run s t d n keeps f m b → (t ≡ faulted s) × (b ≡ true)
 still s t d n keeps f m b off run =
     let slot = not (slot_of s d) in
-    let ws = writes_keeping keeps slot (staged_on n (s.block d)) f m in
-    let size = length-behind (before s d n m) slot (record_of s d n keeps f m) in
+    let ws = writes_keeping keeps slot (saving_on n (s.block d) f) (staged_on n (s.block d)) f m in
+    let size = length-behind (before s d n f m) slot (record_of s d n keeps f m) in
     let e : ◌≡◌ {A = PlantState × Bool} (t, b) (faulted s, true) = sym run ∙ writes_off s d ws off (omega arith) in
     (ap (λ (r : PlantState × Bool). r.0) e, ap (λ (r : PlantState × Bool). r.1) e)
 
@@ -166,7 +171,7 @@ module _ (c : ConfigTable) (s t : PlantState) (v d : ℕ) (e : VolumeEntry) (kee
   w = world s c r
 
   abbrev ws : List BlockWrite
-  ws = writes_keeping keeps (not (slot_of s d)) (staged_on e.tracks (s.block d)) f m
+  ws = writes_keeping keeps (not (slot_of s d)) (saving_on e.tracks (s.block d) f) (staged_on e.tracks (s.block d)) f m
 
   abbrev count : ℕ
   count = machine.writes (volume_seen s c v) (plain f) m
@@ -196,7 +201,7 @@ module _ (c : ConfigTable) (s t : PlantState) (v d : ℕ) (e : VolumeEntry) (kee
         stopped = p.done;
       })
 
-  cut_end : (g : WriteFuse) (done : Bool) → s.write_fuse o ≡ Some g → Cut s t d g b → CutEnds e.tracks s t d (before s d e.tracks m) (record_of s d e.tracks keeps f m) done → EndsAs (world t c r) b (if done then ended (machine.off (updated_keeping keeps w v (plain f) m) o) true true else ended (machine.off w o) true false)
+  cut_end : (g : WriteFuse) (done : Bool) → s.write_fuse o ≡ Some g → Cut s t d g b → CutEnds e.tracks s t d (before s d e.tracks f m) (record_of s d e.tracks keeps f m) done → EndsAs (world t c r) b (if done then ended (machine.off (updated_keeping keeps w v (plain f) m) o) true true else ended (machine.off w o) true false)
   cut_end g true fuse cut ends = record {
     world =
         world-off s t c r o g k.lies.low cut.on cut.fuse fuse
@@ -215,12 +220,12 @@ module _ (c : ConfigTable) (s t : PlantState) (v d : ℕ) (e : VolumeEntry) (kee
       let low = below_number count (s.write_fuse o) stuck in
       let g : WriteFuse = low.0 in
       let cut : Cut s t d g b = writes-cut s t d ws g b up low.1 (subst (λ n. g.after < n) (sym size) low.2) run in
-      let gate = length (before s d e.tracks m) + 6 in
+      let gate = length (before s d e.tracks f m) + 6 in
       let done = machine.counts gate g.after (torn_seen g.torn) (not (slot_of s d)) in
       let is_gate : gate ≡ machine.gate_at (volume_seen s c v) (plain f) m = gate-is c s v d e f m k.lies in
       let below : g.after < gate + 1 = subst (λ n. g.after < n) (ap (λ n. n + 1) (sym is_gate)) low.2 in
-      let ends : CutEnds e.tracks s t d (before s d e.tracks m) (record_of s d e.tracks keeps f m) done =
-      move-cut e.tracks s t d (before s d e.tracks m) (record_of s d e.tracks keeps f m) g b (whole c s v d e keeps f m k) (idle-before s d e.tracks m) up low.1 below run in
+      let ends : CutEnds e.tracks s t d (before s d e.tracks f m) (record_of s d e.tracks keeps f m) done =
+      move-cut e.tracks s t d (before s d e.tracks f m) (record_of s d e.tracks keeps f m) g b (whole c s v d e keeps f m k) (idle-before s d e.tracks f m) up low.1 below run in
       let slot = slot-seen c s v d e k.lies in
       let fuse = fuse-seen s o k.lies.low ∙ ap fuse_seen low.1 in
       let counts : machine.counts_by (machine.gate_at (volume_seen s c v) (plain f) m) (w.control.fuse o) (not (volume_seen s c v).slot) ≡ done = (λ i. machine.counts_by (sym is_gate i) (fuse i) (not (slot i))) in
@@ -252,14 +257,14 @@ read-first c s t v d e w b r end lies others unread passed is =
           })
     ] refl
 
-pub update-written : (c : ConfigTable) (s t : PlantState) (v d : ℕ) (e : VolumeEntry) (keeps : Bool) (f : Fields) (m : Carried) (b : Bool) → Task c s v d e keeps f m → Run s t d e.tracks keeps f m b → after_writes s (device_of c v) (writes_keeping keeps (not (volume_seen s c v).slot) (staged_seen s c v) f m) ≡ (t, b)
+pub update-written : (c : ConfigTable) (s t : PlantState) (v d : ℕ) (e : VolumeEntry) (keeps : Bool) (f : Fields) (m : Carried) (b : Bool) → Task c s v d e keeps f m → Run s t d e.tracks keeps f m b → after_writes s (device_of c v) (writes_keeping keeps (not (volume_seen s c v).slot) (saving_seen s c v f.entries) (staged_seen s c v) f m) ≡ (t, b)
 update-written c s t v d e keeps f m b k run =
-    (λ i. after_writes s (device-placed c v d k.lies.place i) (writes_keeping keeps (not (slot-seen c s v d e k.lies i)) (track_with (seen c s v d e k.lies s i).staged (chosen (s.block (device-placed c v d k.lies.place i)) 5)) f m))
+    (λ i. after_writes s (device-placed c v d k.lies.place i) (writes_keeping keeps (not (slot-seen c s v d e k.lies i)) (saving-lies c s v d e k.lies f i) (track_with (seen c s v d e k.lies s i).staged (chosen (s.block (device-placed c v d k.lies.place i)) 5)) f m))
     ∙ run
 
 -- What a move of a volume that was read leaves.
 pub record Changed (c : ConfigTable) (s t : PlantState) (v : ℕ) (keeps : Bool) (f : Fields) (m : Carried) (b : Bool) : Type 0 where
-  pub written : after_writes s (device_of c v) (writes_keeping keeps (not (volume_seen s c v).slot) (staged_seen s c v) f m) ≡ (t, b)
+  pub written : after_writes s (device_of c v) (writes_keeping keeps (not (volume_seen s c v).slot) (saving_seen s c v f.entries) (staged_seen s c v) f m) ≡ (t, b)
   pub exact : (r : Rest) → EndsAs (world t c r) b (machine.update_keeping keeps (world s c r) v (plain f) m)
   pub done : b ≡ false → IsMovedKeeping keeps s t c v (plain f) m
   pub old_or_new : IsAsBefore s t c v ⊎ IsMovedKeeping keeps s t c v (plain f) m
@@ -274,7 +279,7 @@ pub record Changed (c : ConfigTable) (s t : PlantState) (v : ℕ) (keeps : Bool)
 pub changed : (c : ConfigTable) (s t : PlantState) (v d : ℕ) (e : VolumeEntry) (keeps : Bool) (f : Fields) (m : Carried) (b : Bool) → StandsFor c s → Task c s v d e keeps f m → Run s t d e.tracks keeps f m b → Changed c s t v keeps f m b
 changed c s t v d e keeps f m b stands k run =
     let server = server-seen c s v d e k.lies in
-    let r = ran-written s t d (writes_keeping keeps (not (slot_of s d)) (staged_on e.tracks (s.block d)) f m) b run in
+    let r = ran-written s t d (writes_keeping keeps (not (slot_of s d)) (saving_on e.tracks (s.block d) f) (staged_on e.tracks (s.block d)) f m) b run in
     record {
       written = update-written c s t v d e keeps f m b k run;
       exact = λ rest. update-world c s t v d e keeps f m b rest k run;

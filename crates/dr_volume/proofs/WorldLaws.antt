@@ -12,10 +12,10 @@ use Rattle.dr_plant.specs.Writes.{write_fuse_after}
 use Rattle.dr_config.specs.Table.{ConfigTable}
 use Rattle.dr_model.specs.Control.{World}
 use Rattle.dr_model.specs.Layout as layout
-use Rattle.dr_model.specs.Moves.{Carried, moved_keeping, tracks_after, updated_keeping}
+use Rattle.dr_model.specs.Moves.{Carried, moved_keeping, tracks_after, saved_after, updated_keeping}
 use Rattle.dr_model.specs.Carry as machine
 use Rattle.dr_model.specs.Carry.{Ended, ended}
-use Rattle.dr_volume.specs.View.{Rest, world, on_seen, fuses_seen, fuse_seen, volume_seen, track_seen, ids_of}
+use Rattle.dr_volume.specs.View.{Rest, world, on_seen, fuses_seen, fuse_seen, volume_seen, track_seen, saved_seen, ids_of}
 use Rattle.dr_volume.specs.Update.{IsAsBefore, IsMovedKeeping, OthersStay}
 use Rattle.dr_config.specs.declared.entries.VolumeEntry.{VolumeEntry}
 use Rattle.dr_config.proofs.KeyLaws.{eqb-turned}
@@ -72,6 +72,7 @@ abbrev pub shown : PlantState → PlantState → ConfigTable → Rest → World
 shown s t c r = record (world s c r) {
   control = record (world s c r).control { volume = volume_seen t c };
   contents = track_seen t c;
+  saved = saved_seen t c;
 }
 
 pub world-still : (s t : PlantState) (c : ConfigTable) (r : Rest) → t.on ≡ s.on → t.write_fuse ≡ s.write_fuse → world t c r ≡ shown s t c r
@@ -96,13 +97,15 @@ pub shown-before : (s t : PlantState) (c : ConfigTable) (r : Rest) (v : ℕ) →
 shown-before s t c r v here there =
     let volumes = table_same (volume_seen s c) (volume_seen t c) v here.volume (λ q ne. (there q ne).volume) in
     let tracks = table_same (track_seen s c) (track_seen t c) v here.tracks (λ q ne. (there q ne).tracks) in
-    λ i. record (world s c r) { control = record (world s c r).control { volume = volumes i }; contents = tracks i }
+    let saved = table_same (saved_seen s c) (saved_seen t c) v here.saved (λ q ne. (there q ne).saved) in
+    λ i. record (world s c r) { control = record (world s c r).control { volume = volumes i }; contents = tracks i; saved = saved i }
 
 pub shown-moved : (s t : PlantState) (c : ConfigTable) (r : Rest) (v : ℕ) (keeps : Bool) (f : layout.Fields) (m : Carried) → IsMovedKeeping keeps s t c v f m → OthersStay s t c v → shown s t c r ≡ updated_keeping keeps (world s c r) v f m
 shown-moved s t c r v keeps f m here there =
     let volumes = table_at (volume_seen s c) (volume_seen t c) v (moved_keeping keeps (volume_seen s c v) f m) here.volume (λ q ne. (there q ne).volume) in
     let tracks = table_at (track_seen s c) (track_seen t c) v (tracks_after f m (track_seen s c v)) here.tracks (λ q ne. (there q ne).tracks) in
-    λ i. record (world s c r) { control = record (world s c r).control { volume = volumes i }; contents = tracks i }
+    let saved = table_at (saved_seen s c) (saved_seen t c) v (saved_after (volume_seen s c v).fields.entries f.entries (track_seen s c v) (saved_seen s c v)) here.saved (λ q ne. (there q ne).saved) in
+    λ i. record (world s c r) { control = record (world s c r).control { volume = volumes i }; contents = tracks i; saved = saved i }
 
 -- The machine's update, by whether the server is on, whether the writes pass, and whether a stopped move counts.
 module _ (keeps : Bool) (w : World) (v : ℕ) (f : layout.Fields) (m : Carried) where

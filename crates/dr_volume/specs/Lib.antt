@@ -1,4 +1,5 @@
 pub mod Codes
+pub mod Packed
 pub mod Plain
 pub mod Record
 pub mod ReadsBack

@@ -3,7 +3,7 @@ use Rattle.std.proofs.Common.{ℕ, ◌≡◌, ◌<◌, ◌+◌, ◌*◌, ◌/◌
 use Rattle.std.specs.Prelude.{is_some, unwrap_or, if◌then◌else◌, map, length, ◌-◌}
 use Rattle.std.specs.List.{range_with_len}
 use Rattle.std.proofs.lemmas.List.{take_at, drop_at, get_or-append_right}
-use Rattle.std.proofs.lemmas.List.FromFn.{fill_by_all, get_or-map-range_with_len}
+use Rattle.std.proofs.lemmas.List.FromFn.{fill_by_all}
 use Rattle.dr_bits.specs.Tracks.{Tracks, IsInRange, of_bytes, bytes_of}
 use Rattle.dr_bits.proofs.Bytes.{number_of-bit, of_bytes-bytes_of, length-bytes_of}
 use Rattle.dr_record.specs.Taken.{taken_from}
@@ -14,6 +14,7 @@ use Rattle.dr_model.specs.declared.state.PairState.{PairState}
 use Rattle.dr_model.specs.declared.state.PairState.TheVariants.{CopyPending, FullDuplex, Suspended}
 use Rattle.dr_volume.specs.declared.fields.Fields.{Fields}
 use Rattle.dr_volume.specs.Codes.{code_of_part, code_of_state, flags_byte}
+use Rattle.dr_volume.specs.Packed.{entry_back, bit-flags}
 use Rattle.dr_volume.specs.Record.{IsWhole, track_named, entry_bytes, record_block, head_of, with_block, with_head, no_record, raw_of}
 
 -- of parts
@@ -57,20 +58,14 @@ second_back s t in_t = ap (λ bytes. of_bytes bytes) (drop_at (bytes_of s) (byte
 behind : (s : Tracks) (rest : List ℕ) (k : ℕ) → get_or (bytes_of s ++ rest) (32 + k) 0 ≡ get_or rest k 0
 behind s rest k = get_or-append_right (bytes_of s) rest 32 (32 + k) 0 (length-bytes_of s) (omega arith) ∙ ap (λ n. get_or rest n 0) (let e : 32 + k - 32 ≡ k = omega arith in e)
 
--- of one entry
-entry_back : (flag : Bool) (n : ℕ) (e : Option ℕ) → flag ≡ is_some e → n ≡ unwrap_or e 0 → (if flag then Some n else None) ≡ e
-entry_back flag n None flag_is n_is = ap (λ b. if b then Some n else None) flag_is
-entry_back flag n (Some t) flag_is n_is = ap (λ b. if b then Some n else None) flag_is ∙ ap (λ x. Some x) n_is
-
--- of one entry in a block, if its two bytes are those of its track
+-- of one entry, if its two bytes are those of its track
 entry_in_back : (s : Tracks) (es : Entries) (k : ℕ) → k < 8 → get_or (entry_bytes es) (2 + 2 * k) 0 * 256 + get_or (entry_bytes es) (3 + 2 * k) 0 ≡ track_named es k
     → entry_in (bytes_of s ++ entry_bytes es) k ≡ entry_at es k
 entry_in_back s es k low named =
-    let used : List Bool = map (λ k. is_some (entry_at es k)) (range_with_len 0 8) in
     let high = ap (λ n. get_or (bytes_of s ++ entry_bytes es) n 0) (let e : 34 + 2 * k ≡ 32 + (2 + 2 * k) = omega arith in e) ∙ behind s (entry_bytes es) (2 + 2 * k) in
     let next = ap (λ n. get_or (bytes_of s ++ entry_bytes es) n 0) (let e : 34 + 2 * k + 1 ≡ 32 + (3 + 2 * k) = omega arith in e) ∙ behind s (entry_bytes es) (3 + 2 * k) in
     entry_back _ _ (entry_at es k)
-    (ap (λ b. bit b k) (behind s (entry_bytes es) 0) ∙ flag_back used k low ∙ get_or-map-range_with_len (λ k. is_some (entry_at es k)) 0 8 (0 + k) k false (omega arith) (omega arith))
+    (ap (λ b. bit b k) (behind s (entry_bytes es) 0) ∙ bit-flags (λ k. is_some (entry_at es k)) k low)
     ((λ i. high i * 256 + next i) ∙ named)
 
 -- of all entries

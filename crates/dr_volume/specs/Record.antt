@@ -1,12 +1,13 @@
 -- The six blocks of a record: how fields are written to them, and read from them.
 use Rattle.std.specs.Prelude.{ℕ, false, List, [], ◌∷◌, ◌++◌, nat_eq, cond, is_some, unwrap_or, Option, None, Some, replicate, map, length, ◌≡◌, if◌then◌else◌, take, drop}
-use Rattle.std.specs.List.{range_with_len}
+use Rattle.std.specs.List.{range_with_len, slice_index_or}
 use Rattle.std.specs.FinSet.{empty}
 use Rattle.dr_logic.specs.Bytes.{zeros}
 use Rattle.dr_bits.specs.Tracks.{IsInRange, bytes_of, of_bytes}
 use Rattle.dr_ids.specs.BigEndian.{be16_at, be32_at}
 pub use Rattle.dr_plant.specs.Writes.{listed}
-use Rattle.dr_model.specs.Layout.{Blocks, Entries, byte, bit, part_of, state_of, entry_at, entry_in, free_entries}
+pub use Rattle.dr_volume.specs.Packed.{track_named, entry_flags}
+use Rattle.dr_model.specs.Layout.{Blocks, Entries, byte, bit, part_of, state_of, entry_in, free_entries}
 use Rattle.dr_model.specs.declared.state.Part.TheVariants.{Absent}
 use Rattle.dr_model.specs.declared.state.PairState.TheVariants.{CopyPending}
 use Rattle.dr_volume.specs.declared.fields.Fields.{Fields}
@@ -28,19 +29,17 @@ head_of f =
     ++ four_bytes f.attempt ++ four_bytes f.seal ++ four_bytes f.sequence ++ four_bytes f.previous_sequence ++ four_bytes f.floor
     ++ replicate 28 0
 
--- the track that entry k names, zero if it is free
-abbrev pub track_named : Entries → ℕ → ℕ
-track_named es k = unwrap_or (entry_at es k) 0
+-- eight tracks in two bytes each
+abbrev pub track_bytes : (ℕ → ℕ) → List ℕ
+track_bytes f = two_bytes (f 0) ++ two_bytes (f 1) ++ two_bytes (f 2) ++ two_bytes (f 3) ++ two_bytes (f 4) ++ two_bytes (f 5) ++ two_bytes (f 6) ++ two_bytes (f 7)
 
--- a bit for each used entry
-abbrev pub entry_flags : Entries → ℕ
-entry_flags es = flags_byte (map (λ k. is_some (entry_at es k)) (range_with_len 0 8))
+-- a bit for each of eight tracks that is t
+abbrev pub same_tracks : List ℕ → ℕ → ℕ
+same_tracks tracks t = flags_byte (map (λ k. nat_eq t (slice_index_or tracks k 0)) (range_with_len 0 8))
 
--- the tracks that entries name, in two bytes each
+-- the tracks that entries name
 abbrev pub entry_tracks : Entries → List ℕ
-entry_tracks es =
-    two_bytes (track_named es 0) ++ two_bytes (track_named es 1) ++ two_bytes (track_named es 2) ++ two_bytes (track_named es 3)
-    ++ two_bytes (track_named es 4) ++ two_bytes (track_named es 5) ++ two_bytes (track_named es 6) ++ two_bytes (track_named es 7)
+entry_tracks es = track_bytes (track_named es)
 
 -- the entries in 32 bytes
 abbrev pub entry_bytes : Entries → List ℕ

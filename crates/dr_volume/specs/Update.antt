@@ -1,8 +1,8 @@
 -- What an update of a volume writes to its device, and what it leaves of the volume and of the machine's world.
-use Rattle.std.specs.Prelude.{◌≡◌, ℕ, ◌+◌, Bool, true, false, ◌||◌, List, [], ◌∷◌, ◌++◌, Option, Some, None, if◌then◌else◌, ◌≢◌, nat_eq}
+use Rattle.std.specs.Prelude.{◌≡◌, ℕ, Bool, true, false, ◌||◌, List, [], ◌∷◌, ◌++◌, Option, Some, None, if◌then◌else◌, ◌≢◌, nat_eq, unwrap_or}
 use Rattle.std.specs.FinSet.{contains}
 use Rattle.dr_logic.specs.Bytes.{zeros}
-use Rattle.dr_ids.specs.Sizes.{track_block}
+use Rattle.dr_ids.specs.Sizes.{track_block, side_block}
 use Rattle.dr_bits.specs.Tracks.{Tracks}
 use Rattle.dr_plant.specs.State.{PlantState, after_read, can_read, passes_read}
 use Rattle.dr_plant.specs.Writes.{BlockWrite, write, after_writes}
@@ -13,11 +13,11 @@ use Rattle.dr_model.specs.Layout.{chosen}
 use Rattle.dr_model.specs.Control.{World}
 use Rattle.dr_model.specs.Carry.{Ended, ended, update_keeping, redo}
 use Rattle.dr_model.specs.ReadStops.{shut}
-use Rattle.dr_model.specs.Moves.{Carried, is_carried, moved_keeping, tracks_after}
+use Rattle.dr_model.specs.Moves.{Carried, is_carried, moved_keeping, tracks_after, saved_after}
 use Rattle.dr_volume.specs.declared.fields.Fields.{Fields}
 use Rattle.dr_volume.specs.Plain.{normal}
 use Rattle.dr_volume.specs.Record.{record_block, raw_of}
-use Rattle.dr_volume.specs.View.{volume_seen, track_seen, device_of}
+use Rattle.dr_volume.specs.View.{volume_seen, track_seen, saved_seen, device_of}
 
 -- the fields that stage the carried track, or none
 abbrev pub staging : Carried → Fields → Fields
@@ -54,17 +54,34 @@ abbrev pub track_writes : Carried → List BlockWrite
 track_writes None = []
 track_writes (Some c) = write (track_block c.0) c.1 ∷ []
 
+-- the side block of the entry that a move takes into use, if any, with the track that it names: the next entries name it, and the track
+-- is as it was
+abbrev pub side_for : ℕ → layout.Entries → (ℕ → List ℕ) → Option ℕ → Option (ℕ × List ℕ)
+side_for tracks next old None = None
+side_for tracks next old (Some k) = Some (side_block tracks k, old (unwrap_or (layout.entry_at next k) 0))
+
+-- what a move saves, on a volume with that many tracks, by its entries before and after, and its tracks before
+abbrev pub saving : ℕ → layout.Entries → layout.Entries → (ℕ → List ℕ) → Option (ℕ × List ℕ)
+saving tracks old next bytes = side_for tracks next bytes (layout.entry_taken old next)
+
+-- a side block is written
+abbrev pub side_writes : Option (ℕ × List ℕ) → List BlockWrite
+side_writes None = []
+side_writes (Some side) = write side.0 side.1 ∷ []
+
 -- the fields that a move writes, where that was staged
 abbrev pub next_record : Bool → Carried → Fields → Carried → Fields
 next_record keeps old f c = staging (staged_next keeps f.blank c old) f
 
--- the writes of a move that keeps what is staged, or doesn't: the track that gives way, then the record into a slot, and its gate
-abbrev pub writes_keeping : Bool → Bool → Carried → Fields → Carried → List BlockWrite
-writes_keeping keeps slot old f c = track_writes (given_way c old) ++ record_writes 6 slot (record_block (next_record keeps old f c))
+-- the writes of a move that keeps what is staged, or doesn't: what it saves, the track that gives way, then the record into a slot, and
+-- its gate
+abbrev pub writes_keeping : Bool → Bool → Option (ℕ × List ℕ) → Carried → Fields → Carried → List BlockWrite
+writes_keeping keeps slot side old f c =
+    (side_writes side ++ track_writes (given_way c old)) ++ record_writes 6 slot (record_block (next_record keeps old f c))
 
 -- the writes of an update
-abbrev pub update_writes : Bool → Carried → Fields → Carried → List BlockWrite
-update_writes slot old f c = writes_keeping true slot old f c
+abbrev pub update_writes : Bool → Option (ℕ × List ℕ) → Carried → Fields → Carried → List BlockWrite
+update_writes slot side old f c = writes_keeping true slot side old f c
 
 -- the writes of a volume's staged track to its place, and then of a record that stages none
 abbrev pub destage_writes : Bool → Carried → Fields → List BlockWrite
@@ -84,11 +101,13 @@ Covers old new c = (t : ℕ) → contains old t ≡ true → (contains new t || 
 pub record IsAsBefore (s t : PlantState) (c : ConfigTable) (v : ℕ) : Type 0 where
   pub volume : volume_seen t c v ≡ volume_seen s c v
   pub tracks : track_seen t c v ≡ track_seen s c v
+  pub saved : saved_seen t c v ≡ saved_seen s c v
 
 -- From s to t the volume got these fields in its other slot, and this track; it keeps what was staged, or doesn't.
 pub record IsMovedKeeping (keeps : Bool) (s t : PlantState) (c : ConfigTable) (v : ℕ) (f : layout.Fields) (m : Carried) : Type 0 where
   pub volume : volume_seen t c v ≡ moved_keeping keeps (volume_seen s c v) f m
   pub tracks : track_seen t c v ≡ tracks_after f m (track_seen s c v)
+  pub saved : saved_seen t c v ≡ saved_after (volume_seen s c v).fields.entries f.entries (track_seen s c v) (saved_seen s c v)
 
 -- From s to t the volume got these fields in its other slot, and this track, and keeps what was staged.
 abbrev pub IsMoved : PlantState → PlantState → ConfigTable → ℕ → layout.Fields → Carried → Type 0
@@ -112,6 +131,10 @@ pub record EndsAs (w : World) (b : Bool) (e : Ended) : Type 0 where
 -- goes off before any write.
 abbrev pub after_reading : PlantState → ℕ → World → Ended → Ended
 after_reading s server w e = if passes_read (s.read_fuse server) then e else ended (shut w server) true false
+
+-- what a move of a volume saves that is given these entries
+abbrev pub saving_seen : PlantState → ConfigTable → ℕ → layout.Entries → Option (ℕ × List ℕ)
+saving_seen s c v next = saving (volume_seen s c v).tracks (volume_seen s c v).fields.entries next (track_seen s c v)
 
 -- a volume's staged track, with its bytes
 abbrev pub staged_seen : PlantState → ConfigTable → ℕ → Carried

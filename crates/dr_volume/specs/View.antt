@@ -11,7 +11,7 @@ use Rattle.dr_config.specs.declared.entries.VolumeEntry.{VolumeEntry}
 use Rattle.dr_model.specs.declared.event.Event.{Event}
 use Rattle.dr_model.specs.Sessions.{Session}
 use Rattle.dr_model.specs.Messages.{Flight}
-use Rattle.dr_model.specs.Layout.{Blocks, slot_chosen, fields, staged, physical}
+use Rattle.dr_model.specs.Layout.{Blocks, slot_chosen, fields, staged, physical, entry_of}
 use Rattle.dr_model.specs.Control.{Control, Fuse, Pending, Volume, World, new_volume}
 
 -- what a run knows beside the plant and the configuration: the writes issued and pending, the sessions, the messages in flight, and the
@@ -80,16 +80,35 @@ abbrev pub track_seen : PlantState → ConfigTable → ℕ → ℕ → List ℕ
 track_seen s t v k = track_at s t (place_of t v) k
 
 -- the side block of an entry, if such a volume is there
-abbrev pub saved_on : Blocks → Option VolumeEntry → ℕ → List ℕ
-saved_on blocks None k = zeros
-saved_on blocks (Some e) k = blocks (side_block e.tracks k)
+abbrev pub side_on : Blocks → Option VolumeEntry → ℕ → List ℕ
+side_on blocks None k = zeros
+side_on blocks (Some e) k = blocks (side_block e.tracks k)
 
 -- the side block of an entry on a device, if there is one
+abbrev pub side_at : PlantState → ConfigTable → Option ℕ → ℕ → List ℕ
+side_at s t None k = zeros
+side_at s t (Some d) k = side_on (s.block d) (slice_get t.volumes d) k
+
+-- the side block of entry k of volume v, as its device has it
+abbrev pub side_seen : PlantState → ConfigTable → ℕ → ℕ → List ℕ
+side_seen s t v k = side_at s t (place_of t v) k
+
+-- the side block of the entry that names a track, zeros if none does
+abbrev pub side_in : Blocks → ℕ → Option ℕ → List ℕ
+side_in blocks tracks None = zeros
+side_in blocks tracks (Some k) = blocks (side_block tracks k)
+
+-- what is saved of a track on a device
+abbrev pub saved_on : Blocks → Option VolumeEntry → ℕ → List ℕ
+saved_on blocks None t = zeros
+saved_on blocks (Some e) t = side_in blocks e.tracks (entry_of (fields e.tracks blocks).entries t)
+
+-- of the volume at a place, if one is there
 abbrev pub saved_at : PlantState → ConfigTable → Option ℕ → ℕ → List ℕ
 saved_at s t None k = zeros
 saved_at s t (Some d) k = saved_on (s.block d) (slice_get t.volumes d) k
 
--- the side block of entry k of volume v, as its device has it
+-- what is saved of track k of volume v, as its device has it
 abbrev pub saved_seen : PlantState → ConfigTable → ℕ → ℕ → List ℕ
 saved_seen s t v k = saved_at s t (place_of t v) k
 
@@ -115,7 +134,7 @@ control_seen s t r = record {
 
 -- the world that plant, configuration and the rest of a run show
 abbrev pub world : PlantState → ConfigTable → Rest → World
-world s t r = record { control = control_seen s t r; contents = track_seen s t; events = r.events }
+world s t r = record { control = control_seen s t r; contents = track_seen s t; saved = saved_seen s t; events = r.events }
 
 -- the number of a volume's device, 0 where it isn't defined
 abbrev pub device_of : ConfigTable → ℕ → ℕ

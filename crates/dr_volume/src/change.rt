@@ -7,15 +7,16 @@ ghost use Rattle.dr_config.specs.Table.{StandsFor, place_of};
 ghost use Rattle.dr_plant.specs.Writes.{IsDevice, after_writes};
 ghost use Rattle.dr_record.specs.Slots.{slot_of};
 ghost use Rattle.dr_model.specs.Carry as machine;
-ghost use Rattle.dr_model.specs.Lawful.{IsLawful};
+ghost use Rattle.dr_model.specs.Lawful.{IsLawful, EntriesFollow};
 ghost use Rattle.dr_volume.specs.Plain.{plain};
 ghost use Rattle.dr_volume.specs.View.{Rest, world, volume_seen, device_of};
-ghost use Rattle.dr_volume.specs.Update.{track_with, track_writes, update_writes, destage_writes, read_and_write, staged_seen, fields_seen, destaged, Covers, IsAsBefore, IsMoved, IsMovedKeeping, IsDestaged, OthersStay, EndsAs, after_reading, ServerStays};
+ghost use Rattle.dr_volume.specs.Update.{track_with, track_writes, update_writes, destage_writes, saving_seen, read_and_write, staged_seen, fields_seen, destaged, Covers, IsAsBefore, IsMoved, IsMovedKeeping, IsDestaged, OthersStay, EndsAs, after_reading, ServerStays};
 
 use crate::decode::fields_on;
 use crate::fields::Fields;
 use crate::opened::{rewrite, stage, staged_on, staged_track, write_track};
 use crate::place::find;
+use crate::saving::saving;
 use crate::volume::load;
 use dr_config::Config;
 use dr_ids::VolumeId;
@@ -24,7 +25,8 @@ use dr_record::{put, read_choice};
 
 /// Gives a volume other fields and, where one is given, a track with its bytes: one move, done or
 /// not done as a whole. What the next fields say of a staged track is not looked at: the record stages the given track,
-/// else what it staged, unless that is blank now. The gate alone is read, and what is staged is looked at; then a staged track
+/// else what it staged, unless that is blank now. The gate alone is read, and what is staged is looked at. If the next entries
+/// use one that was free, the track that it names, as it was, is written to its side block first. Then a staged track
 /// that gives way to another is written to its own block, then the record in six blocks to the slot that the device doesn't
 /// choose, then the gate. Fails where the volume's server is off or stops within the move; then the
 /// server is off, and the move counts as done where the device chooses the new fields.
@@ -40,7 +42,8 @@ pub fn update<P: Plant>(
     requires lawful { IsLawful (volume_seen (P.state plant.old) config.now v.0).tracks (plain next.now) }
     requires within { IfSome staged (λ t. t.0 < (volume_seen (P.state plant.old) config.now v.0).tracks) }
     requires covers { Covers (volume_seen (P.state plant.old) config.now v.0).fields.blank next.now.blank staged }
-    ensures written { read_and_write (P.state plant.old) (device_of config.now v.0) (update_writes (not (volume_seen (P.state plant.old) config.now v.0).slot) (staged_seen (P.state plant.old) config.now v.0) next.now staged) ≡ (P.state plant.new, is_err result) }
+    requires follows { EntriesFollow (volume_seen (P.state plant.old) config.now v.0).fields.entries next.now.entries }
+    ensures written { read_and_write (P.state plant.old) (device_of config.now v.0) (update_writes (not (volume_seen (P.state plant.old) config.now v.0).slot) (saving_seen (P.state plant.old) config.now v.0 next.now.entries) (staged_seen (P.state plant.old) config.now v.0) next.now staged) ≡ (P.state plant.new, is_err result) }
     ensures exact { (r : Rest) → EndsAs (world (P.state plant.new) config.now r) (is_err result) (after_reading (P.state plant.old) (volume_seen (P.state plant.old) config.now v.0).server (world (P.state plant.old) config.now r) (machine.update (world (P.state plant.old) config.now r) v.0 (plain next.now) staged)) }
     ensures done { OnOk result (IsMoved (P.state plant.old) (P.state plant.new) config.now v.0 (plain next.now) staged) }
     ensures old_or_new { IsAsBefore (P.state plant.old) (P.state plant.new) config.now v.0 ⊎ IsMoved (P.state plant.old) (P.state plant.new) config.now v.0 (plain next.now) staged }
@@ -56,9 +59,10 @@ pub fn update<P: Plant>(
     let place = find(config, v);
     let slot = read_choice(plant, place.device)?;
     let old = staged_on(plant, place, slot);
+    let side = saving(plant, config, v, slot, &next.entries);
     let mut fields = *next;
     stage(&mut fields, &old);
-    rewrite(plant, place.device, slot, &mut fields, &staged)
+    rewrite(plant, place.device, slot, &mut fields, &staged, &side)
 }
 
 /// Writes a volume's staged track, where one is staged, to its own place. It stays staged, and nothing that is read

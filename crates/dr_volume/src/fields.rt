@@ -4,13 +4,11 @@ ghost use Rattle.std.specs.Prelude.{◌≡◌};
 ghost use Rattle.dr_model.specs.Pairs.{held};
 ghost use Rattle.dr_volume.specs.Plain.{plain};
 
+use crate::entries::Entries;
 use dr_bits::TrackSet;
 use dr_ids::VolumeId;
 use dr_model::{PairState, Part};
 use dr_plant::Block;
-
-/// The entries of a volume's side blocks, lowest first: each is free, or names a track.
-pub type Entries = [Option<u16>; 8];
 
 /// What a volume's control record says: its part in a pair as a primary and as a secondary, its
 /// FlashCopy relationship as a target, its flash hold, its entries, and the track that the last update staged.

@@ -10,7 +10,7 @@ use crate::codes::{
     two_bytes, two_sets, zero_block,
 };
 use crate::decode::staged_in;
-use crate::entries::{entries_in, set_and_entries};
+use crate::entries::{Entries, entries_in, set_and_entries};
 use crate::fields::Fields;
 use dr_bits::{TrackSet, byte_at};
 use dr_ids::{VolumeId, be16, be32};
@@ -73,7 +73,7 @@ impl Form for Fields {
             floor: 0,
             flash_hold: false,
             blank: TrackSet::empty(),
-            entries: [None; 8],
+            entries: Entries::free(),
             staged: None,
             staged_bytes: zero_block(),
         }
@@ -121,6 +121,7 @@ impl Form for Fields {
         self.source_changes.tell_in_range();
         self.target_changes.tell_in_range();
         self.blank.tell_in_range();
+        self.entries.tell_eight();
     }
 }
 

@@ -11,7 +11,8 @@
 //! `peek_fields` and `from_blocks` give the fields of the layout (`shows`, `fields`), and they are lawful (`lawful`);
 //! `peek_head` and `peek_head_at` give their head, which is all but the sets of tracks, and `peek_relation_at` what the head
 //! says of a target; `slot` gives the chosen slot, `read_track` the track's bytes and `read_beside` those of a side block (`bytes`); if one
-//! fails, what they were to go into is as before (`same`).
+//! fails, what they were to go into is as before (`same`). `Entries` are the eight entries in 18 bytes: `free`, `get`, `are_free`,
+//! `taken`, `entry_of` and `names` look at them; `take` and `free_track` change them.
 #![tactic(auto)]
 
 mod blocks;
@@ -24,12 +25,14 @@ mod form;
 mod head;
 mod opened;
 mod place;
+mod saving;
 mod volume;
 
 pub use blocks::from_blocks;
 pub use change::{destage, redo, update};
 pub use dr_model::{PairState, Part};
-pub use fields::{Entries, Fields, is_held};
+pub use entries::Entries;
+pub use fields::{Fields, is_held};
 pub use head::{Head, Relation, head_by, is_target_at, peek_head, peek_head_at, peek_relation_at};
 pub use opened::{Gate, Opened, open, open_by, open_gate, peek_opened};
 pub use volume::{load, peek_fields, peek_holds, read_beside, read_track, slot};

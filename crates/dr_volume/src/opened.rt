@@ -1,7 +1,7 @@
 //! A volume that was read for a move: its record is read once, and its tracks are read and its move
 //! is made by what was read.
 
-ghost use Rattle.std.specs.Prelude.{◌≡◌, ◌≢◌, ℕ, List, ◌<◌, ◌≤◌, ◌+◌, not, true, false, None, IsSome, IfSome, IfOk, OnOk, OnErr, is_ok, is_err, ◌⊎◌, if◌then◌else◌};
+ghost use Rattle.std.specs.Prelude.{◌≡◌, ◌≢◌, ℕ, List, ◌<◌, ◌≤◌, ◌+◌, ◌++◌, not, true, false, None, IsSome, IfSome, IfOk, OnOk, OnErr, is_ok, is_err, ◌⊎◌, if◌then◌else◌};
 ghost use Rattle.dr_logic.specs.Counts.{risen};
 ghost use Rattle.dr_ids.specs.Sizes.{most_tracks, record_blocks, track_block};
 ghost use Rattle.dr_plant.specs.State.{after_read, can_read};
@@ -9,12 +9,12 @@ ghost use Rattle.dr_plant.specs.Writes.{IsDevice, after_writes};
 ghost use Rattle.dr_record.specs.Slots.{slot_of};
 ghost use Rattle.dr_config.specs.Table.{StandsFor, place_of};
 ghost use Rattle.dr_model.specs.Carry as machine;
-ghost use Rattle.dr_model.specs.Lawful.{IsLawful};
+ghost use Rattle.dr_model.specs.Lawful.{IsLawful, EntriesFollow};
 ghost use Rattle.dr_model.specs.Layout as layout;
 ghost use Rattle.dr_volume.specs.Plain.{plain};
 ghost use Rattle.dr_volume.specs.View.{Rest, world, volume_seen, track_seen, device_of};
 ghost use Rattle.dr_volume.specs.Volume.{LiesOn, Shows};
-ghost use Rattle.dr_volume.specs.Update.{track_with, stages, staging, kept_filled, staged_next, given_way, track_writes, next_record, update_writes, staged_seen, Covers, IsAsBefore, IsMoved, OthersStay, EndsAs, ServerStays};
+ghost use Rattle.dr_volume.specs.Update.{track_with, stages, staging, kept_filled, staged_next, given_way, track_writes, side_writes, next_record, update_writes, saving_seen, staged_seen, Covers, IsAsBefore, IsMoved, OthersStay, EndsAs, ServerStays};
 ghost use Rattle.dr_volume.specs.Opened.{IsGate, IsOpened, OthersOpened, in_own_block};
 
 use crate::blocks::begin_of;
@@ -23,6 +23,7 @@ use crate::decode::{below, fields_on, staged_in};
 use crate::fields::Fields;
 use crate::form::blocks_of;
 use crate::place::{Place, device_of, find, tell_sound};
+use crate::saving::{saving, write_side};
 use dr_bits::TrackSet;
 use dr_config::Config;
 use dr_ids::{VolumeId, track_block};
@@ -200,7 +201,8 @@ impl Gate {
         requires within { IfSome staged (λ t. t.0 < (volume_seen (P.state plant.old) config.now v.0).tracks) }
         requires staged { stages next.old ≡ staged_seen (P.state plant.old) config.now v.0 }
         requires covers { Covers (volume_seen (P.state plant.old) config.now v.0).fields.blank next.old.blank staged }
-        ensures written { after_writes (P.state plant.old) (device_of config.now v.0) (update_writes (not (volume_seen (P.state plant.old) config.now v.0).slot) (staged_seen (P.state plant.old) config.now v.0) next.old staged) ≡ (P.state plant.new, is_err result) }
+        requires follows { EntriesFollow (volume_seen (P.state plant.old) config.now v.0).fields.entries next.old.entries }
+        ensures written { after_writes (P.state plant.old) (device_of config.now v.0) (update_writes (not (volume_seen (P.state plant.old) config.now v.0).slot) (saving_seen (P.state plant.old) config.now v.0 next.old.entries) (staged_seen (P.state plant.old) config.now v.0) next.old staged) ≡ (P.state plant.new, is_err result) }
         ensures exact { (r : Rest) → EndsAs (world (P.state plant.new) config.now r) (is_err result) (machine.update (world (P.state plant.old) config.now r) v.0 (plain next.old) staged) }
         ensures opened { OnOk result (IsOpened (P.state plant.new) config.now v.0 (record { gate = self.new; fields = next.new })) }
         ensures others_opened { OthersOpened (P.state plant.old) (P.state plant.new) config.now v.0 }
@@ -217,8 +219,9 @@ impl Gate {
     {
         tell_sound(config);
         let slot = self.slot;
+        let side = saving(plant, config, v, slot, &next.entries);
         self.slot = !slot;
-        rewrite(plant, self.device, slot, next, &staged)
+        rewrite(plant, self.device, slot, next, &staged, &side)
     }
 }
 
@@ -314,24 +317,43 @@ fn make_way<P: Plant>(
     }
 }
 
-/// Writes the staged track that gives way to its own block, then the next fields, with what is staged then, to the slot that
-/// isn't `slot`, which the device chooses, then the gate. What the next fields stage is what was staged.
+// Writes what comes before the record: what is saved to its side block, then the staged track that gives way to its own block.
+fn write_before<P: Plant>(
+    plant: &mut P,
+    device: DeviceId,
+    fields: &Fields,
+    carried: &Option<(u16, Block)>,
+    side: &Option<(u16, Block)>,
+) -> Result<(), Stopped>
+    requires device { device.0 < (P.state plant.old).count }
+    requires track { IfSome (stages fields.now) (λ t. (t.0 < most_tracks) × (track_block t.0 < (P.state plant.old).size device.0)) }
+    requires side { IfSome side.now (λ x. x.0 < (P.state plant.old).size device.0) }
+    ensures { after_writes (P.state plant.old) device.0 (side_writes side.now ++ track_writes (given_way carried.now (stages fields.now))) ≡ (P.state plant.new, is_err result) }
+{
+    write_side(plant, device, side)?;
+    make_way(plant, device, fields, carried)
+}
+
+/// Writes what is saved to its side block, then the staged track that gives way to its own block, then the next fields, with what is
+/// staged then, to the slot that isn't `slot`, which the device chooses, then the gate. What the next fields stage is what was staged.
 pub(crate) fn rewrite<P: Plant>(
     plant: &mut P,
     device: DeviceId,
     slot: bool,
     next: &mut Fields,
     carried: &Option<(u16, Block)>,
+    side: &Option<(u16, Block)>,
 ) -> Result<(), Stopped>
     requires device { IsDevice (P.state plant.old) device.0 record_blocks }
     requires chosen { slot_of (P.state plant.old) device.0 ≡ slot }
     requires track { IfSome (stages next.old) (λ t. (t.0 < most_tracks) × (track_block t.0 < (P.state plant.old).size device.0)) }
+    requires side { IfSome side.now (λ x. x.0 < (P.state plant.old).size device.0) }
     ensures staged { next.new ≡ next_record true (stages next.old) next.old carried.now }
-    ensures written { after_writes (P.state plant.old) device.0 (update_writes (not (slot_of (P.state plant.old) device.0)) (stages next.old) next.old carried.now) ≡ (P.state plant.new, is_err result) }
+    ensures written { after_writes (P.state plant.old) device.0 (update_writes (not (slot_of (P.state plant.old) device.0)) side.now (stages next.old) next.old carried.now) ≡ (P.state plant.new, is_err result) }
 {
-    let way = make_way(plant, device, next, carried);
+    let before = write_before(plant, device, next, carried, side);
     stage_next(next, carried);
-    way?;
+    before?;
     put_blocks(plant, device, slot, &blocks_of(next))
 }
 

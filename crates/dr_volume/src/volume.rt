@@ -4,7 +4,7 @@ ghost use Rattle.std.specs.Prelude.{◌≡◌, ◌<◌, IsSome, IfOk, OnOk, OnEr
 ghost use Rattle.std.specs.FinSet.{contains};
 ghost use Rattle.dr_plant.specs.State.{after_read, can_read};
 ghost use Rattle.dr_config.specs.Table.{StandsFor, place_of};
-ghost use Rattle.dr_volume.specs.View.{volume_seen, track_seen, saved_seen, device_of};
+ghost use Rattle.dr_volume.specs.View.{volume_seen, track_seen, side_seen, device_of};
 ghost use Rattle.dr_volume.specs.Volume.{Shows};
 
 use crate::blocks::begin_of;
@@ -93,7 +93,7 @@ pub fn read_beside<P: Plant>(
     requires entry { entry < 8 }
     ensures state { P.state plant.new ≡ after_read (P.state plant.old) (device_of config.now v.0) }
     ensures done { is_ok result ≡ can_read (P.state plant.old) (device_of config.now v.0) }
-    ensures bytes { OnOk result (into.new ≡ saved_seen (P.state plant.old) config.now v.0 entry) }
+    ensures bytes { OnOk result (into.new ≡ side_seen (P.state plant.old) config.now v.0 entry) }
     ensures same { OnErr result (into.new ≡ into.old) }
 {
     let place = find(config, v);

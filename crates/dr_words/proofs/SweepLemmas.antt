@@ -68,7 +68,7 @@ five_met a b c d e pa pb pc pd pe =
     refl
 
 -- the first word, and those behind it
-split : (a : String Global) (rest : List (String Global)) → has_option (a ∷ rest) ≡ false → (is_option (string_bytes a) ≡ false) × (has_option rest ≡ false)
+pub split : (a : String Global) (rest : List (String Global)) → has_option (a ∷ rest) ≡ false → (is_option (string_bytes a) ≡ false) × (has_option rest ≡ false)
 split a rest none = or_parts (is_option (string_bytes a)) (has_option rest) none
 
 point_taken : (words : List (String Global)) → has_option words ≡ false → 2 ≤ length words → length words ≤ 5 → IsTakenFor (codes "script" ∷ map string_bytes words) (point_said (map string_bytes words))

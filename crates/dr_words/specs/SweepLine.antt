@@ -35,11 +35,16 @@ bare_sweep = record (new_app (codes "sweep")) {
   };
 }
 
--- the command line: nothing, or `rows`, `picture`, `json` and `script`
+-- the names of two files, and maybe a word before them
+abbrev pub files_rule : Rule
+files_rule = record (new_rule (codes "files")) { required = true; range = Some (record { start_inclusive = 2; end_inclusive = 3 }) }
+
+-- the command line: nothing, or `rows`, `picture`, `json`, `script` and `compare`
 abbrev pub sweep_line : App
 sweep_line =
-    with_subcommand (with_subcommand (with_subcommand (with_subcommand bare_sweep (new_app (codes "rows")).top) (new_app (codes "picture")).top) (new_app (codes "json")).top)
-    (with_rule (new_app (codes "script")) point_rule).top
+    with_subcommand
+    (with_subcommand (with_subcommand (with_subcommand (with_subcommand bare_sweep (new_app (codes "rows")).top) (new_app (codes "picture")).top) (new_app (codes "json")).top)
+    (with_rule (new_app (codes "script")) point_rule).top) (with_rule (new_app (codes "compare")) files_rule).top
 
 -- the command in what was found for `script`
 abbrev pub point_in : List Row → Option SweepCommand

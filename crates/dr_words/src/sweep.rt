@@ -98,7 +98,7 @@ fn is_point(words: &[String]) -> bool
 }
 
 /// Whether a word begins with a hyphen.
-fn has_option(words: &[String]) -> bool
+pub(crate) fn has_option(words: &[String]) -> bool
     ensures { result ≡ has_option words.now }
 {
     words.iter().any(|word| is_option(word.as_str().as_bytes()))

@@ -14,7 +14,7 @@ returns-then-not-collides-clause-ran g c =
     record {
       leads = λ r. apart-leads (ids_of t.volumes) c.args.b.0 c.args.fields.now.primary_partner.0 c.args.t (world_seen s t r c.args.journal.now.events) apart;
       fails = tt;
-      stays = record { at = c.requires.at; unarmed = λ q none. none; faults = refl; others = λ q apart. record { volume = refl; tracks = refl }; on = refl; room = omega arith; left = omega arith; spare = refl };
+      stays = record { at = c.requires.at; unarmed = λ q none. none; faults = refl; others = λ q apart. record { volume = refl; tracks = refl; saved = refl }; on = refl; room = omega arith; left = omega arith; spare = refl };
     }
 
 pub returns-then-not-collides-clause-parts : goal.returns-then-not-collides-clause-parts

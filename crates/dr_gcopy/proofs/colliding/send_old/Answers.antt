@@ -47,7 +47,7 @@ returns-then-is_some-2-clause-ran g c =
     record {
       leads = λ r. flashed-leads (ids_of t.volumes) c.args.v.0 c.args.u.0 c.args.t (world_seen s t r ev) (ap is_some (sym (c.send_refusal.ensures.refusal r ev)) ∙ sym c.is_some.ensures ∙ c.if-is_some.false) (ap is_some (sym (c.flashed_refusal.ensures.refusal r ev)) ∙ sym c.is_some-2.ensures ∙ c.if-is_some-2.true);
       fails = tt;
-      stays = record { at = c.requires.at; unarmed = λ q none. none; faults = refl; others = λ q apart. record { volume = refl; tracks = refl }; on = refl; room = omega arith; left = omega arith; spare = refl };
+      stays = record { at = c.requires.at; unarmed = λ q none. none; faults = refl; others = λ q apart. record { volume = refl; tracks = refl; saved = refl }; on = refl; room = omega arith; left = omega arith; spare = refl };
     }
 
 pub returns-clause-ran : goal.returns-clause-ran

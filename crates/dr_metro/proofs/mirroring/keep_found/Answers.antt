@@ -33,7 +33,7 @@ returns-clause-ran g c =
         at = c.requires.at;
         unarmed = λ q none. none;
         faults = refl;
-        others = λ q spared. record { volume = refl; tracks = refl };
+        others = λ q spared. record { volume = refl; tracks = refl; saved = refl };
         on = refl;
         room = omega arith;
         left = omega arith;

@@ -1,6 +1,6 @@
 use Rattle.std.proofs.Common.{◌≡◌, ◌∙◌, sym, subst, inr}
 use Rattle.dr_model.specs.Layout.{Fields}
-use Rattle.dr_model.specs.Lawful.{IsLawful}
+use Rattle.dr_model.specs.Lawful.{IsLawful, EntriesFollow}
 use Rattle.dr_model.specs.Moves.{fields_left}
 use Rattle.dr_volume.specs.Plain.{plain}
 use Rattle.dr_volume.specs.Update.{Covers}
@@ -11,6 +11,7 @@ use Rattle.dr_moves.specs.Moves.{move_of, volume_with}
 use Rattle.dr_moves.specs.Told.{seen}
 use Rattle.dr_moves.proofs.ChangeLemmas.{rows-by, done-room, stop-room, done-left, stayed-done, stayed-stopped, made-done, made-stopped, either-left}
 use Rattle.dr_moves.proofs.MoveRows.{next-row, keeps-of}
+use Rattle.dr_moves.proofs.SideLemmas.{entries-follow}
 use Rattle.dr_moves.proofs.acts.change.Goals as goal
 
 pub next_fields-requires-clause-below : goal.next_fields-requires-clause-below
@@ -36,6 +37,15 @@ change-requires-clause-covers g c =
     let x = volume_seen s t c.args.v.0 in
     let next : plain c.next_fields.new.f ≡ fields_left m x = c.next_fields.ensures.fields ∙ next-row m x c.tracks_of-size.result (plain c.args.fields.now) (c.tracks_of-size.ensures.seen s) c.requires.says.fields in
     subst (λ (f : Fields). Covers x.fields.blank f.blank c.args.track) (sym next) c.requires.ready.covers
+
+pub change-requires-clause-follows : goal.change-requires-clause-follows
+change-requires-clause-follows g c =
+    let s = g.P.Plant.state c.args.plant.now in
+    let t = c.args.config.now in
+    let m = move_of c.args.m.now in
+    let x = volume_seen s t c.args.v.0 in
+    let next : plain c.next_fields.new.f ≡ fields_left m x = c.next_fields.ensures.fields ∙ next-row m x c.tracks_of-size.result (plain c.args.fields.now) (c.tracks_of-size.ensures.seen s) c.requires.says.fields in
+    subst (λ (f : Fields). EntriesFollow x.fields.entries f.entries) (sym next) (entries-follow m x)
 
 pub tell_done-requires : goal.tell_done-requires
 tell_done-requires g c =

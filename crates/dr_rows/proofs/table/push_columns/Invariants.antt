@@ -4,4 +4,4 @@ use Rattle.dr_rows.specs.Table.{column_said}
 use Rattle.dr_rows.proofs.table.push_columns.Given as goal
 
 abbrev pub invariant-loop-column : goal.invariant-loop-column
-invariant-loop-column l = l.text ≡ l.fn.text ++ flat_map (column_said l.rows l.cells) (range_with_len 0 l.column)
+invariant-loop-column l = l.text ≡ l.fn.text ++ flat_map (column_said l.layout l.rows l.cells) (range_with_len 0 l.column)

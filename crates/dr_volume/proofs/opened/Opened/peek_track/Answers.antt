@@ -1,4 +1,4 @@
-use Rattle.std.proofs.Common.{◌<◌, ◌+◌, ◌∙◌, ap, sym, subst, false, arith}
+use Rattle.std.proofs.Common.{◌<◌, ◌∙◌, ap, sym, subst, false, arith}
 use Rattle.dr_ids.specs.Sizes.{track_block}
 use Rattle.dr_plant.specs.State.{HasBlock}
 use Rattle.dr_volume.proofs.VolumeLaws.{placed, device-placed, track-staged, track-blank, track-not_staged, own-block, track-few}

@@ -1,4 +1,4 @@
-use Rattle.std.proofs.Common.{◌≡◌, ◌<◌, ◌+◌, ◌∙◌, ap, sym, subst, false, arith}
+use Rattle.std.proofs.Common.{◌≡◌, ◌<◌, ◌∙◌, ap, sym, subst, false, arith}
 use Rattle.std.specs.Prelude.{OnOk}
 use Rattle.dr_ids.specs.Sizes.{track_block}
 use Rattle.dr_volume.specs.View.{track_seen}
