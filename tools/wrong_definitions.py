@@ -23,7 +23,7 @@ from pathlib import Path
 TOP = Path(__file__).resolve().parent.parent
 CRATES = (
     "dr_logic dr_ids dr_model dr_facts dr_laws_sessions dr_laws_attempts dr_laws_messages dr_laws_cuts dr_laws_closed "
-    "dr_laws_targets dr_laws_sound dr_laws_fuses dr_laws_freezes dr_laws_flashes dr_laws_recovery dr_laws_orders dr_laws_commits dr_laws_return dr_laws_progress dr_laws_answers"
+    "dr_laws_targets dr_laws_sound dr_laws_fuses dr_laws_freezes dr_laws_flashes dr_laws_recovery dr_laws_orders dr_laws_commits dr_laws_return dr_laws_sites dr_laws_progress dr_laws_answers"
 ).split()
 # What counts events, lists what is told of which kind, or says how a definition is cut into parts: no law.
 TECHNICAL = re.compile(r"Costs|Spends|EntryLengths|Counting|Limits|Texts|Cases|Does|Journal|Emits")
@@ -583,6 +583,58 @@ ROWS = [
         "third_site_loses_nothing",
         "no step takes a write from the third site",
         (spec("TakenWrites"), "is_third k a v = let u : ℕ = (fields_at k a).primary_partner in is_cascaded (fields_at k u) && is_primary_of v (fields_at k u)", "is_third k a v = false"),
+    ),
+    Row(
+        "unfreezeflash_frees_all_others",
+        "an unfreezeflash ends the flash holds of the volumes outside its logical subsystem",
+        (spec("WriteEntries"), "is_held_in k l v = nat_eq (subsystem v) l && (", "is_held_in k l v = not (nat_eq (subsystem v) l) && ("),
+        (sound("FitsHolds"), "let runs : Runs w v = (and_parts (is_running v w.control) _ (and_parts (nat_eq (subsystem v) l) _ is).1).0 in (record", "let runs : Runs w v = (and_parts (is_running v w.control) _ (and_parts (not (nat_eq (subsystem v) l)) _ is).1).0 in (record"),
+        (sound("FitsHolds"), "◌&&◌, nat_eq, List,", "◌&&◌, not, nat_eq, List,"),
+    ),
+    Row(
+        "thaw_lifts_nothing",
+        "an unfreezepprc leaves its primaries long busy",
+        (spec("Pairs"), "thawed f = record f { long_busy = false }", "thawed f = f"),
+        (facts("Lawful"), "lawful-paired (thawed f) old.out_of_sync_low old.change_recording_low old.blank_low (λ h. let o = law.primary h in (o.0, o.1, o.2, refl, o.4", "lawful-paired (thawed f) old.out_of_sync_low old.change_recording_low old.blank_low (λ h. let o = law.primary h in (o.0, o.1, o.2, o.3, o.4"),
+    ),
+    Row(
+        "expire_leaves_flash_holds",
+        "an @expire leaves flash holds",
+        (spec("Pairs"), "  long_busy = false;\n  flash_hold = false;\n", "  long_busy = false;\n  flash_hold = f.flash_hold;\n"),
+        ("dr_laws_flashes/proofs/Waits.antt", "hold-left (Lift v) u h = absurd cc", "hold-left (Lift v) u h = inr h"),
+    ),
+    Row(
+        "link_down_leaves_it_up",
+        "a link that is up stays up by @link down",
+        (spec("Plans"), "if joins x y a b then up else k.link x y", "if joins x y a b then up || k.link x y else k.link x y"),
+        (sound("Steps"), "(λ x y. cond (joins x y a b) up (w.control.link x y))", "(λ x y. cond (joins x y a b) (up || w.control.link x y) (w.control.link x y))"),
+        (sound("Steps"), "link = λ x y. cond (joins x y a b) up (k.link x y) }", "link = λ x y. cond (joins x y a b) (up || k.link x y) (k.link x y) }"),
+        (sound("Steps"), "◌∙◌, subst, Bool, false, cond, List,", "◌∙◌, subst, Bool, false, cond, ◌||◌, List,"),
+    ),
+    Row(
+        "torn_bytes_are_zeros",
+        "torn XX fills the block with 00",
+        (spec("Plans"), "torn_bytes (Fill b) = Some (replicate 64 b)", "torn_bytes (Fill b) = Some (replicate 64 0)"),
+    ),
+    Row(
+        "drain_says_none",
+        "a drain answers ok 0 whatever it has sent",
+        (spec("Plans"), "says = always (Done (Counted (length ts)));", "says = always (Done (Counted 0));"),
+    ),
+    Row(
+        "drain_of_some_says_none",
+        "a drain of at most K tracks answers ok 0 whatever it has sent",
+        (spec("Plans"), "says = always (Done (Counted (length ts)));", "says = always (Done (Counted (if is_some most then 0 else length ts)));"),
+    ),
+    Row(
+        "copy_says_none",
+        "an @copy answers ok 0 whatever it has copied",
+        (spec("Plans"), "∷ times count (copy_one k t))\n    (Done (Counted count))", "∷ times count (copy_one k t))\n    (Done (Counted 0))"),
+    ),
+    Row(
+        "destage_says_one",
+        "an @destage answers ok 1 if nothing was staged",
+        (spec("Plans"), "(Done (Counted (redo_writes (k.volume v).staged)))", "(Done (Counted 1))"),
     ),
 ]
 

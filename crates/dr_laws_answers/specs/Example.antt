@@ -1,6 +1,7 @@
--- An example: a run that ends with a listing of a pair.
+-- Examples: a run that ends with a listing of a pair, and steps that are answered ok.
 use Rattle.std.specs.Prelude.{false, List, [], ◌∷◌, ◌++◌}
-use Rattle.dr_model.specs.declared.step.Step.TheVariants.{Server, Volume, MakePath, MakePair, Write, ListPairs}
+use Rattle.dr_model.specs.declared.step.Step.TheVariants.{Server, Volume, Link, StopAfter, MakePath, MakePair, Write, Destage, Freeze, Unfreeze, ListPairs}
+use Rattle.dr_model.specs.declared.step.TornWord.TheVariants.{Fill}
 use Rattle.dr_model.specs.Runs.{Task}
 use Rattle.dr_laws_sites.specs.Example.{named, unnamed, uncopied, step}
 
@@ -22,3 +23,23 @@ lists = step (ListPairs unnamed 4096)
 -- that comes last
 abbrev pub listed_pair : List Task
 listed_pair = paired ++ lists ∷ []
+
+-- The pair is frozen.
+abbrev pub frozen_pair : List Task
+frozen_pair = paired ++ step (Freeze unnamed 16 32) ∷ []
+
+-- it is thawed
+abbrev pub thaws : Task
+thaws = step (Unfreeze unnamed 16 32)
+
+-- the link between both servers goes down
+abbrev pub cuts : Task
+cuts = step (Link (named 65) (named 66) false)
+
+-- three more writes of server A pass, and the next one is cut short and leaves a block filled with 01
+abbrev pub arms : Task
+arms = step (StopAfter (named 65) 3 (Fill 1))
+
+-- the track that the host wrote, which is staged, is written to its place
+abbrev pub destages : Task
+destages = step (Destage 4096)
