@@ -1,9 +1,13 @@
 #!/usr/bin/env python3
-"""Checks the documents, and the notes at the head of crates. Prints each finding as FILE:LINE: text, and ends with 1 where there is one.
+"""Checks the documents, and the notes at the head of crates. Prints each finding as FILE:LINE: text, and ends with 1 if there is one.
+
+    tools/documents.py             checks
+    tools/documents.py --count     prints the lines of tools/documents.words as the documents are now, to lower the limits by
 
 What it finds: names and files in backquotes that no source has; links that lead nowhere; a chapter of the book by another number than
 it has, or by a number without a link; a field of what stands of a run that docs/CLAIMS.md lacks; docs/BOOK.md that isn't as tools/book.py
-makes it; a document over its size, and a table of README over its rows.
+makes it; a document over its size, and a table of README over its rows; a document with more uses of a word, or more long sentences,
+than tools/documents.words lets it have.
 """
 import re
 import sys
@@ -20,6 +24,11 @@ SOURCES = ("crates/**/*.rt", "crates/**/*.antt", "crates/*/data/*", "crates/*/mu
 SIZES = {"README.md": 14_336, "docs/PROOFS.md": 20_000}
 ROWS = {"What it promises": 8}
 
+# Words that have a plainer one (CONTRIBUTING.md), and the most words of a sentence. Some uses are right, so the table has a limit for each.
+WORDS = ("behind", "but for", "so many", "so much", "front", "alone", "beside", "where")
+LONGEST = 37
+LIMITS = ROOT / "tools" / "documents.words"
+
 # Words of the toolchain that no source needs to have; names in capitals stand for others.
 FOREIGN = {"allow-holes", "arith", "grind", "omega", "sum_by", "unfolding"}
 PLACEHOLDER = re.compile(r"rattle-kit-|std/|.*\.\.|.*-[A-Z]+$|.*(NAME|SCRIPT|FILE)|.*\bout/")
@@ -28,6 +37,8 @@ WORD = re.compile(r"[A-Za-z_]\w*(?:[-'][\w]+)*'*")
 SPAN = re.compile(r"(?<!`)`([^`\n]+)`(?!`)")
 LINK = re.compile(r"\[[^\]\n]*\]\(([^)\s]+)\)")
 CHAPTER = re.compile(r"\[([^\]\n]*)\]\(\S*BOOK\.md#(\d+)-[^)]*\)")
+BEGINS = re.compile(r"\s*(?:[-*] |#+ |\d+\. )")
+SENTENCE_END = re.compile(r"(?<=[.!?])[)*\"]*\s+")
 FILE = re.compile(r"[\w./*{},-]*[\w*]\.(?:rt|rs|antt|md|py|sh|dscli|out|status|words|edit|txt)")
 
 
@@ -147,14 +158,63 @@ def unnamed_fields():
                 yield f"no row for `{field}` below {head}"
 
 
+def parts(path):
+    """The paragraphs, items of lists and cells of tables of a document, as (number of the first line, text). A name in backquotes is one word."""
+    found, last = [], 0
+    for number, line in prose(path):
+        if line.startswith("|"):
+            found += [(number, cell) for cell in SPAN.sub("NAME", line).split("|")]
+        elif not line.strip() or BEGINS.match(line) or number != last + 1:
+            found.append((number, line))
+        else:
+            found[-1] = (found[-1][0], f"{found[-1][1]} {line}")
+        last = number if line.strip() else 0
+    # What a link leads to isn't read as prose.
+    return [(number, re.sub(r"\]\([^)\s]+\)", "]", SPAN.sub("NAME", text))) for number, text in found]
+
+
+def words_of(sentence):
+    return [word for word in sentence.split() if re.search(r"\w", word)]
+
+
+def uses(path):
+    """The lines of each word of the list, and last those of the long sentences."""
+    texts = parts(path)
+    for word in WORDS:
+        pattern = re.compile(rf"\b{word}\b", re.I)
+        yield [number for number, text in texts for _ in pattern.findall(text)]
+    yield [number for number, text in texts for it in SENTENCE_END.split(text) if len(words_of(it)) > LONGEST]
+
+
+def limits():
+    """By document how often each word may stand in it, and last how many long sentences it may have."""
+    lines = [line.split() for line in LIMITS.read_text(encoding="utf-8").splitlines() if not line.startswith("#")]
+    return {name: [int(count) for count in counts] for name, *counts in lines}
+
+
+def too_many(path, most):
+    """What stands more often than it may, at the line of its last use."""
+    for word, lines, limit in zip([*WORDS, None], uses(path), most, strict=True):
+        if len(lines) > limit:
+            what = f"'{word}' stands {len(lines)} times" if word else f"{len(lines)} sentences have more than {LONGEST} words"
+            yield lines[-1], f"{what}, {limit} at most"
+
+
+def counts():
+    """The lines of the table of limits, as the documents are."""
+    for path in paths(DOCUMENTS):
+        if path != book.BOOK:
+            yield f"{path.relative_to(ROOT)} {' '.join(str(len(lines)) for lines in uses(path))}"
+
+
 def findings():
-    words = known_words()
+    words, most = known_words(), limits()
     yield from (("docs/CLAIMS.md", 1, text) for text in [*unnamed_crates(), *unnamed_fields()])
     for path in paths(DOCUMENTS):
         name = str(path.relative_to(ROOT))
         found = list(links(path))
         if path != book.BOOK:
-            found += [*names(path, words), *chapters(path)]
+            found += [*names(path, words), *chapters(path), *too_many(path, most.get(name, [0] * (len(WORDS) + 1)))]
         if name == "README.md":
             found += long_tables(path)
         size = path.stat().st_size
@@ -165,7 +225,13 @@ def findings():
         yield from ((path.relative_to(ROOT), number, text) for number, text in names(path, words))
 
 
-def main():
+def main(switches):
+    if switches not in ([], ["--count"]):
+        print(__doc__)
+        return 2
+    if switches:
+        print("\n".join(counts()))
+        return 0
     found = list(findings())
     for name, number, text in found:
         print(f"{name}:{number}: {text}")
@@ -173,4 +239,4 @@ def main():
 
 
 if __name__ == "__main__":
-    sys.exit(main())
+    sys.exit(main(sys.argv[1:]))
